@@ -1,0 +1,3 @@
+pub mod Formula
+pub mod Literal
+pub mod Row

@@ -1,0 +1,69 @@
+ghost use Rattle.std.specs.Prelude.{◌≡◌, ◌<◌, ◌≤◌, ◌^◌, ℤ, pos, IsTrue, ◌↔◌};
+ghost use Rattle.dq_lits.specs.Literal.{variable_of, is_negative, opposite, negative};
+
+use std::marker::Model;
+
+/// A literal: a variable or its negation, written as DIMACS writes it, as the variable's number or
+/// its negative. Variables are numbered from 1 to 2^62 - 1.
+#[derive(Clone, Copy, Debug, PartialEq, Eq)]
+pub struct Lit {
+    code: i64,
+}
+
+impl Model for Lit {
+    ghost use Rattle.std.specs.Prelude.{ℤ};
+    ghost use Rattle.dq_lits.specs.Literal.{IsLiteral};
+
+    ghost Value = { ℤ };
+
+    ghost view = { λ l. l.code };
+
+    ghost invariant = { λ l. IsLiteral l.code };
+
+    ghost inverse = { λ z. record { code = z } };
+}
+
+impl Lit {
+    /// The literal that is true where the variable is.
+    pub fn pos(var: u64) -> Lit
+        requires from_one { 1 ≤ var }
+        requires in_range { var < 2 ^ 62 }
+        ensures { result ≡ pos var }
+    {
+        Lit { code: var as i64 }
+    }
+
+    /// The literal that is true where the variable is false.
+    pub fn neg(var: u64) -> Lit
+        requires from_one { 1 ≤ var }
+        requires in_range { var < 2 ^ 62 }
+        ensures { result ≡ negative var }
+    {
+        Lit {
+            code: -(var as i64),
+        }
+    }
+
+    /// The variable that the literal stands on.
+    pub fn var(&self) -> u64
+        ensures value { result ≡ variable_of self.now }
+        ensures from_one { 1 ≤ result }
+        ensures in_range { result < 2 ^ 62 }
+    {
+        self.code.unsigned_abs()
+    }
+
+    /// Whether the literal is a negated variable.
+    pub fn is_neg(&self) -> bool
+        ensures { result ≡ is_negative self.now }
+    {
+        self.code < 0
+    }
+
+    /// The literal of the same variable with the other sign.
+    pub fn not(&self) -> Lit
+        ensures { result ≡ opposite self.now }
+    {
+        Lit { code: -self.code }
+    }
+}
