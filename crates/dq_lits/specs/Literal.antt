@@ -1,42 +1,54 @@
--- Literals and clauses, and their truth under an assignment (propositional logic, DIMACS numbers).
-use Rattle.std.specs.Prelude.{◌≡◌, ℕ, zero, suc, ◌+◌, ◌≤◌, ◌<◌, ◌^◌, ℤ, pos, negsuc, Bool, true, false, not, List}
+-- Literals and clauses, and their truth under an assignment (propositional logic).
+use Rattle.std.specs.Prelude.{ℕ, suc, ◌==◌, ◌≤◌, ◌<◌, ◌^◌, ℤ, pos, negsuc, neg_ℤ, Bool, true, false, not, List}
 use Rattle.std.specs.List.{list_any}
 
 -- a bit for each variable
 abbrev pub Assignment : Type 0
 Assignment = ℕ → Bool
 
--- a literal is a variable's number, or its negative for the negated variable
-abbrev pub Literal : Type 0
-Literal = ℤ
+-- a variable or its negation
+pub data Literal : Type 0 where
+  positive : ℕ → Literal
+  negative : ℕ → Literal
 
 -- the variable that a literal stands on
 abbrev pub variable_of : Literal → ℕ
-variable_of (pos v) = v
-variable_of (negsuc n) = n + 1
+variable_of (positive v) = v
+variable_of (negative v) = v
 
 abbrev pub is_negative : Literal → Bool
-is_negative (pos _) = false
-is_negative (negsuc _) = true
-
--- the negated variable as a literal
-abbrev pub negative : ℕ → Literal
-negative zero = pos zero
-negative (suc n) = negsuc n
+is_negative (positive _) = false
+is_negative (negative _) = true
 
 -- the literal of the same variable with the other sign
 abbrev pub opposite : Literal → Literal
-opposite (pos v) = negative v
-opposite (negsuc n) = pos (n + 1)
+opposite (positive v) = negative v
+opposite (negative v) = positive v
 
--- the range of literals: variables from 1 to 2^62 - 1
-abbrev pub IsLiteral : Literal → Type 0
-IsLiteral l = (1 ≤ variable_of l) × (variable_of l < 2 ^ 62)
+-- the literal of another variable with the same sign
+abbrev pub on_variable : ℕ → Literal → Literal
+on_variable w (positive _) = positive w
+on_variable w (negative _) = negative w
+
+abbrev pub same_literal : Literal → Literal → Bool
+same_literal (positive v) (positive w) = v == w
+same_literal (positive _) (negative _) = false
+same_literal (negative _) (positive _) = false
+same_literal (negative v) (negative w) = v == w
+
+-- DIMACS writes a literal as the variable's number or its negative
+abbrev pub dimacs_literal : ℤ → Literal
+dimacs_literal (pos v) = positive v
+dimacs_literal (negsuc n) = negative (suc n)
+
+abbrev pub dimacs_number : Literal → ℤ
+dimacs_number (positive v) = pos v
+dimacs_number (negative v) = neg_ℤ (pos v)
 
 -- a literal is true where the bit of its variable fits its sign
 abbrev pub literal_true : Assignment → Literal → Bool
-literal_true m (pos v) = m v
-literal_true m (negsuc n) = not (m (n + 1))
+literal_true m (positive v) = m v
+literal_true m (negative v) = not (m v)
 
 -- a clause is true where one of its literals is; the empty clause is false
 abbrev pub clause_true : Assignment → List Literal → Bool

@@ -1,26 +1,30 @@
-ghost use Rattle.std.specs.Prelude.{◌≡◌, ◌<◌, ◌≤◌, ◌^◌, ℤ, pos, IsTrue, ◌↔◌};
-ghost use Rattle.dq_lits.specs.Literal.{variable_of, is_negative, opposite, negative};
+ghost use Rattle.std.specs.Prelude.{◌≡◌, ◌<◌, ◌≤◌, ◌^◌, IsTrue, ◌↔◌};
+ghost use Rattle.dq_lits.specs.Literal.{positive, negative, variable_of, is_negative, opposite, same_literal};
 
 use std::marker::Model;
 
-/// A literal: a variable or its negation, written as DIMACS writes it, as the variable's number or
-/// its negative. Variables are numbered from 1 to 2^62 - 1.
-#[derive(Clone, Copy, Debug, PartialEq, Eq)]
+/// A literal: a variable or its negation. Variables are numbered from 1 to 2^62 - 1.
+///
+/// It is kept as DIMACS writes it: the variable's number, or its negative for the negated variable.
+#[derive(Clone, Copy, Debug)]
 pub struct Lit {
     code: i64,
 }
 
 impl Model for Lit {
-    ghost use Rattle.std.specs.Prelude.{ℤ};
-    ghost use Rattle.dq_lits.specs.Literal.{IsLiteral};
+    ghost use Rattle.dq_lits.specs.Literal.{Literal};
 
-    ghost Value = { ℤ };
+    ghost Value = { Literal };
 
-    ghost view = { λ l. l.code };
+    ghost use Rattle.dq_lits.specs.LiteralCode.{literal_inside, IsLiteralCode, inside_of, inside_of-literal_inside};
 
-    ghost invariant = { λ l. IsLiteral l.code };
+    ghost view = { literal_inside };
 
-    ghost inverse = { λ z. record { code = z } };
+    ghost invariant = { IsLiteralCode };
+
+    ghost inverse = { inside_of };
+
+    ghost inverse_ok = { λ l _. inside_of-literal_inside l };
 }
 
 impl Lit {
@@ -28,7 +32,7 @@ impl Lit {
     pub fn pos(var: u64) -> Lit
         requires from_one { 1 ≤ var }
         requires in_range { var < 2 ^ 62 }
-        ensures { result ≡ pos var }
+        ensures { result ≡ positive var }
     {
         Lit { code: var as i64 }
     }
