@@ -9,11 +9,11 @@ use Rattle.dq_lits.specs.Literal.{Assignment}
 use Rattle.dq_lits.specs.Formula.{Existential, Dqbf, declared, existential_of, HasLawfulPrefix}
 use Rattle.dq_lits.specs.Henkin.{restriction, same_bits, HenkinChoice, choice_value, Follows}
 
-abbrev variable : Existential → ℕ
+abbrev pub variable : Existential → ℕ
 variable y = y.variable
 
 -- the first existential with a variable is the one that declares it
-find_own : (ys : List Existential) (k : ℕ) (d : Existential) → k < length ys → AllPairs (λ v w. v ≢ w) (map variable ys) →
+pub find_own : (ys : List Existential) (k : ℕ) (d : Existential) → k < length ys → AllPairs (λ v w. v ≢ w) (map variable ys) →
     find (λ z. z.variable == (get_or ys k d).variable) ys ≡ Some (get_or ys k d)
 find_own [] k d below once = absurd (omega arith)
 find_own (y ∷ ys) zero d below once = cond-true (y.variable == y.variable) (Some y) _ (eq-eqb y.variable y.variable refl)
@@ -34,7 +34,7 @@ find_none (y ∷ ys) v apart =
     cond-false (y.variable == v) (Some y) _ (ne_eqb y.variable v (apart 0 (omega arith)))
     ∙ find_none ys v (λ k below. apart (suc k) (omega arith))
 
-abbrev value_or : HenkinChoice → Assignment → ℕ → Option Existential → Bool
+abbrev pub value_or : HenkinChoice → Assignment → ℕ → Option Existential → Bool
 value_or choice m v None = m v
 value_or choice m v (Some y) = choice_value choice y m
 
@@ -60,7 +60,7 @@ declared_apart us ys once k d below j inside e =
     let same : get_or us k 0 ≡ get_or us k d = get_or_default us k 0 d below in
     once k (length us + j) 0 (omega arith) (omega (arith, in_map, length-append us es)) (left ∙ same ∙ sym e ∙ sym right)
 
-existentials_once : (us : List ℕ) (ys : List Existential) → AllPairs (λ v w. v ≢ w) (us ++ map variable ys) → AllPairs (λ v w. v ≢ w) (map variable ys)
+pub existentials_once : (us : List ℕ) (ys : List Existential) → AllPairs (λ v w. v ≢ w) (us ++ map variable ys) → AllPairs (λ v w. v ≢ w) (map variable ys)
 existentials_once us ys once i j d order inside e =
     let es = map variable ys in
     once (length us + i) (length us + j) d (omega arith) (omega (arith, length-append us es))
@@ -79,8 +79,8 @@ follower_follows f lawful choice m k d below =
     let n = follower f choice m in
     let own = find_own f.existentials k d below (existentials_once f.universals f.existentials lawful.declared_once) in
     let kept : All (λ x. m x ≡ n x) y.sees =
-      All-weaker (Contains f.universals) (λ x. m x ≡ n x)
-      (λ x inside. sym (All-contains (λ z. n z ≡ m z) f.universals x (follower_keeps_universals f lawful choice m) inside))
-      y.sees (lawful.sees_universals k d below) in
+    All-weaker (Contains f.universals) (λ x. m x ≡ n x)
+    (λ x inside. sym (All-contains (λ z. n z ≡ m z) f.universals x (follower_keeps_universals f lawful choice m) inside))
+    y.sees (lawful.sees_universals k d below) in
     ap (value_or choice m y.variable) own
     ∙ ap (λ bits. list_any (same_bits bits) (choice y)) (map-agree m n y.sees kept)

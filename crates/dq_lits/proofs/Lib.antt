@@ -1,3 +1,7 @@
 mod Choices
+mod Derivations
 mod Followers
+mod Lifting
+mod Refutations
 mod Skolem
+mod Truth

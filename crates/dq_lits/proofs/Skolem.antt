@@ -17,8 +17,8 @@ at_index (x ∷ xs) m zero d below = cond-true (x == x) (m x) (assignment_of xs 
 at_index (x ∷ xs) m (suc k) d below =
     let v = get_or xs k d in
     elim (cases_eq x v) [
-      inl same ↦ cond-true (x == v) (m x) (assignment_of xs (map m xs) v) (eq-eqb x v same) ∙ ap m same
-    | inr other ↦ cond-false (x == v) (m x) (assignment_of xs (map m xs) v) (ne_eqb x v other) ∙ at_index xs m k d (omega arith)
+      | inl same ↦ cond-true (x == v) (m x) (assignment_of xs (map m xs) v) (eq-eqb x v same) ∙ ap m same
+      | inr other ↦ cond-false (x == v) (m x) (assignment_of xs (map m xs) v) (ne_eqb x v other) ∙ at_index xs m k d (omega arith)
     ]
 
 pub assignment_of-map : (xs : List ℕ) (m : Assignment) (x : ℕ) → Contains xs x → assignment_of xs (map m xs) x ≡ m x
@@ -35,10 +35,11 @@ value_is_seen o sees m supported reads =
     supported _ _ (All-weaker (Contains sees) (λ x. assignment_of sees (map m sees) x ≡ m x) (assignment_of-map sees m) o.support reads)
 
 pub skolem_functions_solve : (f : Dqbf) (output : Existential → OutputFunction) → AreSkolemFunctions f output → IsTrueFormula f
-skolem_functions_solve f output h =
-    (choice_of (seen_value output),
-    λ m follows. h.holds m (λ k d below.
+skolem_functions_solve f output h = (
+  choice_of (seen_value output),
+  λ m follows. h.holds m (λ k d below.
       let y = get_or f.existentials k d in
       follows k d below
       ∙ choice_of-value (seen_value output) y m
-      ∙ value_is_seen (output y) y.sees m (h.supported k d below) (h.reads_declared k d below)))
+      ∙ value_is_seen (output y) y.sees m (h.supported k d below) (h.reads_declared k d below)),
+)
