@@ -5,3 +5,4 @@ mod Lifting
 mod Refutations
 mod Skolem
 mod Truth
+mod WellFormed

@@ -1,4 +1,5 @@
 pub mod Derivation
+pub mod Examples
 pub mod Expansion
 pub mod Formula
 pub mod Henkin

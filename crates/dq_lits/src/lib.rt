@@ -12,6 +12,7 @@ pub use memory::Memory;
 pub use rows::Row;
 
 mod clauses;
+pub mod examples;
 pub mod laws;
 mod lists;
 mod literals;
