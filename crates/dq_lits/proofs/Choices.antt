@@ -1,11 +1,11 @@
 -- Lemmas on bit lists and choices.
-use Rattle.std.proofs.Common.{◌≡◌, ℕ, zero, suc, Bool, true, false, not, cond, ◌&&◌, ◌||◌, List, [], ◌∷◌, ◌++◌, map, length, refl, sym, ◌∙◌, ap, arith}
+use Rattle.std.proofs.Common.{◌≡◌, ℕ, zero, suc, Bool, true, false, cond, ◌&&◌, ◌||◌, List, [], ◌∷◌, ◌++◌, map, length, refl, sym, ◌∙◌, ap, arith}
 use Rattle.std.proofs.lemmas.List.{length-map}
 use Rattle.std.specs.List.{list_any, filter}
 use Rattle.std.proofs.lemmas.List.Folds.{list_any-append}
 use Rattle.dq_lits.specs.Literal.{Assignment}
-use Rattle.dq_lits.specs.Formula.{Existential, Dqbf}
-use Rattle.dq_lits.specs.Henkin.{same_bit, same_bits, restriction, HenkinChoice, choice_value}
+use Rattle.dq_lits.specs.Formula.{Existential}
+use Rattle.dq_lits.specs.Henkin.{same_bits, restriction, HenkinChoice, choice_value}
 
 pub same_bits-refl : (bits : List Bool) → same_bits bits bits ≡ true
 same_bits-refl [] = refl

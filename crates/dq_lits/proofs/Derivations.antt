@@ -1,9 +1,9 @@
 -- Hinted unit propagation is sound.
-use Rattle.std.proofs.Common.{◌≡◌, ℕ, ◌+◌, ◌==◌, Bool, true, false, not, cond, ◌||◌, ◌&&◌, ◌⊎◌, inl, inr, List, [], ◌∷◌, map, Option, Some, None, refl, sym, ◌∙◌, ap, arith}
-use Rattle.std.specs.List.{list_any, list_all, filter}
-use Rattle.std.proofs.lemmas.Bool.{eqb-true, or_cases, or_parts, and_parts, not-true, cases_Bool}
+use Rattle.std.proofs.Common.{◌≡◌, ℕ, ◌+◌, ◌==◌, Bool, true, false, not, cond, ◌||◌, ◌&&◌, inl, inr, List, [], ◌∷◌, map, Option, Some, None, refl, sym, ◌∙◌, ap}
+use Rattle.std.specs.List.{list_all, filter}
+use Rattle.std.proofs.lemmas.Bool.{and_parts, not-true, cases_Bool}
 use Rattle.dq_lits.specs.Literal.{Assignment, Literal, opposite, same_literal, literal_true, clause_true}
-use Rattle.dq_lits.specs.Derivation.{LiveClauses, MakesTrue, Status, falsified, unit, stuck, holds, status_by, status_of, fault_by, hint_fault, is_tautology, line_fault, IsDerived, with_clause, ProofStep, ProofFault, underived, unfinished, is_empty, fault_of_step, steps_fault, Derives}
+use Rattle.dq_lits.specs.Derivation.{LiveClauses, MakesTrue, unit, stuck, holds, status_by, status_of, fault_by, hint_fault, is_tautology, line_fault, IsDerived, with_clause, ProofStep, ProofFault, unfinished, is_empty, fault_of_step, steps_fault, Derives}
 use Rattle.dq_lits.proofs.Truth.{literal_true-opposite, AllTrue, holds-true, opposites-true, single-true}
 
 -- literals that are false make no clause true

@@ -2,6 +2,7 @@ mod Choices
 mod Derivations
 mod Followers
 mod Lifting
+mod Packed
 mod Refutations
 mod Skolem
 mod Truth

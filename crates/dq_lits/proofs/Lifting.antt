@@ -1,18 +1,17 @@
 -- An unsatisfiable expansion shows that no choice solves the formula.
-use Rattle.std.proofs.Common.{◌≡◌, ◌≢◌, ℕ, zero, suc, ◌+◌, ◌-◌, ◌*◌, ◌/◌, ◌%◌, ◌<◌, ◌≤◌, ◌==◌, Bool, true, false, not, cond, ◌||◌, ◌&&◌, ◌⊎◌, inl, inr, List, [], ◌∷◌, ◌++◌, map, length, get_or, Option, Some, None, refl, sym, ◌∙◌, ap, arith}
-use Rattle.std.specs.List.{All, AllPairs, Contains, list_any, find, filter_map, cons_option, position_or_len}
+use Rattle.std.proofs.Common.{◌≡◌, ℕ, suc, ◌+◌, ◌-◌, ◌*◌, ◌/◌, ◌%◌, ◌<◌, ◌≤◌, ◌==◌, Bool, true, false, not, cond, ◌||◌, inl, inr, List, [], ◌∷◌, map, length, get_or, Option, Some, None, refl, sym, ◌∙◌, ap, arith}
+use Rattle.std.specs.List.{All, Contains, list_any, filter_map, cons_option, position_or_len}
 use Rattle.std.specs.Option.{option_map}
-use Rattle.std.proofs.lemmas.Bool.{true≢false, eqb-true, eq-eqb, or_cases, or_parts, or_left, or_right, and_from, cases_Bool}
+use Rattle.std.proofs.lemmas.Bool.{true≢false, eq-eqb, or_cases, or_parts, or_left, or_right, and_from}
 use Rattle.std.proofs.lemmas.Nat.{div-mul-add}
 use Rattle.std.proofs.Math.Nat.{mod-eq-sub-div-mul}
-use Rattle.std.proofs.lemmas.List.{get_or-map, length-map, get_or_default}
-use Rattle.std.proofs.lemmas.List.Elements.{All-contains, All-head, All-tail, Contains-get_or, Contains-append_cases, Contains-append_left, Contains-append_right}
+use Rattle.std.proofs.lemmas.List.{get_or-map, length-map}
+use Rattle.std.proofs.lemmas.List.Elements.{All-contains, All-head, All-tail, Contains-append_cases, Contains-append_right}
 use Rattle.std.proofs.lemmas.List.Folds.{list_any_at}
 use Rattle.dq_lits.specs.Literal.{Assignment, Literal, positive, negative, variable_of, on_variable, literal_true, clause_true}
 use Rattle.dq_lits.specs.Formula.{Existential, Dqbf, declared, is_universal, existential_of, HasLawfulPrefix, IsWellFormed}
-use Rattle.dq_lits.specs.Henkin.{restriction, same_bits, HenkinChoice, choice_value, Solves, IsFalseFormula}
-use Rattle.dq_lits.specs.Row.{assignment_of}
-use Rattle.dq_lits.specs.Expansion.{row_assignment, agree_on, pair_number, pair_literal, universal_literal_true, instance_clause, InstanceHolds, IsExpansionModel, IsExpansionUnsatisfiable}
+use Rattle.dq_lits.specs.Henkin.{restriction, same_bits, HenkinChoice, choice_value, IsFalseFormula}
+use Rattle.dq_lits.specs.Expansion.{row_assignment, agree_on, pair_number, pair_literal, universal_literal_true, InstanceHolds, IsExpansionUnsatisfiable}
 use Rattle.dq_lits.proofs.Choices.{same_bits-refl, same_bits-sound}
 use Rattle.dq_lits.proofs.Followers.{variable, find_own, existentials_once, value_or, follower, follower_keeps_universals, follower_follows}
 use Rattle.dq_lits.proofs.Truth.{literal_true-on_variable}

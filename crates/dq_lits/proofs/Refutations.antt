@@ -1,15 +1,13 @@
 -- A derivation of the empty clause from the instances shows that no choice solves the formula.
-use Rattle.std.proofs.Common.{◌≡◌, ℕ, zero, suc, ◌/◌, ◌%◌, ◌<◌, ◌≤◌, Bool, true, List, length, get_or, Option, Some, None, refl, sym, ◌∙◌, ap, subst}
+use Rattle.std.proofs.Common.{◌≡◌, ℕ, zero, suc, ◌/◌, ◌%◌, Bool, true, List, length, Option, Some, None, refl, sym, ◌∙◌, ap, subst}
 use Rattle.std.proofs.lemmas.Option.{slice_get_within, get_or_from_slice_get}
 use Rattle.std.specs.List.{All, slice_get}
 use Rattle.std.specs.Option.{option_and_then}
 use Rattle.dq_lits.specs.Literal.{Assignment, Literal, clause_true}
-use Rattle.dq_lits.specs.Formula.{Dqbf, IsWellFormed}
-use Rattle.dq_lits.specs.Henkin.{IsFalseFormula}
+use Rattle.dq_lits.specs.Formula.{Dqbf}
 use Rattle.dq_lits.specs.Expansion.{instance_clause, instance_at, InstanceHolds, IsExpansionModel, IsExpansionUnsatisfiable}
 use Rattle.dq_lits.specs.Derivation.{ProofStep, MakesTrue, Derives}
 use Rattle.dq_lits.proofs.Derivations.{derivation_refutes}
-use Rattle.dq_lits.proofs.Lifting.{expansion_refutes}
 
 clause_holds : (m : Assignment) (o : Option (List Literal)) (clause : List Literal) → InstanceHolds m o → o ≡ Some clause → clause_true m clause ≡ true
 clause_holds m None clause h is = cc

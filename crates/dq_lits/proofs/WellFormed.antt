@@ -1,13 +1,13 @@
 -- Well-formed formulas, by a test.
-use Rattle.std.proofs.Common.{◌≡◌, ◌≢◌, ℕ, ◌==◌, ◌≤◌, Bool, true, false, not, ◌&&◌, List, [], ◌∷◌, nat_le, refl}
-use Rattle.std.specs.List.{All, AllPairs, Contains, list_any, list_all, IsDistinct, AllByRecursion}
+use Rattle.std.proofs.Common.{◌≡◌, ℕ, ◌==◌, ◌≤◌, Bool, true, false, not, ◌&&◌, List, [], ◌∷◌, nat_le}
+use Rattle.std.specs.List.{All, Contains, list_any, list_all, IsDistinct, AllByRecursion}
 use Rattle.std.proofs.lemmas.Bool.{and_parts, leb-true, not-true, eqb-true}
 use Rattle.std.proofs.lemmas.Bool.Decides.{Decides-eqb}
-use Rattle.std.proofs.lemmas.List.Elements.{All-from_recursion, All-weaker}
+use Rattle.std.proofs.lemmas.List.Elements.{All-from_recursion}
 use Rattle.std.proofs.lemmas.Map.Made.{AllPairs-from_IsDistinct}
 use Rattle.std.proofs.lemmas.Map.Views.{Contains-from_any}
-use Rattle.dq_lits.specs.Literal.{Literal, variable_of}
-use Rattle.dq_lits.specs.Formula.{Existential, Dqbf, declared, HasLawfulPrefix, IsWellFormed}
+use Rattle.dq_lits.specs.Literal.{variable_of}
+use Rattle.dq_lits.specs.Formula.{Dqbf, declared, IsWellFormed}
 
 -- what a test shows of each element
 each : {X : Type 0} (p : X → Bool) (P : X → Type 0) → ((x : X) → p x ≡ true → P x) → (xs : List X) → list_all p xs ≡ true → AllByRecursion P xs

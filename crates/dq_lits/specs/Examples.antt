@@ -1,6 +1,6 @@
 -- Three small formulas, to hold the definitions against.
 use Rattle.std.specs.Prelude.{ℕ, ◌==◌, Bool, true, false, not, ◌&&◌, List, [], ◌∷◌, if◌then◌else◌}
-use Rattle.dq_lits.specs.Literal.{Assignment, Literal, positive, negative, literal_true}
+use Rattle.dq_lits.specs.Literal.{Literal, positive, negative, literal_true}
 use Rattle.dq_lits.specs.Formula.{Existential, Dqbf}
 use Rattle.dq_lits.specs.Skolem.{OutputFunction}
 use Rattle.dq_lits.specs.Derivation.{ProofStep}

@@ -1,5 +1,5 @@
 -- Henkin semantics of DQBF: existentials are functions of the universals that they see.
-use Rattle.std.specs.Prelude.{◌≡◌, ℕ, Bool, true, false, not, ◌&&◌, List, [], ◌∷◌, map}
+use Rattle.std.specs.Prelude.{◌≡◌, Bool, true, false, not, ◌&&◌, List, [], ◌∷◌, map}
 use Rattle.std.specs.List.{All, list_any}
 use Rattle.dq_lits.specs.Literal.{Assignment, clause_true}
 use Rattle.dq_lits.specs.Formula.{Existential, Dqbf}

@@ -5,5 +5,6 @@ pub mod Formula
 pub mod Henkin
 pub mod Literal
 pub mod LiteralCode
+pub mod PackedRow
 pub mod Row
 pub mod Skolem

@@ -1,14 +1,18 @@
-ghost use Rattle.std.specs.Prelude.{◌≡◌, ◌<◌, false, length, replicate, IfOk, slice_set};
+ghost use Rattle.std.specs.Prelude.{◌≡◌, ◌≢◌, ◌==◌, ◌<◌, ℕ, false, length, replicate, IfOk, slice_set};
+ghost use Rattle.std.specs.Int.{bit_at};
 ghost use Rattle.dq_lits.specs.Row.{bit_of};
 
 use crate::memory::Memory;
 use std::alloc::Global;
 use std::marker::Model;
 
-/// A row of bits, by place from 0.
+const WORD_BITS: usize = 64;
+
+/// A row of bits, by place from 0. It takes a bit of memory for each.
 #[derive(Debug, Drop)]
 pub struct Row {
-    bits: Vec<bool>,
+    len: usize,
+    words: Vec<u64>,
 }
 
 impl Model for Row {
@@ -16,7 +20,11 @@ impl Model for Row {
 
     ghost Value = { List Bool };
 
-    ghost view = { λ r. r.bits.items };
+    ghost use Rattle.dq_lits.specs.PackedRow.{row_inside, HasRoom};
+
+    ghost view = { row_inside };
+
+    ghost invariant = { HasRoom };
 }
 
 impl Row {
@@ -24,9 +32,8 @@ impl Row {
     pub fn new(alloc: Global, n: usize) -> Result<Row, Memory>
         ensures { IfOk result (λ row. row ≡ replicate n false) }
     {
-        Ok(Row {
-            bits: vec![in alloc; false; n]?,
-        })
+        let words = vec![in alloc; 0u64; n.div_ceil(WORD_BITS)]?;
+        Ok(Row { len: n, words })
     }
 
     /// A row of its own with the same bits.
@@ -34,7 +41,8 @@ impl Row {
         ensures { IfOk result (λ row. row ≡ self.now) }
     {
         Ok(Row {
-            bits: self.bits.clone()?,
+            len: self.len,
+            words: self.words.clone()?,
         })
     }
 
@@ -42,7 +50,7 @@ impl Row {
     pub fn len(&self) -> usize
         ensures { result ≡ length self.now }
     {
-        self.bits.len()
+        self.len
     }
 
     /// The bit at place `i`.
@@ -50,7 +58,7 @@ impl Row {
         requires { i < length self.now }
         ensures { result ≡ bit_of self.now i }
     {
-        self.bits[i]
+        (self.words[i / WORD_BITS] >> (i % WORD_BITS)) % 2 == 1
     }
 
     /// Writes the bit at place `i`; the others stay.
@@ -58,6 +66,17 @@ impl Row {
         requires { i < length self.old }
         ensures { self.new ≡ slice_set self.old i b }
     {
-        self.bits[i] = b;
+        let at = i / WORD_BITS;
+        self.words[at] = with_bit(self.words[at], i % WORD_BITS, b);
     }
+}
+
+/// The word with this bit at place `k`.
+fn with_bit(word: u64, k: usize, b: bool) -> u64
+    requires { k < 64 }
+    ensures here { (bit_at result k == 1) ≡ b }
+    ensures others { (j : ℕ) → j < 64 → j ≢ k → bit_at result j ≡ bit_at word j }
+{
+    let mask = 1u64 << k;
+    if b { word | mask } else { word & !mask }
 }

@@ -1,5 +1,4 @@
 use Rattle.std.proofs.Common.{[], ◌∷◌, false, true, refl}
-use Rattle.dq_lits.specs.Formula.{IsWellFormed}
 use Rattle.dq_lits.specs.Examples.{blind_copy, step, row}
 use Rattle.dq_lits.proofs.Lifting.{expansion_refutes}
 use Rattle.dq_lits.proofs.Refutations.{derivation_refutes_expansion}

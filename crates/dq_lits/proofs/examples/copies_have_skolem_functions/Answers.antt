@@ -1,11 +1,10 @@
-use Rattle.std.proofs.Common.{◌≡◌, ℕ, zero, suc, ◌==◌, ◌<◌, ◌≤◌, Bool, true, false, not, ◌&&◌, ◌||◌, List, [], ◌∷◌, refl, arith, lit<}
+use Rattle.std.proofs.Common.{◌≡◌, ℕ, zero, suc, ◌==◌, Bool, true, false, not, ◌||◌, [], ◌∷◌, refl, arith, lit<}
 use Rattle.std.specs.List.{All, Contains}
 use Rattle.std.proofs.lemmas.List.Elements.{All-from_recursion}
-use Rattle.dq_lits.specs.Literal.{Assignment, Literal, positive, negative, clause_true}
+use Rattle.dq_lits.specs.Literal.{Assignment, positive, negative, clause_true}
 use Rattle.dq_lits.specs.Formula.{Existential}
-use Rattle.dq_lits.specs.Henkin.{MatrixHolds}
 use Rattle.dq_lits.specs.Skolem.{OutputFunction, IsSupported, AreSkolemFunctions}
-use Rattle.dq_lits.specs.Examples.{two_copies, existential, literal_output, roundabout_output, outputs_with}
+use Rattle.dq_lits.specs.Examples.{two_copies, existential, literal_output, outputs_with}
 use Rattle.dq_lits.proofs.Skolem.{skolem_functions_solve}
 use Rattle.dq_lits.proofs.WellFormed.{well_formed_by}
 use Rattle.dq_lits.proofs.examples.copies_have_skolem_functions.Goals as goal
