@@ -1,0 +1,4 @@
+pub mod Bytes
+pub mod Cursor
+pub mod Token
+pub mod TokensInside

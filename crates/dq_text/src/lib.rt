@@ -1,0 +1,10 @@
+//! Tokens, lines and numbers of a text.
+//!
+//! Texts are bytes. Tokens are parted by space, tab, CR and LF; LF alone ends a line.
+#![tactic(auto)]
+
+pub use tokens::{Token, Tokens};
+
+mod bytes;
+mod cursors;
+mod tokens;
