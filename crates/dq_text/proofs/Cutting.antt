@@ -7,6 +7,7 @@ use Rattle.std.proofs.lemmas.List.Sums.{sum_by-cons}
 use Rattle.std.proofs.Common.{Some, None, nat_lt}
 use Rattle.dq_text.specs.Bytes.{kind_of}
 use Rattle.dq_text.specs.Token.{TextToken, is_separator, is_in_token, place_after, line_after, goes_on, extend, put_byte, tokens_from, line_feeds}
+use Rattle.dq_text.specs.Line.{extend_token, line_tokens}
 use Rattle.dq_text.specs.Cursor.{begins_token}
 use Rattle.dq_text.specs.declared.bytes.ByteKind.{ByteKind}
 use Rattle.dq_text.specs.declared.bytes.ByteKind.TheVariants.{Blank, LineFeed, LetterC, Other}
@@ -147,3 +148,40 @@ cut_parts place line at bytes front back n m begins some is front_is back_is lon
     ∙ ap (λ text. record { text = text; line = line; at = at } ∷ tokens_from InLine line (at + n) (drop n bytes)) (sym front_is)
     ∙ ap (λ k. record { text = front; line = line; at = at } ∷ tokens_from InLine line (at + k) (drop n bytes)) (sym long)
     ∙ ap (λ rest. record { text = front; line = line; at = at } ∷ tokens_from InLine line (at + m) rest) (sym back_is)
+
+token_step : (separator : Bool) (byte : ℕ) (bytes : List ℕ) (tokens : List (List ℕ)) → separator ≡ false →
+    cond separator tokens (cond (goes_on bytes) (extend_token byte tokens) ((byte ∷ []) ∷ tokens))
+    ≡ cond (goes_on bytes) (extend_token byte tokens) ((byte ∷ []) ∷ tokens)
+token_step true byte bytes tokens h = cc
+token_step false byte bytes tokens h = refl
+
+abbrev line_cut_at : ℕ → List ℕ → List (List ℕ)
+line_cut_at n bytes = take n bytes ∷ line_tokens (drop n bytes)
+
+-- the same for the tokens of one line
+pub cut_line_token : (bytes : List ℕ) → goes_on bytes ≡ true → line_tokens bytes ≡ line_cut_at (run bytes) bytes
+cut_line_token [] h = cc
+cut_line_token (byte ∷ bytes) h =
+    let visible = not-true (is_separator (kind_of byte)) h in
+    let tokens = line_tokens bytes in
+    token_step (is_separator (kind_of byte)) byte bytes tokens visible
+    ∙ elim (cases_Bool (goes_on bytes)) [
+      inl goes ↦
+        ap (λ b. cond b (extend_token byte tokens) ((byte ∷ []) ∷ tokens)) goes
+        ∙ ap (extend_token byte) (cut_line_token bytes goes)
+    | inr ends ↦
+        ap (λ b. cond b (extend_token byte tokens) ((byte ∷ []) ∷ tokens)) ends
+        ∙ ap (λ k. line_cut_at (suc k) (byte ∷ bytes)) (sym (run-none bytes ends))
+    ]
+    ∙ ap (λ k. line_cut_at k (byte ∷ bytes)) (sym (run-more byte bytes visible))
+
+pub line_cut_parts : (bytes front back : List ℕ) (n : ℕ) → goes_on bytes ≡ true → n ≡ run bytes → front ≡ take n bytes → back ≡ drop n bytes →
+    line_tokens bytes ≡ front ∷ line_tokens back
+line_cut_parts bytes front back n goes is front_is back_is =
+    cut_line_token bytes goes
+    ∙ ap (λ k. line_cut_at k bytes) (sym is)
+    ∙ ap (λ token. token ∷ line_tokens (drop n bytes)) (sym front_is)
+    ∙ ap (λ rest. front ∷ line_tokens rest) (sym back_is)
+
+pub not_empty : (bytes : List ℕ) → false ≡ (length bytes == 0) → bytes ≢ []
+not_empty bytes h none = true≢false (sym (h ∙ ap (λ b. length b == 0) none))

@@ -1,4 +1,7 @@
 pub mod Bytes
 pub mod Cursor
+pub mod Line
+pub mod LinesInside
+pub mod TextLine
 pub mod Token
 pub mod TokensInside

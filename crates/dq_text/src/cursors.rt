@@ -1,7 +1,8 @@
-ghost use Rattle.std.specs.Prelude.{◌≡◌, ◌+◌, ◌^◌, ◌<◌, ◌∷◌, ◌≢◌, [], length};
+ghost use Rattle.std.specs.Prelude.{◌≡◌, ◌+◌, ◌^◌, ◌<◌, ◌∷◌, ◌≢◌, [], length, true};
 ghost use Rattle.std.specs.List.{position, position_or_len};
 ghost use Rattle.dq_text.specs.Bytes.{kind_of};
-ghost use Rattle.dq_text.specs.Token.{is_separator, is_in_token, place_after, line_after};
+ghost use Rattle.dq_text.specs.Token.{is_separator, is_in_token, place_after, line_after, goes_on};
+ghost use Rattle.dq_text.specs.Line.{line_tokens};
 ghost use Rattle.dq_text.specs.Cursor.{text_token, tokens_left, last_line, CanCount, IsAtToken};
 
 use crate::bytes::{ByteKind, byte_kind};
@@ -94,10 +95,25 @@ fn first_separator(bytes: &[u8]) -> Option<usize>
 }
 
 /// How many bytes stand before the first blank or LF.
-fn token_length(bytes: &[u8]) -> usize
+pub fn separator_free_length(bytes: &[u8]) -> usize
     ensures { result ≡ position_or_len (λ byte. is_separator (kind_of byte)) bytes.now }
 {
     first_separator(bytes).unwrap_or(bytes.len())
+}
+
+/// The bytes from the first one on that is neither a blank nor LF.
+pub fn skip_separators(bytes: &[u8]) -> &[u8]
+    ensures same { line_tokens result.now ≡ line_tokens bytes.now }
+    ensures at_token { result.now ≢ [] → goes_on result.now ≡ true }
+{
+    let mut rest = bytes;
+    while let Some((byte, others)) = rest.split_first() {
+        if !separates(*byte) {
+            break;
+        }
+        rest = others;
+    }
+    rest
 }
 
 /// Cuts off the token that begins here.
@@ -109,7 +125,7 @@ pub fn take_token<'a>(cursor: &mut Cursor<'a>) -> Token<'a>
     ensures token { tokens_left cursor.old ≡ text_token result ∷ tokens_left cursor.new }
     ensures lines { last_line cursor.new ≡ last_line cursor.old }
 {
-    let (text, rest) = cursor.rest.split_at(token_length(cursor.rest));
+    let (text, rest) = cursor.rest.split_at(separator_free_length(cursor.rest));
     let token = Token {
         text,
         line: cursor.line,

@@ -3,8 +3,10 @@
 //! Texts are bytes. Tokens are parted by space, tab, CR and LF; LF alone ends a line.
 #![tactic(auto)]
 
+pub use lines::{Line, LineTokens, Lines};
 pub use tokens::{Token, Tokens};
 
 mod bytes;
 mod cursors;
+mod lines;
 mod tokens;
