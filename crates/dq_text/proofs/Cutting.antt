@@ -1,7 +1,7 @@
 -- A token is cut off at the first separator.
-use Rattle.std.proofs.Common.{◌≡◌, ℕ, zero, suc, ◌+◌, ◌<◌, ◌≤◌, ◌==◌, Bool, true, false, not, cond, List, [], ◌∷◌, ◌++◌, take, drop, length, refl, sym, ◌∙◌, ap, arith, ◌⊎◌, inl, inr, ◌≢◌}
+use Rattle.std.proofs.Common.{◌≡◌, ℕ, suc, ◌+◌, ◌≤◌, ◌==◌, Bool, true, false, not, cond, List, [], ◌∷◌, take, drop, length, refl, sym, ◌∙◌, ap, arith, inl, inr, ◌≢◌}
 use Rattle.std.proofs.lemmas.Bool.{cases_Bool, cases_eq, not-true, ne_eqb, true≢false, ltb-false}
-use Rattle.std.specs.List.{position, position_or_len, prefix_len, sum_by}
+use Rattle.std.specs.List.{position, position_or_len}
 use Rattle.std.specs.Option.{unwrap_or}
 use Rattle.std.proofs.lemmas.List.Sums.{sum_by-cons}
 use Rattle.std.proofs.Common.{Some, None, nat_lt}
@@ -26,8 +26,8 @@ pub run-le : (bytes : List ℕ) → run bytes ≤ length bytes
 run-le [] = omega arith
 run-le (byte ∷ bytes) =
     elim (cases_Bool (not (is_separator (kind_of byte)))) [
-      inl more ↦ rw more (omega (arith, run-le bytes))
-    | inr none ↦ rw none (omega arith)
+      | inl more ↦ rw more (omega (arith, run-le bytes))
+      | inr none ↦ rw none (omega arith)
     ]
 
 visible_step : (kind : ByteKind) (byte line at : ℕ) (bytes : List ℕ) → is_separator kind ≡ false →
@@ -52,16 +52,16 @@ put_run byte line at bytes more =
     let one = record { text = byte ∷ []; line = line; at = at } ∷ tokens in
     let places : at + 1 + n ≡ at + suc n = omega arith in
     elim (cases_Bool (goes_on bytes)) [
-      inl goes ↦
-        ap (λ b. cond b (extend byte line at tokens) one) goes
-        ∙ ap (extend byte line at) (more goes)
-        ∙ ap (λ p. record { text = byte ∷ take n bytes; line = line; at = at } ∷ tokens_from InLine line p (drop n bytes)) places
-    | inr ends ↦
-        let none = run-none bytes ends in
-        let here : at + 1 ≡ at + suc 0 = omega arith in
-        ap (λ b. cond b (extend byte line at tokens) one) ends
-        ∙ ap (λ p. record { text = byte ∷ []; line = line; at = at } ∷ tokens_from InLine line p bytes) here
-        ∙ ap (λ k. cut_at (suc k) line at (byte ∷ bytes)) (sym none)
+      | inl goes ↦
+          ap (λ b. cond b (extend byte line at tokens) one) goes
+          ∙ ap (extend byte line at) (more goes)
+          ∙ ap (λ p. record { text = byte ∷ take n bytes; line = line; at = at } ∷ tokens_from InLine line p (drop n bytes)) places
+      | inr ends ↦
+          let none = run-none bytes ends in
+          let here : at + 1 ≡ at + suc 0 = omega arith in
+          ap (λ b. cond b (extend byte line at tokens) one) ends
+          ∙ ap (λ p. record { text = byte ∷ []; line = line; at = at } ∷ tokens_from InLine line p bytes) here
+          ∙ ap (λ k. cut_at (suc k) line at (byte ∷ bytes)) (sym none)
     ]
 
 run-more : (byte : ℕ) (bytes : List ℕ) → is_separator (kind_of byte) ≡ false → run (byte ∷ bytes) ≡ suc (run bytes)
@@ -109,8 +109,8 @@ cut_token place line at (byte ∷ bytes) begins some =
 visible_no_feed : (byte : ℕ) → is_separator (kind_of byte) ≡ false → (byte == 10) ≡ false
 visible_no_feed byte h =
     elim (cases_eq byte 10) [
-      inl same ↦ absurd (true≢false (ap (λ b. is_separator (kind_of b)) (sym same) ∙ h))
-    | inr other ↦ ne_eqb byte 10 other
+      | inl same ↦ absurd (true≢false (ap (λ b. is_separator (kind_of b)) (sym same) ∙ h))
+      | inr other ↦ ne_eqb byte 10 other
     ]
 
 none_more : (n : ℕ) → 0 + n ≡ n
@@ -121,12 +121,12 @@ pub line_feeds-cut : (bytes : List ℕ) → line_feeds (drop (run bytes) bytes) 
 line_feeds-cut [] = refl
 line_feeds-cut (byte ∷ bytes) =
     elim (cases_Bool (is_separator (kind_of byte))) [
-      inl separator ↦ ap (λ k. line_feeds (drop k (byte ∷ bytes))) (run-none (byte ∷ bytes) (ap not separator))
-    | inr visible ↦
-        ap (λ k. line_feeds (drop k (byte ∷ bytes))) (run-more byte bytes visible)
-        ∙ line_feeds-cut bytes
-        ∙ sym (ap (λ b. cond b 1 0 + line_feeds bytes) (visible_no_feed byte visible) ∙ none_more (line_feeds bytes))
-        ∙ sym (sum_by-cons (λ b. cond (b == 10) 1 0) byte bytes)
+      | inl separator ↦ ap (λ k. line_feeds (drop k (byte ∷ bytes))) (run-none (byte ∷ bytes) (ap not separator))
+      | inr visible ↦
+          ap (λ k. line_feeds (drop k (byte ∷ bytes))) (run-more byte bytes visible)
+          ∙ line_feeds-cut bytes
+          ∙ sym (ap (λ b. cond b 1 0 + line_feeds bytes) (visible_no_feed byte visible) ∙ none_more (line_feeds bytes))
+          ∙ sym (sum_by-cons (λ b. cond (b == 10) 1 0) byte bytes)
     ]
 
 choose : (p : ℕ → Bool) (xs : List ℕ) (b : Bool) → nat_lt (position_or_len p xs) (length xs) ≡ b → position_or_len p xs ≤ length xs →
@@ -166,12 +166,12 @@ cut_line_token (byte ∷ bytes) h =
     let tokens = line_tokens bytes in
     token_step (is_separator (kind_of byte)) byte bytes tokens visible
     ∙ elim (cases_Bool (goes_on bytes)) [
-      inl goes ↦
-        ap (λ b. cond b (extend_token byte tokens) ((byte ∷ []) ∷ tokens)) goes
-        ∙ ap (extend_token byte) (cut_line_token bytes goes)
-    | inr ends ↦
-        ap (λ b. cond b (extend_token byte tokens) ((byte ∷ []) ∷ tokens)) ends
-        ∙ ap (λ k. line_cut_at (suc k) (byte ∷ bytes)) (sym (run-none bytes ends))
+      | inl goes ↦
+          ap (λ b. cond b (extend_token byte tokens) ((byte ∷ []) ∷ tokens)) goes
+          ∙ ap (extend_token byte) (cut_line_token bytes goes)
+      | inr ends ↦
+          ap (λ b. cond b (extend_token byte tokens) ((byte ∷ []) ∷ tokens)) ends
+          ∙ ap (λ k. line_cut_at (suc k) (byte ∷ bytes)) (sym (run-none bytes ends))
     ]
     ∙ ap (λ k. line_cut_at k (byte ∷ bytes)) (sym (run-more byte bytes visible))
 

@@ -1,9 +1,9 @@
 -- The first line of a text is its first line.
-use Rattle.std.proofs.Common.{◌≡◌, ◌≢◌, ℕ, ◌+◌, ◌==◌, Bool, true, false, cond, ◌⊎◌, inl, inr, List, [], ◌∷◌, ◌++◌, refl, sym, ◌∙◌, ap, arith}
+use Rattle.std.proofs.Common.{◌≡◌, ◌≢◌, ℕ, ◌+◌, cond, inl, inr, List, [], ◌∷◌, ◌++◌, refl, sym, ◌∙◌, ap}
 use Rattle.std.specs.List.{All}
 use Rattle.std.proofs.lemmas.Bool.{ne_eqb}
 use Rattle.std.proofs.lemmas.List.Elements.{All-head, All-tail}
-use Rattle.dq_text.specs.Line.{TextLine, extend_line, lines_from, IsFirstLine}
+use Rattle.dq_text.specs.Line.{extend_line, lines_from, IsFirstLine}
 
 abbrev NoFeed : ℕ → Type 0
 NoFeed byte = byte ≢ 10
@@ -35,9 +35,9 @@ pub first_of_lines : (number : ℕ) (bytes text others : List ℕ) → IsFirstLi
     lines_from number bytes ≡ record { text = text; number = number } ∷ lines_from (number + 1) others
 first_of_lines number bytes text others first some =
     elim first.parts [
-      inl with_feed ↦ ap (lines_from number) with_feed ∙ before_feed number text others first.one_line
-    | inr alone ↦
-        ap (lines_from number) alone.0
-        ∙ last_line_alone number text first.one_line (λ none. some (alone.0 ∙ none))
-        ∙ ap (λ rest. record { text = text; number = number } ∷ lines_from (number + 1) rest) (sym alone.1)
+      | inl with_feed ↦ ap (lines_from number) with_feed ∙ before_feed number text others first.one_line
+      | inr alone ↦
+          ap (lines_from number) alone.0
+          ∙ last_line_alone number text first.one_line (λ none. some (alone.0 ∙ none))
+          ∙ ap (λ rest. record { text = text; number = number } ∷ lines_from (number + 1) rest) (sym alone.1)
     ]

@@ -4,9 +4,11 @@
 #![tactic(auto)]
 
 pub use lines::{Line, LineTokens, Lines};
+pub use numbers::{Number, push_number, read_number};
 pub use tokens::{Token, Tokens};
 
 mod bytes;
 mod cursors;
 mod lines;
+mod numbers;
 mod tokens;

@@ -64,7 +64,12 @@ impl<'a> Tokens<'a> {
     pub fn last_line(&self) -> u64
         ensures { result ≡ self.now.last_line }
     {
-        let more = self.cursor.rest.iter().filter(|byte| **byte == b'\n').count();
+        let more = self
+            .cursor
+            .rest
+            .iter()
+            .filter(|byte| **byte == b'\n')
+            .count();
         self.cursor.line + more as u64
     }
 }

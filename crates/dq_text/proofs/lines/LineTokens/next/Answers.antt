@@ -11,5 +11,5 @@ returns-clause-token c =
     sym c.self.view_is
     ∙ sym c.skip_separators-rest.ensures.same
     ∙ line_cut_parts rest c.split_at.result.0.now c.split_at.result.1.now c.separator_free_length.result
-      (c.skip_separators-rest.ensures.at_token (not_empty rest c.if-is_empty.ensures))
-      c.separator_free_length.ensures c.split_at.ensures.front c.split_at.ensures.back
+    (c.skip_separators-rest.ensures.at_token (not_empty rest c.if-is_empty.ensures))
+    c.separator_free_length.ensures c.split_at.ensures.front c.split_at.ensures.back

@@ -9,4 +9,4 @@ returns-clause-line c =
     let rest = c.self.inside.rest.now in
     ap (λ (v : LineCursor). lines_from v.number v.rest) (sym c.self.view_is)
     ∙ first_of_lines c.self.inside.number rest c.cut_line.result.0.now c.cut_line.result.1.now c.cut_line.ensures.first
-      (not_empty rest c.if-is_empty.ensures)
+    (not_empty rest c.if-is_empty.ensures)

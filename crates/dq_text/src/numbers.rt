@@ -1,0 +1,65 @@
+ghost use Rattle.std.specs.Prelude.{◌≡◌, ◌++◌, ◌^◌, min, Some, None, OnOk, OnErr, if◌then◌else◌};
+ghost use Rattle.std.specs.Fmt.{signed_decimal};
+ghost use Rattle.dq_text.specs.Number.{are_digits, decimal_value, number_of};
+
+use dq_lits::Memory;
+use itoa::Buffer;
+
+/// What a token is as a number: an optional `-` and decimal digits.
+#[derive(Clone, Copy, Debug, PartialEq, Eq)]
+pub enum Number {
+    /// A number of magnitude below 10^18.
+    Int(i64),
+    /// Something else, `-0` among it.
+    NotANumber,
+    /// A number of magnitude 10^18 or more, of either sign.
+    TooBig,
+}
+
+const LIMIT: u64 = 1_000_000_000_000_000_000;
+
+/// Reads a token as a number. Leading zeros are lawful, `+` isn't.
+pub fn read_number(text: &[u8]) -> Number
+    ensures { result ≡ number_of text.now }
+{
+    match text.split_first() {
+        None => Number::NotANumber,
+        Some((b'-', digits)) => match capped_value(digits) {
+            None | Some(0) => Number::NotANumber,
+            Some(LIMIT) => Number::TooBig,
+            Some(value) => Number::Int(-(value as i64)),
+        },
+        Some(_) => match capped_value(text) {
+            None => Number::NotANumber,
+            Some(LIMIT) => Number::TooBig,
+            Some(value) => Number::Int(value as i64),
+        },
+    }
+}
+
+/// The value of decimal digits, at most 10^18; none where there are other bytes or no digits.
+fn capped_value(digits: &[u8]) -> Option<u64>
+    ensures { result ≡ (if are_digits digits.now then Some (min (decimal_value digits.now) (10 ^ 18)) else None) }
+{
+    if digits.is_empty() {
+        return None;
+    }
+    let mut value = 0;
+    for digit in digits {
+        if !digit.is_ascii_digit() {
+            return None;
+        }
+        value = (value * 10 + u64::from(*digit - b'0')).min(LIMIT);
+    }
+    Some(value)
+}
+
+/// Appends the decimal text of a number, without leading zeros. A refusal leaves the buffer as it was.
+pub fn push_number(buf: &mut Vec<u8>, n: i64) -> Result<(), Memory>
+    ensures ok { OnOk result (buf.new.items ≡ buf.old.items ++ signed_decimal n) }
+    ensures err { OnErr result (buf.new.items ≡ buf.old.items) }
+{
+    let mut buffer = Buffer::new();
+    buf.extend_from_slice(buffer.format(n).as_bytes())?;
+    Ok(())
+}
