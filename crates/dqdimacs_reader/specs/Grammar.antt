@@ -1,0 +1,86 @@
+-- The grammar: which formula a text spells (QDIMACS with `d` lines).
+use Rattle.std.specs.Prelude.{◌≡◌, ℕ, ◌+◌, ◌<◌, ◌≤◌, Bool, true, false, List, [], ◌∷◌, ◌++◌, map, length}
+use Rattle.std.specs.List.{AllByRecursion, flat_map, fold}
+use Rattle.dq_lits.specs.Literal.{Literal, positive, negative, variable_of}
+use Rattle.dq_lits.specs.Formula.{Dqbf, is_universal}
+use Rattle.dq_text.specs.Token.{TextToken, tokens_of}
+use Rattle.dqdimacs_reader.specs.Building.{empty_formula, is_declared, add_universal, add_first, add_listed, add_clause, distinct, with_free}
+use Rattle.dqdimacs_reader.specs.Lexeme.{lexeme_of}
+use Rattle.dqdimacs_reader.specs.Machine.{max_variables, max_clauses}
+use Rattle.dqdimacs_reader.specs.declared.lexemes.Lexeme.{Lexeme}
+use Rattle.dqdimacs_reader.specs.declared.lexemes.Lexeme.TheVariants.{P, Cnf, A, D, E, Natural, Negative}
+
+-- a part of the prefix: `a v.. 0`, `e v.. 0` or `d y x.. 0`
+pub data Part : Type 0 where
+  universals : List ℕ → Part
+  existentials : List ℕ → Part
+  dependent : ℕ → List ℕ → Part
+
+abbrev pub numbers : List ℕ → List Lexeme
+numbers vs = map Natural vs ++ Natural 0 ∷ []
+
+abbrev pub part_lexemes : Part → List Lexeme
+part_lexemes (universals vs) = A ∷ numbers vs
+part_lexemes (existentials ys) = E ∷ numbers ys
+part_lexemes (dependent y xs) = D ∷ Natural y ∷ numbers xs
+
+abbrev pub literal_lexeme : Literal → Lexeme
+literal_lexeme (positive v) = Natural v
+literal_lexeme (negative v) = Negative v
+
+abbrev pub clause_lexemes : List Literal → List Lexeme
+clause_lexemes literals = map literal_lexeme literals ++ Natural 0 ∷ []
+
+abbrev pub header : ℕ → ℕ → List Lexeme
+header variables clauses = P ∷ Cnf ∷ Natural variables ∷ Natural clauses ∷ []
+
+-- a variable that a part may declare
+pub record IsNew (f : Dqbf) (v : ℕ) : Type 0 where
+  pub from_one : 1 ≤ v
+  pub in_range : v ≤ f.variables
+  pub undeclared : is_declared f v ≡ false
+
+-- a variable of a set is declared behind those before it
+abbrev pub AreNew : (Dqbf → ℕ → Dqbf) → Dqbf → List ℕ → Type 0
+AreNew add f [] = Unit {0}
+AreNew add f (v ∷ vs) = IsNew f v × AreNew add (add f v) vs
+
+-- a dependency is a universal declared before; it is in range then
+abbrev pub IsSeen : Dqbf → ℕ → Type 0
+IsSeen f x = (1 ≤ x) × (x ≤ f.variables) × (is_universal f x ≡ true)
+
+abbrev pub IsLawfulPart : Dqbf → Part → Type 0
+IsLawfulPart f (universals vs) = AreNew add_universal f vs
+IsLawfulPart f (existentials ys) = AreNew add_first f ys
+IsLawfulPart f (dependent y xs) = IsNew f y × AllByRecursion (IsSeen f) xs
+
+-- the formula with a part's declarations
+abbrev pub declare : Dqbf → Part → Dqbf
+declare f (universals vs) = fold add_universal f vs
+declare f (existentials ys) = fold add_first f ys
+declare f (dependent y xs) = add_listed f y xs
+
+abbrev pub AreLawfulParts : Dqbf → List Part → Type 0
+AreLawfulParts f [] = Unit {0}
+AreLawfulParts f (part ∷ parts) = IsLawfulPart f part × AreLawfulParts (declare f part) parts
+
+abbrev pub add_spelled : Dqbf → List Literal → Dqbf
+add_spelled f literals = add_clause f (distinct literals)
+
+abbrev pub InRange : ℕ → Literal → Type 0
+InRange variables l = (1 ≤ variable_of l) × (variable_of l ≤ variables)
+
+abbrev pub AllInRange : ℕ → List (List Literal) → Type 0
+AllInRange variables clauses = AllByRecursion (AllByRecursion (InRange variables)) clauses
+
+-- The tokens are the header, then parts in any order and number, then as many clauses as the header says.
+-- The formula has what the parts declare, the clauses with their distinct literals, and the free variables.
+pub record SpellsFormula (text : List ℕ) (f : Dqbf) : Type 0 where
+  pub parts : List Part
+  pub clauses : List (List Literal)
+  pub spelling : map (λ token. lexeme_of token.text) (tokens_of text) ≡ header f.variables (length clauses) ++ (flat_map part_lexemes parts ++ flat_map clause_lexemes clauses)
+  pub few_variables : f.variables ≤ max_variables
+  pub few_clauses : length clauses ≤ max_clauses
+  pub lawful : AreLawfulParts (empty_formula f.variables) parts
+  pub in_range : AllInRange f.variables clauses
+  pub formula : f ≡ with_free (fold add_spelled (fold declare (empty_formula f.variables) parts) clauses)

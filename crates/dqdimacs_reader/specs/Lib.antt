@@ -1,0 +1,4 @@
+pub mod Building
+pub mod Grammar
+pub mod Lexeme
+pub mod Machine

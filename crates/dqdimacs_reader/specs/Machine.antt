@@ -1,0 +1,247 @@
+-- The first fault of a text: the tokens stand in states, and each state has its checks in order.
+use Rattle.std.specs.Prelude.{◌≡◌, ℕ, ◌+◌, ◌==◌, nat_lt, Bool, true, false, not, ◌&&◌, List, [], ◌∷◌, ◌++◌, length, Option, None, Some, Result, Ok, Err, if◌then◌else◌}
+use Rattle.dq_lits.specs.Literal.{Literal, positive, negative}
+use Rattle.dq_lits.specs.Formula.{Dqbf, is_universal}
+use Rattle.dq_text.specs.Token.{TextToken, tokens_of, last_line_of}
+use Rattle.dqdimacs_reader.specs.Building.{empty_formula, is_declared, add_universal, add_first, add_listed, add_clause, add_literal, with_free}
+use Rattle.dqdimacs_reader.specs.Lexeme.{lexeme_of}
+use Rattle.dqdimacs_reader.specs.declared.faults.FormulaFault.{FormulaFault}
+use Rattle.dqdimacs_reader.specs.declared.faults.FormulaFault.TheVariants.{NoHeader, BadNumber, TooBig, VarRange, DeclaredTwice, NotUniversal, EmptyD, PrefixLate, HeaderTwice, TooFewClauses, TooManyClauses, MissingZero, Limit}
+use Rattle.dqdimacs_reader.specs.declared.lexemes.Lexeme.{Lexeme}
+use Rattle.dqdimacs_reader.specs.declared.lexemes.Lexeme.TheVariants.{P, Cnf, A, D, E, Natural, Negative, Large, NegativeLarge, Other}
+
+-- what was read: the header's number of clauses, and the formula so far, free variables not yet declared
+pub record Reading : Type 0 where
+  pub clauses : ℕ
+  pub formula : Dqbf
+
+pub data State : Type 0 where
+  before_header : State
+  before_format : State
+  before_variables : State
+  before_clauses : ℕ → State
+  -- at the start of a set, an item or a clause
+  at_part : Reading → State
+  in_universals : Reading → State
+  in_existentials : Reading → State
+  at_dependent : Reading → State
+  -- inside an item, with its variable and the dependencies so far
+  in_dependencies : Reading → ℕ → List ℕ → State
+  -- inside a clause, with its distinct literals so far
+  in_clause : Reading → List Literal → State
+
+abbrev pub max_variables : ℕ
+max_variables = 1000000
+
+abbrev pub max_clauses : ℕ
+max_clauses = 10000000
+
+abbrev pub fault_if : Bool → FormulaFault → Option FormulaFault → Option FormulaFault
+fault_if true fault _ = Some fault
+fault_if false _ rest = rest
+
+-- the checks of a natural number, behind those that it is one
+abbrev pub check_natural : Lexeme → (ℕ → Option FormulaFault) → Option FormulaFault
+check_natural P _ = Some BadNumber
+check_natural Cnf _ = Some BadNumber
+check_natural A _ = Some BadNumber
+check_natural D _ = Some BadNumber
+check_natural E _ = Some BadNumber
+check_natural (Natural n) check = check n
+check_natural (Negative _) _ = Some BadNumber
+check_natural Large _ = Some TooBig
+check_natural NegativeLarge _ = Some BadNumber
+check_natural Other _ = Some BadNumber
+
+abbrev pub check_limit : ℕ → ℕ → Option FormulaFault
+check_limit limit n = fault_if (nat_lt limit n) Limit None
+
+-- inside a set or an item a second header comes before all else
+abbrev pub check_entry : Lexeme → (ℕ → Option FormulaFault) → Option FormulaFault
+check_entry P _ = Some HeaderTwice
+check_entry Cnf _ = Some BadNumber
+check_entry A _ = Some BadNumber
+check_entry D _ = Some BadNumber
+check_entry E _ = Some BadNumber
+check_entry (Natural n) check = check n
+check_entry (Negative _) _ = Some BadNumber
+check_entry Large _ = Some TooBig
+check_entry NegativeLarge _ = Some BadNumber
+check_entry Other _ = Some BadNumber
+
+-- the checks of a signed number, where letters have their own
+abbrev pub check_signed : Lexeme → Option FormulaFault → (ℕ → Option FormulaFault) → Option FormulaFault
+check_signed P _ _ = Some HeaderTwice
+check_signed Cnf _ _ = Some BadNumber
+check_signed A letter _ = letter
+check_signed D letter _ = letter
+check_signed E letter _ = letter
+check_signed (Natural n) _ check = check n
+check_signed (Negative n) _ check = check n
+check_signed Large _ _ = Some TooBig
+check_signed NegativeLarge _ _ = Some TooBig
+check_signed Other _ _ = Some BadNumber
+
+abbrev pub check_range : Reading → ℕ → Option FormulaFault → Option FormulaFault
+check_range r v rest = fault_if (nat_lt r.formula.variables v) VarRange rest
+
+abbrev pub is_empty : List (List Literal) → Bool
+is_empty [] = true
+is_empty (_ ∷ _) = false
+
+-- zero ends a set
+abbrev pub check_declared : Reading → ℕ → Option FormulaFault
+check_declared r v =
+    if v == 0 then None else
+    check_range r v (fault_if (is_declared r.formula v) DeclaredTwice None)
+
+abbrev pub check_dependent : Reading → ℕ → Option FormulaFault
+check_dependent r y =
+    fault_if (y == 0) EmptyD (check_range r y (fault_if (is_declared r.formula y) DeclaredTwice None))
+
+-- zero ends an item
+abbrev pub check_dependency : Reading → ℕ → Option FormulaFault
+check_dependency r x =
+    if x == 0 then None else
+    check_range r x (fault_if (not (is_universal r.formula x)) NotUniversal None)
+
+-- at the start of a clause
+abbrev pub check_clause : Reading → ℕ → Option FormulaFault
+check_clause r v = fault_if (length r.formula.matrix == r.clauses) TooManyClauses (check_range r v None)
+
+abbrev pub wanted : Bool → Option FormulaFault
+wanted true = None
+wanted false = Some NoHeader
+
+abbrev pub is_p : Lexeme → Bool
+is_p P = true
+is_p Cnf = false
+is_p A = false
+is_p D = false
+is_p E = false
+is_p (Natural _) = false
+is_p (Negative _) = false
+is_p Large = false
+is_p NegativeLarge = false
+is_p Other = false
+
+abbrev pub is_cnf : Lexeme → Bool
+is_cnf P = false
+is_cnf Cnf = true
+is_cnf A = false
+is_cnf D = false
+is_cnf E = false
+is_cnf (Natural _) = false
+is_cnf (Negative _) = false
+is_cnf Large = false
+is_cnf NegativeLarge = false
+is_cnf Other = false
+
+-- the first check that a token fails where it stands
+abbrev pub check : State → Lexeme → Option FormulaFault
+check before_header lexeme = wanted (is_p lexeme)
+check before_format lexeme = wanted (is_cnf lexeme)
+check before_variables lexeme = check_natural lexeme (check_limit max_variables)
+check (before_clauses _) lexeme = check_natural lexeme (check_limit max_clauses)
+check (at_part r) lexeme = check_signed lexeme (fault_if (not (is_empty r.formula.matrix)) PrefixLate None) (check_clause r)
+check (in_universals r) lexeme = check_entry lexeme (check_declared r)
+check (in_existentials r) lexeme = check_entry lexeme (check_declared r)
+check (at_dependent r) lexeme = check_entry lexeme (check_dependent r)
+check (in_dependencies r _ _) lexeme = check_entry lexeme (check_dependency r)
+check (in_clause r _) lexeme = check_signed lexeme (Some PrefixLate) (λ v. check_range r v None)
+
+abbrev pub with_formula : Reading → Dqbf → Reading
+with_formula r f = record r { formula = f }
+
+-- a clause's literal or its end
+abbrev pub literal_or_end : Reading → List Literal → ℕ → Literal → State
+literal_or_end r clause v l = if v == 0 then at_part (with_formula r (add_clause r.formula clause)) else in_clause r (add_literal clause l)
+
+-- the state behind a token that passes its checks
+abbrev pub at_start : Reading → Lexeme → State
+at_start r P = at_part r
+at_start r Cnf = at_part r
+at_start r A = in_universals r
+at_start r D = at_dependent r
+at_start r E = in_existentials r
+at_start r (Natural v) = literal_or_end r [] v (positive v)
+at_start r (Negative v) = literal_or_end r [] v (negative v)
+at_start r Large = at_part r
+at_start r NegativeLarge = at_part r
+at_start r Other = at_part r
+
+abbrev pub natural_or : State → Lexeme → (ℕ → State) → State
+natural_or other P _ = other
+natural_or other Cnf _ = other
+natural_or other A _ = other
+natural_or other D _ = other
+natural_or other E _ = other
+natural_or other (Natural n) next = next n
+natural_or other (Negative _) _ = other
+natural_or other Large _ = other
+natural_or other NegativeLarge _ = other
+natural_or other Other _ = other
+
+abbrev pub inside_clause : Reading → List Literal → Lexeme → State
+inside_clause r clause P = in_clause r clause
+inside_clause r clause Cnf = in_clause r clause
+inside_clause r clause A = in_clause r clause
+inside_clause r clause D = in_clause r clause
+inside_clause r clause E = in_clause r clause
+inside_clause r clause (Natural v) = literal_or_end r clause v (positive v)
+inside_clause r clause (Negative v) = literal_or_end r clause v (negative v)
+inside_clause r clause Large = in_clause r clause
+inside_clause r clause NegativeLarge = in_clause r clause
+inside_clause r clause Other = in_clause r clause
+
+abbrev pub advance : State → Lexeme → State
+advance before_header _ = before_format
+advance before_format _ = before_variables
+advance before_variables lexeme = natural_or before_variables lexeme before_clauses
+advance (before_clauses v) lexeme = natural_or (before_clauses v) lexeme (λ c. at_part (record { clauses = c; formula = empty_formula v }))
+advance (at_part r) lexeme = at_start r lexeme
+advance (in_universals r) lexeme =
+    natural_or (in_universals r) lexeme (λ v. if v == 0 then at_part r else in_universals (with_formula r (add_universal r.formula v)))
+advance (in_existentials r) lexeme =
+    natural_or (in_existentials r) lexeme (λ v. if v == 0 then at_part r else in_existentials (with_formula r (add_first r.formula v)))
+advance (at_dependent r) lexeme = natural_or (at_dependent r) lexeme (λ y. in_dependencies r y [])
+advance (in_dependencies r y xs) lexeme =
+    natural_or (in_dependencies r y xs) lexeme
+    (λ x. if x == 0 then at_part (with_formula r (add_listed r.formula y xs)) else in_dependencies r y (xs ++ x ∷ []))
+advance (in_clause r clause) lexeme = inside_clause r clause lexeme
+
+-- what the end of the text decides
+abbrev pub at_end : State → Result Dqbf FormulaFault
+at_end before_header = Err NoHeader
+at_end before_format = Err NoHeader
+at_end before_variables = Err NoHeader
+at_end (before_clauses _) = Err NoHeader
+at_end (at_part r) = if nat_lt (length r.formula.matrix) r.clauses then Err TooFewClauses else Ok (with_free r.formula)
+at_end (in_universals _) = Err MissingZero
+at_end (in_existentials _) = Err MissingZero
+at_end (at_dependent _) = Err MissingZero
+at_end (in_dependencies _ _ _) = Err MissingZero
+at_end (in_clause _ _) = Err MissingZero
+
+-- a fault by its line and name
+pub record TextFault : Type 0 where
+  pub line : ℕ
+  pub name : FormulaFault
+
+abbrev pub on_line : ℕ → Result Dqbf FormulaFault → Result Dqbf TextFault
+on_line line (Ok f) = Ok f
+on_line line (Err name) = Err (record { line = line; name = name })
+
+abbrev pub unless_fault : Option FormulaFault → ℕ → Result Dqbf TextFault → Result Dqbf TextFault
+unless_fault (Some name) line _ = Err (record { line = line; name = name })
+unless_fault None _ rest = rest
+
+-- the formula, or the first fault
+abbrev pub read_from : State → List TextToken → ℕ → Result Dqbf TextFault
+read_from state [] last_line = on_line last_line (at_end state)
+read_from state (token ∷ tokens) last_line =
+    unless_fault (check state (lexeme_of token.text)) token.line
+    (read_from (advance state (lexeme_of token.text)) tokens last_line)
+
+abbrev pub reading : List ℕ → Result Dqbf TextFault
+reading text = read_from before_header (tokens_of text) (last_line_of text)

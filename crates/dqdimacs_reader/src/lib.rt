@@ -1,0 +1,7 @@
+//! DQDIMACS: QDIMACS with `d` lines, read exactly.
+#![tactic(auto)]
+
+pub use faults::FormulaFault;
+
+mod faults;
+mod lexemes;
