@@ -4,4 +4,5 @@
 pub use faults::FormulaFault;
 
 mod faults;
+pub mod laws;
 mod lexemes;

@@ -1,0 +1,3 @@
+mod ReadIsSpelled
+mod Runs
+mod SpelledIsRead

@@ -1,0 +1,597 @@
+-- What the machine reads, the grammar spells.
+use Rattle.std.proofs.Common.{◌≡◌, ◌≢◌, ℕ, ◌+◌, ◌<◌, ◌≤◌, ◌==◌, nat_lt, Bool, true, false, not, cond, ◌&&◌, ◌⊎◌, inl, inr, List, [], ◌∷◌, ◌++◌, map, length, Option, None, Some, Result, Ok, Err, refl, sym, ◌∙◌, ap, arith, append_assoc, length-append, subst}
+use Rattle.std.specs.List.{AllByRecursion, flat_map, fold, list_any}
+use Rattle.std.proofs.lemmas.Bool.{ltb-false, eqb-false, eqb-true, cases_Bool, cases_eq, eq-eqb, ne_eqb, not-false, true≢false}
+use Rattle.std.proofs.lemmas.List.{append-nil}
+use Rattle.dq_lits.specs.Literal.{Literal, positive, negative, variable_of}
+use Rattle.dq_lits.specs.Formula.{Dqbf, is_universal}
+use Rattle.dq_text.specs.Token.{TextToken, tokens_of, last_line_of}
+use Rattle.dqdimacs_reader.specs.Building.{empty_formula, is_declared, add_universal, add_first, add_listed, add_clause, add_literal, distinct, with_free}
+use Rattle.dqdimacs_reader.specs.Grammar.{Part, universals, existentials, dependent, numbers, part_lexemes, literal_lexeme, clause_lexemes, header, IsNew, AreNew, IsSeen, IsLawfulPart, declare, AreLawfulParts, add_spelled, InRange, AllInRange, SpellsFormula}
+use Rattle.dqdimacs_reader.specs.Machine.{Reading, State, before_header, before_format, before_variables, before_clauses, at_part, in_universals, in_existentials, at_dependent, in_dependencies, in_clause, max_variables, max_clauses, fault_if, check_limit, check_natural, check_entry, check_signed, check_range, check_declared, check_dependent, check_dependency, check_clause, with_formula, check, advance, at_start, inside_clause, natural_or, at_end, is_empty, wanted, is_p, is_cnf, reading}
+use Rattle.dq_text.specs.Number.{number_of}
+use Rattle.dq_text.specs.declared.numbers.Number.{Number}
+use Rattle.dq_text.specs.declared.numbers.Number.TheVariants.{Int, NotANumber, TooBig as TooBigNumber}
+use Rattle.std.specs.Prelude.{pos, negsuc, codes}
+use Rattle.std.specs.Str.{bytes_eq}
+use Rattle.dqdimacs_reader.specs.Lexeme.{lexeme_of, number_lexeme, begins_with_minus}
+use Rattle.dqdimacs_reader.specs.declared.faults.FormulaFault.{FormulaFault}
+use Rattle.dqdimacs_reader.specs.declared.faults.FormulaFault.TheVariants.{VarRange, DeclaredTwice, NotUniversal, EmptyD, TooManyClauses, TooFewClauses, PrefixLate, Limit}
+use Rattle.dqdimacs_reader.specs.declared.lexemes.Lexeme.{Lexeme}
+use Rattle.dqdimacs_reader.specs.declared.lexemes.Lexeme.TheVariants.{P, Cnf, A, D, E, Natural, Negative, Large, NegativeLarge, Other}
+use Rattle.dqdimacs_reader.proofs.SpelledIsRead.{declare-keeps, declares-keep}
+use Rattle.dqdimacs_reader.proofs.Runs.{formula_or_none, run, run_step, run_from_reading, lexemes_of}
+
+-- parts and clauses that complete a reading to a formula; behind a clause no part stands
+record Completes (r : Reading) (lexemes : List Lexeme) (f : Dqbf) : Type 0 where
+  parts : List Part
+  clauses : List (List Literal)
+  spelling : lexemes ≡ flat_map part_lexemes parts ++ flat_map clause_lexemes clauses
+  lawful : AreLawfulParts r.formula parts
+  in_range : AllInRange r.formula.variables clauses
+  counted : length r.formula.matrix + length clauses ≡ r.clauses
+  prefix_first : is_empty r.formula.matrix ≡ false → parts ≡ []
+  formula : f ≡ with_free (fold add_spelled (fold declare r.formula parts) clauses)
+
+-- numbers that a list of variables ends with, and what completes the reading behind them
+record CompletesList (new : List ℕ → Type 0) (then_reading : List ℕ → Reading) (lexemes : List Lexeme) (f : Dqbf) : Type 0 where
+  vs : List ℕ
+  rest : List Lexeme
+  spelling : lexemes ≡ numbers vs ++ rest
+  lawful : new vs
+  completed : Completes (then_reading vs) rest f
+
+record CompletesClause (r : Reading) (clause : List Literal) (lexemes : List Lexeme) (f : Dqbf) : Type 0 where
+  literals : List Literal
+  rest : List Lexeme
+  spelling : lexemes ≡ clause_lexemes literals ++ rest
+  in_range : AllByRecursion (InRange r.formula.variables) literals
+  completed : Completes (with_formula r (add_clause r.formula (fold add_literal clause literals))) rest f
+
+record CompletesDependent (r : Reading) (lexemes : List Lexeme) (f : Dqbf) : Type 0 where
+  y : ℕ
+  rest : List Lexeme
+  spelling : lexemes ≡ Natural y ∷ rest
+  new : IsNew r.formula y
+  completed : CompletesList (AllByRecursion (IsSeen r.formula)) (λ xs. with_formula r (add_listed r.formula y xs)) rest f
+
+abbrev CompletesState : State → List Lexeme → Dqbf → Type 0
+CompletesState before_header lexemes f = Unit {0}
+CompletesState before_format lexemes f = Unit {0}
+CompletesState before_variables lexemes f = Unit {0}
+CompletesState (before_clauses _) lexemes f = Unit {0}
+CompletesState (at_part r) lexemes f = Completes r lexemes f
+CompletesState (in_universals r) lexemes f = CompletesList (AreNew add_universal r.formula) (λ vs. with_formula r (fold add_universal r.formula vs)) lexemes f
+CompletesState (in_existentials r) lexemes f = CompletesList (AreNew add_first r.formula) (λ vs. with_formula r (fold add_first r.formula vs)) lexemes f
+CompletesState (at_dependent r) lexemes f = CompletesDependent r lexemes f
+CompletesState (in_dependencies r y before) lexemes f =
+    CompletesList (AllByRecursion (IsSeen r.formula)) (λ xs. with_formula r (add_listed r.formula y (before ++ xs))) lexemes f
+CompletesState (in_clause r clause) lexemes f = CompletesClause r clause lexemes f
+
+-- no clause more than the header's number
+abbrev IsCounted : State → Type 0
+IsCounted before_header = Unit {0}
+IsCounted before_format = Unit {0}
+IsCounted before_variables = Unit {0}
+IsCounted (before_clauses _) = Unit {0}
+IsCounted (at_part r) = length r.formula.matrix ≤ r.clauses
+IsCounted (in_universals r) = length r.formula.matrix ≤ r.clauses
+IsCounted (in_existentials r) = length r.formula.matrix ≤ r.clauses
+IsCounted (at_dependent r) = length r.formula.matrix ≤ r.clauses
+IsCounted (in_dependencies r _ _) = length r.formula.matrix ≤ r.clauses
+IsCounted (in_clause r _) = length r.formula.matrix < r.clauses
+
+no_fault_parts : (b : Bool) (name : FormulaFault) (rest : Option FormulaFault) → fault_if b name rest ≡ None → (b ≡ false) × (rest ≡ None)
+no_fault_parts true name rest h = cc
+no_fault_parts false name rest h = (refl, h)
+
+in_range_is : (r : Reading) (v : ℕ) (rest : Option FormulaFault) → check_range r v rest ≡ None → (v ≤ r.formula.variables) × (rest ≡ None)
+in_range_is r v rest h =
+    let parts = no_fault_parts (nat_lt r.formula.variables v) VarRange rest h in
+    (ltb-false r.formula.variables v parts.0, parts.1)
+
+one_more : (matrix : List (List Literal)) (clause : List Literal) (n : ℕ) → length matrix < n → length (matrix ++ clause ∷ []) ≤ n
+one_more matrix clause n h = omega (arith, length-append matrix (clause ∷ []))
+
+counted_end : (r : Reading) (clause : List Literal) (v : ℕ) (l : Literal) → length r.formula.matrix < r.clauses →
+    IsCounted (cond (v == 0) (at_part (with_formula r (add_clause r.formula clause))) (in_clause r (add_literal clause l)))
+counted_end r clause v l room =
+    elim (cases_Bool (v == 0)) [
+      inl zero ↦ subst (λ b. IsCounted (cond b (at_part (with_formula r (add_clause r.formula clause))) (in_clause r (add_literal clause l)))) (sym zero) (one_more r.formula.matrix clause r.clauses room)
+    | inr more ↦ subst (λ b. IsCounted (cond b (at_part (with_formula r (add_clause r.formula clause))) (in_clause r (add_literal clause l)))) (sym more) room
+    ]
+
+has_room : (r : Reading) (v : ℕ) → length r.formula.matrix ≤ r.clauses → check_clause r v ≡ None → length r.formula.matrix < r.clauses
+has_room r v counted passed =
+    let parts = no_fault_parts (length r.formula.matrix == r.clauses) TooManyClauses (check_range r v None) passed in
+    let apart = eqb-false (length r.formula.matrix) r.clauses parts.0 in
+    elim (cases_eq (length r.formula.matrix) r.clauses) [ inl same ↦ absurd (apart same) | inr other ↦ omega arith ]
+
+choose_state : (Q : State → Type 0) (b : Bool) (s t : State) → Q s → Q t → Q (cond b s t)
+choose_state Q true s t here there = here
+choose_state Q false s t here there = there
+
+natural_or_is : (Q : State → Type 0) (other : State) (l : Lexeme) (next : ℕ → State) → Q other → ((n : ℕ) → Q (next n)) → Q (natural_or other l next)
+natural_or_is Q other P next here there = here
+natural_or_is Q other Cnf next here there = here
+natural_or_is Q other A next here there = here
+natural_or_is Q other D next here there = here
+natural_or_is Q other E next here there = here
+natural_or_is Q other (Natural n) next here there = there n
+natural_or_is Q other (Negative _) next here there = here
+natural_or_is Q other Large next here there = here
+natural_or_is Q other NegativeLarge next here there = here
+natural_or_is Q other Other next here there = here
+
+counted_clause : (r : Reading) (clause : List Literal) (l : Lexeme) → length r.formula.matrix < r.clauses → IsCounted (inside_clause r clause l)
+counted_clause r clause P room = room
+counted_clause r clause Cnf room = room
+counted_clause r clause A room = room
+counted_clause r clause D room = room
+counted_clause r clause E room = room
+counted_clause r clause (Natural v) room = counted_end r clause v (positive v) room
+counted_clause r clause (Negative v) room = counted_end r clause v (negative v) room
+counted_clause r clause Large room = room
+counted_clause r clause NegativeLarge room = room
+counted_clause r clause Other room = room
+
+counted_part : (r : Reading) (l : Lexeme) → length r.formula.matrix ≤ r.clauses → check (at_part r) l ≡ None → IsCounted (at_start r l)
+counted_part r P counted passed = counted
+counted_part r Cnf counted passed = counted
+counted_part r A counted passed = counted
+counted_part r D counted passed = counted
+counted_part r E counted passed = counted
+counted_part r (Natural v) counted passed = counted_end r [] v (positive v) (has_room r v counted passed)
+counted_part r (Negative v) counted passed = counted_end r [] v (negative v) (has_room r v counted passed)
+counted_part r Large counted passed = counted
+counted_part r NegativeLarge counted passed = counted
+counted_part r Other counted passed = counted
+
+counted_step : (s : State) (l : Lexeme) → IsCounted s → check s l ≡ None → IsCounted (advance s l)
+counted_step before_header l counted passed = tt
+counted_step before_format l counted passed = tt
+counted_step before_variables l counted passed = natural_or_is IsCounted before_variables l before_clauses tt (λ n. tt)
+counted_step (before_clauses v) l counted passed = natural_or_is IsCounted (before_clauses v) l _ tt (λ n. omega arith)
+counted_step (at_part r) l counted passed = counted_part r l counted passed
+counted_step (in_universals r) l counted passed = natural_or_is IsCounted (in_universals r) l _ counted (λ n. choose_state IsCounted (n == 0) _ _ counted counted)
+counted_step (in_existentials r) l counted passed = natural_or_is IsCounted (in_existentials r) l _ counted (λ n. choose_state IsCounted (n == 0) _ _ counted counted)
+counted_step (at_dependent r) l counted passed = natural_or_is IsCounted (at_dependent r) l _ counted (λ n. counted)
+counted_step (in_dependencies r y xs) l counted passed = natural_or_is IsCounted (in_dependencies r y xs) l _ counted (λ n. choose_state IsCounted (n == 0) _ _ counted counted)
+counted_step (in_clause r clause) l counted passed = counted_clause r clause l counted
+
+-- what passes the checks of a natural number, of an entry and of a signed number
+natural_is : (l : Lexeme) (k : ℕ → Option FormulaFault) → check_natural l k ≡ None → (n : ℕ) × (l ≡ Natural n) × (k n ≡ None)
+natural_is P k h = cc
+natural_is Cnf k h = cc
+natural_is A k h = cc
+natural_is D k h = cc
+natural_is E k h = cc
+natural_is (Natural n) k h = (n, refl, h)
+natural_is (Negative _) k h = cc
+natural_is Large k h = cc
+natural_is NegativeLarge k h = cc
+natural_is Other k h = cc
+
+entry_is : (l : Lexeme) (k : ℕ → Option FormulaFault) → check_entry l k ≡ None → (n : ℕ) × (l ≡ Natural n) × (k n ≡ None)
+entry_is P k h = cc
+entry_is Cnf k h = cc
+entry_is A k h = cc
+entry_is D k h = cc
+entry_is E k h = cc
+entry_is (Natural n) k h = (n, refl, h)
+entry_is (Negative _) k h = cc
+entry_is Large k h = cc
+entry_is NegativeLarge k h = cc
+entry_is Other k h = cc
+
+-- zero ends, other numbers go on
+ends_or_goes_on : (Q : State → Type 0) (v : ℕ) (ended more : State) → Q (cond (v == 0) ended more) → ((v ≡ 0) × Q ended) ⊎ ((v ≢ 0) × Q more)
+ends_or_goes_on Q v ended more h =
+    elim (cases_eq v 0) [
+      inl zero ↦ inl (zero, subst (λ b. Q (cond b ended more)) (eq-eqb v 0 zero) h)
+    | inr other ↦ inr (other, subst (λ b. Q (cond b ended more)) (ne_eqb v 0 other) h)
+    ]
+
+-- an entry of a list, and what completes the list behind it
+list_step : (new : List ℕ → Type 0) (then_reading : List ℕ → Reading) (v : ℕ) (ls : List Lexeme) (f : Dqbf) (rest_new : List ℕ → Type 0) →
+    ((vs : List ℕ) → rest_new vs → new (v ∷ vs)) →
+    CompletesList rest_new (λ vs. then_reading (v ∷ vs)) ls f → CompletesList new then_reading (Natural v ∷ ls) f
+list_step new then_reading v ls f rest_new grows c = record {
+  vs = v ∷ c.vs;
+  rest = c.rest;
+  spelling = ap (λ xs. Natural v ∷ xs) c.spelling;
+  lawful = grows c.vs c.lawful;
+  completed = c.completed;
+}
+
+list_end : (new : List ℕ → Type 0) (then_reading : List ℕ → Reading) (v : ℕ) (ls : List Lexeme) (f : Dqbf) → v ≡ 0 → new [] →
+    Completes (then_reading []) ls f → CompletesList new then_reading (Natural v ∷ ls) f
+list_end new then_reading v ls f zero lawful c = record { vs = []; rest = ls; spelling = ap (λ n. Natural n ∷ ls) zero; lawful = lawful; completed = c }
+
+declared_is : (r : Reading) (v : ℕ) → v ≢ 0 → check_declared r v ≡ None → IsNew r.formula v
+declared_is r v more passed =
+    let rest = fault_if (is_declared r.formula v) DeclaredTwice None in
+    let behind : check_range r v rest ≡ None = ap (λ b. cond b None (check_range r v rest)) (sym (ne_eqb v 0 more)) ∙ passed in
+    let range = in_range_is r v rest behind in
+    record { from_one = omega arith; in_range = range.0; undeclared = (no_fault_parts (is_declared r.formula v) DeclaredTwice None range.1).0 }
+
+seen_is : (r : Reading) (x : ℕ) → x ≢ 0 → check_dependency r x ≡ None → IsSeen r.formula x
+seen_is r x more passed =
+    let rest = fault_if (not (is_universal r.formula x)) NotUniversal None in
+    let behind : check_range r x rest ≡ None = ap (λ b. cond b None (check_range r x rest)) (sym (ne_eqb x 0 more)) ∙ passed in
+    let range = in_range_is r x rest behind in
+    (omega arith, range.0, not-false (is_universal r.formula x) (no_fault_parts (not (is_universal r.formula x)) NotUniversal None range.1).0)
+
+universals_step : (r : Reading) (l : Lexeme) (ls : List Lexeme) (f : Dqbf) → check (in_universals r) l ≡ None →
+    CompletesState (advance (in_universals r) l) ls f → CompletesState (in_universals r) (l ∷ ls) f
+universals_step r l ls f passed next =
+    let Q : State → Type 0 = λ s. CompletesState s ls f in
+    let entry = entry_is l (check_declared r) passed in
+    let v = entry.0 in
+    let more = in_universals (with_formula r (add_universal r.formula v)) in
+    let New : List ℕ → Type 0 = AreNew add_universal r.formula in
+    let then_reading : List ℕ → Reading = λ vs. with_formula r (fold add_universal r.formula vs) in
+    let behind = subst (λ k. Q (advance (in_universals r) k)) entry.1 next in
+    subst (λ k. CompletesList New then_reading (k ∷ ls) f) (sym entry.1)
+    (elim (ends_or_goes_on Q v (at_part r) more behind) [
+      inl (zero, c) ↦ list_end New then_reading v ls f zero tt c
+    | inr (other, c) ↦ list_step New then_reading v ls f (AreNew add_universal (add_universal r.formula v)) (λ vs news. (declared_is r v other entry.2, news)) c
+    ])
+
+existentials_step : (r : Reading) (l : Lexeme) (ls : List Lexeme) (f : Dqbf) → check (in_existentials r) l ≡ None →
+    CompletesState (advance (in_existentials r) l) ls f → CompletesState (in_existentials r) (l ∷ ls) f
+existentials_step r l ls f passed next =
+    let Q : State → Type 0 = λ s. CompletesState s ls f in
+    let entry = entry_is l (check_declared r) passed in
+    let v = entry.0 in
+    let more = in_existentials (with_formula r (add_first r.formula v)) in
+    let New : List ℕ → Type 0 = AreNew add_first r.formula in
+    let then_reading : List ℕ → Reading = λ vs. with_formula r (fold add_first r.formula vs) in
+    let behind = subst (λ k. Q (advance (in_existentials r) k)) entry.1 next in
+    subst (λ k. CompletesList New then_reading (k ∷ ls) f) (sym entry.1)
+    (elim (ends_or_goes_on Q v (at_part r) more behind) [
+      inl (zero, c) ↦ list_end New then_reading v ls f zero tt c
+    | inr (other, c) ↦ list_step New then_reading v ls f (AreNew add_first (add_first r.formula v)) (λ vs news. (declared_is r v other entry.2, news)) c
+    ])
+
+dependencies_step : (r : Reading) (y : ℕ) (before : List ℕ) (l : Lexeme) (ls : List Lexeme) (f : Dqbf) → check (in_dependencies r y before) l ≡ None →
+    CompletesState (advance (in_dependencies r y before) l) ls f → CompletesState (in_dependencies r y before) (l ∷ ls) f
+dependencies_step r y before l ls f passed next =
+    let Q : State → Type 0 = λ s. CompletesState s ls f in
+    let entry = entry_is l (check_dependency r) passed in
+    let x = entry.0 in
+    let New : List ℕ → Type 0 = AllByRecursion (IsSeen r.formula) in
+    let then_reading : List ℕ → Reading = λ xs. with_formula r (add_listed r.formula y (before ++ xs)) in
+    let ended = at_part (with_formula r (add_listed r.formula y before)) in
+    let more = in_dependencies r y (before ++ x ∷ []) in
+    let behind = subst (λ k. Q (advance (in_dependencies r y before) k)) entry.1 next in
+    subst (λ k. CompletesList New then_reading (k ∷ ls) f) (sym entry.1)
+    (elim (ends_or_goes_on Q x ended more behind) [
+      inl (zero, c) ↦ list_end New then_reading x ls f zero tt
+        (subst (λ zs. Completes (with_formula r (add_listed r.formula y zs)) ls f) (sym (append-nil before)) c)
+    | inr (other, c) ↦ record {
+        vs = x ∷ c.vs;
+        rest = c.rest;
+        spelling = ap (λ zs. Natural x ∷ zs) c.spelling;
+        lawful = (seen_is r x other entry.2, c.lawful);
+        completed = subst (λ zs. Completes (with_formula r (add_listed r.formula y zs)) c.rest f) (append_assoc before (x ∷ []) c.vs) c.completed;
+      }
+    ])
+
+dependent_step : (r : Reading) (l : Lexeme) (ls : List Lexeme) (f : Dqbf) → check (at_dependent r) l ≡ None →
+    CompletesState (advance (at_dependent r) l) ls f → CompletesState (at_dependent r) (l ∷ ls) f
+dependent_step r l ls f passed next =
+    let entry = entry_is l (check_dependent r) passed in
+    let y = entry.0 in
+    let declared = fault_if (is_declared r.formula y) DeclaredTwice None in
+    let zero = no_fault_parts (y == 0) EmptyD (check_range r y declared) entry.2 in
+    let range = in_range_is r y declared zero.1 in
+    let more = eqb-false y 0 zero.0 in
+    record {
+      y = y;
+      rest = ls;
+      spelling = ap (λ k. k ∷ ls) entry.1;
+      new = record { from_one = omega arith; in_range = range.0; undeclared = (no_fault_parts (is_declared r.formula y) DeclaredTwice None range.1).0 };
+      completed = subst (λ k. CompletesState (advance (at_dependent r) k) ls f) entry.1 next;
+    }
+
+-- a literal or the end of a clause
+literal_step : (r : Reading) (clause : List Literal) (v : ℕ) (q : Literal) (ls : List Lexeme) (f : Dqbf) → variable_of q ≡ v → v ≤ r.formula.variables →
+    (v ≡ 0 → literal_lexeme q ≡ Natural 0) →
+    CompletesState (cond (v == 0) (at_part (with_formula r (add_clause r.formula clause))) (in_clause r (add_literal clause q))) ls f →
+    CompletesClause r clause (literal_lexeme q ∷ ls) f
+literal_step r clause v q ls f stands high ends next =
+    let Q : State → Type 0 = λ s. CompletesState s ls f in
+    elim (ends_or_goes_on Q v (at_part (with_formula r (add_clause r.formula clause))) (in_clause r (add_literal clause q)) next) [
+      inl (zero, c) ↦ record { literals = []; rest = ls; spelling = ap (λ k. k ∷ ls) (ends zero); in_range = tt; completed = c }
+    | inr (other, c) ↦
+        let low : 1 ≤ variable_of q = omega arith in
+        let within : variable_of q ≤ r.formula.variables = omega arith in
+        record {
+          literals = q ∷ c.literals;
+          rest = c.rest;
+          spelling = ap (λ zs. literal_lexeme q ∷ zs) c.spelling;
+          in_range = ((low, within), c.in_range);
+          completed = c.completed;
+        }
+    ]
+
+-- the magnitude of a number with a minus isn't zero
+abbrev IsLexeme : Lexeme → Type 0
+IsLexeme P = Unit {0}
+IsLexeme Cnf = Unit {0}
+IsLexeme A = Unit {0}
+IsLexeme D = Unit {0}
+IsLexeme E = Unit {0}
+IsLexeme (Natural _) = Unit {0}
+IsLexeme (Negative n) = n ≢ 0
+IsLexeme Large = Unit {0}
+IsLexeme NegativeLarge = Unit {0}
+IsLexeme Other = Unit {0}
+
+clause_step : (r : Reading) (clause : List Literal) (l : Lexeme) (ls : List Lexeme) (f : Dqbf) → IsLexeme l →
+    check_signed l (Some PrefixLate) (λ v. check_range r v None) ≡ None →
+    CompletesState (inside_clause r clause l) ls f → CompletesClause r clause (l ∷ ls) f
+clause_step r clause P ls f is passed next = cc
+clause_step r clause Cnf ls f is passed next = cc
+clause_step r clause A ls f is passed next = cc
+clause_step r clause D ls f is passed next = cc
+clause_step r clause E ls f is passed next = cc
+clause_step r clause (Natural v) ls f is passed next = literal_step r clause v (positive v) ls f refl (in_range_is r v None passed).0 (ap Natural) next
+clause_step r clause (Negative v) ls f is passed next = literal_step r clause v (negative v) ls f refl (in_range_is r v None passed).0 (λ zero. absurd (is zero)) next
+clause_step r clause Large ls f is passed next = cc
+clause_step r clause NegativeLarge ls f is passed next = cc
+clause_step r clause Other ls f is passed next = cc
+
+not_empty : (matrix : List (List Literal)) (clause : List Literal) → is_empty (matrix ++ clause ∷ []) ≡ false
+not_empty [] clause = refl
+not_empty (m ∷ matrix) clause = refl
+
+-- a clause at the start of a part is a clause more, and no part stands behind it
+clause_completes : (r : Reading) (lexemes : List Lexeme) (f : Dqbf) → CompletesClause r [] lexemes f → Completes r lexemes f
+clause_completes r lexemes f c =
+    let after = c.completed in
+    let literals = c.literals in
+    let next = add_spelled r.formula literals in
+    let no_parts : after.parts ≡ [] = after.prefix_first (not_empty r.formula.matrix (distinct literals)) in
+    record {
+      parts = [];
+      clauses = literals ∷ after.clauses;
+      spelling = c.spelling ∙ ap (λ zs. clause_lexemes literals ++ zs) (after.spelling ∙ ap (λ ps. flat_map part_lexemes ps ++ flat_map clause_lexemes after.clauses) no_parts);
+      lawful = tt;
+      in_range = (c.in_range, after.in_range);
+      counted = omega (arith, after.counted, length-append r.formula.matrix (distinct literals ∷ []));
+      prefix_first = λ _. refl;
+      formula = after.formula ∙ ap (λ ps. with_free (fold add_spelled (fold declare next ps) after.clauses)) no_parts;
+    }
+
+-- a part in front
+part_completes : (part : Part) (r : Reading) (rest : List Lexeme) (f : Dqbf) → is_empty r.formula.matrix ≡ true → IsLawfulPart r.formula part →
+    Completes (with_formula r (declare r.formula part)) rest f → Completes r (part_lexemes part ++ rest) f
+part_completes part r rest f first lawful c =
+    let kept = declare-keeps part r.formula in
+    record {
+      parts = part ∷ c.parts;
+      clauses = c.clauses;
+      spelling = ap (λ zs. part_lexemes part ++ zs) c.spelling ∙ sym (append_assoc (part_lexemes part) (flat_map part_lexemes c.parts) (flat_map clause_lexemes c.clauses));
+      lawful = (lawful, c.lawful);
+      in_range = subst (λ v. AllInRange v c.clauses) kept.variables c.in_range;
+      counted = ap (λ m. length m + length c.clauses) (sym kept.matrix) ∙ c.counted;
+      prefix_first = λ late. absurd (true≢false (sym first ∙ late));
+      formula = c.formula;
+    }
+
+letter_first : (r : Reading) → fault_if (not (is_empty r.formula.matrix)) PrefixLate None ≡ None → is_empty r.formula.matrix ≡ true
+letter_first r h = not-false (is_empty r.formula.matrix) (no_fault_parts (not (is_empty r.formula.matrix)) PrefixLate None h).0
+
+part_step : (r : Reading) (l : Lexeme) (ls : List Lexeme) (f : Dqbf) → IsLexeme l → check (at_part r) l ≡ None →
+    CompletesState (at_start r l) ls f → Completes r (l ∷ ls) f
+part_step r P ls f is passed next = cc
+part_step r Cnf ls f is passed next = cc
+part_step r A ls f is passed next =
+    subst (λ zs. Completes r (A ∷ zs) f) (sym next.spelling)
+    (part_completes (universals next.vs) r next.rest f (letter_first r passed) next.lawful next.completed)
+part_step r D ls f is passed next =
+    let c = next.completed in
+    subst (λ zs. Completes r (D ∷ zs) f) (sym (next.spelling ∙ ap (λ zs. Natural next.y ∷ zs) c.spelling))
+    (part_completes (dependent next.y c.vs) r c.rest f (letter_first r passed) (next.new, c.lawful) c.completed)
+part_step r E ls f is passed next =
+    subst (λ zs. Completes r (E ∷ zs) f) (sym next.spelling)
+    (part_completes (existentials next.vs) r next.rest f (letter_first r passed) next.lawful next.completed)
+part_step r (Natural v) ls f is passed next =
+    let parts = no_fault_parts (length r.formula.matrix == r.clauses) TooManyClauses (check_range r v None) passed in
+    clause_completes r (Natural v ∷ ls) f (clause_step r [] (Natural v) ls f is parts.1 next)
+part_step r (Negative v) ls f is passed next =
+    let parts = no_fault_parts (length r.formula.matrix == r.clauses) TooManyClauses (check_range r v None) passed in
+    clause_completes r (Negative v ∷ ls) f (clause_step r [] (Negative v) ls f is parts.1 next)
+part_step r Large ls f is passed next = cc
+part_step r NegativeLarge ls f is passed next = cc
+part_step r Other ls f is passed next = cc
+
+step_completes : (s : State) (l : Lexeme) (ls : List Lexeme) (f : Dqbf) → IsLexeme l → check s l ≡ None → CompletesState (advance s l) ls f → CompletesState s (l ∷ ls) f
+step_completes before_header l ls f is passed next = tt
+step_completes before_format l ls f is passed next = tt
+step_completes before_variables l ls f is passed next = tt
+step_completes (before_clauses v) l ls f is passed next = tt
+step_completes (at_part r) l ls f is passed next = part_step r l ls f is passed next
+step_completes (in_universals r) l ls f is passed next = universals_step r l ls f passed next
+step_completes (in_existentials r) l ls f is passed next = existentials_step r l ls f passed next
+step_completes (at_dependent r) l ls f is passed next = dependent_step r l ls f passed next
+step_completes (in_dependencies r y xs) l ls f is passed next = dependencies_step r y xs l ls f passed next
+step_completes (in_clause r clause) l ls f is passed next = clause_step r clause l ls f is passed next
+
+enough : (r : Reading) (f : Dqbf) (b : Bool) → nat_lt (length r.formula.matrix) r.clauses ≡ b → length r.formula.matrix ≤ r.clauses →
+    formula_or_none (cond b (Err TooFewClauses) (Ok (with_free r.formula))) ≡ Some f → Completes r [] f
+enough r f true few counted h = cc
+enough r f false full counted h =
+    let past = ltb-false (length r.formula.matrix) r.clauses full in
+    let same : with_free r.formula ≡ f = cc in
+    record {
+      parts = [];
+      clauses = [];
+      spelling = refl;
+      lawful = tt;
+      in_range = tt;
+      counted = omega arith;
+      prefix_first = λ _. refl;
+      formula = sym same;
+    }
+
+end_completes : (s : State) (f : Dqbf) → IsCounted s → formula_or_none (at_end s) ≡ Some f → CompletesState s [] f
+end_completes before_header f counted h = tt
+end_completes before_format f counted h = tt
+end_completes before_variables f counted h = tt
+end_completes (before_clauses v) f counted h = tt
+end_completes (at_part r) f counted h = enough r f (nat_lt (length r.formula.matrix) r.clauses) refl counted h
+end_completes (in_universals r) f counted h = cc
+end_completes (in_existentials r) f counted h = cc
+end_completes (at_dependent r) f counted h = cc
+end_completes (in_dependencies r y xs) f counted h = cc
+end_completes (in_clause r clause) f counted h = cc
+
+completes : (lexemes : List Lexeme) (s : State) (f : Dqbf) → AllByRecursion IsLexeme lexemes → IsCounted s → run s lexemes ≡ Some f → CompletesState s lexemes f
+completes [] s f are counted h = end_completes s f counted h
+completes (l ∷ ls) s f are counted h =
+    let r = run_step s l ls f h in
+    step_completes s l ls f are.0 r.0 (completes ls (advance s l) f are.1 (counted_step s l counted r.0) r.1)
+
+choose_lexeme : (b : Bool) (k l : Lexeme) → IsLexeme k → IsLexeme l → IsLexeme (cond b k l)
+choose_lexeme true k l here there = here
+choose_lexeme false k l here there = there
+
+number_is_lexeme : (minus : Bool) (n : Number) → IsLexeme (number_lexeme minus n)
+number_is_lexeme minus NotANumber = tt
+number_is_lexeme true TooBigNumber = tt
+number_is_lexeme false TooBigNumber = tt
+number_is_lexeme minus (Int (pos n)) = tt
+number_is_lexeme minus (Int (negsuc n)) = λ zero. absurd (omega arith)
+
+is_lexeme : (text : List ℕ) → IsLexeme (lexeme_of text)
+is_lexeme text =
+    choose_lexeme (bytes_eq text (codes "p")) P _ tt
+    (choose_lexeme (bytes_eq text (codes "cnf")) Cnf _ tt
+      (choose_lexeme (bytes_eq text (codes "a")) A _ tt
+        (choose_lexeme (bytes_eq text (codes "d")) D _ tt
+          (choose_lexeme (bytes_eq text (codes "e")) E _ tt (number_is_lexeme (begins_with_minus text) (number_of text))))))
+
+are_lexemes : (tokens : List TextToken) → AllByRecursion IsLexeme (lexemes_of tokens)
+are_lexemes [] = tt
+are_lexemes (token ∷ tokens) = (is_lexeme token.text, are_lexemes tokens)
+
+wanted_is : (b : Bool) → wanted b ≡ None → b ≡ true
+wanted_is true h = refl
+wanted_is false h = cc
+
+p_is : (l : Lexeme) → is_p l ≡ true → l ≡ P
+p_is P h = refl
+p_is Cnf h = cc
+p_is A h = cc
+p_is D h = cc
+p_is E h = cc
+p_is (Natural _) h = cc
+p_is (Negative _) h = cc
+p_is Large h = cc
+p_is NegativeLarge h = cc
+p_is Other h = cc
+
+cnf_is : (l : Lexeme) → is_cnf l ≡ true → l ≡ Cnf
+cnf_is P h = cc
+cnf_is Cnf h = refl
+cnf_is A h = cc
+cnf_is D h = cc
+cnf_is E h = cc
+cnf_is (Natural _) h = cc
+cnf_is (Negative _) h = cc
+cnf_is Large h = cc
+cnf_is NegativeLarge h = cc
+cnf_is Other h = cc
+
+-- the header, and what completes the formula behind it
+record CompletesHeader (lexemes : List Lexeme) (f : Dqbf) : Type 0 where
+  variables : ℕ
+  clauses : ℕ
+  rest : List Lexeme
+  spelling : lexemes ≡ header variables clauses ++ rest
+  few_variables : variables ≤ max_variables
+  few_clauses : clauses ≤ max_clauses
+  completed : Completes (record { clauses = clauses; formula = empty_formula variables }) rest f
+
+few : (limit n : ℕ) → check_limit limit n ≡ None → n ≤ limit
+few limit n h = ltb-false limit n (no_fault_parts (nat_lt limit n) Limit None h).0
+
+header_clauses : (v : ℕ) (lexemes : List Lexeme) (f : Dqbf) → AllByRecursion IsLexeme lexemes → run (before_clauses v) lexemes ≡ Some f →
+    (c : ℕ) × (rest : List Lexeme) × (lexemes ≡ Natural c ∷ rest) × (c ≤ max_clauses) × Completes (record { clauses = c; formula = empty_formula v }) rest f
+header_clauses v [] f are h = cc
+header_clauses v (l ∷ ls) f are h =
+    let r = run_step (before_clauses v) l ls f h in
+    let n = natural_is l (check_limit max_clauses) r.0 in
+    let goes : run (advance (before_clauses v) (Natural n.0)) ls ≡ Some f = ap (λ k. run (advance (before_clauses v) k) ls) (sym n.1) ∙ r.1 in
+    (n.0, ls, ap (λ k. k ∷ ls) n.1, few max_clauses n.0 n.2,
+    completes ls (at_part (record { clauses = n.0; formula = empty_formula v })) f are.1 (omega arith) goes)
+
+header_variables : (lexemes : List Lexeme) (f : Dqbf) → AllByRecursion IsLexeme lexemes → run before_variables lexemes ≡ Some f →
+    (v : ℕ) × (rest : List Lexeme) × (lexemes ≡ Natural v ∷ rest) × (v ≤ max_variables) × AllByRecursion IsLexeme rest × (run (before_clauses v) rest ≡ Some f)
+header_variables [] f are h = cc
+header_variables (l ∷ ls) f are h =
+    let r = run_step before_variables l ls f h in
+    let n = natural_is l (check_limit max_variables) r.0 in
+    (n.0, ls, ap (λ k. k ∷ ls) n.1, few max_variables n.0 n.2, are.1, ap (λ k. run (advance before_variables k) ls) (sym n.1) ∙ r.1)
+
+header_format : (lexemes : List Lexeme) (f : Dqbf) → AllByRecursion IsLexeme lexemes → run before_format lexemes ≡ Some f →
+    (rest : List Lexeme) × (lexemes ≡ Cnf ∷ rest) × AllByRecursion IsLexeme rest × (run before_variables rest ≡ Some f)
+header_format [] f are h = cc
+header_format (l ∷ ls) f are h =
+    let r = run_step before_format l ls f h in
+    (ls, ap (λ k. k ∷ ls) (cnf_is l (wanted_is (is_cnf l) r.0)), are.1, r.1)
+
+header_word : (lexemes : List Lexeme) (f : Dqbf) → AllByRecursion IsLexeme lexemes → run before_header lexemes ≡ Some f →
+    (rest : List Lexeme) × (lexemes ≡ P ∷ rest) × AllByRecursion IsLexeme rest × (run before_format rest ≡ Some f)
+header_word [] f are h = cc
+header_word (l ∷ ls) f are h =
+    let r = run_step before_header l ls f h in
+    (ls, ap (λ k. k ∷ ls) (p_is l (wanted_is (is_p l) r.0)), are.1, r.1)
+
+header_completes : (lexemes : List Lexeme) (f : Dqbf) → AllByRecursion IsLexeme lexemes → run before_header lexemes ≡ Some f → CompletesHeader lexemes f
+header_completes lexemes f are h =
+    let word = header_word lexemes f are h in
+    let format = header_format word.0 f word.2 word.3 in
+    let variables = header_variables format.0 f format.2 format.3 in
+    let clauses = header_clauses variables.0 variables.1 f variables.4 variables.5 in
+    record {
+      variables = variables.0;
+      clauses = clauses.0;
+      rest = clauses.1;
+      spelling = word.1
+        ∙ ap (λ zs. P ∷ zs) (format.1 ∙ ap (λ zs. Cnf ∷ zs) (variables.2 ∙ ap (λ zs. Natural variables.0 ∷ zs) clauses.2));
+      few_variables = variables.3;
+      few_clauses = clauses.3;
+      completed = clauses.4;
+    }
+
+clauses_keep_variables : (clauses : List (List Literal)) (g : Dqbf) → (fold add_spelled g clauses).variables ≡ g.variables
+clauses_keep_variables [] g = refl
+clauses_keep_variables (literals ∷ clauses) g = clauses_keep_variables clauses (add_spelled g literals)
+
+pub read_is_spelled : (text : List ℕ) (f : Dqbf) → reading text ≡ Ok f → SpellsFormula text f
+read_is_spelled text f h =
+    let tokens = tokens_of text in
+    let c = header_completes (lexemes_of tokens) f (are_lexemes tokens) (run_from_reading tokens before_header (last_line_of text) f h) in
+    let done = c.completed in
+    let prefix = fold declare (empty_formula c.variables) done.parts in
+    let variables : c.variables ≡ f.variables = sym
+      (ap (λ (g : Dqbf). g.variables) done.formula ∙ clauses_keep_variables done.clauses prefix ∙ (declares-keep done.parts (empty_formula c.variables)).variables) in
+    let own = subst (λ v. Completes (record { clauses = c.clauses; formula = empty_formula v }) c.rest f) variables done in
+    let counted : length own.clauses ≡ c.clauses = omega (arith, own.counted) in
+    record {
+      parts = own.parts;
+      clauses = own.clauses;
+      spelling = c.spelling
+        ∙ ap (λ v. header v c.clauses ++ c.rest) variables
+        ∙ ap (λ n. header f.variables n ++ c.rest) (sym counted)
+        ∙ ap (λ zs. header f.variables (length own.clauses) ++ zs) own.spelling;
+      few_variables = rw (← variables) c.few_variables;
+      few_clauses = rw counted c.few_clauses;
+      lawful = own.lawful;
+      in_range = own.in_range;
+      formula = own.formula;
+    }
