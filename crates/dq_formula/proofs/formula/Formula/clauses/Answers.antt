@@ -1,0 +1,8 @@
+use Rattle.std.proofs.Common.{arith}
+use Rattle.dq_formula.proofs.Matrix.{length-clauses_at}
+use Rattle.dq_formula.proofs.formula.Formula.clauses.Goals as goal
+
+pub returns : goal.returns
+returns c =
+    let f = c.self.inside in
+    rw (← c.self.view_is, length-clauses_at 0 f.ends.items f.lits.items) (omega (arith, c.len.ensures, f.ends.ok.0))

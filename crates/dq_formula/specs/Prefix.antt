@@ -1,0 +1,25 @@
+-- What the prefix of a DQBF declares, and what it leaves free (DQDIMACS: a variable that occurs in a clause
+-- and is not declared is an existential that sees nothing).
+use Rattle.std.specs.Prelude.{ℕ, ◌==◌, Bool, not, ◌&&◌, List, [], ◌++◌, map}
+use Rattle.std.specs.List.{list_any, filter, range_with_len}
+use Rattle.dq_lits.specs.Literal.{Literal, variable_of}
+use Rattle.dq_lits.specs.Formula.{Existential, Dqbf, declared}
+
+abbrev pub is_declared : Dqbf → ℕ → Bool
+is_declared f v = list_any (λ x. x == v) (declared f)
+
+-- the variables of the existentials, in order of declaration
+abbrev pub existential_variables : Dqbf → List ℕ
+existential_variables f = map (λ y. y.variable) f.existentials
+
+-- some clause has a literal on the variable
+abbrev pub occurs : List (List Literal) → ℕ → Bool
+occurs matrix v = list_any (list_any (λ l. variable_of l == v)) matrix
+
+-- the variables that occur undeclared, in ascending order
+abbrev pub free_variables : Dqbf → List ℕ
+free_variables f = filter (λ v. not (is_declared f v) && occurs f.matrix v) (range_with_len 1 f.variables)
+
+-- an existential that sees nothing
+abbrev pub unseeing : ℕ → Existential
+unseeing v = record { variable = v; sees = [] }
