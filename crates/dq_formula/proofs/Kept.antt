@@ -8,6 +8,7 @@ use Rattle.std.specs.List.{All, IsDistinct, list_any}
 use Rattle.std.specs.Map.{keys_of, values_of, lookup}
 use Rattle.dq_lits.specs.Literal.{Literal, variable_of}
 use Rattle.dq_lits.specs.Formula.{Existential, Dqbf, declared}
+use Rattle.dq_formula.specs.declared.formula.TheConstants.{MAX_CLAUSES}
 use Rattle.dq_formula.specs.declared.dependencies.Deps.{Deps}
 use Rattle.dq_formula.specs.declared.dependencies.Deps.TheVariants.{FirstOf, Listed}
 use Rattle.dq_formula.specs.Dependencies.{dependencies, listed_universals, IsDependencySet}
@@ -89,7 +90,9 @@ IsKept-universal variables us es ends literals v us' kept low high undeclared in
       disjoint = subst (λ xs. All (λ y. has xs y ≡ false) (keys_of es)) (sym new) (disjoint-push us v (keys_of es) kept.disjoint parts.1);
       sets = subst (λ xs. All (IsDependencySet xs) (values_of es)) (sym new) (λ k d l. IsDependencySet-push us v (get_or (values_of es) k d) parts.0 (kept.sets k d l));
       literals_in_range = kept.literals_in_range;
-      clauses_end = kept.clauses_end
+      clauses_end = kept.clauses_end;
+      few_variables = kept.few_variables;
+      few_clauses = kept.few_clauses
     }
 
 pub formula_of-universal : (variables : ℕ) (us : List ℕ) (es : List (ℕ × Deps)) (ends : List ℕ) (literals : List Literal) (v : ℕ) (us' : List ℕ)
@@ -125,7 +128,9 @@ IsKept-existential variables us es ends literals y deps kept low high undeclared
       disjoint = subst (All (λ x. has us x ≡ false)) (sym keys) (All-push (λ x. has us x ≡ false) (keys_of es) y kept.disjoint parts.0);
       sets = subst (All (IsDependencySet us)) (sym values) (All-push (IsDependencySet us) (values_of es) deps kept.sets form);
       literals_in_range = kept.literals_in_range;
-      clauses_end = kept.clauses_end
+      clauses_end = kept.clauses_end;
+      few_variables = kept.few_variables;
+      few_clauses = kept.few_clauses
     }
 
 pub formula_of-existential : (variables : ℕ) (us : List ℕ) (es : List (ℕ × Deps)) (ends : List ℕ) (literals : List Literal) (entry : ℕ × Deps)
@@ -135,9 +140,9 @@ formula_of-existential variables us es ends literals entry = rw (map_push (exist
 
 -- a clause is added behind the others
 pub IsKept-clause : (variables : ℕ) (us : List ℕ) (es : List (ℕ × Deps)) (ends : List ℕ) (literals more : List Literal) (end : ℕ)
-  → IsKept variables us es ends literals → All (λ l. variable_of l ≤ variables) more → length (literals ++ more) ≡ end
+  → IsKept variables us es ends literals → All (λ l. variable_of l ≤ variables) more → length (literals ++ more) ≡ end → length ends < MAX_CLAUSES
   → IsKept variables us es (ends ++ end ∷ []) (literals ++ more)
-IsKept-clause variables us es ends literals more end kept within size = record {
+IsKept-clause variables us es ends literals more end kept within size few = record {
   universals_in_range = kept.universals_in_range;
   existentials_in_range = kept.existentials_in_range;
   distinct_universals = kept.distinct_universals;
@@ -145,7 +150,9 @@ IsKept-clause variables us es ends literals more end kept within size = record {
   disjoint = kept.disjoint;
   sets = kept.sets;
   literals_in_range = All-append (λ l. variable_of l ≤ variables) literals more kept.literals_in_range within;
-  clauses_end = rw size (AreEnds-push 0 ends (length literals) end (omega (arith, size, length-append literals more)) kept.clauses_end)
+  clauses_end = rw size (AreEnds-push 0 ends (length literals) end (omega (arith, size, length-append literals more)) kept.clauses_end);
+  few_variables = kept.few_variables;
+  few_clauses = omega (arith, few, length_push ends end)
 }
 
 pub formula_of-clause : (variables : ℕ) (us : List ℕ) (es : List (ℕ × Deps)) (ends : List ℕ) (literals more : List Literal) (end : ℕ)

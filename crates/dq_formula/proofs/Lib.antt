@@ -2,6 +2,7 @@ pub mod Distinct
 pub mod Entries
 pub mod Free
 pub mod Kept
+pub mod Lawful
 pub mod Matrix
 pub mod Places
 pub mod Restrictions

@@ -4,6 +4,7 @@ use Rattle.std.specs.List.{All, IsDistinct, list_any}
 use Rattle.std.specs.Map.{keys_of, values_of}
 use Rattle.dq_lits.specs.Literal.{Literal, variable_of}
 use Rattle.dq_lits.specs.Formula.{Existential, Dqbf}
+use Rattle.dq_formula.specs.declared.formula.TheConstants.{MAX_VARIABLES, MAX_CLAUSES}
 use Rattle.dq_formula.specs.declared.dependencies.Deps.{Deps}
 use Rattle.dq_formula.specs.declared.dependencies.Deps.TheVariants.{FirstOf}
 use Rattle.dq_formula.specs.Dependencies.{dependencies, IsDependencySet}
@@ -52,3 +53,5 @@ pub record IsKept (variables : ℕ) (universals : List ℕ) (entries : List (ℕ
   pub sets : All (IsDependencySet universals) (values_of entries)
   pub literals_in_range : All (λ l. variable_of l ≤ variables) literals
   pub clauses_end : AreEnds 0 ends (length literals)
+  pub few_variables : variables ≤ MAX_VARIABLES
+  pub few_clauses : length ends ≤ MAX_CLAUSES

@@ -10,13 +10,19 @@ ghost use Rattle.dq_lits.specs.Expansion.{row_assignment};
 ghost use Rattle.dq_lits.specs.Literal.{variable_of};
 ghost use Rattle.dq_formula.specs.Dependencies.{padded, dependencies, dependency_count, listed_universals, IsDependencySet};
 ghost use Rattle.dq_formula.specs.Layout.{existential, unseeing_entry, start_of, clauses_at, AreEnds};
-ghost use Rattle.dq_formula.specs.Prefix.{is_declared, existential_variables, free_variables, unseeing};
+ghost use Rattle.dq_formula.specs.Prefix.{IsLawful, is_declared, existential_variables, free_variables, unseeing};
 
 use crate::dependencies::{Deps, Vars};
 use dq_lits::{Lit, Memory, Row};
 use indexmap::{IndexMap, IndexSet};
 use std::alloc::Global;
 use std::marker::Model;
+
+/// The most variables that a formula may have.
+pub const MAX_VARIABLES: u64 = 1_000_000;
+
+/// The most clauses that a formula may have.
+pub const MAX_CLAUSES: usize = 10_000_000;
 
 /// A dependency quantified Boolean formula: the prefix and the matrix.
 #[derive(Debug, Drop)]
@@ -87,7 +93,7 @@ impl Formula {
     /// The formula over the variables 1 to `vars` that declares none of them and has no clause.
     /// It takes no memory.
     pub fn new(alloc: Global, vars: u64) -> Formula
-        requires { vars ≤ 1000000 }
+        requires { vars ≤ MAX_VARIABLES }
         ensures { result ≡ record { variables = vars; universals = []; existentials = []; matrix = [] } }
     {
         Formula {
@@ -99,9 +105,17 @@ impl Formula {
         }
     }
 
+    /// What holds of every formula. The call does nothing: its contract is for callers' proofs.
+    pub fn every_formula_is_lawful(&self)
+        ensures { IsLawful self.now }
+    {
+        let _ = &self.vars;
+    }
+
     /// How many variables there are; they have the numbers from 1 on.
     pub fn vars(&self) -> u64
-        ensures { result ≡ self.now.variables }
+        ensures value { result ≡ self.now.variables }
+        ensures few { result ≤ MAX_VARIABLES }
     {
         self.vars
     }
@@ -157,7 +171,8 @@ impl Formula {
 
     /// How many clauses there are.
     pub fn clauses(&self) -> usize
-        ensures { result ≡ length self.now.matrix }
+        ensures value { result ≡ length self.now.matrix }
+        ensures few { result ≤ MAX_CLAUSES }
     {
         self.ends.len()
     }
@@ -340,7 +355,7 @@ impl Formula {
     /// Adds a clause with these literals, as they stand, behind those added before.
     pub fn add_clause(&mut self, lits: &[Lit]) -> Result<(), Memory>
         requires in_range { All (λ l. variable_of l ≤ self.old.variables) lits.now }
-        requires few { length self.old.matrix < 10000000 }
+        requires few { length self.old.matrix < MAX_CLAUSES }
         ensures ok { OnOk result (self.new ≡ record self.old { matrix = self.old.matrix ++ lits.now ∷ [] }) }
         ensures err { OnErr result (self.new ≡ self.old) }
     {

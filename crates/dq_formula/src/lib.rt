@@ -5,7 +5,7 @@
 #![tactic(auto)]
 
 pub use dependencies::{Deps, Vars};
-pub use formula::Formula;
+pub use formula::{Formula, MAX_CLAUSES, MAX_VARIABLES};
 
 mod dependencies;
 mod formula;
