@@ -1,0 +1,11 @@
+pub mod Distinct
+pub mod Entries
+pub mod Free
+pub mod Kept
+pub mod Lawful
+pub mod Matrix
+pub mod Places
+pub mod Restrictions
+pub mod Search
+pub mod Sorted
+pub mod Unseeing

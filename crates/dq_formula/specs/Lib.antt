@@ -1,0 +1,3 @@
+pub mod Dependencies
+pub mod Layout
+pub mod Prefix

@@ -1,0 +1,404 @@
+ghost use Rattle.std.specs.Prelude.{◌≡◌, ◌-◌, ◌==◌, ◌≤◌, ◌<◌, Bool, false, true, not, ◌&&◌, Some, None, [], ◌∷◌, ◌++◌, length, map, replicate, is_some, slice_index, slice_index_or, filter, All, Contains, nat_eq, IsTrue, IsSome, IfSome, IfOk, OnOk, OnErr, position, ◌↔◌};
+ghost use Rattle.std.specs.List.{position_or_len};
+ghost use Rattle.std.specs.List.Sorted.{IsBinarySearchResult, IsSearchInRange};
+ghost use Rattle.std.specs.Ordering.{nat_cmp};
+ghost use Rattle.dq_lits.specs.Row.{bit_of};
+ghost use Rattle.indexmap.specs.IndexMap.{spare, insert_all};
+ghost use Rattle.dq_lits.specs.Formula.{is_universal, existential_of};
+ghost use Rattle.dq_lits.specs.Henkin.{restriction, same_bits};
+ghost use Rattle.dq_lits.specs.Expansion.{row_assignment};
+ghost use Rattle.dq_lits.specs.Literal.{variable_of};
+ghost use Rattle.dq_formula.specs.Dependencies.{padded, dependencies, dependency_count, listed_universals, IsDependencySet};
+ghost use Rattle.dq_formula.specs.Layout.{existential, unseeing_entry, start_of, clauses_at, AreEnds};
+ghost use Rattle.dq_formula.specs.Prefix.{IsLawful, is_declared, existential_variables, free_variables, unseeing};
+
+use crate::dependencies::{Deps, Vars};
+use dq_lits::{Lit, Memory, Row};
+use indexmap::{IndexMap, IndexSet};
+use std::alloc::Global;
+use std::marker::Model;
+
+/// The most variables that a formula may have.
+pub const MAX_VARIABLES: u64 = 1_000_000;
+
+/// The most clauses that a formula may have.
+pub const MAX_CLAUSES: usize = 10_000_000;
+
+/// A dependency quantified Boolean formula: the prefix and the matrix.
+#[derive(Debug, Drop)]
+pub struct Formula {
+    vars: u64,
+    universals: IndexSet<u64>,
+    existentials: IndexMap<u64, Deps>,
+    // Where each clause ends in `lits`, in which the clauses lie end to end.
+    ends: Vec<usize>,
+    lits: Vec<Lit>,
+}
+
+impl Model for Formula {
+    ghost use Rattle.dq_lits.specs.Formula.{Dqbf};
+
+    ghost Value = { Dqbf };
+
+    ghost use Rattle.dq_formula.specs.Layout.{formula_of, IsKept};
+
+    ghost view = { λ f. formula_of f.vars f.universals.keys f.existentials.entries f.ends.items f.lits.items };
+
+    ghost invariant = { λ f. IsKept f.vars f.universals.keys f.existentials.entries f.ends.items f.lits.items };
+}
+
+// Where the clause at `j` begins.
+fn start_of(ends: &[usize], j: usize) -> usize
+    requires { j < length ends.now }
+    ensures { result ≡ start_of 0 ends.now j }
+{
+    if j == 0 { 0 } else { ends[j - 1] }
+}
+
+// The clause at `j` of those that lie end to end.
+#[tactic(auto, using(crate::proofs::Matrix::clause_bounds))]
+fn clause_at<'a>(ends: &[usize], lits: &'a [Lit], j: usize) -> &'a [Lit]
+    requires within { j < length ends.now }
+    requires bounds { AreEnds 0 ends.now (length lits.now) }
+    ensures { result.now ≡ slice_index_or (clauses_at 0 ends.now lits.now) j [] }
+{
+    let start = start_of(ends, j);
+    let end = ends[j];
+    &lits[start..end]
+}
+
+// The elements at these places.
+fn picked(alloc: Global, xs: &[u64], places: &[usize]) -> Result<Vec<u64>, Memory>
+    requires { All (λ p. p < length xs.now) places.now }
+    ensures { IfOk result (λ vars. vars.items ≡ map (slice_index xs.now) places.now) }
+{
+    let mut vars = Vec::new(alloc);
+    for place in places {
+        vars.push(xs[*place])?;
+    }
+    Ok(vars)
+}
+
+// Puts keys without dependencies into a map that has room for them.
+fn insert_all(existentials: &mut IndexMap<u64, Deps>, keys: &[u64])
+    requires { length keys.now ≤ spare existentials.old }
+    ensures { existentials.new.entries ≡ insert_all nat_eq existentials.old.entries (map unseeing_entry keys.now) }
+{
+    for key in keys {
+        existentials.insert(*key, Deps::FirstOf(0)).unwrap();
+    }
+}
+
+impl Formula {
+    /// The formula over the variables 1 to `vars` that declares none of them and has no clause.
+    /// It takes no memory.
+    pub fn new(alloc: Global, vars: u64) -> Formula
+        requires { vars ≤ MAX_VARIABLES }
+        ensures { result ≡ record { variables = vars; universals = []; existentials = []; matrix = [] } }
+    {
+        Formula {
+            vars,
+            universals: IndexSet::new(alloc),
+            existentials: IndexMap::new(alloc),
+            ends: Vec::new(alloc),
+            lits: Vec::new(alloc),
+        }
+    }
+
+    /// What holds of every formula. The call does nothing: its contract is for callers' proofs.
+    pub fn every_formula_is_lawful(&self)
+        ensures { IsLawful self.now }
+    {
+        let _ = &self.vars;
+    }
+
+    /// How many variables there are; they have the numbers from 1 on.
+    pub fn vars(&self) -> u64
+        ensures value { result ≡ self.now.variables }
+        ensures few { result ≤ MAX_VARIABLES }
+    {
+        self.vars
+    }
+
+    /// The universals, in order of declaration.
+    pub fn universals(&self) -> &[u64]
+        ensures { result.now ≡ self.now.universals }
+    {
+        self.universals.as_slice()
+    }
+
+    /// The existentials, in order of declaration.
+    pub fn existentials(&self) -> &[u64]
+        ensures { result.now ≡ existential_variables self.now }
+    {
+        self.existentials.keys().as_slice()
+    }
+
+    /// Whether a variable is declared as a universal.
+    pub fn is_universal(&self, v: u64) -> bool
+        ensures { result ≡ is_universal self.now v }
+    {
+        self.universals.contains(&v)
+    }
+
+    /// Whether a variable is declared as an existential.
+    pub fn is_existential(&self, v: u64) -> bool
+        ensures { result ≡ is_some (existential_of self.now v) }
+    {
+        self.existentials.contains_key(&v)
+    }
+
+    /// Whether a variable is declared.
+    pub fn is_declared(&self, v: u64) -> bool
+        ensures { result ≡ is_declared self.now v }
+    {
+        self.is_universal(v) || self.is_existential(v)
+    }
+
+    /// The place of a universal in the order of declaration, counted from 0.
+    pub fn universal_place(&self, x: u64) -> Option<usize>
+        ensures { result ≡ position (λ u. u == x) self.now.universals }
+    {
+        self.universals.get_index_of(&x)
+    }
+
+    /// The place of an existential in the order of declaration, counted from 0.
+    pub fn existential_place(&self, y: u64) -> Option<usize>
+        ensures { result ≡ position (λ v. v == y) (existential_variables self.now) }
+    {
+        self.existentials.get_index_of(&y)
+    }
+
+    /// How many clauses there are.
+    pub fn clauses(&self) -> usize
+        ensures value { result ≡ length self.now.matrix }
+        ensures few { result ≤ MAX_CLAUSES }
+    {
+        self.ends.len()
+    }
+
+    /// The literals of a clause, in order; clauses are counted from 0.
+    pub fn clause(&self, j: usize) -> &[Lit]
+        requires { j < length self.now.matrix }
+        ensures { result.now ≡ slice_index_or self.now.matrix j [] }
+    {
+        let ends: &[usize] = &self.ends;
+        clause_at(ends, &self.lits, j)
+    }
+
+    /// The dependency set of an existential.
+    pub fn deps_of(&self, y: u64) -> &Deps
+        requires { IsSome (existential_of self.now y) }
+        ensures set { IfSome (existential_of self.now y) (λ e. dependencies self.now.universals result.now ≡ e.sees) }
+        ensures form { IsDependencySet self.now.universals result.now }
+    {
+        match self.existentials.get(&y) {
+            Some(deps) => deps,
+            None => unreachable!(),
+        }
+    }
+
+    /// Whether an existential depends on a variable.
+    pub fn sees(&self, y: u64, x: u64) -> bool
+        requires { IsSome (existential_of self.now y) }
+        ensures { IfSome (existential_of self.now y) (λ e. IsTrue result ↔ Contains e.sees x) }
+    {
+        let deps = self.deps_of(y);
+        let Some(place) = self.universals.get_index_of(&x) else {
+            return false;
+        };
+        match deps {
+            Deps::FirstOf(n) => place < *n,
+            Deps::Listed(vars) => self.finds(vars.items(), place).is_ok(),
+        }
+    }
+
+    // Searches universals that stand in order of declaration for the one at a place.
+    fn finds(&self, vars: &[u64], place: usize) -> Result<usize, usize>
+        ensures within { IsSearchInRange result (length vars.now) }
+        ensures found { IsBinarySearchResult (λ v. nat_cmp (position_or_len (λ u. u == v) self.now.universals) place) vars.now result }
+    {
+        vars.binary_search_by_key(&place, |x| self.place(*x))
+    }
+
+    // The place of a universal in the order of declaration; behind all of them for another variable.
+    fn place(&self, x: u64) -> usize
+        ensures { result ≡ position_or_len (λ u. u == x) self.now.universals }
+    {
+        match self.universal_place(x) {
+            Some(place) => place,
+            None => self.universals.len(),
+        }
+    }
+
+    // The bit of a row at the place of the universal that stands at `i` in a dependency set; false
+    // behind the set's end.
+    fn seen_bit(&self, deps: &Deps, row: &Row, i: usize) -> bool
+        requires form { IsDependencySet self.now.universals deps.now }
+        requires row_length { length row.now ≡ length self.now.universals }
+        ensures { result ≡ bit_of (map (row_assignment self.now row.now) (dependencies self.now.universals deps.now)) i }
+    {
+        let _ = &self.vars;
+        match deps {
+            Deps::FirstOf(n) => i < *n && row.get(i),
+            Deps::Listed(vars) => match vars.items().get(i) {
+                Some(x) => row.get(self.place(*x)),
+                None => false,
+            },
+        }
+    }
+
+    /// Writes the bits of a row of the universals that an existential depends on, in order of declaration,
+    /// to the first places of `out`, and false behind them.
+    pub fn restrict(&self, y: u64, row: &Row, out: &mut Row)
+        requires declared { IsSome (existential_of self.now y) }
+        requires row_length { length row.now ≡ length self.now.universals }
+        requires out_length { length out.old ≡ length row.now }
+        ensures { IfSome (existential_of self.now y) (λ e. out.new ≡ padded (length row.now) (restriction e (row_assignment self.now row.now))) }
+    {
+        let deps = self.deps_of(y);
+        for i in 0..out.len() {
+            out.set(i, self.seen_bit(deps, row, i));
+        }
+    }
+
+    /// Whether two rows of the universals agree on those that an existential depends on.
+    pub fn same_on(&self, y: u64, r1: &Row, r2: &Row) -> bool
+        requires declared { IsSome (existential_of self.now y) }
+        requires first_length { length r1.now ≡ length self.now.universals }
+        requires second_length { length r2.now ≡ length self.now.universals }
+        ensures { IfSome (existential_of self.now y) (λ e. result ≡ same_bits (restriction e (row_assignment self.now r1.now)) (restriction e (row_assignment self.now r2.now))) }
+    {
+        let deps = self.deps_of(y);
+        for i in 0..deps.count() {
+            let first = self.seen_bit(deps, r1, i);
+            let second = self.seen_bit(deps, r2, i);
+            if first != second {
+                return false;
+            }
+        }
+        true
+    }
+
+    /// Declares a universal, behind those declared before.
+    pub fn add_universal(&mut self, v: u64) -> Result<(), Memory>
+        requires from_one { 1 ≤ v }
+        requires in_range { v ≤ self.old.variables }
+        requires undeclared { is_declared self.old v ≡ false }
+        ensures ok { OnOk result (self.new ≡ record self.old { universals = self.old.universals ++ v ∷ [] }) }
+        ensures err { OnErr result (self.new ≡ self.old) }
+    {
+        self.universals.insert(v)?;
+        Ok(())
+    }
+
+    /// Declares an existential that depends on each universal declared before it.
+    pub fn add_first(&mut self, y: u64) -> Result<(), Memory>
+        requires from_one { 1 ≤ y }
+        requires in_range { y ≤ self.old.variables }
+        requires undeclared { is_declared self.old y ≡ false }
+        ensures ok { OnOk result (self.new ≡ record self.old { existentials = self.old.existentials ++ record { variable = y; sees = self.old.universals } ∷ [] }) }
+        ensures err { OnErr result (self.new ≡ self.old) }
+    {
+        let count = self.universals.len();
+        self.add_existential(y, Deps::FirstOf(count))
+    }
+
+    /// Declares an existential that depends on the listed universals. They may stand in any order, and
+    /// may be repeated.
+    pub fn add_listed(&mut self, y: u64, xs: &[u64]) -> Result<(), Memory>
+        requires from_one { 1 ≤ y }
+        requires in_range { y ≤ self.old.variables }
+        requires undeclared { is_declared self.old y ≡ false }
+        requires listed { All (λ x. is_universal self.old x ≡ true) xs.now }
+        ensures ok { OnOk result (self.new ≡ record self.old { existentials = self.old.existentials ++ record { variable = y; sees = listed_universals self.old.universals xs.now } ∷ [] }) }
+        ensures err { OnErr result (self.new ≡ self.old) }
+    {
+        let vars = self.in_order(xs)?;
+        self.add_existential(y, Deps::Listed(vars))
+    }
+
+    // The listed universals, each once and in order of declaration.
+    fn in_order(&self, xs: &[u64]) -> Result<Vars, Memory>
+        requires { All (λ x. is_universal self.now x ≡ true) xs.now }
+        ensures { IfOk result (λ vars. vars ≡ listed_universals self.now.universals xs.now) }
+    {
+        let mut places = self.places(xs)?;
+        places.sort_unstable();
+        places.dedup();
+        let alloc = *self.lits.allocator();
+        let vars = picked(alloc, self.universals.as_slice(), &places)?;
+        Ok(Vars::from_vec(vars))
+    }
+
+    // The places of variables in the order of declaration.
+    fn places(&self, xs: &[u64]) -> Result<Vec<usize>, Memory>
+        ensures { IfOk result (λ places. places.items ≡ map (λ x. position_or_len (λ u. u == x) self.now.universals) xs.now) }
+    {
+        let alloc = *self.lits.allocator();
+        Ok(xs.iter().map(|x| self.place(*x)).collect(alloc)?)
+    }
+
+    // Declares an existential with this dependency set.
+    fn add_existential(&mut self, y: u64, deps: Deps) -> Result<(), Memory>
+        requires from_one { 1 ≤ y }
+        requires in_range { y ≤ self.old.variables }
+        requires undeclared { is_declared self.old y ≡ false }
+        requires form { IsDependencySet self.old.universals deps }
+        ensures ok { OnOk result (self.new ≡ record self.old { existentials = self.old.existentials ++ existential self.old.universals (y, deps) ∷ [] }) }
+        ensures err { OnErr result (self.new ≡ self.old) }
+    {
+        self.existentials.insert(y, deps)?;
+        Ok(())
+    }
+
+    /// Adds a clause with these literals, as they stand, behind those added before.
+    pub fn add_clause(&mut self, lits: &[Lit]) -> Result<(), Memory>
+        requires in_range { All (λ l. variable_of l ≤ self.old.variables) lits.now }
+        requires few { length self.old.matrix < MAX_CLAUSES }
+        ensures ok { OnOk result (self.new ≡ record self.old { matrix = self.old.matrix ++ lits.now ∷ [] }) }
+        ensures err { OnErr result (self.new ≡ self.old) }
+    {
+        self.ends.reserve(1)?;
+        self.lits.extend_from_slice(lits)?;
+        self.ends.push(self.lits.len()).unwrap();
+        Ok(())
+    }
+
+    /// Declares each variable that occurs in a clause and is undeclared as an existential that depends
+    /// on nothing, in ascending order.
+    pub fn add_free(&mut self) -> Result<(), Memory>
+        ensures ok { OnOk result (self.new ≡ record self.old { existentials = self.old.existentials ++ map unseeing (free_variables self.old) }) }
+        ensures err { OnErr result (self.new ≡ self.old) }
+    {
+        let free = self.free_variables()?;
+        self.existentials.reserve(free.len())?;
+        insert_all(&mut self.existentials, &free);
+        Ok(())
+    }
+
+    // The variables that occur undeclared, in ascending order.
+    fn free_variables(&self) -> Result<Vec<u64>, Memory>
+        ensures { IfOk result (λ free. free.items ≡ free_variables self.now) }
+    {
+        let mut free = self.undeclared(&self.lits)?;
+        free.sort_unstable();
+        free.dedup();
+        Ok(free)
+    }
+
+    // The variables of those literals that stand on an undeclared one, in their order.
+    fn undeclared(&self, lits: &[Lit]) -> Result<Vec<u64>, Memory>
+        ensures kept { IfOk result (λ vars. vars.items ≡ filter (λ v. not (is_declared self.now v)) (map variable_of lits.now)) }
+        ensures from_one { IfOk result (λ vars. All (λ v. 1 ≤ v) vars.items) }
+    {
+        let mut vars = Vec::new(*self.lits.allocator());
+        for lit in lits {
+            let v = lit.var();
+            if !self.is_declared(v) {
+                vars.push(v)?;
+            }
+        }
+        Ok(vars)
+    }
+}
