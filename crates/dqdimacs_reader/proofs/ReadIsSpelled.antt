@@ -6,7 +6,8 @@ use Rattle.std.proofs.lemmas.List.{append-nil}
 use Rattle.dq_lits.specs.Literal.{Literal, positive, negative, variable_of}
 use Rattle.dq_lits.specs.Formula.{Dqbf, is_universal}
 use Rattle.dq_text.specs.Token.{TextToken, tokens_of, last_line_of}
-use Rattle.dqdimacs_reader.specs.Building.{empty_formula, is_declared, add_universal, add_first, add_listed, add_clause, add_literal, distinct, with_free}
+use Rattle.dq_formula.specs.Prefix.{is_declared}
+use Rattle.dqdimacs_reader.specs.Building.{empty_formula, add_universal, add_first, add_listed, add_clause, add_literal, distinct, with_free}
 use Rattle.dqdimacs_reader.specs.Grammar.{Part, universals, existentials, dependent, numbers, part_lexemes, literal_lexeme, clause_lexemes, header, IsNew, AreNew, IsSeen, IsLawfulPart, declare, AreLawfulParts, add_spelled, InRange, AllInRange, SpellsFormula}
 use Rattle.dqdimacs_reader.specs.Machine.{Reading, State, before_header, before_format, before_variables, before_clauses, at_part, in_universals, in_existentials, at_dependent, in_dependencies, in_clause, max_variables, max_clauses, fault_if, check_limit, check_natural, check_entry, check_signed, check_range, check_declared, check_dependent, check_dependency, check_clause, with_formula, check, advance, at_start, inside_clause, natural_or, at_end, is_empty, wanted, is_p, is_cnf, reading}
 use Rattle.dq_text.specs.Number.{number_of}

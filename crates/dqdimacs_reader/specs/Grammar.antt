@@ -4,7 +4,8 @@ use Rattle.std.specs.List.{AllByRecursion, flat_map, fold}
 use Rattle.dq_lits.specs.Literal.{Literal, positive, negative, variable_of}
 use Rattle.dq_lits.specs.Formula.{Dqbf, is_universal}
 use Rattle.dq_text.specs.Token.{TextToken, tokens_of}
-use Rattle.dqdimacs_reader.specs.Building.{empty_formula, is_declared, add_universal, add_first, add_listed, add_clause, distinct, with_free}
+use Rattle.dq_formula.specs.Prefix.{is_declared}
+use Rattle.dqdimacs_reader.specs.Building.{empty_formula, add_universal, add_first, add_listed, add_clause, distinct, with_free}
 use Rattle.dqdimacs_reader.specs.Lexeme.{lexeme_of}
 use Rattle.dqdimacs_reader.specs.Machine.{max_variables, max_clauses}
 use Rattle.dqdimacs_reader.specs.declared.lexemes.Lexeme.{Lexeme}

@@ -3,7 +3,8 @@ use Rattle.std.specs.Prelude.{◌≡◌, ℕ, ◌+◌, ◌==◌, nat_lt, Bool, t
 use Rattle.dq_lits.specs.Literal.{Literal, positive, negative}
 use Rattle.dq_lits.specs.Formula.{Dqbf, is_universal}
 use Rattle.dq_text.specs.Token.{TextToken, tokens_of, last_line_of}
-use Rattle.dqdimacs_reader.specs.Building.{empty_formula, is_declared, add_universal, add_first, add_listed, add_clause, add_literal, with_free}
+use Rattle.dq_formula.specs.Prefix.{is_declared}
+use Rattle.dqdimacs_reader.specs.Building.{empty_formula, add_universal, add_first, add_listed, add_clause, add_literal, with_free}
 use Rattle.dqdimacs_reader.specs.Lexeme.{lexeme_of}
 use Rattle.dqdimacs_reader.specs.declared.faults.FormulaFault.{FormulaFault}
 use Rattle.dqdimacs_reader.specs.declared.faults.FormulaFault.TheVariants.{NoHeader, BadNumber, TooBig, VarRange, DeclaredTwice, NotUniversal, EmptyD, PrefixLate, HeaderTwice, TooFewClauses, TooManyClauses, MissingZero, Limit}
