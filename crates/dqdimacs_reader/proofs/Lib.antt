@@ -1,3 +1,4 @@
+mod Keys
 mod ReadIsSpelled
 mod Runs
 mod SpelledIsRead
