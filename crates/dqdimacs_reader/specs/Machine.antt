@@ -110,6 +110,14 @@ check_dependency r x =
 abbrev pub check_clause : Reading → ℕ → Option FormulaFault
 check_clause r v = fault_if (length r.formula.matrix == r.clauses) TooManyClauses (check_range r v None)
 
+-- a set or an item behind the first clause
+abbrev pub check_part_letter : Reading → Option FormulaFault
+check_part_letter r = fault_if (not (is_empty r.formula.matrix)) PrefixLate None
+
+-- inside a clause
+abbrev pub check_literal : Reading → Lexeme → Option FormulaFault
+check_literal r lexeme = check_signed lexeme (Some PrefixLate) (λ v. check_range r v None)
+
 abbrev pub wanted : Bool → Option FormulaFault
 wanted true = None
 wanted false = Some NoHeader
@@ -144,12 +152,12 @@ check before_header lexeme = wanted (is_p lexeme)
 check before_format lexeme = wanted (is_cnf lexeme)
 check before_variables lexeme = check_natural lexeme (check_limit max_variables)
 check (before_clauses _) lexeme = check_natural lexeme (check_limit max_clauses)
-check (at_part r) lexeme = check_signed lexeme (fault_if (not (is_empty r.formula.matrix)) PrefixLate None) (check_clause r)
+check (at_part r) lexeme = check_signed lexeme (check_part_letter r) (check_clause r)
 check (in_universals r) lexeme = check_entry lexeme (check_declared r)
 check (in_existentials r) lexeme = check_entry lexeme (check_declared r)
 check (at_dependent r) lexeme = check_entry lexeme (check_dependent r)
 check (in_dependencies r _ _) lexeme = check_entry lexeme (check_dependency r)
-check (in_clause r _) lexeme = check_signed lexeme (Some PrefixLate) (λ v. check_range r v None)
+check (in_clause r _) lexeme = check_literal r lexeme
 
 abbrev pub with_formula : Reading → Dqbf → Reading
 with_formula r f = record r { formula = f }

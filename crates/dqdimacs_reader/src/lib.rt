@@ -3,6 +3,7 @@
 
 pub use faults::FormulaFault;
 
+mod checks;
 mod distinct;
 mod faults;
 pub mod laws;
