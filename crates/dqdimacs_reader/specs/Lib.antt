@@ -3,3 +3,4 @@ pub mod Grammar
 pub mod Lexeme
 pub mod LiteralKey
 pub mod Machine
+pub mod MachineState

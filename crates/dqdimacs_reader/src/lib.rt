@@ -8,3 +8,4 @@ mod distinct;
 mod faults;
 pub mod laws;
 mod lexemes;
+mod machine;
