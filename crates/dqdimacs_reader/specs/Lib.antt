@@ -4,3 +4,4 @@ pub mod Lexeme
 pub mod LiteralKey
 pub mod Machine
 pub mod MachineState
+pub mod Reading

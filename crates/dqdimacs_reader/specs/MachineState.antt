@@ -1,12 +1,12 @@
 -- The machine's fields as a state of the definition.
-use Rattle.std.specs.Prelude.{◌≡◌, ℕ, ◌≤◌, ◌<◌, true, false, List, length}
+use Rattle.std.specs.Prelude.{◌≡◌, ℕ, ◌≤◌, ◌<◌, Bool, true, false, List, length}
 use Rattle.std.specs.List.{All}
-use Rattle.dq_lits.specs.Literal.{Literal, variable_of}
+use Rattle.dq_lits.specs.Literal.{Literal, positive, negative, variable_of}
 use Rattle.dq_lits.specs.Formula.{Dqbf, is_universal}
 use Rattle.dq_formula.specs.Prefix.{is_declared}
 use Rattle.dq_formula.specs.declared.formula.TheConstants.{MAX_CLAUSES}
 use Rattle.dqdimacs_reader.specs.Building.{empty_formula}
-use Rattle.dqdimacs_reader.specs.Machine.{State, before_header, before_format, before_variables, before_clauses, at_part, in_universals, in_existentials, at_dependent, in_dependencies, in_clause}
+use Rattle.dqdimacs_reader.specs.Machine.{State, Reading, before_header, before_format, before_variables, before_clauses, at_part, in_universals, in_existentials, at_dependent, in_dependencies, in_clause}
 use Rattle.dqdimacs_reader.specs.declared.machine.Machine.{Machine}
 use Rattle.dqdimacs_reader.specs.declared.machine.Stage.{Stage}
 use Rattle.dqdimacs_reader.specs.declared.machine.Stage.TheVariants.{Header, Format, Variables, Clauses, Part, Universals, Existentials, Dependent, Dependencies, Clause}
@@ -25,6 +25,13 @@ state_at Clause clauses f y xs literals = in_clause (record { clauses = clauses;
 
 abbrev pub state_of : Machine → State
 state_of m = state_at m.stage m.clauses m.formula m.dependent m.dependencies.items m.literals
+
+abbrev pub reading_of : Machine → Reading
+reading_of m = record { clauses = m.clauses; formula = m.formula }
+
+abbrev pub literal_on : Bool → ℕ → Literal
+literal_on false v = positive v
+literal_on true v = negative v
 
 -- clauses are counted, and the limit holds them
 pub record IsCounted (clauses : ℕ) (f : Dqbf) : Type 0 where

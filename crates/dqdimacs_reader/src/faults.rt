@@ -1,3 +1,9 @@
+ghost use Rattle.std.specs.Prelude.{◌≡◌};
+ghost use Rattle.dqdimacs_reader.specs.declared.faults.ReadStop.TheVariants.{Memory as OutOfMemory};
+
+use dq_lits::Memory;
+use thiserror::Error;
+
 /// Why a text isn't a formula.
 #[derive(Clone, Copy, Debug, PartialEq, Eq)]
 pub enum FormulaFault {
@@ -26,4 +32,22 @@ pub enum FormulaFault {
     MissingZero,
     /// More than 1,000,000 variables or 10,000,000 clauses.
     Limit,
+}
+
+/// Why a reading stopped.
+#[derive(Clone, Copy, Debug, PartialEq, Eq, Error)]
+pub enum ReadStop {
+    /// The text spells no formula: its first fault, by line and name.
+    #[error("line {line}: {name:?}")]
+    Refused { line: u64, name: FormulaFault },
+    #[error("out of memory")]
+    Memory,
+}
+
+impl From<Memory> for ReadStop {
+    ghost from_gives = { λ _ stop. stop ≡ OutOfMemory };
+
+    fn from(_: Memory) -> ReadStop {
+        ReadStop::Memory
+    }
 }

@@ -1,7 +1,8 @@
 //! DQDIMACS: QDIMACS with `d` lines, read exactly.
 #![tactic(auto)]
 
-pub use faults::FormulaFault;
+pub use faults::{FormulaFault, ReadStop};
+pub use reader::read;
 
 mod checks;
 mod distinct;
@@ -9,3 +10,5 @@ mod faults;
 pub mod laws;
 mod lexemes;
 mod machine;
+mod reader;
+mod steps;

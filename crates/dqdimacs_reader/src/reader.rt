@@ -1,0 +1,65 @@
+//! Reading a text.
+
+ghost use Rattle.std.specs.Prelude.{◌≡◌, IfOk};
+ghost use Rattle.dq_lits.specs.Formula.{IsWellFormed};
+ghost use Rattle.dqdimacs_reader.specs.Machine.{reading, on_line, at_end};
+ghost use Rattle.dqdimacs_reader.specs.MachineState.{state_of, IsReady};
+ghost use Rattle.dqdimacs_reader.specs.Reading.{IsReading, HasDistinctClauses, end_fault_of};
+
+use crate::faults::{FormulaFault, ReadStop};
+use crate::lexemes::classify;
+use crate::machine::{Machine, Stage, start, token_fault};
+use crate::steps::step;
+use dq_formula::Formula;
+use dq_lits::Memory;
+use dq_text::Tokens;
+use std::alloc::Global;
+
+/// Reads a DQDIMACS text: exactly the formula that it spells, or its first fault by line and name.
+pub fn read(alloc: Global, bytes: &[u8]) -> Result<Formula, ReadStop>
+    ensures exact { IsReading (reading bytes.now) result }
+    ensures well_formed { IfOk result IsWellFormed }
+    ensures distinct { IfOk result HasDistinctClauses }
+{
+    let mut machine = start(alloc);
+    let mut tokens = Tokens::new(bytes);
+    while let Some(token) = tokens.next() {
+        let lexeme = classify(token.text);
+        if let Some(name) = token_fault(&machine, lexeme) {
+            return Err(ReadStop::Refused {
+                line: token.line,
+                name,
+            });
+        }
+        step(&mut machine, lexeme)?;
+    }
+    finish(machine, tokens.last_line())
+}
+
+// What the end of the text decides.
+fn finish(machine: Machine, last_line: u64) -> Result<Formula, ReadStop>
+    requires { IsReady machine }
+    ensures { IsReading (on_line last_line (at_end (state_of machine))) result }
+{
+    if let Some(name) = end_fault(&machine) {
+        return Err(ReadStop::Refused {
+            line: last_line,
+            name,
+        });
+    }
+    let Machine { mut formula, .. } = machine;
+    formula.add_free()?;
+    Ok(formula)
+}
+
+// Why the text can't end here.
+fn end_fault(machine: &Machine) -> Option<FormulaFault>
+    ensures { result ≡ end_fault_of (at_end (state_of machine.now)) }
+{
+    match machine.stage {
+        Stage::Header | Stage::Format | Stage::Variables | Stage::Clauses => Some(FormulaFault::NoHeader),
+        Stage::Part if (machine.formula.clauses() as u64) < machine.clauses => Some(FormulaFault::TooFewClauses),
+        Stage::Part => None,
+        _ => Some(FormulaFault::MissingZero),
+    }
+}

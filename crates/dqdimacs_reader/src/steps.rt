@@ -1,0 +1,158 @@
+//! The machine's steps: what a token that passes its checks does.
+
+ghost use Rattle.std.specs.Prelude.{◌≡◌, ◌≤◌, ◌<◌, [], None, OnOk, length};
+ghost use Rattle.dq_lits.specs.Literal.{variable_of};
+ghost use Rattle.dqdimacs_reader.specs.Machine.{check, advance, natural_or, inside_clause, check_limit, check_declared, check_dependent, check_dependency, at_start, in_clause, literal_or_end};
+ghost use Rattle.dqdimacs_reader.specs.MachineState.{state_of, reading_of, literal_on, IsReady, IsReadyAt, IsCounted};
+
+use crate::distinct::DistinctLiterals;
+use crate::lexemes::Lexeme;
+use crate::machine::{Machine, Stage};
+use dq_formula::Formula;
+use dq_lits::{Lit, Memory};
+
+/// Goes on behind a token that passes its checks.
+pub fn step(machine: &mut Machine, lexeme: Lexeme) -> Result<(), Memory>
+    requires ready { IsReady machine.old }
+    requires passed { check (state_of machine.old) lexeme ≡ None }
+    ensures state { OnOk result (state_of machine.new ≡ advance (state_of machine.old) lexeme) }
+    ensures ready { OnOk result (IsReady machine.new) }
+{
+    match (machine.stage, lexeme) {
+        (Stage::Header, _) => {
+            machine.stage = Stage::Format;
+            Ok(())
+        }
+        (Stage::Format, _) => {
+            machine.stage = Stage::Variables;
+            Ok(())
+        }
+        (Stage::Variables, Lexeme::Natural(n)) => {
+            machine.formula = Formula::new(machine.alloc, n);
+            machine.stage = Stage::Clauses;
+            Ok(())
+        }
+        (Stage::Clauses, Lexeme::Natural(n)) => {
+            machine.clauses = n;
+            machine.stage = Stage::Part;
+            Ok(())
+        }
+        (Stage::Part, lexeme) => begin_part(machine, lexeme),
+        (Stage::Universals, Lexeme::Natural(v)) => declare_universal(machine, v),
+        (Stage::Existentials, Lexeme::Natural(v)) => declare_existential(machine, v),
+        (Stage::Dependent, Lexeme::Natural(y)) => {
+            machine.dependent = y;
+            machine.dependencies.clear();
+            machine.stage = Stage::Dependencies;
+            Ok(())
+        }
+        (Stage::Dependencies, Lexeme::Natural(x)) => take_dependency(machine, x),
+        (Stage::Clause, Lexeme::Natural(v)) => take_literal(machine, v, false),
+        (Stage::Clause, Lexeme::Negative(v)) => take_literal(machine, v, true),
+        _ => unreachable!(),
+    }
+}
+
+// At the start of a set, an item or a clause.
+fn begin_part(machine: &mut Machine, lexeme: Lexeme) -> Result<(), Memory>
+    requires stage { machine.old.stage ≡ Stage.Part }
+    requires ready { IsReady machine.old }
+    requires passed { check (state_of machine.old) lexeme ≡ None }
+    ensures state { OnOk result (state_of machine.new ≡ at_start (reading_of machine.old) lexeme) }
+    ensures ready { OnOk result (IsReady machine.new) }
+{
+    match lexeme {
+        Lexeme::A => machine.stage = Stage::Universals,
+        Lexeme::D => machine.stage = Stage::Dependent,
+        Lexeme::E => machine.stage = Stage::Existentials,
+        Lexeme::Natural(v) => {
+            begin_clause(machine);
+            return take_literal(machine, v, false);
+        }
+        Lexeme::Negative(v) => {
+            begin_clause(machine);
+            return take_literal(machine, v, true);
+        }
+        _ => unreachable!(),
+    }
+    Ok(())
+}
+
+// A clause begins, where the header's number has room for one.
+fn begin_clause(machine: &mut Machine)
+    requires counted { IsCounted machine.old.clauses machine.old.formula }
+    requires room { length machine.old.formula.matrix < machine.old.clauses }
+    ensures state { state_of machine.new ≡ in_clause (reading_of machine.old) [] }
+    ensures reading { reading_of machine.new ≡ reading_of machine.old }
+    ensures stage { machine.new.stage ≡ Stage.Clause }
+    ensures ready { IsReady machine.new }
+{
+    machine.literals = DistinctLiterals::new(machine.alloc);
+    machine.stage = Stage::Clause;
+}
+
+// A variable of a universal set, or its end.
+fn declare_universal(machine: &mut Machine, v: u64) -> Result<(), Memory>
+    requires stage { machine.old.stage ≡ Stage.Universals }
+    requires ready { IsReady machine.old }
+    requires passed { check_declared (reading_of machine.old) v ≡ None }
+    ensures state { OnOk result (state_of machine.new ≡ advance (state_of machine.old) (Lexeme.Natural v)) }
+    ensures ready { OnOk result (IsReady machine.new) }
+{
+    if v == 0 {
+        machine.stage = Stage::Part;
+        return Ok(());
+    }
+    machine.formula.add_universal(v)
+}
+
+// A variable of an existential set, or its end.
+fn declare_existential(machine: &mut Machine, v: u64) -> Result<(), Memory>
+    requires stage { machine.old.stage ≡ Stage.Existentials }
+    requires ready { IsReady machine.old }
+    requires passed { check_declared (reading_of machine.old) v ≡ None }
+    ensures state { OnOk result (state_of machine.new ≡ advance (state_of machine.old) (Lexeme.Natural v)) }
+    ensures ready { OnOk result (IsReady machine.new) }
+{
+    if v == 0 {
+        machine.stage = Stage::Part;
+        return Ok(());
+    }
+    machine.formula.add_first(v)
+}
+
+// A dependency of an item, or its end.
+fn take_dependency(machine: &mut Machine, x: u64) -> Result<(), Memory>
+    requires stage { machine.old.stage ≡ Stage.Dependencies }
+    requires ready { IsReady machine.old }
+    requires passed { check_dependency (reading_of machine.old) x ≡ None }
+    ensures state { OnOk result (state_of machine.new ≡ advance (state_of machine.old) (Lexeme.Natural x)) }
+    ensures ready { OnOk result (IsReady machine.new) }
+{
+    if x == 0 {
+        machine.formula.add_listed(machine.dependent, &machine.dependencies)?;
+        machine.stage = Stage::Part;
+        return Ok(());
+    }
+    machine.dependencies.push(x)?;
+    Ok(())
+}
+
+// A literal of a clause by its variable, or the clause's end.
+fn take_literal(machine: &mut Machine, v: u64, negative: bool) -> Result<(), Memory>
+    requires stage { machine.old.stage ≡ Stage.Clause }
+    requires ready { IsReady machine.old }
+    requires in_range { v ≤ machine.old.formula.variables }
+    ensures state { OnOk result (state_of machine.new ≡ literal_or_end (reading_of machine.old) machine.old.literals v (literal_on negative v)) }
+    ensures ready { OnOk result (IsReady machine.new) }
+{
+    if v == 0 {
+        machine.formula.add_clause(machine.literals.items())?;
+        machine.stage = Stage::Part;
+        return Ok(());
+    }
+    // Its variables are few enough for literals.
+    machine.formula.every_formula_is_lawful();
+    let literal = if negative { Lit::neg(v) } else { Lit::pos(v) };
+    machine.literals.add(literal)
+}
