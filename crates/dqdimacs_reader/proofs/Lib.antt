@@ -1,4 +1,5 @@
 mod Keys
 mod ReadIsSpelled
 mod Runs
+mod SpelledClauses
 mod SpelledIsRead

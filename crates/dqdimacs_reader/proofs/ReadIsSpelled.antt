@@ -1,7 +1,7 @@
 -- What the machine reads, the grammar spells.
-use Rattle.std.proofs.Common.{◌≡◌, ◌≢◌, ℕ, ◌+◌, ◌<◌, ◌≤◌, ◌==◌, nat_lt, Bool, true, false, not, cond, ◌&&◌, ◌⊎◌, inl, inr, List, [], ◌∷◌, ◌++◌, map, length, Option, None, Some, Result, Ok, Err, refl, sym, ◌∙◌, ap, arith, append_assoc, length-append, subst}
-use Rattle.std.specs.List.{AllByRecursion, flat_map, fold, list_any}
-use Rattle.std.proofs.lemmas.Bool.{ltb-false, eqb-false, eqb-true, cases_Bool, cases_eq, eq-eqb, ne_eqb, not-false, true≢false}
+use Rattle.std.proofs.Common.{◌≡◌, ◌≢◌, ℕ, ◌+◌, ◌<◌, ◌≤◌, ◌==◌, nat_lt, Bool, true, false, not, cond, ◌⊎◌, inl, inr, List, [], ◌∷◌, ◌++◌, length, Option, None, Some, Ok, Err, refl, sym, ◌∙◌, ap, arith, append_assoc, length-append, subst}
+use Rattle.std.specs.List.{AllByRecursion, flat_map, fold}
+use Rattle.std.proofs.lemmas.Bool.{ltb-false, eqb-false, cases_Bool, cases_eq, eq-eqb, ne_eqb, not-false, true≢false}
 use Rattle.std.proofs.lemmas.List.{append-nil}
 use Rattle.dq_lits.specs.Literal.{Literal, positive, negative, variable_of}
 use Rattle.dq_lits.specs.Formula.{Dqbf, is_universal}
@@ -98,8 +98,8 @@ counted_end : (r : Reading) (clause : List Literal) (v : ℕ) (l : Literal) → 
     IsCounted (cond (v == 0) (at_part (with_formula r (add_clause r.formula clause))) (in_clause r (add_literal clause l)))
 counted_end r clause v l room =
     elim (cases_Bool (v == 0)) [
-      inl zero ↦ subst (λ b. IsCounted (cond b (at_part (with_formula r (add_clause r.formula clause))) (in_clause r (add_literal clause l)))) (sym zero) (one_more r.formula.matrix clause r.clauses room)
-    | inr more ↦ subst (λ b. IsCounted (cond b (at_part (with_formula r (add_clause r.formula clause))) (in_clause r (add_literal clause l)))) (sym more) room
+      | inl zero ↦ subst (λ b. IsCounted (cond b (at_part (with_formula r (add_clause r.formula clause))) (in_clause r (add_literal clause l)))) (sym zero) (one_more r.formula.matrix clause r.clauses room)
+      | inr more ↦ subst (λ b. IsCounted (cond b (at_part (with_formula r (add_clause r.formula clause))) (in_clause r (add_literal clause l)))) (sym more) room
     ]
 
 has_room : (r : Reading) (v : ℕ) → length r.formula.matrix ≤ r.clauses → check_clause r v ≡ None → length r.formula.matrix < r.clauses
@@ -189,8 +189,8 @@ entry_is Other k h = cc
 ends_or_goes_on : (Q : State → Type 0) (v : ℕ) (ended more : State) → Q (cond (v == 0) ended more) → ((v ≡ 0) × Q ended) ⊎ ((v ≢ 0) × Q more)
 ends_or_goes_on Q v ended more h =
     elim (cases_eq v 0) [
-      inl zero ↦ inl (zero, subst (λ b. Q (cond b ended more)) (eq-eqb v 0 zero) h)
-    | inr other ↦ inr (other, subst (λ b. Q (cond b ended more)) (ne_eqb v 0 other) h)
+      | inl zero ↦ inl (zero, subst (λ b. Q (cond b ended more)) (eq-eqb v 0 zero) h)
+      | inr other ↦ inr (other, subst (λ b. Q (cond b ended more)) (ne_eqb v 0 other) h)
     ]
 
 -- an entry of a list, and what completes the list behind it
@@ -235,8 +235,8 @@ universals_step r l ls f passed next =
     let behind = subst (λ k. Q (advance (in_universals r) k)) entry.1 next in
     subst (λ k. CompletesList New then_reading (k ∷ ls) f) (sym entry.1)
     (elim (ends_or_goes_on Q v (at_part r) more behind) [
-      inl (zero, c) ↦ list_end New then_reading v ls f zero tt c
-    | inr (other, c) ↦ list_step New then_reading v ls f (AreNew add_universal (add_universal r.formula v)) (λ vs news. (declared_is r v other entry.2, news)) c
+      | inl (zero, c) ↦ list_end New then_reading v ls f zero tt c
+      | inr (other, c) ↦ list_step New then_reading v ls f (AreNew add_universal (add_universal r.formula v)) (λ vs news. (declared_is r v other entry.2, news)) c
     ])
 
 existentials_step : (r : Reading) (l : Lexeme) (ls : List Lexeme) (f : Dqbf) → check (in_existentials r) l ≡ None →
@@ -251,8 +251,8 @@ existentials_step r l ls f passed next =
     let behind = subst (λ k. Q (advance (in_existentials r) k)) entry.1 next in
     subst (λ k. CompletesList New then_reading (k ∷ ls) f) (sym entry.1)
     (elim (ends_or_goes_on Q v (at_part r) more behind) [
-      inl (zero, c) ↦ list_end New then_reading v ls f zero tt c
-    | inr (other, c) ↦ list_step New then_reading v ls f (AreNew add_first (add_first r.formula v)) (λ vs news. (declared_is r v other entry.2, news)) c
+      | inl (zero, c) ↦ list_end New then_reading v ls f zero tt c
+      | inr (other, c) ↦ list_step New then_reading v ls f (AreNew add_first (add_first r.formula v)) (λ vs news. (declared_is r v other entry.2, news)) c
     ])
 
 dependencies_step : (r : Reading) (y : ℕ) (before : List ℕ) (l : Lexeme) (ls : List Lexeme) (f : Dqbf) → check (in_dependencies r y before) l ≡ None →
@@ -268,9 +268,9 @@ dependencies_step r y before l ls f passed next =
     let behind = subst (λ k. Q (advance (in_dependencies r y before) k)) entry.1 next in
     subst (λ k. CompletesList New then_reading (k ∷ ls) f) (sym entry.1)
     (elim (ends_or_goes_on Q x ended more behind) [
-      inl (zero, c) ↦ list_end New then_reading x ls f zero tt
-        (subst (λ zs. Completes (with_formula r (add_listed r.formula y zs)) ls f) (sym (append-nil before)) c)
-    | inr (other, c) ↦ record {
+      | inl (zero, c) ↦ list_end New then_reading x ls f zero tt
+          (subst (λ zs. Completes (with_formula r (add_listed r.formula y zs)) ls f) (sym (append-nil before)) c)
+      | inr (other, c) ↦ record {
         vs = x ∷ c.vs;
         rest = c.rest;
         spelling = ap (λ zs. Natural x ∷ zs) c.spelling;
@@ -304,17 +304,17 @@ literal_step : (r : Reading) (clause : List Literal) (v : ℕ) (q : Literal) (ls
 literal_step r clause v q ls f stands high ends next =
     let Q : State → Type 0 = λ s. CompletesState s ls f in
     elim (ends_or_goes_on Q v (at_part (with_formula r (add_clause r.formula clause))) (in_clause r (add_literal clause q)) next) [
-      inl (zero, c) ↦ record { literals = []; rest = ls; spelling = ap (λ k. k ∷ ls) (ends zero); in_range = tt; completed = c }
-    | inr (other, c) ↦
-        let low : 1 ≤ variable_of q = omega arith in
-        let within : variable_of q ≤ r.formula.variables = omega arith in
-        record {
-          literals = q ∷ c.literals;
-          rest = c.rest;
-          spelling = ap (λ zs. literal_lexeme q ∷ zs) c.spelling;
-          in_range = ((low, within), c.in_range);
-          completed = c.completed;
-        }
+      | inl (zero, c) ↦ record { literals = []; rest = ls; spelling = ap (λ k. k ∷ ls) (ends zero); in_range = tt; completed = c }
+      | inr (other, c) ↦
+          let low : 1 ≤ variable_of q = omega arith in
+          let within : variable_of q ≤ r.formula.variables = omega arith in
+          record {
+            literals = q ∷ c.literals;
+            rest = c.rest;
+            spelling = ap (λ zs. literal_lexeme q ∷ zs) c.spelling;
+            in_range = ((low, within), c.in_range);
+            completed = c.completed;
+          }
     ]
 
 -- the magnitude of a number with a minus isn't zero
@@ -471,9 +471,9 @@ is_lexeme : (text : List ℕ) → IsLexeme (lexeme_of text)
 is_lexeme text =
     choose_lexeme (bytes_eq text (codes "p")) P _ tt
     (choose_lexeme (bytes_eq text (codes "cnf")) Cnf _ tt
-      (choose_lexeme (bytes_eq text (codes "a")) A _ tt
-        (choose_lexeme (bytes_eq text (codes "d")) D _ tt
-          (choose_lexeme (bytes_eq text (codes "e")) E _ tt (number_is_lexeme (begins_with_minus text) (number_of text))))))
+    (choose_lexeme (bytes_eq text (codes "a")) A _ tt
+    (choose_lexeme (bytes_eq text (codes "d")) D _ tt
+    (choose_lexeme (bytes_eq text (codes "e")) E _ tt (number_is_lexeme (begins_with_minus text) (number_of text))))))
 
 are_lexemes : (tokens : List TextToken) → AllByRecursion IsLexeme (lexemes_of tokens)
 are_lexemes [] = tt
@@ -526,9 +526,13 @@ header_clauses v [] f are h = cc
 header_clauses v (l ∷ ls) f are h =
     let r = run_step (before_clauses v) l ls f h in
     let n = natural_is l (check_limit max_clauses) r.0 in
-    let goes : run (advance (before_clauses v) (Natural n.0)) ls ≡ Some f = ap (λ k. run (advance (before_clauses v) k) ls) (sym n.1) ∙ r.1 in
-    (n.0, ls, ap (λ k. k ∷ ls) n.1, few max_clauses n.0 n.2,
-    completes ls (at_part (record { clauses = n.0; formula = empty_formula v })) f are.1 (omega arith) goes)
+    let goes : run (advance (before_clauses v) (Natural n.0)) ls ≡ Some f = ap (λ k. run (advance (before_clauses v) k) ls) (sym n.1) ∙ r.1 in (
+      n.0,
+      ls,
+      ap (λ k. k ∷ ls) n.1,
+      few max_clauses n.0 n.2,
+      completes ls (at_part (record { clauses = n.0; formula = empty_formula v })) f are.1 (omega arith) goes,
+    )
 
 header_variables : (lexemes : List Lexeme) (f : Dqbf) → AllByRecursion IsLexeme lexemes → run before_variables lexemes ≡ Some f →
     (v : ℕ) × (rest : List Lexeme) × (lexemes ≡ Natural v ∷ rest) × (v ≤ max_variables) × AllByRecursion IsLexeme rest × (run (before_clauses v) rest ≡ Some f)
@@ -563,7 +567,7 @@ header_completes lexemes f are h =
       clauses = clauses.0;
       rest = clauses.1;
       spelling = word.1
-        ∙ ap (λ zs. P ∷ zs) (format.1 ∙ ap (λ zs. Cnf ∷ zs) (variables.2 ∙ ap (λ zs. Natural variables.0 ∷ zs) clauses.2));
+          ∙ ap (λ zs. P ∷ zs) (format.1 ∙ ap (λ zs. Cnf ∷ zs) (variables.2 ∙ ap (λ zs. Natural variables.0 ∷ zs) clauses.2));
       few_variables = variables.3;
       few_clauses = clauses.3;
       completed = clauses.4;
@@ -580,16 +584,16 @@ read_is_spelled text f h =
     let done = c.completed in
     let prefix = fold declare (empty_formula c.variables) done.parts in
     let variables : c.variables ≡ f.variables = sym
-      (ap (λ (g : Dqbf). g.variables) done.formula ∙ clauses_keep_variables done.clauses prefix ∙ (declares-keep done.parts (empty_formula c.variables)).variables) in
+    (ap (λ (g : Dqbf). g.variables) done.formula ∙ clauses_keep_variables done.clauses prefix ∙ (declares-keep done.parts (empty_formula c.variables)).variables) in
     let own = subst (λ v. Completes (record { clauses = c.clauses; formula = empty_formula v }) c.rest f) variables done in
     let counted : length own.clauses ≡ c.clauses = omega (arith, own.counted) in
     record {
       parts = own.parts;
       clauses = own.clauses;
       spelling = c.spelling
-        ∙ ap (λ v. header v c.clauses ++ c.rest) variables
-        ∙ ap (λ n. header f.variables n ++ c.rest) (sym counted)
-        ∙ ap (λ zs. header f.variables (length own.clauses) ++ zs) own.spelling;
+          ∙ ap (λ v. header v c.clauses ++ c.rest) variables
+          ∙ ap (λ n. header f.variables n ++ c.rest) (sym counted)
+          ∙ ap (λ zs. header f.variables (length own.clauses) ++ zs) own.spelling;
       few_variables = rw (← variables) c.few_variables;
       few_clauses = rw counted c.few_clauses;
       lawful = own.lawful;

@@ -1,19 +1,19 @@
 -- What the grammar spells, the machine reads.
-use Rattle.std.proofs.Common.{◌≡◌, ℕ, ◌+◌, ◌<◌, ◌≤◌, ◌==◌, nat_lt, Bool, true, false, not, cond, ◌&&◌, List, [], ◌∷◌, ◌++◌, map, length, Option, None, Some, refl, sym, ◌∙◌, ap, arith, append_assoc, length-append, Ok, Err}
+use Rattle.std.proofs.Common.{◌≡◌, ℕ, ◌+◌, ◌<◌, ◌≤◌, ◌==◌, nat_lt, Bool, true, false, not, cond, List, [], ◌∷◌, ◌++◌, length, Option, None, Some, refl, sym, ◌∙◌, ap, arith, append_assoc, length-append, Ok, Err}
 use Rattle.std.proofs.lemmas.List.{append-nil}
-use Rattle.std.specs.List.{AllByRecursion, flat_map, fold, list_any}
+use Rattle.std.specs.List.{AllByRecursion, flat_map, fold}
 use Rattle.std.proofs.lemmas.Bool.{le-ltb, ne_eqb}
-use Rattle.dq_lits.specs.Literal.{Literal, positive, negative, variable_of}
+use Rattle.dq_lits.specs.Literal.{Literal, positive, negative}
 use Rattle.dq_lits.specs.Formula.{Dqbf, is_universal}
 use Rattle.dq_text.specs.Token.{tokens_of, last_line_of}
 use Rattle.dq_formula.specs.Prefix.{is_declared}
 use Rattle.dqdimacs_reader.specs.Building.{empty_formula, add_universal, add_first, add_listed, add_clause, add_literal, distinct, with_free}
 use Rattle.dqdimacs_reader.specs.Grammar.{Part, universals, existentials, dependent, numbers, part_lexemes, literal_lexeme, clause_lexemes, header, IsNew, AreNew, IsSeen, IsLawfulPart, declare, AreLawfulParts, add_spelled, InRange, AllInRange, SpellsFormula}
-use Rattle.dqdimacs_reader.specs.Machine.{Reading, State, before_header, before_format, before_variables, before_clauses, check_limit, reading, at_part, in_universals, in_existentials, at_dependent, in_dependencies, in_clause, max_variables, max_clauses, fault_if, check_range, check_declared, check_dependent, check_dependency, with_formula, check, advance, at_end, is_empty}
+use Rattle.dqdimacs_reader.specs.Machine.{Reading, State, before_header, before_format, before_variables, before_clauses, check_limit, reading, at_part, in_universals, in_existentials, at_dependent, in_dependencies, in_clause, max_variables, max_clauses, fault_if, check_range, check_declared, check_dependent, check_dependency, with_formula, check, advance, is_empty}
 use Rattle.dqdimacs_reader.specs.declared.faults.FormulaFault.{FormulaFault}
 use Rattle.dqdimacs_reader.specs.declared.faults.FormulaFault.TheVariants.{PrefixLate, TooFewClauses, VarRange, Limit, DeclaredTwice, NotUniversal, EmptyD, TooManyClauses}
 use Rattle.dqdimacs_reader.specs.declared.lexemes.Lexeme.{Lexeme}
-use Rattle.dqdimacs_reader.specs.declared.lexemes.Lexeme.TheVariants.{P, Cnf, A, D, E, Natural, Negative}
+use Rattle.dqdimacs_reader.specs.declared.lexemes.Lexeme.TheVariants.{P, Cnf, A, D, E, Natural}
 use Rattle.dqdimacs_reader.proofs.Runs.{formula_or_none, run, run_pass, reading_from_run}
 
 no_fault : (b : Bool) (name : FormulaFault) (rest : Option FormulaFault) → b ≡ false → fault_if b name rest ≡ rest
@@ -194,7 +194,7 @@ spelled_is_read text f spells =
     let lexemes = flat_map part_lexemes spells.parts ++ flat_map clause_lexemes spells.clauses in
     reading_from_run (tokens_of text) before_header (last_line_of text) f
     (ap (run before_header) spells.spelling
-      ∙ read_header v n lexemes spells.few_variables spells.few_clauses
-      ∙ read_parts spells.parts start (flat_map clause_lexemes spells.clauses) refl spells.lawful
-      ∙ read_clauses spells.clauses (with_formula start prefix) counted range
-      ∙ ap Some (sym spells.formula))
+    ∙ read_header v n lexemes spells.few_variables spells.few_clauses
+    ∙ read_parts spells.parts start (flat_map clause_lexemes spells.clauses) refl spells.lawful
+    ∙ read_clauses spells.clauses (with_formula start prefix) counted range
+    ∙ ap Some (sym spells.formula))

@@ -2,7 +2,7 @@
 use Rattle.std.specs.Prelude.{ℕ, List, [], ◌∷◌, ◌++◌, map, if◌then◌else◌}
 use Rattle.std.specs.List.{list_any, fold}
 use Rattle.dq_lits.specs.Literal.{Literal, same_literal}
-use Rattle.dq_lits.specs.Formula.{Existential, Dqbf}
+use Rattle.dq_lits.specs.Formula.{Dqbf}
 use Rattle.dq_formula.specs.Dependencies.{listed_universals}
 use Rattle.dq_formula.specs.Prefix.{free_variables, unseeing}
 

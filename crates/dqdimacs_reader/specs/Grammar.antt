@@ -1,9 +1,9 @@
 -- The grammar: which formula a text spells (QDIMACS with `d` lines).
-use Rattle.std.specs.Prelude.{◌≡◌, ℕ, ◌+◌, ◌<◌, ◌≤◌, Bool, true, false, List, [], ◌∷◌, ◌++◌, map, length}
+use Rattle.std.specs.Prelude.{◌≡◌, ℕ, ◌≤◌, true, false, List, [], ◌∷◌, ◌++◌, map, length}
 use Rattle.std.specs.List.{AllByRecursion, flat_map, fold}
 use Rattle.dq_lits.specs.Literal.{Literal, positive, negative, variable_of}
 use Rattle.dq_lits.specs.Formula.{Dqbf, is_universal}
-use Rattle.dq_text.specs.Token.{TextToken, tokens_of}
+use Rattle.dq_text.specs.Token.{tokens_of}
 use Rattle.dq_formula.specs.Prefix.{is_declared}
 use Rattle.dqdimacs_reader.specs.Building.{empty_formula, add_universal, add_first, add_listed, add_clause, distinct, with_free}
 use Rattle.dqdimacs_reader.specs.Lexeme.{lexeme_of}

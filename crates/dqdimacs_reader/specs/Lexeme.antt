@@ -1,5 +1,5 @@
 -- What a token is to the grammar.
-use Rattle.std.specs.Prelude.{ℕ, suc, ◌==◌, ℤ, pos, negsuc, Bool, false, List, [], ◌∷◌, codes, if◌then◌else◌}
+use Rattle.std.specs.Prelude.{ℕ, suc, ◌==◌, pos, negsuc, Bool, false, List, [], ◌∷◌, codes, if◌then◌else◌}
 use Rattle.std.specs.Str.{bytes_eq}
 use Rattle.dq_text.specs.Number.{number_of}
 use Rattle.dq_text.specs.declared.numbers.Number.{Number}

@@ -1,5 +1,5 @@
 -- The first fault of a text: the tokens stand in states, and each state has its checks in order.
-use Rattle.std.specs.Prelude.{◌≡◌, ℕ, ◌+◌, ◌==◌, nat_lt, Bool, true, false, not, ◌&&◌, List, [], ◌∷◌, ◌++◌, length, Option, None, Some, Result, Ok, Err, if◌then◌else◌}
+use Rattle.std.specs.Prelude.{ℕ, ◌==◌, nat_lt, Bool, true, false, not, List, [], ◌∷◌, ◌++◌, length, Option, None, Some, Result, Ok, Err, if◌then◌else◌}
 use Rattle.dq_lits.specs.Literal.{Literal, positive, negative}
 use Rattle.dq_lits.specs.Formula.{Dqbf, is_universal}
 use Rattle.dq_text.specs.Token.{TextToken, tokens_of, last_line_of}

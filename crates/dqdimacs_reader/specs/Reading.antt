@@ -1,5 +1,5 @@
 -- What `read` answers.
-use Rattle.std.specs.Prelude.{◌≡◌, ◌≢◌, ℕ, Option, Some, None, Result, Ok, Err}
+use Rattle.std.specs.Prelude.{◌≡◌, ◌≢◌, Option, Some, None, Result, Ok, Err}
 use Rattle.std.specs.List.{All, AllPairs}
 use Rattle.dq_lits.specs.Formula.{Dqbf}
 use Rattle.dqdimacs_reader.specs.Machine.{TextFault}

@@ -90,12 +90,18 @@ pub fn part_fault(formula: &Formula, clauses: u64, lexeme: Lexeme) -> Option<For
 {
     match lexeme {
         Lexeme::P => Some(FormulaFault::HeaderTwice),
-        Lexeme::A | Lexeme::D | Lexeme::E if formula.clauses() > 0 => Some(FormulaFault::PrefixLate),
+        Lexeme::A | Lexeme::D | Lexeme::E if formula.clauses() > 0 => Some(
+            FormulaFault::PrefixLate,
+        ),
         Lexeme::A | Lexeme::D | Lexeme::E => None,
         Lexeme::Cnf | Lexeme::Other => Some(FormulaFault::BadNumber),
         Lexeme::Large | Lexeme::NegativeLarge => Some(FormulaFault::TooBig),
-        Lexeme::Natural(_) | Lexeme::Negative(_) if formula.clauses() as u64 == clauses => Some(FormulaFault::TooManyClauses),
-        Lexeme::Natural(v) | Lexeme::Negative(v) if v > formula.vars() => Some(FormulaFault::VarRange),
+        Lexeme::Natural(_) | Lexeme::Negative(_) if formula.clauses() as u64 == clauses => Some(
+            FormulaFault::TooManyClauses,
+        ),
+        Lexeme::Natural(v) | Lexeme::Negative(v) if v > formula.vars() => Some(
+            FormulaFault::VarRange,
+        ),
         Lexeme::Natural(_) | Lexeme::Negative(_) => None,
     }
 }
@@ -109,7 +115,9 @@ pub fn literal_fault(formula: &Formula, lexeme: Lexeme) -> Option<FormulaFault>
         Lexeme::A | Lexeme::D | Lexeme::E => Some(FormulaFault::PrefixLate),
         Lexeme::Cnf | Lexeme::Other => Some(FormulaFault::BadNumber),
         Lexeme::Large | Lexeme::NegativeLarge => Some(FormulaFault::TooBig),
-        Lexeme::Natural(v) | Lexeme::Negative(v) if v > formula.vars() => Some(FormulaFault::VarRange),
+        Lexeme::Natural(v) | Lexeme::Negative(v) if v > formula.vars() => Some(
+            FormulaFault::VarRange,
+        ),
         Lexeme::Natural(_) | Lexeme::Negative(_) => None,
     }
 }

@@ -11,5 +11,4 @@ pub fn formula_or_first_fault()
     ensures exact { (text : List ℕ) (f : Dqbf) → SpellsFormula text f ↔ (reading text ≡ Ok f) }
     ensures unique { (text : List ℕ) (f g : Dqbf) → SpellsFormula text f → SpellsFormula text g → f ≡ g }
     ensures either { (text : List ℕ) → ((f : Dqbf) × SpellsFormula text f) ⊎ ((fault : TextFault) × (reading text ≡ Err fault)) }
-{
-}
+{}

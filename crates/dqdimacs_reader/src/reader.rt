@@ -1,7 +1,7 @@
 //! Reading a text.
 
 ghost use Rattle.std.specs.Prelude.{◌≡◌, IfOk};
-ghost use Rattle.dq_lits.specs.Formula.{IsWellFormed};
+ghost use Rattle.dq_lits.specs.Formula.{HasLawfulPrefix, IsWellFormed};
 ghost use Rattle.dqdimacs_reader.specs.Machine.{reading, on_line, at_end};
 ghost use Rattle.dqdimacs_reader.specs.MachineState.{state_of, IsReady};
 ghost use Rattle.dqdimacs_reader.specs.Reading.{IsReading, HasDistinctClauses, end_fault_of};
@@ -21,6 +21,14 @@ pub fn read(alloc: Global, bytes: &[u8]) -> Result<Formula, ReadStop>
     ensures well_formed { IfOk result IsWellFormed }
     ensures distinct { IfOk result HasDistinctClauses }
 {
+    read_tokens(alloc, bytes)
+}
+
+// Runs the machine over the text's tokens.
+fn read_tokens(alloc: Global, bytes: &[u8]) -> Result<Formula, ReadStop>
+    ensures exact { IsReading (reading bytes.now) result }
+    ensures lawful { IfOk result HasLawfulPrefix }
+{
     let mut machine = start(alloc);
     let mut tokens = Tokens::new(bytes);
     while let Some(token) = tokens.next() {
@@ -39,7 +47,8 @@ pub fn read(alloc: Global, bytes: &[u8]) -> Result<Formula, ReadStop>
 // What the end of the text decides.
 fn finish(machine: Machine, last_line: u64) -> Result<Formula, ReadStop>
     requires { IsReady machine }
-    ensures { IsReading (on_line last_line (at_end (state_of machine))) result }
+    ensures exact { IsReading (on_line last_line (at_end (state_of machine))) result }
+    ensures lawful { IfOk result HasLawfulPrefix }
 {
     if let Some(name) = end_fault(&machine) {
         return Err(ReadStop::Refused {
@@ -49,6 +58,7 @@ fn finish(machine: Machine, last_line: u64) -> Result<Formula, ReadStop>
     }
     let Machine { mut formula, .. } = machine;
     formula.add_free()?;
+    formula.every_formula_is_lawful();
     Ok(formula)
 }
 
@@ -57,8 +67,12 @@ fn end_fault(machine: &Machine) -> Option<FormulaFault>
     ensures { result ≡ end_fault_of (at_end (state_of machine.now)) }
 {
     match machine.stage {
-        Stage::Header | Stage::Format | Stage::Variables | Stage::Clauses => Some(FormulaFault::NoHeader),
-        Stage::Part if (machine.formula.clauses() as u64) < machine.clauses => Some(FormulaFault::TooFewClauses),
+        Stage::Header | Stage::Format | Stage::Variables | Stage::Clauses => Some(
+            FormulaFault::NoHeader,
+        ),
+        Stage::Part if (machine.formula.clauses() as u64) < machine.clauses => Some(
+            FormulaFault::TooFewClauses,
+        ),
         Stage::Part => None,
         _ => Some(FormulaFault::MissingZero),
     }

@@ -130,7 +130,9 @@ fn take_dependency(machine: &mut Machine, x: u64) -> Result<(), Memory>
     ensures ready { OnOk result (IsReady machine.new) }
 {
     if x == 0 {
-        machine.formula.add_listed(machine.dependent, &machine.dependencies)?;
+        machine
+            .formula
+            .add_listed(machine.dependent, &machine.dependencies)?;
         machine.stage = Stage::Part;
         return Ok(());
     }

@@ -1,4 +1,4 @@
-use Rattle.std.proofs.Common.{◌≡◌, ◌==◌, ◌∷◌, ◌++◌, cond, not, [], refl, sym, ◌∙◌, ap, is_ok}
+use Rattle.std.proofs.Common.{◌==◌, ◌∷◌, ◌++◌, cond, not, [], sym, ◌∙◌, ap, is_ok}
 use Rattle.std.specs.List.{list_any}
 use Rattle.dqdimacs_reader.specs.Building.{add_literal}
 use Rattle.dqdimacs_reader.proofs.Keys.{adds_new}
@@ -15,7 +15,7 @@ returns-then-is_new-clause-ok c =
     ∙ ap (λ ls. ls ++ l ∷ []) c.in_ok-reserve.ensures.items
     ∙ ap (λ b. cond b (literals ++ l ∷ []) literals) (sym c.if-is_new.true)
     ∙ sym (adds_new l literals keys c.in_ok-is_new.is_new c.self.invariant
-      (c.in_ok-is_new.ensures.added ∙ ap (λ key. not (list_any (λ k. key == k) keys)) c.key_of.ensures))
+    (c.in_ok-is_new.ensures.added ∙ ap (λ key. not (list_any (λ k. key == k) keys)) c.key_of.ensures))
     ∙ ap (λ ls. add_literal ls l) c.self.view_is
 
 pub returns-else-is_new-clause-ok : goal.returns-else-is_new-clause-ok
@@ -26,5 +26,5 @@ returns-else-is_new-clause-ok c =
     c.in_ok-reserve.ensures.items
     ∙ ap (λ b. cond b (literals ++ l ∷ []) literals) (sym c.if-is_new.false)
     ∙ sym (adds_new l literals keys c.in_ok-is_new.is_new c.self.invariant
-      (c.in_ok-is_new.ensures.added ∙ ap (λ key. not (list_any (λ k. key == k) keys)) c.key_of.ensures))
+    (c.in_ok-is_new.ensures.added ∙ ap (λ key. not (list_any (λ k. key == k) keys)) c.key_of.ensures))
     ∙ ap (λ ls. add_literal ls l) c.self.view_is

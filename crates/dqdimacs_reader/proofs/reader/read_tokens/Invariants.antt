@@ -1,7 +1,7 @@
 use Rattle.std.proofs.Common.{◌≡◌, length}
 use Rattle.dqdimacs_reader.specs.Machine.{read_from}
 use Rattle.dqdimacs_reader.specs.MachineState.{state_of, IsReady}
-use Rattle.dqdimacs_reader.proofs.reader.read.Given as goal
+use Rattle.dqdimacs_reader.proofs.reader.read_tokens.Given as goal
 
 abbrev pub invariant-loop-token : goal.invariant-loop-token
 invariant-loop-token l = record {
