@@ -1,1 +1,2 @@
 pub mod KnownLists
+pub mod Places

@@ -1,3 +1,6 @@
 pub mod Causes
+pub mod Failures
 pub mod Files
+pub mod Memory
 pub mod Sinks
+pub mod Store
