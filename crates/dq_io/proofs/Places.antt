@@ -30,10 +30,12 @@ pub record Opens (files : List NamedBytes) (place : Option ℕ) (at_place : Opti
 opened_at : (files : List NamedBytes) (place : Option ℕ) (at_place : Option NamedBytes) → IsPlaceOf files place at_place → Opens files place at_place
 opened_at files None at_place is = record {
   found = ap (λ (file : Option NamedBytes). is_held (holding_of file)) (sym is);
-  rest = ap (λ (file : Option NamedBytes). bytes_of (holding_of file)) (sym is) }
+  rest = ap (λ (file : Option NamedBytes). bytes_of (holding_of file)) (sym is);
+}
 opened_at files (Some place) at_place is = record {
   found = ap (λ (file : Option NamedBytes). is_held (holding_of file)) (sym is.1);
-  rest = ap (λ (file : Option NamedBytes). bytes_of (holding_of file)) (sym is.1) }
+  rest = ap (λ (file : Option NamedBytes). bytes_of (holding_of file)) (sym is.1);
+}
 
 pub opened_by_name : (files : List NamedBytes) (name : List ℕ) (place : Option ℕ) → place ≡ position (λ file. bytes_eq file.name name) files → Opens files place (find (λ file. bytes_eq file.name name) files)
 opened_by_name files name place is = rw is (opened_at files _ _ (place_of_name files name))

@@ -21,4 +21,6 @@ mod reading;
 mod real;
 mod sinks;
 mod store;
+#[cfg(test)]
+mod tests;
 mod writing;

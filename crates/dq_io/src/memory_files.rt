@@ -37,9 +37,10 @@ impl MemFiles {
     pub fn new(alloc: Global, greatest: usize, failing: &[u64]) -> Result<MemFiles, Memory>
         requires { 1 ≤ greatest }
         ensures { IfOk result (λ m. m ≡ record {
-            greatest = greatest;
-            store = record { files = []; rest = []; given = 0 };
-            failures = record { failing = failing.now; calls = 0; faults = 0 } }) }
+          greatest = greatest;
+          store = record { files = []; rest = []; given = 0 };
+          failures = record { failing = failing.now; calls = 0; faults = 0 };
+        }) }
     {
         Ok(MemFiles {
             greatest,
@@ -50,8 +51,11 @@ impl MemFiles {
 
     /// Adds a file behind the others.
     pub fn hold(&mut self, name: &str, bytes: &[u8]) -> Result<(), Memory>
-        ensures ok { OnOk result (self.new ≡ record self.old { store = record self.old.store {
-            files = self.old.store.files ++ record { name = name.now; bytes = bytes.now } ∷ [] } }) }
+        ensures ok { OnOk result (self.new ≡ record self.old {
+          store = record self.old.store {
+            files = self.old.store.files ++ record { name = name.now; bytes = bytes.now } ∷ [];
+          };
+        }) }
         ensures err { OnErr result (self.new ≡ self.old) }
     {
         self.store.hold(name, bytes)
@@ -71,11 +75,13 @@ impl Files for MemFiles {
     fn pick(&mut self, name: &str) -> Result<(), Failed>
         ensures fails { is_err result ≡ (fails_next self.old.failures || not (is_held (held_in self.old.store.files name.now))) }
         ensures ok { OnOk result (self.new ≡ record self.old {
-            store = record self.old.store { rest = bytes_of (held_in self.old.store.files name.now); given = 0 };
-            failures = called self.old.failures }) }
+          store = record self.old.store { rest = bytes_of (held_in self.old.store.files name.now); given = 0 };
+          failures = called self.old.failures;
+        }) }
         ensures err { OnErr result (self.new ≡ record self.old {
-            store = record self.old.store { rest = []; given = 0 };
-            failures = faulted (called self.old.failures) }) }
+          store = record self.old.store { rest = []; given = 0 };
+          failures = faulted (called self.old.failures);
+        }) }
         ensures cause { HasCause self.old.failures.faults self.new.failures.faults result }
     {
         if self.failures.call() {
@@ -95,8 +101,9 @@ impl Files for MemFiles {
         ensures count { IfOk result (λ n. n ≡ min self.old.greatest (min (length self.old.store.rest) (length buf.old))) }
         ensures moved { IfOk result (λ n. buf.new ≡ take n self.old.store.rest ++ drop n buf.old) }
         ensures ok { IfOk result (λ n. self.new ≡ record self.old {
-            store = record self.old.store { rest = drop n self.old.store.rest; given = self.old.store.given + n };
-            failures = called self.old.failures }) }
+          store = record self.old.store { rest = drop n self.old.store.rest; given = self.old.store.given + n };
+          failures = called self.old.failures;
+        }) }
         ensures err { OnErr result (self.new ≡ record self.old { failures = faulted (called self.old.failures) }) }
         ensures err_buffer { OnErr result (buf.new ≡ buf.old) }
         ensures end { IfOk result (λ n. n ≡ 0 → 0 < length buf.new → self.old.store.rest ≡ []) }

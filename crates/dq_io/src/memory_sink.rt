@@ -35,9 +35,10 @@ impl MemSink {
     pub fn new(alloc: Global, greatest: usize, failing: &[u64]) -> Result<MemSink, Memory>
         requires { 1 ≤ greatest }
         ensures { IfOk result (λ s. s ≡ record {
-            greatest = greatest;
-            taken = [];
-            failures = record { failing = failing.now; calls = 0; faults = 0 } }) }
+          greatest = greatest;
+          taken = [];
+          failures = record { failing = failing.now; calls = 0; faults = 0 };
+        }) }
     {
         Ok(MemSink {
             greatest,
@@ -65,8 +66,9 @@ impl Sink for MemSink {
         ensures fails { fails_next self.old.failures ≡ true → IsErr result }
         ensures count { IfOk result (λ n. n ≡ min self.old.greatest (length bytes.now)) }
         ensures ok { IfOk result (λ n. self.new ≡ record self.old {
-            taken = self.old.taken ++ take n bytes.now;
-            failures = called self.old.failures }) }
+          taken = self.old.taken ++ take n bytes.now;
+          failures = called self.old.failures;
+        }) }
         ensures err { OnErr result (self.new ≡ record self.old { failures = faulted (called self.old.failures) }) }
         ensures some { IfOk result (λ n. 0 < length bytes.now → 0 < n) }
         ensures cause { HasCause self.old.failures.faults self.new.failures.faults result }

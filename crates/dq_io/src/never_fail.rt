@@ -38,7 +38,8 @@ impl NeverFailFiles {
     /// Adds a file behind the others.
     pub fn hold(&mut self, name: &str, bytes: &[u8]) -> Result<(), Memory>
         ensures ok { OnOk result (self.new ≡ record self.old {
-            files = self.old.files ++ record { name = name.now; bytes = bytes.now } ∷ [] }) }
+          files = self.old.files ++ record { name = name.now; bytes = bytes.now } ∷ [];
+        }) }
         ensures err { OnErr result (self.new ≡ self.old) }
     {
         self.store.hold(name, bytes)

@@ -1,7 +1,7 @@
 // The trusted edge: files and the output of the system that the program runs on. It tells nothing of
 // what they hold, and counts every error.
-ghost use Rattle.std.specs.Prelude.{◌≡◌, ◌≤◌, ℕ, length, IfOk, None};
-ghost use Rattle.dq_io.specs.Causes.{next_count};
+ghost use Rattle.std.specs.Prelude.{◌≡◌, ◌+◌, ◌<◌, ◌≤◌, ℕ, length, IfOk, OnOk, OnErr, None};
+ghost use Rattle.dq_io.specs.Causes.{HasCause, next_count};
 ghost use Rattle.dq_io.specs.Files.{Untold};
 
 use crate::errors::Failed;
@@ -59,7 +59,11 @@ impl<R: rt::Files> Files for RealFiles<R> {
 
     ghost faults = { λ f. f.faults };
 
-    fn pick(&mut self, name: &str) -> Result<(), Failed> {
+    fn pick(&mut self, name: &str) -> Result<(), Failed>
+        ensures ok { OnOk result (self.new ≡ record self.old { given = 0 }) }
+        ensures err { OnErr result (self.new ≡ record { given = 0; faults = next_count self.old.faults }) }
+        ensures cause { HasCause self.old.faults self.new.faults result }
+    {
         self.file = None;
         self.given = 0;
         match fs::open(&self.runtime, name) {
@@ -72,7 +76,12 @@ impl<R: rt::Files> Files for RealFiles<R> {
     }
 
     /// It fails too where the count of the bytes given would overflow.
-    fn read(&mut self, buf: &mut [u8]) -> Result<usize, Failed> {
+    fn read(&mut self, buf: &mut [u8]) -> Result<usize, Failed>
+        ensures bound { IfOk result (λ n. n ≤ length buf.new) }
+        ensures ok { IfOk result (λ n. self.new ≡ record self.old { given = self.old.given + n }) }
+        ensures err { OnErr result (self.new ≡ record self.old { faults = next_count self.old.faults }) }
+        ensures cause { HasCause self.old.faults self.new.faults result }
+    {
         let Some(file) = &mut self.file else {
             return Ok(0);
         };
@@ -126,7 +135,13 @@ impl<R: Print> Sink for RealSink<R> {
     ghost faults = { λ s. s };
 
     /// A write that takes nothing of a piece that isn't empty is a fault.
-    fn write(&mut self, bytes: &[u8]) -> Result<usize, Failed> {
+    fn write(&mut self, bytes: &[u8]) -> Result<usize, Failed>
+        ensures bound { IfOk result (λ n. n ≤ length bytes.now) }
+        ensures some { IfOk result (λ n. 0 < length bytes.now → 0 < n) }
+        ensures ok { OnOk result (self.new ≡ self.old) }
+        ensures err { OnErr result (self.new ≡ next_count self.old) }
+        ensures cause { HasCause self.old self.new result }
+    {
         let Ok(count) = write_and_flush(&self.runtime, bytes) else {
             return Err(count_fault(&mut self.faults));
         };
@@ -134,5 +149,25 @@ impl<R: Print> Sink for RealSink<R> {
             return Err(count_fault(&mut self.faults));
         }
         Ok(count)
+    }
+}
+
+#[cfg(test)]
+mod tests {
+    use super::*;
+
+    #[test]
+    fn errors_are_counted(rt: HostRuntime) {
+        let mut files = RealFiles::new(&rt);
+        let mut byte = [0; 1];
+        assert_eq!(rt; files.read(&mut byte), Ok(0));
+        assert_eq!(rt; files.faults, 0);
+        assert_eq!(rt; files.pick("no such folder/no such file"), Err(Failed));
+        assert_eq!(rt; files.faults, 1);
+
+        let mut sink = RealSink::new(&rt);
+        assert_eq!(rt; sink.write(b""), Ok(0));
+        assert!(rt; sink.write(b"written\n").is_ok());
+        assert_eq!(rt; sink.faults, 0);
     }
 }
