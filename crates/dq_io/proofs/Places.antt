@@ -1,14 +1,14 @@
 -- The first file of a name, by its place.
 use Rattle.std.proofs.Common.{◌≡◌, ℕ, ◌<◌, ◌≤◌, Bool, true, false, cond, nat_lt, List, [], length, find, position, bytes_eq, is_some, Option, Some, None, refl, sym, ◌∙◌, ap, arith, rules, tests}
-use Rattle.std.specs.List.{slice_get, slice_index_or, position_or_len}
+use Rattle.std.specs.List.{slice_get, position_or_len}
 use Rattle.std.proofs.lemmas.List.Folds.{find_at}
 use Rattle.std.proofs.lemmas.Option.{slice_get-get_or, slice_get_past}
-use Rattle.dq_io.specs.Store.{NamedBytes, holding_of, is_held, bytes_of, rest_from}
+use Rattle.dq_io.specs.Store.{NamedBytes, file_at, holding_of, is_held, bytes_of, rest_from}
 
 -- the place of an element, if there is one
 abbrev pub IsPlaceOf : List NamedBytes → Option ℕ → Option NamedBytes → Type 0
 IsPlaceOf files None found = found ≡ None
-IsPlaceOf files (Some place) found = (place < length files) × (found ≡ Some (slice_index_or files place (record { name = []; bytes = [] })))
+IsPlaceOf files (Some place) found = (place < length files) × (found ≡ Some (file_at files place))
 
 place_of_front : (files : List NamedBytes) (m : ℕ) (found : Option NamedBytes) (b : Bool) → (b ≡ true → m < length files) → (b ≡ false → length files ≤ m) → found ≡ slice_get files m → IsPlaceOf files (cond b (Some m) None) found
 place_of_front files m found true inside past is =

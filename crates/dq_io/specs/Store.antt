@@ -22,19 +22,25 @@ held_in files name = holding_of (find (λ file. bytes_eq file.name name) files)
 
 abbrev pub is_held : Holding → Bool
 is_held (Holds bytes) = true
-is_held _ = false
+is_held Absent = false
+is_held Untold = false
 
 -- the bytes of a file, and none where there is no file
 abbrev pub bytes_of : Holding → List ℕ
 bytes_of (Holds bytes) = bytes
-bytes_of _ = []
+bytes_of Absent = []
+bytes_of Untold = []
+
+-- the file at a place of the list, and an empty one past its end
+abbrev pub file_at : List NamedBytes → ℕ → NamedBytes
+file_at files place = slice_index_or files place (record { name = []; bytes = [] })
 
 -- the open file stands at a place of the list, and no more of its bytes were read than it has
 abbrev pub IsOpenAt : List NamedBytes → Option ℕ → ℕ → Type 0
 IsOpenAt files None given = given ≡ 0
-IsOpenAt files (Some place) given = (place < length files) × (given ≤ length (slice_index_or files place (record { name = []; bytes = [] })).bytes)
+IsOpenAt files (Some place) given = (place < length files) × (given ≤ length (file_at files place).bytes)
 
 -- what is left of the open file
 abbrev pub rest_from : List NamedBytes → Option ℕ → ℕ → List ℕ
 rest_from files None given = []
-rest_from files (Some place) given = drop given (slice_index_or files place (record { name = []; bytes = [] })).bytes
+rest_from files (Some place) given = drop given (file_at files place).bytes

@@ -6,7 +6,8 @@ use dq_lits::Memory;
 use std::alloc::Global;
 use std::marker::Model;
 
-/// Counts calls and faults, and knows which calls are to fail. Both counts stay at their last value.
+/// Counts calls and faults, and knows which calls are to fail. Both counts stay at their last
+/// value.
 #[derive(Debug, Drop)]
 pub struct Failures {
     failing: Vec<u64>,

@@ -33,8 +33,10 @@ pub trait Files {
     /// none only where nothing is left or the buffer is empty.
     fn read(&mut self, buf: &mut [u8]) -> Result<usize, Failed>
         ensures bound { IfOk result (λ n. n ≤ length buf.new) }
-        ensures moved { IfOk result (λ n. prepend_known (take n buf.new) (rest self.new) ≡ rest self.old) }
-        ensures kept { IfOk result (λ n. IfSome (rest self.old) (λ _. drop n buf.new ≡ drop n buf.old)) }
+        ensures moved { IfOk result (λ n.
+            prepend_known (take n buf.new) (rest self.new) ≡ rest self.old) }
+        ensures kept { IfOk result (λ n.
+            IfSome (rest self.old) (λ _. drop n buf.new ≡ drop n buf.old)) }
         ensures end { IfOk result (λ n. n ≡ 0 → 0 < length buf.new → IsAtEnd (rest self.old)) }
         ensures given { IfOk result (λ n. given self.new ≡ given self.old + n) }
         ensures err_rest { OnErr result (rest self.new ≡ rest self.old) }

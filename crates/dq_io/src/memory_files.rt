@@ -11,8 +11,8 @@ use dq_lits::Memory;
 use std::alloc::Global;
 use std::marker::Model;
 
-/// Files in memory, for tests: it tells what it holds, gives at most so many bytes a read, and fails
-/// at the calls of given numbers. Of several files of one name the first counts.
+/// Files in memory, for tests: they tell what is held, give at most so many bytes a read, and fail at
+/// the calls of given numbers. Of several files of one name the first counts.
 #[derive(Debug, Drop)]
 pub struct MemFiles {
     greatest: usize,
@@ -32,8 +32,8 @@ impl Model for MemFiles {
 }
 
 impl MemFiles {
-    /// No files, of which one read gives at most `greatest` bytes. The calls of `pick` and `read` are
-    /// counted together, from 1 on, and those whose numbers stand in `failing` are to fail.
+    /// No files. A read gives at most `greatest` bytes. The calls of `pick` and `read` are counted
+    /// together, from 1 on, and those whose numbers stand in `failing` are to fail.
     pub fn new(alloc: Global, greatest: usize, failing: &[u64]) -> Result<MemFiles, Memory>
         requires { 1 ≤ greatest }
         ensures { IfOk result (λ m. m ≡ record {
@@ -73,9 +73,13 @@ impl Files for MemFiles {
 
     /// It fails where the call's number is among those that are to fail, or the name isn't held.
     fn pick(&mut self, name: &str) -> Result<(), Failed>
-        ensures fails { is_err result ≡ (fails_next self.old.failures || not (is_held (held_in self.old.store.files name.now))) }
+        ensures fails { is_err result
+            ≡ (fails_next self.old.failures || not (is_held (held_in self.old.store.files name.now))) }
         ensures ok { OnOk result (self.new ≡ record self.old {
-          store = record self.old.store { rest = bytes_of (held_in self.old.store.files name.now); given = 0 };
+          store = record self.old.store {
+            rest = bytes_of (held_in self.old.store.files name.now);
+            given = 0;
+          };
           failures = called self.old.failures;
         }) }
         ensures err { OnErr result (self.new ≡ record self.old {
@@ -98,15 +102,22 @@ impl Files for MemFiles {
     /// as there are and as fit, but at most the greatest size.
     fn read(&mut self, buf: &mut [u8]) -> Result<usize, Failed>
         ensures fails { is_err result ≡ fails_next self.old.failures }
-        ensures count { IfOk result (λ n. n ≡ min self.old.greatest (min (length self.old.store.rest) (length buf.old))) }
-        ensures moved { IfOk result (λ n. buf.new ≡ take n self.old.store.rest ++ drop n buf.old) }
+        ensures count { IfOk result (λ n.
+            n ≡ min self.old.greatest (min (length self.old.store.rest) (length buf.old))) }
+        ensures moved { IfOk result (λ n.
+            buf.new ≡ take n self.old.store.rest ++ drop n buf.old) }
         ensures ok { IfOk result (λ n. self.new ≡ record self.old {
-          store = record self.old.store { rest = drop n self.old.store.rest; given = self.old.store.given + n };
+          store = record self.old.store {
+            rest = drop n self.old.store.rest;
+            given = self.old.store.given + n;
+          };
           failures = called self.old.failures;
         }) }
-        ensures err { OnErr result (self.new ≡ record self.old { failures = faulted (called self.old.failures) }) }
+        ensures err { OnErr result
+            (self.new ≡ record self.old { failures = faulted (called self.old.failures) }) }
         ensures err_buffer { OnErr result (buf.new ≡ buf.old) }
-        ensures end { IfOk result (λ n. n ≡ 0 → 0 < length buf.new → self.old.store.rest ≡ []) }
+        ensures end { IfOk result (λ n.
+            n ≡ 0 → 0 < length buf.new → self.old.store.rest ≡ []) }
         ensures cause { HasCause self.old.failures.faults self.new.failures.faults result }
     {
         if self.failures.call() {

@@ -9,8 +9,8 @@ use dq_lits::Memory;
 use std::alloc::Global;
 use std::marker::Model;
 
-/// A sink in memory, for tests: it tells what it took, takes at most so many bytes a write, and fails
-/// at the calls of given numbers, and where there is no memory for more bytes.
+/// A sink in memory, for tests: it tells what it took, takes at most so many bytes a write, and
+/// fails at the calls of given numbers, and where there is no memory for more bytes.
 #[derive(Debug, Drop)]
 pub struct MemSink {
     greatest: usize,
@@ -24,14 +24,18 @@ impl Model for MemSink {
 
     ghost Value = { MemorySink };
 
-    ghost view = { λ s. record { greatest = s.greatest; taken = s.taken.items; failures = s.failures } };
+    ghost view = { λ s. record {
+      greatest = s.greatest;
+      taken = s.taken.items;
+      failures = s.failures;
+    } };
 
     ghost invariant = { λ s. 1 ≤ s.greatest };
 }
 
 impl MemSink {
-    /// A sink that took nothing yet and takes at most `greatest` bytes a write. The calls of `write`
-    /// are counted from 1 on, and those whose numbers stand in `failing` are to fail.
+    /// A sink that took nothing yet. A write takes at most `greatest` bytes. The calls of `write` are
+    /// counted from 1 on, and those whose numbers stand in `failing` are to fail.
     pub fn new(alloc: Global, greatest: usize, failing: &[u64]) -> Result<MemSink, Memory>
         requires { 1 ≤ greatest }
         ensures { IfOk result (λ s. s ≡ record {
@@ -69,7 +73,8 @@ impl Sink for MemSink {
           taken = self.old.taken ++ take n bytes.now;
           failures = called self.old.failures;
         }) }
-        ensures err { OnErr result (self.new ≡ record self.old { failures = faulted (called self.old.failures) }) }
+        ensures err { OnErr result
+            (self.new ≡ record self.old { failures = faulted (called self.old.failures) }) }
         ensures some { IfOk result (λ n. 0 < length bytes.now → 0 < n) }
         ensures cause { HasCause self.old.failures.faults self.new.failures.faults result }
     {

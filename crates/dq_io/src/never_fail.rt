@@ -10,8 +10,8 @@ use dq_lits::Memory;
 use std::alloc::Global;
 use std::marker::Model;
 
-/// Files in memory that never fail: a name that wasn't given opens as an empty file. Of several files
-/// of one name the first counts.
+/// Files in memory that never fail: a name that wasn't given opens as an empty file. Of several
+/// files of one name the first counts.
 #[derive(Debug, Drop)]
 pub struct NeverFailFiles {
     store: FileStore,
@@ -57,7 +57,10 @@ impl Files for NeverFailFiles {
 
     fn pick(&mut self, name: &str) -> Result<(), Failed>
         ensures never { IsOk result }
-        ensures after { self.new ≡ record self.old { rest = bytes_of (held_in self.old.files name.now); given = 0 } }
+        ensures after { self.new ≡ record self.old {
+          rest = bytes_of (held_in self.old.files name.now);
+          given = 0;
+        } }
     {
         let _held = self.store.open(name);
         Ok(())
@@ -68,7 +71,10 @@ impl Files for NeverFailFiles {
         ensures never { IsOk result }
         ensures count { IfOk result (λ n. n ≡ min (length self.old.rest) (length buf.old)) }
         ensures moved { IfOk result (λ n. buf.new ≡ take n self.old.rest ++ drop n buf.old) }
-        ensures after { IfOk result (λ n. self.new ≡ record self.old { rest = drop n self.old.rest; given = self.old.given + n }) }
+        ensures after { IfOk result (λ n. self.new ≡ record self.old {
+          rest = drop n self.old.rest;
+          given = self.old.given + n;
+        }) }
     {
         let room = buf.len();
         Ok(self.store.read(buf, room))
@@ -80,7 +86,9 @@ impl Files for NeverFailFiles {
 pub struct NeverFailSink;
 
 impl NeverFailSink {
-    pub fn new() -> NeverFailSink {
+    pub fn new() -> NeverFailSink
+        ensures { result ≡ record {} }
+    {
         NeverFailSink
     }
 }

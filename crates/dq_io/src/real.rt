@@ -61,7 +61,8 @@ impl<R: rt::Files> Files for RealFiles<R> {
 
     fn pick(&mut self, name: &str) -> Result<(), Failed>
         ensures ok { OnOk result (self.new ≡ record self.old { given = 0 }) }
-        ensures err { OnErr result (self.new ≡ record { given = 0; faults = next_count self.old.faults }) }
+        ensures err { OnErr result
+            (self.new ≡ record { given = 0; faults = next_count self.old.faults }) }
         ensures cause { HasCause self.old.faults self.new.faults result }
     {
         self.file = None;
@@ -78,8 +79,10 @@ impl<R: rt::Files> Files for RealFiles<R> {
     /// It fails too where the count of the bytes given would overflow.
     fn read(&mut self, buf: &mut [u8]) -> Result<usize, Failed>
         ensures bound { IfOk result (λ n. n ≤ length buf.new) }
-        ensures ok { IfOk result (λ n. self.new ≡ record self.old { given = self.old.given + n }) }
-        ensures err { OnErr result (self.new ≡ record self.old { faults = next_count self.old.faults }) }
+        ensures ok { IfOk result (λ n.
+            self.new ≡ record self.old { given = self.old.given + n }) }
+        ensures err { OnErr result
+            (self.new ≡ record self.old { faults = next_count self.old.faults }) }
         ensures cause { HasCause self.old.faults self.new.faults result }
     {
         let Some(file) = &mut self.file else {

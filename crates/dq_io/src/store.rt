@@ -56,7 +56,7 @@ fn place_of(files: &[NamedFile], name: &str) -> Option<usize>
 pub struct FileStore {
     alloc: Global,
     files: Vec<NamedFile>,
-    open: Option<usize>,
+    place: Option<usize>,
     given: usize,
 }
 
@@ -65,9 +65,13 @@ impl Model for FileStore {
 
     ghost Value = { StoredFiles };
 
-    ghost view = { λ s. record { files = s.files.items; rest = rest_from s.files.items s.open s.given; given = s.given } };
+    ghost view = { λ s. record {
+      files = s.files.items;
+      rest = rest_from s.files.items s.place s.given;
+      given = s.given;
+    } };
 
-    ghost invariant = { λ s. IsOpenAt s.files.items s.open s.given };
+    ghost invariant = { λ s. IsOpenAt s.files.items s.place s.given };
 }
 
 impl FileStore {
@@ -78,14 +82,16 @@ impl FileStore {
         FileStore {
             alloc,
             files: Vec::new(alloc),
-            open: None,
+            place: None,
             given: 0,
         }
     }
 
     /// Adds a file behind the others.
     pub fn hold(&mut self, name: &str, bytes: &[u8]) -> Result<(), Memory>
-        ensures ok { OnOk result (self.new ≡ record self.old { files = self.old.files ++ record { name = name.now; bytes = bytes.now } ∷ [] }) }
+        ensures ok { OnOk result (self.new ≡ record self.old {
+          files = self.old.files ++ record { name = name.now; bytes = bytes.now } ∷ [];
+        }) }
         ensures err { OnErr result (self.new ≡ self.old) }
     {
         let file = NamedFile::new(self.alloc, name, bytes)?;
@@ -96,18 +102,21 @@ impl FileStore {
     /// Opens the first file of that name, at its front, and says whether there is one.
     pub fn open(&mut self, name: &str) -> bool
         ensures found { result ≡ is_held (held_in self.old.files name.now) }
-        ensures opened { self.new ≡ record self.old { rest = bytes_of (held_in self.old.files name.now); given = 0 } }
+        ensures opened { self.new ≡ record self.old {
+          rest = bytes_of (held_in self.old.files name.now);
+          given = 0;
+        } }
     {
-        self.open = place_of(&self.files, name);
+        self.place = place_of(&self.files, name);
         self.given = 0;
-        self.open.is_some()
+        self.place.is_some()
     }
 
     /// No file is open from then on.
     pub fn close(&mut self)
         ensures { self.new ≡ record self.old { rest = []; given = 0 } }
     {
-        self.open = None;
+        self.place = None;
         self.given = 0;
     }
 
@@ -116,7 +125,7 @@ impl FileStore {
         ensures rest { result.now ≡ self.now.rest }
         ensures fits { self.now.given + length result.now < 2 ^ 64 }
     {
-        match self.open {
+        match self.place {
             Some(place) => &self.files[place].bytes()[self.given..],
             None => &[],
         }
@@ -126,7 +135,10 @@ impl FileStore {
     pub fn read(&mut self, buf: &mut [u8], most: usize) -> usize
         ensures count { result ≡ min most (min (length self.old.rest) (length buf.old)) }
         ensures moved { buf.new ≡ take result self.old.rest ++ drop result buf.old }
-        ensures after { self.new ≡ record self.old { rest = drop result self.old.rest; given = self.old.given + result } }
+        ensures after { self.new ≡ record self.old {
+          rest = drop result self.old.rest;
+          given = self.old.given + result;
+        } }
     {
         let rest = self.rest();
         let count = most.min(rest.len().min(buf.len()));

@@ -23,10 +23,12 @@ fn join<F: Files, K: Sink>(
     ensures sink { result ≡ 4 → Rose (K.faults out.old) (K.faults out.new) }
     ensures longer { result ≡ 6 → limit < F.given files.new }
     ensures absent { F.held files.old first.now ≡ Absent → result ≡ 3 }
-    ensures due { (a b taken : List ℕ) → F.held files.old first.now ≡ Holds a → F.held files.old second.now ≡ Holds b
-        → K.taken out.old ≡ Some taken → result ≡ 0 → K.taken out.new ≡ Some (taken ++ a ++ b) }
-    ensures ends { (a b : List ℕ) → F.held files.old first.now ≡ Holds a → F.held files.old second.now ≡ Holds b
-        → length a ≤ limit → length b ≤ limit → result ≢ 6 }
+    ensures due { (a b taken : List ℕ) →
+        F.held files.old first.now ≡ Holds a → F.held files.old second.now ≡ Holds b →
+        K.taken out.old ≡ Some taken → result ≡ 0 → K.taken out.new ≡ Some (taken ++ a ++ b) }
+    ensures ends { (a b : List ℕ) →
+        F.held files.old first.now ≡ Holds a → F.held files.old second.now ≡ Holds b →
+        length a ≤ limit → length b ≤ limit → result ≢ 6 }
 {
     let a = match read_all(alloc, files, first, limit) {
         Ok(bytes) => bytes,
