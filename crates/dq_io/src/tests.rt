@@ -5,6 +5,7 @@ ghost use Rattle.dq_io.specs.Files.{Absent, Holds};
 use crate::{
     Files, MemFiles, MemSink, NeverFailFiles, NeverFailSink, ReadStop, Sink, read_all, write_all,
 };
+use dq_lits::Memory;
 use std::alloc::Global;
 use std::test::Fail;
 
@@ -51,36 +52,41 @@ fn join<F: Files, K: Sink>(
     0
 }
 
-// Bytes held, the limit, the greatest size of a read, the calls that fail, and what is read.
+// The bytes of a file, the greatest size of a read, the numbers of the calls that fail, the limit, and
+// what is read.
 type Reading = (
     &'static str,
-    u64,
     usize,
     &'static [u64],
+    u64,
     Result<&'static str, ReadStop>,
 );
+
+fn is_read_as_due(alloc: Global, reading: Reading) -> Result<bool, Memory> {
+    let (held, greatest, failing, limit, due) = reading;
+    let mut files = MemFiles::new(alloc, greatest.max(1), failing)?;
+    files.hold("name", held.as_bytes())?;
+    files.hold("name", b"a later file of the name")?;
+    Ok(match (read_all(alloc, &mut files, "name", limit), due) {
+        (Ok(bytes), Ok(text)) => bytes.as_slice() == text.as_bytes(),
+        (Err(stop), Err(cause)) => stop == cause,
+        _ => false,
+    })
+}
 
 #[test]
 fn a_file_is_read_to_its_end(rt: HostRuntime) -> Result<(), Fail> {
     let readings: [Reading; 7] = [
-        ("abc", 3, 64, &[], Ok("abc")),
-        ("abcd", 3, 64, &[], Err(ReadStop::TooLong)),
-        ("abcd", 4, 1, &[], Ok("abcd")),
-        ("abcd", 3, 1, &[], Err(ReadStop::TooLong)),
-        ("", 0, 64, &[], Ok("")),
-        ("abcd", 4, 2, &[3], Err(ReadStop::Fault)),
-        ("abcd", 4, 2, &[1], Err(ReadStop::Fault)),
+        ("abc", 64, &[], 3, Ok("abc")),
+        ("abcd", 64, &[], 3, Err(ReadStop::TooLong)),
+        ("abcd", 1, &[], 4, Ok("abcd")),
+        ("abcd", 1, &[], 3, Err(ReadStop::TooLong)),
+        ("", 64, &[], 0, Ok("")),
+        ("abcd", 2, &[3], 4, Err(ReadStop::Fault)),
+        ("abcd", 2, &[1], 4, Err(ReadStop::Fault)),
     ];
-    for (held, limit, greatest, failing, due) in readings {
-        assert!(rt; greatest > 0);
-        let mut files = MemFiles::new(rt.alloc(), greatest, failing)?;
-        files.hold("f", held.as_bytes())?;
-        files.hold("f", b"a later file of the name")?;
-        match (read_all(rt.alloc(), &mut files, "f", limit), due) {
-            (Ok(bytes), Ok(text)) => assert_eq!(rt; bytes.as_slice(), text.as_bytes()),
-            (Err(stop), Err(cause)) => assert_eq!(rt; stop, cause),
-            _ => panic!(rt; "{held} within {limit}"),
-        }
+    for reading in readings {
+        assert!(rt; is_read_as_due(rt.alloc(), reading)?, "{reading:?}");
     }
     let mut files = NeverFailFiles::new(rt.alloc());
     files.hold("a", b"one, ")?;
