@@ -1,0 +1,2 @@
+pub mod KnownLists
+pub mod Places
