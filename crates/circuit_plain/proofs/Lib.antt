@@ -1,0 +1,3 @@
+pub mod EvaluationLaws
+pub mod NetlistLaws
+pub mod ValueLaws

@@ -1,0 +1,6 @@
+pub mod Evaluation
+pub mod Ground
+pub mod Netlist
+pub mod Order
+pub mod Reach
+pub mod Value
