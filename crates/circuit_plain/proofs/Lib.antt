@@ -1,3 +1,4 @@
 pub mod EvaluationLaws
 pub mod NetlistLaws
+pub mod ReachLaws
 pub mod ValueLaws

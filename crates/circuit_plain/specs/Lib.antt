@@ -1,5 +1,6 @@
 pub mod Evaluation
 pub mod Ground
+pub mod Marking
 pub mod Netlist
 pub mod Order
 pub mod Reach

@@ -1,5 +1,6 @@
 ghost use Rattle.std.specs.Prelude.{◌≡◌, ◌+◌, ◌<◌, ◌≤◌, ◌↔◌, ℕ, true, false, length, replicate, slice_index, slice_set, IsTrue};
 ghost use Rattle.dq_lits.specs.Row.{bit_of};
+ghost use Rattle.circuit_plain.specs.Marking.{MarksReach};
 ghost use Rattle.circuit_plain.specs.Netlist.{literal_variable};
 ghost use Rattle.circuit_plain.specs.Order.{IsOrder};
 ghost use Rattle.circuit_plain.specs.Reach.{Reaches};
@@ -19,7 +20,7 @@ impl Circuit {
         ensures same_length { length marks.new ≡ length marks.old }
         ensures reached {
             let root = literal_variable (slice_index self.now.outputs out) in
-            (v : ℕ) → v ≤ self.now.max_var → IsTrue (bit_of marks.new v) ↔ Reaches self.now root v
+            (v : ℕ) → IsTrue (bit_of marks.new v) ↔ Reaches self.now root v
         }
     {
         let root = (self.outputs[out] / 2) as usize;
@@ -33,10 +34,7 @@ impl Circuit {
         requires ordered { IsOrder self.now order.now }
         requires a_place_a_variable { length marks.old ≡ self.now.max_var + 1 }
         ensures same_length { length marks.new ≡ length marks.old }
-        ensures reached {
-            (root : ℕ) → root ≤ self.now.max_var → marks.old ≡ slice_set (replicate (length marks.old) false) root true
-                → (v : ℕ) → v ≤ self.now.max_var → IsTrue (bit_of marks.new v) ↔ Reaches self.now root v
-        }
+        ensures reached { MarksReach self.now (bit_of marks.old) (bit_of marks.new) }
     {
         let places = order.places();
         for i in (0..places.len()).rev() {
