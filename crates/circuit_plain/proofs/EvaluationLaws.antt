@@ -66,7 +66,7 @@ settled_take net places n v settled =
     | inr (inr among) ↦ inr (inr (Contains-take (λ q. variable_of_gate (gate_at net q)) places n v among)) ]
 
 -- one more settled gate
-settled_cases : (net : Netlist) (places : List ℕ) (p v : ℕ) → IsSettled net (places ++ p ∷ []) v
+pub settled_cases : (net : Netlist) (places : List ℕ) (p v : ℕ) → IsSettled net (places ++ p ∷ []) v
   → IsSettled net places v ⊎ ((gate_at net p).variable ≡ v)
 settled_cases net places p v settled =
     elim settled [

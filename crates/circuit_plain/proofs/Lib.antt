@@ -1,4 +1,5 @@
 pub mod EvaluationLaws
 pub mod NetlistLaws
+pub mod OrderLaws
 pub mod ReachLaws
 pub mod ValueLaws

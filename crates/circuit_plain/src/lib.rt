@@ -2,10 +2,11 @@
 #![tactic(auto)]
 
 pub use circuits::{Circuit, Gate};
-pub use orders::Order;
+pub use orders::{Order, OrderStop};
 pub use values::literal_bit;
 
 mod circuits;
 mod cones;
+pub mod laws;
 mod orders;
 mod values;
