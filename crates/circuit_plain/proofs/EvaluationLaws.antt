@@ -142,7 +142,7 @@ write_gate net order places gates old values new n g bit kept ordered same_place
     }
 
 -- an element of a list, by a function of it
-Contains-map : (f : ℕ → ℕ) (xs : List ℕ) (x y : ℕ) → Contains xs x → f x ≡ y → Contains (map f xs) y
+pub Contains-map : (f : ℕ → ℕ) (xs : List ℕ) (x y : ℕ) → Contains xs x → f x ≡ y → Contains (map f xs) y
 Contains-map f xs x y (k, k_in, is) e =
     (k, rw length-map k_in, get_or-map f xs k x y k_in ∙ (ap f is ∙ e))
 

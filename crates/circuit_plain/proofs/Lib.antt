@@ -2,4 +2,5 @@ pub mod EvaluationLaws
 pub mod NetlistLaws
 pub mod OrderLaws
 pub mod ReachLaws
+pub mod SortingLaws
 pub mod ValueLaws

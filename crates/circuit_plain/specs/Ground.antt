@@ -1,7 +1,7 @@
 -- The gates that can be evaluated, by AIGER's rule that a netlist has no cycle.
-use Rattle.std.specs.Prelude.{ℕ, Contains}
+use Rattle.std.specs.Prelude.{ℕ, ◌<◌, length, Contains}
 use Rattle.circuit_plain.specs.declared.circuits.Gate.{Gate}
-use Rattle.circuit_plain.specs.Netlist.{Netlist, literal_variable}
+use Rattle.circuit_plain.specs.Netlist.{Netlist, gate_at, literal_variable}
 
 -- the least set of variables that holds the constant, the inputs, and a gate as soon as it holds both its sides
 pub data IsGrounded (net : Netlist) : ℕ → Type 0 where
@@ -9,3 +9,9 @@ pub data IsGrounded (net : Netlist) : ℕ → Type 0 where
   input : {v : ℕ} → Contains net.inputs v → IsGrounded net v
   gate : (g : Gate) → Contains net.gates g → IsGrounded net (literal_variable g.left)
     → IsGrounded net (literal_variable g.right) → IsGrounded net g.variable
+
+-- the gate at this place is the first outside the least set
+pub record IsFirstUngrounded (net : Netlist) (place : ℕ) : Type 0 where
+  pub in_range : place < length net.gates
+  pub outside : ¬ IsGrounded net (gate_at net place).variable
+  pub first : (p : ℕ) → p < place → IsGrounded net (gate_at net p).variable

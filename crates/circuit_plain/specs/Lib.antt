@@ -4,4 +4,5 @@ pub mod Marking
 pub mod Netlist
 pub mod Order
 pub mod Reach
+pub mod Sorting
 pub mod Value

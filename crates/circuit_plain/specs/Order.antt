@@ -23,12 +23,3 @@ pub record IsOrder (net : Netlist) (order : List ℕ) : Type 0 where
 -- with an order every input and gate is in the least set
 abbrev pub OrdersGround : Type 0
 OrdersGround = (net : Netlist) (order : List ℕ) (v : ℕ) → IsOrder net order → IsDefined net v → IsGrounded net v
-
--- the variable is the constant, an input, or a gate at a place before this one
-abbrev pub IsBefore : Netlist → ℕ → ℕ → Type 0
-IsBefore net n v = (v ≡ 0) ⊎ (Contains net.inputs v ⊎ ((p : ℕ) × (p < n) × ((gate_at net p).variable ≡ v)))
-
--- each right side is a constant, an input or a gate at an earlier place
-abbrev pub IsFileOrdered : Netlist → Type 0
-IsFileOrdered net = (p : ℕ) → p < length net.gates
-    → IsBefore net p (literal_variable (gate_at net p).left) × IsBefore net p (literal_variable (gate_at net p).right)

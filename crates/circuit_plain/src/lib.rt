@@ -9,4 +9,5 @@ mod circuits;
 mod cones;
 pub mod laws;
 mod orders;
+mod sorting;
 mod values;

@@ -1,32 +1,31 @@
-ghost use Rattle.std.specs.Prelude.{◌≡◌, length, IfOk, IfErr, EachIndex, slice_index};
-ghost use Rattle.circuit_plain.specs.Order.{IsOrder, IsFileOrdered};
+ghost use Rattle.std.specs.Prelude.{◌≡◌, ℕ, Option, None, Some, Result, Err, IfOk};
+ghost use Rattle.circuit_plain.specs.Ground.{IsFirstUngrounded};
+ghost use Rattle.circuit_plain.specs.Order.{IsOrder};
+ghost use Rattle.circuit_plain.specs.Sorting.{IsDraft, IsClosed};
 ghost use Rattle.circuit_plain.specs.declared.orders.OrderStop.TheVariants.{Memory as OutOfMemory};
 
 use crate::circuits::Circuit;
-use std::alloc::{AllocError, AllocFailed};
+use crate::sorting::Draft;
+use dq_lits::Memory;
 use std::marker::Model;
 use thiserror::Error;
 
-/// Why a circuit has no order.
+/// Why `order` gave no order.
 #[derive(Clone, Copy, Debug, PartialEq, Eq, Error)]
 pub enum OrderStop {
+    /// The gate at this place is the first that no order can hold: it stands on a cycle of gates, on a
+    /// variable that is neither input nor gate, or on a gate that does.
+    #[error("gate {0} cannot be ordered")]
+    Cyclic(usize),
     /// Want of memory: a growth was refused.
     #[error("out of memory")]
     Memory,
 }
 
-impl From<AllocError> for OrderStop {
+impl From<Memory> for OrderStop {
     ghost from_gives = { λ _ stop. stop ≡ OutOfMemory };
 
-    fn from(_refused: AllocError) -> OrderStop {
-        OrderStop::Memory
-    }
-}
-
-impl<T: Drop> From<AllocFailed<T>> for OrderStop {
-    ghost from_gives = { λ _ stop. stop ≡ OutOfMemory };
-
-    fn from(_refused: AllocFailed<T>) -> OrderStop {
+    fn from(_refused: Memory) -> OrderStop {
         OrderStop::Memory
     }
 }
@@ -35,7 +34,7 @@ impl<T: Drop> From<AllocFailed<T>> for OrderStop {
 /// reads.
 #[derive(Debug, Drop)]
 pub struct Order {
-    pub(crate) places: Vec<usize>,
+    places: Vec<usize>,
 }
 
 impl Model for Order {
@@ -56,16 +55,34 @@ impl Order {
 }
 
 impl Circuit {
-    /// The gates' order in the file.
+    /// An order of the gates in which each stands behind those that it reads, or the first gate that
+    /// no order can hold.
     pub fn order(&self) -> Result<Order, OrderStop>
-        requires { IsFileOrdered self.now }
         ensures ok { IfOk result (IsOrder self.now) }
-        ensures err { IfErr result (λ stop. stop ≡ OrderStop.Memory) }
+        ensures cyclic { (place : ℕ) → result ≡ Err (OrderStop.Cyclic place) → IsFirstUngrounded self.now place }
     {
-        let mut places = Vec::new(*self.gates.allocator());
-        for place in 0..self.gates.len() {
-            places.push(place)?;
+        let mut draft = self.empty_draft()?;
+        while self.put_round(&mut draft)? {}
+        match self.first_unsettled(&draft) {
+            Some(place) => Err(OrderStop::Cyclic(place)),
+            None => Ok(Order {
+                places: draft.places,
+            }),
         }
-        Ok(Order { places })
+    }
+
+    // The first gate that isn't put.
+    fn first_unsettled(&self, draft: &Draft) -> Option<usize>
+        requires draft { IsDraft self.now draft.now.places.items draft.now.settled }
+        requires closed { IsClosed self.now draft.now.places.items }
+        ensures none { result ≡ None → IsOrder self.now draft.now.places.items }
+        ensures some { (place : ℕ) → result ≡ Some place → IsFirstUngrounded self.now place }
+    {
+        for (place, gate) in self.gates.iter().enumerate() {
+            if !draft.settled.contains(&gate.variable) {
+                return Some(place);
+            }
+        }
+        None
     }
 }

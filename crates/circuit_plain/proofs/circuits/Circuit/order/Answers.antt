@@ -1,11 +1,17 @@
-use Rattle.std.proofs.Common.{◌≡◌, length, ap, ◌∙◌, sym, arith}
-use Rattle.circuit_plain.specs.Netlist.{Netlist}
-use Rattle.circuit_plain.proofs.OrderLaws.{file_order}
+use Rattle.std.proofs.Common.{◌≡◌, ◌<◌, ◌≤◌, ℕ, length, sym, ap, ◌∙◌, subst, arith}
+use Rattle.std.proofs.lemmas.Bool.{OnTrue_at}
+use Rattle.circuit_plain.specs.Ground.{IsFirstUngrounded}
+use Rattle.circuit_plain.proofs.SortingLaws.{length-draft}
 use Rattle.circuit_plain.proofs.circuits.Circuit.order.Goals as goal
 
-pub returns-clause-ok : goal.returns-clause-ok
-returns-clause-ok c =
-    let gates : length c.args.self.now.gates ≡ length c.self.inside.gates.items = ap (λ (net : Netlist). length net.gates) (sym c.self.view_is) in
-    file_order c.args.self.now c.loop-place.places.items
-    (omega (arith, c.self.inside.gates.ok.0))
-    (λ i i_in. c.loop-place.invariant.1 i (omega arith)) c.requires
+pub loop-draft-smaller : goal.loop-draft-smaller
+loop-draft-smaller c =
+    let grown : length c.loop-draft.draft.places.items < length c.put_round.new.draft.places.items =
+        OnTrue_at c.if-branch.true c.in_ok-put_round.ensures.added in
+    let bound = length-draft c.args.self.now _ c.in_ok-put_round.ensures.draft.partial in
+    omega arith
+
+pub returns-in-Some-clause-cyclic : goal.returns-in-Some-clause-cyclic
+returns-in-Some-clause-cyclic c place e =
+    let here : c.in-Some.place ≡ place = cc in
+    c.first_unsettled.ensures.some place (cc)

@@ -1,6 +1,9 @@
-use Rattle.std.proofs.Common.{◌≡◌, ◌<◌, ℕ, length, get_or}
+use Rattle.std.proofs.Common.{◌-◌, length}
+use Rattle.circuit_plain.specs.Sorting.{IsDraft}
 use Rattle.circuit_plain.proofs.circuits.Circuit.order.Given as goal
 
-abbrev pub invariant-loop-place : goal.invariant-loop-place
-invariant-loop-place l =
-    (length l.places.items ≡ l.place) × ((k : ℕ) → k < l.place → get_or l.places.items k 0 ≡ k)
+abbrev pub invariant-loop-draft : goal.invariant-loop-draft
+invariant-loop-draft l = IsDraft l.self l.draft.places.items l.draft.settled
+
+abbrev pub decreases-loop-draft : goal.decreases-loop-draft
+decreases-loop-draft l = length l.self.gates - length l.draft.places.items
