@@ -4,3 +4,4 @@ pub mod OrderLaws
 pub mod ReachLaws
 pub mod SortingLaws
 pub mod ValueLaws
+pub mod WalkingLaws

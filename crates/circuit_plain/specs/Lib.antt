@@ -6,3 +6,4 @@ pub mod Order
 pub mod Reach
 pub mod Sorting
 pub mod Value
+pub mod Walking

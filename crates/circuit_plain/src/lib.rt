@@ -11,3 +11,4 @@ pub mod laws;
 mod orders;
 mod sorting;
 mod values;
+mod walks;

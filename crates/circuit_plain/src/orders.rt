@@ -6,6 +6,7 @@ ghost use Rattle.circuit_plain.specs.declared.orders.OrderStop.TheVariants.{Memo
 
 use crate::circuits::Circuit;
 use crate::sorting::Draft;
+use crate::walks::depth_first;
 use dq_lits::Memory;
 use std::marker::Model;
 use thiserror::Error;
@@ -62,6 +63,9 @@ impl Circuit {
         ensures cyclic { (place : ℕ) → result ≡ Err (OrderStop.Cyclic place) → IsFirstUngrounded self.now place }
     {
         let mut draft = self.empty_draft()?;
+        let walked = depth_first(*self.gates.allocator(), &self.gates)?;
+        self.put_all(&walked, &mut draft)?;
+        // Only a gate that the walk left at a wrong turn is put here.
         while self.put_round(&mut draft)? {}
         match self.first_unsettled(&draft) {
             Some(place) => Err(OrderStop::Cyclic(place)),

@@ -4,9 +4,9 @@ use Rattle.circuit_plain.specs.Ground.{IsFirstUngrounded}
 use Rattle.circuit_plain.proofs.SortingLaws.{length-draft}
 use Rattle.circuit_plain.proofs.circuits.Circuit.order.Goals as goal
 
-pub loop-draft-smaller : goal.loop-draft-smaller
-loop-draft-smaller c =
-    let grown : length c.loop-draft.draft.places.items < length c.put_round.new.draft.places.items =
+pub loop-walked-smaller : goal.loop-walked-smaller
+loop-walked-smaller c =
+    let grown : length c.loop-walked.draft.places.items < length c.put_round.new.draft.places.items =
         OnTrue_at c.if-branch.true c.in_ok-put_round.ensures.added in
     let bound = length-draft c.args.self.now _ c.in_ok-put_round.ensures.draft.partial in
     omega arith
