@@ -1,8 +1,10 @@
 -- What the parts of a netlist say of one another.
 use Rattle.std.proofs.Common.{◌≡◌, ◌≢◌, ℕ, ◌+◌, ◌<◌, ◌≤◌, ◌⊎◌, inl, inr, Bool, List, map, length, get_or, refl, sym, ap, ◌∙◌, subst, arith}
 use Rattle.std.proofs.lemmas.List.Quantifiers.{all_pairs_push}
-use Rattle.std.specs.Prelude.{[], ◌∷◌, ◌++◌, All, AllPairs, Contains, slice_index_or, slice_index}
-use Rattle.std.proofs.lemmas.Bool.{cases_order}
+use Rattle.std.proofs.lemmas.List.Folds.{Any-from_list_any, list_any_at}
+use Rattle.std.specs.List.{list_any}
+use Rattle.std.specs.Prelude.{◌==◌, ◌↔◌, true, [], ◌∷◌, ◌++◌, All, AllPairs, Contains, slice_index_or, slice_index}
+use Rattle.std.proofs.lemmas.Bool.{cases_order, eq-eqb, eqb-true}
 use Rattle.std.proofs.lemmas.List.{get_or_default, get_or_read, get_or-map, length-map}
 use Rattle.std.proofs.lemmas.List.Elements.{All-contains, All-push, All-weaker, Contains-get_or}
 use Rattle.circuit_plain.specs.declared.circuits.Gate.{Gate}
@@ -104,3 +106,27 @@ keeps_gate net g kept fits fresh = record {
 
 pub gate_at_member : (net : Netlist) (p : ℕ) → p < length net.gates → Contains net.gates (gate_at net p)
 gate_at_member net p p_in = Contains-get_or net.gates p _ p_in
+
+-- a look through the inputs and the gates
+pub found_among : (v : ℕ) (xs : List ℕ) → (list_any (λ x. x == v) xs ≡ true) ↔ Contains xs v
+found_among v xs =
+    (λ on.
+      let (k, x, k_in, is, same) = Any-from_list_any (λ y. y == v) xs on in
+      (k, k_in, get_or_default xs k v x k_in ∙ (is ∙ eqb-true x v same)),
+     λ (k, k_in, is). list_any_at (λ x. x == v) xs k v k_in (eq-eqb _ _ is))
+
+pub found_gate : (net : Netlist) (v : ℕ) (gates : List Gate) → net.gates ≡ gates
+  → (list_any (λ g. g.variable == v) gates ≡ true) ↔ Contains (gate_variables net) v
+found_gate net v gates same =
+    (λ on.
+      let (k, g, k_in, is, e) = Any-from_list_any (λ h. h.variable == v) gates on in
+      let k_below : k < length net.gates = rw same k_in in
+      let here : get_or net.gates k g ≡ g = rw same is in
+      (k, rw length-map k_below, get_or-map variable_of_gate net.gates k g v k_below ∙ (ap variable_of_gate here ∙ eqb-true g.variable v e)),
+     λ (k, k_in, is).
+      let k_below : k < length net.gates = rw length-map at k_in in
+      let none : Gate = record { variable = 0; left = 0; right = 0 } in
+      let here : (get_or gates k none).variable ≡ v =
+          ap (λ (gs : List Gate). (get_or gs k none).variable) (sym same)
+          ∙ (sym (get_or-map variable_of_gate net.gates k none v k_below) ∙ is) in
+      list_any_at (λ g. g.variable == v) gates k none (rw same at k_below) (eq-eqb _ _ here))

@@ -1,4 +1,5 @@
-ghost use Rattle.std.specs.Prelude.{◌≡◌, ◌<◌, ◌%◌, ◌/◌, ◌*◌, ◌^◌, [], ◌∷◌, ◌++◌, length, OnOk, OnErr};
+ghost use Rattle.std.specs.Prelude.{◌≡◌, ◌==◌, ◌<◌, ◌%◌, ◌/◌, ◌*◌, ◌^◌, [], ◌∷◌, ◌++◌, length, IsTrue, ◌↔◌, OnOk, OnErr};
+ghost use Rattle.std.specs.List.{list_any};
 ghost use Rattle.circuit_plain.specs.declared.circuits.Gate.{Gate};
 ghost use Rattle.circuit_plain.specs.Netlist.{IsNetlist, IsDefined, IsVariable, IsLiteral, gate_at};
 
@@ -96,6 +97,14 @@ impl Circuit {
         Ok(())
     }
 
+    /// Whether a variable is an input or a gate. It looks through all of them, so who adds many keeps
+    /// a map beside the circuit.
+    pub fn defines(&self, var: u64) -> bool
+        ensures { IsTrue result ↔ IsDefined self.now var }
+    {
+        self.inputs.contains(&var) || has_gate(&self.gates, var)
+    }
+
     /// The largest number that a variable may have.
     pub fn max_var(&self) -> u64
         ensures value { result ≡ self.now.max_var }
@@ -133,4 +142,11 @@ impl Circuit {
         let gate = self.gates[i];
         (2 * gate.variable, gate.left, gate.right)
     }
+}
+
+// Whether one of the gates defines this variable.
+fn has_gate(gates: &[Gate], variable: u64) -> bool
+    ensures { result ≡ list_any (λ gate. gate.variable == variable) gates.now }
+{
+    gates.iter().any(|gate| gate.variable == variable)
 }
