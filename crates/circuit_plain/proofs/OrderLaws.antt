@@ -1,12 +1,10 @@
 -- The laws of orders.
-use Rattle.std.proofs.Common.{◌≡◌, ◌≢◌, ℕ, zero, suc, ◌+◌, ◌-◌, ◌*◌, ◌/◌, ◌<◌, ◌≤◌, ◌⊎◌, inl, inr, Bool, true, false, List, [], ◌∷◌, ◌++◌, map, length, get_or, take, refl, sym, ap, ◌∙◌, subst, arith}
-use Rattle.std.specs.Prelude.{All, AllPairs, Contains, slice_index_or, slice_index}
-use Rattle.std.proofs.lemmas.Bool.{cases_eq, cases_lt, cases_order}
-use Rattle.std.proofs.lemmas.List.{get_or_default, get_or-map, get_or-take, length-map, length-take, take_more, take_all}
-use Rattle.std.proofs.lemmas.List.Elements.{All-contains, Contains-get_or}
+use Rattle.std.proofs.Common.{◌≡◌, ℕ, zero, suc, ◌+◌, ◌<◌, ◌≤◌, inl, inr, List, [], ◌∷◌, ◌++◌, length, take, refl, sym, ap, ◌∙◌, subst, arith}
+use Rattle.std.specs.Prelude.{Contains, slice_index}
+use Rattle.std.proofs.lemmas.List.{get_or_default, take_more, take_all}
 use Rattle.circuit_plain.specs.declared.circuits.Gate.{Gate}
 use Rattle.circuit_plain.specs.Ground.{IsGrounded, constant, input, gate}
-use Rattle.circuit_plain.specs.Netlist.{Netlist, IsNetlist, IsDefined, variable_of_gate, gate_variables, gate_at, literal_variable}
+use Rattle.circuit_plain.specs.Netlist.{Netlist, gate_at}
 use Rattle.circuit_plain.specs.Order.{IsSettled, IsReady, IsOrder, OrdersGround}
 use Rattle.circuit_plain.specs.Sorting.{IsPartialOrder, IsClosed}
 use Rattle.circuit_plain.proofs.EvaluationLaws.{settled_cases, settled_defined}
@@ -17,17 +15,18 @@ pub partial_of_order : (net : Netlist) (order : List ℕ) → IsOrder net order 
 partial_of_order net order ordered = record {
   in_range = ordered.in_range;
   each_once = ordered.each_once;
-  follows = ordered.follows
+  follows = ordered.follows;
 }
 
 -- what the first places of a partial order settle is in the least set
 ground_first : (net : Netlist) (places : List ℕ) → IsPartialOrder net places → (n : ℕ) → n ≤ length places
-  → (v : ℕ) → IsSettled net (take n places) v → IsGrounded net v
+    → (v : ℕ) → IsSettled net (take n places) v → IsGrounded net v
 ground_first net places partial zero below v settled =
     elim settled [
-      inl z ↦ subst (IsGrounded net) (sym z) constant
-    | inr (inl i) ↦ input i
-    | inr (inr (k, k_in, _)) ↦ absurd (omega arith) ]
+      | inl z ↦ subst (IsGrounded net) (sym z) constant
+      | inr (inl i) ↦ input i
+      | inr (inr (k, k_in, _)) ↦ absurd (omega arith)
+    ]
 ground_first net places partial (suc n) below v settled =
     let n_in : n < length places = omega arith in
     let p : ℕ = slice_index places n in
@@ -36,10 +35,11 @@ ground_first net places partial (suc n) below v settled =
     let ready = partial.follows n n_in in
     let earlier : (w : ℕ) → IsSettled net (take n places) w → IsGrounded net w = ground_first net places partial n (omega arith) in
     elim (settled_cases net (take n places) p v (subst (λ (ps : List ℕ). IsSettled net ps v) next settled)) [
-      inl before ↦ earlier v before
-    | inr here ↦
-        subst (IsGrounded net) here
-        (gate (gate_at net p) (gate_at_member net p (partial.in_range n 0 n_in)) (earlier _ ready.0) (earlier _ ready.1)) ]
+      | inl before ↦ earlier v before
+      | inr here ↦
+          subst (IsGrounded net) here
+          (gate (gate_at net p) (gate_at_member net p (partial.in_range n 0 n_in)) (earlier _ ready.0) (earlier _ ready.1))
+    ]
 
 pub settled_ground : (net : Netlist) (places : List ℕ) → IsPartialOrder net places → (v : ℕ) → IsSettled net places v → IsGrounded net v
 settled_ground net places partial v settled =
@@ -54,8 +54,9 @@ put_since_ready : (net : Netlist) (places : List ℕ) → IsClosed net places �
 put_since_ready net places closed g (p, p_in, is) ready =
     let gate_is : gate_at net p ≡ g = get_or_default net.gates p _ g p_in ∙ is in
     elim (closed p p_in) [
-      inl put ↦ subst (λ (h : Gate). IsSettled net places h.variable) gate_is put
-    | inr stuck ↦ absurd (stuck (subst (λ (h : Gate). IsReady net places h) (sym gate_is) ready)) ]
+      | inl put ↦ subst (λ (h : Gate). IsSettled net places h.variable) gate_is put
+      | inr stuck ↦ absurd (stuck (subst (λ (h : Gate). IsReady net places h) (sym gate_is) ready))
+    ]
 
 -- where no further gate can be put, what is in the least set is settled
 pub grounded_settled : (net : Netlist) (places : List ℕ) → IsClosed net places → {v : ℕ} → IsGrounded net v → IsSettled net places v

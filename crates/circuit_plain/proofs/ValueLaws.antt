@@ -1,7 +1,7 @@
 -- The laws of values.
-use Rattle.std.proofs.Common.{◌≡◌, ◌≢◌, ℕ, ◌+◌, ◌<◌, ◌≤◌, ◌⊎◌, inl, inr, Bool, true, false, ◌&&◌, List, map, length, get_or, refl, sym, ap, ◌∙◌, subst, arith}
-use Rattle.std.specs.Prelude.{All, AllPairs, Contains, slice_index_or, slice_index}
-use Rattle.std.proofs.lemmas.List.{get_or_default, get_or_read}
+use Rattle.std.proofs.Common.{◌≡◌, ℕ, ◌<◌, ◌⊎◌, inl, inr, Bool, false, ◌&&◌, List, length, refl, sym, ap, ◌∙◌, subst, arith}
+use Rattle.std.specs.Prelude.{Contains, slice_index}
+use Rattle.std.proofs.lemmas.List.{get_or_default}
 use Rattle.std.proofs.lemmas.List.Elements.{All-contains}
 use Rattle.circuit_plain.specs.declared.circuits.Gate.{Gate}
 use Rattle.circuit_plain.specs.Ground.{IsGrounded, constant as ground_constant, input as ground_input, gate as ground_gate}
@@ -28,7 +28,7 @@ record IsGateValue (net : Netlist) (bits : ℕ → Bool) (v : ℕ) (b : Bool) : 
   bit : b ≡ (signed_bit by.left a && signed_bit by.right c)
 
 value_cases : {net : Netlist} {bits : ℕ → Bool} {v : ℕ} {b : Bool} → HasValue net bits v b
-  → ((v ≡ 0) × (b ≡ false)) ⊎ (IsInputValue net bits v b ⊎ IsGateValue net bits v b)
+    → ((v ≡ 0) × (b ≡ false)) ⊎ (IsInputValue net bits v b ⊎ IsGateValue net bits v b)
 value_cases constant = inl (refl, refl)
 value_cases (input i i_in e) = inr (inl (record { place = i; in_range = i_in; is = e; bit = refl }))
 value_cases (gate {a} {b} g g_in p q) =
@@ -42,31 +42,34 @@ module _ (net : Netlist) (bits : ℕ → Bool) (kept : IsNetlist net) where
   constant_once : (b : Bool) → HasValue net bits 0 b → b ≡ false
   constant_once b h =
       elim (value_cases h) [
-        inl (z, e) ↦ e
-      | inr (inl w) ↦ absurd (omega (arith, (input_fits net kept 0 (Contains-place net.inputs w.place 0 w.in_range w.is)).0))
-      | inr (inr w) ↦ absurd (omega (arith, (gate_fits net kept w.by w.member).variable.0, w.is)) ]
+        | inl (z, e) ↦ e
+        | inr (inl w) ↦ absurd (omega (arith, (input_fits net kept 0 (Contains-place net.inputs w.place 0 w.in_range w.is)).0))
+        | inr (inr w) ↦ absurd (omega (arith, (gate_fits net kept w.by w.member).variable.0, w.is))
+      ]
 
   input_once : (i : ℕ) (v : ℕ) (b : Bool) → i < length net.inputs → slice_index net.inputs i ≡ v → HasValue net bits v b → b ≡ bits i
   input_once i v b i_in e h =
       let v_in : Contains net.inputs v = Contains-place net.inputs i v i_in e in
       elim (value_cases h) [
-        inl (z, _) ↦ absurd (omega (arith, (input_fits net kept v v_in).0))
-      | inr (inl w) ↦
-          let same : w.place ≡ i = same_place (λ x. x) net.inputs w.place i 0 kept.inputs_once w.in_range i_in (w.is ∙ sym e) in
-          w.bit ∙ ap bits same
-      | inr (inr w) ↦ absurd (input_apart net kept v w.by v_in w.member w.is) ]
+        | inl (z, _) ↦ absurd (omega (arith, (input_fits net kept v v_in).0))
+        | inr (inl w) ↦
+            let same : w.place ≡ i = same_place (λ x. x) net.inputs w.place i 0 kept.inputs_once w.in_range i_in (w.is ∙ sym e) in
+            w.bit ∙ ap bits same
+        | inr (inr w) ↦ absurd (input_apart net kept v w.by v_in w.member w.is)
+      ]
 
   gate_once : (g : Gate) (b : Bool) → Contains net.gates g → HasValue net bits g.variable b → IsGateValue net bits g.variable b
   gate_once g b g_in h =
       elim (value_cases h) [
-        inl (z, _) ↦ absurd (omega (arith, (gate_fits net kept g g_in).variable.0))
-      | inr (inl w) ↦ absurd (input_apart net kept g.variable g (Contains-place net.inputs w.place g.variable w.in_range w.is) g_in refl)
-      | inr (inr w) ↦ w ]
+        | inl (z, _) ↦ absurd (omega (arith, (gate_fits net kept g g_in).variable.0))
+        | inr (inl w) ↦ absurd (input_apart net kept g.variable g (Contains-place net.inputs w.place g.variable w.in_range w.is) g_in refl)
+        | inr (inr w) ↦ w
+      ]
 
   gate_value_is : (g : Gate) (a c b : Bool) → Contains net.gates g
-    → ((d : Bool) → HasValue net bits (literal_variable g.left) d → a ≡ d)
-    → ((d : Bool) → HasValue net bits (literal_variable g.right) d → c ≡ d)
-    → HasValue net bits g.variable b → (signed_bit g.left a && signed_bit g.right c) ≡ b
+      → ((d : Bool) → HasValue net bits (literal_variable g.left) d → a ≡ d)
+      → ((d : Bool) → HasValue net bits (literal_variable g.right) d → c ≡ d)
+      → HasValue net bits g.variable b → (signed_bit g.left a && signed_bit g.right c) ≡ b
   gate_value_is g a c b g_in on_left on_right h =
       let w = gate_once g b g_in h in
       let same : w.by ≡ g = same_gate net kept w.by g w.member g_in (sym w.is) in
@@ -76,7 +79,7 @@ module _ (net : Netlist) (bits : ℕ → Bool) (kept : IsNetlist net) where
       cc
 
 pub unique_value : (net : Netlist) (bits : ℕ → Bool) (kept : IsNetlist net) {v : ℕ} {a : Bool} → HasValue net bits v a
-  → (b : Bool) → HasValue net bits v b → a ≡ b
+    → (b : Bool) → HasValue net bits v b → a ≡ b
 unique_value net bits kept constant b h = sym (constant_once net bits kept b h)
 unique_value net bits kept (input {v} i i_in e) b h = sym (input_once net bits kept i v b i_in e h)
 unique_value net bits kept (gate {a} {b} g g_in p q) value h =
@@ -97,8 +100,8 @@ pub grounded_have_values : GroundedHaveValues
 grounded_have_values net bits v h = grounded_value net bits h
 
 pub value_follows_reach : (net : Netlist) (bits others : ℕ → Bool) {v : ℕ} {b : Bool} → HasValue net bits v b
-  → ((i : ℕ) → i < length net.inputs → Reaches net v (slice_index net.inputs i) → bits i ≡ others i)
-  → HasValue net others v b
+    → ((i : ℕ) → i < length net.inputs → Reaches net v (slice_index net.inputs i) → bits i ≡ others i)
+    → HasValue net others v b
 value_follows_reach net bits others constant agree = constant
 value_follows_reach net bits others (input {v} i i_in e) agree =
     let here : Reaches net v (slice_index net.inputs i) = subst (λ (x : ℕ). Reaches net x (slice_index net.inputs i)) e itself in
@@ -116,7 +119,7 @@ valuation_agrees net bits m meets constant = meets.constant
 valuation_agrees net bits m meets (input i i_in e) = ap m (sym e) ∙ meets.inputs i i_in
 valuation_agrees net bits m meets (gate g g_in p q) =
     let equation : m g.variable ≡ (literal_bit m g.left && literal_bit m g.right) =
-        All-contains (λ h. m h.variable ≡ (literal_bit m h.left && literal_bit m h.right)) net.gates g meets.gates g_in in
+    All-contains (λ h. m h.variable ≡ (literal_bit m h.left && literal_bit m h.right)) net.gates g meets.gates g_in in
     let on_left = valuation_agrees net bits m meets p in
     let on_right = valuation_agrees net bits m meets q in
     cc

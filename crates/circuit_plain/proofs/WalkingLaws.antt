@@ -1,5 +1,5 @@
 -- The steps of a walk.
-use Rattle.std.proofs.Common.{◌≡◌, ℕ, ◌+◌, ◌*◌, ◌<◌, ◌≤◌, Bool, true, false, not, cond, List, length, get_or, set, refl, sym, ap, ◌∙◌, arith}
+use Rattle.std.proofs.Common.{◌≡◌, ℕ, ◌+◌, ◌<◌, Bool, true, false, not, cond, List, length, get_or, set, ap, arith}
 use Rattle.std.specs.Prelude.{All}
 use Rattle.std.specs.List.{count_by}
 use Rattle.std.proofs.lemmas.List.Sums.{sum_by-set}
@@ -14,7 +14,7 @@ pub record WalkSoFar (n : ℕ) (seen : List Bool) (places : List ℕ) (tasks : L
 
 -- one gate more is seen
 pub fewer_unseen : (seen : List Bool) (place : ℕ) → place < length seen → get_or seen place false ≡ false
-  → count_by not (set seen place true) + 1 ≡ count_by not seen
+    → count_by not (set seen place true) + 1 ≡ count_by not seen
 fewer_unseen seen place place_in off =
     let change = sum_by-set (λ (b : Bool). cond (not b) 1 0) seen place true false place_in in
     let one : ◌≡◌ {A = ℕ} (cond (not (get_or seen place false)) 1 0) 1 = ap (λ (b : Bool). cond (not b) 1 0) off in

@@ -8,7 +8,7 @@ pub data IsGrounded (net : Netlist) : ℕ → Type 0 where
   constant : IsGrounded net 0
   input : {v : ℕ} → Contains net.inputs v → IsGrounded net v
   gate : (g : Gate) → Contains net.gates g → IsGrounded net (literal_variable g.left)
-    → IsGrounded net (literal_variable g.right) → IsGrounded net g.variable
+      → IsGrounded net (literal_variable g.right) → IsGrounded net g.variable
 
 -- the gate at this place is the first outside the least set
 pub record IsFirstUngrounded (net : Netlist) (place : ℕ) : Type 0 where

@@ -1,6 +1,6 @@
 -- The combinational netlist of ASCII AIGER 1.9 ("The AIGER And-Inverter Graph Format", Biere, 2007; "AIGER 1.9
 -- and Beyond", Biere, Heljanko and Wieringa, 2011): inputs, outputs and and-gates over numbered variables.
-use Rattle.std.specs.Prelude.{◌≡◌, ◌≢◌, ℕ, ◌+◌, ◌*◌, ◌/◌, ◌%◌, ◌^◌, ◌<◌, ◌≤◌, ◌⊎◌, ◌==◌, Bool, not, List, map, length, if◌then◌else◌, All, AllPairs, Contains, slice_index_or}
+use Rattle.std.specs.Prelude.{◌≢◌, ℕ, ◌+◌, ◌*◌, ◌/◌, ◌%◌, ◌^◌, ◌<◌, ◌≤◌, ◌⊎◌, ◌==◌, Bool, not, List, map, if◌then◌else◌, All, AllPairs, Contains, slice_index_or}
 use Rattle.circuit_plain.specs.declared.circuits.Gate.{Gate}
 
 -- literal 2v stands for variable v

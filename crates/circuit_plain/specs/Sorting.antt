@@ -1,8 +1,8 @@
 -- How far a sort of the gates has come.
-use Rattle.std.specs.Prelude.{◌≢◌, ◌≡◌, ℕ, ◌<◌, ◌⊎◌, ◌↔◌, List, IsTrue, take, length, slice_index, All, AllPairs}
+use Rattle.std.specs.Prelude.{◌≢◌, ℕ, ◌<◌, ◌⊎◌, ◌↔◌, List, IsTrue, take, length, slice_index, All, AllPairs}
 use Rattle.std.specs.BTreeSet.{BTreeSet, contains}
 use Rattle.std.specs.Ordering.{nat_cmp}
-use Rattle.circuit_plain.specs.Netlist.{Netlist, gate_at, variable_of_gate}
+use Rattle.circuit_plain.specs.Netlist.{Netlist, gate_at}
 use Rattle.circuit_plain.specs.Order.{IsSettled, IsReady}
 
 -- the beginning of an order

@@ -11,7 +11,7 @@ pub data HasValue (net : Netlist) (bits : ℕ → Bool) : ℕ → Bool → Type 
   constant : HasValue net bits 0 false
   input : {v : ℕ} → (i : ℕ) → i < length net.inputs → slice_index net.inputs i ≡ v → HasValue net bits v (bits i)
   gate : {a b : Bool} → (g : Gate) → Contains net.gates g → HasValue net bits (literal_variable g.left) a
-    → HasValue net bits (literal_variable g.right) b → HasValue net bits g.variable (signed_bit g.left a && signed_bit g.right b)
+      → HasValue net bits (literal_variable g.right) b → HasValue net bits g.variable (signed_bit g.left a && signed_bit g.right b)
 
 -- the map gives the constant and the inputs their bits and meets every gate's equation
 pub record IsValuation (net : Netlist) (bits : ℕ → Bool) (m : ℕ → Bool) : Type 0 where

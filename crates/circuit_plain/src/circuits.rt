@@ -83,10 +83,8 @@ impl Circuit {
         requires undefined { ¬ IsDefined self.old (lhs / 2) }
         requires a_in_range { IsLiteral self.old.max_var a }
         requires b_in_range { IsLiteral self.old.max_var b }
-        ensures ok {
-            let gate : Gate = record { variable = lhs / 2; left = a; right = b } in
-            OnOk result (self.new ≡ record self.old { gates = self.old.gates ++ gate ∷ [] })
-        }
+        ensures ok { let gate : Gate = record { variable = lhs / 2; left = a; right = b } in
+            OnOk result (self.new ≡ record self.old { gates = self.old.gates ++ gate ∷ [] }) }
         ensures err { OnErr result (self.new ≡ self.old) }
     {
         self.gates.push(Gate {

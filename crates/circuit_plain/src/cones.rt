@@ -18,10 +18,8 @@ impl Circuit {
         requires an_output { out < length self.now.outputs }
         requires a_place_a_variable { length marks.old ≡ self.now.max_var + 1 }
         ensures same_length { length marks.new ≡ length marks.old }
-        ensures reached {
-            let root = literal_variable (slice_index self.now.outputs out) in
-            (v : ℕ) → IsTrue (bit_of marks.new v) ↔ Reaches self.now root v
-        }
+        ensures reached { let root = literal_variable (slice_index self.now.outputs out) in
+            (v : ℕ) → IsTrue (bit_of marks.new v) ↔ Reaches self.now root v }
     {
         let root = (self.outputs[out] / 2) as usize;
         clear(marks);

@@ -10,5 +10,7 @@ mod cones;
 pub mod laws;
 mod orders;
 mod sorting;
+#[cfg(test)]
+mod tests;
 mod values;
 mod walks;

@@ -26,9 +26,7 @@ impl Circuit {
         requires a_bit_an_input { length row.now ≡ length self.now.inputs }
         requires a_place_a_variable { length values.old ≡ self.now.max_var + 1 }
         ensures same_length { length values.new ≡ length values.old }
-        ensures value {
-            (v : ℕ) → (v ≡ 0) ⊎ IsDefined self.now v → HasValue self.now (bit_of row.now) v (bit_of values.new v)
-        }
+        ensures value { (v : ℕ) → (v ≡ 0) ⊎ IsDefined self.now v → HasValue self.now (bit_of row.now) v (bit_of values.new v) }
         ensures valuation { IsValuation self.now (bit_of row.now) (bit_of values.new) }
     {
         let _ = &self.gates;
@@ -55,10 +53,8 @@ impl Circuit {
         requires ordered { IsOrder self.now order.now }
         requires a_place_a_variable { length values.old ≡ self.now.max_var + 1 }
         ensures same_length { length values.new ≡ length values.old }
-        ensures value {
-            (bits : ℕ → Bool) → GivesValues self.now bits (bit_of values.old) []
-                → GivesValues self.now bits (bit_of values.new) order.now
-        }
+        ensures value { (bits : ℕ → Bool) → GivesValues self.now bits (bit_of values.old) []
+            → GivesValues self.now bits (bit_of values.new) order.now }
     {
         for place in order.places() {
             let gate = self.gates[*place];
@@ -72,9 +68,7 @@ impl Circuit {
 fn gate_bit(gate: &Gate, values: &Row) -> bool
     requires left { literal_variable gate.now.left < length values.now }
     requires right { literal_variable gate.now.right < length values.now }
-    ensures {
-        result ≡ (literal_bit (bit_of values.now) gate.now.left && literal_bit (bit_of values.now) gate.now.right)
-    }
+    ensures { result ≡ (literal_bit (bit_of values.now) gate.now.left && literal_bit (bit_of values.now) gate.now.right) }
 {
     literal_bit(values, gate.left) && literal_bit(values, gate.right)
 }

@@ -63,9 +63,7 @@ fn visit(
     requires in_range { place < length gates.now }
     requires tasks_in_range { All (λ task. task_place task < length gates.now) tasks.old.items }
     ensures in_range { OnOk result (All (λ task. task_place task < length gates.now) tasks.new.items) }
-    ensures ends {
-        OnOk result (length tasks.new.items + 3 * count_by not seen.new ≤ length tasks.old.items + 3 * count_by not seen.old)
-    }
+    ensures ends { OnOk result (length tasks.new.items + 3 * count_by not seen.new ≤ length tasks.old.items + 3 * count_by not seen.old) }
 {
     if !seen[place] {
         seen[place] = true;

@@ -1,6 +1,6 @@
-use Rattle.std.proofs.Common.{◌≡◌, ◌+◌, ◌-◌, ◌<◌, ◌≤◌, ℕ, true, Bool, List, length, set, sym, ap, ◌∙◌, arith}
+use Rattle.std.proofs.Common.{◌≡◌, ◌+◌, ◌-◌, ℕ, true, Bool, List, set, sym, ap, ◌∙◌, arith}
 use Rattle.circuit_plain.specs.Netlist.{Netlist, literal_variable}
-use Rattle.circuit_plain.proofs.ReachLaws.{SidesMarked, nothing_marked, walk_over, marks_reach}
+use Rattle.circuit_plain.proofs.ReachLaws.{nothing_marked, walk_over, marks_reach}
 use Rattle.circuit_plain.proofs.circuits.Circuit.mark_sides.Goals as goal
 
 pub loop-i-init : goal.loop-i-init

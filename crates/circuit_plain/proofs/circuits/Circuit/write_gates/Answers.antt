@@ -1,4 +1,4 @@
-use Rattle.std.proofs.Common.{◌≡◌, ◌≤◌, length, take, sym, ap, arith}
+use Rattle.std.proofs.Common.{◌≡◌, length, take, sym, ap, arith}
 use Rattle.std.proofs.lemmas.List.{take_all}
 use Rattle.circuit_plain.proofs.EvaluationLaws.{write_gate}
 use Rattle.circuit_plain.specs.Netlist.{Netlist}
@@ -14,5 +14,5 @@ loop-place-preserved c =
 pub returns-clause-value : goal.returns-clause-value
 returns-clause-value c bits given =
     let whole : take c.loop-place.place-index c.args.order.now ≡ c.args.order.now =
-        take_all _ _ (omega (arith, ap length c.places-place-items.ensures)) in
+    take_all _ _ (omega (arith, ap length c.places-place-items.ensures)) in
     rw whole at (c.loop-place.invariant.gives bits given)
