@@ -1,6 +1,7 @@
--- The combinational netlist of ASCII AIGER 1.9 ("The AIGER And-Inverter Graph Format", Biere, 2007; "AIGER 1.9
--- and Beyond", Biere, Heljanko and Wieringa, 2011): inputs, outputs and and-gates over numbered variables.
-use Rattle.std.specs.Prelude.{◌≢◌, ℕ, ◌+◌, ◌*◌, ◌/◌, ◌%◌, ◌^◌, ◌<◌, ◌≤◌, ◌⊎◌, ◌==◌, Bool, not, List, map, if◌then◌else◌, All, AllPairs, Contains, slice_index_or}
+-- The combinational netlist of ASCII AIGER: inputs, outputs and and-gates over numbered variables (A. Biere,
+-- "The AIGER And-Inverter Graph (AIG) Format", 2007; A. Biere, K. Heljanko, S. Wieringa, "AIGER 1.9 And
+-- Beyond", FMV report 11/2, 2011).
+use Rattle.std.specs.Prelude.{◌≢◌, ℕ, ◌+◌, ◌*◌, ◌/◌, ◌%◌, ◌^◌, ◌<◌, ◌≤◌, ◌⊎◌, ◌==◌, ◌&&◌, Bool, not, List, map, if◌then◌else◌, All, AllPairs, Contains, slice_index_or}
 use Rattle.circuit_plain.specs.declared.circuits.Gate.{Gate}
 
 -- literal 2v stands for variable v
@@ -19,8 +20,8 @@ signed_bit l bit = if literal_negated l then not bit else bit
 abbrev pub literal_bit : (ℕ → Bool) → ℕ → Bool
 literal_bit m l = signed_bit l (m (literal_variable l))
 
--- variables are numbered from 1 to `max_var`; variable 0 is the constant false, so that literal 0 is false
--- and literal 1 is true
+-- variables are numbered from 1 to `max_var`; variable 0 is the constant false, so that literal 0 is
+-- false and literal 1 is true; outputs are literals, and a gate has its variable and two literals
 pub record Netlist : Type 0 where
   pub max_var : ℕ
   pub inputs : List ℕ
@@ -29,6 +30,17 @@ pub record Netlist : Type 0 where
 
 abbrev pub variable_of_gate : Gate → ℕ
 variable_of_gate g = g.variable
+
+-- the variables that its right sides stand on
+abbrev pub left_variable : Gate → ℕ
+left_variable g = literal_variable g.left
+
+abbrev pub right_variable : Gate → ℕ
+right_variable g = literal_variable g.right
+
+-- the conjunction of its right sides, where their variables have these bits
+abbrev pub gate_value : Gate → Bool → Bool → Bool
+gate_value g a b = signed_bit g.left a && signed_bit g.right b
 
 -- the variables of the gates, in their order
 abbrev pub gate_variables : Netlist → List ℕ
@@ -57,8 +69,8 @@ pub record IsGate (max_var : ℕ) (g : Gate) : Type 0 where
   pub left : IsLiteral max_var g.left
   pub right : IsLiteral max_var g.right
 
--- what each netlist of a `Circuit` keeps: its numbers are in range, and each variable is an input or a gate
--- at most once
+-- what each netlist of a `Circuit` keeps: its numbers are in range, and each variable is an input or a
+-- gate at most once
 pub record IsNetlist (net : Netlist) : Type 0 where
   pub numbered : net.max_var < 2 ^ 62
   pub inputs_fit : All (IsVariable net.max_var) net.inputs

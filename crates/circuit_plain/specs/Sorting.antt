@@ -9,7 +9,8 @@ use Rattle.circuit_plain.specs.Order.{IsSettled, IsReady}
 pub record IsPartialOrder (net : Netlist) (places : List ℕ) : Type 0 where
   pub in_range : All (λ p. p < length net.gates) places
   pub each_once : AllPairs (λ p q. p ≢ q) places
-  pub follows : (k : ℕ) → k < length places → IsReady net (take k places) (gate_at net (slice_index places k))
+  pub follows : (k : ℕ) → k < length places
+      → IsReady net (take k places) (gate_at net (slice_index places k))
 
 -- the beginning of an order, with the set of what it settles
 pub record IsDraft (net : Netlist) (places : List ℕ) (settled : BTreeSet ℕ) : Type 0 where
@@ -18,7 +19,8 @@ pub record IsDraft (net : Netlist) (places : List ℕ) (settled : BTreeSet ℕ) 
 
 -- the gate at a place is put already, or cannot be put
 abbrev pub IsPassed : Netlist → List ℕ → ℕ → Type 0
-IsPassed net places p = IsSettled net places (gate_at net p).variable ⊎ (¬ IsReady net places (gate_at net p))
+IsPassed net places p =
+    IsSettled net places (gate_at net p).variable ⊎ (¬ IsReady net places (gate_at net p))
 
 -- no further gate can be put
 abbrev pub IsClosed : Netlist → List ℕ → Type 0

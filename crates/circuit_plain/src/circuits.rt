@@ -35,9 +35,11 @@ impl Model for Circuit {
 
     ghost Value = { Netlist };
 
-    ghost view = { λ c. record { max_var = c.max_var; inputs = c.inputs.items; outputs = c.outputs.items; gates = c.gates.items } };
+    ghost view = { λ c.
+        record { max_var = c.max_var; inputs = c.inputs.items; outputs = c.outputs.items; gates = c.gates.items } };
 
-    ghost invariant = { λ c. IsNetlist (record { max_var = c.max_var; inputs = c.inputs.items; outputs = c.outputs.items; gates = c.gates.items }) };
+    ghost invariant = { λ c. IsNetlist (
+        record { max_var = c.max_var; inputs = c.inputs.items; outputs = c.outputs.items; gates = c.gates.items }) };
 }
 
 impl Circuit {
@@ -75,8 +77,10 @@ impl Circuit {
         Ok(())
     }
 
-    /// Adds a gate behind the others: `lhs` is the literal of its variable, `a` and `b` are its right
-    /// sides, which may stand on variables that are defined later.
+    /// Adds a gate behind the others: `lhs` is the literal of its variable, `a` and `b` are its
+    /// right sides, which may stand on variables that are defined later.
+    ///
+    /// As of the other adding calls, the only error is want of memory, and then nothing changed.
     pub fn add_gate(&mut self, lhs: u64, a: u64, b: u64) -> Result<(), Memory>
         requires even { lhs % 2 ≡ 0 }
         requires in_range { IsVariable self.old.max_var (lhs / 2) }
@@ -95,8 +99,8 @@ impl Circuit {
         Ok(())
     }
 
-    /// Whether a variable is an input or a gate. It looks through all of them, so who adds many keeps
-    /// a map beside the circuit.
+    /// Whether a variable is an input or a gate. It looks through all of them, so who adds many
+    /// keeps a map beside the circuit.
     pub fn defines(&self, var: u64) -> bool
         ensures { IsTrue result ↔ IsDefined self.now var }
     {
@@ -135,7 +139,8 @@ impl Circuit {
     /// The gate at place `i`: the literal of its variable, and its two right sides.
     pub fn gate(&self, i: usize) -> (u64, u64, u64)
         requires { i < length self.now.gates }
-        ensures { let gate = gate_at self.now i in result ≡ (2 * gate.variable, gate.left, gate.right) }
+        ensures { let gate = gate_at self.now i in
+            result ≡ (2 * gate.variable, gate.left, gate.right) }
     {
         let gate = self.gates[i];
         (2 * gate.variable, gate.left, gate.right)

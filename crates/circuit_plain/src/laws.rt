@@ -1,5 +1,5 @@
-//! The laws of values, reach and order. Each is the contract of a function that does nothing: a caller
-//! that calls it may use what it ensures.
+//! The laws of values, reach and order. Each is the contract of a function that does nothing: who
+//! calls it may use what it ensures.
 ghost use Rattle.circuit_plain.specs.Order.{OrdersGround};
 ghost use Rattle.circuit_plain.specs.Value.{ValuesAreUnique, GroundedHaveValues, ValuesFollowReach, ValuationsAgree};
 

@@ -14,8 +14,8 @@ use thiserror::Error;
 /// Why `order` gave no order.
 #[derive(Clone, Copy, Debug, PartialEq, Eq, Error)]
 pub enum OrderStop {
-    /// The gate at this place is the first that no order can hold: it stands on a cycle of gates, on a
-    /// variable that is neither input nor gate, or on a gate that does.
+    /// The gate at this place is the first that no order can hold: it lies on a cycle of gates, or
+    /// reads a variable that is neither input nor gate, or reads such a gate.
     #[error("gate {0} cannot be ordered")]
     Cyclic(usize),
     /// Want of memory: a growth was refused.
@@ -56,16 +56,17 @@ impl Order {
 }
 
 impl Circuit {
-    /// An order of the gates in which each stands behind those that it reads, or the first gate that
-    /// no order can hold.
+    /// An order of the gates in which each stands behind those that it reads, or the first gate
+    /// that no order can hold. It takes time in proportion to n log n for n gates.
     pub fn order(&self) -> Result<Order, OrderStop>
         ensures ok { IfOk result (IsOrder self.now) }
-        ensures cyclic { (place : ℕ) → result ≡ Err (OrderStop.Cyclic place) → IsFirstUngrounded self.now place }
+        ensures cyclic { (place : ℕ) → result ≡ Err (OrderStop.Cyclic place)
+            → IsFirstUngrounded self.now place }
     {
         let mut draft = self.empty_draft()?;
         let walked = depth_first(*self.gates.allocator(), &self.gates)?;
         self.put_all(&walked, &mut draft)?;
-        // Only a gate that the walk left at a wrong turn is put here.
+        // The walk leaves gates in an order, so that mostly one round finds that none can be added.
         while self.put_round(&mut draft)? {}
         match self.first_unsettled(&draft) {
             Some(place) => Err(OrderStop::Cyclic(place)),

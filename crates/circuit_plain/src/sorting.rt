@@ -39,9 +39,11 @@ impl Circuit {
         requires in_range { place < length self.now.gates }
         requires draft { IsDraft self.now draft.old.places.items draft.old.settled }
         ensures draft { OnOk result (IsDraft self.now draft.new.places.items draft.new.settled) }
-        ensures added { IfOk result (λ added. OnTrue added (length draft.new.places.items ≡ length draft.old.places.items + 1)) }
+        ensures added { IfOk result (λ added. OnTrue added (
+            length draft.new.places.items ≡ length draft.old.places.items + 1)) }
         ensures passed { IfOk result (λ added. OnFalse added (
-            (draft.new.places.items ≡ draft.old.places.items) × IsPassed self.now draft.old.places.items place)) }
+            (draft.new.places.items ≡ draft.old.places.items)
+            × IsPassed self.now draft.old.places.items place)) }
     {
         let gate = self.gates[place];
         if draft.settled.contains(&gate.variable) {
@@ -71,7 +73,8 @@ impl Circuit {
     pub(crate) fn put_round(&self, draft: &mut Draft) -> Result<bool, Memory>
         requires { IsDraft self.now draft.old.places.items draft.old.settled }
         ensures draft { OnOk result (IsDraft self.now draft.new.places.items draft.new.settled) }
-        ensures added { IfOk result (λ added. OnTrue added (length draft.old.places.items < length draft.new.places.items)) }
+        ensures added { IfOk result (λ added. OnTrue added (
+            length draft.old.places.items < length draft.new.places.items)) }
         ensures closed { IfOk result (λ added. OnFalse added (IsClosed self.now draft.new.places.items)) }
     {
         let mut added = false;

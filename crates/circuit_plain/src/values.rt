@@ -19,14 +19,16 @@ pub fn literal_bit(values: &Row, lit: u64) -> bool
 }
 
 impl Circuit {
-    /// Writes the value of each input and gate under `row`, which has the bit of input i at place i.
-    /// Whatever stood in `values` before counts for nothing. It takes no memory.
+    /// Writes the value of the constant 0 and of each input and gate under `row`, which has the bit
+    /// of input i at place i; variable v has place v in `values`. Whatever stood there before counts
+    /// for nothing, and the places of other variables are left open. It takes no memory.
     pub fn eval(&self, order: &Order, row: &Row, values: &mut Row)
         requires ordered { IsOrder self.now order.now }
         requires a_bit_an_input { length row.now ≡ length self.now.inputs }
         requires a_place_a_variable { length values.old ≡ self.now.max_var + 1 }
         ensures same_length { length values.new ≡ length values.old }
-        ensures value { (v : ℕ) → (v ≡ 0) ⊎ IsDefined self.now v → HasValue self.now (bit_of row.now) v (bit_of values.new v) }
+        ensures value { (v : ℕ) → (v ≡ 0) ⊎ IsDefined self.now v
+            → HasValue self.now (bit_of row.now) v (bit_of values.new v) }
         ensures valuation { IsValuation self.now (bit_of row.now) (bit_of values.new) }
     {
         let _ = &self.gates;
@@ -68,7 +70,8 @@ impl Circuit {
 fn gate_bit(gate: &Gate, values: &Row) -> bool
     requires left { literal_variable gate.now.left < length values.now }
     requires right { literal_variable gate.now.right < length values.now }
-    ensures { result ≡ (literal_bit (bit_of values.now) gate.now.left && literal_bit (bit_of values.now) gate.now.right) }
+    ensures { let m = bit_of values.now in
+        result ≡ (literal_bit m gate.now.left && literal_bit m gate.now.right) }
 {
     literal_bit(values, gate.left) && literal_bit(values, gate.right)
 }

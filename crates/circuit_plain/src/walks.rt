@@ -13,8 +13,9 @@ enum Task {
     Leave(usize),
 }
 
-// The places of the gates in the order in which a depth-first walk leaves them: where the gates have no
-// cycle, each stands behind those that it reads. It promises places alone, since `order` tries each.
+// The places of the gates in the order in which a depth-first walk leaves them: where the gates have
+// no cycle, each stands behind those that it reads. It promises places alone, since `order` tries
+// each of them. Its stack is a list, so a long chain takes no deep recursion.
 pub(crate) fn depth_first(alloc: Global, gates: &[Gate]) -> Result<Vec<usize>, Memory>
     ensures { IfOk result (λ places. All (λ place. place < length gates.now) places.items) }
 {
@@ -63,7 +64,9 @@ fn visit(
     requires in_range { place < length gates.now }
     requires tasks_in_range { All (λ task. task_place task < length gates.now) tasks.old.items }
     ensures in_range { OnOk result (All (λ task. task_place task < length gates.now) tasks.new.items) }
-    ensures ends { OnOk result (length tasks.new.items + 3 * count_by not seen.new ≤ length tasks.old.items + 3 * count_by not seen.old) }
+    ensures ends { OnOk result (
+        length tasks.new.items + 3 * count_by not seen.new
+        ≤ length tasks.old.items + 3 * count_by not seen.old) }
 {
     if !seen[place] {
         seen[place] = true;
