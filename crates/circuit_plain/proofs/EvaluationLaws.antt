@@ -1,5 +1,5 @@
 -- The steps of an evaluation.
-use Rattle.std.proofs.Common.{◌≡◌, ℕ, ◌+◌, ◌<◌, ◌≤◌, ◌⊎◌, inl, inr, Bool, false, ◌&&◌, List, [], ◌∷◌, ◌++◌, map, length, get_or, set, take, drop, refl, sym, ap, ◌∙◌, subst, arith, below_more}
+use Rattle.std.proofs.Common.{◌≡◌, ℕ, ◌+◌, ◌<◌, ◌≤◌, ◌⊎◌, inl, inr, Bool, false, ◌&&◌, List, [], ◌∷◌, ◌++◌, map, length, get_or, set, take, drop, refl, sym, ap, ◌∙◌, subst, arith}
 use Rattle.std.specs.Prelude.{Contains, slice_index}
 use Rattle.std.proofs.lemmas.Bool.{cases_eq}
 use Rattle.std.proofs.lemmas.List.{get_or_default, take_more, map_push, get_or-map, length-map, map-append, take-append-drop, get_or-set_same, get_or-set_other, length-set}
@@ -7,7 +7,7 @@ use Rattle.std.proofs.lemmas.List.Elements.{Contains-push_cases, Contains-append
 use Rattle.dq_lits.specs.Row.{bit_of}
 use Rattle.circuit_plain.specs.declared.circuits.Gate.{Gate}
 use Rattle.circuit_plain.specs.Evaluation.{GivesValues}
-use Rattle.circuit_plain.specs.Netlist.{Netlist, IsNetlist, IsDefined, IsVariable, IsLiteral, variable_of_gate, gate_variables, gate_at, literal_variable, literal_bit}
+use Rattle.circuit_plain.specs.Netlist.{Netlist, IsNetlist, IsDefined, IsLiteral, variable_of_gate, gate_variables, gate_at, literal_variable, literal_bit}
 use Rattle.circuit_plain.specs.Order.{IsSettled, IsReady, IsOrder}
 use Rattle.circuit_plain.specs.Value.{HasValue, constant, input, gate, IsValuation}
 use Rattle.circuit_plain.proofs.NetlistLaws.{gate_fits, gate_at_member}
@@ -28,23 +28,6 @@ pub record InputsWritten (net : Netlist) (row values : List Bool) (n : ℕ) : Ty
   pub long : length values ≡ net.max_var + 1
   pub constant : bit_of values 0 ≡ false
   pub inputs : (k : ℕ) → k < n → bit_of values (slice_index net.inputs k) ≡ bit_of row k
-
-pub write_input : (net : Netlist) (row values : List Bool) (n : ℕ) (v : ℕ) → IsNetlist net → n < length net.inputs
-    → v ≡ slice_index net.inputs n → InputsWritten net row values n → InputsWritten net row (set values v (bit_of row n)) (n + 1)
-write_input net row values n v kept n_in e so_far =
-    let fits : IsVariable net.max_var v = subst (IsVariable net.max_var) (sym e) (kept.inputs_fit n 0 n_in) in
-    let long = so_far.long in
-    let v_in : v < length values = omega (arith, fits.1) in
-    record {
-      long = length-set values v (bit_of row n) ∙ long;
-      constant = get_or-set_other values v 0 (bit_of row n) false (λ z. omega (arith, fits.0)) ∙ so_far.constant;
-      inputs = below_more (λ k. bit_of (set values v (bit_of row n)) (slice_index net.inputs k) ≡ bit_of row k) n
-          (λ k below.
-          get_or-set_other values v (slice_index net.inputs k) (bit_of row n) false
-          (λ same. kept.inputs_once k n 0 below n_in (same ∙ e))
-          ∙ so_far.inputs k below)
-          (rw (← e) (get_or-set_same values v (bit_of row n) false v_in));
-    }
 
 pub inputs_give : (net : Netlist) (row values : List Bool) (n : ℕ) → length net.inputs ≤ n → InputsWritten net row values n
     → GivesValues net (bit_of row) (bit_of values) []

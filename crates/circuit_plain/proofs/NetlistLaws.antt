@@ -59,12 +59,6 @@ pub gate_defined : (net : Netlist) (i : ℕ) (d : Gate) → i < length net.gates
 gate_defined net i d i_in =
     (i, rw length-map i_in, get_or-map variable_of_gate net.gates i d _ i_in)
 
-pub gate_by_variable : (net : Netlist) (v : ℕ) → Contains (gate_variables net) v → (g : Gate) × Contains net.gates g × (g.variable ≡ v)
-gate_by_variable net v (i, i_in, e) =
-    let in_gates : i < length net.gates = rw length-map at i_in in
-    let none : Gate = record { variable = 0; left = 0; right = 0 } in
-    (gate_at net i, Contains-get_or net.gates i none in_gates, sym (get_or-map variable_of_gate net.gates i none v in_gates) ∙ e)
-
 -- the adding calls keep the shape
 pub keeps_input : (net : Netlist) (v : ℕ) → IsNetlist net → IsVariable net.max_var v → ¬ IsDefined net v
     → IsNetlist (record net { inputs = net.inputs ++ v ∷ [] })

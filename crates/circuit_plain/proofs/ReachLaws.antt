@@ -1,8 +1,8 @@
 -- The steps of a walk from marked variables.
-use Rattle.std.proofs.Common.{◌≡◌, ℕ, ◌+◌, ◌<◌, ◌≤◌, ◌⊎◌, inl, inr, Bool, true, false, ◌↔◌, List, map, length, get_or, set, take, replicate, refl, sym, ap, ◌∙◌, subst, arith}
+use Rattle.std.proofs.Common.{◌≡◌, ℕ, ◌+◌, ◌<◌, ◌≤◌, ◌⊎◌, inl, inr, Bool, true, false, List, map, length, get_or, set, take, refl, sym, ap, ◌∙◌, subst, arith}
 use Rattle.std.specs.Prelude.{Contains, slice_index}
-use Rattle.std.proofs.lemmas.Bool.{cases_eq, cases_lt, both_ways}
-use Rattle.std.proofs.lemmas.List.{get_or_default, get_or_past, get_or-map, get_or-take, length-map, length-take, get_or-set_same, get_or-set_other, length-set, length-replicate, get_or-replicate, take_more_set, replicate_more}
+use Rattle.std.proofs.lemmas.Bool.{cases_eq}
+use Rattle.std.proofs.lemmas.List.{get_or_default, get_or-map, get_or-take, length-map, length-take, get_or-set_same, get_or-set_other, length-set}
 use Rattle.dq_lits.specs.Row.{bit_of}
 use Rattle.circuit_plain.specs.declared.circuits.Gate.{Gate}
 use Rattle.circuit_plain.specs.Marking.{MarksReach}
@@ -30,13 +30,6 @@ set_true_cases m x v on =
     elim (cases_eq v x) [
       | inl same ↦ inl same
       | inr other ↦ inr (sym (get_or-set_other m x v true false other) ∙ on)
-    ]
-
-clean_bit : (n v : ℕ) → bit_of (replicate n false) v ≡ false
-clean_bit n v =
-    elim (cases_lt v n) [
-      | inl below ↦ get_or-replicate n v false false below
-      | inr above ↦ get_or_past (replicate n false) v false (rw length-replicate above)
     ]
 
 to_itself : (net : Netlist) (u v : ℕ) → u ≡ v → Reaches net u v
@@ -97,18 +90,6 @@ nothing_marked net order old long = record {
 -- one gate, before the gates that were walked
 module _ (net : Netlist) (order : List ℕ) (old marks : List Bool) (n : ℕ) (kept : IsNetlist net) (ordered : IsOrder net order)
     (n_in : n < length order) (so_far : SidesMarked net order old marks (n + 1)) where
-  pub skip_gate : bit_of marks (gate_at net (slice_index order n)).variable ≡ false → SidesMarked net order old marks n
-  skip_gate off = record {
-    long = so_far.long;
-    kept = so_far.kept;
-    sound = so_far.sound;
-    closed = λ k above k_in on.
-        elim (cases_eq k n) [
-          | inl same ↦ absurd (both_ways (bit_of marks (gate_at net (slice_index order n)).variable) off (rw same at on))
-          | inr other ↦ so_far.closed k (omega arith) k_in on
-        ];
-  }
-
   pub mark_gate : (x y : ℕ) (new : List Bool) → bit_of marks (gate_at net (slice_index order n)).variable ≡ true
       → x ≡ literal_variable (gate_at net (slice_index order n)).left → y ≡ literal_variable (gate_at net (slice_index order n)).right
       → new ≡ set (set marks x true) y true → SidesMarked net order old new n
@@ -172,11 +153,6 @@ module _ (net : Netlist) (order places : List ℕ) (gates : List Gate) (old mark
       let here : g ≡ get_or gates (slice_index order n) g = rw e at read in
       (n_in, gate_read net gates g (slice_index order n) same_gates (ordered.in_range n 0 n_in) here)
 
-  pub walk_past : SidesMarked net order old marks (n + 1) → bit_of marks g.variable ≡ false → SidesMarked net order old marks n
-  walk_past so_far off =
-      skip_gate net order old marks n kept ordered walked_gate.0 so_far
-      (subst (λ (z : Gate). bit_of marks z.variable ≡ false) walked_gate.1 off)
-
   pub walk_over : (new : List Bool) → SidesMarked net order old marks (n + 1) → bit_of marks g.variable ≡ true
       → new ≡ set (set marks (literal_variable g.left) true) (literal_variable g.right) true → SidesMarked net order old new n
   walk_over new so_far on after =
@@ -212,23 +188,3 @@ pub marks_reach : (net : Netlist) (order : List ℕ) (old marks : List Bool) →
     → MarksReach net (bit_of old) (bit_of marks)
 marks_reach net order old marks ordered done v =
     (done.sound v, λ w. closed_reach net order old marks ordered done w.2 (done.kept w.0 w.1))
-
--- from the walk's start at one root
-pub root_reach : (net : Netlist) (n root : ℕ) (old new : List Bool) → root < n → old ≡ set (replicate n false) root true
-    → MarksReach net (bit_of old) (bit_of new) → (v : ℕ) → (bit_of new v ≡ true) ↔ Reaches net root v
-root_reach net n root old new root_in start marked v =
-    let clean : List Bool = replicate n false in
-    let root_on : bit_of old root ≡ true = rw start (get_or-set_same clean root true false (rw length-replicate root_in)) in
-    let only : (u : ℕ) → bit_of old u ≡ true → u ≡ root = λ u on.
-    elim (set_true_cases clean root u (rw start at on)) [
-      | inl same ↦ same
-      | inr before ↦ absurd (both_ways (bit_of clean u) (clean_bit n u) before)
-    ] in (
-      λ on. let w = (marked v).0 on in subst (λ (z : ℕ). Reaches net z v) (only w.0 w.1) w.2,
-      λ r. (marked v).1 (root, root_on, r),
-    )
-
--- a row that is cleared up to a place
-pub clear_more : (row : List Bool) (n : ℕ) → n < length row → take n row ≡ replicate n false
-    → take (n + 1) (set row n false) ≡ replicate (n + 1) false
-clear_more row n n_in so_far = rw (take_more_set, so_far) (replicate_more n false)

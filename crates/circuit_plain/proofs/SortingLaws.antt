@@ -62,16 +62,6 @@ inserted old new key P updates holds v =
 abbrev pub IsLeafBefore : Netlist → ℕ → ℕ → Type 0
 IsLeafBefore net n v = (v ≡ 0) ⊎ ((k : ℕ) × (k < n) × (slice_index net.inputs k ≡ v))
 
-pub leaves_start : (net : Netlist) (old new : BTreeSet ℕ) → old.keys ≡ [] → Updates nat_cmp old new 0 true
-    → (v : ℕ) → (contains nat_cmp new v ≡ true) ↔ IsLeafBefore net 0 v
-leaves_start net old new empty updates v =
-    let nothing : (w : ℕ) → (contains nat_cmp old w ≡ true) ↔ ⊥ =
-    λ w. (λ on. false≢true (ap (λ (keys : List ℕ). list_any (is_at (nat_cmp w)) keys) (sym empty) ∙ on), λ h. absurd h) in
-    let h = inserted old new 0 (λ _. ⊥) updates nothing v in (
-      λ on. elim (h.0 on) [ inl never ↦ absurd never | inr zero_is ↦ inl (sym zero_is) ],
-      λ leaf. elim leaf [ inl z ↦ h.1 (inr (sym z)) | inr (k, below, _) ↦ absurd (omega arith) ],
-    )
-
 pub leaves_more : (net : Netlist) (old new : BTreeSet ℕ) (n v : ℕ) → v ≡ slice_index net.inputs n → Updates nat_cmp old new v true
     → ((w : ℕ) → (contains nat_cmp old w ≡ true) ↔ IsLeafBefore net n w)
     → (w : ℕ) → (contains nat_cmp new w ≡ true) ↔ IsLeafBefore net (n + 1) w
