@@ -1,0 +1,5 @@
+use Rattle.circuit_plain.specs.Sorting.{IsDraft}
+use Rattle.circuit_plain.proofs.circuits.Circuit.put_all.Given as goal
+
+abbrev pub invariant-loop-place : goal.invariant-loop-place
+invariant-loop-place l = IsDraft l.self l.draft.places.items l.draft.settled

@@ -1,0 +1,27 @@
+-- How far a sort of the gates has come.
+use Rattle.std.specs.Prelude.{◌≢◌, ℕ, ◌<◌, ◌⊎◌, ◌↔◌, List, IsTrue, take, length, slice_index, All, AllPairs}
+use Rattle.std.specs.BTreeSet.{BTreeSet, contains}
+use Rattle.std.specs.Ordering.{nat_cmp}
+use Rattle.circuit_plain.specs.Netlist.{Netlist, gate_at}
+use Rattle.circuit_plain.specs.Order.{IsSettled, IsReady}
+
+-- the beginning of an order
+pub record IsPartialOrder (net : Netlist) (places : List ℕ) : Type 0 where
+  pub in_range : All (λ p. p < length net.gates) places
+  pub each_once : AllPairs (λ p q. p ≢ q) places
+  pub follows : (k : ℕ) → k < length places
+      → IsReady net (take k places) (gate_at net (slice_index places k))
+
+-- the beginning of an order, with the set of what it settles
+pub record IsDraft (net : Netlist) (places : List ℕ) (settled : BTreeSet ℕ) : Type 0 where
+  pub partial : IsPartialOrder net places
+  pub exact : (v : ℕ) → IsTrue (contains nat_cmp settled v) ↔ IsSettled net places v
+
+-- the gate at a place is put already, or cannot be put
+abbrev pub IsPassed : Netlist → List ℕ → ℕ → Type 0
+IsPassed net places p =
+    IsSettled net places (gate_at net p).variable ⊎ (¬ IsReady net places (gate_at net p))
+
+-- no further gate can be put
+abbrev pub IsClosed : Netlist → List ℕ → Type 0
+IsClosed net places = (p : ℕ) → p < length net.gates → IsPassed net places p

@@ -1,0 +1,93 @@
+ghost use Rattle.std.specs.Prelude.{◌≡◌, ℕ, Option, None, Some, Result, Err, IfOk};
+ghost use Rattle.circuit_plain.specs.Ground.{IsFirstUngrounded};
+ghost use Rattle.circuit_plain.specs.Order.{IsOrder};
+ghost use Rattle.circuit_plain.specs.Sorting.{IsDraft, IsClosed};
+ghost use Rattle.circuit_plain.specs.declared.orders.OrderStop.TheVariants.{Memory as OutOfMemory};
+
+use crate::circuits::Circuit;
+use crate::sorting::Draft;
+use crate::walks::depth_first;
+use dq_lits::Memory;
+use std::marker::Model;
+use thiserror::Error;
+
+/// Why `order` gave no order.
+#[derive(Clone, Copy, Debug, PartialEq, Eq, Error)]
+pub enum OrderStop {
+    /// The gate at this place is the first that no order can hold: it lies on a cycle of gates, or
+    /// reads a variable that is neither input nor gate, or reads such a gate.
+    #[error("gate {0} cannot be ordered")]
+    Cyclic(usize),
+    /// Want of memory: a growth was refused.
+    #[error("out of memory")]
+    Memory,
+}
+
+impl From<Memory> for OrderStop {
+    ghost from_gives = { λ _ stop. stop ≡ OutOfMemory };
+
+    fn from(_refused: Memory) -> OrderStop {
+        OrderStop::Memory
+    }
+}
+
+/// A topological order of a circuit's gates: their places, each behind those of the gates that it
+/// reads.
+#[derive(Debug, Drop)]
+pub struct Order {
+    places: Vec<usize>,
+}
+
+impl Model for Order {
+    ghost use Rattle.std.specs.Prelude.{ℕ, List};
+
+    ghost Value = { List ℕ };
+
+    ghost view = { λ o. o.places.items };
+}
+
+impl Order {
+    /// The places of the gates, in order.
+    pub fn places(&self) -> &[usize]
+        ensures { result.now ≡ self.now }
+    {
+        &self.places
+    }
+}
+
+impl Circuit {
+    /// An order of the gates in which each stands behind those that it reads, or the first gate
+    /// that no order can hold. It takes time in proportion to n log n for n gates.
+    pub fn order(&self) -> Result<Order, OrderStop>
+        ensures ok { IfOk result (IsOrder self.now) }
+        ensures cyclic { (place : ℕ) → result ≡ Err (OrderStop.Cyclic place)
+            → IsFirstUngrounded self.now place }
+    {
+        let mut draft = self.empty_draft()?;
+        let walked = depth_first(*self.gates.allocator(), &self.gates)?;
+        self.put_all(&walked, &mut draft)?;
+        // The walk leaves gates in an order, so that mostly one round finds that none can be added.
+        while self.put_round(&mut draft)? {}
+        match self.first_unsettled(&draft) {
+            Some(place) => Err(OrderStop::Cyclic(place)),
+            None => Ok(Order {
+                places: draft.places,
+            }),
+        }
+    }
+
+    // The first gate that isn't put.
+    fn first_unsettled(&self, draft: &Draft) -> Option<usize>
+        requires draft { IsDraft self.now draft.now.places.items draft.now.settled }
+        requires closed { IsClosed self.now draft.now.places.items }
+        ensures none { result ≡ None → IsOrder self.now draft.now.places.items }
+        ensures some { (place : ℕ) → result ≡ Some place → IsFirstUngrounded self.now place }
+    {
+        for (place, gate) in self.gates.iter().enumerate() {
+            if !draft.settled.contains(&gate.variable) {
+                return Some(place);
+            }
+        }
+        None
+    }
+}
