@@ -47,7 +47,7 @@ impl<'a> Lines<'a> {
     /// The next line; none at the end.
     pub fn next(&mut self) -> Option<Line<'a>>
         ensures line { MatchOption result (self.old.rest ≡ [])
-            (λ l. lines_from self.old.number self.old.rest ≡ text_line l ∷ lines_from self.new.number self.new.rest) }
+            (λ l. lines_from self.old.number self.old.rest ≡ text_line l self.new.rest ∷ lines_from self.new.number self.new.rest) }
         ensures first { IfSome result (λ l. IsFirstLine self.old.rest l.text.now self.new.rest) }
         ensures number { IfSome result (λ l. l.number ≡ self.old.number) }
         ensures next_number { IfSome result (λ _. self.new.number ≡ self.old.number + 1) }
