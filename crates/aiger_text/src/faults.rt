@@ -1,0 +1,48 @@
+ghost use Rattle.std.specs.Prelude.{◌≡◌};
+ghost use Rattle.aiger_text.specs.declared.faults.AagStop.TheVariants.{Memory as OutOfMemory};
+
+use dq_lits::Memory;
+use thiserror::Error;
+
+/// Why a text isn't a circuit.
+#[derive(Clone, Copy, Debug, PartialEq, Eq)]
+pub enum AagFault {
+    /// The first line isn't `aag` and five to nine natural numbers, or has fewer variables than inputs and gates.
+    BadHeader,
+    /// There are latches, or a section of another kind than inputs, outputs and gates.
+    NotCombinational,
+    /// A line of an input, an output or a gate that hasn't one, one or three natural numbers.
+    BadLine,
+    /// A number of 10^18 or more, or a number of the header over 1,000,000,000.
+    TooBig,
+    /// An input or a gate that isn't the positive literal of a variable, or a literal over the largest.
+    Range,
+    /// An input or a gate whose variable is an input or a gate already.
+    DefinedTwice,
+    /// A line that names a variable that is neither input nor gate.
+    Undefined,
+    /// A gate that lies on a cycle of gates, or reads one that does.
+    Cyclic,
+    /// A line behind the gates that isn't a symbol, or a symbol of nothing or a second one.
+    BadSymbol,
+    /// The text ends before its last gate line.
+    Truncated,
+}
+
+/// Why a reading stopped.
+#[derive(Clone, Copy, Debug, PartialEq, Eq, Error)]
+pub enum AagStop {
+    /// The text is no circuit: its first fault, by line and name.
+    #[error("line {line}: {name:?}")]
+    Refused { line: u64, name: AagFault },
+    #[error("out of memory")]
+    Memory,
+}
+
+impl From<Memory> for AagStop {
+    ghost from_gives = { λ _ stop. stop ≡ OutOfMemory };
+
+    fn from(_refused: Memory) -> AagStop {
+        AagStop::Memory
+    }
+}

@@ -1,0 +1,10 @@
+//! ASCII AIGER, the combinational part, read exactly.
+#![tactic(auto)]
+
+pub use faults::{AagFault, AagStop};
+pub use files::{AagFile, Text};
+pub use symbols::Symbols;
+
+mod faults;
+mod files;
+mod symbols;

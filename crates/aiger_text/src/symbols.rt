@@ -1,0 +1,70 @@
+ghost use Rattle.std.specs.Prelude.{◌≡◌, ◌++◌, ◌∷◌, [], None, OnOk, OnErr};
+ghost use Rattle.std.specs.Option.{option_copied};
+ghost use Rattle.aiger_text.specs.Symbol.{name_at};
+
+use crate::files::Text;
+use dq_lits::Memory;
+use indexmap::IndexMap;
+use std::alloc::Global;
+use std::marker::Model;
+
+/// Names for inputs and outputs, by place from 0.
+#[derive(Debug, Drop)]
+pub struct Symbols {
+    inputs: IndexMap<u64, Text>,
+    outputs: IndexMap<u64, Text>,
+}
+
+impl Model for Symbols {
+    ghost use Rattle.aiger_text.specs.Symbol.{SymbolTable};
+
+    ghost Value = { SymbolTable };
+
+    ghost view = { λ s. record { inputs = s.inputs.entries; outputs = s.outputs.entries } };
+}
+
+impl Symbols {
+    /// No names. It takes no memory.
+    pub fn new(alloc: Global) -> Symbols
+        ensures { result ≡ record { inputs = []; outputs = [] } }
+    {
+        Symbols {
+            inputs: IndexMap::new(alloc),
+            outputs: IndexMap::new(alloc),
+        }
+    }
+
+    /// The name of the input at place `i`, if it has one.
+    pub fn input(&self, i: usize) -> Option<&[u8]>
+        ensures { option_copied result ≡ name_at self.now.inputs i }
+    {
+        Some(self.inputs.get(&(i as u64))?.items())
+    }
+
+    /// The name of the output at place `i`, if it has one.
+    pub fn output(&self, i: usize) -> Option<&[u8]>
+        ensures { option_copied result ≡ name_at self.now.outputs i }
+    {
+        Some(self.outputs.get(&(i as u64))?.items())
+    }
+
+    /// Names an input that has no name yet, behind the other symbols.
+    pub fn add_input(&mut self, i: u64, name: Text) -> Result<(), Memory>
+        requires { name_at self.old.inputs i ≡ None }
+        ensures ok { OnOk result (self.new ≡ record self.old { inputs = self.old.inputs ++ (i, name) ∷ [] }) }
+        ensures err { OnErr result (self.new ≡ self.old) }
+    {
+        self.inputs.insert(i, name)?;
+        Ok(())
+    }
+
+    /// Names an output that has no name yet, behind the other symbols.
+    pub fn add_output(&mut self, i: u64, name: Text) -> Result<(), Memory>
+        requires { name_at self.old.outputs i ≡ None }
+        ensures ok { OnOk result (self.new ≡ record self.old { outputs = self.old.outputs ++ (i, name) ∷ [] }) }
+        ensures err { OnErr result (self.new ≡ self.old) }
+    {
+        self.outputs.insert(i, name)?;
+        Ok(())
+    }
+}
