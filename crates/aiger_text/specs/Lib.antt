@@ -1,1 +1,3 @@
+pub mod Lines
+pub mod Scan
 pub mod Symbol

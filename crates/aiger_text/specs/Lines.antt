@@ -1,0 +1,180 @@
+-- What a line of a circuit file holds (AIGER 1.9, ASCII form).
+use Rattle.std.specs.Prelude.{ℕ, ◌+◌, ◌*◌, ◌/◌, ◌%◌, ◌^◌, ◌==◌, nat_lt, nat_le, ℤ, pos, negsuc, Bool, true, false, not, ◌&&◌, ◌||◌, List, [], ◌∷◌, ◌++◌, length, drop, Option, None, Some, Result, Ok, Err, codes, if◌then◌else◌}
+use Rattle.std.specs.Char.{is_ascii_digit}
+use Rattle.std.specs.List.{take_while, list_any}
+use Rattle.std.specs.Option.{option_map, option_and_then, is_none}
+use Rattle.std.specs.Str.{bytes_eq}
+use Rattle.circuit_plain.specs.Netlist.{Netlist}
+use Rattle.circuit_plain.specs.declared.circuits.Gate.{Gate}
+use Rattle.dq_text.specs.Line.{line_tokens}
+use Rattle.dq_text.specs.Number.{decimal_value, number_of}
+use Rattle.dq_text.specs.declared.numbers.Number.{Number}
+use Rattle.dq_text.specs.declared.numbers.Number.TheVariants.{Int, NotANumber, TooBig as TooBigNumber}
+use Rattle.aiger_text.specs.Symbol.{SymbolTable, name_at}
+use Rattle.aiger_text.specs.declared.faults.AagFault.{AagFault}
+use Rattle.aiger_text.specs.declared.faults.AagFault.TheVariants.{BadHeader, NotCombinational, BadLine, TooBig, Range, DefinedTwice, BadSymbol}
+
+abbrev pub begins_with_minus : List ℕ → Bool
+begins_with_minus [] = false
+begins_with_minus (byte ∷ _) = byte == 45
+
+abbrev pub natural_number : Bool → Number → Option ℕ
+natural_number minus NotANumber = None
+natural_number minus TooBigNumber = if minus then None else Some (10 ^ 18)
+natural_number minus (Int (pos n)) = Some n
+natural_number minus (Int (negsuc n)) = None
+
+-- a token as a natural number, where 10^18 stands for every larger one
+abbrev pub natural_of : List ℕ → Option ℕ
+natural_of token = natural_number (begins_with_minus token) (number_of token)
+
+-- the natural numbers that these tokens are, if all are
+abbrev pub numbers_of : List (List ℕ) → Option (List ℕ)
+numbers_of [] = Some []
+numbers_of (token ∷ tokens) = option_and_then (λ n. option_map (λ ns. n ∷ ns) (numbers_of tokens)) (natural_of token)
+
+-- the counts of the header
+pub record Header : Type 0 where
+  pub max_var : ℕ
+  pub inputs : ℕ
+  pub outputs : ℕ
+  pub gates : ℕ
+
+abbrev pub max_count : ℕ
+max_count = 1000000000
+
+-- latches and the sections behind the gates are left out
+abbrev pub counts_of : List ℕ → Result Header AagFault
+counts_of (m ∷ i ∷ l ∷ o ∷ a ∷ more) =
+    if not (l == 0) || list_any (λ n. not (n == 0)) more then Err NotCombinational else
+    if nat_lt m (i + a) then Err BadHeader else
+    Ok (record { max_var = m; inputs = i; outputs = o; gates = a })
+counts_of _ = Err BadHeader
+
+abbrev pub header_numbers : Option (List ℕ) → Result Header AagFault
+header_numbers None = Err BadHeader
+header_numbers (Some ns) =
+    if nat_lt (length ns) 5 || nat_lt 9 (length ns) then Err BadHeader else
+    if list_any (λ n. nat_lt max_count n) ns then Err TooBig else
+    counts_of ns
+
+-- `aag` and five to nine natural numbers
+abbrev pub header_of : List (List ℕ) → Result Header AagFault
+header_of [] = Err BadHeader
+header_of (word ∷ tokens) = if bytes_eq word (codes "aag") then header_numbers (numbers_of tokens) else Err BadHeader
+
+-- the variable is an input or a gate
+abbrev pub is_defined : Netlist → ℕ → Bool
+is_defined net v = list_any (λ x. x == v) net.inputs || list_any (λ g. g.variable == v) net.gates
+
+-- the positive literal of a variable in range
+abbrev pub is_positive : ℕ → ℕ → Bool
+is_positive max_var l = (l % 2 == 0) && (nat_le 2 l && nat_le l (2 * max_var))
+
+abbrev pub is_literal : ℕ → ℕ → Bool
+is_literal max_var l = nat_le l (2 * max_var + 1)
+
+abbrev pub is_too_big : ℕ → Bool
+is_too_big n = nat_le (10 ^ 18) n
+
+abbrev pub with_input : Netlist → ℕ → Netlist
+with_input net v = record net { inputs = net.inputs ++ v ∷ [] }
+
+abbrev pub with_output : Netlist → ℕ → Netlist
+with_output net l = record net { outputs = net.outputs ++ l ∷ [] }
+
+abbrev pub with_gate : Netlist → Gate → Netlist
+with_gate net gate = record net { gates = net.gates ++ gate ∷ [] }
+
+abbrev pub input_of : Netlist → ℕ → Result Netlist AagFault
+input_of net l =
+    if is_too_big l then Err TooBig else
+    if not (is_positive net.max_var l) then Err Range else
+    if is_defined net (l / 2) then Err DefinedTwice else
+    Ok (with_input net (l / 2))
+
+abbrev pub output_of : Netlist → ℕ → Result Netlist AagFault
+output_of net l =
+    if is_too_big l then Err TooBig else
+    if not (is_literal net.max_var l) then Err Range else
+    Ok (with_output net l)
+
+abbrev pub gate_of : Netlist → ℕ → ℕ → ℕ → Result Netlist AagFault
+gate_of net lhs left right =
+    if is_too_big lhs || (is_too_big left || is_too_big right) then Err TooBig else
+    if not (is_positive net.max_var lhs && (is_literal net.max_var left && is_literal net.max_var right)) then Err Range else
+    if is_defined net (lhs / 2) then Err DefinedTwice else
+    Ok (with_gate net (record { variable = lhs / 2; left = left; right = right }))
+
+-- one natural number on the line
+abbrev pub input_line : Netlist → Option (List ℕ) → Result Netlist AagFault
+input_line net (Some (l ∷ [])) = input_of net l
+input_line net _ = Err BadLine
+
+abbrev pub output_line : Netlist → Option (List ℕ) → Result Netlist AagFault
+output_line net (Some (l ∷ [])) = output_of net l
+output_line net _ = Err BadLine
+
+-- three of them
+abbrev pub gate_line : Netlist → Option (List ℕ) → Result Netlist AagFault
+gate_line net (Some (lhs ∷ left ∷ right ∷ [])) = gate_of net lhs left right
+gate_line net _ = Err BadLine
+
+-- a name without the CRs at its end
+abbrev pub keep_byte : ℕ → List ℕ → List ℕ
+keep_byte byte [] = if byte == 13 then [] else byte ∷ []
+keep_byte byte (next ∷ rest) = byte ∷ next ∷ rest
+
+abbrev pub without_end_crs : List ℕ → List ℕ
+without_end_crs [] = []
+without_end_crs (byte ∷ bytes) = keep_byte byte (without_end_crs bytes)
+
+-- a symbol line: `i` or `o`, a place in digits, a space or a tab, and a name
+pub record SymbolLine : Type 0 where
+  pub of_input : Bool
+  pub place : ℕ
+  pub name : List ℕ
+
+abbrev pub if_named : Bool → ℕ → List ℕ → Option SymbolLine
+if_named of_input place [] = None
+if_named of_input place (byte ∷ bytes) = Some (record { of_input = of_input; place = place; name = byte ∷ bytes })
+
+abbrev pub behind_place : Bool → List ℕ → List ℕ → Option SymbolLine
+behind_place of_input [] _ = None
+behind_place of_input (_ ∷ _) [] = None
+behind_place of_input (digit ∷ digits) (separator ∷ name) =
+    if separator == 32 || (separator == 9) then if_named of_input (decimal_value (digit ∷ digits)) (without_end_crs name) else None
+
+abbrev pub behind_kind : Bool → List ℕ → Option SymbolLine
+behind_kind of_input bytes =
+    let digits = take_while is_ascii_digit bytes in
+    behind_place of_input digits (drop (length digits) bytes)
+
+abbrev pub symbol_of : List ℕ → Option SymbolLine
+symbol_of [] = None
+symbol_of (kind ∷ bytes) = if kind == 105 then behind_kind true bytes else if kind == 111 then behind_kind false bytes else None
+
+-- a place of an input or an output that has no symbol yet
+abbrev pub add_symbol : Header → SymbolTable → SymbolLine → Result SymbolTable AagFault
+add_symbol header table s =
+    if s.of_input
+    then (if nat_lt s.place header.inputs && is_none (name_at table.inputs s.place)
+      then Ok (record table { inputs = table.inputs ++ (s.place, s.name) ∷ [] }) else Err BadSymbol)
+    else (if nat_lt s.place header.outputs && is_none (name_at table.outputs s.place)
+      then Ok (record table { outputs = table.outputs ++ (s.place, s.name) ∷ [] }) else Err BadSymbol)
+
+abbrev pub symbol_line : Header → SymbolTable → Option SymbolLine → Result SymbolTable AagFault
+symbol_line header table None = Err BadSymbol
+symbol_line header table (Some s) = add_symbol header table s
+
+abbrev pub has_no_token : List (List ℕ) → Bool
+has_no_token [] = true
+has_no_token (_ ∷ _) = false
+
+abbrev pub is_blank_line : List ℕ → Bool
+is_blank_line text = has_no_token (line_tokens text)
+
+-- `c`, and blanks behind it
+abbrev pub begins_comment : List ℕ → Bool
+begins_comment [] = false
+begins_comment (byte ∷ bytes) = (byte == 99) && is_blank_line bytes
