@@ -1,3 +1,4 @@
+pub mod LineStop
 pub mod Lines
 pub mod Scan
 pub mod Symbol

@@ -1,5 +1,5 @@
 -- What a line of a circuit file holds (AIGER 1.9, ASCII form).
-use Rattle.std.specs.Prelude.{ℕ, ◌+◌, ◌*◌, ◌/◌, ◌%◌, ◌^◌, ◌==◌, nat_lt, nat_le, ℤ, pos, negsuc, Bool, true, false, not, ◌&&◌, ◌||◌, List, [], ◌∷◌, ◌++◌, length, drop, Option, None, Some, Result, Ok, Err, codes, if◌then◌else◌}
+use Rattle.std.specs.Prelude.{ℕ, ◌+◌, ◌*◌, ◌/◌, ◌%◌, ◌^◌, ◌==◌, nat_lt, nat_le, ℤ, pos, negsuc, Bool, true, false, not, ◌&&◌, ◌||◌, List, [], ◌∷◌, ◌++◌, length, drop, slice_index, Option, None, Some, Result, Ok, Err, codes, if◌then◌else◌}
 use Rattle.std.specs.Char.{is_ascii_digit}
 use Rattle.std.specs.List.{take_while, list_any}
 use Rattle.std.specs.Option.{option_map, option_and_then, is_none}
@@ -11,6 +11,7 @@ use Rattle.dq_text.specs.Number.{decimal_value, number_of}
 use Rattle.dq_text.specs.declared.numbers.Number.{Number}
 use Rattle.dq_text.specs.declared.numbers.Number.TheVariants.{Int, NotANumber, TooBig as TooBigNumber}
 use Rattle.aiger_text.specs.Symbol.{SymbolTable, name_at}
+use Rattle.aiger_text.specs.declared.headers.Header.{Header}
 use Rattle.aiger_text.specs.declared.faults.AagFault.{AagFault}
 use Rattle.aiger_text.specs.declared.faults.AagFault.TheVariants.{BadHeader, NotCombinational, BadLine, TooBig, Range, DefinedTwice, BadSymbol}
 
@@ -33,30 +34,22 @@ abbrev pub numbers_of : List (List ℕ) → Option (List ℕ)
 numbers_of [] = Some []
 numbers_of (token ∷ tokens) = option_and_then (λ n. option_map (λ ns. n ∷ ns) (numbers_of tokens)) (natural_of token)
 
--- the counts of the header
-pub record Header : Type 0 where
-  pub max_var : ℕ
-  pub inputs : ℕ
-  pub outputs : ℕ
-  pub gates : ℕ
-
 abbrev pub max_count : ℕ
 max_count = 1000000000
 
--- latches and the sections behind the gates are left out
+-- latches and the sections behind the gates are left out; the numbers stand as M I L O A, and others behind them
 abbrev pub counts_of : List ℕ → Result Header AagFault
-counts_of (m ∷ i ∷ l ∷ o ∷ a ∷ more) =
-    if not (l == 0) || list_any (λ n. not (n == 0)) more then Err NotCombinational else
-    if nat_lt m (i + a) then Err BadHeader else
-    Ok (record { max_var = m; inputs = i; outputs = o; gates = a })
-counts_of _ = Err BadHeader
+counts_of ns =
+    if not (slice_index ns 2 == 0) || list_any (λ n. not (n == 0)) (drop 5 ns) then Err NotCombinational else
+    if nat_lt (slice_index ns 0) (slice_index ns 1 + slice_index ns 4) then Err BadHeader else
+    Ok (record { max_var = slice_index ns 0; inputs = slice_index ns 1; outputs = slice_index ns 3; gates = slice_index ns 4 })
+
+abbrev pub limited_counts_of : List ℕ → Result Header AagFault
+limited_counts_of ns = if list_any (λ n. nat_lt max_count n) ns then Err TooBig else counts_of ns
 
 abbrev pub header_numbers : Option (List ℕ) → Result Header AagFault
 header_numbers None = Err BadHeader
-header_numbers (Some ns) =
-    if nat_lt (length ns) 5 || nat_lt 9 (length ns) then Err BadHeader else
-    if list_any (λ n. nat_lt max_count n) ns then Err TooBig else
-    counts_of ns
+header_numbers (Some ns) = if nat_lt (length ns) 5 || nat_lt 9 (length ns) then Err BadHeader else limited_counts_of ns
 
 -- `aag` and five to nine natural numbers
 abbrev pub header_of : List (List ℕ) → Result Header AagFault
@@ -107,18 +100,35 @@ gate_of net lhs left right =
     Ok (with_gate net (record { variable = lhs / 2; left = left; right = right }))
 
 -- one natural number on the line
+abbrev pub one_of : Option (List ℕ) → Result ℕ AagFault
+one_of (Some (l ∷ [])) = Ok l
+one_of _ = Err BadLine
+
+-- three of them: the gate that they are, with a literal for its variable
+abbrev pub three_of : Option (List ℕ) → Result Gate AagFault
+three_of (Some (lhs ∷ left ∷ right ∷ [])) = Ok (record { variable = lhs; left = left; right = right })
+three_of _ = Err BadLine
+
+abbrev pub input_from : Netlist → Result ℕ AagFault → Result Netlist AagFault
+input_from net (Ok l) = input_of net l
+input_from net (Err name) = Err name
+
+abbrev pub output_from : Netlist → Result ℕ AagFault → Result Netlist AagFault
+output_from net (Ok l) = output_of net l
+output_from net (Err name) = Err name
+
+abbrev pub gate_from : Netlist → Result Gate AagFault → Result Netlist AagFault
+gate_from net (Ok g) = gate_of net g.variable g.left g.right
+gate_from net (Err name) = Err name
+
 abbrev pub input_line : Netlist → Option (List ℕ) → Result Netlist AagFault
-input_line net (Some (l ∷ [])) = input_of net l
-input_line net _ = Err BadLine
+input_line net ns = input_from net (one_of ns)
 
 abbrev pub output_line : Netlist → Option (List ℕ) → Result Netlist AagFault
-output_line net (Some (l ∷ [])) = output_of net l
-output_line net _ = Err BadLine
+output_line net ns = output_from net (one_of ns)
 
--- three of them
 abbrev pub gate_line : Netlist → Option (List ℕ) → Result Netlist AagFault
-gate_line net (Some (lhs ∷ left ∷ right ∷ [])) = gate_of net lhs left right
-gate_line net _ = Err BadLine
+gate_line net ns = gate_from net (three_of ns)
 
 -- a name without the CRs at its end
 abbrev pub keep_byte : ℕ → List ℕ → List ℕ
@@ -159,9 +169,9 @@ abbrev pub add_symbol : Header → SymbolTable → SymbolLine → Result SymbolT
 add_symbol header table s =
     if s.of_input
     then (if nat_lt s.place header.inputs && is_none (name_at table.inputs s.place)
-      then Ok (record table { inputs = table.inputs ++ (s.place, s.name) ∷ [] }) else Err BadSymbol)
+    then Ok (record table { inputs = table.inputs ++ (s.place, s.name) ∷ [] }) else Err BadSymbol)
     else (if nat_lt s.place header.outputs && is_none (name_at table.outputs s.place)
-      then Ok (record table { outputs = table.outputs ++ (s.place, s.name) ∷ [] }) else Err BadSymbol)
+    then Ok (record table { outputs = table.outputs ++ (s.place, s.name) ∷ [] }) else Err BadSymbol)
 
 abbrev pub symbol_line : Header → SymbolTable → Option SymbolLine → Result SymbolTable AagFault
 symbol_line header table None = Err BadSymbol

@@ -1,5 +1,6 @@
 ghost use Rattle.std.specs.Prelude.{◌≡◌};
 ghost use Rattle.aiger_text.specs.declared.faults.AagStop.TheVariants.{Memory as OutOfMemory};
+ghost use Rattle.aiger_text.specs.declared.faults.LineStop.TheVariants.{Fault, Memory as LineOutOfMemory};
 
 use dq_lits::Memory;
 use thiserror::Error;
@@ -44,5 +45,30 @@ impl From<Memory> for AagStop {
 
     fn from(_refused: Memory) -> AagStop {
         AagStop::Memory
+    }
+}
+
+/// Why a line stopped the reading.
+#[derive(Clone, Copy, Debug, PartialEq, Eq, Error)]
+pub enum LineStop {
+    #[error("{0:?}")]
+    Fault(AagFault),
+    #[error("out of memory")]
+    Memory,
+}
+
+impl From<Memory> for LineStop {
+    ghost from_gives = { λ _ stop. stop ≡ LineOutOfMemory };
+
+    fn from(_refused: Memory) -> LineStop {
+        LineStop::Memory
+    }
+}
+
+impl From<AagFault> for LineStop {
+    ghost from_gives = { λ fault stop. stop ≡ Fault fault };
+
+    fn from(fault: AagFault) -> LineStop {
+        LineStop::Fault(fault)
     }
 }

@@ -7,4 +7,6 @@ pub use symbols::Symbols;
 
 mod faults;
 mod files;
+mod headers;
+mod numbers;
 mod symbols;

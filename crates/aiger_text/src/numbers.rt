@@ -1,0 +1,68 @@
+//! The natural numbers of a line.
+
+ghost use Rattle.std.specs.Prelude.{◌≡◌, [], Some, None, IfOk, if◌then◌else◌};
+ghost use Rattle.dq_text.specs.Line.{line_tokens};
+ghost use Rattle.aiger_text.specs.Lines.{natural_of, numbers_of, one_of, three_of};
+ghost use Rattle.aiger_text.specs.LineStop.{IsLineOf};
+
+use crate::faults::{AagFault, LineStop};
+use circuit_plain::Gate;
+use dq_lits::Memory;
+use dq_text::{LineTokens, Number, read_number};
+
+/// Stands for every number of 10^18 or more.
+pub const TOO_BIG: u64 = 1_000_000_000_000_000_000;
+
+// A token as a natural number.
+fn natural(token: &[u8]) -> Option<u64>
+    ensures { result ≡ natural_of token.now }
+{
+    match read_number(token) {
+        Number::NotANumber => None,
+        Number::TooBig if matches!(token.first(), Some(b'-')) => None,
+        Number::TooBig => Some(TOO_BIG),
+        Number::Int(n) if n < 0 => None,
+        Number::Int(n) => Some(n.unsigned_abs()),
+    }
+}
+
+/// Puts the numbers that the tokens are in place of those in the buffer, and says whether all tokens
+/// are natural numbers.
+pub fn take_numbers(tokens: &mut LineTokens, numbers: &mut Vec<u64>) -> Result<bool, Memory>
+    ensures { IfOk result (λ all. numbers_of tokens.old ≡ (if all then Some numbers.new.items else None)) }
+{
+    numbers.clear();
+    while let Some(token) = tokens.next() {
+        let Some(n) = natural(token) else {
+            return Ok(false);
+        };
+        numbers.push(n)?;
+    }
+    Ok(true)
+}
+
+/// The one natural number of a line.
+pub fn one_number(line: &[u8], numbers: &mut Vec<u64>) -> Result<u64, LineStop>
+    ensures { IsLineOf (one_of (numbers_of (line_tokens line.now))) result }
+{
+    let all = take_numbers(&mut LineTokens::new(line), numbers)?;
+    match numbers.as_slice() {
+        [n] if all => Ok(*n),
+        _ => Err(LineStop::Fault(AagFault::BadLine)),
+    }
+}
+
+/// The three natural numbers of a line, as a gate whose variable stands as a literal.
+pub fn three_numbers(line: &[u8], numbers: &mut Vec<u64>) -> Result<Gate, LineStop>
+    ensures { IsLineOf (three_of (numbers_of (line_tokens line.now))) result }
+{
+    let all = take_numbers(&mut LineTokens::new(line), numbers)?;
+    match numbers.as_slice() {
+        [lhs, left, right] if all => Ok(Gate {
+            variable: *lhs,
+            left: *left,
+            right: *right,
+        }),
+        _ => Err(LineStop::Fault(AagFault::BadLine)),
+    }
+}
