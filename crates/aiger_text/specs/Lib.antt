@@ -2,3 +2,4 @@ pub mod LineStop
 pub mod Lines
 pub mod Scan
 pub mod Symbol
+pub mod SymbolEntry

@@ -1,13 +1,13 @@
 -- What a line of a circuit file holds (AIGER 1.9, ASCII form).
-use Rattle.std.specs.Prelude.{ℕ, ◌+◌, ◌*◌, ◌/◌, ◌%◌, ◌^◌, ◌==◌, nat_lt, nat_le, ℤ, pos, negsuc, Bool, true, false, not, ◌&&◌, ◌||◌, List, [], ◌∷◌, ◌++◌, length, drop, slice_index, Option, None, Some, Result, Ok, Err, codes, if◌then◌else◌}
+use Rattle.std.specs.Prelude.{ℕ, ◌+◌, ◌*◌, ◌/◌, ◌%◌, ◌^◌, ◌==◌, nat_lt, nat_le, ℤ, pos, negsuc, Bool, true, false, not, ◌&&◌, ◌||◌, List, [], ◌∷◌, ◌++◌, length, take, drop, slice_index, Option, None, Some, Result, Ok, Err, codes, if◌then◌else◌}
 use Rattle.std.specs.Char.{is_ascii_digit}
-use Rattle.std.specs.List.{take_while, list_any}
+use Rattle.std.specs.List.{list_any, position_or_len}
 use Rattle.std.specs.Option.{option_map, option_and_then, is_none}
 use Rattle.std.specs.Str.{bytes_eq}
 use Rattle.circuit_plain.specs.Netlist.{Netlist}
 use Rattle.circuit_plain.specs.declared.circuits.Gate.{Gate}
 use Rattle.dq_text.specs.Line.{line_tokens}
-use Rattle.dq_text.specs.Number.{decimal_value, number_of}
+use Rattle.dq_text.specs.Number.{number_of}
 use Rattle.dq_text.specs.declared.numbers.Number.{Number}
 use Rattle.dq_text.specs.declared.numbers.Number.TheVariants.{Int, NotANumber, TooBig as TooBigNumber}
 use Rattle.aiger_text.specs.Symbol.{SymbolTable, name_at}
@@ -149,16 +149,18 @@ abbrev pub if_named : Bool → ℕ → List ℕ → Option SymbolLine
 if_named of_input place [] = None
 if_named of_input place (byte ∷ bytes) = Some (record { of_input = of_input; place = place; name = byte ∷ bytes })
 
-abbrev pub behind_place : Bool → List ℕ → List ℕ → Option SymbolLine
-behind_place of_input [] _ = None
-behind_place of_input (_ ∷ _) [] = None
-behind_place of_input (digit ∷ digits) (separator ∷ name) =
-    if separator == 32 || (separator == 9) then if_named of_input (decimal_value (digit ∷ digits)) (without_end_crs name) else None
+abbrev pub behind_place : Bool → ℕ → List ℕ → Option SymbolLine
+behind_place of_input place [] = None
+behind_place of_input place (separator ∷ name) =
+    if separator == 32 || (separator == 9) then if_named of_input place (without_end_crs name) else None
+
+-- where the digits end
+abbrev pub digits_end : List ℕ → ℕ
+digits_end bytes = position_or_len (λ byte. not (is_ascii_digit byte)) bytes
 
 abbrev pub behind_kind : Bool → List ℕ → Option SymbolLine
 behind_kind of_input bytes =
-    let digits = take_while is_ascii_digit bytes in
-    behind_place of_input digits (drop (length digits) bytes)
+    option_and_then (λ place. behind_place of_input place (drop (digits_end bytes) bytes)) (natural_of (take (digits_end bytes) bytes))
 
 abbrev pub symbol_of : List ℕ → Option SymbolLine
 symbol_of [] = None

@@ -9,4 +9,5 @@ mod faults;
 mod files;
 mod headers;
 mod numbers;
+mod symbol_lines;
 mod symbols;

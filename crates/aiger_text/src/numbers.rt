@@ -13,8 +13,8 @@ use dq_text::{LineTokens, Number, read_number};
 /// Stands for every number of 10^18 or more.
 pub const TOO_BIG: u64 = 1_000_000_000_000_000_000;
 
-// A token as a natural number.
-fn natural(token: &[u8]) -> Option<u64>
+/// A token as a natural number, where 10^18 stands for every larger one.
+pub fn natural(token: &[u8]) -> Option<u64>
     ensures { result ≡ natural_of token.now }
 {
     match read_number(token) {

@@ -1,0 +1,34 @@
+-- Names without the CRs at their end, and where digits end.
+use Rattle.std.proofs.Common.{◌≡◌, ◌≢◌, ℕ, ◌+◌, ◌≤◌, ◌==◌, nat_lt, Bool, true, false, not, cond, List, [], ◌∷◌, ◌++◌, length, Option, Some, None, refl, sym, ◌∙◌, ap, arith, ◌⊎◌, inl, inr}
+use Rattle.std.specs.List.{position, position_or_len}
+use Rattle.std.specs.Option.{unwrap_or}
+use Rattle.std.proofs.lemmas.Bool.{ne_eqb, ltb-false, cases_Bool}
+use Rattle.aiger_text.specs.Lines.{keep_byte, without_end_crs}
+
+pub without_end_crs-push : (xs : List ℕ) → without_end_crs (xs ++ 13 ∷ []) ≡ without_end_crs xs
+without_end_crs-push [] = refl
+without_end_crs-push (x ∷ xs) = ap (keep_byte x) (without_end_crs-push xs)
+
+kept_before : (x b : ℕ) (xs : List ℕ) → keep_byte x (xs ++ b ∷ []) ≡ x ∷ (xs ++ b ∷ [])
+kept_before x b [] = refl
+kept_before x b (y ∷ ys) = refl
+
+pub without_end_crs-other : (xs : List ℕ) (b : ℕ) → b ≢ 13 → without_end_crs (xs ++ b ∷ []) ≡ xs ++ b ∷ []
+without_end_crs-other [] b other = ap (λ t. cond t [] (b ∷ [])) (ne_eqb b 13 other)
+without_end_crs-other (x ∷ xs) b other = ap (keep_byte x) (without_end_crs-other xs b other) ∙ kept_before x b xs
+
+pub position-le : (p : ℕ → Bool) (xs : List ℕ) → position_or_len p xs ≤ length xs
+position-le p [] = omega arith
+position-le p (x ∷ xs) =
+    elim (cases_Bool (not (p x))) [
+      inl more ↦ rw more (omega (arith, position-le p xs))
+    | inr none ↦ rw none (omega arith)
+    ]
+
+choose : (p : ℕ → Bool) (xs : List ℕ) (b : Bool) → nat_lt (position_or_len p xs) (length xs) ≡ b → position_or_len p xs ≤ length xs →
+    unwrap_or (cond b (Some (position_or_len p xs)) None) (length xs) ≡ position_or_len p xs
+choose p xs true found within = refl
+choose p xs false past within = let far = ltb-false (position_or_len p xs) (length xs) past in omega arith
+
+pub unwrap_position : (p : ℕ → Bool) (xs : List ℕ) → unwrap_or (position p xs) (length xs) ≡ position_or_len p xs
+unwrap_position p xs = choose p xs (nat_lt (position_or_len p xs) (length xs)) refl (position-le p xs)
