@@ -3,7 +3,7 @@ ghost use Rattle.std.specs.Bool.{OnTrue, OnFalse};
 ghost use Rattle.std.specs.BTreeSet.{contains};
 ghost use Rattle.std.specs.Ordering.{nat_cmp};
 ghost use Rattle.circuit_plain.specs.Netlist.{literal_variable};
-ghost use Rattle.circuit_plain.specs.Sorting.{IsDraft, IsPassed, IsClosed};
+ghost use Rattle.circuit_plain.specs.Steps.{IsDraft, IsPassed, IsClosed};
 
 use crate::circuits::{Circuit, Gate};
 use dq_lits::Memory;
