@@ -35,6 +35,7 @@ impl Circuit {
     }
 
     // Puts a gate whose right sides are settled, where it isn't put yet, and says whether it did.
+    // Where memory is refused the draft is of no more use.
     fn put(&self, place: usize, draft: &mut Draft) -> Result<bool, Memory>
         requires in_range { place < length self.now.gates }
         requires draft { IsDraft self.now draft.old.places.items draft.old.settled }
