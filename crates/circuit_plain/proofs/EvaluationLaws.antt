@@ -6,7 +6,7 @@ use Rattle.std.proofs.lemmas.List.{get_or_default, take_more, map_push, get_or-m
 use Rattle.std.proofs.lemmas.List.Elements.{Contains-push_cases, Contains-append_left, Contains-get_or, All-from_get_or}
 use Rattle.dq_lits.specs.Row.{bit_of}
 use Rattle.circuit_plain.specs.declared.circuits.Gate.{Gate}
-use Rattle.circuit_plain.specs.Evaluation.{GivesValues}
+use Rattle.circuit_plain.specs.Steps.{GivesValues}
 use Rattle.circuit_plain.specs.Netlist.{Netlist, IsNetlist, IsDefined, IsLiteral, variable_of_gate, gate_variables, gate_at, literal_variable, literal_bit}
 use Rattle.circuit_plain.specs.Order.{IsSettled, IsReady, IsOrder}
 use Rattle.circuit_plain.specs.Value.{HasValue, constant, input, gate, IsValuation}

@@ -6,7 +6,7 @@ use Rattle.circuit_plain.specs.declared.circuits.Gate.{Gate}
 use Rattle.circuit_plain.specs.Ground.{IsGrounded, constant, input, gate}
 use Rattle.circuit_plain.specs.Netlist.{Netlist, gate_at}
 use Rattle.circuit_plain.specs.Order.{IsSettled, IsReady, IsOrder, OrdersGround}
-use Rattle.circuit_plain.specs.Sorting.{IsPartialOrder, IsClosed}
+use Rattle.circuit_plain.specs.Steps.{IsPartialOrder, IsClosed}
 use Rattle.circuit_plain.proofs.EvaluationLaws.{settled_cases, settled_defined}
 use Rattle.circuit_plain.proofs.NetlistLaws.{gate_at_member}
 
@@ -48,7 +48,7 @@ settled_ground net places partial v settled =
 
 pub orders_ground : OrdersGround
 orders_ground net order v ordered defined =
-    settled_ground net order (partial_of_order net order ordered) v (settled_defined net order v ordered (inr defined))
+    settled_ground net order (partial_of_order net order ordered) v (settled_defined net order v ordered defined)
 
 put_since_ready : (net : Netlist) (places : List ℕ) → IsClosed net places → (g : Gate) → Contains net.gates g → IsReady net places g → IsSettled net places g.variable
 put_since_ready net places closed g (p, p_in, is) ready =

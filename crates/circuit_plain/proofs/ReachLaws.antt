@@ -5,7 +5,7 @@ use Rattle.std.proofs.lemmas.Bool.{cases_eq}
 use Rattle.std.proofs.lemmas.List.{get_or_default, get_or-map, get_or-take, length-map, length-take, get_or-set_same, get_or-set_other, length-set}
 use Rattle.dq_lits.specs.Row.{bit_of}
 use Rattle.circuit_plain.specs.declared.circuits.Gate.{Gate}
-use Rattle.circuit_plain.specs.Marking.{MarksReach}
+use Rattle.circuit_plain.specs.Steps.{MarksReach}
 use Rattle.circuit_plain.specs.Netlist.{Netlist, IsNetlist, variable_of_gate, gate_at, literal_variable}
 use Rattle.circuit_plain.specs.Order.{IsSettled, IsOrder}
 use Rattle.circuit_plain.specs.Reach.{Reaches, itself, left, right}

@@ -19,7 +19,7 @@ use Rattle.circuit_plain.specs.declared.circuits.Gate.{Gate}
 use Rattle.circuit_plain.specs.Ground.{IsFirstUngrounded}
 use Rattle.circuit_plain.specs.Netlist.{Netlist, IsNetlist, variable_of_gate, gate_at, literal_variable}
 use Rattle.circuit_plain.specs.Order.{IsSettled, IsReady, IsOrder}
-use Rattle.circuit_plain.specs.Sorting.{IsPartialOrder, IsDraft, IsPassed, IsClosed}
+use Rattle.circuit_plain.specs.Steps.{IsPartialOrder, IsDraft, IsPassed, IsClosed}
 use Rattle.circuit_plain.proofs.EvaluationLaws.{settled_cases, Contains-map, gate_read}
 use Rattle.circuit_plain.proofs.NetlistLaws.{same_place, gate_fits, input_apart, gate_at_member}
 use Rattle.circuit_plain.proofs.OrderLaws.{settled_ground, grounded_settled}

@@ -3,7 +3,7 @@ use Rattle.std.proofs.Common.{◌≡◌, ℕ, ◌<◌, Bool, List, [], ◌∷◌
 use Rattle.std.specs.Prelude.{All, IfSome}
 use Rattle.std.specs.Option.{option_to_list}
 use Rattle.std.proofs.lemmas.List.Elements.{All-pop, All-push}
-use Rattle.circuit_plain.specs.Walking.{task_place}
+use Rattle.circuit_plain.specs.Steps.{task_place}
 use Rattle.circuit_plain.specs.declared.walks.Task.{Task}
 use Rattle.circuit_plain.specs.declared.walks.Task.TheVariants.{Leave}
 

@@ -22,7 +22,7 @@ pub record IsOrder (net : Netlist) (order : List ℕ) : Type 0 where
   pub follows : (k : ℕ) → k < length order
       → IsReady net (take k order) (gate_at net (slice_index order k))
 
--- with an order every input and gate is in the least set
+-- with an order the constant, every input and every gate is in the least set
 abbrev pub OrdersGround : Type 0
-OrdersGround = (net : Netlist) (order : List ℕ) (v : ℕ) → IsOrder net order → IsDefined net v
+OrdersGround = (net : Netlist) (order : List ℕ) (v : ℕ) → IsOrder net order → (v ≡ 0) ⊎ IsDefined net v
     → IsGrounded net v

@@ -1,6 +1,6 @@
 ghost use Rattle.std.specs.Prelude.{◌≡◌, ◌+◌, ◌<◌, ◌≤◌, ◌↔◌, ℕ, true, false, length, replicate, slice_index, slice_set, IsTrue};
 ghost use Rattle.dq_lits.specs.Row.{bit_of};
-ghost use Rattle.circuit_plain.specs.Marking.{MarksReach};
+ghost use Rattle.circuit_plain.specs.Steps.{MarksReach};
 ghost use Rattle.circuit_plain.specs.Netlist.{literal_variable};
 ghost use Rattle.circuit_plain.specs.Order.{IsOrder};
 ghost use Rattle.circuit_plain.specs.Reach.{Reaches};

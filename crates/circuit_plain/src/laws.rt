@@ -23,7 +23,7 @@ pub fn valuations_agree()
     ensures { ValuationsAgree }
 {}
 
-/// With an order every input and every gate is in the least set.
+/// With an order the constant, every input and every gate is in the least set, and so has a value.
 pub fn orders_ground()
     ensures { OrdersGround }
 {}

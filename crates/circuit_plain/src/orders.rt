@@ -1,7 +1,7 @@
 ghost use Rattle.std.specs.Prelude.{◌≡◌, ℕ, Option, None, Some, Result, Err, IfOk};
 ghost use Rattle.circuit_plain.specs.Ground.{IsFirstUngrounded};
 ghost use Rattle.circuit_plain.specs.Order.{IsOrder};
-ghost use Rattle.circuit_plain.specs.Sorting.{IsDraft, IsClosed};
+ghost use Rattle.circuit_plain.specs.Steps.{IsDraft, IsClosed};
 ghost use Rattle.circuit_plain.specs.declared.orders.OrderStop.TheVariants.{Memory as OutOfMemory};
 
 use crate::circuits::Circuit;
@@ -57,7 +57,7 @@ impl Order {
 
 impl Circuit {
     /// An order of the gates in which each stands behind those that it reads, or the first gate
-    /// that no order can hold. It takes time in proportion to n log n for n gates.
+    /// that no order can hold.
     pub fn order(&self) -> Result<Order, OrderStop>
         ensures ok { IfOk result (IsOrder self.now) }
         ensures cyclic { (place : ℕ) → result ≡ Err (OrderStop.Cyclic place)
@@ -66,7 +66,8 @@ impl Circuit {
         let mut draft = self.empty_draft()?;
         let walked = depth_first(*self.gates.allocator(), &self.gates)?;
         self.put_all(&walked, &mut draft)?;
-        // The walk leaves gates in an order, so that mostly one round finds that none can be added.
+        // The walk leaves every gate that can be put behind those that it reads, so that one round, which
+        // finds nothing more to put, follows. The rounds need no promise of the walk.
         while self.put_round(&mut draft)? {}
         match self.first_unsettled(&draft) {
             Some(place) => Err(OrderStop::Cyclic(place)),

@@ -3,7 +3,7 @@ ghost use Rattle.std.specs.Bool.{OnTrue, OnFalse};
 ghost use Rattle.std.specs.BTreeSet.{contains};
 ghost use Rattle.std.specs.Ordering.{nat_cmp};
 ghost use Rattle.circuit_plain.specs.Netlist.{literal_variable};
-ghost use Rattle.circuit_plain.specs.Sorting.{IsDraft, IsPassed, IsClosed};
+ghost use Rattle.circuit_plain.specs.Steps.{IsDraft, IsPassed, IsClosed};
 
 use crate::circuits::{Circuit, Gate};
 use dq_lits::Memory;
@@ -35,6 +35,7 @@ impl Circuit {
     }
 
     // Puts a gate whose right sides are settled, where it isn't put yet, and says whether it did.
+    // Where memory is refused the draft is of no more use.
     fn put(&self, place: usize, draft: &mut Draft) -> Result<bool, Memory>
         requires in_range { place < length self.now.gates }
         requires draft { IsDraft self.now draft.old.places.items draft.old.settled }

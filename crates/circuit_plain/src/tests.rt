@@ -152,6 +152,14 @@ fn add_outputs(rt: &impl Abort, circuit: &mut Circuit, outputs: &[u64]) -> Resul
     Ok(())
 }
 
+fn check_gates(rt: &impl Abort, circuit: &Circuit, want: &[(u64, u64, u64)]) {
+    assert_eq!(rt; circuit.gates(), want.len());
+    for (place, gate) in want.iter().enumerate() {
+        assert!(rt; place < circuit.gates());
+        assert_eq!(rt; circuit.gate(place), *gate);
+    }
+}
+
 // The row of this number.
 fn write_row(rt: &impl Abort, number: usize, row: &mut Row)
     ensures { length row.new ≡ length row.old }
@@ -220,6 +228,8 @@ fn circuits_have_their_orders_values_and_cones(rt: HostRuntime) -> Result<(), Fa
     for case in CASES.iter() {
         let mut circuit = circuit_of(&rt, rt.alloc(), case.max_var, case.inputs, case.gates)?;
         add_outputs(&rt, &mut circuit, case.outputs)?;
+        assert_eq!(rt; circuit.inputs(), case.inputs);
+        check_gates(&rt, &circuit, case.gates);
         let order = circuit.order()?;
         assert_eq!(rt; order.places(), case.order);
         check_values(&rt, rt.alloc(), &circuit, &order, case.values)?;

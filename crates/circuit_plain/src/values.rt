@@ -1,6 +1,6 @@
 ghost use Rattle.std.specs.Prelude.{◌≡◌, ◌+◌, ◌<◌, ◌⊎◌, ◌&&◌, ℕ, Bool, false, [], length};
 ghost use Rattle.dq_lits.specs.Row.{bit_of};
-ghost use Rattle.circuit_plain.specs.Evaluation.{GivesValues};
+ghost use Rattle.circuit_plain.specs.Steps.{GivesValues};
 ghost use Rattle.circuit_plain.specs.Netlist.{IsDefined, literal_variable, literal_bit};
 ghost use Rattle.circuit_plain.specs.Order.{IsOrder};
 ghost use Rattle.circuit_plain.specs.Value.{HasValue, IsValuation};

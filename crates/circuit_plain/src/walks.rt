@@ -1,5 +1,5 @@
 ghost use Rattle.std.specs.Prelude.{◌≡◌, ◌+◌, ◌*◌, ◌<◌, ◌≤◌, All, count_by, length, not, IfOk, OnOk};
-ghost use Rattle.circuit_plain.specs.Walking.{task_place};
+ghost use Rattle.circuit_plain.specs.Steps.{task_place};
 
 use crate::circuits::Gate;
 use dq_lits::Memory;

@@ -1,6 +1,6 @@
 use Rattle.std.proofs.Common.{◌<◌, length}
 use Rattle.std.proofs.lemmas.List.Elements.{All-pop}
-use Rattle.circuit_plain.specs.Walking.{task_place}
+use Rattle.circuit_plain.specs.Steps.{task_place}
 use Rattle.circuit_plain.proofs.WalkingLaws.{leave_gate}
 use Rattle.circuit_plain.proofs.walks.depth_first.Goals as goal
 

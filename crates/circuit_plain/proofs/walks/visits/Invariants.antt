@@ -1,6 +1,6 @@
 use Rattle.std.proofs.Common.{◌<◌}
 use Rattle.std.specs.Prelude.{All}
-use Rattle.circuit_plain.specs.Walking.{task_place}
+use Rattle.circuit_plain.specs.Steps.{task_place}
 use Rattle.circuit_plain.proofs.walks.visits.Given as goal
 
 abbrev pub invariant-loop-place : goal.invariant-loop-place

@@ -1,5 +1,5 @@
 use Rattle.std.proofs.Common.{◌-◌, length}
-use Rattle.circuit_plain.specs.Sorting.{IsDraft}
+use Rattle.circuit_plain.specs.Steps.{IsDraft}
 use Rattle.circuit_plain.proofs.circuits.Circuit.order.Given as goal
 
 abbrev pub invariant-loop-walked : goal.invariant-loop-walked

@@ -1,4 +1,4 @@
-use Rattle.circuit_plain.specs.Sorting.{IsDraft}
+use Rattle.circuit_plain.specs.Steps.{IsDraft}
 use Rattle.circuit_plain.proofs.circuits.Circuit.put_all.Given as goal
 
 abbrev pub invariant-loop-place : goal.invariant-loop-place

@@ -1,9 +1,22 @@
--- How far a sort of the gates has come.
-use Rattle.std.specs.Prelude.{◌≢◌, ℕ, ◌<◌, ◌⊎◌, ◌↔◌, List, IsTrue, take, length, slice_index, All, AllPairs}
+-- Words of private contracts: how far an evaluation, a walk and a sort have come. No public contract cites
+-- them.
+use Rattle.std.specs.Prelude.{◌≢◌, ℕ, ◌<◌, ◌⊎◌, ◌↔◌, Bool, List, IsTrue, take, length, slice_index, All, AllPairs}
 use Rattle.std.specs.BTreeSet.{BTreeSet, contains}
 use Rattle.std.specs.Ordering.{nat_cmp}
+use Rattle.circuit_plain.specs.declared.walks.Task.{Task}
+use Rattle.circuit_plain.specs.declared.walks.Task.TheVariants.{Visit, Leave}
 use Rattle.circuit_plain.specs.Netlist.{Netlist, gate_at}
 use Rattle.circuit_plain.specs.Order.{IsSettled, IsReady}
+use Rattle.circuit_plain.specs.Reach.{Reaches}
+use Rattle.circuit_plain.specs.Value.{HasValue}
+
+-- the map gives the constant, the inputs and the gates at these places their values
+abbrev pub GivesValues : Netlist → (ℕ → Bool) → (ℕ → Bool) → List ℕ → Type 0
+GivesValues net bits m places = (v : ℕ) → IsSettled net places v → HasValue net bits v (m v)
+
+-- the new marks stand at what the marked variables reach
+abbrev pub MarksReach : Netlist → (ℕ → Bool) → (ℕ → Bool) → Type 0
+MarksReach net old new = (v : ℕ) → IsTrue (new v) ↔ ((u : ℕ) × IsTrue (old u) × Reaches net u v)
 
 -- the beginning of an order
 pub record IsPartialOrder (net : Netlist) (places : List ℕ) : Type 0 where
@@ -25,3 +38,8 @@ IsPassed net places p =
 -- no further gate can be put
 abbrev pub IsClosed : Netlist → List ℕ → Type 0
 IsClosed net places = (p : ℕ) → p < length net.gates → IsPassed net places p
+
+-- the gate that a task of a walk is at
+abbrev pub task_place : Task → ℕ
+task_place (Visit place) = place
+task_place (Leave place) = place
