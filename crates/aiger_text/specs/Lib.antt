@@ -1,5 +1,6 @@
 pub mod LineStop
 pub mod Lines
+pub mod ReaderState
 pub mod Scan
 pub mod Symbol
 pub mod SymbolEntry

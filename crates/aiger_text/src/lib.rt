@@ -5,6 +5,7 @@ pub use faults::{AagFault, AagStop};
 pub use files::{AagFile, Text};
 pub use symbols::Symbols;
 
+mod body;
 mod faults;
 mod files;
 mod headers;

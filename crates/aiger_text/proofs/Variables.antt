@@ -1,0 +1,51 @@
+-- Variables that a line may define.
+use Rattle.std.proofs.Common.{◌≡◌, ℕ, ◌+◌, ◌*◌, ◌/◌, ◌%◌, ◌^◌, ◌<◌, ◌≤◌, ◌==◌, nat_le, Bool, true, false, not, cond, ◌&&◌, ◌||◌, ◌⊎◌, inl, inr, List, [], ◌∷◌, ◌++◌, map, length, get_or, Result, Ok, Err, refl, sym, ◌∙◌, ap, arith}
+use Rattle.std.specs.List.{Contains, list_any}
+use Rattle.std.proofs.lemmas.Bool.{and_parts, or_parts, or_left, or_right, leb-true, eqb-true, eq-eqb, true≢false}
+use Rattle.std.proofs.lemmas.List.{get_or-map, length-map}
+use Rattle.std.proofs.lemmas.List.Folds.{list_any_at}
+use Rattle.circuit_plain.specs.Netlist.{Netlist, IsVariable, IsDefined, variable_of_gate, gate_variables}
+use Rattle.circuit_plain.specs.declared.circuits.Gate.{Gate}
+use Rattle.aiger_text.specs.Lines.{is_too_big, is_positive, is_literal, is_defined, with_input, with_gate, input_of, gate_of}
+use Rattle.aiger_text.specs.ReaderState.{IsNewVariable}
+use Rattle.aiger_text.specs.declared.faults.AagFault.{AagFault}
+use Rattle.aiger_text.specs.declared.faults.AagFault.TheVariants.{TooBig, Range, DefinedTwice}
+
+no_gate : Gate
+no_gate = record { variable = 0; left = 0; right = 0 }
+
+pub defined_is : (net : Netlist) (v : ℕ) → IsDefined net v → is_defined net v ≡ true
+defined_is net v (inl (k, below, is)) =
+    or_left (list_any (λ x. x == v) net.inputs) (list_any (λ g. g.variable == v) net.gates)
+    (list_any_at (λ x. x == v) net.inputs k v below (eq-eqb (get_or net.inputs k v) v is))
+defined_is net v (inr (k, below, is)) =
+    let inside : k < length net.gates = rw (length-map net.gates variable_of_gate) at below in
+    let same : (get_or net.gates k no_gate).variable ≡ v = sym (get_or-map variable_of_gate net.gates k no_gate v inside) ∙ is in
+    or_right (list_any (λ x. x == v) net.inputs) (list_any (λ g. g.variable == v) net.gates)
+    (list_any_at (λ g. g.variable == v) net.gates k no_gate inside (eq-eqb (get_or net.gates k no_gate).variable v same))
+
+positive_range : (max_var l : ℕ) → is_positive max_var l ≡ true → IsVariable max_var (l / 2)
+positive_range max_var l h =
+    let parts = and_parts (l % 2 == 0) (nat_le 2 l && nat_le l (2 * max_var)) h in
+    let range = and_parts (nat_le 2 l) (nat_le l (2 * max_var)) parts.1 in
+    let low = leb-true 2 l range.0 in
+    let high = leb-true l (2 * max_var) range.1 in
+    let even = eqb-true (l % 2) 0 parts.0 in
+    (omega arith, omega arith)
+
+pub is_new : (net : Netlist) (l : ℕ) → is_positive net.max_var l ≡ true → is_defined net (l / 2) ≡ false → IsNewVariable net (l / 2)
+is_new net l positive undefined = record {
+  in_range = positive_range net.max_var l positive;
+  undefined = λ defined. true≢false (sym (defined_is net (l / 2) defined) ∙ undefined);
+}
+
+second : {T : Type 0} (b : Bool) (x y : T) → b ≡ false → cond b x y ≡ y
+second true x y h = cc
+second false x y h = refl
+
+pub input_passes : (net : Netlist) (l : ℕ) → is_too_big l ≡ false → is_positive net.max_var l ≡ true → is_defined net (l / 2) ≡ false →
+    input_of net l ≡ Ok (with_input net (l / 2))
+input_passes net l small positive undefined =
+    second (is_too_big l) (Err TooBig) _ small
+    ∙ second (not (is_positive net.max_var l)) (Err Range) _ (ap not positive)
+    ∙ second (is_defined net (l / 2)) (Err DefinedTwice) (Ok (with_input net (l / 2))) undefined

@@ -1,0 +1,35 @@
+-- The reader's fields as the definitions see them.
+use Rattle.std.specs.Prelude.{◌≡◌, ℕ, ◌==◌, ◌^◌, ◌<◌, Result, Ok, Err}
+use Rattle.std.specs.List.{list_any}
+use Rattle.circuit_plain.specs.Netlist.{Netlist, IsVariable, IsDefined}
+use Rattle.aiger_text.specs.Lines.{is_defined}
+use Rattle.aiger_text.specs.Scan.{Body}
+use Rattle.aiger_text.specs.declared.body.Reader.{Reader}
+use Rattle.aiger_text.specs.declared.faults.AagFault.{AagFault}
+use Rattle.aiger_text.specs.declared.faults.LineStop.{LineStop}
+use Rattle.aiger_text.specs.declared.faults.LineStop.TheVariants.{Fault, Memory}
+
+abbrev pub body_of : Reader → Body
+body_of r = record { header_line = r.header_line; header = r.header; netlist = r.circuit; symbols = r.symbols }
+
+-- the set has the variables of the inputs and gates, and the circuit the header's range
+pub record IsReady (r : Reader) : Type 0 where
+  pub defined : (v : ℕ) → list_any (λ x. x == v) r.defined.keys ≡ is_defined r.circuit v
+  pub max_var : r.circuit.max_var ≡ r.header.max_var
+  pub numbered : r.header.max_var < 2 ^ 62
+
+pub record IsNewVariable (net : Netlist) (v : ℕ) : Type 0 where
+  pub in_range : IsVariable net.max_var v
+  pub undefined : ¬ IsDefined net v
+
+-- the netlist behind the line, or the line's fault, or want of memory
+abbrev pub IsNetlistOf : Result Netlist AagFault → Result (Unit {0}) LineStop → Netlist → Type 0
+IsNetlistOf line (Ok _) net = line ≡ Ok net
+IsNetlistOf line (Err (Fault name)) net = line ≡ Err name
+IsNetlistOf line (Err Memory) net = Unit {0}
+
+-- the header and the symbols stay
+pub record SameElse (old new : Reader) : Type 0 where
+  pub header_line : new.header_line ≡ old.header_line
+  pub header : new.header ≡ old.header
+  pub symbols : new.symbols ≡ old.symbols

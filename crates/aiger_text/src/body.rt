@@ -1,0 +1,111 @@
+//! The lines of inputs, outputs and gates.
+
+ghost use Rattle.std.specs.Prelude.{◌≡◌, ◌==◌, ◌<◌, ◌≤◌, ◌/◌, ◌^◌, ℕ, not, ◌&&◌, ◌||◌, MatchResult, OnOk, Ok, Err};
+ghost use Rattle.std.specs.List.{list_any};
+ghost use Rattle.circuit_plain.specs.Netlist.{IsVariable, IsLiteral, IsDefined};
+ghost use Rattle.dq_text.specs.Line.{line_tokens};
+ghost use Rattle.aiger_text.specs.Lines.{numbers_of, is_positive, is_literal, is_too_big, is_defined, with_input, input_of, output_of, gate_of, input_line, output_line, gate_line};
+ghost use Rattle.aiger_text.specs.Scan.{start};
+ghost use Rattle.aiger_text.specs.ReaderState.{body_of, IsReady, IsNetlistOf, SameElse, IsNewVariable};
+
+use crate::faults::{AagFault, LineStop};
+use crate::headers::Header;
+use crate::numbers::{TOO_BIG, one_number, three_numbers};
+use crate::symbols::Symbols;
+use circuit_plain::{Circuit, Gate};
+use dq_lits::Memory;
+use indexmap::IndexSet;
+use std::alloc::Global;
+
+/// What was read behind the header, and the header's line.
+#[derive(Debug, Drop)]
+pub struct Reader {
+    pub header_line: u64,
+    pub header: Header,
+    pub circuit: Circuit,
+    /// The variables of the inputs and gates so far.
+    pub defined: IndexSet<u64>,
+    pub symbols: Symbols,
+    /// A buffer for a line's numbers.
+    pub numbers: Vec<u64>,
+}
+
+/// Nothing is read behind the header.
+pub fn start_reader(alloc: Global, header_line: u64, header: Header, numbers: Vec<u64>) -> Reader
+    requires { header.max_var < 2 ^ 62 }
+    ensures body { body_of result ≡ start header_line header }
+    ensures ready { IsReady result }
+{
+    Reader {
+        header_line,
+        header,
+        circuit: Circuit::new(alloc, header.max_var),
+        defined: IndexSet::new(alloc),
+        symbols: Symbols::new(alloc),
+        numbers,
+    }
+}
+
+// Whether a number is the positive literal of a variable in range.
+fn is_positive_literal(max_var: u64, literal: u64) -> bool
+    requires { max_var < 2 ^ 62 }
+    ensures { result ≡ is_positive max_var literal }
+{
+    literal % 2 == 0 && literal >= 2 && literal <= 2 * max_var
+}
+
+// Whether a number is a literal in range.
+fn is_literal_in_range(max_var: u64, literal: u64) -> bool
+    requires { max_var < 2 ^ 62 }
+    ensures { result ≡ is_literal max_var literal }
+{
+    literal <= 2 * max_var + 1
+}
+
+fn has_variable(defined: &IndexSet<u64>, variable: u64) -> bool
+    ensures { result ≡ list_any (λ x. x == variable) defined.now.keys }
+{
+    defined.contains(&variable)
+}
+
+// The variable of an input.
+fn input_variable(reader: &Reader, literal: u64) -> Result<u64, AagFault>
+    requires { IsReady reader.now }
+    ensures { MatchResult result
+        (λ v. (input_of reader.now.circuit literal ≡ Ok (with_input reader.now.circuit v)) × IsNewVariable reader.now.circuit v)
+        (λ name. input_of reader.now.circuit literal ≡ Err name) }
+{
+    if literal >= TOO_BIG {
+        return Err(AagFault::TooBig);
+    }
+    if !is_positive_literal(reader.circuit.max_var(), literal) {
+        return Err(AagFault::Range);
+    }
+    if has_variable(&reader.defined, literal / 2) {
+        return Err(AagFault::DefinedTwice);
+    }
+    Ok(literal / 2)
+}
+
+/// Reads the line of an input.
+pub fn take_input(reader: &mut Reader, line: &[u8]) -> Result<(), LineStop>
+    requires { IsReady reader.old }
+    ensures netlist { IsNetlistOf (input_line reader.old.circuit (numbers_of (line_tokens line.now))) result reader.new.circuit }
+    ensures same { SameElse reader.old reader.new }
+    ensures ready { OnOk result (IsReady reader.new) }
+{
+    let literal = one_number(line, &mut reader.numbers)?;
+    let variable = input_variable(reader, literal)?;
+    reader.circuit.add_input(variable)?;
+    define(&mut reader.defined, variable)?;
+    Ok(())
+}
+
+// Adds a variable to a set of variables.
+fn define(defined: &mut IndexSet<u64>, variable: u64) -> Result<(), Memory>
+    ensures { OnOk result ((v : ℕ) → list_any (λ x. x == v) defined.new.keys
+        ≡ (list_any (λ x. x == v) defined.old.keys || (variable == v))) }
+{
+    defined.insert(variable)?;
+    Ok(())
+}
