@@ -1,7 +1,8 @@
 -- The reader's fields as the definitions see them.
-use Rattle.std.specs.Prelude.{◌≡◌, ℕ, ◌==◌, ◌^◌, ◌<◌, Result, Ok, Err}
+use Rattle.std.specs.Prelude.{◌≡◌, ℕ, ◌==◌, ◌/◌, ◌%◌, ◌^◌, ◌<◌, Result, Ok, Err}
 use Rattle.std.specs.List.{list_any}
-use Rattle.circuit_plain.specs.Netlist.{Netlist, IsVariable, IsDefined}
+use Rattle.circuit_plain.specs.Netlist.{Netlist, IsVariable, IsLiteral, IsDefined}
+use Rattle.circuit_plain.specs.declared.circuits.Gate.{Gate}
 use Rattle.aiger_text.specs.Lines.{is_defined}
 use Rattle.aiger_text.specs.Scan.{Body}
 use Rattle.aiger_text.specs.declared.body.Reader.{Reader}
@@ -21,6 +22,14 @@ pub record IsReady (r : Reader) : Type 0 where
 pub record IsNewVariable (net : Netlist) (v : ℕ) : Type 0 where
   pub in_range : IsVariable net.max_var v
   pub undefined : ¬ IsDefined net v
+
+-- three numbers that are a gate whose variable is new
+pub record IsNewGate (net : Netlist) (numbers : Gate) (v : ℕ) : Type 0 where
+  pub variable : v ≡ numbers.variable / 2
+  pub even : numbers.variable % 2 ≡ 0
+  pub new : IsNewVariable net v
+  pub left : IsLiteral net.max_var numbers.left
+  pub right : IsLiteral net.max_var numbers.right
 
 -- the netlist behind the line, or the line's fault, or want of memory
 abbrev pub IsNetlistOf : Result Netlist AagFault → Result (Unit {0}) LineStop → Netlist → Type 0

@@ -4,9 +4,9 @@ ghost use Rattle.std.specs.Prelude.{◌≡◌, ◌==◌, ◌<◌, ◌≤◌, ◌
 ghost use Rattle.std.specs.List.{list_any};
 ghost use Rattle.circuit_plain.specs.Netlist.{IsVariable, IsLiteral, IsDefined};
 ghost use Rattle.dq_text.specs.Line.{line_tokens};
-ghost use Rattle.aiger_text.specs.Lines.{numbers_of, is_positive, is_literal, is_too_big, is_defined, with_input, input_of, output_of, gate_of, input_line, output_line, gate_line};
+ghost use Rattle.aiger_text.specs.Lines.{numbers_of, is_positive, is_literal, is_too_big, is_defined, with_input, with_output, with_gate, input_of, output_of, gate_of, input_line, output_line, gate_line};
 ghost use Rattle.aiger_text.specs.Scan.{start};
-ghost use Rattle.aiger_text.specs.ReaderState.{body_of, IsReady, IsNetlistOf, SameElse, IsNewVariable};
+ghost use Rattle.aiger_text.specs.ReaderState.{body_of, IsReady, IsNetlistOf, SameElse, IsNewVariable, IsNewGate};
 
 use crate::faults::{AagFault, LineStop};
 use crate::headers::Header;
@@ -107,5 +107,85 @@ fn define(defined: &mut IndexSet<u64>, variable: u64) -> Result<(), Memory>
         ≡ (list_any (λ x. x == v) defined.old.keys || (variable == v))) }
 {
     defined.insert(variable)?;
+    Ok(())
+}
+
+// The literal of an output.
+fn output_literal(reader: &Reader, literal: u64) -> Result<u64, AagFault>
+    requires { IsReady reader.now }
+    ensures { MatchResult result
+        (λ l. (output_of reader.now.circuit literal ≡ Ok (with_output reader.now.circuit l)) × IsLiteral reader.now.circuit.max_var l)
+        (λ name. output_of reader.now.circuit literal ≡ Err name) }
+{
+    if literal >= TOO_BIG {
+        return Err(AagFault::TooBig);
+    }
+    if !is_literal_in_range(reader.circuit.max_var(), literal) {
+        return Err(AagFault::Range);
+    }
+    Ok(literal)
+}
+
+/// Reads the line of an output.
+pub fn take_output(reader: &mut Reader, line: &[u8]) -> Result<(), LineStop>
+    requires { IsReady reader.old }
+    ensures netlist { IsNetlistOf (output_line reader.old.circuit (numbers_of (line_tokens line.now))) result reader.new.circuit }
+    ensures same { SameElse reader.old reader.new }
+    ensures ready { OnOk result (IsReady reader.new) }
+{
+    let number = one_number(line, &mut reader.numbers)?;
+    let literal = output_literal(reader, number)?;
+    reader.circuit.add_output(literal)?;
+    Ok(())
+}
+
+// The gate of three numbers, of which the first is the literal of its variable.
+fn gate_variable(reader: &Reader, numbers: Gate) -> Result<u64, AagFault>
+    requires { IsReady reader.now }
+    ensures { MatchResult result
+        (λ v. (gate_of reader.now.circuit numbers.variable numbers.left numbers.right
+            ≡ Ok (with_gate reader.now.circuit (record { variable = v; left = numbers.left; right = numbers.right })))
+            × IsNewGate reader.now.circuit numbers v)
+        (λ name. gate_of reader.now.circuit numbers.variable numbers.left numbers.right ≡ Err name) }
+{
+    let Gate {
+        variable: lhs,
+        left,
+        right,
+    } = numbers;
+    if lhs >= TOO_BIG || left >= TOO_BIG || right >= TOO_BIG {
+        return Err(AagFault::TooBig);
+    }
+    let max_var = reader.circuit.max_var();
+    if !is_gate_in_range(max_var, numbers) {
+        return Err(AagFault::Range);
+    }
+    if has_variable(&reader.defined, lhs / 2) {
+        return Err(AagFault::DefinedTwice);
+    }
+    Ok(lhs / 2)
+}
+
+// Whether three numbers are a gate's in range.
+fn is_gate_in_range(max_var: u64, numbers: Gate) -> bool
+    requires { max_var < 2 ^ 62 }
+    ensures { result ≡ (is_positive max_var numbers.variable && (is_literal max_var numbers.left && is_literal max_var numbers.right)) }
+{
+    is_positive_literal(max_var, numbers.variable)
+        && is_literal_in_range(max_var, numbers.left)
+        && is_literal_in_range(max_var, numbers.right)
+}
+
+/// Reads the line of a gate.
+pub fn take_gate(reader: &mut Reader, line: &[u8]) -> Result<(), LineStop>
+    requires { IsReady reader.old }
+    ensures netlist { IsNetlistOf (gate_line reader.old.circuit (numbers_of (line_tokens line.now))) result reader.new.circuit }
+    ensures same { SameElse reader.old reader.new }
+    ensures ready { OnOk result (IsReady reader.new) }
+{
+    let numbers = three_numbers(line, &mut reader.numbers)?;
+    let variable = gate_variable(reader, numbers)?;
+    reader.circuit.add_gate(numbers.variable, numbers.left, numbers.right)?;
+    define(&mut reader.defined, variable)?;
     Ok(())
 }
