@@ -1,11 +1,14 @@
 -- The reader's fields as the definitions see them.
-use Rattle.std.specs.Prelude.{◌≡◌, ℕ, ◌==◌, ◌/◌, ◌%◌, ◌^◌, ◌<◌, Result, Ok, Err}
+use Rattle.std.specs.Prelude.{◌≡◌, ℕ, ◌==◌, ◌/◌, ◌%◌, ◌^◌, ◌<◌, ◌≤◌, length, Result, Ok, Err}
 use Rattle.std.specs.List.{list_any}
 use Rattle.circuit_plain.specs.Netlist.{Netlist, IsVariable, IsLiteral, IsDefined}
 use Rattle.circuit_plain.specs.declared.circuits.Gate.{Gate}
 use Rattle.aiger_text.specs.Lines.{is_defined}
 use Rattle.aiger_text.specs.Scan.{Body}
+use Rattle.aiger_text.specs.Symbol.{SymbolTable}
 use Rattle.aiger_text.specs.declared.body.Reader.{Reader}
+use Rattle.aiger_text.specs.declared.headers.Header.{Header}
+use Rattle.aiger_text.specs.declared.headers.TheConstants.{MAX_COUNT}
 use Rattle.aiger_text.specs.declared.faults.AagFault.{AagFault}
 use Rattle.aiger_text.specs.declared.faults.LineStop.{LineStop}
 use Rattle.aiger_text.specs.declared.faults.LineStop.TheVariants.{Fault, Memory}
@@ -13,11 +16,21 @@ use Rattle.aiger_text.specs.declared.faults.LineStop.TheVariants.{Fault, Memory}
 abbrev pub body_of : Reader → Body
 body_of r = record { header_line = r.header_line; header = r.header; netlist = r.circuit; symbols = r.symbols }
 
+-- the header's counts are within their limit
+pub record IsSmall (h : Header) : Type 0 where
+  pub max_var : h.max_var ≤ MAX_COUNT
+  pub inputs : h.inputs ≤ MAX_COUNT
+  pub outputs : h.outputs ≤ MAX_COUNT
+  pub gates : h.gates ≤ MAX_COUNT
+
 -- the set has the variables of the inputs and gates, and the circuit the header's range
 pub record IsReady (r : Reader) : Type 0 where
   pub defined : (v : ℕ) → list_any (λ x. x == v) r.defined.keys ≡ is_defined r.circuit v
   pub max_var : r.circuit.max_var ≡ r.header.max_var
-  pub numbered : r.header.max_var < 2 ^ 62
+  pub small : IsSmall r.header
+  pub outputs_counted : length r.circuit.outputs ≤ r.header.outputs
+  pub gates_counted : length r.circuit.gates ≤ r.header.gates
+  pub line : r.header_line < 2 ^ 62
 
 pub record IsNewVariable (net : Netlist) (v : ℕ) : Type 0 where
   pub in_range : IsVariable net.max_var v
@@ -42,3 +55,15 @@ pub record SameElse (old new : Reader) : Type 0 where
   pub header_line : new.header_line ≡ old.header_line
   pub header : new.header ≡ old.header
   pub symbols : new.symbols ≡ old.symbols
+
+-- the symbols behind the line, or the line's fault, or want of memory
+abbrev pub IsTableOf : Result SymbolTable AagFault → Result (Unit {0}) LineStop → SymbolTable → Type 0
+IsTableOf line (Ok _) table = line ≡ Ok table
+IsTableOf line (Err (Fault name)) table = line ≡ Err name
+IsTableOf line (Err Memory) table = Unit {0}
+
+-- the header and the netlist stay
+pub record SameButSymbols (old new : Reader) : Type 0 where
+  pub header_line : new.header_line ≡ old.header_line
+  pub header : new.header ≡ old.header
+  pub netlist : new.circuit ≡ old.circuit

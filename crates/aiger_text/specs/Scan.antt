@@ -13,6 +13,8 @@ use Rattle.aiger_text.specs.declared.faults.AagFault.TheVariants.{BadHeader, Und
 use Rattle.aiger_text.specs.declared.faults.AagStop.{AagStop}
 use Rattle.aiger_text.specs.declared.faults.AagStop.TheVariants.{Refused, Memory}
 use Rattle.aiger_text.specs.declared.files.AagFile.{AagFile}
+use Rattle.aiger_text.specs.declared.body.Part.{Part}
+use Rattle.aiger_text.specs.declared.body.Part.TheVariants.{InputLine, OutputLine, GateLine, SymbolLine}
 
 -- a fault by its line and name
 pub record LineFault : Type 0 where
@@ -68,18 +70,12 @@ abbrev pub finish : Body → Option (List ℕ) → Result AagFile LineFault
 finish b comment = unless_undefined (undefined_line b) (record { circuit = b.netlist; symbols = b.symbols; comment = comment })
 
 -- which line comes next
-pub data Part : Type 0 where
-  an_input : Part
-  an_output : Part
-  a_gate : Part
-  a_symbol : Part
-
 abbrev pub next_part : Body → Part
 next_part b =
-    if nat_lt (length b.netlist.inputs) b.header.inputs then an_input else
-    if nat_lt (length b.netlist.outputs) b.header.outputs then an_output else
-    if nat_lt (length b.netlist.gates) b.header.gates then a_gate else
-    a_symbol
+    if nat_lt (length b.netlist.inputs) b.header.inputs then InputLine else
+    if nat_lt (length b.netlist.outputs) b.header.outputs then OutputLine else
+    if nat_lt (length b.netlist.gates) b.header.gates then GateLine else
+    SymbolLine
 
 abbrev pub go_on : ℕ → Body → Result Netlist AagFault → (Body → Result AagFile LineFault) → Result AagFile LineFault
 go_on line b (Ok net) next = next (record b { netlist = net })
@@ -97,17 +93,17 @@ behind_gates b line next =
     with_symbol line.number b (symbol_line b.header b.symbols (symbol_of line.text)) next
 
 abbrev pub read_line : Part → Body → TextLine → (Body → Result AagFile LineFault) → Result AagFile LineFault
-read_line an_input b line next = go_on line.number b (input_line b.netlist (numbers_of (line_tokens line.text))) next
-read_line an_output b line next = go_on line.number b (output_line b.netlist (numbers_of (line_tokens line.text))) next
-read_line a_gate b line next = go_on line.number b (gate_line b.netlist (numbers_of (line_tokens line.text))) next
-read_line a_symbol b line next = behind_gates b line next
+read_line InputLine b line next = go_on line.number b (input_line b.netlist (numbers_of (line_tokens line.text))) next
+read_line OutputLine b line next = go_on line.number b (output_line b.netlist (numbers_of (line_tokens line.text))) next
+read_line GateLine b line next = go_on line.number b (gate_line b.netlist (numbers_of (line_tokens line.text))) next
+read_line SymbolLine b line next = behind_gates b line next
 
 -- the end of the text, where the next line would have this number
 abbrev pub at_end : Part → Body → ℕ → Result AagFile LineFault
-at_end an_input b number = Err (record { line = number; name = Truncated })
-at_end an_output b number = Err (record { line = number; name = Truncated })
-at_end a_gate b number = Err (record { line = number; name = Truncated })
-at_end a_symbol b number = finish b None
+at_end InputLine b number = Err (record { line = number; name = Truncated })
+at_end OutputLine b number = Err (record { line = number; name = Truncated })
+at_end GateLine b number = Err (record { line = number; name = Truncated })
+at_end SymbolLine b number = finish b None
 
 abbrev pub read_body : Body → List TextLine → ℕ → Result AagFile LineFault
 read_body b [] number = at_end (next_part b) b number

@@ -1,12 +1,12 @@
 //! The lines of inputs, outputs and gates.
 
-ghost use Rattle.std.specs.Prelude.{◌≡◌, ◌==◌, ◌<◌, ◌≤◌, ◌/◌, ◌^◌, ℕ, not, ◌&&◌, ◌||◌, MatchResult, OnOk, Ok, Err};
+ghost use Rattle.std.specs.Prelude.{◌≡◌, ◌==◌, ◌<◌, ◌≤◌, ◌/◌, ◌^◌, ℕ, not, ◌&&◌, ◌||◌, length, MatchResult, OnOk, Ok, Err};
 ghost use Rattle.std.specs.List.{list_any};
 ghost use Rattle.circuit_plain.specs.Netlist.{IsVariable, IsLiteral, IsDefined};
 ghost use Rattle.dq_text.specs.Line.{line_tokens};
 ghost use Rattle.aiger_text.specs.Lines.{numbers_of, is_positive, is_literal, is_too_big, is_defined, with_input, with_output, with_gate, input_of, output_of, gate_of, input_line, output_line, gate_line};
-ghost use Rattle.aiger_text.specs.Scan.{start};
-ghost use Rattle.aiger_text.specs.ReaderState.{body_of, IsReady, IsNetlistOf, SameElse, IsNewVariable, IsNewGate};
+ghost use Rattle.aiger_text.specs.Scan.{start, next_part};
+ghost use Rattle.aiger_text.specs.ReaderState.{body_of, IsSmall, IsReady, IsNetlistOf, SameElse, IsNewVariable, IsNewGate};
 
 use crate::faults::{AagFault, LineStop};
 use crate::headers::Header;
@@ -30,9 +30,20 @@ pub struct Reader {
     pub numbers: Vec<u64>,
 }
 
+/// Which line comes next.
+#[derive(Clone, Copy, Debug, PartialEq, Eq)]
+pub enum Part {
+    InputLine,
+    OutputLine,
+    GateLine,
+    /// A symbol, or what ends the symbols.
+    SymbolLine,
+}
+
 /// Nothing is read behind the header.
 pub fn start_reader(alloc: Global, header_line: u64, header: Header, numbers: Vec<u64>) -> Reader
-    requires { header.max_var < 2 ^ 62 }
+    requires small { IsSmall header }
+    requires line { header_line < 2 ^ 62 }
     ensures body { body_of result ≡ start header_line header }
     ensures ready { IsReady result }
 {
@@ -128,7 +139,8 @@ fn output_literal(reader: &Reader, literal: u64) -> Result<u64, AagFault>
 
 /// Reads the line of an output.
 pub fn take_output(reader: &mut Reader, line: &[u8]) -> Result<(), LineStop>
-    requires { IsReady reader.old }
+    requires ready { IsReady reader.old }
+    requires room { length reader.old.circuit.outputs < reader.old.header.outputs }
     ensures netlist { IsNetlistOf (output_line reader.old.circuit (numbers_of (line_tokens line.now))) result reader.new.circuit }
     ensures same { SameElse reader.old reader.new }
     ensures ready { OnOk result (IsReady reader.new) }
@@ -178,7 +190,8 @@ fn is_gate_in_range(max_var: u64, numbers: Gate) -> bool
 
 /// Reads the line of a gate.
 pub fn take_gate(reader: &mut Reader, line: &[u8]) -> Result<(), LineStop>
-    requires { IsReady reader.old }
+    requires ready { IsReady reader.old }
+    requires room { length reader.old.circuit.gates < reader.old.header.gates }
     ensures netlist { IsNetlistOf (gate_line reader.old.circuit (numbers_of (line_tokens line.now))) result reader.new.circuit }
     ensures same { SameElse reader.old reader.new }
     ensures ready { OnOk result (IsReady reader.new) }
@@ -188,4 +201,19 @@ pub fn take_gate(reader: &mut Reader, line: &[u8]) -> Result<(), LineStop>
     reader.circuit.add_gate(numbers.variable, numbers.left, numbers.right)?;
     define(&mut reader.defined, variable)?;
     Ok(())
+}
+
+/// Which line comes next.
+pub fn part_of(reader: &Reader) -> Part
+    ensures { result ≡ next_part (body_of reader.now) }
+{
+    if (reader.circuit.inputs().len() as u64) < reader.header.inputs {
+        Part::InputLine
+    } else if (reader.circuit.outputs().len() as u64) < reader.header.outputs {
+        Part::OutputLine
+    } else if (reader.circuit.gates() as u64) < reader.header.gates {
+        Part::GateLine
+    } else {
+        Part::SymbolLine
+    }
 }

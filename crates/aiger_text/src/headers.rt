@@ -1,11 +1,12 @@
 //! The header line.
 
-ghost use Rattle.std.specs.Prelude.{◌≡◌, ◌==◌, ◌≤◌, not, false, nat_lt, length, Some, None, codes, if◌then◌else◌};
+ghost use Rattle.std.specs.Prelude.{◌≡◌, ◌==◌, ◌≤◌, not, false, nat_lt, length, Some, None, IfOk, codes, if◌then◌else◌};
 ghost use Rattle.std.specs.List.{list_any};
 ghost use Rattle.std.specs.Str.{bytes_eq};
 ghost use Rattle.dq_text.specs.Line.{line_tokens};
 ghost use Rattle.aiger_text.specs.Lines.{max_count, counts_of, limited_counts_of, header_numbers, header_of};
 ghost use Rattle.aiger_text.specs.LineStop.{IsLineOf};
+ghost use Rattle.aiger_text.specs.ReaderState.{IsSmall};
 
 use crate::faults::{AagFault, LineStop};
 use crate::numbers::take_numbers;
@@ -25,7 +26,8 @@ pub const MAX_COUNT: u64 = 1_000_000_000;
 
 /// Reads the header line.
 pub fn read_header(line: &[u8], numbers: &mut Vec<u64>) -> Result<Header, LineStop>
-    ensures { IsLineOf (header_of (line_tokens line.now)) result }
+    ensures header { IsLineOf (header_of (line_tokens line.now)) result }
+    ensures small { IfOk result IsSmall }
 {
     let mut tokens = LineTokens::new(line);
     let Some(word) = tokens.next() else {
@@ -52,7 +54,8 @@ fn is_word(text: &[u8], word: &[u8]) -> bool
 
 // The header of these numbers, if all its tokens are natural numbers.
 fn header_from(all: bool, numbers: &[u64]) -> Result<Header, AagFault>
-    ensures { result ≡ header_numbers (if all then Some numbers.now else None) }
+    ensures header { result ≡ header_numbers (if all then Some numbers.now else None) }
+    ensures small { IfOk result IsSmall }
 {
     if !all || numbers.len() < 5 || numbers.len() > 9 {
         return Err(AagFault::BadHeader);
@@ -62,7 +65,8 @@ fn header_from(all: bool, numbers: &[u64]) -> Result<Header, AagFault>
 
 fn limited_counts(numbers: &[u64]) -> Result<Header, AagFault>
     requires { 5 ≤ length numbers.now }
-    ensures { result ≡ limited_counts_of numbers.now }
+    ensures header { result ≡ limited_counts_of numbers.now }
+    ensures small { IfOk result IsSmall }
 {
     if has_large(numbers) {
         return Err(AagFault::TooBig);
@@ -80,7 +84,8 @@ fn has_large(numbers: &[u64]) -> bool
 fn counts(numbers: &[u64]) -> Result<Header, AagFault>
     requires enough { 5 ≤ length numbers.now }
     requires few { list_any (λ n. nat_lt max_count n) numbers.now ≡ false }
-    ensures { result ≡ counts_of numbers.now }
+    ensures header { result ≡ counts_of numbers.now }
+    ensures small { IfOk result IsSmall }
 {
     if numbers[2] != 0 || has_more(&numbers[5..]) {
         return Err(AagFault::NotCombinational);

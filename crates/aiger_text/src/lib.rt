@@ -11,4 +11,5 @@ mod files;
 mod headers;
 mod numbers;
 mod symbol_lines;
+mod symbol_steps;
 mod symbols;
