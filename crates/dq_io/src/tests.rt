@@ -89,7 +89,8 @@ fn a_file_is_read_to_its_end(rt: HostRuntime) -> Result<(), Fail> {
         ("abcd", 2, &[1], 4, Err(ReadStop::Fault)),
     ];
     for reading in readings {
-        assert!(rt; is_read_as_due(rt.alloc(), reading)?, "{reading:?}");
+        let held = reading.0;
+        assert!(rt; is_read_as_due(rt.alloc(), reading)?, "{held}");
     }
     let mut files = NeverFailFiles::new(rt.alloc());
     files.hold("a", b"one, ")?;
