@@ -1,5 +1,5 @@
 -- The first file of a name, by its place.
-use Rattle.std.proofs.Common.{◌≡◌, ℕ, ◌<◌, ◌≤◌, Bool, true, false, cond, nat_lt, List, [], length, find, position, bytes_eq, is_some, Option, Some, None, refl, sym, ◌∙◌, ap, arith, rules, tests}
+use Rattle.std.proofs.Common.{◌≡◌, ℕ, ◌<◌, ◌≤◌, Bool, true, false, cond, nat_lt, List, [], length, find, position, bytes_eq, is_some, Option, Some, None, refl, sym, ◌∙◌, ap, rules, tests}
 use Rattle.std.specs.List.{slice_get, position_or_len}
 use Rattle.std.proofs.lemmas.List.Folds.{find_at}
 use Rattle.std.proofs.lemmas.Option.{slice_get-get_or, slice_get_past}

@@ -2,7 +2,7 @@
 -- (POSIX: `open` by a name, then `read` from the front, short reads allowed).
 use Rattle.std.specs.Prelude.{ℕ, List, [], Option, Some, None}
 
--- what is known of the file of a name
+-- what is told of the file of a name
 pub data Holding : Type 0 where
   -- nothing is told
   Untold : Holding

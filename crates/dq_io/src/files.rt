@@ -5,9 +5,13 @@ ghost use Rattle.dq_io.specs.Files.{Holding, Absent, whole, nothing};
 
 use crate::errors::Failed;
 
-/// Files that are read by name, one at a time. Before the first `pick` nothing is left to read.
+/// Files that are read by name, one at a time, through reads that may be short, as POSIX has them.
+/// Before the first `pick` nothing is left to read.
+///
+/// What an object knows of its files it may tell or not. Faults it always counts, and a call fails
+/// only where the count rose, so that without a counted fault every call is Ok.
 pub trait Files {
-    /// What is known of the file of a name.
+    /// What is told of the file of a name.
     ghost held: { Self → List ℕ → Holding };
 
     /// What is left to read of the picked file, where told.

@@ -1,4 +1,9 @@
 //! Files that are read by name, sinks that take bytes, and the causes of their failures.
+//!
+//! Code that reads or writes is generic over the traits `Files` and `Sink`. Their clauses say which
+//! bytes go where, for objects that tell, and that each failure has a counted fault behind it.
+//! `read_all` and `write_all` do the loops. `MemFiles` and `MemSink` fail at given calls,
+//! `NeverFailFiles` and `NeverFailSink` never do, and `RealFiles` and `RealSink` are the system's.
 #![tactic(auto)]
 
 pub use errors::{Failed, ReadStop, SinkFault};

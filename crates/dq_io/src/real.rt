@@ -162,14 +162,10 @@ mod tests {
     #[test]
     fn errors_are_counted(rt: HostRuntime) {
         let mut files = RealFiles::new(&rt);
-        let mut byte = [0; 1];
-        assert_eq!(rt; files.read(&mut byte), Ok(0));
-        assert_eq!(rt; files.faults, 0);
         assert_eq!(rt; files.pick("no such folder/no such file"), Err(Failed));
         assert_eq!(rt; files.faults, 1);
 
         let mut sink = RealSink::new(&rt);
-        assert_eq!(rt; sink.write(b""), Ok(0));
         assert!(rt; sink.write(b"written\n").is_ok());
         assert_eq!(rt; sink.faults, 0);
     }

@@ -4,7 +4,10 @@ ghost use Rattle.dq_io.specs.Causes.{HasCause};
 
 use crate::errors::Failed;
 
-/// What takes bytes.
+/// What takes bytes, through writes that may be short, as POSIX has them.
+///
+/// What an object took it may tell or not. Faults it always counts, and a call fails only where the
+/// count rose, so that without a counted fault every call is Ok.
 pub trait Sink {
     /// The bytes taken so far, where told.
     ghost taken: { Self → Option (List ℕ) };

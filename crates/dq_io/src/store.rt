@@ -5,7 +5,6 @@ use dq_lits::Memory;
 use std::alloc::Global;
 use std::marker::Model;
 
-/// A file in memory.
 #[derive(Debug, Drop)]
 struct NamedFile {
     name: String,
@@ -75,7 +74,7 @@ impl Model for FileStore {
 }
 
 impl FileStore {
-    /// No files.
+    /// No files. It takes no memory.
     pub fn new(alloc: Global) -> FileStore
         ensures { result ≡ record { files = []; rest = []; given = 0 } }
     {
@@ -112,7 +111,7 @@ impl FileStore {
         self.place.is_some()
     }
 
-    /// No file is open from then on.
+    /// Closes the open file, if there is one.
     pub fn close(&mut self)
         ensures { self.new ≡ record self.old { rest = []; given = 0 } }
     {

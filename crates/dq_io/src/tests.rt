@@ -10,8 +10,8 @@ use std::alloc::Global;
 use std::test::Fail;
 
 // A program that reads two files and writes them one after the other. What the traits' clauses alone
-// say of it: each status has its cause, and where all is told and no fault was counted, it writes
-// what is due.
+// say of it: each status has its cause, and where all is told, no fault was counted and there was
+// memory, it writes what is due.
 fn join<F: Files, K: Sink>(
     alloc: Global,
     files: &mut F,
@@ -29,7 +29,9 @@ fn join<F: Files, K: Sink>(
         K.taken out.old ≡ Some taken → result ≡ 0 → K.taken out.new ≡ Some (taken ++ a ++ b) }
     ensures ends { (a b : List ℕ) →
         F.held files.old first.now ≡ Holds a → F.held files.old second.now ≡ Holds b →
-        length a ≤ limit → length b ≤ limit → result ≢ 6 }
+        length a ≤ limit → length b ≤ limit → result ≢ 5 →
+        ¬ Rose (F.faults files.old) (F.faults files.new) →
+        ¬ Rose (K.faults out.old) (K.faults out.new) → result ≡ 0 }
 {
     let a = match read_all(alloc, files, first, limit) {
         Ok(bytes) => bytes,
@@ -62,6 +64,7 @@ type Reading = (
     Result<&'static str, ReadStop>,
 );
 
+// Whether what is read is due.
 fn is_read_as_due(alloc: Global, reading: Reading) -> Result<bool, Memory> {
     let (held, greatest, failing, limit, due) = reading;
     let mut files = MemFiles::new(alloc, greatest.max(1), failing)?;
@@ -86,7 +89,8 @@ fn a_file_is_read_to_its_end(rt: HostRuntime) -> Result<(), Fail> {
         ("abcd", 2, &[1], 4, Err(ReadStop::Fault)),
     ];
     for reading in readings {
-        assert!(rt; is_read_as_due(rt.alloc(), reading)?, "{reading:?}");
+        let held = reading.0;
+        assert!(rt; is_read_as_due(rt.alloc(), reading)?, "{held}");
     }
     let mut files = NeverFailFiles::new(rt.alloc());
     files.hold("a", b"one, ")?;
