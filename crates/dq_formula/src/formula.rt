@@ -24,7 +24,10 @@ pub const MAX_VARIABLES: u64 = 1_000_000;
 /// The most clauses that a formula may have.
 pub const MAX_CLAUSES: usize = 10_000_000;
 
-/// A dependency quantified Boolean formula: the prefix and the matrix.
+/// A dependency quantified Boolean formula, as DQDIMACS (QDIMACS with `d` lines) writes it: the prefix,
+/// which gives each existential its dependency set, and the matrix.
+///
+/// A call that adds something answers `Memory` where a growth was refused, and then has changed nothing.
 #[derive(Debug, Drop)]
 pub struct Formula {
     vars: u64,
@@ -65,6 +68,18 @@ fn clause_at<'a>(ends: &[usize], lits: &'a [Lit], j: usize) -> &'a [Lit]
     let start = start_of(ends, j);
     let end = ends[j];
     &lits[start..end]
+}
+
+// Adds a clause behind those that lie end to end.
+fn append(ends: &mut Vec<usize>, lits: &mut Vec<Lit>, clause: &[Lit]) -> Result<(), Memory>
+    ensures end { OnOk result (ends.new.items ≡ ends.old.items ++ length lits.new.items ∷ []) }
+    ensures literals { OnOk result (lits.new.items ≡ lits.old.items ++ clause.now) }
+    ensures err { OnErr result ((ends.new.items ≡ ends.old.items) × (lits.new.items ≡ lits.old.items)) }
+{
+    ends.reserve(1)?;
+    lits.extend_from_slice(clause)?;
+    ends.push(lits.len()).unwrap();
+    Ok(())
 }
 
 // The elements at these places.
@@ -321,7 +336,8 @@ impl Formula {
     // The listed universals, each once and in order of declaration.
     fn in_order(&self, xs: &[u64]) -> Result<Vars, Memory>
         requires { All (λ x. is_universal self.now x ≡ true) xs.now }
-        ensures { IfOk result (λ vars. vars ≡ listed_universals self.now.universals xs.now) }
+        ensures listed { IfOk result (λ vars. vars ≡ listed_universals self.now.universals xs.now) }
+        ensures form { IfOk result (λ vars. vars ≡ listed_universals self.now.universals vars) }
     {
         let mut places = self.places(xs)?;
         places.sort_unstable();
@@ -359,9 +375,7 @@ impl Formula {
         ensures ok { OnOk result (self.new ≡ record self.old { matrix = self.old.matrix ++ lits.now ∷ [] }) }
         ensures err { OnErr result (self.new ≡ self.old) }
     {
-        self.ends.reserve(1)?;
-        self.lits.extend_from_slice(lits)?;
-        self.ends.push(self.lits.len()).unwrap();
+        append(&mut self.ends, &mut self.lits, lits)?;
         Ok(())
     }
 
