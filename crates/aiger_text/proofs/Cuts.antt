@@ -1,8 +1,9 @@
 -- Names without the CRs at their end, and where digits end.
-use Rattle.std.proofs.Common.{◌≡◌, ◌≢◌, ℕ, ◌+◌, ◌≤◌, ◌==◌, nat_lt, Bool, true, false, not, cond, List, [], ◌∷◌, ◌++◌, length, Option, Some, None, refl, sym, ◌∙◌, ap, arith, ◌⊎◌, inl, inr}
+use Rattle.std.proofs.Common.{◌≡◌, ◌≢◌, ℕ, ◌<◌, ◌≤◌, nat_lt, get_or, Bool, true, false, not, cond, List, [], ◌∷◌, ◌++◌, length, Some, None, refl, ◌∙◌, ap, arith, inl, inr}
 use Rattle.std.specs.List.{position, position_or_len}
 use Rattle.std.specs.Option.{unwrap_or}
-use Rattle.std.proofs.lemmas.Bool.{ne_eqb, ltb-false, cases_Bool}
+use Rattle.std.proofs.lemmas.Bool.{ne_eqb, ltb-false, lt-ltb, le-ltb, cases_Bool}
+use Rattle.std.proofs.lemmas.List.Sums.{position_or_len_is}
 use Rattle.aiger_text.specs.Lines.{keep_byte, without_end_crs}
 
 pub without_end_crs-push : (xs : List ℕ) → without_end_crs (xs ++ 13 ∷ []) ≡ without_end_crs xs
@@ -21,8 +22,8 @@ pub position-le : (p : ℕ → Bool) (xs : List ℕ) → position_or_len p xs �
 position-le p [] = omega arith
 position-le p (x ∷ xs) =
     elim (cases_Bool (not (p x))) [
-      inl more ↦ rw more (omega (arith, position-le p xs))
-    | inr none ↦ rw none (omega arith)
+      | inl more ↦ rw more (omega (arith, position-le p xs))
+      | inr none ↦ rw none (omega arith)
     ]
 
 choose : (p : ℕ → Bool) (xs : List ℕ) (b : Bool) → nat_lt (position_or_len p xs) (length xs) ≡ b → position_or_len p xs ≤ length xs →
@@ -32,3 +33,18 @@ choose p xs false past within = let far = ltb-false (position_or_len p xs) (leng
 
 pub unwrap_position : (p : ℕ → Bool) (xs : List ℕ) → unwrap_or (position p xs) (length xs) ≡ position_or_len p xs
 unwrap_position p xs = choose p xs (nat_lt (position_or_len p xs) (length xs)) refl (position-le p xs)
+
+found : {X : Type 0} (p : X → Bool) (xs : List X) (i : ℕ) → position_or_len p xs ≡ i → (b : Bool) → nat_lt i (length xs) ≡ b →
+    position p xs ≡ cond b (Some i) None
+found p xs i is b test =
+    ap (λ k. cond (nat_lt k (length xs)) (Some k) None) is ∙ ap (λ c. cond c (Some i) None) test
+
+-- the first place that passes
+pub position-Some : {X : Type 0} (p : X → Bool) (xs : List X) (i : ℕ) (d : X) → i < length xs →
+    ((k : ℕ) → k < i → p (get_or xs k d) ≡ false) → p (get_or xs i d) ≡ true → position p xs ≡ Some i
+position-Some p xs i d below before here =
+    found p xs i (position_or_len_is p xs i d (omega arith) before (λ _. here)) true (lt-ltb i (length xs) below)
+
+pub position-None : {X : Type 0} (p : X → Bool) (xs : List X) (d : X) → ((k : ℕ) → k < length xs → p (get_or xs k d) ≡ false) → position p xs ≡ None
+position-None p xs d none =
+    found p xs (length xs) (position_or_len_is p xs (length xs) d (omega arith) none (λ below. absurd (omega arith))) false (le-ltb (length xs) (length xs) (omega arith))

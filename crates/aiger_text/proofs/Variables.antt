@@ -1,14 +1,13 @@
 -- Variables that a line may define.
-use Rattle.std.proofs.Common.{◌≡◌, ℕ, ◌+◌, ◌*◌, ◌/◌, ◌%◌, ◌^◌, ◌<◌, ◌≤◌, ◌==◌, nat_le, Bool, true, false, not, cond, ◌&&◌, ◌||◌, ◌⊎◌, inl, inr, List, [], ◌∷◌, ◌++◌, map, length, get_or, Result, Ok, Err, refl, sym, ◌∙◌, ap, arith}
-use Rattle.std.specs.List.{Contains, list_any}
-use Rattle.std.proofs.lemmas.Bool.{and_parts, or_parts, or_left, or_right, or_from, leb-true, eqb-true, eq-eqb, true≢false}
+use Rattle.std.proofs.Common.{◌≡◌, ℕ, ◌+◌, ◌*◌, ◌/◌, ◌%◌, ◌<◌, ◌==◌, nat_le, Bool, true, false, not, cond, ◌&&◌, ◌||◌, inl, inr, length, get_or, Ok, Err, refl, sym, ◌∙◌, ap, arith}
+use Rattle.std.specs.List.{list_any}
+use Rattle.std.proofs.lemmas.Bool.{and_parts, or_left, or_right, or_from, leb-true, eqb-true, eq-eqb, true≢false}
 use Rattle.std.proofs.lemmas.List.{get_or-map, length-map}
 use Rattle.std.proofs.lemmas.List.Folds.{list_any_at}
-use Rattle.circuit_plain.specs.Netlist.{Netlist, IsVariable, IsDefined, variable_of_gate, gate_variables}
+use Rattle.circuit_plain.specs.Netlist.{Netlist, IsVariable, IsDefined, variable_of_gate}
 use Rattle.circuit_plain.specs.declared.circuits.Gate.{Gate}
 use Rattle.aiger_text.specs.Lines.{is_too_big, is_positive, is_literal, is_defined, with_input, with_gate, input_of, gate_of}
 use Rattle.aiger_text.specs.ReaderState.{IsNewVariable, IsNewGate}
-use Rattle.aiger_text.specs.declared.faults.AagFault.{AagFault}
 use Rattle.aiger_text.specs.declared.faults.AagFault.TheVariants.{TooBig, Range, DefinedTwice}
 
 no_gate : Gate
@@ -59,7 +58,7 @@ pub gate_passes : (net : Netlist) (g : Gate) → is_too_big g.variable ≡ false
     gate_of net g.variable g.left g.right ≡ Ok (with_gate net (record { variable = g.variable / 2; left = g.left; right = g.right }))
 gate_passes net g lhs left right range undefined =
     second (is_too_big g.variable || (is_too_big g.left || is_too_big g.right)) (Err TooBig) _
-      (or_from (is_too_big g.variable) (is_too_big g.left || is_too_big g.right) lhs (or_from (is_too_big g.left) (is_too_big g.right) left right))
+    (or_from (is_too_big g.variable) (is_too_big g.left || is_too_big g.right) lhs (or_from (is_too_big g.left) (is_too_big g.right) left right))
     ∙ second (not (gate_in_range net.max_var g)) (Err Range) _ (ap not range)
     ∙ second (is_defined net (g.variable / 2)) (Err DefinedTwice) _ undefined
 

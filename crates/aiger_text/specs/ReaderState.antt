@@ -28,6 +28,7 @@ pub record IsReady (r : Reader) : Type 0 where
   pub defined : (v : ℕ) → list_any (λ x. x == v) r.defined.keys ≡ is_defined r.circuit v
   pub max_var : r.circuit.max_var ≡ r.header.max_var
   pub small : IsSmall r.header
+  pub inputs_counted : length r.circuit.inputs ≤ r.header.inputs
   pub outputs_counted : length r.circuit.outputs ≤ r.header.outputs
   pub gates_counted : length r.circuit.gates ≤ r.header.gates
   pub line : r.header_line < 2 ^ 62

@@ -73,7 +73,8 @@ fn is_literal_in_range(max_var: u64, literal: u64) -> bool
     literal <= 2 * max_var + 1
 }
 
-fn has_variable(defined: &IndexSet<u64>, variable: u64) -> bool
+/// Whether a set of variables has this one.
+pub fn has_variable(defined: &IndexSet<u64>, variable: u64) -> bool
     ensures { result ≡ list_any (λ x. x == variable) defined.now.keys }
 {
     defined.contains(&variable)
@@ -100,7 +101,8 @@ fn input_variable(reader: &Reader, literal: u64) -> Result<u64, AagFault>
 
 /// Reads the line of an input.
 pub fn take_input(reader: &mut Reader, line: &[u8]) -> Result<(), LineStop>
-    requires { IsReady reader.old }
+    requires ready { IsReady reader.old }
+    requires room { length reader.old.circuit.inputs < reader.old.header.inputs }
     ensures netlist { IsNetlistOf (input_line reader.old.circuit (numbers_of (line_tokens line.now))) result reader.new.circuit }
     ensures same { SameElse reader.old reader.new }
     ensures ready { OnOk result (IsReady reader.new) }
@@ -156,8 +158,8 @@ fn gate_variable(reader: &Reader, numbers: Gate) -> Result<u64, AagFault>
     requires { IsReady reader.now }
     ensures { MatchResult result
         (λ v. (gate_of reader.now.circuit numbers.variable numbers.left numbers.right
-            ≡ Ok (with_gate reader.now.circuit (record { variable = v; left = numbers.left; right = numbers.right })))
-            × IsNewGate reader.now.circuit numbers v)
+        ≡ Ok (with_gate reader.now.circuit (record { variable = v; left = numbers.left; right = numbers.right })))
+        × IsNewGate reader.now.circuit numbers v)
         (λ name. gate_of reader.now.circuit numbers.variable numbers.left numbers.right ≡ Err name) }
 {
     let Gate {
@@ -198,7 +200,9 @@ pub fn take_gate(reader: &mut Reader, line: &[u8]) -> Result<(), LineStop>
 {
     let numbers = three_numbers(line, &mut reader.numbers)?;
     let variable = gate_variable(reader, numbers)?;
-    reader.circuit.add_gate(numbers.variable, numbers.left, numbers.right)?;
+    reader
+        .circuit
+        .add_gate(numbers.variable, numbers.left, numbers.right)?;
     define(&mut reader.defined, variable)?;
     Ok(())
 }

@@ -3,6 +3,7 @@
 
 pub use faults::{AagFault, AagStop};
 pub use files::{AagFile, Text};
+pub use reader::read;
 pub use symbols::Symbols;
 
 mod body;
@@ -10,6 +11,8 @@ mod faults;
 mod files;
 mod headers;
 mod numbers;
+mod reader;
 mod symbol_lines;
 mod symbol_steps;
 mod symbols;
+mod undefined;

@@ -50,7 +50,9 @@ fn name_output(alloc: Global, reader: &mut Reader, entry: SymbolEntry) -> Result
     ensures same { SameButSymbols reader.old reader.new }
     ensures ready { OnOk result (IsReady reader.new) }
 {
-    if entry.place >= reader.header.outputs || reader.symbols.output(entry.place as usize).is_some() {
+    if entry.place >= reader.header.outputs
+        || reader.symbols.output(entry.place as usize).is_some()
+    {
         return Err(LineStop::Fault(AagFault::BadSymbol));
     }
     let name = Text::from_bytes(alloc, entry.name)?;

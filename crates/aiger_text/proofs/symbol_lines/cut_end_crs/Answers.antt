@@ -8,8 +8,8 @@ loop-last-preserved c =
     let front = c.in-Some.front.now in
     sym
     (ap without_end_crs c.in-Some.ensures.cases.0
-      ∙ ap (λ b. without_end_crs (front ++ b ∷ [])) c.if-last-ne13.false
-      ∙ without_end_crs-push front)
+    ∙ ap (λ b. without_end_crs (front ++ b ∷ [])) c.if-last-ne13.false
+    ∙ without_end_crs-push front)
     ∙ c.loop-last.invariant
 
 pub returns-then-last-ne13 : goal.returns-then-last-ne13

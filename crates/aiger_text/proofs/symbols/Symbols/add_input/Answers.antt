@@ -1,4 +1,4 @@
-use Rattle.std.proofs.Common.{◌≡◌, ◌++◌, ◌∷◌, [], sym, ◌∙◌, ap}
+use Rattle.std.proofs.Common.{◌++◌, ◌∷◌, [], ◌∙◌, ap}
 use Rattle.aiger_text.specs.Symbol.{SymbolTable, name_at}
 use Rattle.aiger_text.proofs.Names.{insert-absent}
 use Rattle.aiger_text.proofs.symbols.Symbols.add_input.Goals as goal

@@ -1,0 +1,146 @@
+//! Reading a circuit file.
+
+ghost use Rattle.std.specs.Prelude.{◌≡◌, ◌+◌, ◌<◌, ◌^◌, length, OnOk, IfOk, MatchOption};
+ghost use Rattle.std.specs.Option.{option_copied};
+ghost use Rattle.aiger_text.specs.Scan.{scan, finish, next_part, AllGrounded, IsAagReading};
+ghost use Rattle.circuit_plain.specs.Ground.{IsFirstUngrounded};
+ghost use Rattle.aiger_text.specs.Steps.{TakesLine, StopsAt, IsSymbolIfLast};
+ghost use Rattle.aiger_text.specs.ReaderState.{body_of, IsReady};
+
+use crate::body::{Part, Reader, part_of, start_reader, take_gate, take_input, take_output};
+use crate::faults::{AagFault, AagStop, LineStop};
+use crate::files::{AagFile, Text};
+use crate::headers::read_header;
+use crate::symbol_lines::{is_blank, is_comment_mark};
+use crate::symbol_steps::take_symbol;
+use crate::undefined::first_undefined_line;
+use circuit_plain::laws::orders_ground;
+use circuit_plain::{Circuit, OrderStop};
+use dq_lits::Memory;
+use dq_text::Lines;
+use std::alloc::Global;
+
+/// Reads an ASCII AIGER file whose first line has the number `first`: exactly the circuit file that it
+/// spells within the limits, or its first fault by line and name.
+pub fn read(alloc: Global, bytes: &[u8], first: u64) -> Result<AagFile, AagStop>
+    requires { first + length bytes.now < 2 ^ 62 }
+    ensures { IsAagReading first (scan bytes.now first) result }
+{
+    let mut lines = Lines::new(bytes, first);
+    let Some(line) = lines.next() else {
+        return Err(refused(first, AagFault::BadHeader));
+    };
+    let mut numbers = Vec::new(alloc);
+    let header = match read_header(line.text, &mut numbers) {
+        Ok(header) => header,
+        Err(stop) => return Err(at_line(line.number, stop)),
+    };
+    let mut reader = start_reader(alloc, line.number, header, numbers);
+    while let Some(line) = lines.next() {
+        match part_of(&reader) {
+            Part::SymbolLine if is_blank(line.text) => {}
+            Part::SymbolLine if is_comment_mark(line.text) => {
+                return finish_file(alloc, reader, Some(lines.rest()));
+            }
+            part => {
+                if let Err(stop) = take_line(alloc, &mut reader, part, line.text) {
+                    return Err(at_line(line.number, stop));
+                }
+            }
+        }
+    }
+    match part_of(&reader) {
+        Part::SymbolLine => finish_file(alloc, reader, None),
+        _ => Err(refused(lines.number(), AagFault::Truncated)),
+    }
+}
+
+fn refused(line: u64, name: AagFault) -> AagStop
+    ensures { result ≡ AagStop.Refused line name }
+{
+    AagStop::Refused { line, name }
+}
+
+fn at_line(line: u64, stop: LineStop) -> AagStop
+    ensures { StopsAt line stop result }
+{
+    match stop {
+        LineStop::Fault(name) => refused(line, name),
+        LineStop::Memory => AagStop::Memory,
+    }
+}
+
+// Reads a line that is neither blank nor the comment's mark where symbols stand.
+fn take_line(alloc: Global, reader: &mut Reader, part: Part, line: &[u8]) -> Result<(), LineStop>
+    requires ready { IsReady reader.old }
+    requires part { part ≡ next_part (body_of reader.old) }
+    requires symbol { IsSymbolIfLast part line.now }
+    ensures line { TakesLine (body_of reader.old) line.now result (body_of reader.new) }
+    ensures ready { OnOk result (IsReady reader.new) }
+    ensures header_line { reader.new.header_line ≡ reader.old.header_line }
+{
+    match part {
+        Part::InputLine => take_input(reader, line),
+        Part::OutputLine => take_output(reader, line),
+        Part::GateLine => take_gate(reader, line),
+        Part::SymbolLine => take_symbol(alloc, reader, line),
+    }
+}
+
+// The file as it stands, unless it names what it doesn't define or has a cycle.
+fn finish_file(alloc: Global, reader: Reader, comment: Option<&[u8]>) -> Result<AagFile, AagStop>
+    requires { IsReady reader }
+    ensures { IsAagReading reader.header_line (finish (body_of reader) (option_copied comment.entry)) result }
+{
+    if let Some(line) = first_undefined_line(&reader) {
+        return Err(refused(line, AagFault::Undefined));
+    }
+    if let Some(place) = cyclic_gate(&reader.circuit)? {
+        return Err(refused(gate_line(&reader, place), AagFault::Cyclic));
+    }
+    let comment = copy_comment(alloc, comment)?;
+    let Reader {
+        circuit,
+        symbols,
+        ..
+    } = reader;
+    Ok(AagFile {
+        circuit,
+        symbols,
+        comment,
+    })
+}
+
+// The place of the first gate that no order can hold.
+fn cyclic_gate(circuit: &Circuit) -> Result<Option<usize>, Memory>
+    ensures { IfOk result (λ found. MatchOption found (AllGrounded circuit.now) (IsFirstUngrounded circuit.now)) }
+{
+    match circuit.order() {
+        Ok(_order) => {
+            orders_ground();
+            Ok(None)
+        }
+        Err(OrderStop::Cyclic(place)) => Ok(Some(place)),
+        Err(OrderStop::Memory) => Err(Memory),
+    }
+}
+
+// The line of the gate at a place.
+fn gate_line(reader: &Reader, place: usize) -> u64
+    requires ready { IsReady reader.now }
+    requires in_range { place < length reader.now.circuit.gates }
+    ensures { result ≡ reader.now.header_line + 1 + length reader.now.circuit.inputs + length reader.now.circuit.outputs + place }
+{
+    let inputs = reader.circuit.inputs().len() as u64;
+    let outputs = reader.circuit.outputs().len() as u64;
+    reader.header_line + 1 + inputs + outputs + place as u64
+}
+
+fn copy_comment(alloc: Global, comment: Option<&[u8]>) -> Result<Option<Text>, Memory>
+    ensures { IfOk result (λ text. text ≡ option_copied comment.entry) }
+{
+    match comment {
+        None => Ok(None),
+        Some(bytes) => Ok(Some(Text::from_bytes(alloc, bytes)?)),
+    }
+}
