@@ -1,10 +1,10 @@
 -- Distinct variables, and members of a list by their places.
-use Rattle.std.proofs.Common.{◌≡◌, ℕ, zero, suc, ◌+◌, ◌-◌, ◌≤◌, ◌<◌, ◌≢◌, Bool, true, false, not, List, [], ◌∷◌, ◌++◌, length, map, take, get_or, refl, ap, sym, ◌∙◌, subst, arith, cond, eqb, ltb, Option, None, Some, Result, is_ok, position, IsTrue, ◌↔◌, filter, true≢false, Contains, length-append, length-take, get_or-take, ⊎_elim}
+use Rattle.std.proofs.Common.{◌≡◌, ℕ, ◌+◌, ◌-◌, ◌≤◌, ◌<◌, ◌≢◌, true, false, List, ◌++◌, length, take, get_or, refl, ap, sym, ◌∙◌, subst, arith, eqb, ltb, None, Some, Result, is_ok, position, IsTrue, ◌↔◌, true≢false, Contains, length-append, length-take, get_or-take, ⊎_elim}
 use Rattle.std.proofs.lemmas.Bool.{eq-eqb, cases_lt, lt-ltb, ltb-true}
 use Rattle.std.proofs.lemmas.List.{length-take-le, get_or_append_left, get_or-append_right}
 use Rattle.std.proofs.lemmas.List.Elements.{Contains-get_or, All-contains}
 use Rattle.std.proofs.lemmas.Map.Keys.{apart_from_distinct}
-use Rattle.std.specs.List.{All, AllPairs, IsDistinct, list_any}
+use Rattle.std.specs.List.{All, AllPairs, IsDistinct}
 use Rattle.std.specs.List.Sorted.{IsBinarySearchResult, IsSearchInRange}
 use Rattle.std.specs.Ordering.{nat_cmp}
 use Rattle.dq_formula.specs.declared.dependencies.Deps.{Deps}
@@ -23,16 +23,21 @@ AllPairs-append us vs first second disjoint i j d l m = ⊎_elim early late (cas
   where
     size : length (us ++ vs) ≡ length us + length vs
     size = length-append us vs
+
     Goal : Type 0
     Goal = get_or (us ++ vs) i d ≢ get_or (us ++ vs) j d
+
     early : j < length us → Goal
     early a = rw (get_or_append_left us vs d i (omega arith), get_or_append_left us vs d j a) (apart (get_or us i d) (get_or us j d) (apart_from_distinct eqb us i j d first l a))
+
     across : length us ≤ j → i < length us → Goal
     across b a = rw (get_or_append_left us vs d i a, get_or-append_right us vs (length us) j d refl b) (λ e.
-      true≢false (sym (has-contains us (get_or us i d) (Contains-get_or us i d a)) ∙ ap (has us) e ∙ disjoint (j - length us) d (omega (arith, size))))
+        true≢false (sym (has-contains us (get_or us i d) (Contains-get_or us i d a)) ∙ ap (has us) e ∙ disjoint (j - length us) d (omega (arith, size))))
+
     both : length us ≤ i → Goal
     both a = rw (get_or-append_right us vs (length us) i d refl a, get_or-append_right us vs (length us) j d refl (omega arith))
-      (apart (get_or vs (i - length us) d) (get_or vs (j - length us) d) (apart_from_distinct eqb vs (i - length us) (j - length us) d second (omega arith) (omega (arith, size))))
+        (apart (get_or vs (i - length us) d) (get_or vs (j - length us) d) (apart_from_distinct eqb vs (i - length us) (j - length us) d second (omega arith) (omega (arith, size))))
+
     late : length us ≤ j → Goal
     late b = ⊎_elim (across b) both (cases_lt i (length us))
 
@@ -76,22 +81,24 @@ found-at us x i h = place-found us x i (sym (ap (λ p. position p us) (flip x)) 
 
 -- whether a set sees a variable that is no universal
 pub sees-none : (us : List ℕ) (deps : Deps) (sees : List ℕ) (x : ℕ) → IsDependencySet us deps → dependencies us deps ≡ sees → position (eqb x) us ≡ None → IsTrue false ↔ Contains sees x
-sees-none us deps sees x form same none =
-    ((λ h. absurd (true≢false (sym h))),
-     (λ m. let member : Contains us x = All-contains (Contains us) sees x (subst (All (Contains us)) same (All-dependencies us deps form)) m in
-       let below = place-below us x (has-contains us x member) in
-       let past = place-absent (λ u. eqb u x) us (sym (ap (λ p. position p us) (flip x)) ∙ none) in absurd (omega arith)))
+sees-none us deps sees x form same none = (
+  (λ h. absurd (true≢false (sym h))),
+  (λ m. let member : Contains us x = All-contains (Contains us) sees x (subst (All (Contains us)) same (All-dependencies us deps form)) m in
+      let below = place-below us x (has-contains us x member) in
+      let past = place-absent (λ u. eqb u x) us (sym (ap (λ p. position p us) (flip x)) ∙ none) in absurd (omega arith)),
+)
 
 -- a universal, by its place, where the set is the first n
 pub sees-first : (us : List ℕ) (n : ℕ) (sees : List ℕ) (x i : ℕ) → IsDistinct eqb us → n ≤ length us → take n us ≡ sees → position (eqb x) us ≡ Some i → IsTrue (ltb i n) ↔ Contains sees x
 sees-first us n sees x i distinct le same h =
-    let at = found-at us x i h in
-    ((λ t. let l : i < n = ltb-true i n t in subst (λ s. Contains s x) same (take-contains n us x le at.1 (omega (arith, at.0)))),
-     (λ m. let l = contains-take n us x distinct le (subst (λ s. Contains s x) (sym same) m) in lt-ltb i n (omega (arith, at.0))))
+    let at = found-at us x i h in (
+      (λ t. let l : i < n = ltb-true i n t in subst (λ s. Contains s x) same (take-contains n us x le at.1 (omega (arith, at.0)))),
+      (λ m. let l = contains-take n us x distinct le (subst (λ s. Contains s x) (sym same) m) in lt-ltb i n (omega (arith, at.0))),
+    )
 
 -- and by a search where they are listed
 pub sees-listed : (us vs sees : List ℕ) (x i : ℕ) (r : Result ℕ ℕ) → IsDistinct eqb us → vs ≡ listed_universals us vs → vs ≡ sees → position (eqb x) us ≡ Some i
-  → IsSearchInRange r (length vs) → IsBinarySearchResult (λ v. nat_cmp (place us v) i) vs r → IsTrue (is_ok r) ↔ Contains sees x
+    → IsSearchInRange r (length vs) → IsBinarySearchResult (λ v. nat_cmp (place us v) i) vs r → IsTrue (is_ok r) ↔ Contains sees x
 sees-listed us vs sees x i r distinct kept same h range result =
     let at = found-at us x i h in
     let result' : IsBinarySearchResult (λ v. nat_cmp (place us v) (place us x)) vs r = rw at.0 result in

@@ -1,17 +1,13 @@
 -- The existentials of a formula against the entries of the map that holds them.
-use Rattle.std.proofs.Common.{◌≡◌, ℕ, zero, suc, ◌+◌, ◌-◌, ◌≤◌, ◌<◌, Bool, true, false, ◌||◌, List, [], ◌∷◌, ◌++◌, length, map, take, drop, get_or, refl, ap, sym, ◌∙◌, subst, arith, cond, eqb, Option, None, Some, is_some}
-use Rattle.std.proofs.lemmas.Bool.{eqb-true, eq-eqb}
+use Rattle.std.proofs.Common.{◌≡◌, ℕ, Bool, true, false, ◌||◌, List, [], ◌∷◌, map, refl, ap, sym, ◌∙◌, arith, cond, eqb, Option, None, Some, is_some}
+use Rattle.std.proofs.lemmas.Bool.{eqb-true}
 use Rattle.std.proofs.lemmas.Bool.Decides.{nat_tests}
-use Rattle.std.proofs.lemmas.List.{take-append-le, map_push}
 use Rattle.std.proofs.lemmas.List.Folds.{list_any-append}
-use Rattle.std.proofs.lemmas.List.Elements.{All-head, All-tail}
-use Rattle.std.specs.List.{find, list_any, All}
+use Rattle.std.specs.List.{find, list_any}
 use Rattle.std.specs.Map.{keys_of, lookup}
 use Rattle.std.specs.Option.{option_map}
 use Rattle.dq_lits.specs.Formula.{Existential, Dqbf, is_universal, existential_of}
 use Rattle.dq_formula.specs.declared.dependencies.Deps.{Deps}
-use Rattle.dq_formula.specs.declared.dependencies.Deps.TheVariants.{FirstOf, Listed}
-use Rattle.dq_formula.specs.Dependencies.{dependencies, IsDependencySet}
 use Rattle.dq_formula.specs.Layout.{existential}
 use Rattle.dq_formula.specs.Prefix.{is_declared}
 

@@ -1,5 +1,5 @@
 -- Places of distinct numbers in a list, and the elements at rising places.
-use Rattle.std.proofs.Common.{◌≡◌, ℕ, zero, suc, ◌+◌, ◌-◌, ◌≤◌, ◌<◌, ◌≢◌, Bool, true, false, ◌||◌, not, List, [], ◌∷◌, ◌++◌, length, map, take, drop, get_or, refl, ap, sym, ◌∙◌, subst, arith, cond, eqb, Option, None, Some, is_some, filter, Contains, true≢false, ltb, position, ⊎_elim}
+use Rattle.std.proofs.Common.{◌≡◌, ℕ, suc, ◌+◌, ◌-◌, ◌≤◌, ◌<◌, ◌≢◌, Bool, true, false, not, List, [], ◌∷◌, length, map, get_or, refl, ap, sym, ◌∙◌, subst, arith, cond, eqb, None, Some, filter, Contains, true≢false, ltb, position, ⊎_elim}
 use Rattle.std.proofs.lemmas.Bool.{eqb-true, eq-eqb, lt-ltb, cases_lt}
 use Rattle.std.proofs.lemmas.Bool.Decides.{nat_tests}
 use Rattle.std.proofs.lemmas.List.{get_or_default}
@@ -8,10 +8,9 @@ use Rattle.std.proofs.lemmas.List.Quantifiers.{position-Some}
 use Rattle.std.proofs.lemmas.List.Folds.{Any-from_list_any, list_any-from_Any}
 use Rattle.std.proofs.lemmas.List.Sums.{position_or_len_is, prefix_len-le-length}
 use Rattle.std.proofs.lemmas.List.Elements.{All-from_recursion}
-use Rattle.std.proofs.lemmas.List.Kept.{IsNonDecreasingBy-filter}
-use Rattle.std.specs.List.{list_any, All, AllByRecursion, IsDistinct, position_or_len}
-use Rattle.std.specs.List.Sorted.{IsNonDecreasingBy, IsStrictlyIncreasing}
-use Rattle.dq_formula.proofs.Entries.{eqb-flip, list_any-map}
+use Rattle.std.specs.List.{list_any, AllByRecursion, IsDistinct, position_or_len}
+use Rattle.std.specs.List.Sorted.{IsNonDecreasingBy}
+use Rattle.dq_formula.proofs.Entries.{eqb-flip}
 
 abbrev pub place : List ℕ → ℕ → ℕ
 place xs x = position_or_len (λ u. eqb u x) xs
@@ -35,9 +34,10 @@ place-absent p xs none =
 -- where it finds the element
 pub place-found : (xs : List ℕ) (x i : ℕ) → position (λ u. eqb u x) xs ≡ Some i → (place xs x ≡ i) × (has xs x ≡ true)
 place-found xs x i found =
-    let h = position-Some (λ u. eqb u x) xs i 0 found in
-    (position_or_len_is (λ u. eqb u x) xs i 0 (omega (arith, h.0)) h.2 (λ _. h.1),
-     list_any-from_Any (λ u. eqb u x) xs (i, get_or xs i 0, h.0, get_or_default xs i (get_or xs i 0) 0 h.0, h.1))
+    let h = position-Some (λ u. eqb u x) xs i 0 found in (
+      position_or_len_is (λ u. eqb u x) xs i 0 (omega (arith, h.0)) h.2 (λ _. h.1),
+      list_any-from_Any (λ u. eqb u x) xs (i, get_or xs i 0, h.0, get_or_default xs i (get_or xs i 0) 0 h.0, h.1),
+    )
 
 -- of distinct numbers each one stands at its own place
 pub place-get_or : (xs : List ℕ) (i d : ℕ) → IsDistinct eqb xs → i < length xs → place xs (get_or xs i d) ≡ i
@@ -77,7 +77,6 @@ pub filter-cons_other : (u : ℕ) (vs xs : List ℕ) → AllByRecursion (λ y. e
 filter-cons_other u vs [] h = refl
 filter-cons_other u vs (x ∷ xs) h = rw (h.0, filter-cons_other u vs xs h.1) refl
 
-
 -- the elements at the places, where the list stands behind `low` others
 abbrev pub at : List ℕ → ℕ → List ℕ → List ℕ
 at us low ps = map (λ p. get_or us (p - low) 0) ps
@@ -102,9 +101,9 @@ at-filter (u ∷ us) low [] d h = at-filter us (low + 1) [] (IsDistinct-tail eqb
 at-filter (u ∷ us) low (p ∷ ps) d h = by (eqb p low) refl (at-filter us (low + 1) ps (IsDistinct-tail eqb u us d)) (at-filter us (low + 1) (p ∷ ps) (IsDistinct-tail eqb u us d))
   where
     by : (b : Bool) → eqb p low ≡ b
-      → (Rise (low + 1) (low + 1 + length us) ps → at us (low + 1) ps ≡ filter (has (at us (low + 1) ps)) us)
-      → (Rise (low + 1) (low + 1 + length us) (p ∷ ps) → at us (low + 1) (p ∷ ps) ≡ filter (has (at us (low + 1) (p ∷ ps))) us)
-      → at (u ∷ us) low (p ∷ ps) ≡ filter (has (at (u ∷ us) low (p ∷ ps))) (u ∷ us)
+        → (Rise (low + 1) (low + 1 + length us) ps → at us (low + 1) ps ≡ filter (has (at us (low + 1) ps)) us)
+        → (Rise (low + 1) (low + 1 + length us) (p ∷ ps) → at us (low + 1) (p ∷ ps) ≡ filter (has (at us (low + 1) (p ∷ ps))) us)
+        → at (u ∷ us) low (p ∷ ps) ≡ filter (has (at (u ∷ us) low (p ∷ ps))) (u ∷ us)
     by true e here later =
         let same = eqb-true p low e in
         let size : low + length (u ∷ us) ≡ low + 1 + length us = omega arith in
@@ -113,7 +112,7 @@ at-filter (u ∷ us) low (p ∷ ps) d h = by (eqb p low) refl (at-filter us (low
         let first : p - low ≡ 0 = omega (arith, same) in
         let whole : at (u ∷ us) low (p ∷ ps) ≡ u ∷ at us (low + 1) ps = rw (first, shift) refl in
         let kept : u ∷ at us (low + 1) ps ≡ filter (has (u ∷ at us (low + 1) ps)) (u ∷ us) =
-          rw (eq-eqb u u refl, filter-cons_other u (at us (low + 1) ps) us (IsDistinct-head eqb u us d)) (ap (λ vs. u ∷ vs) (here rise)) in
+        rw (eq-eqb u u refl, filter-cons_other u (at us (low + 1) ps) us (IsDistinct-head eqb u us d)) (ap (λ vs. u ∷ vs) (here rise)) in
         subst (λ vs. vs ≡ filter (has vs) (u ∷ us)) (sym whole) kept
     by false e here later =
         let other = false-ne p low e in

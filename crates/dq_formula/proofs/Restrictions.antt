@@ -1,5 +1,5 @@
 -- The bits that a row gives to variables, and lists of bits that agree.
-use Rattle.std.proofs.Common.{◌≡◌, ℕ, zero, suc, ◌+◌, ◌-◌, ◌≤◌, ◌<◌, ◌≢◌, Bool, true, false, not, List, [], ◌∷◌, length, map, take, get_or, refl, ap, sym, ◌∙◌, subst, arith, cond, eqb, ltb, true≢false, ◌&&◌, ◌++◌, replicate, length-append, length-take, get_or-take}
+use Rattle.std.proofs.Common.{◌≡◌, ℕ, zero, suc, ◌+◌, ◌-◌, ◌≤◌, ◌<◌, Bool, true, false, not, List, [], ◌∷◌, length, map, take, get_or, refl, ap, sym, ◌∙◌, arith, cond, eqb, true≢false, ◌&&◌, replicate, length-append, length-take, get_or-take}
 use Rattle.dq_formula.proofs.Places.{place, place-get_or}
 use Rattle.std.proofs.lemmas.List.{ext_get_or, get_or-map, length-replicate}
 use Rattle.std.specs.Bool.{beq}
@@ -71,7 +71,7 @@ padded-is n bits out size le same =
 
 -- the bits that a set of the first n universals sees
 pub bit-first : (us : List ℕ) (row : List Bool) (n i : ℕ) → IsDistinct eqb us → length row ≡ length us → n ≤ length us → i < n
-  → bit_of row i ≡ bit_of (map (assignment_of us row) (take n us)) i
+    → bit_of row i ≡ bit_of (map (assignment_of us row) (take n us)) i
 bit-first us row n i distinct size le l =
     let short : i < length (take n us) = omega (arith, length-take n us) in
     sym (get_or-map (assignment_of us row) (take n us) i 0 false short
@@ -81,7 +81,7 @@ bit-first us row n i distinct size le l =
 
 -- and those that a listed set sees
 pub bit-listed : (us vs : List ℕ) (row : List Bool) (i x : ℕ) → length row ≡ length us → i < length vs → x ≡ get_or vs i x
-  → bit_of row (place us x) ≡ bit_of (map (assignment_of us row) vs) i
+    → bit_of row (place us x) ≡ bit_of (map (assignment_of us row) vs) i
 bit-listed us vs row i x size l at = assignment_of-place us row x size ∙ ap (assignment_of us row) at ∙ sym (get_or-map (assignment_of us row) vs i x false l)
 
 -- `!=` on bits

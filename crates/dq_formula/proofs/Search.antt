@@ -1,12 +1,10 @@
 -- A binary search by place.
-use Rattle.std.proofs.Common.{◌≡◌, ℕ, zero, suc, ◌+◌, ◌-◌, ◌≤◌, ◌<◌, ◌≢◌, Bool, true, false, not, List, [], ◌∷◌, length, map, take, get_or, refl, ap, sym, ◌∙◌, subst, arith, cond, eqb, ltb, Option, None, Some, Result, Ok, Err, is_ok, filter, true≢false, Contains, IsTrue, ◌↔◌, ⊎_elim}
-use Rattle.std.proofs.lemmas.Bool.{eqb-true, eq-eqb, cases_lt}
+use Rattle.std.proofs.Common.{◌≡◌, ℕ, ◌≤◌, true, List, length, get_or, refl, ap, sym, ◌∙◌, subst, arith, eqb, Result, Ok, Err, is_ok, filter, true≢false, Contains, IsTrue, ◌↔◌, ⊎_elim}
+use Rattle.std.proofs.lemmas.Bool.{cases_lt}
 use Rattle.std.proofs.lemmas.Bool.Decides.{nat_tests}
-use Rattle.std.proofs.lemmas.List.{get_or_default}
-use Rattle.std.proofs.lemmas.List.Folds.{Any-from_list_any, list_any-from_Any}
-use Rattle.std.proofs.lemmas.List.Elements.{Contains-get_or, All-filter, All-contains_itself, All-contains}
+use Rattle.std.proofs.lemmas.List.Elements.{All-filter, All-contains_itself}
 use Rattle.std.proofs.lemmas.List.Kept.{IsNonDecreasingBy-filter}
-use Rattle.std.specs.List.{All, AllWithin, HoldsAt, IsDistinct}
+use Rattle.std.specs.List.{All, AllWithin, IsDistinct}
 use Rattle.std.specs.List.Sorted.{IsNonDecreasingBy, IsBinarySearchResult, IsSearchInRange}
 use Rattle.std.specs.Ordering.{nat_cmp, ordering_index}
 use Rattle.std.specs.declared.cmp.Ordering.TheVariants.{Less, Equal, Greater}
@@ -31,7 +29,7 @@ All-kept us vs kept = subst (All (Contains us)) (sym kept) (All-filter (has vs) 
 
 -- a search by place, among elements in the order of the list, finds just its members
 pub found : (us vs : List ℕ) (x : ℕ) (r : Result ℕ ℕ) → IsDistinct eqb us → Kept us vs → has us x ≡ true
-  → IsSearchInRange r (length vs) → IsBinarySearchResult (λ y. nat_cmp (place us y) (place us x)) vs r → IsTrue (is_ok r) ↔ Contains vs x
+    → IsSearchInRange r (length vs) → IsBinarySearchResult (λ y. nat_cmp (place us y) (place us x)) vs r → IsTrue (is_ok r) ↔ Contains vs x
 found us vs x (Ok i) distinct kept among range result =
     let same : place us (get_or vs i x) ≡ place us x = same-from_equal (place us (get_or vs i x)) (place us x) (result x) in
     let member : has us (get_or vs i x) ≡ true = has-contains us (get_or vs i x) (All-kept us vs kept i x range) in
@@ -44,5 +42,6 @@ found us vs x (Err i) distinct kept among range result =
   where
     at-member : (m : Contains vs x) → nat_cmp (place us (get_or vs m.0 x)) (place us x) ≡ Equal
     at-member m = rw m.2 (equal-from_same (place us x))
+
     no : Contains vs x → AllWithin (λ y. nat_cmp (place us y) (place us x) ≡ Less) vs 0 i × AllWithin (λ y. nat_cmp (place us y) (place us x) ≡ Greater) vs i (length vs) → ⊥
     no m parts = ⊎_elim (λ l. let a = parts.0 m.0 x (omega arith) l in let b = at-member m in cc) (λ l. let a = parts.1 m.0 x l m.1 in let b = at-member m in cc) (cases_lt m.0 i)

@@ -1,18 +1,17 @@
 -- Places, sorted and without repeats, pick listed elements in the order of the list.
-use Rattle.std.proofs.Common.{◌≡◌, ℕ, zero, suc, ◌+◌, ◌-◌, ◌≤◌, ◌<◌, ◌≢◌, Bool, true, false, ◌||◌, not, List, [], ◌∷◌, ◌++◌, length, map, take, drop, get_or, refl, ap, sym, ◌∙◌, subst, arith, cond, ◌&&◌, eqb, Option, None, Some, is_some, filter, true≢false, Contains, zero-add}
+use Rattle.std.proofs.Common.{◌≡◌, ℕ, suc, ◌+◌, ◌-◌, ◌≤◌, ◌<◌, Bool, true, false, ◌||◌, not, List, [], ◌∷◌, length, map, get_or, refl, ap, sym, ◌∙◌, arith, cond, ◌&&◌, eqb, filter, true≢false, zero-add}
 use native.Mathlib.Numerals.{unary_clauses}
-use Rattle.std.proofs.lemmas.Bool.{eqb-true, eq-eqb}
-use Rattle.std.proofs.lemmas.List.Elements.{All-head, All-tail, All-cons, All-map, Contains-get_or, filter_agree}
+use Rattle.std.proofs.lemmas.Bool.{eqb-true}
+use Rattle.std.proofs.lemmas.List.Elements.{All-head, All-tail, All-map, Contains-get_or, filter_agree}
 use Rattle.std.proofs.lemmas.List.Filters.{All-dedup}
-use Rattle.std.proofs.lemmas.List.Sums.{position_or_len_is}
 use Rattle.std.proofs.lemmas.List.Sorted.{list_any-IsPermutation, All-permutation}
-use Rattle.std.proofs.lemmas.Map.Keys.{IsStrictlyIncreasing-dedup, IsDistinct-from_apart}
+use Rattle.std.proofs.lemmas.Map.Keys.{IsStrictlyIncreasing-dedup}
 use Rattle.std.proofs.lemmas.Map.Views.{any-filter_same}
-use Rattle.std.specs.List.{list_any, All, IsDistinct, dedup, dedup_from, position_or_len, range_with_len}
+use Rattle.std.specs.List.{list_any, All, IsDistinct, dedup, dedup_from}
 use Rattle.std.specs.List.Sorted.{IsStrictlyIncreasing, IsPermutation, IsSorted}
 use Rattle.std.specs.Ordering.{nat_cmp}
 use Rattle.dq_formula.proofs.Entries.{list_any-map}
-use Rattle.dq_formula.proofs.Places.{place, has, has-contains, Rise, Rise-earlier, at, at-filter}
+use Rattle.dq_formula.proofs.Places.{place, has, has-contains, Rise, at, at-filter}
 
 -- numbers that rise strictly, from their first one on
 pub Rise-from_increasing : (low high : ℕ) (ps : List ℕ) → IsStrictlyIncreasing ps → All (λ p. (low ≤ p) × (p < high)) ps → Rise low high ps
@@ -30,7 +29,7 @@ dedup_from-any p k [] = refl
 dedup_from-any p k (x ∷ xs) = by (dedup_from-any p k xs) (dedup_from-any p x xs) (eqb x k) refl
   where
     by : list_any p (dedup_from eqb k xs) ≡ (p k || list_any p xs) → list_any p (dedup_from eqb x xs) ≡ (p x || list_any p xs)
-      → (b : Bool) → eqb x k ≡ b → list_any p (cond (eqb x k) (dedup_from eqb k xs) (k ∷ dedup_from eqb x xs)) ≡ (p k || (p x || list_any p xs))
+        → (b : Bool) → eqb x k ≡ b → list_any p (cond (eqb x k) (dedup_from eqb k xs) (k ∷ dedup_from eqb x xs)) ≡ (p k || (p x || list_any p xs))
     by here later true e = rw e (here ∙ twice (p k) (p x) (list_any p xs) (ap p (sym (eqb-true x k e))))
       where
         twice : (a b c : Bool) → a ≡ b → (a || c) ≡ (a || (b || c))
@@ -73,21 +72,21 @@ get_or-place (u ∷ us) x d h = by (get_or-place us x d) (eqb u x) refl
 
 -- the places of listed elements, sorted and without repeats, are those of the elements that are listed
 pub in_order : (us xs sorted : List ℕ) → IsDistinct eqb us → AllAmong us xs → IsPermutation (map (place us) xs) sorted → IsSorted nat_cmp sorted
-  → map (λ p. get_or us p 0) (dedup eqb sorted) ≡ filter (has xs) us
+    → map (λ p. get_or us p 0) (dedup eqb sorted) ≡ filter (has xs) us
 in_order us xs sorted distinct among moved order =
     let ps = dedup eqb sorted in
     let below : All (λ p. (0 ≤ p) × (p < length us)) ps =
-      All-dedup eqb (λ p. (0 ≤ p) × (p < length us)) sorted (All-permutation (λ p. (0 ≤ p) × (p < length us)) (map (place us) xs) sorted moved
-      (All-map (λ p. (0 ≤ p) × (p < length us)) (place us) xs (λ k d l. (omega arith, place-below us (get_or xs k d) (among k d l))))) in
+    All-dedup eqb (λ p. (0 ≤ p) × (p < length us)) sorted (All-permutation (λ p. (0 ≤ p) × (p < length us)) (map (place us) xs) sorted moved
+    (All-map (λ p. (0 ≤ p) × (p < length us)) (place us) xs (λ k d l. (omega arith, place-below us (get_or xs k d) (among k d l))))) in
     let rise : Rise 0 (0 + length us) ps = rw zero-add (Rise-from_increasing 0 (length us) ps (IsStrictlyIncreasing-dedup sorted order) below) in
     let picked : at us 0 ps ≡ filter (has (at us 0 ps)) us = at-filter us 0 ps distinct rise in
     let plain : at us 0 ps ≡ map (λ p. get_or us p 0) ps = at-zero us ps in
     let same : (u : ℕ) → has (at us 0 ps) u ≡ has xs u = λ u.
-      list_any-map (λ x. eqb x u) (λ p. get_or us (p - 0) 0) ps
-      ∙ dedup-any (λ p. eqb (get_or us (p - 0) 0) u) sorted
-      ∙ sym (list_any-IsPermutation (λ p. eqb (get_or us (p - 0) 0) u) (map (place us) xs) sorted moved)
-      ∙ list_any-map (λ p. eqb (get_or us (p - 0) 0) u) (place us) xs
-      ∙ list_any-agree (λ x. eqb (get_or us (place us x - 0) 0) u) (λ x. eqb x u) xs (λ k d l. ap (λ n. eqb n u) (rw sub-zero (get_or-place us (get_or xs k d) 0 (among k d l)))) in
+    list_any-map (λ x. eqb x u) (λ p. get_or us (p - 0) 0) ps
+    ∙ dedup-any (λ p. eqb (get_or us (p - 0) 0) u) sorted
+    ∙ sym (list_any-IsPermutation (λ p. eqb (get_or us (p - 0) 0) u) (map (place us) xs) sorted moved)
+    ∙ list_any-map (λ p. eqb (get_or us (p - 0) 0) u) (place us) xs
+    ∙ list_any-agree (λ x. eqb (get_or us (place us x - 0) 0) u) (λ x. eqb x u) xs (λ k d l. ap (λ n. eqb n u) (rw sub-zero (get_or-place us (get_or xs k d) 0 (among k d l)))) in
     sym plain ∙ picked ∙ filter_agree (has (at us 0 ps)) (has xs) same us
   where
     at-zero : (us ps : List ℕ) → at us 0 ps ≡ map (λ p. get_or us p 0) ps
@@ -107,10 +106,10 @@ filter-agree p q (u ∷ us) h = rw (All-head (λ u. p u ≡ q u) u us h, filter-
 -- a filter keeps its members
 pub filter-members : (p : ℕ → Bool) (us : List ℕ) → filter p us ≡ filter (has (filter p us)) us
 filter-members p us = filter-agree p (has (filter p us)) us (λ k d l.
-  let u = get_or us k d in
-  let member : has us u ≡ true = has-contains us u (Contains-get_or us k d l) in
-  let kept : has (filter p us) u ≡ (p u && has us u) = any-filter_same (λ x. eqb x u) p (p u) (λ x e. ap p (eqb-true x u e)) us in
-  sym (kept ∙ rw member (and-true (p u))))
+    let u = get_or us k d in
+    let member : has us u ≡ true = has-contains us u (Contains-get_or us k d l) in
+    let kept : has (filter p us) u ≡ (p u && has us u) = any-filter_same (λ x. eqb x u) p (p u) (λ x e. ap p (eqb-true x u e)) us in
+    sym (kept ∙ rw member (and-true (p u))))
   where
     and-true : (b : Bool) → (b && true) ≡ b
     and-true true = refl

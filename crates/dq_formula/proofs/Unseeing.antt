@@ -1,15 +1,14 @@
 -- Existentials that see nothing, declared one behind another.
-use Rattle.std.proofs.Common.{◌≡◌, ℕ, zero, suc, ◌+◌, ◌≤◌, ◌<◌, ◌≢◌, Bool, true, false, ◌||◌, ◌&&◌, not, List, [], ◌∷◌, ◌++◌, length, map, get_or, refl, ap, sym, ◌∙◌, subst, arith, cond, eqb, filter, true≢false, append-nil, append_assoc}
+use Rattle.std.proofs.Common.{◌≡◌, ℕ, ◌+◌, ◌≤◌, ◌<◌, Bool, true, false, ◌||◌, ◌&&◌, not, List, [], ◌∷◌, ◌++◌, length, map, get_or, refl, ap, sym, ◌∙◌, subst, arith, eqb, filter, true≢false, append-nil, append_assoc}
 use Rattle.std.proofs.lemmas.Cmp.{nat_eq_equiv}
 use Rattle.std.proofs.lemmas.List.{map_push, map-append}
 use Rattle.std.proofs.lemmas.List.Elements.{All-head, All-tail, All-filter, filter_passes, All-from_recursion}
 use Rattle.std.proofs.lemmas.List.Folds.{list_any-append}
 use Rattle.std.proofs.lemmas.Map.Keys.{IsDistinct-head, IsDistinct-tail, IsDistinct-push}
-use Rattle.std.specs.List.{All, AllByRecursion, IsDistinct, list_any, range_with_len}
+use Rattle.std.specs.List.{All, IsDistinct, list_any, range_with_len}
 use Rattle.std.specs.Map.{keys_of}
 use Rattle.indexmap.specs.IndexMap.{insert_entry, insert_all}
 use Rattle.dq_lits.specs.Literal.{Literal}
-use Rattle.dq_lits.specs.Formula.{Existential, Dqbf}
 use Rattle.dq_formula.specs.declared.dependencies.Deps.{Deps}
 use Rattle.dq_formula.specs.declared.dependencies.Deps.TheVariants.{FirstOf}
 use Rattle.dq_formula.specs.Dependencies.{IsDependencySet}
@@ -40,7 +39,7 @@ pub record AreNew (variables : ℕ) (us ks vs : List ℕ) : Type 0 where
   pub no_keys : All (λ v. has ks v ≡ false) vs
 
 AreNew-step : (variables : ℕ) (us : List ℕ) (es : List (ℕ × Deps)) (v : ℕ) (deps : Deps) (vs : List ℕ)
-  → AreNew variables us (keys_of es) (v ∷ vs) → AreNew variables us (keys_of (es ++ (v, deps) ∷ [])) vs
+    → AreNew variables us (keys_of es) (v ∷ vs) → AreNew variables us (keys_of (es ++ (v, deps) ∷ [])) vs
 AreNew-step variables us es v deps vs new =
     let keys : keys_of (es ++ (v, deps) ∷ []) ≡ keys_of es ++ v ∷ [] = map_push (λ (e : ℕ × Deps). e.0) es (v, deps) in
     let rest : All (λ w. has (keys_of es) w ≡ false) vs = All-tail (λ w. has (keys_of es) w ≡ false) v vs new.no_keys in
@@ -50,18 +49,18 @@ AreNew-step variables us es v deps vs new =
       distinct = IsDistinct-tail eqb v vs new.distinct;
       no_universals = All-tail (λ w. has us w ≡ false) v vs new.no_universals;
       no_keys = subst (λ ks. All (λ w. has ks w ≡ false) vs) (sym keys)
-        (λ k d l. list_any-append (λ x. eqb x (get_or vs k d)) (keys_of es) (v ∷ []) ∙ rw (rest k d l, apart k d l) refl)
+          (λ k d l. list_any-append (λ x. eqb x (get_or vs k d)) (keys_of es) (v ∷ []) ∙ rw (rest k d l, apart k d l) refl);
     }
 
 no-declaration : (variables : ℕ) (us : List ℕ) (es : List (ℕ × Deps)) (ends : List ℕ) (literals : List Literal) (v : ℕ)
-  → has us v ≡ false → has (keys_of es) v ≡ false → is_declared (formula_of variables us es ends literals) v ≡ false
+    → has us v ≡ false → has (keys_of es) v ≡ false → is_declared (formula_of variables us es ends literals) v ≡ false
 no-declaration variables us es ends literals v a b =
     ap (λ ks. has (us ++ ks) v) (map-variable us es) ∙ list_any-append (λ x. eqb x v) us (keys_of es) ∙ rw (a, b) refl
 
 -- new variables go behind the others, and the formula keeps what every formula keeps
 pub insert_all-unseeing : (variables : ℕ) (us : List ℕ) (ends : List ℕ) (literals : List Literal) (vs : List ℕ) (es : List (ℕ × Deps))
-  → IsKept variables us es ends literals → AreNew variables us (keys_of es) vs
-  → (insert_all eqb es (map unseeing_entry vs) ≡ es ++ map unseeing_entry vs) × IsKept variables us (es ++ map unseeing_entry vs) ends literals
+    → IsKept variables us es ends literals → AreNew variables us (keys_of es) vs
+    → (insert_all eqb es (map unseeing_entry vs) ≡ es ++ map unseeing_entry vs) × IsKept variables us (es ++ map unseeing_entry vs) ends literals
 insert_all-unseeing variables us ends literals [] es kept new = (sym (append-nil es), rw append-nil kept)
 insert_all-unseeing variables us ends literals (v ∷ vs) es kept new =
     let es' = es ++ unseeing_entry v ∷ [] in
@@ -73,7 +72,7 @@ insert_all-unseeing variables us ends literals (v ∷ vs) es kept new =
     let distinct : IsDistinct eqb (keys_of es') = subst (IsDistinct eqb) (sym keys) (IsDistinct-push nat_eq_equiv (keys_of es) v kept.distinct_existentials no-key') in
     let form : IsDependencySet us (FirstOf 0) = omega arith in
     let kept' : IsKept variables us es' ends literals =
-      IsKept-existential variables us es ends literals v (FirstOf 0) kept range.0 range.1 (no-declaration variables us es ends literals v no-universal no-key) form distinct in
+    IsKept-existential variables us es ends literals v (FirstOf 0) kept range.0 range.1 (no-declaration variables us es ends literals v no-universal no-key) form distinct in
     let rest = insert_all-unseeing variables us ends literals vs es' kept' (AreNew-step variables us es v (FirstOf 0) vs new) in
     let one : insert_entry eqb es v (FirstOf 0) ≡ es' = insert_entry-last es v (FirstOf 0) no-key in
     let whole : es' ++ map unseeing_entry vs ≡ es ++ unseeing_entry v ∷ map unseeing_entry vs = append_assoc es (unseeing_entry v ∷ []) (map unseeing_entry vs) in
@@ -81,7 +80,7 @@ insert_all-unseeing variables us ends literals (v ∷ vs) es kept new =
 
 -- the undeclared variables that occur are new
 pub AreNew-free : (variables : ℕ) (us : List ℕ) (es : List (ℕ × Deps)) (ends : List ℕ) (literals : List Literal)
-  → AreNew variables us (keys_of es) (free_variables (formula_of variables us es ends literals))
+    → AreNew variables us (keys_of es) (free_variables (formula_of variables us es ends literals))
 AreNew-free variables us es ends literals =
     let f = formula_of variables us es ends literals in
     let test : ℕ → Bool = λ v. not (is_declared f v) && occurs f.matrix v in
@@ -89,12 +88,12 @@ AreNew-free variables us es ends literals =
     let passed : All (λ v. test v ≡ true) (filter test numbers) = filter_passes test numbers in
     let range : All (λ v. (1 ≤ v) × (v < 1 + variables)) (filter test numbers) = All-filter test (λ v. (1 ≤ v) × (v < 1 + variables)) numbers (All-range 1 variables) in
     let parts : (k d : ℕ) → k < length (filter test numbers) → (has us (get_or (filter test numbers) k d) ≡ false) × (has (keys_of es) (get_or (filter test numbers) k d) ≡ false) =
-      λ k d l. undeclared-keys variables us es ends literals (get_or (filter test numbers) k d) (first (is_declared f (get_or (filter test numbers) k d)) (occurs f.matrix (get_or (filter test numbers) k d)) (passed k d l)) in
+    λ k d l. undeclared-keys variables us es ends literals (get_or (filter test numbers) k d) (first (is_declared f (get_or (filter test numbers) k d)) (occurs f.matrix (get_or (filter test numbers) k d)) (passed k d l)) in
     record {
       in_range = λ k d l. let h = range k d l in (h.0, omega (arith, h.1));
       distinct = IsDistinct-filter test numbers (IsDistinct-range_with_len 1 variables);
       no_universals = λ k d l. (parts k d l).0;
-      no_keys = λ k d l. (parts k d l).1
+      no_keys = λ k d l. (parts k d l).1;
     }
   where
     first : (a b : Bool) → (not a && b) ≡ true → a ≡ false
@@ -103,8 +102,8 @@ AreNew-free variables us es ends literals =
 
 -- and the formula then has them as existentials that see nothing
 pub formula_of-unseeing : (variables : ℕ) (us : List ℕ) (es : List (ℕ × Deps)) (ends : List ℕ) (literals : List Literal) (vs : List ℕ)
-  → formula_of variables us (es ++ map unseeing_entry vs) ends literals
-  ≡ record (formula_of variables us es ends literals) { existentials = map (existential us) es ++ map unseeing vs }
+    → formula_of variables us (es ++ map unseeing_entry vs) ends literals
+    ≡ record (formula_of variables us es ends literals) { existentials = map (existential us) es ++ map unseeing vs }
 formula_of-unseeing variables us es ends literals vs = rw (map-append (existential us) es (map unseeing_entry vs), each vs) refl
   where
     each : (vs : List ℕ) → map (existential us) (map unseeing_entry vs) ≡ map unseeing vs

@@ -1,5 +1,5 @@
 -- How a formula lies in memory: the dependency sets in a map from the existentials, and the clauses end to end in one list.
-use Rattle.std.specs.Prelude.{◌≡◌, ℕ, zero, suc, ◌-◌, ◌==◌, ◌≤◌, nat_eq, Bool, false, List, [], ◌∷◌, length, take, drop, map, slice_index}
+use Rattle.std.specs.Prelude.{◌≡◌, ℕ, zero, suc, ◌-◌, ◌==◌, ◌≤◌, nat_eq, false, List, [], ◌∷◌, length, take, drop, map, slice_index}
 use Rattle.std.specs.List.{All, IsDistinct, list_any}
 use Rattle.std.specs.Map.{keys_of, values_of}
 use Rattle.dq_lits.specs.Literal.{Literal, variable_of}
@@ -37,7 +37,7 @@ formula_of variables universals entries ends literals = record {
   variables = variables;
   universals = universals;
   existentials = map (existential universals) entries;
-  matrix = clauses_at 0 ends literals
+  matrix = clauses_at 0 ends literals;
 }
 
 abbrev pub IsInRange : ℕ → ℕ → Type 0

@@ -67,6 +67,18 @@ fn clause_at<'a>(ends: &[usize], lits: &'a [Lit], j: usize) -> &'a [Lit]
     &lits[start..end]
 }
 
+// Adds a clause behind those that lie end to end.
+fn append(ends: &mut Vec<usize>, lits: &mut Vec<Lit>, clause: &[Lit]) -> Result<(), Memory>
+    ensures end { OnOk result (ends.new.items ≡ ends.old.items ++ length lits.new.items ∷ []) }
+    ensures literals { OnOk result (lits.new.items ≡ lits.old.items ++ clause.now) }
+    ensures err { OnErr result ((ends.new.items ≡ ends.old.items) × (lits.new.items ≡ lits.old.items)) }
+{
+    ends.reserve(1)?;
+    lits.extend_from_slice(clause)?;
+    ends.push(lits.len()).unwrap();
+    Ok(())
+}
+
 // The elements at these places.
 fn picked(alloc: Global, xs: &[u64], places: &[usize]) -> Result<Vec<u64>, Memory>
     requires { All (λ p. p < length xs.now) places.now }
@@ -321,7 +333,8 @@ impl Formula {
     // The listed universals, each once and in order of declaration.
     fn in_order(&self, xs: &[u64]) -> Result<Vars, Memory>
         requires { All (λ x. is_universal self.now x ≡ true) xs.now }
-        ensures { IfOk result (λ vars. vars ≡ listed_universals self.now.universals xs.now) }
+        ensures listed { IfOk result (λ vars. vars ≡ listed_universals self.now.universals xs.now) }
+        ensures form { IfOk result (λ vars. vars ≡ listed_universals self.now.universals vars) }
     {
         let mut places = self.places(xs)?;
         places.sort_unstable();
@@ -359,9 +372,7 @@ impl Formula {
         ensures ok { OnOk result (self.new ≡ record self.old { matrix = self.old.matrix ++ lits.now ∷ [] }) }
         ensures err { OnErr result (self.new ≡ self.old) }
     {
-        self.ends.reserve(1)?;
-        self.lits.extend_from_slice(lits)?;
-        self.ends.push(self.lits.len()).unwrap();
+        append(&mut self.ends, &mut self.lits, lits)?;
         Ok(())
     }
 

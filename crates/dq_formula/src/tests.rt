@@ -56,7 +56,11 @@ fn declare_first(rt: &impl Abort, f: &mut Formula, y: u64) -> Result<(), Memory>
 fn literal(rt: &impl Abort, number: i64) -> Lit {
     let var = number.unsigned_abs();
     assert!(rt; 1 <= var && var < 1 << 62);
-    if number < 0 { Lit::neg(var) } else { Lit::pos(var) }
+    if number < 0 {
+        Lit::neg(var)
+    } else {
+        Lit::pos(var)
+    }
 }
 
 fn is(lit: &Lit, number: i64) -> bool {
@@ -127,7 +131,11 @@ fn same_on(rt: &impl Abort, f: &Formula, y: u64, first: &Row, second: &Row) -> b
 
 // p cnf 4 4 / a 1 2 0 / d 3 1 0 / d 4 2 0 / 3 -1 0 / -3 1 0 / 4 -2 0 / -4 2 0
 fn copies(rt: &impl Abort, alloc: Global) -> Result<Formula, Memory> {
-    let prefix = [Step::Universals(&[1, 2]), Step::Listed(3, &[1]), Step::Listed(4, &[2])];
+    let prefix = [
+        Step::Universals(&[1, 2]),
+        Step::Listed(3, &[1]),
+        Step::Listed(4, &[2]),
+    ];
     let mut f = build(rt, alloc, 4, &prefix)?;
     for (a, b) in [(3, -1), (-3, 1), (4, -2), (-4, 2)] {
         add_pair(rt, &mut f, a, b)?;
@@ -138,7 +146,13 @@ fn copies(rt: &impl Abort, alloc: Global) -> Result<Formula, Memory> {
 #[test]
 fn a_formula_tells_what_was_added(rt: HostRuntime) -> Result<(), Fail> {
     let f = copies(&rt, rt.alloc())?;
-    for (y, x, want) in [(3, 1, true), (3, 2, false), (4, 1, false), (4, 2, true), (3, 3, false)] {
+    for (y, x, want) in [
+        (3, 1, true),
+        (3, 2, false),
+        (4, 1, false),
+        (4, 2, true),
+        (3, 3, false),
+    ] {
         assert_eq!(rt; sees(&rt, &f, y, x), want, "{y} {x}");
     }
     for (j, a, b) in [(0, 3, -1), (1, -3, 1), (2, 4, -2), (3, -4, 2)] {

@@ -6,5 +6,5 @@ use Rattle.dq_formula.proofs.formula.insert_all.Given as goal
 abbrev pub invariant-loop-key : goal.invariant-loop-key
 invariant-loop-key l = record {
   room : length l.keys ≤ spare l.existentials + l.key-index;
-  inserted : l.existentials.entries ≡ insert_all eqb l.initial.existentials.entries (map unseeing_entry (take l.key-index l.keys))
+  inserted : l.existentials.entries ≡ insert_all eqb l.initial.existentials.entries (map unseeing_entry (take l.key-index l.keys));
 }

@@ -1,4 +1,4 @@
-use Rattle.std.proofs.Common.{not, eqb, ◌∙◌, sym}
+use Rattle.std.proofs.Common.{not, eqb, ◌∙◌}
 use Rattle.std.proofs.lemmas.List.Filters.{dedup_is}
 use Rattle.dq_formula.specs.Layout.{formula_of}
 use Rattle.dq_formula.specs.Prefix.{is_declared}

@@ -1,4 +1,4 @@
-use Rattle.std.proofs.Common.{◌∙◌, sym, ◌||◌}
+use Rattle.std.proofs.Common.{◌∙◌, sym}
 use Rattle.dq_formula.proofs.Entries.{is_declared-parts}
 use Rattle.dq_formula.proofs.formula.Formula.is_declared.Goals as goal
 

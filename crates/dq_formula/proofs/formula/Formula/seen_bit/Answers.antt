@@ -1,4 +1,4 @@
-use Rattle.std.proofs.Common.{◌≡◌, ◌<◌, eqb, get_or, ap, sym, subst, ◌∙◌, arith, length, map}
+use Rattle.std.proofs.Common.{◌≡◌, ◌<◌, eqb, get_or, ap, sym, subst, ◌∙◌, length, map}
 use Rattle.std.specs.List.{IsDistinct}
 use Rattle.dq_lits.specs.Formula.{Dqbf}
 use Rattle.dq_lits.specs.Row.{bit_of, assignment_of}
