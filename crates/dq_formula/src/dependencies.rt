@@ -31,7 +31,8 @@ impl Vars {
     }
 }
 
-/// The dependency set of an existential. The same set may have either form.
+/// The dependency set of an existential: the universals whose bits its value is a function of. The
+/// same set may have either form.
 #[derive(Debug, Drop)]
 pub enum Deps {
     /// The universals declared first, so many of them.

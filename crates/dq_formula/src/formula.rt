@@ -24,7 +24,10 @@ pub const MAX_VARIABLES: u64 = 1_000_000;
 /// The most clauses that a formula may have.
 pub const MAX_CLAUSES: usize = 10_000_000;
 
-/// A dependency quantified Boolean formula: the prefix and the matrix.
+/// A dependency quantified Boolean formula, as DQDIMACS (QDIMACS with `d` lines) writes it: the prefix,
+/// which gives each existential its dependency set, and the matrix.
+///
+/// A call that adds something answers `Memory` where a growth was refused, and then has changed nothing.
 #[derive(Debug, Drop)]
 pub struct Formula {
     vars: u64,
