@@ -204,7 +204,8 @@ impl Formula {
     /// The dependency set of an existential.
     pub fn deps_of(&self, y: u64) -> &Deps
         requires { IsSome (existential_of self.now y) }
-        ensures set { IfSome (existential_of self.now y) (λ e. dependencies self.now.universals result.now ≡ e.sees) }
+        ensures set { IfSome (existential_of self.now y) (λ e.
+            dependencies self.now.universals result.now ≡ e.sees) }
         ensures form { IsDependencySet self.now.universals result.now }
     {
         match self.existentials.get(&y) {
@@ -269,7 +270,8 @@ impl Formula {
         requires declared { IsSome (existential_of self.now y) }
         requires row_length { length row.now ≡ length self.now.universals }
         requires out_length { length out.old ≡ length row.now }
-        ensures { IfSome (existential_of self.now y) (λ e. out.new ≡ padded (length row.now) (restriction e (row_assignment self.now row.now))) }
+        ensures { IfSome (existential_of self.now y) (λ e. out.new
+            ≡ padded (length row.now) (restriction e (row_assignment self.now row.now))) }
     {
         let deps = self.deps_of(y);
         for i in 0..out.len() {
@@ -282,7 +284,8 @@ impl Formula {
         requires declared { IsSome (existential_of self.now y) }
         requires first_length { length r1.now ≡ length self.now.universals }
         requires second_length { length r2.now ≡ length self.now.universals }
-        ensures { IfSome (existential_of self.now y) (λ e. result ≡ same_bits (restriction e (row_assignment self.now r1.now)) (restriction e (row_assignment self.now r2.now))) }
+        ensures { IfSome (existential_of self.now y) (λ e. result
+            ≡ same_bits (restriction e (row_assignment self.now r1.now)) (restriction e (row_assignment self.now r2.now))) }
     {
         let deps = self.deps_of(y);
         for i in 0..deps.count() {
@@ -312,7 +315,9 @@ impl Formula {
         requires from_one { 1 ≤ y }
         requires in_range { y ≤ self.old.variables }
         requires undeclared { is_declared self.old y ≡ false }
-        ensures ok { OnOk result (self.new ≡ record self.old { existentials = self.old.existentials ++ record { variable = y; sees = self.old.universals } ∷ [] }) }
+        ensures ok { OnOk result (self.new ≡ record self.old {
+          existentials = self.old.existentials ++ record { variable = y; sees = self.old.universals } ∷ [];
+        }) }
         ensures err { OnErr result (self.new ≡ self.old) }
     {
         let count = self.universals.len();
@@ -326,7 +331,10 @@ impl Formula {
         requires in_range { y ≤ self.old.variables }
         requires undeclared { is_declared self.old y ≡ false }
         requires listed { All (λ x. is_universal self.old x ≡ true) xs.now }
-        ensures ok { OnOk result (self.new ≡ record self.old { existentials = self.old.existentials ++ record { variable = y; sees = listed_universals self.old.universals xs.now } ∷ [] }) }
+        ensures ok { OnOk result (self.new ≡ record self.old {
+          existentials = self.old.existentials
+              ++ record { variable = y; sees = listed_universals self.old.universals xs.now } ∷ [];
+        }) }
         ensures err { OnErr result (self.new ≡ self.old) }
     {
         let vars = self.in_order(xs)?;
@@ -361,7 +369,9 @@ impl Formula {
         requires in_range { y ≤ self.old.variables }
         requires undeclared { is_declared self.old y ≡ false }
         requires form { IsDependencySet self.old.universals deps }
-        ensures ok { OnOk result (self.new ≡ record self.old { existentials = self.old.existentials ++ existential self.old.universals (y, deps) ∷ [] }) }
+        ensures ok { OnOk result (self.new ≡ record self.old {
+          existentials = self.old.existentials ++ existential self.old.universals (y, deps) ∷ [];
+        }) }
         ensures err { OnErr result (self.new ≡ self.old) }
     {
         self.existentials.insert(y, deps)?;
@@ -382,7 +392,9 @@ impl Formula {
     /// Declares each variable that occurs in a clause and is undeclared as an existential that depends
     /// on nothing, in ascending order.
     pub fn add_free(&mut self) -> Result<(), Memory>
-        ensures ok { OnOk result (self.new ≡ record self.old { existentials = self.old.existentials ++ map unseeing (free_variables self.old) }) }
+        ensures ok { OnOk result (self.new ≡ record self.old {
+          existentials = self.old.existentials ++ map unseeing (free_variables self.old);
+        }) }
         ensures err { OnErr result (self.new ≡ self.old) }
     {
         let free = self.free_variables()?;
