@@ -15,4 +15,6 @@ mod reader;
 mod symbol_lines;
 mod symbol_steps;
 mod symbols;
+#[cfg(test)]
+mod tests;
 mod undefined;

@@ -18,3 +18,5 @@ mod lists;
 mod literals;
 mod memory;
 mod rows;
+#[cfg(test)]
+mod tests;
