@@ -1,5 +1,5 @@
 ghost use Rattle.std.specs.Prelude.{◌≡◌, ◌++◌, ◌^◌, min, Some, None, OnOk, OnErr, if◌then◌else◌};
-ghost use Rattle.std.specs.Fmt.{signed_decimal};
+ghost use Rattle.std.specs.Fmt.{decimal, signed_decimal};
 ghost use Rattle.dq_text.specs.Number.{are_digits, decimal_value, number_of};
 
 use dq_lits::Memory;
@@ -57,6 +57,16 @@ fn capped_value(digits: &[u8]) -> Option<u64>
 /// Appends the decimal text of a number, without leading zeros. A refusal leaves the buffer as it was.
 pub fn push_number(buf: &mut Vec<u8>, n: i64) -> Result<(), Memory>
     ensures ok { OnOk result (buf.new.items ≡ buf.old.items ++ signed_decimal n) }
+    ensures err { OnErr result (buf.new.items ≡ buf.old.items) }
+{
+    let mut buffer = Buffer::new();
+    buf.extend_from_slice(buffer.format(n).as_bytes())?;
+    Ok(())
+}
+
+/// Appends the decimal text of a natural number, without leading zeros. A refusal leaves the buffer as it was.
+pub fn push_natural(buf: &mut Vec<u8>, n: u64) -> Result<(), Memory>
+    ensures ok { OnOk result (buf.new.items ≡ buf.old.items ++ decimal n) }
     ensures err { OnErr result (buf.new.items ≡ buf.old.items) }
 {
     let mut buffer = Buffer::new();

@@ -3,3 +3,4 @@ mod ReadIsSpelled
 mod Runs
 mod SpelledClauses
 mod SpelledIsRead
+mod Writing

@@ -1,4 +1,5 @@
 pub mod Building
+pub mod Canonical
 pub mod Grammar
 pub mod Lexeme
 pub mod LiteralKey

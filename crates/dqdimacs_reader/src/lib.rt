@@ -3,6 +3,7 @@
 
 pub use faults::{FormulaFault, ReadStop};
 pub use reader::read;
+pub use writer::write;
 
 mod checks;
 mod distinct;
@@ -12,3 +13,4 @@ mod lexemes;
 mod machine;
 mod reader;
 mod steps;
+mod writer;

@@ -1,0 +1,10 @@
+use Rattle.std.proofs.Common.{◌≡◌, ◌++◌, length}
+use Rattle.std.specs.List.{flat_map}
+use Rattle.dqdimacs_reader.specs.Canonical.{number_text}
+use Rattle.dqdimacs_reader.proofs.writer.write_numbers.Given as goal
+
+abbrev pub invariant-loop-first : goal.invariant-loop-first
+invariant-loop-first l = l.text.items ++ flat_map number_text l.rest ≡ l.fn.text.items ++ flat_map number_text l.numbers
+
+abbrev pub decreases-loop-first : goal.decreases-loop-first
+decreases-loop-first l = length l.rest

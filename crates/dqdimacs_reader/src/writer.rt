@@ -1,0 +1,162 @@
+//! Writing a formula.
+
+ghost use Rattle.std.specs.Prelude.{◌≡◌, ◌++◌, Some, IfOk, OnOk, IsSome};
+ghost use Rattle.std.specs.List.{flat_map};
+ghost use Rattle.dq_lits.specs.Formula.{Existential, existential_of};
+ghost use Rattle.dqdimacs_reader.specs.Canonical.{canonical, number_text, literal_text, header_text, numbers_line, existential_line, universals_text, existential_text, clause_text};
+
+use dq_formula::{Deps, Formula};
+use dq_lits::{Lit, Memory};
+use dq_text::{push_natural, push_number};
+use std::alloc::Global;
+
+/// The canonical text of a formula: the header; a line `a` with all universals, where there are any; for each
+/// existential in order `e y 0` where it sees every universal, and else `d y x.. 0`; a line for each clause.
+pub fn write(alloc: Global, f: &Formula) -> Result<Vec<u8>, Memory>
+    ensures { IfOk result (λ text. text.items ≡ canonical f.now) }
+{
+    let mut text = Vec::new(alloc);
+    write_header(f, &mut text)?;
+    write_universals(f.universals(), &mut text)?;
+    write_existentials(f, &mut text)?;
+    write_clauses(f, &mut text)?;
+    Ok(text)
+}
+
+fn write_header(f: &Formula, text: &mut Vec<u8>) -> Result<(), Memory>
+    ensures { OnOk result (text.new.items ≡ text.old.items ++ header_text f.now) }
+{
+    text.extend_from_slice(b"p cnf ")?;
+    write_number(f.vars(), text)?;
+    push_natural(text, f.clauses() as u64)?;
+    text.push(b'\n')?;
+    Ok(())
+}
+
+// A number and a space.
+fn write_number(n: u64, text: &mut Vec<u8>) -> Result<(), Memory>
+    ensures { OnOk result (text.new.items ≡ text.old.items ++ number_text n) }
+{
+    push_natural(text, n)?;
+    text.push(b' ')?;
+    Ok(())
+}
+
+// Numbers, each with a space behind it.
+fn write_numbers(numbers: &[u64], text: &mut Vec<u8>) -> Result<(), Memory>
+    ensures { OnOk result (text.new.items ≡ text.old.items ++ flat_map number_text numbers.now) }
+{
+    let mut rest = numbers;
+    while let Some((first, behind)) = rest.split_first() {
+        write_number(*first, text)?;
+        rest = behind;
+    }
+    Ok(())
+}
+
+fn write_word(word: &[u8], text: &mut Vec<u8>) -> Result<(), Memory>
+    ensures { OnOk result (text.new.items ≡ text.old.items ++ word.now) }
+{
+    text.extend_from_slice(word)?;
+    Ok(())
+}
+
+// A letter, numbers and `0`.
+fn write_line(letter: u8, numbers: &[u64], text: &mut Vec<u8>) -> Result<(), Memory>
+    ensures { OnOk result (text.new.items ≡ text.old.items ++ numbers_line letter numbers.now) }
+{
+    write_word(&[letter, b' '], text)?;
+    write_numbers(numbers, text)?;
+    write_word(b"0\n", text)?;
+    Ok(())
+}
+
+fn write_universals(universals: &[u64], text: &mut Vec<u8>) -> Result<(), Memory>
+    ensures { OnOk result (text.new.items ≡ text.old.items ++ universals_text universals.now) }
+{
+    if universals.is_empty() {
+        return Ok(());
+    }
+    write_line(b'a', universals, text)
+}
+
+// The line of an existential that sees these of so many universals.
+fn write_dependency(
+    y: u64,
+    seen: &[u64],
+    universals: usize,
+    text: &mut Vec<u8>,
+) -> Result<(), Memory>
+    ensures { OnOk result (text.new.items ≡ text.old.items ++ existential_line universals y seen.now) }
+{
+    if seen.len() == universals {
+        return write_line(b'e', &[y], text);
+    }
+    write_word(b"d ", text)?;
+    write_number(y, text)?;
+    write_numbers(seen, text)?;
+    write_word(b"0\n", text)?;
+    Ok(())
+}
+
+fn write_existential(f: &Formula, y: u64, text: &mut Vec<u8>) -> Result<(), Memory>
+    requires { IsSome (existential_of f.now y) }
+    ensures { (e : Existential) → existential_of f.now y ≡ Some e → e.variable ≡ y
+        → OnOk result (text.new.items ≡ text.old.items ++ existential_text f.now.universals e) }
+{
+    let universals = f.universals();
+    let seen = match f.deps_of(y) {
+        Deps::FirstOf(n) => &universals[..*n],
+        Deps::Listed(variables) => variables.items(),
+    };
+    write_dependency(y, seen, universals.len(), text)
+}
+
+fn write_existentials(f: &Formula, text: &mut Vec<u8>) -> Result<(), Memory>
+    ensures { OnOk result (text.new.items ≡ text.old.items ++ flat_map (existential_text f.now.universals) f.now.existentials) }
+{
+    f.every_formula_is_lawful();
+    let existentials = f.existentials();
+    for i in 0..existentials.len() {
+        write_existential(f, existentials[i], text)?;
+    }
+    Ok(())
+}
+
+// A literal and a space.
+fn write_literal(literal: Lit, text: &mut Vec<u8>) -> Result<(), Memory>
+    ensures { OnOk result (text.new.items ≡ text.old.items ++ literal_text literal) }
+{
+    let variable = literal.var() as i64;
+    push_number(
+        text,
+        if literal.is_neg() {
+            -variable
+        } else {
+            variable
+        },
+    )?;
+    text.push(b' ')?;
+    Ok(())
+}
+
+fn write_clause(literals: &[Lit], text: &mut Vec<u8>) -> Result<(), Memory>
+    ensures { OnOk result (text.new.items ≡ text.old.items ++ clause_text literals.now) }
+{
+    let mut rest = literals;
+    while let Some((first, behind)) = rest.split_first() {
+        write_literal(*first, text)?;
+        rest = behind;
+    }
+    write_word(b"0\n", text)?;
+    Ok(())
+}
+
+fn write_clauses(f: &Formula, text: &mut Vec<u8>) -> Result<(), Memory>
+    ensures { OnOk result (text.new.items ≡ text.old.items ++ flat_map clause_text f.now.matrix) }
+{
+    for j in 0..f.clauses() {
+        write_clause(f.clause(j), text)?;
+    }
+    Ok(())
+}
