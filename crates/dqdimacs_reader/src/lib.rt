@@ -12,3 +12,5 @@ mod lexemes;
 mod machine;
 mod reader;
 mod steps;
+#[cfg(test)]
+mod tests;
