@@ -11,4 +11,6 @@ mod bytes;
 mod cursors;
 mod lines;
 mod numbers;
+#[cfg(test)]
+mod tests;
 mod tokens;

@@ -13,4 +13,6 @@ mod lexemes;
 mod machine;
 mod reader;
 mod steps;
+#[cfg(test)]
+mod tests;
 mod writer;
