@@ -1,1 +1,4 @@
 pub mod MappingLaws
+pub mod ReadsLaws
+pub mod RowsLaws
+pub mod OntoLaws

@@ -1,2 +1,5 @@
 pub mod Mapping
 pub mod MappingReading
+pub mod Checks
+pub mod SkolemCircuit
+pub mod Tables

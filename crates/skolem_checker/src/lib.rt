@@ -4,3 +4,6 @@
 pub use mapping::{BenchStop, MapError, MapName, MapPlace};
 
 mod mapping;
+mod reads;
+mod rows;
+mod tables;

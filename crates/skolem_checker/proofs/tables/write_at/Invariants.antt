@@ -1,0 +1,11 @@
+use Rattle.std.proofs.Common.{◌≡◌, ◌<◌, ◌≤◌, ℕ, length, get_or}
+use Rattle.std.specs.Prelude.{slice_index, take}
+use Rattle.skolem_checker.specs.Tables.{IsKeptElsewhere}
+use Rattle.skolem_checker.proofs.tables.write_at.Given as goal
+
+abbrev pub invariant-loop-i : goal.invariant-loop-i
+invariant-loop-i l = record {
+  same_length : length l.table ≡ length l.initial.table;
+  written : (j : ℕ) → j < l.i → slice_index l.table (slice_index l.keys j) ≡ slice_index l.values j;
+  elsewhere : IsKeptElsewhere l.initial.table l.table l.keys
+}
