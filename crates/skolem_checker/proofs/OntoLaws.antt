@@ -15,7 +15,7 @@ use Rattle.dq_formula.specs.Prefix.{existential_variables}
 use Rattle.circuit_plain.specs.Netlist.{Netlist}
 use Rattle.aiger_text.specs.Symbol.{SymbolTable}
 use Rattle.skolem_checker.specs.Mapping.{Mapping, variables_of, symbol_at, symbol_variable, new_variable, named_from, natural, behind_symbol, behind_inputs, mapping_of, mapping_in_order, has_symbol}
-use Rattle.skolem_checker.specs.Tables.{IsOneToOne}
+use Rattle.skolem_checker.specs.Tables.{IsOneToOne, IsMapping}
 use Rattle.skolem_checker.specs.declared.mapping.Kind.{Kind}
 use Rattle.skolem_checker.specs.declared.mapping.Kind.TheVariants.{Inputs, Outputs}
 use Rattle.skolem_checker.specs.declared.mapping.MapName.{MapName}
@@ -122,13 +122,6 @@ named-read f kind symbols (suc count) place n earlier named total =
 none-named : (declared : List ℕ) → AreNamed declared []
 unfolding IsDistinct
 none-named declared = record { distinct = tt; declared_alone = λ k d below. absurd (omega arith) }
-
--- what a mapping is
-pub record IsMapping (f : Dqbf) (net : Netlist) (mapping : Mapping) : Type 0 where
-  pub inputs_length : length net.inputs ≡ length f.universals
-  pub outputs_length : length net.outputs ≡ length f.existentials
-  pub inputs : IsOneToOne f.universals mapping.inputs
-  pub outputs : IsOneToOne (existential_variables f) mapping.outputs
 
 abbrev pub IsMapped : Dqbf → Netlist → Result Mapping MapError → Type 0
 IsMapped f net (Ok mapping) = IsMapping f net mapping

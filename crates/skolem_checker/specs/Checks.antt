@@ -5,7 +5,23 @@ use Rattle.std.specs.List.{list_all}
 use Rattle.dq_lits.specs.Literal.{Assignment, clause_true}
 use Rattle.dq_lits.specs.Formula.{Existential, Dqbf}
 use Rattle.dq_lits.specs.Henkin.{MatrixHolds}
+use Rattle.circuit_plain.specs.Netlist.{Netlist}
+use Rattle.aiger_text.specs.Symbol.{SymbolTable}
+use Rattle.skolem_checker.specs.declared.mapping.MapError.{MapError}
+use Rattle.skolem_checker.specs.Mapping.{Mapping, mapping_of}
 use Rattle.skolem_checker.specs.SkolemCircuit.{MappedCircuit, FollowsCircuit}
+
+-- a circuit that is tested against a formula
+pub record Candidate : Type 0 where
+  pub formula : Dqbf
+  pub circuit : MappedCircuit
+
+abbrev pub with_mapping : Dqbf → Netlist → Result Mapping MapError → Result Candidate MapError
+with_mapping f net (Ok mapping) = Ok (record { formula = f; circuit = record { netlist = net; mapping = mapping } })
+with_mapping f net (Err fault) = Err fault
+
+abbrev pub candidate_of : Dqbf → Netlist → SymbolTable → Result Candidate MapError
+candidate_of f net symbols = with_mapping f net (mapping_of f net symbols)
 
 -- the existential at a place of the order of declaration
 abbrev pub existential_at : Dqbf → ℕ → Existential

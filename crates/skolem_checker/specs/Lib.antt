@@ -3,3 +3,4 @@ pub mod MappingReading
 pub mod Checks
 pub mod SkolemCircuit
 pub mod Tables
+pub mod BenchInside

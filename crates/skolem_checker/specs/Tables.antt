@@ -32,17 +32,29 @@ pub record AreNumbers (numbers : List ℕ) (n : ℕ) : Type 0 where
 abbrev pub IsKeptElsewhere : List ℕ → List ℕ → List ℕ → Type 0
 IsKeptElsewhere old new keys = (v : ℕ) → ¬ Contains keys v → slice_index new v ≡ slice_index old v
 
--- literals by variable, and output places by existential
-pub record AreTables (f : Dqbf) (net : Netlist) (mapping : Mapping) (literals places : List ℕ) : Type 0 where
+-- inputs are as many as universals and stand for each of them, and so outputs for existentials
+pub record IsMapping (f : Dqbf) (net : Netlist) (mapping : Mapping) : Type 0 where
   pub inputs_length : length net.inputs ≡ length f.universals
   pub outputs_length : length net.outputs ≡ length f.existentials
   pub inputs : IsOneToOne f.universals mapping.inputs
   pub outputs : IsOneToOne (existential_variables f) mapping.outputs
+
+-- the literal of each variable
+pub record IsLiteralTable (f : Dqbf) (net : Netlist) (mapping : Mapping) (literals : List ℕ) : Type 0 where
   pub a_literal_a_variable : length literals ≡ f.variables + 1
-  pub a_place_a_variable : length places ≡ f.variables + 1
-  pub input_literals : (i : ℕ) → i < length mapping.inputs → slice_index literals (slice_index mapping.inputs i) ≡ 2 * slice_index net.inputs i
+  pub input_literals : (i : ℕ) → i < length mapping.inputs
+      → slice_index literals (slice_index mapping.inputs i) ≡ 2 * slice_index net.inputs i
   pub output_literals : IsWritten literals mapping.outputs net.outputs
+
+-- the place of each existential's output
+pub record IsPlaceTable (f : Dqbf) (mapping : Mapping) (places : List ℕ) : Type 0 where
+  pub a_place_a_variable : length places ≡ f.variables + 1
   pub output_places : (o : ℕ) → o < length mapping.outputs → slice_index places (slice_index mapping.outputs o) ≡ o
+
+pub record AreTables (f : Dqbf) (net : Netlist) (mapping : Mapping) (literals places : List ℕ) : Type 0 where
+  pub mapped : IsMapping f net mapping
+  pub by_literal : IsLiteralTable f net mapping literals
+  pub by_place : IsPlaceTable f mapping places
 
 -- the output for an existential reaches the input for a universal, by the tables
 abbrev pub ReadsByTables : Netlist → List ℕ → List ℕ → ℕ → ℕ → Type 0
