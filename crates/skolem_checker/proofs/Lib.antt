@@ -4,3 +4,4 @@ pub mod RowsLaws
 pub mod OntoLaws
 pub mod TablesLaws
 pub mod BenchLaws
+pub mod SkolemLaws

@@ -9,6 +9,7 @@ pub use bench::Bench;
 pub use mapping::{BenchStop, MapError, MapName, MapPlace};
 
 mod bench;
+pub mod laws;
 mod mapping;
 mod reads;
 mod rows;
