@@ -1,19 +1,19 @@
 -- What a bench answers.
-use Rattle.std.proofs.Common.{◌≡◌, ◌≢◌, ℕ, ◌+◌, ◌*◌, ◌^◌, ◌<◌, ◌≤◌, Bool, true, false, List, length, map, get_or, inl, inr, refl, sym, ap, ◌∙◌, subst, arith, Result, Ok, Err}
+use Rattle.std.proofs.Common.{◌≡◌, ℕ, ◌+◌, ◌*◌, ◌^◌, ◌<◌, ◌≤◌, true, false, List, length, map, get_or, sym, ap, ◌∙◌, subst, arith, Result, Ok, Err}
 use Rattle.std.specs.Prelude.{slice_index}
-use Rattle.std.specs.List.{All, AllPairs, Contains}
+use Rattle.std.specs.List.{All, Contains}
 use Rattle.std.proofs.lemmas.List.{get_or-map, get_or_default, length-map}
 use Rattle.std.proofs.lemmas.List.Elements.{All-contains, Contains-get_or, Contains-append_left, Contains-append_right}
 use Rattle.dq_lits.specs.Literal.{variable_of}
 use Rattle.dq_lits.specs.Formula.{Existential, Dqbf, declared, HasLawfulPrefix, IsWellFormed}
 use Rattle.dq_formula.specs.Prefix.{existential_variables}
-use Rattle.dq_formula.proofs.Places.{has, place, has-contains}
+use Rattle.dq_formula.proofs.Places.{place, has-contains}
 use Rattle.dq_formula.proofs.Sorted.{place-below}
 use Rattle.circuit_plain.specs.Netlist.{Netlist, IsNetlist}
 use Rattle.skolem_checker.specs.Mapping.{Mapping}
-use Rattle.skolem_checker.specs.SkolemCircuit.{MappedCircuit, IsComplete, ReadsUniversal}
-use Rattle.skolem_checker.specs.Checks.{existential_at, ReadsDeclaredBefore, IsFirstUndeclared, IsReadsAnswer, IsFirstBad, IsRowsAnswer}
-use Rattle.skolem_checker.specs.Tables.{IsOneToOne, IsMapping, IsWritten, IsKeptElsewhere, AreNumbers, IsLiteralTable, IsPlaceTable, AreTables, HasLiteral, ReadsByTables, RowTest, universal_places}
+use Rattle.skolem_checker.specs.SkolemCircuit.{IsComplete, ReadsUniversal}
+use Rattle.skolem_checker.specs.Checks.{existential_at, ReadsDeclaredBefore, IsReadsAnswer, IsFirstBad, IsRowsAnswer}
+use Rattle.skolem_checker.specs.Tables.{IsOneToOne, IsMapping, IsWritten, IsKeptElsewhere, IsLiteralTable, AreTables, HasLiteral, ReadsByTables, RowTest, universal_places}
 use Rattle.skolem_checker.proofs.OntoLaws.{apart}
 use Rattle.skolem_checker.proofs.TablesLaws.{reads_by_tables, tables_by_reads, has_literal, row_holds, row_fails}
 
@@ -42,8 +42,8 @@ literal_table f net mapping inputs first second lawful mapped room doubled writt
       let v = slice_index mapping.inputs i in
       let in_net : i < length net.inputs = omega (arith, mapped.inputs_length, mapped.inputs.same_length) in
       elsewhere v (λ there.
-          apart f.universals (existential_variables f) lawful.declared_once v (mapped.inputs.declared_alone i 0 below)
-          (All-contains (Contains (existential_variables f)) mapping.outputs v mapped.outputs.declared_alone there))
+      apart f.universals (existential_variables f) lawful.declared_once v (mapped.inputs.declared_alone i 0 below)
+      (All-contains (Contains (existential_variables f)) mapping.outputs v mapped.outputs.declared_alone there))
       ∙ written i below
       ∙ ap (λ xs. slice_index xs i) doubled
       ∙ get_or-map (λ v. 2 * v) net.inputs i 0 0 in_net;
@@ -82,13 +82,13 @@ module _ (f : Dqbf) (net : Netlist) (mapping : Mapping) (literals places : List 
   pub universal_places_fit : (by_input : List ℕ) (n : ℕ) → by_input ≡ universal_places f mapping → length f.universals ≤ n → All (λ p. p < n) by_input
   universal_places_fit by_input n is few =
       subst (All (λ p. p < n)) (sym is) (λ k d below.
-          let listed : length (universal_places f mapping) ≡ length mapping.inputs = length-map mapping.inputs (λ x. place f.universals x) in
-          let within : k < length mapping.inputs = omega (arith, listed, below) in
-          let x = get_or mapping.inputs k 0 in
-          let among : place f.universals x < length f.universals =
-              place-below f.universals x (has-contains f.universals x (tables.mapped.inputs.declared_alone k 0 within)) in
-          let at : get_or (universal_places f mapping) k d ≡ place f.universals x = get_or-map (λ x. place f.universals x) mapping.inputs k 0 d within in
-          omega (arith, at, among, few))
+      let listed : length (universal_places f mapping) ≡ length mapping.inputs = length-map mapping.inputs (λ x. place f.universals x) in
+      let within : k < length mapping.inputs = omega (arith, listed, below) in
+      let x = get_or mapping.inputs k 0 in
+      let among : place f.universals x < length f.universals =
+      place-below f.universals x (has-contains f.universals x (tables.mapped.inputs.declared_alone k 0 within)) in
+      let at : get_or (universal_places f mapping) k d ≡ place f.universals x = get_or-map (λ x. place f.universals x) mapping.inputs k 0 d within in
+      omega (arith, at, among, few))
 
   before_mapped : (p end : ℕ) → end ≤ length f.universals
       → ReadsDeclaredBefore (ReadsByTables net literals places) f (existential_at f p) end
@@ -117,7 +117,7 @@ module _ (f : Dqbf) (net : Netlist) (mapping : Mapping) (literals places : List 
 
   rows_mapped : IsComplete net → (r : Result (Unit {0}) ℕ)
       → IsFirstBad (λ k. RowTest f net literals (universal_places f mapping) k true) (λ k. RowTest f net literals (universal_places f mapping) k false)
-        (2 ^ length f.universals) r
+      (2 ^ length f.universals) r
       → IsRowsAnswer f (record { netlist = net; mapping = mapping }) r
   rows_mapped complete (Ok _) h = λ k below.
       let t = h k below in row_holds f net mapping literals places formed tables k t.bits t.values t.are_bits t.valuation (sym t.is)

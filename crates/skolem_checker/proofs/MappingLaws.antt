@@ -1,8 +1,7 @@
 -- What a reading of the mapping gives.
-use Rattle.std.proofs.Common.{◌≡◌, ◌≢◌, ℕ, zero, suc, ◌+◌, ◌-◌, ◌<◌, ◌≤◌, ◌==◌, eqb, Bool, true, false, not, ◌||◌, List, [], ◌∷◌, ◌++◌, length, map, get_or, set, replicate, inl, inr, refl, sym, ap, ◌∙◌, subst, arith, Result, Ok, Err, Option, Some, None, is_some}
-use Rattle.std.specs.List.{All, Contains, list_any, IsDistinct}
-use Rattle.std.proofs.lemmas.Bool.{cases_Bool, cases_eq, eqb-true, eq-eqb, ne_eqb}
-use Rattle.std.proofs.lemmas.List.{get_or-set_same, get_or-set_other, length-set}
+use Rattle.std.proofs.Common.{◌≡◌, ℕ, zero, suc, ◌+◌, ◌-◌, ◌<◌, ◌≤◌, ◌==◌, Bool, true, false, ◌||◌, List, [], ◌∷◌, ◌++◌, length, set, replicate, inl, inr, refl, sym, ap, ◌∙◌, subst, arith, Ok, Err, is_some}
+use Rattle.std.proofs.lemmas.Bool.{cases_eq, eq-eqb, ne_eqb}
+use Rattle.std.proofs.lemmas.List.{get_or-set_same, get_or-set_other}
 use Rattle.std.proofs.lemmas.List.Elements.{All-contains}
 use Rattle.std.proofs.lemmas.List.Folds.{list_any-append}
 use Rattle.dq_lits.specs.Formula.{Dqbf, declared, existential_of, HasLawfulPrefix}
@@ -11,12 +10,11 @@ use Rattle.dq_formula.proofs.Places.{has, contains-has}
 use Rattle.dq_formula.proofs.Entries.{is_some-find, list_any-map}
 use Rattle.dq_formula.specs.Prefix.{existential_variables}
 use Rattle.aiger_text.specs.Symbol.{SymbolTable}
-use Rattle.skolem_checker.specs.Mapping.{Mapping, variables_of, declares, symbol_at, place_of, symbol_variable, named_from, behind_symbol}
+use Rattle.skolem_checker.specs.Mapping.{declares, symbol_at, place_of, symbol_variable, named_from, behind_symbol}
 use Rattle.skolem_checker.specs.MappingReading.{IsSeen}
 use Rattle.skolem_checker.specs.declared.mapping.Kind.{Kind}
 use Rattle.skolem_checker.specs.declared.mapping.Kind.TheVariants.{Inputs, Outputs}
 use Rattle.skolem_checker.specs.declared.mapping.MapName.{MapName}
-use Rattle.skolem_checker.specs.declared.mapping.MapError.{MapError}
 
 pub existential-declared : (f : Dqbf) (v : ℕ) → is_some (existential_of f v) ≡ declares f Outputs v
 existential-declared f v =

@@ -1,5 +1,5 @@
 -- A list without repetition of declared variables, as many as are declared, names each of them.
-use Rattle.std.proofs.Common.{◌≡◌, ◌≢◌, ℕ, zero, suc, ◌+◌, ◌<◌, ◌≤◌, ◌==◌, eqb, Bool, true, false, not, ◌||◌, List, [], ◌∷◌, ◌++◌, length, map, get_or, inl, inr, refl, sym, ap, ◌∙◌, subst, arith, true≢false, Result, Ok, Err, Option, Some, None}
+use Rattle.std.proofs.Common.{◌≡◌, ◌≢◌, ℕ, zero, suc, ◌+◌, ◌<◌, ◌≤◌, ◌==◌, eqb, true, false, ◌||◌, List, [], ◌∷◌, ◌++◌, length, get_or, inl, inr, refl, sym, ap, ◌∙◌, arith, Result, Ok, Err, Option, Some, None}
 use Rattle.std.specs.List.{All, AllPairs, Contains, IsDistinct, list_any}
 use Rattle.std.specs.Set.{is_member}
 use Rattle.std.proofs.lemmas.Cmp.{nat_eq_equiv}
@@ -8,7 +8,7 @@ use Rattle.std.proofs.lemmas.Bool.Decides.{Decides-eqb}
 use Rattle.std.proofs.lemmas.List.{length-append, length-map, get_or-append-add}
 use Rattle.std.proofs.lemmas.List.Elements.{All-push, All-contains, All-contains_itself}
 use Rattle.std.proofs.lemmas.Map.Keys.{IsDistinct-push}
-use Rattle.std.proofs.lemmas.Map.Made.{length-le_from_is_member, AllPairs-from_IsDistinct, IsDistinct-from_AllPairs}
+use Rattle.std.proofs.lemmas.Map.Made.{length-le_from_is_member, AllPairs-from_IsDistinct}
 use Rattle.dq_formula.proofs.Places.{has, flip, has-contains, contains-has}
 use Rattle.dq_lits.specs.Formula.{Existential, Dqbf, HasLawfulPrefix}
 use Rattle.dq_formula.specs.Prefix.{existential_variables}
@@ -46,8 +46,8 @@ onto declared variables named same v known =
       | inr fresh ↦
           let more = named-push declared variables v named (has-contains declared v known) fresh in
           let le : length (variables ++ v ∷ []) ≤ length declared =
-            length-le_from_is_member nat_eq_equiv (variables ++ v ∷ []) declared more.distinct
-            (λ q is. is_member-has declared q ∙ has-contains declared q (member declared (variables ++ v ∷ []) more.declared_alone q is)) in
+          length-le_from_is_member nat_eq_equiv (variables ++ v ∷ []) declared more.distinct
+          (λ q is. is_member-has declared q ∙ has-contains declared q (member declared (variables ++ v ∷ []) more.declared_alone q is)) in
           let longer : length (variables ++ v ∷ []) ≡ length variables + 1 = length-append variables (v ∷ []) in
           absurd (omega arith)
     ]
@@ -115,9 +115,9 @@ named-read f kind symbols (suc count) place n earlier named total =
     (λ v. named_from f kind symbols count (place + 1) (earlier ++ v ∷ []))
     (symbol-new f kind earlier (symbol_at symbols kind place))
     (λ v known fresh.
-        let longer : length (earlier ++ v ∷ []) ≡ length earlier + 1 = length-append earlier (v ∷ []) in
-        named-read f kind symbols count (place + 1) n (earlier ++ v ∷ [])
-        (named-push (variables_of f kind) earlier v named known fresh) (omega arith))
+    let longer : length (earlier ++ v ∷ []) ≡ length earlier + 1 = length-append earlier (v ∷ []) in
+    named-read f kind symbols count (place + 1) n (earlier ++ v ∷ [])
+    (named-push (variables_of f kind) earlier v named known fresh) (omega arith))
 
 none-named : (declared : List ℕ) → AreNamed declared []
 unfolding IsDistinct

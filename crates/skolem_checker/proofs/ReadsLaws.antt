@@ -1,14 +1,14 @@
 -- Reads by marks, by tables and by the mapping.
-use Rattle.std.proofs.Common.{◌≡◌, ℕ, suc, ◌+◌, ◌<◌, ◌==◌, Bool, true, List, [], ◌∷◌, ◌++◌, length, map, get_or, inl, inr, refl, sym, ap, ◌∙◌, subst, arith, Some, IsTrue, ◌↔◌}
+use Rattle.std.proofs.Common.{◌≡◌, ℕ, ◌+◌, ◌<◌, Bool, List, length, inl, inr, sym, ap, ◌∙◌, subst, arith, Some, IsTrue, ◌↔◌}
 use Rattle.std.specs.Prelude.{slice_index, slice_index_or}
-use Rattle.std.specs.List.{All, Contains}
+use Rattle.std.specs.List.{All}
 use Rattle.std.proofs.lemmas.Bool.{cases_order}
 use Rattle.std.proofs.lemmas.List.{get_or-map, length-map}
 use Rattle.dq_lits.specs.Formula.{Existential, Dqbf, existential_of}
 use Rattle.dq_formula.specs.Prefix.{existential_variables}
 use Rattle.circuit_plain.specs.Netlist.{Netlist, literal_variable}
 use Rattle.circuit_plain.specs.Reach.{Reaches}
-use Rattle.skolem_checker.specs.Checks.{existential_at, ReadsDeclaredBefore, ReadsDeclared, IsFirstRead, IsFirstUndeclared}
+use Rattle.skolem_checker.specs.Checks.{existential_at, ReadsDeclaredBefore, IsFirstRead}
 use Rattle.skolem_checker.specs.Tables.{ReadsByTables, ReadsByMarks}
 
 pub variable_at : (f : Dqbf) (ys : List ℕ) (p : ℕ) → ys ≡ existential_variables f → p < length ys → slice_index_or ys p 0 ≡ (existential_at f p).variable

@@ -1,29 +1,27 @@
 -- What the tables say of the circuit.
-use Rattle.std.proofs.Common.{◌≡◌, ◌≢◌, ℕ, zero, suc, ◌+◌, ◌*◌, ◌/◌, ◌%◌, ◌<◌, ◌≤◌, ◌==◌, eqb, Bool, true, false, not, List, [], ◌∷◌, ◌++◌, length, map, get_or, inl, inr, refl, sym, ap, ◌∙◌, subst, arith, IsTrue, ◌↔◌, true≢false}
+use Rattle.std.proofs.Common.{◌≡◌, ℕ, ◌+◌, ◌*◌, ◌/◌, ◌%◌, ◌<◌, ◌≤◌, ◌==◌, eqb, Bool, true, false, not, List, [], length, get_or, inl, inr, refl, sym, ap, ◌∙◌, subst, arith, true≢false}
 use Rattle.std.specs.Prelude.{slice_index}
 use Rattle.std.specs.Int.{bit_at}
-use Rattle.std.specs.List.{All, AllPairs, Contains, IsDistinct, list_any, list_all, position_or_len}
+use Rattle.std.specs.List.{All, Contains, IsDistinct, list_all}
 use Rattle.std.proofs.lemmas.Bool.{cases_Bool}
 use Rattle.std.proofs.lemmas.Bool.Decides.{Decides-eqb}
 use Rattle.std.proofs.lemmas.List.{get_or_default, get_or-map, length-map}
-use Rattle.std.proofs.lemmas.List.Elements.{All-contains, Contains-get_or, Contains-append_left, Contains-append_right, Contains-append_cases}
+use Rattle.std.proofs.lemmas.List.Elements.{All-contains, Contains-get_or, Contains-append_cases}
 use Rattle.std.proofs.lemmas.List.Folds.{list_all_at}
 use Rattle.std.proofs.lemmas.Map.Made.{IsDistinct-from_AllPairs}
 use Rattle.dq_lits.specs.Literal.{Assignment, Literal, positive, negative, variable_of, literal_true, clause_true}
 use Rattle.dq_lits.specs.Formula.{Existential, Dqbf, declared, IsWellFormed}
-use Rattle.dq_lits.specs.Henkin.{MatrixHolds}
 use Rattle.dq_formula.specs.Prefix.{existential_variables}
 use Rattle.dq_formula.proofs.Places.{has, place, place-get_or, has-contains}
 use Rattle.dq_formula.proofs.Sorted.{get_or-place, place-below, list_any-agree}
-use Rattle.circuit_plain.specs.Ground.{IsGrounded}
-use Rattle.circuit_plain.specs.Netlist.{Netlist, IsNetlist, IsVariable, IsLiteral, literal_variable, literal_negated, signed_bit, literal_bit}
+use Rattle.circuit_plain.specs.Netlist.{Netlist, IsNetlist, literal_variable, literal_negated, signed_bit, literal_bit}
 use Rattle.circuit_plain.specs.Reach.{Reaches}
 use Rattle.circuit_plain.specs.Value.{HasValue, IsValuation}
 use Rattle.circuit_plain.proofs.ValueLaws.{grounded_have_values, valuations_agree, values_follow_reach}
 use Rattle.skolem_checker.specs.Mapping.{Mapping}
-use Rattle.skolem_checker.specs.SkolemCircuit.{MappedCircuit, IsComplete, input_bits, output_literal, HasOutputValue, ReadsUniversal, FollowsCircuit}
+use Rattle.skolem_checker.specs.SkolemCircuit.{MappedCircuit, IsComplete, input_bits, HasOutputValue, ReadsUniversal, FollowsCircuit}
 use Rattle.skolem_checker.specs.Checks.{IsRow, RowHolds, RowFails}
-use Rattle.skolem_checker.specs.Tables.{IsOneToOne, AreTables, HasLiteral, ReadsByTables, circuit_assignment, AreRowBits, universal_places, RowTest}
+use Rattle.skolem_checker.specs.Tables.{AreTables, HasLiteral, ReadsByTables, circuit_assignment, AreRowBits, universal_places}
 use Rattle.skolem_checker.proofs.OntoLaws.{left-distinct}
 
 half-even : (w : ℕ) → 2 * w / 2 ≡ w
@@ -86,7 +84,7 @@ module _ (f : Dqbf) (net : Netlist) (mapping : Mapping) (literals places : List 
       let i = input_for x x_in in
       let o = output_for y y_in in
       let reached : literal_variable (slice_index literals x) ≡ slice_index net.inputs i.at =
-          ap literal_variable (input_literal x i) ∙ half-even (slice_index net.inputs i.at) in
+      ap literal_variable (input_literal x i) ∙ half-even (slice_index net.inputs i.at) in
       record {
         out = o.at;
         out_in_range = o.in_range;
@@ -103,7 +101,7 @@ module _ (f : Dqbf) (net : Netlist) (mapping : Mapping) (literals places : List 
       let i : InputFor x = record { at = reads.input; in_range = reads.input_in_range; is = reads.input_stands_for } in
       let o : OutputFor y = record { at = reads.out; in_range = reads.out_in_range; is = reads.out_stands_for } in
       let reached : literal_variable (slice_index literals x) ≡ slice_index net.inputs i.at =
-          ap literal_variable (input_literal x i) ∙ half-even (slice_index net.inputs i.at) in
+      ap literal_variable (input_literal x i) ∙ half-even (slice_index net.inputs i.at) in
       subst (λ p. Reaches net (literal_variable (slice_index net.outputs p)) (literal_variable (slice_index literals x))) (sym (output_place y o))
       (subst (λ v. Reaches net (literal_variable (slice_index net.outputs o.at)) v) (sym reached) reads.reaches)
 
@@ -116,7 +114,7 @@ module _ (f : Dqbf) (net : Netlist) (mapping : Mapping) (literals places : List 
             let in_net : i.at < length net.inputs = omega (arith, i.in_range, tables.mapped.inputs_length, tables.mapped.inputs.same_length) in
             let fits = kept.inputs_fit i.at 0 in_net in
             let reached : literal_variable (slice_index literals v) ≡ slice_index net.inputs i.at =
-                ap literal_variable (input_literal v i) ∙ half-even (slice_index net.inputs i.at) in
+            ap literal_variable (input_literal v i) ∙ half-even (slice_index net.inputs i.at) in
             omega (arith, fits.1, reached)
         | inr existential ↦
             let o = output_for v existential in
@@ -178,8 +176,8 @@ module _ (f : Dqbf) (net : Netlist) (mapping : Mapping) (literals places : List 
         let o : OutputFor y = record { at = h.out; in_range = h.in_range; is = h.stands_for } in
         let l = slice_index net.outputs h.out in
         let moved : HasValue net bits (literal_variable l) h.variable_bit =
-            values_follow_reach net (input_bits mapping m) bits (literal_variable l) h.variable_bit
-            (λ i below _. bits_agree m row i (in_mapping i below)) h.value in
+        values_follow_reach net (input_bits mapping m) bits (literal_variable l) h.variable_bit
+        (λ i below _. bits_agree m row i (in_mapping i below)) h.value in
         let agrees : values (literal_variable l) ≡ h.variable_bit = valuations_agree net bits values (literal_variable l) h.variable_bit valuation moved in
         h.signed ∙ ap (signed_bit l) (sym agrees) ∙ ap (literal_bit values) (sym (output_literal_of y o))
 
@@ -217,7 +215,7 @@ module _ (f : Dqbf) (net : Netlist) (mapping : Mapping) (literals places : List 
               let below : p < length f.existentials = omega (arith, existential.1, listed) in
               let d : Existential = record { variable = v; sees = [] } in
               let is : (get_or f.existentials p d).variable ≡ v =
-                  sym (get_or-map (λ (e : Existential). e.variable) f.existentials p d v below) ∙ existential.2 in
+              sym (get_or-map (λ (e : Existential). e.variable) f.existentials p d v below) ∙ existential.2 in
               let value = follows p d below in
               ap m (sym is)
               ∙ output_value m row (get_or f.existentials p d).variable (m (get_or f.existentials p d).variable) value
@@ -234,7 +232,7 @@ module _ (f : Dqbf) (net : Netlist) (mapping : Mapping) (literals places : List 
         let clause = get_or f.matrix j d in
         list_any-agree (literal_true m) (literal_true (circuit_assignment literals values)) clause
         (λ q e within. literal_agrees m (get_or clause q e)
-            (same_assignment m row follows (variable_of (get_or clause q e)) (formed.bound j d below q e within)))
+        (same_assignment m row follows (variable_of (get_or clause q e)) (formed.bound j d below q e within)))
         ∙ list_all-each (clause_true (circuit_assignment literals values)) f.matrix holds j d below
 
     pub row_fails : IsComplete net → list_all (clause_true (circuit_assignment literals values)) f.matrix ≡ false → RowFails f circuit k

@@ -1,5 +1,5 @@
 -- What the checks of a circuit answer: the first undeclared read, and the first bad row.
-use Rattle.std.specs.Prelude.{◌≡◌, ℕ, ◌<◌, ◌==◌, ◌^◌, Bool, false, List, [], length, slice_index, slice_index_or, Contains, Result, Ok, Err}
+use Rattle.std.specs.Prelude.{◌≡◌, ℕ, ◌<◌, ◌==◌, ◌^◌, false, [], length, slice_index, slice_index_or, Contains, Result, Ok, Err}
 use Rattle.std.specs.Int.{bit_at}
 use Rattle.std.specs.List.{list_all}
 use Rattle.dq_lits.specs.Literal.{Assignment, clause_true}

@@ -1,7 +1,7 @@
 -- Skolem functions given by a circuit (J. Jiang, "Quantifier elimination via functional composition", CAV 2009; for DQBF
 -- V. Balabanov, H.-J. Chiang, J. Jiang, "Henkin quantifiers and Boolean formulae", Theor. Comput. Sci. 523, 2014): each
 -- output reads only universals that its existential may see, and with the outputs' values every clause is true.
-use Rattle.std.specs.Prelude.{◌≡◌, ℕ, ◌<◌, Bool, List, length, slice_index, Ok, All, Contains}
+use Rattle.std.specs.Prelude.{◌≡◌, ℕ, ◌<◌, Bool, length, slice_index, Ok, All, Contains}
 use Rattle.dq_lits.specs.Literal.{Assignment}
 use Rattle.dq_lits.specs.Formula.{Dqbf}
 use Rattle.dq_lits.specs.Henkin.{MatrixHolds}

@@ -1,16 +1,15 @@
 -- Words of private contracts: the tables by which the checks find a variable's circuit literal, and what they compute by
 -- them.
-use Rattle.std.specs.Prelude.{◌≡◌, ◌≢◌, ℕ, ◌+◌, ◌*◌, ◌<◌, ◌≤◌, ◌==◌, Bool, true, List, length, slice_index, All, AllPairs, Contains, map}
+use Rattle.std.specs.Prelude.{◌≡◌, ◌≢◌, ℕ, ◌+◌, ◌*◌, ◌<◌, ◌==◌, Bool, true, List, length, slice_index, All, AllPairs, Contains, map}
 use Rattle.std.specs.Int.{bit_at}
 use Rattle.std.specs.List.{position_or_len, list_all}
 use Rattle.dq_lits.specs.Literal.{Assignment, clause_true}
-use Rattle.dq_lits.specs.Formula.{Dqbf, IsWellFormed}
-use Rattle.dq_formula.specs.Prefix.{IsLawful, existential_variables}
-use Rattle.circuit_plain.specs.Netlist.{Netlist, IsNetlist, literal_variable, literal_bit}
+use Rattle.dq_lits.specs.Formula.{Dqbf}
+use Rattle.dq_formula.specs.Prefix.{existential_variables}
+use Rattle.circuit_plain.specs.Netlist.{Netlist, literal_variable, literal_bit}
 use Rattle.circuit_plain.specs.Value.{IsValuation}
 use Rattle.circuit_plain.specs.Reach.{Reaches}
 use Rattle.skolem_checker.specs.Mapping.{Mapping}
-use Rattle.skolem_checker.specs.SkolemCircuit.{IsComplete}
 
 -- each list names each variable that it is to name once
 pub record IsOneToOne (declared variables : List ℕ) : Type 0 where

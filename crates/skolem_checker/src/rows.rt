@@ -29,9 +29,7 @@ fn clause_holds(clause: &[Lit], literals: &[u64], values: &Row) -> bool
     requires { All (λ l. HasLiteral literals.now (length values.now) (variable_of l)) clause.now }
     ensures { result ≡ clause_true (circuit_assignment literals.now (bit_of values.now)) clause.now }
 {
-    clause
-        .iter()
-        .any(|l| literal_bit(values, literals[l.var() as usize]) != l.is_neg())
+    clause.iter().any(|l| literal_bit(values, literals[l.var() as usize]) != l.is_neg())
 }
 
 fn clauses_hold(f: &Formula, literals: &[u64], values: &Row) -> bool

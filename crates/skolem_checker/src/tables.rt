@@ -56,10 +56,12 @@ pub(crate) fn universal_places(
 ) -> Result<Vec<usize>, Memory>
     ensures { IfOk result (λ places. places.items ≡ map (λ x. position_or_len (λ u. u == x) f.now.universals) universals.now) }
 {
-    Ok(universals
-        .iter()
-        .map(|x| universal_place(f, *x))
-        .collect(alloc)?)
+    Ok(
+        universals
+            .iter()
+            .map(|x| universal_place(f, *x))
+            .collect(alloc)?,
+    )
 }
 
 // The place of a universal, or behind all of them.

@@ -1,4 +1,4 @@
-use Rattle.std.proofs.Common.{◌≡◌, true, sym, ap, ◌∙◌}
+use Rattle.std.proofs.Common.{sym, ap, ◌∙◌}
 use Rattle.skolem_checker.specs.Mapping.{declares}
 use Rattle.skolem_checker.proofs.MappingLaws.{existential-declared, declared-in_range}
 use Rattle.skolem_checker.specs.declared.mapping.Kind.TheVariants.{Inputs, Outputs}

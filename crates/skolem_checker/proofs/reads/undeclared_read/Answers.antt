@@ -1,9 +1,6 @@
-use Rattle.std.proofs.Common.{◌≡◌, ◌<◌, ℕ, length, refl, sym, ap, ◌∙◌, subst}
-use Rattle.std.specs.Prelude.{slice_index, slice_index_or, IsSome}
-use Rattle.dq_lits.specs.Formula.{existential_of}
+use Rattle.std.proofs.Common.{◌≡◌, ◌<◌, ℕ, length, refl, sym, ◌∙◌}
+use Rattle.std.specs.Prelude.{slice_index_or}
 use Rattle.dq_lits.specs.Row.{bit_of}
-use Rattle.circuit_plain.specs.Netlist.{literal_variable}
-use Rattle.circuit_plain.specs.Reach.{Reaches}
 use Rattle.skolem_checker.specs.Checks.{existential_at}
 use Rattle.skolem_checker.specs.Tables.{ReadsByTables}
 use Rattle.skolem_checker.proofs.ReadsLaws.{variable_at, places-below, named_at, before-from_marks, first-from_marks, before-more}
@@ -45,6 +42,6 @@ loop-y-preserved c =
       same_length = c.reads.ensures.same_length ∙ c.loop-y.invariant.same_length;
       first = before-more (ReadsByTables c.args.circuit.now c.args.literals.now c.args.places.now) f (length f.universals) p c.loop-y.invariant.first
           (before-from_marks f c.args.circuit.now c.args.literals.now c.args.places.now (bit_of c.reads.new.marks) (existential_at f p) (length f.universals)
-            (rw (sym is) c.reads.ensures.reached)
-            (c.in_default.ensures (existential_at f p) (rw is (named_at f p c.every_formula_is_lawful.ensures.named below)) (sym is)));
+          (rw (sym is) c.reads.ensures.reached)
+          (c.in_default.ensures (existential_at f p) (rw is (named_at f p c.every_formula_is_lawful.ensures.named below)) (sym is)));
     }

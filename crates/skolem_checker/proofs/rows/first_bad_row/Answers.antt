@@ -1,4 +1,4 @@
-use Rattle.std.proofs.Common.{◌≡◌, true, length, sym, ◌∙◌}
+use Rattle.std.proofs.Common.{sym, ◌∙◌}
 use Rattle.dq_lits.specs.Row.{bit_of}
 use Rattle.skolem_checker.proofs.RowsLaws.{row-more}
 use Rattle.skolem_checker.proofs.rows.first_bad_row.Goals as goal

@@ -6,5 +6,5 @@ abbrev pub invariant-loop-k : goal.invariant-loop-k
 invariant-loop-k l = record {
   bits_length : length l.bits ≡ length l.initial.bits;
   values_length : length l.values ≡ length l.initial.values;
-  held : (j : ℕ) → j < l.k → RowTest l.f l.circuit l.literals l.places j true
+  held : (j : ℕ) → j < l.k → RowTest l.f l.circuit l.literals l.places j true;
 }

@@ -1,4 +1,4 @@
-use Rattle.std.proofs.Common.{sym, ap, ◌∙◌, arith}
+use Rattle.std.proofs.Common.{arith}
 use Rattle.skolem_checker.specs.MappingReading.{mapping_in}
 use Rattle.skolem_checker.proofs.BenchLaws.{input_keys, output_keys, literal_table}
 use Rattle.skolem_checker.proofs.tables.literal_table.Goals as goal
@@ -6,14 +6,23 @@ use Rattle.skolem_checker.proofs.tables.literal_table.Goals as goal
 pub write_at-requires-clause-in_range : goal.write_at-requires-clause-in_range
 write_at-requires-clause-in_range c =
     rw c.deref.ensures.value (λ k d below.
-        omega (arith, input_keys c.args.f.now c.args.circuit.now (mapping_in c.args.mapped.now) c.every_formula_is_lawful.ensures.prefix c.requires k d below,
-        c.in_ok-literals.ensures, c.vars.ensures.value))
+    omega (
+      arith,
+      input_keys c.args.f.now c.args.circuit.now (mapping_in c.args.mapped.now) c.every_formula_is_lawful.ensures.prefix c.requires k d below,
+      c.in_ok-literals.ensures,
+      c.vars.ensures.value,
+    ))
 
 pub write_at-requires-2-clause-in_range : goal.write_at-requires-2-clause-in_range
 write_at-requires-2-clause-in_range c =
     rw c.deref-3.ensures.value (λ k d below.
-        omega (arith, output_keys c.args.f.now c.args.circuit.now (mapping_in c.args.mapped.now) c.every_formula_is_lawful.ensures.prefix c.requires k d below,
-        c.in_ok-literals.ensures, c.vars.ensures.value, c.write_at.ensures.same_length))
+    omega (
+      arith,
+      output_keys c.args.f.now c.args.circuit.now (mapping_in c.args.mapped.now) c.every_formula_is_lawful.ensures.prefix c.requires k d below,
+      c.in_ok-literals.ensures,
+      c.vars.ensures.value,
+      c.write_at.ensures.same_length,
+    ))
 
 pub returns : goal.returns
 returns c =

@@ -1,4 +1,4 @@
-use Rattle.std.proofs.Common.{◌≡◌, ◌==◌, length, sym, ap, ◌∙◌}
+use Rattle.std.proofs.Common.{◌==◌, length, sym, ap, ◌∙◌}
 use Rattle.dq_formula.proofs.Places.{place-absent}
 use Rattle.skolem_checker.proofs.tables.universal_place.Goals as goal
 

@@ -1,4 +1,4 @@
-use Rattle.std.proofs.Common.{◌≡◌, ◌≤◌, length, sym, ap, ◌∙◌, subst, arith}
+use Rattle.std.proofs.Common.{length, ap, subst, arith}
 use Rattle.skolem_checker.specs.MappingReading.{mapping_in}
 use Rattle.skolem_checker.specs.Checks.{Candidate, IsRowsAnswer}
 use Rattle.skolem_checker.proofs.BenchLaws.{literals_fit, universal_places_fit, rows_answer}

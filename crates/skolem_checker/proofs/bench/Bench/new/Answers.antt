@@ -1,4 +1,4 @@
-use Rattle.std.proofs.Common.{◌≡◌, ◌+◌, length, ap, ◌∙◌, subst}
+use Rattle.std.proofs.Common.{◌+◌, length, ap, ◌∙◌, subst}
 use Rattle.std.proofs.lemmas.List.{length-replicate}
 use Rattle.skolem_checker.proofs.OntoLaws.{IsMapped, mapped}
 use Rattle.skolem_checker.proofs.bench.Bench.new.Goals as goal

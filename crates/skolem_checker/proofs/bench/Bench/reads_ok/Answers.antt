@@ -1,4 +1,4 @@
-use Rattle.std.proofs.Common.{◌≡◌, sym, ap, ◌∙◌, subst, arith}
+use Rattle.std.proofs.Common.{subst}
 use Rattle.skolem_checker.specs.MappingReading.{mapping_in}
 use Rattle.skolem_checker.specs.SkolemCircuit.{ReadsUniversal}
 use Rattle.skolem_checker.specs.Checks.{Candidate, IsReadsAnswer}
