@@ -1,0 +1,6 @@
+pub mod Mapping
+pub mod MappingReading
+pub mod Checks
+pub mod SkolemCircuit
+pub mod Tables
+pub mod BenchInside

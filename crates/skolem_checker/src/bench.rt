@@ -1,0 +1,128 @@
+ghost use Rattle.std.specs.Prelude.{◌≡◌, ◌≤◌, length, IfOk};
+ghost use Rattle.dq_lits.specs.Formula.{IsWellFormed};
+ghost use Rattle.circuit_plain.specs.Order.{IsOrder};
+ghost use Rattle.skolem_checker.specs.Checks.{candidate_of, IsReadsAnswer, IsRowsAnswer};
+ghost use Rattle.skolem_checker.specs.MappingReading.{Answers};
+ghost use Rattle.skolem_checker.specs.SkolemCircuit.{IsComplete, ReadsUniversal};
+
+use crate::mapping::{BenchStop, Mapped, read_mapping};
+use crate::reads::undeclared_read;
+use crate::rows::first_bad_row;
+use crate::tables::{literal_table, place_table, universal_places};
+use aiger_text::AagFile;
+use circuit_plain::{Circuit, Order, OrderStop};
+use dq_formula::Formula;
+use dq_lits::{Memory, Row};
+use std::alloc::Global;
+use std::marker::Model;
+
+/// A circuit that is tested against a formula, with all that the tests need.
+#[derive(Debug, Drop)]
+pub struct Bench<'a> {
+    formula: &'a Formula,
+    circuit: &'a Circuit,
+    order: Order,
+    mapped: Mapped,
+    // By variable, the literal of a universal's input or of an existential's output.
+    literals: Vec<u64>,
+    // By existential, the place of its output.
+    places: Vec<u64>,
+    // By input, the place of its universal.
+    universal_places: Vec<usize>,
+    marks: Row,
+    bits: Row,
+    values: Row,
+}
+
+impl<'a> Model for Bench<'a> {
+    ghost use Rattle.skolem_checker.specs.Checks.{Candidate};
+
+    ghost Value = { Candidate };
+
+    ghost use Rattle.skolem_checker.specs.BenchInside.{candidate_in, is_ready};
+
+    ghost view = { candidate_in };
+
+    ghost invariant = { is_ready };
+}
+
+// An order of the gates of a circuit that can be evaluated.
+fn ordered(circuit: &Circuit) -> Result<Order, Memory>
+    requires { IsComplete circuit.now }
+    ensures { IfOk result (IsOrder circuit.now) }
+{
+    match circuit.order() {
+        Ok(order) => Ok(order),
+        Err(OrderStop::Memory) => Err(Memory),
+        Err(OrderStop::Cyclic(_)) => unreachable!(),
+    }
+}
+
+impl<'a> Bench<'a> {
+    /// Maps the circuit's inputs to the formula's universals and its outputs to the existentials, and takes all the
+    /// memory that the tests need. A fault of the mapping is the first one: the counts, then each input, then each
+    /// output.
+    pub fn new(alloc: Global, f: &'a Formula, a: &'a AagFile) -> Result<Bench<'a>, BenchStop>
+        requires well_formed { IsWellFormed f.now }
+        requires complete { IsComplete a.now.circuit }
+        ensures { Answers (λ bench. bench) (candidate_of f.now a.now.circuit a.now.symbols) result }
+    {
+        let circuit = &a.circuit;
+        let mapped = read_mapping(alloc, f, a)?;
+        let order = ordered(circuit)?;
+        let literals = literal_table(alloc, f, circuit, &mapped)?;
+        let places = place_table(alloc, f, circuit, &mapped)?;
+        let universal_places = universal_places(alloc, f, &mapped.inputs)?;
+        let marks = Row::new(alloc, circuit.max_var() as usize + 1)?;
+        let values = Row::new(alloc, circuit.max_var() as usize + 1)?;
+        let bits = Row::new(alloc, circuit.inputs().len())?;
+        Ok(Bench {
+            formula: f,
+            circuit,
+            order,
+            mapped,
+            literals,
+            places,
+            universal_places,
+            marks,
+            bits,
+            values,
+        })
+    }
+
+    /// Whether each existential's output reaches inputs for universals of its dependency set alone, whatever the
+    /// values; else the first existential that reaches another one, and the first such universal, both in the order of
+    /// declaration. It takes no memory.
+    pub fn reads_ok(&mut self) -> Result<(), (u64, u64)>
+        ensures same { self.new ≡ self.old }
+        ensures answer { IsReadsAnswer (ReadsUniversal self.old.circuit) self.old.formula result }
+    {
+        undeclared_read(
+            self.formula,
+            self.circuit,
+            &self.order,
+            &self.literals,
+            &self.places,
+            &mut self.marks,
+        )
+    }
+
+    /// Whether every clause is true under every row of the universals, with the outputs' values; else the number of
+    /// the first row under which one is false. Bit i of a row's number is the bit of the universal at place i. It takes
+    /// no memory.
+    pub fn by_all_rows(&mut self) -> Result<(), u32>
+        requires { length self.old.formula.universals ≤ 20 }
+        ensures same { self.new ≡ self.old }
+        ensures answer { IsRowsAnswer self.old.formula self.old.circuit result }
+    {
+        first_bad_row(
+            self.formula,
+            self.circuit,
+            &self.order,
+            &self.literals,
+            &self.universal_places,
+            &mut self.bits,
+            &mut self.values,
+        )
+    }
+}

@@ -1,0 +1,36 @@
+//! What passing the tests shows. Each law is the contract of a function that does nothing: who calls it may use what it
+//! ensures.
+
+ghost use Rattle.std.specs.Prelude.{◌≡◌, Ok};
+ghost use Rattle.dq_lits.specs.Formula.{Existential, Dqbf, HasLawfulPrefix, IsWellFormed};
+ghost use Rattle.dq_lits.specs.Henkin.{IsTrueFormula};
+ghost use Rattle.dq_lits.specs.Skolem.{OutputFunction, AreSkolemFunctions};
+ghost use Rattle.circuit_plain.specs.Netlist.{Netlist, IsNetlist};
+ghost use Rattle.aiger_text.specs.Symbol.{SymbolTable};
+ghost use Rattle.skolem_checker.specs.Checks.{Candidate, candidate_of, IsReadsAnswer, IsRowsAnswer};
+ghost use Rattle.skolem_checker.specs.SkolemCircuit.{IsComplete, IsSkolemCircuit, ReadsUniversal};
+
+use dq_lits::laws::skolem_functions_show_true;
+
+/// The outputs of a Skolem circuit are Skolem functions.
+pub fn outputs_are_skolem_functions()
+    ensures { (f : Dqbf) (net : Netlist) (symbols : SymbolTable) → HasLawfulPrefix f → IsNetlist net → IsComplete net
+        → IsSkolemCircuit f net symbols → (output : Existential → OutputFunction) × AreSkolemFunctions f output }
+{}
+
+/// A Skolem circuit shows that the formula is true.
+pub fn skolem_circuit_shows_true()
+    ensures { (f : Dqbf) (net : Netlist) (symbols : SymbolTable) → HasLawfulPrefix f → IsNetlist net → IsComplete net
+        → IsSkolemCircuit f net symbols → IsTrueFormula f }
+{
+    outputs_are_skolem_functions();
+    skolem_functions_show_true();
+}
+
+/// A circuit that is mapped, reads declared universals alone and has no bad row is a Skolem circuit.
+pub fn tested_circuit_is_skolem()
+    ensures { (c : Candidate) (symbols : SymbolTable) → HasLawfulPrefix c.formula
+        → candidate_of c.formula c.circuit.netlist symbols ≡ Ok c
+        → IsReadsAnswer (ReadsUniversal c.circuit) c.formula (Ok tt) → IsRowsAnswer c.formula c.circuit (Ok tt)
+        → IsSkolemCircuit c.formula c.circuit.netlist symbols }
+{}
