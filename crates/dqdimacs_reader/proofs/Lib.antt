@@ -4,3 +4,8 @@ mod Runs
 mod SpelledClauses
 mod SpelledIsRead
 mod Writing
+mod Words
+mod NumberWords
+mod CanonicalWords
+mod CanonicalParts
+mod CanonicalFormula

@@ -1,0 +1,209 @@
+-- The lexemes of a canonical text.
+use Rattle.std.proofs.Common.{◌≡◌, ℕ, zero, suc, ◌==◌, ◌^◌, ◌<◌, ◌≤◌, ◌||◌, Bool, true, false, if◌then◌else◌, List, [], ◌∷◌, ◌++◌, map, length, refl, sym, ◌∙◌, ap, arith, append_assoc, append-nil}
+use Rattle.std.specs.Fmt.{decimal}
+use Rattle.std.specs.List.{AllByRecursion, flat_map}
+use Rattle.std.proofs.lemmas.Bool.{ne_eqb}
+use Rattle.std.proofs.lemmas.Fmt.{decimal_nonempty, digits_decimal}
+use Rattle.dq_lits.specs.Literal.{Literal, positive, negative, variable_of}
+use Rattle.dq_lits.specs.Formula.{Existential, Dqbf}
+use Rattle.dq_text.specs.Bytes.{kind_of}
+use Rattle.dq_text.specs.Token.{TextToken, tokens_of}
+use Rattle.dq_text.specs.declared.bytes.ByteKind.TheVariants.{Blank, LineFeed, LetterC, Other}
+use Rattle.dq_text.specs.declared.cursors.LinePlace.{LinePlace}
+use Rattle.dq_text.specs.declared.cursors.LinePlace.TheVariants.{LineStart, InLine}
+use Rattle.dqdimacs_reader.specs.Canonical.{number_text, literal_text, line_end, numbers_line, header_text, universals_text, existential_text, clause_text, canonical}
+use Rattle.dqdimacs_reader.specs.Grammar.{Part, numbers, part_lexemes, clause_lexemes, literal_lexeme, header}
+use Rattle.dqdimacs_reader.specs.Lexeme.{lexeme_of}
+use Rattle.dqdimacs_reader.specs.declared.lexemes.Lexeme.{Lexeme}
+use Rattle.dqdimacs_reader.specs.declared.lexemes.Lexeme.TheVariants.{P as LetterP, Cnf, A, Natural}
+use Rattle.dqdimacs_reader.proofs.NumberWords.{AreDigits, tells, model, natural_word, negative_word}
+use Rattle.dqdimacs_reader.proofs.Words.{text_of, words_from, words_are, AreOther, IsOpen, word_space, word_line}
+
+abbrev pub lexemes : LinePlace → List ℕ → List Lexeme
+lexemes place bytes = map lexeme_of (words_from place bytes)
+
+each_text : (tokens : List TextToken) → map (λ token. lexeme_of token.text) tokens ≡ map lexeme_of (map text_of tokens)
+each_text [] = refl
+each_text (token ∷ tokens) = ap (λ rest. lexeme_of token.text ∷ rest) (each_text tokens)
+
+pub token_lexemes : (text : List ℕ) → map (λ token. lexeme_of token.text) (tokens_of text) ≡ lexemes LineStart text
+token_lexemes text = each_text (tokens_of text) ∙ ap (map lexeme_of) (words_are LineStart 1 0 text)
+
+-- digits are bytes of words
+digit_kind : (d : ℕ) → 48 ≤ d → d ≤ 57 → kind_of d ≡ Other
+digit_kind d low high =
+    ap (λ b. if b || (d == 9 || d == 13) then Blank else if d == 10 then LineFeed else if d == 99 then LetterC else Other) (ne_eqb d 32 (λ h. omega arith))
+    ∙ ap (λ b. if b || d == 13 then Blank else if d == 10 then LineFeed else if d == 99 then LetterC else Other) (ne_eqb d 9 (λ h. omega arith))
+    ∙ ap (λ b. if b then Blank else if d == 10 then LineFeed else if d == 99 then LetterC else Other) (ne_eqb d 13 (λ h. omega arith))
+    ∙ ap (λ b. if b then LineFeed else if d == 99 then LetterC else Other) (ne_eqb d 10 (λ h. omega arith))
+    ∙ ap (λ b. if b then LetterC else Other) (ne_eqb d 99 (λ h. omega arith))
+
+digits_other : (ds : List ℕ) → AreDigits ds → AreOther ds
+digits_other [] are = tt
+digits_other (d ∷ ds) are = let parts = tells.parts d ds are in (digit_kind d parts.0.0 parts.0.1, digits_other ds parts.1)
+
+digits_space : (place : LinePlace) (ds rest : List ℕ) → IsOpen place → 0 < length ds → AreDigits ds →
+    words_from place (ds ++ 32 ∷ rest) ≡ ds ∷ words_from InLine rest
+digits_space place [] rest start some are = absurd (omega (arith, some))
+digits_space place (d ∷ ds) rest start some are =
+    let others = digits_other (d ∷ ds) are in word_space place d ds rest start others.0 others.1
+
+digits_line : (place : LinePlace) (ds rest : List ℕ) → IsOpen place → 0 < length ds → AreDigits ds →
+    words_from place (ds ++ 10 ∷ rest) ≡ ds ∷ words_from LineStart rest
+digits_line place [] rest start some are = absurd (omega (arith, some))
+digits_line place (d ∷ ds) rest start some are =
+    let others = digits_other (d ∷ ds) are in word_line place d ds rest start others.0 others.1
+
+natural_space : (place : LinePlace) (n : ℕ) (rest : List ℕ) → IsOpen place → n < 10 ^ 18 →
+    lexemes place (number_text n ++ rest) ≡ Natural n ∷ lexemes InLine rest
+natural_space place n rest start small =
+    let wide : n < 2 ^ 64 = omega arith in
+    ap (lexemes place) (append_assoc (decimal n) (32 ∷ []) rest)
+    ∙ ap (map lexeme_of) (digits_space place (decimal n) rest start (decimal_nonempty n wide) (digits_decimal model n wide))
+    ∙ ap (λ lexeme. lexeme ∷ lexemes InLine rest) (natural_word n small)
+
+natural_line : (n : ℕ) (rest : List ℕ) → n < 10 ^ 18 →
+    lexemes InLine ((decimal n ++ 10 ∷ []) ++ rest) ≡ Natural n ∷ lexemes LineStart rest
+natural_line n rest small =
+    let wide : n < 2 ^ 64 = omega arith in
+    ap (lexemes InLine) (append_assoc (decimal n) (10 ∷ []) rest)
+    ∙ ap (map lexeme_of) (digits_line InLine (decimal n) rest tt (decimal_nonempty n wide) (digits_decimal model n wide))
+    ∙ ap (λ lexeme. lexeme ∷ lexemes LineStart rest) (natural_word n small)
+
+end_lexemes : (place : LinePlace) (rest : List ℕ) → IsOpen place → lexemes place (line_end ++ rest) ≡ Natural 0 ∷ lexemes LineStart rest
+end_lexemes place rest start = ap (map lexeme_of) (word_line place 48 [] rest start refl tt)
+
+abbrev pub AreSmall : List ℕ → Type 0
+AreSmall ns = AllByRecursion (λ n. n < 10 ^ 18) ns
+
+numbers_lexemes : (ns rest : List ℕ) → AreSmall ns →
+    lexemes InLine (flat_map number_text ns ++ (line_end ++ rest)) ≡ numbers ns ++ lexemes LineStart rest
+numbers_lexemes [] rest small = end_lexemes InLine rest tt
+numbers_lexemes (n ∷ ns) rest small =
+    ap (lexemes InLine) (append_assoc (number_text n) (flat_map number_text ns) (line_end ++ rest))
+    ∙ natural_space InLine n (flat_map number_text ns ++ (line_end ++ rest)) tt small.0
+    ∙ ap (λ more. Natural n ∷ more) (numbers_lexemes ns rest small.1)
+
+line_lexemes : (letter : ℕ) (ns rest : List ℕ) → kind_of letter ≡ Other → AreSmall ns →
+    lexemes LineStart (numbers_line letter ns ++ rest) ≡ lexeme_of (letter ∷ []) ∷ (numbers ns ++ lexemes LineStart rest)
+line_lexemes letter ns rest other small =
+    ap (λ bytes. lexemes LineStart (letter ∷ 32 ∷ bytes)) (append_assoc (flat_map number_text ns) line_end rest)
+    ∙ ap (map lexeme_of) (word_space LineStart letter [] (flat_map number_text ns ++ (line_end ++ rest)) tt other tt)
+    ∙ ap (λ more. lexeme_of (letter ∷ []) ∷ more) (numbers_lexemes ns rest small)
+
+header_lexemes : (f : Dqbf) (rest : List ℕ) → f.variables < 10 ^ 18 → length f.matrix < 10 ^ 18 →
+    lexemes LineStart (header_text f ++ rest) ≡ header f.variables (length f.matrix) ++ lexemes LineStart rest
+header_lexemes f rest few_variables few_clauses =
+    let behind = decimal (length f.matrix) ++ 10 ∷ [] in
+    ap (map lexeme_of) (word_space LineStart 112 [] (99 ∷ 110 ∷ 102 ∷ 32 ∷ ((number_text f.variables ++ behind) ++ rest)) tt refl tt)
+    ∙ ap (λ bytes. LetterP ∷ Cnf ∷ lexemes InLine bytes) (append_assoc (number_text f.variables) behind rest)
+    ∙ ap (λ more. LetterP ∷ Cnf ∷ more) (natural_space InLine f.variables (behind ++ rest) tt few_variables)
+    ∙ ap (λ more. LetterP ∷ Cnf ∷ Natural f.variables ∷ more) (natural_line (length f.matrix) rest few_clauses)
+
+-- a literal's number
+abbrev pub IsNumbered : Literal → Type 0
+IsNumbered l = (1 ≤ variable_of l) × (variable_of l < 10 ^ 18)
+
+minus_kind : kind_of 45 ≡ Other
+minus_kind = refl
+
+literal_space : (place : LinePlace) (l : Literal) (rest : List ℕ) → IsOpen place → IsNumbered l →
+    lexemes place (literal_text l ++ rest) ≡ literal_lexeme l ∷ lexemes InLine rest
+literal_space place (positive v) rest start is = natural_space place v rest start is.1
+literal_space place (negative zero) rest start is = absurd (omega (arith, is.0))
+literal_space place (negative (suc n)) rest start is =
+    let wide : suc n < 2 ^ 64 = omega (arith, is.1) in
+    ap (λ bytes. lexemes place (45 ∷ bytes)) (append_assoc (decimal (suc n)) (32 ∷ []) rest)
+    ∙ ap (map lexeme_of) (word_space place 45 (decimal (suc n)) rest start refl (digits_other (decimal (suc n)) (digits_decimal model (suc n) wide)))
+    ∙ ap (λ lexeme. lexeme ∷ lexemes InLine rest) (negative_word n is.1)
+
+clause_lexemes_of : (place : LinePlace) (ls : List Literal) (rest : List ℕ) → IsOpen place → AllByRecursion IsNumbered ls →
+    lexemes place (flat_map literal_text ls ++ (line_end ++ rest)) ≡ clause_lexemes ls ++ lexemes LineStart rest
+clause_lexemes_of place [] rest start are = end_lexemes place rest start
+clause_lexemes_of place (l ∷ ls) rest start are =
+    ap (lexemes place) (append_assoc (literal_text l) (flat_map literal_text ls) (line_end ++ rest))
+    ∙ literal_space place l (flat_map literal_text ls ++ (line_end ++ rest)) start are.0
+    ∙ ap (λ more. literal_lexeme l ∷ more) (clause_lexemes_of InLine ls rest tt are.1)
+
+clauses_lexemes : (clauses : List (List Literal)) → AllByRecursion (AllByRecursion IsNumbered) clauses →
+    lexemes LineStart (flat_map clause_text clauses) ≡ flat_map clause_lexemes clauses
+clauses_lexemes [] are = refl
+clauses_lexemes (ls ∷ clauses) are =
+    ap (lexemes LineStart) (append_assoc (flat_map literal_text ls) line_end (flat_map clause_text clauses))
+    ∙ clause_lexemes_of LineStart ls (flat_map clause_text clauses) tt are.0
+    ∙ ap (λ more. clause_lexemes ls ++ more) (clauses_lexemes clauses are.1)
+
+-- the part of an existential
+abbrev pub part_by : Bool → Existential → Part
+part_by true y = Part.existentials (y.variable ∷ [])
+part_by false y = Part.dependent y.variable y.sees
+
+abbrev pub part_of : List ℕ → Existential → Part
+part_of universals y = part_by (length y.sees == length universals) y
+
+pub record IsSmall (y : Existential) : Type 0 where
+  pub variable : y.variable < 10 ^ 18
+  pub sees : AreSmall y.sees
+
+existential_lexemes : (all : Bool) (y : Existential) (rest : List ℕ) → IsSmall y →
+    lexemes LineStart ((if all then numbers_line 101 (y.variable ∷ []) else numbers_line 100 (y.variable ∷ y.sees)) ++ rest)
+    ≡ part_lexemes (part_by all y) ++ lexemes LineStart rest
+existential_lexemes true y rest small = line_lexemes 101 (y.variable ∷ []) rest refl (small.variable, tt)
+existential_lexemes false y rest small = line_lexemes 100 (y.variable ∷ y.sees) rest refl (small.variable, small.sees)
+
+existentials_lexemes : (universals : List ℕ) (es : List Existential) (rest : List ℕ) → AllByRecursion IsSmall es →
+    lexemes LineStart (flat_map (existential_text universals) es ++ rest)
+    ≡ flat_map part_lexemes (map (part_of universals) es) ++ lexemes LineStart rest
+existentials_lexemes universals [] rest are = refl
+existentials_lexemes universals (y ∷ es) rest are =
+    let more = flat_map (existential_text universals) es in
+    ap (lexemes LineStart) (append_assoc (existential_text universals y) more rest)
+    ∙ existential_lexemes (length y.sees == length universals) y (more ++ rest) are.0
+    ∙ ap (λ behind. part_lexemes (part_of universals y) ++ behind) (existentials_lexemes universals es rest are.1)
+    ∙ sym (append_assoc (part_lexemes (part_of universals y)) (flat_map part_lexemes (map (part_of universals) es)) (lexemes LineStart rest))
+
+-- the parts of a formula's canonical text
+abbrev pub universal_parts : List ℕ → List Part
+universal_parts [] = []
+universal_parts (x ∷ xs) = Part.universals (x ∷ xs) ∷ []
+
+abbrev pub parts_of : Dqbf → List Part
+parts_of f = universal_parts f.universals ++ map (part_of f.universals) f.existentials
+
+universals_lexemes : (us rest : List ℕ) → AreSmall us →
+    lexemes LineStart (universals_text us ++ rest) ≡ flat_map part_lexemes (universal_parts us) ++ lexemes LineStart rest
+universals_lexemes [] rest small = refl
+universals_lexemes (x ∷ xs) rest small =
+    line_lexemes 97 (x ∷ xs) rest refl small
+    ∙ ap (λ front. A ∷ (front ++ lexemes LineStart rest)) (sym (append-nil (numbers (x ∷ xs))))
+
+flat_map-append : (ps qs : List Part) → flat_map part_lexemes (ps ++ qs) ≡ flat_map part_lexemes ps ++ flat_map part_lexemes qs
+flat_map-append [] qs = refl
+flat_map-append (p ∷ ps) qs =
+    ap (λ more. part_lexemes p ++ more) (flat_map-append ps qs)
+    ∙ sym (append_assoc (part_lexemes p) (flat_map part_lexemes ps) (flat_map part_lexemes qs))
+
+pub record HasSmallNumbers (f : Dqbf) : Type 0 where
+  pub variables : f.variables < 10 ^ 18
+  pub clauses : length f.matrix < 10 ^ 18
+  pub universals : AreSmall f.universals
+  pub existentials : AllByRecursion IsSmall f.existentials
+  pub literals : AllByRecursion (AllByRecursion IsNumbered) f.matrix
+
+pub canonical_lexemes : (f : Dqbf) → HasSmallNumbers f →
+    map (λ token. lexeme_of token.text) (tokens_of (canonical f))
+    ≡ header f.variables (length f.matrix) ++ (flat_map part_lexemes (parts_of f) ++ flat_map clause_lexemes f.matrix)
+canonical_lexemes f small =
+    let es = flat_map (existential_text f.universals) f.existentials in
+    let cs = flat_map clause_text f.matrix in
+    let front = flat_map part_lexemes (universal_parts f.universals) in
+    let behind = flat_map part_lexemes (map (part_of f.universals) f.existentials) in
+    let matrix = flat_map clause_lexemes f.matrix in
+    let head = header f.variables (length f.matrix) in
+    token_lexemes (canonical f)
+    ∙ header_lexemes f (universals_text f.universals ++ (es ++ cs)) small.variables small.clauses
+    ∙ ap (λ more. head ++ more) (universals_lexemes f.universals (es ++ cs) small.universals)
+    ∙ ap (λ more. head ++ (front ++ more)) (existentials_lexemes f.universals f.existentials cs small.existentials)
+    ∙ ap (λ more. head ++ (front ++ (behind ++ more))) (clauses_lexemes f.matrix small.literals)
+    ∙ ap (λ more. head ++ more) (sym (append_assoc front behind matrix))
+    ∙ ap (λ more. head ++ (more ++ matrix)) (sym (flat_map-append (universal_parts f.universals) (map (part_of f.universals) f.existentials)))
