@@ -1,4 +1,15 @@
 mod Cuts
+mod Finishing
+mod HeaderSpelling
 mod Names
+mod NaturalTokens
+mod ReadIsSpelled
+mod ReadNetlist
+mod ReadSymbols
 mod Reading
+mod SpelledIsRead
+mod SpelledNetlist
+mod SpelledSymbols
+mod Stages
+mod SymbolSpelling
 mod Variables

@@ -1,3 +1,4 @@
+pub mod Grammar
 pub mod LineStop
 pub mod Lines
 pub mod ReaderState
