@@ -53,7 +53,7 @@ none_test : (b : Bool) (n : ℕ) → cond b (Some n) None ≡ None → b ≡ fal
 none_test true n h = cc
 none_test false n h = refl
 
-none_passes : {X : Type 0} (p : X → Bool) (xs : List X) → position p xs ≡ None → (k : ℕ) (d : X) → k < length xs → p (get_or xs k d) ≡ false
+pub none_passes : {X : Type 0} (p : X → Bool) (xs : List X) → position p xs ≡ None → (k : ℕ) (d : X) → k < length xs → p (get_or xs k d) ≡ false
 none_passes p xs none k d below =
     let far = ltb-false (position_or_len p xs) (length xs) (none_test (nat_lt (position_or_len p xs) (length xs)) (position_or_len p xs) none) in
     fails_before_first p xs k d (omega arith)

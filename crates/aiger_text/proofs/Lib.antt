@@ -1,6 +1,8 @@
 mod Cuts
 mod Finishing
+mod Grounding
 mod HeaderSpelling
+mod LineNumbers
 mod Names
 mod NaturalTokens
 mod ReadIsSpelled

@@ -8,6 +8,6 @@ ghost use Rattle.aiger_text.specs.declared.files.AagFile.{AagFile};
 
 /// A text spells at most one circuit file: the one that the scan gives, if its gates have no cycle.
 pub fn circuit_or_first_fault()
-    ensures exact { (text : List ℕ) (file : AagFile) → SpellsCircuit text file ↔ ((scan text 1 ≡ Ok file) × AllGrounded file.circuit) }
+    ensures exact { (text : List ℕ) (first : ℕ) (file : AagFile) → SpellsCircuit text file ↔ ((scan text first ≡ Ok file) × AllGrounded file.circuit) }
     ensures unique { (text : List ℕ) (f g : AagFile) → SpellsCircuit text f → SpellsCircuit text g → f ≡ g }
 {}
