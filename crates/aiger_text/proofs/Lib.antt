@@ -1,5 +1,6 @@
 mod Cuts
 mod Finishing
+mod FirstFaults
 mod Grounding
 mod HeaderSpelling
 mod LineNumbers

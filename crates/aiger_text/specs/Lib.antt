@@ -1,3 +1,4 @@
+pub mod FirstFault
 pub mod Grammar
 pub mod LineStop
 pub mod Lines
