@@ -1,5 +1,5 @@
 -- A file that names only what it defines.
-use Rattle.std.proofs.Common.{◌≡◌, ℕ, ◌<◌, ◌/◌, ◌==◌, nat_lt, get_or, Bool, true, false, not, cond, ◌&&◌, ◌||◌, inl, inr, List, length, All, Option, Some, None, Ok, Err, refl, sym, ◌∙◌, ap, arith}
+use Rattle.std.proofs.Common.{◌≡◌, ℕ, ◌<◌, ◌/◌, ◌==◌, nat_lt, get_or, Bool, true, false, not, cond, inl, inr, List, length, All, Option, Some, None, Ok, refl, sym, ◌∙◌, ap, arith}
 use Rattle.std.specs.List.{list_any, position, position_or_len}
 use Rattle.std.proofs.lemmas.Bool.{and_from, and_parts, or_left, or_right, or_cases, eq-eqb, eqb-true, not-false, ltb-false}
 use Rattle.std.proofs.lemmas.List.Sums.{fails_before_first}
@@ -8,7 +8,7 @@ use Rattle.circuit_plain.specs.Netlist.{Netlist, IsDefined}
 use Rattle.circuit_plain.specs.declared.circuits.Gate.{Gate}
 use Rattle.aiger_text.specs.Grammar.{HasMeaning}
 use Rattle.aiger_text.specs.Lines.{is_defined}
-use Rattle.aiger_text.specs.Scan.{Body, stands_on_defined, reads_defined, or_gate, undefined_line, unless_undefined, finish}
+use Rattle.aiger_text.specs.Scan.{Body, stands_on_defined, reads_defined, or_gate, unless_undefined, finish}
 use Rattle.aiger_text.specs.declared.files.AagFile.{AagFile}
 use Rattle.aiger_text.proofs.Cuts.{position-None}
 use Rattle.aiger_text.proofs.Variables.{defined_is}

@@ -1,9 +1,9 @@
 -- A text has a file or a first fault, never both, and one of its kind.
-use Rattle.std.proofs.Common.{◌≡◌, ℕ, ◌+◌, ◌<◌, ◌⊎◌, length, inl, inr, List, Result, Ok, Err, refl, sym, ◌∙◌, ap, subst}
+use Rattle.std.proofs.Common.{◌≡◌, ℕ, ◌+◌, ◌⊎◌, length, inl, inr, List, Result, Ok, Err, refl, sym, ◌∙◌, ap, subst}
 use Rattle.std.proofs.lemmas.Bool.{cases_order}
 use Rattle.circuit_plain.specs.Ground.{IsFirstUngrounded}
 use Rattle.circuit_plain.specs.Netlist.{Netlist}
-use Rattle.aiger_text.specs.FirstFault.{HasCycle, IsFirstFault}
+use Rattle.aiger_text.specs.FirstFault.{IsFirstFault}
 use Rattle.aiger_text.specs.Grammar.{SpellsCircuit}
 use Rattle.aiger_text.specs.Scan.{LineFault, AllGrounded, IsCyclicAt, scan}
 use Rattle.aiger_text.specs.declared.faults.AagFault.{AagFault}
@@ -33,12 +33,15 @@ by_scan text first (Ok file) read =
       | inl acyclic ↦ inl (file, spells_from text first file read acyclic)
       | inr (place, outside) ↦
           let line = first + 1 + length file.circuit.inputs + length file.circuit.outputs + place in
-          inr (record { line = line; name = Cyclic }, inr (record {
-            file = file;
-            scanned = read;
-            cyclic = refl;
-            at_line = record { place = place; ungrounded = outside; on_line = refl };
-          }))
+          inr (
+            record { line = line; name = Cyclic },
+            inr (record {
+              file = file;
+              scanned = read;
+              cyclic = refl;
+              at_line = record { place = place; ungrounded = outside; on_line = refl };
+            }),
+          )
     ]
 
 pub file_or_fault : (text : List ℕ) (first : ℕ) → ((file : AagFile) × SpellsCircuit text file) ⊎ ((fault : LineFault) × IsFirstFault text first fault)

@@ -1,7 +1,7 @@
 -- Whether every gate is in the least set is decided: gates join it as long as one can.
-use Rattle.std.proofs.Common.{◌≡◌, ◌≢◌, ℕ, zero, suc, ◌<◌, ◌≤◌, ◌==◌, ◌⊎◌, get_or, Bool, true, false, not, cond, ◌&&◌, ◌||◌, inl, inr, List, [], ◌∷◌, length, All, Contains, Option, Some, None, refl, sym, ◌∙◌, ap, arith, subst}
+use Rattle.std.proofs.Common.{◌≡◌, ℕ, zero, suc, ◌<◌, ◌≤◌, ◌==◌, ◌⊎◌, get_or, Bool, true, false, not, cond, ◌&&◌, ◌||◌, inl, inr, List, [], ◌∷◌, length, All, Option, Some, None, refl, sym, ◌∙◌, ap, arith, subst}
 use Rattle.std.specs.List.{list_any, position}
-use Rattle.std.proofs.lemmas.Bool.{and_from, and_parts, and_cases, or_left, or_right, or_cases, or_parts, not-true, not-false, eq-eqb, eqb-true, cases_Bool, both_ways, cond-true, cond-false}
+use Rattle.std.proofs.lemmas.Bool.{and_from, and_parts, and_cases, or_left, or_right, or_cases, not-true, not-false, eq-eqb, eqb-true, cases_Bool, both_ways, cond-true, cond-false}
 use Rattle.std.proofs.lemmas.List.Elements.{All-contains, All-cons, Contains-get_or}
 use Rattle.std.proofs.lemmas.List.Quantifiers.{position-Some}
 use Rattle.circuit_plain.proofs.NetlistLaws.{found_among}
@@ -123,11 +123,14 @@ module _ (net : Netlist) where
       let test : Gate → Bool = λ g. not (settled vs g.variable) in
       let no_gate : Gate = record { variable = 0; left = 0; right = 0 } in
       let is = position-Some test net.gates place no_gate found in
-      inr (place, record {
-        in_range = is.0;
-        outside = λ inside. both_ways (settled vs (gate_at net place).variable) (not-true (settled vs (gate_at net place).variable) is.1) (grounded_settled vs closed inside);
-        first = λ p before. settled_grounded vs grounded (gate_at net p).variable (not-false (settled vs (gate_at net p).variable) (is.2 p before));
-      })
+      inr (
+        place,
+        record {
+          in_range = is.0;
+          outside = λ inside. both_ways (settled vs (gate_at net place).variable) (not-true (settled vs (gate_at net place).variable) is.1) (grounded_settled vs closed inside);
+          first = λ p before. settled_grounded vs grounded (gate_at net p).variable (not-false (settled vs (gate_at net p).variable) (is.2 p before));
+        },
+      )
 
   decide_from : (fuel : ℕ) (vs : List ℕ) → left_out vs net.gates ≤ fuel → All (IsGrounded net) vs → (joining : Option ℕ) → position (can_join vs) net.gates ≡ joining → Decision
   decide_from fuel vs enough grounded None closed = at_end vs grounded closed (position (λ g. not (settled vs g.variable)) net.gates) refl

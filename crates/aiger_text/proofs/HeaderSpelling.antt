@@ -1,8 +1,8 @@
 -- Header lines, as their reader takes them and as the grammar spells them.
-use Rattle.std.proofs.Common.{◌≡◌, ℕ, zero, suc, ◌+◌, ◌<◌, ◌≤◌, ◌==◌, nat_lt, Bool, true, false, not, cond, ◌||◌, List, [], ◌∷◌, length, drop, replicate, map, Option, Some, None, Result, Ok, Err, codes, refl, sym, ◌∙◌, ap, ap₂, arith, subst}
+use Rattle.std.proofs.Common.{◌≡◌, ℕ, zero, suc, ◌+◌, ◌≤◌, ◌==◌, nat_lt, Bool, true, false, not, cond, ◌||◌, List, [], ◌∷◌, length, replicate, map, Option, Some, None, Result, Ok, Err, codes, refl, ◌∙◌, ap, ap₂, arith, subst}
 use Rattle.std.specs.List.{list_any, AllByRecursion}
 use Rattle.std.specs.Str.{bytes_eq}
-use Rattle.std.proofs.lemmas.Bool.{or_from, or_parts, le-ltb, ltb-false, eqb-true, not-false, cond-true, cond-false}
+use Rattle.std.proofs.lemmas.Bool.{or_from, or_parts, le-ltb, ltb-false, eqb-true, not-false, cond-false}
 use Rattle.std.proofs.lemmas.List.{length-replicate}
 use Rattle.std.proofs.lemmas.Slice.Eq.{bytes_eq-Decides}
 use Rattle.dq_text.specs.Line.{line_tokens}

@@ -1,15 +1,15 @@
 -- What the walk over the lines reads, the grammar spells.
-use Rattle.std.proofs.Common.{◌≡◌, ℕ, ◌+◌, ◌<◌, ◌≤◌, ◌^◌, List, [], ◌∷◌, ◌++◌, length, map, Some, Result, Ok, Err, refl, sym, ◌∙◌, ap, ap₂, arith, subst, append_assoc}
+use Rattle.std.proofs.Common.{◌≡◌, ℕ, ◌+◌, ◌≤◌, List, [], ◌∷◌, ◌++◌, length, map, Result, Ok, Err, refl, sym, ◌∙◌, ap, ap₂, arith, subst, append_assoc}
 use Rattle.std.proofs.lemmas.List.{map-append}
 use Rattle.circuit_plain.specs.Netlist.{Netlist, IsNetlist}
 use Rattle.dq_text.specs.Line.{TextLine, line_tokens, lines_from}
-use Rattle.aiger_text.specs.Grammar.{line_numbers, input_numbers, output_numbers, gate_numbers, netlist_numbers, SpellsHeader, counts_in, AreNames, SpellsCircuit}
+use Rattle.aiger_text.specs.Grammar.{line_numbers, input_numbers, output_numbers, gate_numbers, SpellsHeader, counts_in, AreNames, SpellsCircuit}
 use Rattle.aiger_text.specs.Lines.{max_count, header_of}
 use Rattle.aiger_text.specs.Scan.{Body, LineFault, start, behind_header, read_lines, read_body, scan, AllGrounded}
 use Rattle.aiger_text.specs.declared.headers.Header.{Header}
 use Rattle.aiger_text.specs.declared.files.AagFile.{AagFile}
 use Rattle.aiger_text.specs.declared.faults.AagFault.{AagFault}
-use Rattle.aiger_text.proofs.Finishing.{file_of, finish_is}
+use Rattle.aiger_text.proofs.Finishing.{finish_is}
 use Rattle.aiger_text.proofs.HeaderSpelling.{header_is}
 use Rattle.aiger_text.proofs.ReadNetlist.{inputs_spelled, outputs_spelled, gates_spelled}
 use Rattle.aiger_text.proofs.ReadSymbols.{symbols_spelled}

@@ -1,13 +1,12 @@
 -- The lines of inputs, outputs and gates that are read are those that the grammar spells.
-use Rattle.std.proofs.Common.{◌≡◌, ℕ, ◌+◌, ◌*◌, ◌/◌, ◌%◌, ◌^◌, ◌<◌, ◌≤◌, ◌==◌, nat_le, Bool, true, false, not, cond, ◌&&◌, ◌||◌, List, [], ◌∷◌, ◌++◌, length, map, Option, Some, None, Result, Ok, Err, refl, sym, ◌∙◌, ap, ap₂, arith, subst}
+use Rattle.std.proofs.Common.{◌≡◌, ℕ, ◌+◌, ◌*◌, ◌/◌, ◌%◌, ◌^◌, ◌<◌, ◌==◌, nat_le, Bool, true, false, not, cond, ◌&&◌, ◌||◌, List, [], ◌∷◌, length, Option, Some, None, Result, Ok, Err, refl, sym, ◌∙◌, ap, arith}
 use Rattle.std.proofs.lemmas.Bool.{and_parts, or_parts, not-false, leb-true, leb-false, eqb-true}
 use Rattle.circuit_plain.proofs.NetlistLaws.{keeps_input, keeps_output, keeps_gate}
 use Rattle.circuit_plain.specs.Netlist.{Netlist, IsNetlist, IsLiteral, IsGate}
 use Rattle.circuit_plain.specs.declared.circuits.Gate.{Gate}
 use Rattle.dq_text.specs.Line.{TextLine, line_tokens}
-use Rattle.dq_text.specs.declared.numbers.Number.{Number}
-use Rattle.aiger_text.specs.Grammar.{naturals, line_numbers, input_numbers, output_numbers, gate_numbers}
-use Rattle.aiger_text.specs.Lines.{is_too_big, is_positive, is_literal, is_defined, numbers_of, with_input, with_output, with_gate, input_of, output_of, gate_of, one_of, three_of, input_from, output_from, gate_from, input_line, output_line, gate_line}
+use Rattle.aiger_text.specs.Grammar.{naturals, input_numbers, output_numbers, gate_numbers}
+use Rattle.aiger_text.specs.Lines.{is_too_big, is_positive, is_literal, is_defined, numbers_of, with_input, with_output, with_gate, input_of, output_of, gate_of, input_line, output_line, gate_line}
 use Rattle.aiger_text.specs.ReaderState.{IsNewVariable, IsNewGate}
 use Rattle.aiger_text.specs.Scan.{Body, LineFault, go_on, at_end, read_body}
 use Rattle.aiger_text.specs.declared.headers.Header.{Header}
@@ -15,7 +14,7 @@ use Rattle.aiger_text.specs.declared.files.AagFile.{AagFile}
 use Rattle.aiger_text.specs.declared.faults.AagFault.{AagFault}
 use Rattle.aiger_text.specs.declared.faults.AagFault.TheVariants.{TooBig, Range, DefinedTwice}
 use Rattle.aiger_text.specs.declared.body.Part.TheVariants.{InputLine, OutputLine, GateLine}
-use Rattle.aiger_text.proofs.NaturalTokens.{IsSmallNumber, numbers_are}
+use Rattle.aiger_text.proofs.NaturalTokens.{numbers_are}
 use Rattle.aiger_text.proofs.SpelledNetlist.{no_symbols, body_with, at_input, at_output, at_gate, on_part}
 use Rattle.aiger_text.proofs.Stages.{AddsItem, CompletesStage, stage_spelled}
 use Rattle.aiger_text.proofs.Variables.{is_new, is_new_gate, gate_in_range}
@@ -33,6 +32,10 @@ record GoesOn (b : Body) (r : Result Netlist AagFault) (next : Body → Result A
 goes_on : (line : ℕ) (b : Body) (r : Result Netlist AagFault) (next : Body → Result AagFile LineFault) (file : AagFile) → go_on line b r next ≡ Ok file → GoesOn b r next file
 goes_on line b (Ok net) next file h = record { net = net; line_is = refl; goes = h }
 goes_on line b (Err name) next file h = cc
+
+moved : (b : Body) (next : Body → Result AagFile LineFault) (made net : Netlist) (file : AagFile) → made ≡ net → next (record b { netlist = net }) ≡ Ok file →
+    next (record b { netlist = made }) ≡ Ok file
+moved b next made net file same goes = ap (λ n. next (record b { netlist = n })) same ∙ goes
 
 input_number : (net made : Netlist) (found : Option (List ℕ)) → input_line net found ≡ Ok made → (l : ℕ) × (found ≡ Some (l ∷ [])) × (input_of net l ≡ Ok made)
 input_number net made None h = cc
@@ -134,7 +137,7 @@ module _ (header_line : ℕ) (h : Header) (file : AagFile) where
         item = l / 2;
         spelled = numbers_are tokens (l ∷ []) found.1 (reads.small, tt) ∙ ap (λ n. naturals (n ∷ [])) (twice h.max_var l reads.positive);
         kept = keeps_input b.netlist (l / 2) kept new.in_range new.undefined;
-        read = ap (λ net. next (record b { netlist = net })) reads.made_is ∙ on.goes;
+        read = moved b next (with_input b.netlist (l / 2)) on.net file reads.made_is on.goes;
       }
 
   input_ends : (done : List ℕ) (number : ℕ) → length done < h.inputs → read_body (with_inputs done) [] number ≡ Ok file → ⊥
@@ -167,7 +170,7 @@ module _ (header_line : ℕ) (h : Header) (file : AagFile) where
           item = l;
           spelled = numbers_are tokens (l ∷ []) found.1 (reads.small, tt);
           kept = keeps_output b.netlist l kept reads.range;
-          read = ap (λ net. next (record b { netlist = net })) reads.made_is ∙ on.goes;
+          read = moved b next (with_output b.netlist l) on.net file reads.made_is on.goes;
         }
 
     output_ends : (done : List ℕ) (number : ℕ) → length done < h.outputs → read_body (with_outputs done) [] number ≡ Ok file → ⊥
@@ -205,7 +208,7 @@ module _ (header_line : ℕ) (h : Header) (file : AagFile) where
             spelled = numbers_are tokens (found.0 ∷ found.1 ∷ found.2 ∷ []) found.3 (reads.small.0, (reads.small.1, (reads.small.2, tt)))
                 ∙ ap (λ n. naturals (n ∷ found.1 ∷ found.2 ∷ [])) (twice h.max_var found.0 positive);
             kept = keeps_gate b.netlist (record { variable = v; left = found.1; right = found.2 }) kept fits new.new.undefined;
-            read = ap (λ net. next (record b { netlist = net })) reads.made_is ∙ on.goes;
+            read = moved b next (with_gate b.netlist (record { variable = v; left = found.1; right = found.2 })) on.net file reads.made_is on.goes;
           }
 
       gate_ends : (done : List Gate) (number : ℕ) → length done < h.gates → read_body (with_gates done) [] number ≡ Ok file → ⊥

@@ -1,7 +1,6 @@
 -- The lines behind the gates that are read are those that the grammar spells.
 use Rattle.std.proofs.Common.{◌≡◌, ◌≢◌, ℕ, ◌+◌, ◌<◌, ◌≤◌, ◌^◌, ◌==◌, nat_lt, nat_eq, get_or, Bool, true, false, not, cond, ◌&&◌, inl, inr, is_none, List, [], ◌∷◌, ◌++◌, length, filter, Option, Some, None, Result, Ok, Err, refl, sym, ◌∙◌, ap, arith, subst}
-use Rattle.std.specs.List.{AllByRecursion, AllZip, AllPairs}
-use Rattle.std.specs.Map.{lookup}
+use Rattle.std.specs.List.{AllZip}
 use Rattle.std.proofs.lemmas.Bool.{and_parts, ltb-true, eqb-true, eqb-false, cases_Bool, cond-true, cond-false}
 use Rattle.std.proofs.lemmas.List.Elements.{All-push, All-from_recursion}
 use Rattle.std.proofs.lemmas.List.Quantifiers.{all_pairs_push}
@@ -112,7 +111,7 @@ pub record CompletesSymbols (h : Header) (body : SymbolTable → Body) (file : A
   pub finished : finish (body table) comment ≡ Ok file
 
 module _ (header_line : ℕ) (h : Header) (is os : List ℕ) (gs : List Gate) (all_inputs : length is ≡ h.inputs) (all_outputs : length os ≡ h.outputs) (all_gates : length gs ≡ h.gates)
-  (few_inputs : h.inputs ≤ max_count) (few_outputs : h.outputs ≤ max_count) (file : AagFile) where
+    (few_inputs : h.inputs ≤ max_count) (few_outputs : h.outputs ≤ max_count) (file : AagFile) where
   abbrev with_table : SymbolTable → Body
   with_table t = body_with header_line h t is os gs
 

@@ -1,5 +1,5 @@
 -- What the grammar spells, the walk over the lines reads.
-use Rattle.std.proofs.Common.{◌≡◌, ℕ, ◌+◌, List, [], ◌++◌, Result, Ok, refl, sym, ◌∙◌, ap}
+use Rattle.std.proofs.Common.{◌≡◌, ℕ, ◌+◌, List, ◌++◌, Result, Ok, refl, sym, ◌∙◌, ap}
 use Rattle.aiger_text.specs.Grammar.{SpellsCircuit, counts_in}
 use Rattle.aiger_text.specs.Scan.{Body, LineFault, behind_header, read_lines, read_body, scan}
 use Rattle.aiger_text.specs.declared.files.AagFile.{AagFile}

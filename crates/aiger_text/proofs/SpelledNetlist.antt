@@ -1,5 +1,5 @@
 -- The lines of inputs, outputs and gates that the grammar spells are read.
-use Rattle.std.proofs.Common.{◌≡◌, ◌≢◌, ℕ, ◌+◌, ◌*◌, ◌/◌, ◌%◌, ◌^◌, ◌<◌, ◌≤◌, ◌==◌, nat_lt, nat_le, get_or, Bool, true, false, not, cond, ◌&&◌, ◌||◌, inl, inr, List, [], ◌∷◌, ◌++◌, length, map, All, Contains, Some, Result, Ok, Err, refl, sym, ◌∙◌, ap, arith, subst, append_assoc, append-nil, length-append}
+use Rattle.std.proofs.Common.{◌≡◌, ◌≢◌, ℕ, ◌+◌, ◌*◌, ◌/◌, ◌%◌, ◌^◌, ◌<◌, ◌≤◌, ◌==◌, nat_lt, nat_le, get_or, true, false, not, ◌&&◌, List, [], ◌∷◌, ◌++◌, length, map, Contains, Result, Ok, Err, refl, sym, ◌∙◌, ap, arith, append-nil, length-append}
 use Rattle.std.specs.List.{list_any, AllPairs}
 use Rattle.std.proofs.lemmas.Bool.{and_from, or_from, lt-ltb, le-ltb, le-leb, lt-leb, eq-eqb, ne_eqb, cond-true, cond-false}
 use Rattle.std.proofs.lemmas.List.{get_or_at, get_or_append_left}
@@ -8,9 +8,8 @@ use Rattle.std.proofs.lemmas.List.Elements.{All-contains}
 use Rattle.circuit_plain.specs.Netlist.{Netlist, IsNetlist, IsVariable, IsLiteral, IsGate}
 use Rattle.circuit_plain.specs.declared.circuits.Gate.{Gate}
 use Rattle.dq_text.specs.Line.{TextLine, line_tokens}
-use Rattle.dq_text.specs.declared.numbers.Number.{Number}
 use Rattle.aiger_text.specs.Grammar.{line_numbers, input_numbers, output_numbers, gate_numbers, netlist_numbers, counts_in}
-use Rattle.aiger_text.specs.Lines.{max_count, is_too_big, is_positive, is_literal, is_defined, numbers_of, with_input, with_output, with_gate, input_of, output_of, input_line, output_line, gate_line}
+use Rattle.aiger_text.specs.Lines.{max_count, is_too_big, is_positive, is_literal, is_defined, with_input, with_output, with_gate, output_of, input_line, output_line, gate_line}
 use Rattle.aiger_text.specs.Scan.{Body, LineFault, next_part, go_on, read_line, read_body}
 use Rattle.aiger_text.specs.Symbol.{SymbolTable}
 use Rattle.aiger_text.specs.declared.headers.Header.{Header}

@@ -1,5 +1,5 @@
 -- The lines behind the gates that the grammar spells are read.
-use Rattle.std.proofs.Common.{◌≡◌, ◌≢◌, ℕ, ◌+◌, ◌<◌, ◌==◌, nat_lt, nat_eq, Bool, true, false, not, cond, ◌&&◌, ◌||◌, inl, inr, is_none, List, [], ◌∷◌, ◌++◌, length, filter, All, Option, Some, None, Result, Ok, Err, refl, sym, ◌∙◌, ap, subst, append_assoc, append-nil}
+use Rattle.std.proofs.Common.{◌≡◌, ℕ, ◌+◌, ◌<◌, ◌==◌, nat_lt, nat_eq, Bool, true, false, not, cond, ◌&&◌, inl, inr, is_none, List, [], ◌∷◌, ◌++◌, length, filter, Option, Some, None, Result, Ok, Err, refl, sym, ◌∙◌, ap, subst, append_assoc, append-nil}
 use Rattle.std.specs.List.{list_any, AllZip}
 use Rattle.std.specs.Map.{lookup}
 use Rattle.std.proofs.lemmas.Bool.{and_from, or_parts, lt-ltb, ne_eqb, eqb-false, cases_Bool, cond-true, cond-false}
@@ -7,9 +7,9 @@ use Rattle.std.proofs.lemmas.List.Elements.{All-contains}
 use Rattle.circuit_plain.specs.declared.circuits.Gate.{Gate}
 use Rattle.dq_text.specs.Bytes.{kind_of}
 use Rattle.dq_text.specs.Line.{TextLine, line_tokens, extend_token}
-use Rattle.dq_text.specs.Token.{is_separator, goes_on}
-use Rattle.aiger_text.specs.Grammar.{names, AreNames, letter_of, SpellsSymbol, SpellSymbols, IsComment, EndsWith}
-use Rattle.aiger_text.specs.Lines.{SymbolLine, symbol_of, add_symbol, symbol_line, has_no_token, is_blank_line, begins_comment}
+use Rattle.dq_text.specs.Token.{is_separator}
+use Rattle.aiger_text.specs.Grammar.{names, AreNames, letter_of, SpellsSymbol, SpellSymbols, EndsWith}
+use Rattle.aiger_text.specs.Lines.{SymbolLine, add_symbol, symbol_line, has_no_token, is_blank_line, begins_comment}
 use Rattle.aiger_text.specs.Scan.{Body, LineFault, finish, at_end, with_symbol, behind_gates, read_body}
 use Rattle.aiger_text.specs.Symbol.{SymbolTable, name_at}
 use Rattle.aiger_text.specs.declared.headers.Header.{Header}

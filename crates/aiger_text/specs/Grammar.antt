@@ -1,4 +1,6 @@
--- The grammar: which circuit file a text spells (AIGER 1.9, ASCII form, the combinational part).
+-- The grammar: which circuit file a text spells, in the combinational part of ASCII AIGER (A. Biere, K.
+-- Heljanko, S. Wieringa, "AIGER 1.9 And Beyond", FMV report 11/2, 2011). Numbers may stand between any
+-- spaces, tabs and CRs, and blank lines among the symbols.
 use Rattle.std.specs.Prelude.{◌≡◌, ◌≢◌, ℕ, ◌+◌, ◌*◌, ◌<◌, ◌≤◌, ◌⊎◌, Bool, true, false, not, pos, List, [], ◌∷◌, ◌++◌, map, filter, replicate, length, All, AllPairs, Option, None, Some, codes}
 use Rattle.std.specs.Char.{is_ascii_digit}
 use Rattle.std.specs.List.{AllZip, list_all}
@@ -14,6 +16,7 @@ use Rattle.aiger_text.specs.Symbol.{SymbolTable}
 use Rattle.aiger_text.specs.declared.files.AagFile.{AagFile}
 use Rattle.aiger_text.specs.declared.headers.Header.{Header}
 
+-- these natural numbers
 abbrev pub naturals : List ℕ → List Number
 naturals ns = map (λ n. Int (pos n)) ns
 
@@ -35,8 +38,8 @@ gate_numbers g = naturals (2 * g.variable ∷ g.left ∷ g.right ∷ [])
 abbrev pub netlist_numbers : Netlist → List (List Number)
 netlist_numbers net = map input_numbers net.inputs ++ (map output_numbers net.outputs ++ map gate_numbers net.gates)
 
--- `aag M I L O A` with no latch, at most four zeros for the sections of AIGER 1.9 that are left out, and
--- counts within the limit
+-- `aag M I L O A` with no latch, and at most four zeros for the sections B C J F of AIGER 1.9. No count
+-- passes the limit: the inputs and the gates are variables, of which there are M.
 pub record SpellsHeader (text : List ℕ) (h : Header) : Type 0 where
   pub zeros : ℕ
   pub tokens : List (List ℕ)
@@ -99,9 +102,9 @@ EndsWith [] (Some comment) = ⊥
 EndsWith (line ∷ _) None = ⊥
 EndsWith (line ∷ _) (Some comment) = IsComment line comment
 
--- The lines are the header, a line for each input, output and gate, lines that are symbols or blank, and
--- nothing more or the comment. Numbers are in range, no variable is an input or a gate twice, each
--- literal that is read has a meaning, and no gate depends on itself.
+-- The lines are the header, those of the netlist, then symbols and blank lines, then nothing more or the
+-- comment. Numbers are in range, no variable is an input or a gate twice, every literal that an output
+-- or a gate reads has a meaning, and no gate depends on itself. The names are those of the symbols.
 pub record SpellsCircuit (text : List ℕ) (file : AagFile) : Type 0 where
   pub header_line : TextLine
   pub netlist_lines : List TextLine
