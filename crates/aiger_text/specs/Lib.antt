@@ -1,3 +1,5 @@
+pub mod FirstFault
+pub mod Grammar
 pub mod LineStop
 pub mod Lines
 pub mod ReaderState

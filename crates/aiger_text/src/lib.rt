@@ -10,6 +10,7 @@ mod body;
 mod faults;
 mod files;
 mod headers;
+pub mod laws;
 mod numbers;
 mod reader;
 mod symbol_lines;

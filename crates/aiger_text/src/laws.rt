@@ -1,0 +1,18 @@
+//! What joins the grammar and the first fault. The law is the contract of a function without
+//! parameters and with an empty body.
+
+ghost use Rattle.std.specs.Prelude.{◌≡◌, ◌↔◌, ◌⊎◌, ℕ, List, Ok};
+ghost use Rattle.aiger_text.specs.FirstFault.{IsFirstFault};
+ghost use Rattle.aiger_text.specs.Grammar.{SpellsCircuit};
+ghost use Rattle.aiger_text.specs.Scan.{LineFault, AllGrounded, scan};
+ghost use Rattle.aiger_text.specs.declared.files.AagFile.{AagFile};
+
+/// A text spells one circuit file, or it has one first fault, and never both. The number of its first
+/// line says only which lines faults name.
+pub fn circuit_or_first_fault()
+    ensures exact { (text : List ℕ) (first : ℕ) (file : AagFile) → SpellsCircuit text file ↔ ((scan text first ≡ Ok file) × AllGrounded file.circuit) }
+    ensures unique { (text : List ℕ) (f g : AagFile) → SpellsCircuit text f → SpellsCircuit text g → f ≡ g }
+    ensures either { (text : List ℕ) (first : ℕ) → ((file : AagFile) × SpellsCircuit text file) ⊎ ((fault : LineFault) × IsFirstFault text first fault) }
+    ensures never_both { (text : List ℕ) (first : ℕ) (file : AagFile) (fault : LineFault) → SpellsCircuit text file → ¬ IsFirstFault text first fault }
+    ensures one_fault { (text : List ℕ) (first : ℕ) (f g : LineFault) → IsFirstFault text first f → IsFirstFault text first g → f ≡ g }
+{}
