@@ -69,7 +69,7 @@ pub fn push_natural(buf: &mut Vec<u8>, n: u64) -> Result<(), Memory>
     ensures ok { OnOk result (buf.new.items ≡ buf.old.items ++ decimal n) }
     ensures err { OnErr result (buf.new.items ≡ buf.old.items) }
 {
-    let mut buffer = Buffer::new();
-    buf.extend_from_slice(buffer.format(n).as_bytes())?;
+    let mut digits = Buffer::new();
+    buf.extend_from_slice(digits.format(n).as_bytes())?;
     Ok(())
 }
