@@ -1,4 +1,4 @@
--- Words of private contracts: how far a reading of the symbols has come, and what a reading answers.
+-- How far a reading of the symbols has come, a word of private contracts; and what `Bench::new` answers.
 use Rattle.std.specs.Prelude.{◌≡◌, ℕ, ◌==◌, Bool, List, Result, Ok, Err}
 use Rattle.std.specs.List.{list_any}
 use Rattle.dq_lits.specs.Row.{bit_of}
