@@ -1,5 +1,5 @@
 use super::*;
-use dq_lits::{Lit, Memory, Row};
+use dq_lits::{Clause, Lit, Memory, Row};
 use std::alloc::Global;
 use std::process::Abort;
 use std::test::Fail;
@@ -74,6 +74,27 @@ fn add_pair(rt: &impl Abort, f: &mut Formula, a: i64, b: i64) -> Result<(), Memo
     assert!(rt; f.clauses() < MAX_CLAUSES);
     assert!(rt; first.var() <= f.vars() && second.var() <= f.vars());
     f.add_clause(&[first, second])
+}
+
+fn add_clause(
+    rt: &impl Abort,
+    alloc: Global,
+    f: &mut Formula,
+    numbers: &[i64],
+) -> Result<(), Memory> {
+    let mut clause = Clause::new(alloc);
+    for number in numbers {
+        clause.push(literal(rt, *number))?;
+    }
+    assert!(rt; f.clauses() < MAX_CLAUSES);
+    assert!(rt; clause.lits().iter().all(|l| l.var() <= f.vars()));
+    f.add_clause(clause.lits())
+}
+
+fn holds_clause(rt: &impl Abort, f: &Formula, j: usize, numbers: &[i64]) -> bool {
+    assert!(rt; j < f.clauses());
+    let clause = f.clause(j);
+    clause.len() == numbers.len() && clause.iter().zip(numbers).all(|(l, number)| is(l, *number))
 }
 
 // Whether the clause at `j` is that of two literals.
@@ -176,10 +197,28 @@ fn check_agreement(rt: &impl Abort, f: &Formula, row: &Row, other: &Row) {
     assert!(rt; !same_on(rt, f, 4, row, other));
 }
 
-// p cnf 4 4 / a 1 2 3 0 / d 4 1 2 3 0: the whole row is seen.
-fn shows_whole_row(rt: &impl Abort, alloc: Global) -> Result<bool, Memory> {
+// p cnf 4 4 / a 1 2 3 0 / d 4 1 2 3 0 / -4 1 0 / -4 2 0 / -4 3 0 / 4 -1 -2 -3 0
+fn conjunction(rt: &impl Abort, alloc: Global) -> Result<Formula, Memory> {
     let prefix = [Step::Universals(&[1, 2, 3]), Step::Listed(4, &[1, 2, 3])];
-    let f = build(rt, alloc, 4, &prefix)?;
+    let mut f = build(rt, alloc, 4, &prefix)?;
+    for v in [1, 2, 3] {
+        add_pair(rt, &mut f, -4, v)?;
+    }
+    add_clause(rt, alloc, &mut f, &[4, -1, -2, -3])?;
+    Ok(f)
+}
+
+fn shows_conjunction(rt: &impl Abort, f: &Formula) -> bool {
+    holds_pair(rt, f, 0, -4, 1)
+        && holds_pair(rt, f, 1, -4, 2)
+        && holds_pair(rt, f, 2, -4, 3)
+        && holds_clause(rt, f, 3, &[4, -1, -2, -3])
+}
+
+// The whole row is seen.
+fn shows_whole_row(rt: &impl Abort, alloc: Global) -> Result<bool, Memory> {
+    let f = conjunction(rt, alloc)?;
+    assert!(rt; shows_conjunction(rt, &f));
     let row = row_of(rt, alloc, &[true, false, true])?;
     let old = row_of(rt, alloc, &[false, true, false])?;
     let out = restricted(rt, &f, 4, &row, &old)?;
