@@ -2,6 +2,7 @@
 use Rattle.std.proofs.Common.{◌≡◌, ℕ, zero, suc, ◌==◌, ◌^◌, ◌<◌, ◌≤◌, ◌||◌, Bool, true, false, if◌then◌else◌, List, [], ◌∷◌, ◌++◌, map, length, refl, sym, ◌∙◌, ap, arith, append_assoc, append-nil}
 use Rattle.std.specs.Fmt.{decimal}
 use Rattle.std.specs.List.{AllByRecursion, flat_map}
+use Rattle.std.proofs.lemmas.Grind.{flat_map-append}
 use Rattle.std.proofs.lemmas.Bool.{ne_eqb}
 use Rattle.std.proofs.lemmas.Fmt.{decimal_nonempty, digits_decimal}
 use Rattle.dq_lits.specs.Literal.{Literal, positive, negative, variable_of}
@@ -177,12 +178,6 @@ universals_lexemes (x ∷ xs) rest small =
     line_lexemes 97 (x ∷ xs) rest refl small
     ∙ ap (λ front. A ∷ (front ++ lexemes LineStart rest)) (sym (append-nil (numbers (x ∷ xs))))
 
-flat_map-append : (ps qs : List Part) → flat_map part_lexemes (ps ++ qs) ≡ flat_map part_lexemes ps ++ flat_map part_lexemes qs
-flat_map-append [] qs = refl
-flat_map-append (p ∷ ps) qs =
-    ap (λ more. part_lexemes p ++ more) (flat_map-append ps qs)
-    ∙ sym (append_assoc (part_lexemes p) (flat_map part_lexemes ps) (flat_map part_lexemes qs))
-
 pub record HasSmallNumbers (f : Dqbf) : Type 0 where
   pub variables : f.variables < 10 ^ 18
   pub clauses : length f.matrix < 10 ^ 18
@@ -206,4 +201,4 @@ canonical_lexemes f small =
     ∙ ap (λ more. head ++ (front ++ more)) (existentials_lexemes f.universals f.existentials cs small.existentials)
     ∙ ap (λ more. head ++ (front ++ (behind ++ more))) (clauses_lexemes f.matrix small.literals)
     ∙ ap (λ more. head ++ more) (sym (append_assoc front behind matrix))
-    ∙ ap (λ more. head ++ (more ++ matrix)) (sym (flat_map-append (universal_parts f.universals) (map (part_of f.universals) f.existentials)))
+    ∙ ap (λ more. head ++ (more ++ matrix)) (sym (flat_map-append part_lexemes (universal_parts f.universals) (map (part_of f.universals) f.existentials)))
