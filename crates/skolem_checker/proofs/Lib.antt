@@ -4,4 +4,8 @@ pub mod RowsLaws
 pub mod OntoLaws
 pub mod TablesLaws
 pub mod BenchLaws
+pub mod RenamingLaws
+pub mod NumberingLaws
+pub mod CopyingLaws
+pub mod OriginalLaws
 pub mod SkolemLaws

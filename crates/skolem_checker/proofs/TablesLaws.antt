@@ -24,7 +24,7 @@ use Rattle.skolem_checker.specs.Checks.{IsRow, RowHolds, RowFails}
 use Rattle.skolem_checker.specs.Tables.{AreTables, HasLiteral, ReadsByTables, circuit_assignment, AreRowBits, universal_places}
 use Rattle.skolem_checker.proofs.OntoLaws.{left-distinct}
 
-half-even : (w : ℕ) → 2 * w / 2 ≡ w
+pub half-even : (w : ℕ) → 2 * w / 2 ≡ w
 half-even w = omega arith
 
 rest-even : (w : ℕ) → 2 * w % 2 ≡ 0

@@ -6,20 +6,25 @@ use Rattle.circuit_plain.specs.Order.{IsOrder}
 use Rattle.skolem_checker.specs.Checks.{Candidate}
 use Rattle.skolem_checker.specs.Mapping.{Mapping}
 use Rattle.skolem_checker.specs.MappingReading.{mapping_in}
+use Rattle.skolem_checker.specs.Renaming.{renumbered}
 use Rattle.skolem_checker.specs.SkolemCircuit.{IsComplete}
-use Rattle.skolem_checker.specs.Tables.{AreTables, universal_places}
+use Rattle.skolem_checker.specs.Tables.{IsMapping, AreTables, universal_places}
 use Rattle.skolem_checker.specs.declared.bench.Bench.TheInside.{Inside}
 
-pub record IsReady (f : Dqbf) (net : Netlist) (mapping : Mapping) (order literals places by_input : List ℕ) (marks bits values : List Bool) : Type 0 where
+-- the circuit is complete and mapped; order, tables and buffers are those of its renumbered copy
+pub record IsReady (f : Dqbf) (net copy : Netlist) (mapping : Mapping) (order literals places by_input : List ℕ) (marks bits values : List Bool) : Type 0 where
   pub formed : IsWellFormed f
   pub complete : IsComplete net
   pub kept : IsNetlist net
-  pub ordered : IsOrder net order
-  pub tables : AreTables f net mapping literals places
+  pub mapped : IsMapping f net mapping
+  pub copied : copy ≡ renumbered net
+  pub copy_kept : IsNetlist copy
+  pub ordered : IsOrder copy order
+  pub tables : AreTables f copy mapping literals places
   pub by_input_is : by_input ≡ universal_places f mapping
-  pub a_mark_a_variable : length marks ≡ net.max_var + 1
-  pub a_bit_an_input : length bits ≡ length net.inputs
-  pub a_value_a_variable : length values ≡ net.max_var + 1
+  pub a_mark_a_variable : length marks ≡ copy.max_var + 1
+  pub a_bit_an_input : length bits ≡ length copy.inputs
+  pub a_value_a_variable : length values ≡ copy.max_var + 1
 
 abbrev pub candidate_in : Inside → Candidate
 candidate_in b = record {
@@ -29,5 +34,5 @@ candidate_in b = record {
 
 abbrev pub is_ready : Inside → Type 0
 is_ready b =
-    IsReady b.formula.now b.circuit.now (mapping_in b.mapped) b.order b.literals.items b.places.items b.universal_places.items
+    IsReady b.formula.now b.circuit.now b.copy (mapping_in b.mapped) b.order b.literals.items b.places.items b.universal_places.items
     b.marks b.bits b.values

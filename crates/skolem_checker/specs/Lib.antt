@@ -3,4 +3,5 @@ pub mod MappingReading
 pub mod Checks
 pub mod SkolemCircuit
 pub mod Tables
+pub mod Renaming
 pub mod BenchInside

@@ -7,6 +7,7 @@ ghost use Rattle.skolem_checker.specs.SkolemCircuit.{IsComplete, ReadsUniversal}
 
 use crate::mapping::{BenchStop, Mapped, read_mapping};
 use crate::reads::undeclared_read;
+use crate::renumbering::renumbered;
 use crate::rows::first_bad_row;
 use crate::tables::{literal_table, place_table, universal_places};
 use aiger_text::AagFile;
@@ -20,7 +21,9 @@ use std::marker::Model;
 #[derive(Debug, Drop)]
 pub struct Bench<'a> {
     formula: &'a Formula,
+    // What the contracts speak of; the tests run on its copy, whose variables have the least numbers.
     circuit: &'a Circuit,
+    copy: Circuit,
     order: Order,
     mapped: Mapped,
     // By variable, the literal of a universal's input or of an existential's output.
@@ -69,16 +72,18 @@ impl<'a> Bench<'a> {
     {
         let circuit = &a.circuit;
         let mapped = read_mapping(alloc, f, a)?;
-        let order = ordered(circuit)?;
-        let literals = literal_table(alloc, f, circuit, &mapped)?;
-        let places = place_table(alloc, f, circuit, &mapped)?;
+        let copy = renumbered(alloc, circuit)?;
+        let order = ordered(&copy)?;
+        let literals = literal_table(alloc, f, &copy, &mapped)?;
+        let places = place_table(alloc, f, &copy, &mapped)?;
         let universal_places = universal_places(alloc, f, &mapped.inputs)?;
-        let marks = Row::new(alloc, circuit.max_var() as usize + 1)?;
-        let values = Row::new(alloc, circuit.max_var() as usize + 1)?;
-        let bits = Row::new(alloc, circuit.inputs().len())?;
+        let marks = Row::new(alloc, copy.max_var() as usize + 1)?;
+        let values = Row::new(alloc, copy.max_var() as usize + 1)?;
+        let bits = Row::new(alloc, copy.inputs().len())?;
         Ok(Bench {
             formula: f,
             circuit,
+            copy,
             order,
             mapped,
             literals,
@@ -99,7 +104,7 @@ impl<'a> Bench<'a> {
     {
         undeclared_read(
             self.formula,
-            self.circuit,
+            &self.copy,
             &self.order,
             &self.literals,
             &self.places,
@@ -117,7 +122,7 @@ impl<'a> Bench<'a> {
     {
         first_bad_row(
             self.formula,
-            self.circuit,
+            &self.copy,
             &self.order,
             &self.literals,
             &self.universal_places,

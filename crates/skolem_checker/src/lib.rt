@@ -12,5 +12,6 @@ mod bench;
 pub mod laws;
 mod mapping;
 mod reads;
+mod renumbering;
 mod rows;
 mod tables;

@@ -1,0 +1,13 @@
+use Rattle.std.proofs.Common.{length, ap, arith}
+use Rattle.skolem_checker.proofs.NumberingLaws.{known_length, few_known}
+use Rattle.skolem_checker.proofs.renumbering.renumbered.Goals as goal
+
+pub new-copy-requires : goal.new-copy-requires
+new-copy-requires c =
+    omega (
+      arith,
+      c.len.ensures.len,
+      ap length c.in_ok-known.ensures,
+      known_length c.args.circuit.now,
+      few_known c.args.circuit.now c.max_var.ensures.kept,
+    )
