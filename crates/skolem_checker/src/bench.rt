@@ -21,12 +21,13 @@ use std::marker::Model;
 #[derive(Debug, Drop)]
 pub struct Bench<'a> {
     formula: &'a Formula,
-    // What the contracts speak of; the tests run on its copy, whose variables have the least numbers.
+    // The circuit that is tested. Its largest variable may be far beyond its lines, so that the tests run on a copy
+    // with the least numbers: order, literals and rows by variable are the copy's.
     circuit: &'a Circuit,
     copy: Circuit,
     order: Order,
     mapped: Mapped,
-    // By variable, the literal of a universal's input or of an existential's output.
+    // By variable of the formula, the literal of a universal's input or of an existential's output.
     literals: Vec<u64>,
     // By existential, the place of its output.
     places: Vec<u64>,
@@ -63,8 +64,8 @@ fn ordered(circuit: &Circuit) -> Result<Order, Memory>
 
 impl<'a> Bench<'a> {
     /// Maps the circuit's inputs to the formula's universals and its outputs to the existentials, and takes all the
-    /// memory that the tests need. A fault of the mapping is the first one: the counts, then each input, then each
-    /// output.
+    /// memory that the tests need: by the circuit's lines and the formula, whatever the circuit's largest variable. A
+    /// fault of the mapping is the first one: the counts, then each input, then each output.
     pub fn new(alloc: Global, f: &'a Formula, a: &'a AagFile) -> Result<Bench<'a>, BenchStop>
         requires well_formed { IsWellFormed f.now }
         requires complete { IsComplete a.now.circuit }
