@@ -1,0 +1,5 @@
+pub mod Assigning
+pub mod Assuming
+pub mod Extending
+pub mod Hinting
+pub mod Holding
