@@ -20,7 +20,7 @@ status_of-same xs ys (Some clause) same =
     ap (status_by xs) (filter-same (λ l. not (holds xs (opposite l))) (λ l. not (holds ys (opposite l))) (λ l. ap not (same (opposite l))) clause)
     ∙ status_by-same xs ys (filter (λ l. not (holds ys (opposite l))) clause) same
 
-fault_by-same : (s : Status) (place : ℕ) (hints : List ℕ) (f g : Literal → Option ℕ) → ((l : Literal) → f l ≡ g l) → fault_by s place hints f ≡ fault_by s place hints g
+pub fault_by-same : (s : Status) (place : ℕ) (hints : List ℕ) (f g : Literal → Option ℕ) → ((l : Literal) → f l ≡ g l) → fault_by s place hints f ≡ fault_by s place hints g
 fault_by-same falsified place [] f g same = refl
 fault_by-same falsified place (_ ∷ _) f g same = refl
 fault_by-same (unit l) place hints f g same = same l

@@ -1,5 +1,7 @@
 pub mod Assigned
 pub mod Extension
+pub mod Growth
+pub mod ProofVerdict
 pub mod Range
 pub mod Reading
 pub mod Table

@@ -4,7 +4,7 @@ ghost use Rattle.rup_core.specs.Reading.{clause_size, literal_at};
 
 use dq_lits::Lit;
 
-/// Clauses with ids, read a literal at a time.
+/// Clauses with ids, read a literal at a time: a hint takes one call of `size`, and one of `lit` for each literal.
 pub trait Base {
     /// The clauses that have an id.
     ghost clauses: { Self → LiveClauses };

@@ -9,9 +9,11 @@
 pub use bases::Base;
 pub use derivation::{Derived, derive};
 pub use marks::Marks;
+pub use steps::{ProofFault, Steps, first_fault};
 
 mod bases;
 mod derivation;
 mod marks;
 mod statuses;
+mod steps;
 mod trails;
