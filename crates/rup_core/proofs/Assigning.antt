@@ -1,0 +1,178 @@
+-- A table of values, where a literal is made true and where all are taken back.
+use Rattle.std.proofs.Common.{◌≡◌, ◌≢◌, ℕ, zero, suc, ◌+◌, ◌<◌, ◌≤◌, Bool, true, false, not, cond, ◌||◌, inl, inr, List, [], ◌∷◌, ◌++◌, reverse, length, drop, set, get_or, count_by, refl, sym, ◌∙◌, ap, subst, arith, length-append, get_or-set_other, get_or-set_same}
+use Rattle.std.specs.List.{All}
+use Rattle.std.proofs.lemmas.Bool.{cases_eq, eq-eqb, or_left}
+use Rattle.std.proofs.lemmas.List.{drop_all, length-set, reverse-append}
+use Rattle.std.proofs.lemmas.List.Elements.{All-append, All-from_get_or}
+use Rattle.std.proofs.lemmas.List.Sums.{sum_by-set, count_by-le-length}
+use Rattle.std.proofs.lemmas.List.Sorted.{list_any-IsPermutation, IsPermutation-reverse}
+use Rattle.dq_lits.specs.Literal.{Literal, positive, negative, variable_of, is_negative, opposite, same_literal}
+use Rattle.dq_lits.specs.Derivation.{holds}
+use Rattle.rup_core.specs.Range.{StandsWithin}
+use Rattle.rup_core.specs.Table.{IsTold, Tells, StandsOnlyOn, is_assigned}
+use Rattle.rup_core.specs.Truth.{literal_value}
+use Rattle.rup_core.specs.declared.trails.TruthValue.{TruthValue}
+use Rattle.rup_core.specs.declared.trails.TruthValue.TheVariants.{True, False, Unassigned}
+use Rattle.rup_core.proofs.Holding.{other_positive, other_negative, value_free}
+
+told_free : (t : TruthValue) (p n : Bool) → IsTold t p n → p ≡ false → n ≡ false → t ≡ Unassigned
+told_free True p n h x y = cc
+told_free False p n h x y = cc
+told_free Unassigned p n h x y = refl
+
+told_along : (t : TruthValue) (a b c d : Bool) → a ≡ b → c ≡ d → IsTold t b d → IsTold t a c
+told_along True a b c d e f h = (e ∙ h.0, f ∙ h.1)
+told_along False a b c d e f h = (e ∙ h.0, f ∙ h.1)
+told_along Unassigned a b c d e f h = (e ∙ h.0, f ∙ h.1)
+
+-- an unassigned literal's variable has no value
+pub free_at : (values : List TruthValue) (trues : List Literal) (l : Literal) (i : ℕ) → Tells values trues → variable_of l ≡ suc i → i < length values →
+    holds trues l ≡ false → holds trues (opposite l) ≡ false → get_or values i Unassigned ≡ Unassigned
+free_at values trues (positive v) i told e lt h o =
+    told_free (get_or values i Unassigned) (holds trues (positive (suc i))) (holds trues (negative (suc i))) (told i lt)
+    (ap (λ w. holds trues (positive w)) (sym e) ∙ h) (ap (λ w. holds trues (negative w)) (sym e) ∙ o)
+free_at values trues (negative v) i told e lt h o =
+    told_free (get_or values i Unassigned) (holds trues (positive (suc i))) (holds trues (negative (suc i))) (told i lt)
+    (ap (λ w. holds trues (positive w)) (sym e) ∙ o) (ap (λ w. holds trues (negative w)) (sym e) ∙ h)
+
+-- the value of the variable of a literal that is true
+abbrev pub value_where_true : Literal → TruthValue
+value_where_true l = cond (not (is_negative l)) True False
+
+told_here : (trues : List Literal) (l : Literal) (i : ℕ) → variable_of l ≡ suc i → holds trues (opposite l) ≡ false →
+    IsTold (value_where_true l) (holds (l ∷ trues) (positive (suc i))) (holds (l ∷ trues) (negative (suc i)))
+told_here trues (positive v) i e o = (
+  or_left (same_literal (positive (suc i)) (positive v)) (holds trues (positive (suc i))) (eq-eqb (suc i) v (sym e)),
+  ap (λ w. holds trues (negative w)) (sym e) ∙ o,
+)
+told_here trues (negative v) i e o = (
+  ap (λ w. holds trues (positive w)) (sym e) ∙ o,
+  or_left (same_literal (negative (suc i)) (negative v)) (holds trues (negative (suc i))) (eq-eqb (suc i) v (sym e)),
+)
+
+pub tells_more : (values : List TruthValue) (trues : List Literal) (l : Literal) (i : ℕ) → Tells values trues → variable_of l ≡ suc i → i < length values →
+    holds trues (opposite l) ≡ false → Tells (set values i (value_where_true l)) (l ∷ trues)
+tells_more values trues l i told e lt o j lt' =
+    elim (cases_eq j i) [
+      | inl same ↦
+          let P : ℕ → Type 0 = λ n. IsTold (get_or (set values i (value_where_true l)) n Unassigned) (holds (l ∷ trues) (positive (suc n))) (holds (l ∷ trues) (negative (suc n))) in
+          let Q : TruthValue → Type 0 = λ t. IsTold t (holds (l ∷ trues) (positive (suc i))) (holds (l ∷ trues) (negative (suc i))) in
+          let read : get_or (set values i (value_where_true l)) i Unassigned ≡ value_where_true l = get_or-set_same values i (value_where_true l) Unassigned lt in
+          subst P (sym same) (subst Q (sym read) (told_here trues l i e o))
+      | inr other ↦
+          let ne : suc j ≢ variable_of l = λ h. other (omega (arith, h ∙ e)) in
+          let Q : TruthValue → Type 0 = λ t. IsTold t (holds (l ∷ trues) (positive (suc j))) (holds (l ∷ trues) (negative (suc j))) in
+          let read : get_or (set values i (value_where_true l)) j Unassigned ≡ get_or values j Unassigned = rw get_or-set_other refl in
+          let in_range : j < length values = omega (arith, length-set values i (value_where_true l)) in
+          subst Q (sym read)
+          (told_along (get_or values j Unassigned) (holds (l ∷ trues) (positive (suc j))) (holds trues (positive (suc j)))
+          (holds (l ∷ trues) (negative (suc j))) (holds trues (negative (suc j)))
+          (ap (λ b. b || holds trues (positive (suc j))) (other_positive (suc j) l ne))
+          (ap (λ b. b || holds trues (negative (suc j))) (other_negative (suc j) l ne)) (told j in_range))
+    ]
+
+pub one_more_counted : (values : List TruthValue) (i : ℕ) (t : TruthValue) → i < length values → get_or values i Unassigned ≡ Unassigned → is_assigned t ≡ true →
+    count_by is_assigned (set values i t) ≡ count_by is_assigned values + 1
+one_more_counted values i t lt free one =
+    let step = sum_by-set (λ x. cond (is_assigned x) 1 0) values i t Unassigned lt in
+    let size : Bool → ℕ = λ b. cond b 1 0 in
+    let here : size (is_assigned (get_or values i Unassigned)) ≡ size false = ap (λ x. size (is_assigned x)) free in
+    let there : size (is_assigned t) ≡ size true = ap size one in
+    omega (arith, step, here, there)
+
+-- where a variable has no value, the literals made true are fewer than the variables
+pub room_left : (values : List TruthValue) (i : ℕ) → i < length values → get_or values i Unassigned ≡ Unassigned → count_by is_assigned values < length values
+room_left values i lt free =
+    let more = one_more_counted values i True lt free refl in
+    let most = count_by-le-length is_assigned (set values i True) in
+    omega (arith, more, most, length-set values i True)
+
+holds-reverse : (literals : List Literal) (l : Literal) → holds literals l ≡ false → holds (reverse literals) l ≡ false
+holds-reverse literals l h = sym (list_any-IsPermutation (same_literal l) literals (reverse literals) (IsPermutation-reverse literals)) ∙ h
+
+-- all values are those of the literals made true
+pub told_only : (values : List TruthValue) (literals : List Literal) → Tells values (reverse literals) → StandsOnlyOn values literals
+told_only values literals told i lt p n =
+    told_free (get_or values i Unassigned) (holds (reverse literals) (positive (suc i))) (holds (reverse literals) (negative (suc i))) (told i lt)
+    (holds-reverse literals (positive (suc i)) p) (holds-reverse literals (negative (suc i)) n)
+
+pub one_taken_back : (values : List TruthValue) (l : Literal) (rest : List Literal) (i : ℕ) → variable_of l ≡ suc i → i < length values →
+    StandsOnlyOn values (l ∷ rest) → StandsOnlyOn (set values i Unassigned) rest
+one_taken_back values l rest i e lt only j lt' p n =
+    elim (cases_eq j i) [
+      | inl same ↦
+          let P : ℕ → Type 0 = λ m. get_or (set values i Unassigned) m Unassigned ≡ Unassigned in
+          subst P (sym same) (get_or-set_same values i Unassigned Unassigned lt)
+      | inr other ↦
+          let ne : suc j ≢ variable_of l = λ h. other (omega (arith, h ∙ e)) in
+          let read : get_or (set values i Unassigned) j Unassigned ≡ get_or values j Unassigned = rw get_or-set_other refl in
+          let in_range : j < length values = omega (arith, length-set values i Unassigned) in
+          read ∙ only j in_range (ap (λ b. b || holds rest (positive (suc j))) (other_positive (suc j) l ne) ∙ p)
+          (ap (λ b. b || holds rest (negative (suc j))) (other_negative (suc j) l ne) ∙ n)
+    ]
+
+All-single : {X : Type 0} (P : X → Type 0) (x : X) → P x → All P (x ∷ [])
+All-single P x here = All-from_get_or P (x ∷ []) x (λ i lt. at i lt)
+  where
+    at : (i : ℕ) → i < length (x ∷ []) → P (get_or (x ∷ []) i x)
+    at zero h = here
+    at (suc i) h = absurd (omega arith)
+
+-- a table without values tells that nothing is true
+pub tells_none : (values : List TruthValue) → All (λ value. value ≡ Unassigned) values → Tells values []
+tells_none values none i lt =
+    let P : TruthValue → Type 0 = λ t. IsTold t false false in
+    subst P (sym (none i Unassigned lt)) (refl, refl)
+
+-- no literal is left whose variable has a value
+pub all_taken_back : (values : List TruthValue) (literals : List Literal) (n : ℕ) → length literals ≤ n → StandsOnlyOn values (drop n literals) →
+    All (λ value. value ≡ Unassigned) values
+all_taken_back values literals n all only =
+    let none : drop n literals ≡ [] = drop_all n literals all in
+    let P : List Literal → Type 0 = λ ls. StandsOnlyOn values ls in
+    let left : StandsOnlyOn values [] = subst P none only in
+    All-from_get_or (λ value. value ≡ Unassigned) values Unassigned (λ i lt. left i lt refl refl)
+
+-- a literal fewer than the variables is true before one more is made true
+pub assign_room : (values : List TruthValue) (literals : List Literal) (l : Literal) (i : ℕ) → Tells values (reverse literals) →
+    length literals ≤ count_by is_assigned values → variable_of l ≡ suc i → i < length values →
+    literal_value (reverse literals) l ≡ Unassigned → length literals < length values
+assign_room values literals l i told counted e lt free =
+    let f = value_free (reverse literals) l free in
+    let at = free_at values (reverse literals) l i told e lt f.0 f.1 in
+    let room = room_left values i lt at in
+    omega (arith, counted, room)
+
+pub assign_counted : (values : List TruthValue) (literals more : List Literal) (l : Literal) (i : ℕ) (t : TruthValue) → Tells values (reverse literals) →
+    length literals ≤ count_by is_assigned values → variable_of l ≡ suc i → i < length values →
+    literal_value (reverse literals) l ≡ Unassigned → t ≡ value_where_true l → more ≡ literals ++ l ∷ [] → length more ≤ count_by is_assigned (set values i t)
+assign_counted values literals more l i t told counted e lt free is longer =
+    let f = value_free (reverse literals) l free in
+    let at = free_at values (reverse literals) l i told e lt f.0 f.1 in
+    let one = one_more_counted values i t lt at (ap is_assigned is ∙ has_value l) in
+    let long : length more ≡ length literals + length (l ∷ []) = ap length longer ∙ length-append literals (l ∷ []) in
+    omega (arith, counted, one, long)
+  where
+    has_value : (k : Literal) → is_assigned (value_where_true k) ≡ true
+    has_value (positive v) = refl
+    has_value (negative v) = refl
+
+pub assign_told : (values : List TruthValue) (literals more : List Literal) (l : Literal) (i : ℕ) (t : TruthValue) → Tells values (reverse literals) →
+    variable_of l ≡ suc i → i < length values →
+    literal_value (reverse literals) l ≡ Unassigned → t ≡ value_where_true l → more ≡ literals ++ l ∷ [] → Tells (set values i t) (reverse more)
+assign_told values literals more l i t told e lt free is longer =
+    let f = value_free (reverse literals) l free in
+    let P : TruthValue → Type 0 = λ v. Tells (set values i v) (reverse more) in
+    let Q : List Literal → Type 0 = λ ls. Tells (set values i (value_where_true l)) ls in
+    let newest : reverse more ≡ l ∷ reverse literals = ap reverse longer ∙ reverse-append literals (l ∷ []) in
+    subst P (sym is) (subst Q (sym newest) (tells_more values (reverse literals) l i told e lt f.1))
+
+pub assign_in_range : (values : List TruthValue) (literals more : List Literal) (l : Literal) (i : ℕ) (t : TruthValue) → StandsWithin (length values) literals →
+    variable_of l ≡ suc i → i < length values → more ≡ literals ++ l ∷ [] → StandsWithin (length (set values i t)) more
+assign_in_range values literals more l i t within e lt longer =
+    let P : ℕ → Type 0 = λ n. StandsWithin n more in
+    let Q : List Literal → Type 0 = λ ls. StandsWithin (length values) ls in
+    let R : ℕ → Type 0 = λ v. v ≤ length values in
+    let here : variable_of l ≤ length values = subst R (sym e) lt in
+    let single : StandsWithin (length values) (l ∷ []) = All-single (λ k. variable_of k ≤ length values) l here in
+    subst P (sym (length-set values i t)) (subst Q (sym longer) (All-append (λ k. variable_of k ≤ length values) literals (l ∷ []) within single))

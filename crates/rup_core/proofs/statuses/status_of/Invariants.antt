@@ -1,0 +1,9 @@
+use Rattle.rup_core.specs.Extension.{seen, UnitIsFree}
+use Rattle.rup_core.proofs.Extending.{IsStatusBefore}
+use Rattle.rup_core.proofs.statuses.status_of.Given as goal
+
+abbrev pub invariant-loop-i : goal.invariant-loop-i
+invariant-loop-i g l = record {
+  read : IsStatusBefore l.trail.trues (g.B.Base.clauses l.base l.id) l.i (seen l.status);
+  free : UnitIsFree l.trail (seen l.status);
+}

@@ -1,0 +1,10 @@
+pub mod Assigned
+pub mod Extension
+pub mod Growth
+pub mod ProofVerdict
+pub mod Range
+pub mod Reading
+pub mod Table
+pub mod TrailInside
+pub mod Truth
+pub mod Verdict

@@ -1,0 +1,93 @@
+ghost use Rattle.std.specs.Prelude.{◌≡◌, ◌≤◌, true, [], All, IfSome, not, map};
+ghost use Rattle.dq_lits.specs.Literal.{opposite};
+ghost use Rattle.dq_lits.specs.Derivation.{line_fault, hint_fault, is_tautology};
+ghost use Rattle.rup_core.specs.Range.{StandsWithin, LineStandsWithin};
+ghost use Rattle.rup_core.specs.Verdict.{fault_in};
+ghost use Rattle.rup_core.specs.Truth.{AreSame};
+
+use crate::bases::Base;
+use crate::marks::Marks;
+use crate::statuses::{Status, status_of};
+use crate::trails::{Trail, TruthValue};
+use dq_lits::Lit;
+
+/// Whether a line is derived.
+#[derive(Clone, Copy, Debug, PartialEq, Eq)]
+pub enum Derived {
+    /// Each hint but the last propagates, and the last one is falsified.
+    Yes,
+    /// The place of the first hint at fault, counted from 1: one behind the last where all hints propagate and none is
+    /// falsified, and 0 where the line holds a literal beside its negation.
+    No(usize),
+}
+
+/// Whether a line is derived by its hints from the clauses of a base, or the place of its fault. There are marks for
+/// every variable of the line and of the clauses that it hints; a hint may also be an id that no clause has.
+///
+/// It takes time in proportion to the line and the clauses that it hints, and no memory. Afterwards no variable is
+/// marked, whatever the answer is.
+pub fn derive<B: Base>(marks: &mut Marks, lits: &[Lit], hints: &[u64], base: &B) -> Derived
+    requires { LineStandsWithin marks.old (B.clauses base.now) lits.now hints.now }
+    ensures same { marks.new ≡ marks.old }
+    ensures answer { fault_in result ≡ line_fault (B.clauses base.now) lits.now hints.now }
+{
+    let fault = line_fault(&mut marks.trail, lits, hints, base);
+    marks.trail.clear();
+    match fault {
+        None => Derived::Yes,
+        Some(place) => Derived::No(place),
+    }
+}
+
+// The place of a line's fault. The literals that were made true stay so.
+fn line_fault<B: Base>(trail: &mut Trail, lits: &[Lit], hints: &[u64], base: &B) -> Option<usize>
+    requires clear { trail.old.trues ≡ [] }
+    requires in_range { LineStandsWithin trail.old.variables (B.clauses base.now) lits.now hints.now }
+    ensures variables { trail.new.variables ≡ trail.old.variables }
+    ensures fault { result ≡ line_fault (B.clauses base.now) lits.now hints.now }
+{
+    if !assume_false(trail, lits) {
+        return Some(0);
+    }
+    hint_fault(trail, hints, base)
+}
+
+// Makes all these literals false, unless one stands beside its negation.
+fn assume_false(trail: &mut Trail, lits: &[Lit]) -> bool
+    requires clear { trail.old.trues ≡ [] }
+    requires in_range { StandsWithin trail.old.variables lits.now }
+    ensures variables { trail.new.variables ≡ trail.old.variables }
+    ensures consistent { result ≡ not (is_tautology lits.now) }
+    ensures assumed { result ≡ true → AreSame trail.new.trues (map opposite lits.now) }
+{
+    for l in lits {
+        match trail.value(*l) {
+            TruthValue::False => {}
+            TruthValue::True => return false,
+            TruthValue::Unassigned => trail.assign(l.not()),
+        }
+    }
+    true
+}
+
+// The place of the first hint at fault, or one behind the last. The literals that were made true stay so.
+fn hint_fault<B: Base>(trail: &mut Trail, hints: &[u64], base: &B) -> Option<usize>
+    requires { All (λ id. IfSome (B.clauses base.now id) (StandsWithin trail.old.variables)) hints.now }
+    ensures variables { trail.new.variables ≡ trail.old.variables }
+    ensures fault { result ≡ hint_fault (B.clauses base.now) trail.old.trues 1 hints.now }
+{
+    for (i, hint) in hints.iter().enumerate() {
+        match status_of(base, *hint, trail) {
+            Status::Unit(l) => trail.assign(l),
+            Status::Falsified => {
+                return if i + 1 < hints.len() {
+                    Some(i + 1)
+                } else {
+                    None
+                };
+            }
+            Status::Stuck => return Some(i + 1),
+        }
+    }
+    Some(hints.len() + 1)
+}
