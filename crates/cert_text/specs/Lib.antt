@@ -1,1 +1,9 @@
+pub mod Header
 pub mod Kind
+pub mod LineStop
+pub mod Numbers
+pub mod Pairs
+pub mod ReaderState
+pub mod RowLine
+pub mod StepLine
+pub mod StepNumbers

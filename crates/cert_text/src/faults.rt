@@ -1,5 +1,6 @@
 ghost use Rattle.std.specs.Prelude.{◌≡◌};
 ghost use Rattle.cert_text.specs.declared.faults.CertStop.TheVariants.{Refused, Memory as OutOfMemory};
+ghost use Rattle.cert_text.specs.declared.faults.LineStop.TheVariants.{Fault, Memory as LineOutOfMemory};
 
 use dq_lits::Memory;
 use thiserror::Error;
@@ -58,5 +59,30 @@ impl From<CertRefusal> for CertStop {
 
     fn from(refusal: CertRefusal) -> CertStop {
         CertStop::Refused(refusal)
+    }
+}
+
+/// Why a line stopped the reading.
+#[derive(Clone, Copy, Debug, PartialEq, Eq, Error)]
+pub enum LineStop {
+    #[error("{0:?}")]
+    Fault(CertFault),
+    #[error("out of memory")]
+    Memory,
+}
+
+impl From<Memory> for LineStop {
+    ghost from_gives = { λ _ stop. stop ≡ LineOutOfMemory };
+
+    fn from(_refused: Memory) -> LineStop {
+        LineStop::Memory
+    }
+}
+
+impl From<CertFault> for LineStop {
+    ghost from_gives = { λ fault stop. stop ≡ Fault fault };
+
+    fn from(fault: CertFault) -> LineStop {
+        LineStop::Fault(fault)
     }
 }

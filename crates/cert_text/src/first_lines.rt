@@ -1,12 +1,12 @@
 //! The lines of a certificate up to its header line.
 
 ghost use Rattle.std.specs.Prelude.{◌≡◌, codes};
-ghost use Rattle.std.specs.Str.{bytes_eq};
 ghost use Rattle.dq_text.specs.Line.{line_tokens};
 ghost use Rattle.cert_text.specs.Kind.{verdict_of_word, stated_verdict, shown_verdict, kind_at, header_kind, agreeing, certificate_kind};
 
 use crate::faults::{CertFault, CertRefusal};
 use crate::kinds::{Kind, Verdict};
+use crate::words::is_word;
 use dq_text::{LineTokens, Lines};
 
 /// Which kind a certificate is, and where its header line begins. It takes no memory.
@@ -39,12 +39,6 @@ fn bad_header(line: u64) -> CertRefusal
         line,
         name: CertFault::BadHeader,
     }
-}
-
-fn is_word(text: &[u8], word: &[u8]) -> bool
-    ensures { result ≡ bytes_eq text.now word.now }
-{
-    text == word
 }
 
 // The verdict that a line states, if it is an `s` line.

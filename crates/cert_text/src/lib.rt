@@ -4,7 +4,17 @@
 pub use faults::{CertFault, CertRefusal, CertStop};
 pub use first_lines::kind;
 pub use kinds::Kind;
+pub use refutations::Dqr;
+pub use steps::{Step, StepList};
 
 mod faults;
 mod first_lines;
+mod headers;
 mod kinds;
+mod numbers;
+mod pairs;
+mod refutations;
+mod row_lines;
+mod step_lines;
+mod steps;
+mod words;
