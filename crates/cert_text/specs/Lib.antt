@@ -5,5 +5,6 @@ pub mod Numbers
 pub mod Pairs
 pub mod ReaderState
 pub mod RowLine
+pub mod Scan
 pub mod StepLine
 pub mod StepNumbers

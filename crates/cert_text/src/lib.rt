@@ -4,6 +4,7 @@
 pub use faults::{CertFault, CertRefusal, CertStop};
 pub use first_lines::kind;
 pub use kinds::Kind;
+pub use reader::read_dqr;
 pub use refutations::Dqr;
 pub use steps::{Step, StepList};
 
@@ -13,6 +14,7 @@ mod headers;
 mod kinds;
 mod numbers;
 mod pairs;
+mod reader;
 mod refutations;
 mod row_lines;
 mod step_lines;
