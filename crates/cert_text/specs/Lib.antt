@@ -1,3 +1,4 @@
+pub mod Canonical
 pub mod Header
 pub mod Kind
 pub mod LineStop

@@ -7,6 +7,7 @@ pub use kinds::Kind;
 pub use reader::read_dqr;
 pub use refutations::Dqr;
 pub use steps::{Step, StepList};
+pub use writer::write_dqr;
 
 mod faults;
 mod first_lines;
@@ -20,3 +21,4 @@ mod row_lines;
 mod step_lines;
 mod steps;
 mod words;
+mod writer;
