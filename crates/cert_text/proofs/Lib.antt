@@ -1,2 +1,10 @@
 pub mod Checks
+pub mod HeaderSpelling
+pub mod Integers
+pub mod LineTokens
+pub mod Parts
+pub mod ReadIsSpelled
+pub mod RowSpelling
+pub mod SpelledIsRead
+pub mod StepSpelling
 pub mod Writing

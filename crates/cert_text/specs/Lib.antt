@@ -1,4 +1,5 @@
 pub mod Canonical
+pub mod Grammar
 pub mod Header
 pub mod Kind
 pub mod LineStop

@@ -13,6 +13,7 @@ mod faults;
 mod first_lines;
 mod headers;
 mod kinds;
+pub mod laws;
 mod numbers;
 mod pairs;
 mod reader;
