@@ -244,3 +244,9 @@ read_is_spelled text first f d read =
       steps_spelled = l.steps;
       allowed = l.allowed;
     }
+
+-- at the end of the text
+pub read_to_end : (text : List ℕ) (first : ℕ) (f : Dqbf) (c : Counts) (d : Dqr) (rest : List ℕ) (number : ℕ) →
+    refutation_of f text first ≡ read_body f c d (lines_from number rest) number → rest ≡ [] → next_part c d ≡ BlankLine → IsDqrOf f d
+read_to_end text first f c d rest number same end part =
+    (read_is_spelled text first f d (same ∙ ap (λ bytes. read_body f c d (lines_from number bytes) number) end ∙ ap (λ p. at_end p d number) part)).allowed

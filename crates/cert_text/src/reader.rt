@@ -1,7 +1,8 @@
 //! Reading a refutation.
 
-ghost use Rattle.std.specs.Prelude.{◌≡◌, ◌+◌, ◌<◌, ◌^◌, true, false, length, OnOk, MatchResult};
+ghost use Rattle.std.specs.Prelude.{◌≡◌, ◌+◌, ◌<◌, ◌^◌, true, false, length, IfOk, OnOk, MatchResult};
 ghost use Rattle.dq_text.specs.Line.{line_tokens};
+ghost use Rattle.cert_text.specs.Grammar.{IsDqrOf};
 ghost use Rattle.cert_text.specs.LineStop.{IsMadeOf};
 ghost use Rattle.cert_text.specs.ReaderState.{AreSmall, IsReady, StopsAt, read_so_far};
 ghost use Rattle.cert_text.specs.Scan.{first_id, has_no_token, next_part, nothing_read, read_line, read_part, refutation_of, IsReading};
@@ -41,7 +42,8 @@ pub enum Part {
 /// exactly the refutation that the text spells, or its first fault by line and name.
 pub fn read_dqr(alloc: Global, bytes: &[u8], first: u64, f: &Formula) -> Result<Dqr, CertStop>
     requires { first + length bytes.now < 2 ^ 64 }
-    ensures { IsReading (refutation_of f.now bytes.now first) result }
+    ensures reading { IsReading (refutation_of f.now bytes.now first) result }
+    ensures allowed { IfOk result (IsDqrOf f.now) }
 {
     let mut lines = Lines::new(bytes, first);
     let Some(line) = lines.next() else {
