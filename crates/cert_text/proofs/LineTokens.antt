@@ -9,7 +9,7 @@ by_tokens lines = map (λ line. line_tokens line.text) lines
 abbrev texts : List TextLine → List (List ℕ)
 texts lines = map (λ line. line.text) lines
 
-abbrev extend_text : ℕ → List (List ℕ) → List (List ℕ)
+abbrev pub extend_text : ℕ → List (List ℕ) → List (List ℕ)
 extend_text byte [] = (byte ∷ []) ∷ []
 extend_text byte (text ∷ rest) = (byte ∷ text) ∷ rest
 
@@ -18,7 +18,7 @@ extended byte n [] = refl
 extended byte n (line ∷ lines) = refl
 
 -- the texts of the lines, without their numbers
-abbrev texts_of : List ℕ → List (List ℕ)
+abbrev pub texts_of : List ℕ → List (List ℕ)
 texts_of [] = []
 texts_of (byte ∷ bytes) = cond (byte == 10) ([] ∷ texts_of bytes) (extend_text byte (texts_of bytes))
 
@@ -40,3 +40,6 @@ tokens_of_texts (line ∷ lines) = ap (λ rest. line_tokens line.text ∷ rest) 
 pub same_tokens : (n m : ℕ) (bytes : List ℕ) → by_tokens (lines_from n bytes) ≡ by_tokens (lines_from m bytes)
 same_tokens n m bytes =
     tokens_of_texts (lines_from n bytes) ∙ ap (map line_tokens) (texts_are n bytes ∙ sym (texts_are m bytes)) ∙ sym (tokens_of_texts (lines_from m bytes))
+
+pub tokens_by_text : (n : ℕ) (bytes : List ℕ) → by_tokens (lines_from n bytes) ≡ map line_tokens (texts_of bytes)
+tokens_by_text n bytes = tokens_of_texts (lines_from n bytes) ∙ ap (map line_tokens) (texts_are n bytes)
