@@ -1,0 +1,14 @@
+pub mod CanonicalLines
+pub mod Checks
+pub mod HeaderSpelling
+pub mod Integers
+pub mod LineTokens
+pub mod LineWords
+pub mod NumberWords
+pub mod PairNumbers
+pub mod Parts
+pub mod ReadIsSpelled
+pub mod RowSpelling
+pub mod SpelledIsRead
+pub mod StepSpelling
+pub mod Writing

@@ -1,0 +1,93 @@
+-- The grammar: which refutation a text spells for a formula (pairs as in universal expansion, derivation lines as in
+-- LRAT without RAT steps). Numbers may stand between any spaces, tabs and CRs.
+use Rattle.std.specs.Prelude.{◌≡◌, ℕ, ◌+◌, ◌*◌, ◌<◌, ◌≤◌, ℤ, pos, neg_ℤ, Bool, true, false, List, [], ◌∷◌, ◌++◌, map, length, replicate, codes, IsSome}
+use Rattle.std.specs.List.{All, AllZip, zip}
+use Rattle.dq_lits.specs.Derivation.{ProofStep}
+use Rattle.dq_lits.specs.Formula.{Dqbf, existential_of}
+use Rattle.dq_lits.specs.Literal.{dimacs_number, variable_of}
+use Rattle.dq_text.specs.Line.{line_tokens, lines_from}
+use Rattle.dq_text.specs.Number.{number_of}
+use Rattle.dq_text.specs.declared.numbers.Number.{Number}
+use Rattle.dq_text.specs.declared.numbers.Number.TheVariants.{Int}
+use Rattle.cert_text.specs.Header.{max_count}
+use Rattle.cert_text.specs.Pairs.{is_pair_number}
+use Rattle.cert_text.specs.Scan.{first_id}
+use Rattle.cert_text.specs.declared.refutations.Dqr.{Dqr}
+
+-- a line by its tokens
+abbrev pub Tokens : Type 0
+Tokens = List (List ℕ)
+
+-- these numbers
+abbrev pub integers : List ℤ → List Number
+integers ns = map (λ n. Int n) ns
+
+-- `p dqr`, and how many rows and derivation lines there are
+pub record SpellsHeader (tokens : Tokens) (rows steps : ℕ) : Type 0 where
+  pub rows_token : List ℕ
+  pub steps_token : List ℕ
+  pub words : tokens ≡ codes "p" ∷ codes "dqr" ∷ rows_token ∷ steps_token ∷ []
+  pub rows_number : number_of rows_token ≡ Int (pos rows)
+  pub steps_number : number_of steps_token ≡ Int (pos steps)
+
+-- a variable, negated where its bit is false
+abbrev pub signed : Bool → ℕ → ℤ
+signed true v = pos v
+signed false v = neg_ℤ (pos v)
+
+-- each universal with its bit as its sign, and 0
+abbrev pub row_numbers : List ℕ → List Bool → List ℤ
+row_numbers universals row = map (λ x. signed x.1 x.0) (zip universals row) ++ pos 0 ∷ []
+
+pub record SpellsRow (universals : List ℕ) (tokens : Tokens) (row : List Bool) : Type 0 where
+  pub rest : Tokens
+  pub letter : tokens ≡ codes "u" ∷ rest
+  pub numbers : map number_of rest ≡ integers (row_numbers universals row)
+
+-- the id, the literals and 0, the hints and 0
+abbrev pub step_numbers : ProofStep → List ℤ
+step_numbers s = pos s.id ∷ (map dimacs_number s.literals ++ (pos 0 ∷ (map (λ hint. pos hint) s.hints ++ pos 0 ∷ [])))
+
+abbrev pub SpellsStep : Tokens → ProofStep → Type 0
+SpellsStep tokens s = map number_of tokens ≡ integers (step_numbers s)
+
+-- a derivation line with this id, on variables of the proof, and with hints before it
+pub record IsStep (is_variable : ℕ → Bool) (id : ℕ) (s : ProofStep) : Type 0 where
+  pub numbered : s.id ≡ id
+  pub on_variables : All (λ l. is_variable (variable_of l) ≡ true) s.literals
+  pub hints_before : All (λ hint. (1 ≤ hint) × (hint < id)) s.hints
+
+-- derivation lines that are numbered from an id on
+abbrev pub AreSteps : (ℕ → Bool) → ℕ → List ProofStep → Type 0
+AreSteps is_variable id [] = Unit {0}
+AreSteps is_variable id (s ∷ ss) = IsStep is_variable id s × AreSteps is_variable (id + 1) ss
+
+-- what a text can hold for a formula: whole rows, and steps that are numbered behind the instances of the clauses
+pub record IsDqrOf (f : Dqbf) (d : Dqr) : Type 0 where
+  pub few_rows : length d.rows ≤ max_count
+  pub few_steps : length d.steps ≤ max_count
+  pub whole : All (λ row. length row ≡ length f.universals) d.rows
+  pub steps : AreSteps (is_pair_number f (length d.rows)) (first_id f (length d.rows)) d.steps
+
+abbrev pub tokens_by_line : List ℕ → List Tokens
+tokens_by_line text = map (λ line. line_tokens line.text) (lines_from 1 text)
+
+-- the header, a line for each row, a line for each derivation line, and then only lines of blanks
+pub record SpellsRefutation (text : List ℕ) (f : Dqbf) (d : Dqr) : Type 0 where
+  pub header : Tokens
+  pub row_lines : List Tokens
+  pub step_lines : List Tokens
+  pub blank_lines : ℕ
+  pub lines : tokens_by_line text ≡ header ∷ (row_lines ++ (step_lines ++ replicate blank_lines []))
+  pub header_spelled : SpellsHeader header (length d.rows) (length d.steps)
+  pub rows_spelled : AllZip (SpellsRow f.universals) row_lines d.rows
+  pub steps_spelled : AllZip SpellsStep step_lines d.steps
+  pub allowed : IsDqrOf f d
+
+-- the pair of an existential and row k + 1 of so many
+pub record IsPairNumber (f : Dqbf) (rows number : ℕ) : Type 0 where
+  pub k : ℕ
+  pub y : ℕ
+  pub within : k < rows
+  pub existential : IsSome (existential_of f y)
+  pub number_is : number ≡ k * f.variables + y

@@ -1,0 +1,12 @@
+pub mod Canonical
+pub mod Grammar
+pub mod Header
+pub mod Kind
+pub mod LineStop
+pub mod Numbers
+pub mod Pairs
+pub mod ReaderState
+pub mod RowLine
+pub mod Scan
+pub mod StepLine
+pub mod StepNumbers

@@ -1,0 +1,102 @@
+//! The lines of a certificate up to its header line.
+
+ghost use Rattle.std.specs.Prelude.{◌≡◌, codes};
+ghost use Rattle.dq_text.specs.Line.{line_tokens};
+ghost use Rattle.cert_text.specs.Kind.{verdict_of_word, stated_verdict, shown_verdict, kind_at, header_kind, agreeing, certificate_kind};
+
+use crate::faults::{CertFault, CertRefusal};
+use crate::kinds::{Kind, Verdict};
+use crate::words::is_word;
+use dq_text::{LineTokens, Lines};
+
+/// Which kind a certificate is, and where its header line begins. It takes no memory.
+///
+/// A first line of the two tokens `s` and `TRUE`, or `s` and `FALSE`, states the verdict, and the header
+/// line follows; else the first line is the header line. The first token of the header line decides: `aag`
+/// begins a circuit and `p` a refutation. Anything else, or a missing line, is `BadHeader` at that line. A
+/// verdict that the kind doesn't show is `WrongVerdict` at line 1.
+pub fn kind(bytes: &[u8]) -> Result<Kind, CertRefusal>
+    ensures { result ≡ certificate_kind bytes.now }
+{
+    let mut lines = Lines::new(bytes, 1);
+    let Some(first) = lines.next() else {
+        return Err(bad_header(1));
+    };
+    let Some(verdict) = stated(first.text) else {
+        return header_kind(first.text, 0, 1);
+    };
+    let at = bytes.len() - lines.rest().len();
+    let Some(header) = lines.next() else {
+        return Err(bad_header(2));
+    };
+    agreeing(verdict, header_kind(header.text, at, 2))
+}
+
+fn bad_header(line: u64) -> CertRefusal
+    ensures { result ≡ record { line = line; name = CertFault.BadHeader } }
+{
+    CertRefusal {
+        line,
+        name: CertFault::BadHeader,
+    }
+}
+
+// The verdict that a line states, if it is an `s` line.
+fn stated(line: &[u8]) -> Option<Verdict>
+    ensures { result ≡ stated_verdict (line_tokens line.now) }
+{
+    let mut tokens = LineTokens::new(line);
+    let letter = tokens.next()?;
+    let word = tokens.next()?;
+    if tokens.next().is_some() || !is_word(letter, b"s") {
+        return None;
+    }
+    verdict_of(word)
+}
+
+fn verdict_of(word: &[u8]) -> Option<Verdict>
+    ensures { result ≡ verdict_of_word word.now }
+{
+    if is_word(word, b"TRUE") {
+        Some(Verdict::True)
+    } else if is_word(word, b"FALSE") {
+        Some(Verdict::False)
+    } else {
+        None
+    }
+}
+
+// The kind of a header line that begins at a byte and has this number.
+fn header_kind(text: &[u8], at: usize, line: u64) -> Result<Kind, CertRefusal>
+    ensures { result ≡ header_kind at line (line_tokens text.now) }
+{
+    match LineTokens::new(text).next() {
+        Some(word) if is_word(word, b"aag") => Ok(Kind::Circuit { at, line }),
+        Some(word) if is_word(word, b"p") => Ok(Kind::Refutation { at, line }),
+        _ => Err(bad_header(line)),
+    }
+}
+
+// The kind, if it shows the verdict.
+fn agreeing(verdict: Verdict, kind: Result<Kind, CertRefusal>) -> Result<Kind, CertRefusal>
+    ensures { result ≡ agreeing verdict kind }
+{
+    let kind = kind?;
+    if shown(kind) == verdict {
+        Ok(kind)
+    } else {
+        Err(CertRefusal {
+            line: 1,
+            name: CertFault::WrongVerdict,
+        })
+    }
+}
+
+fn shown(kind: Kind) -> Verdict
+    ensures { result ≡ shown_verdict kind }
+{
+    match kind {
+        Kind::Circuit { .. } => Verdict::True,
+        Kind::Refutation { .. } => Verdict::False,
+    }
+}

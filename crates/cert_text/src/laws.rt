@@ -1,0 +1,34 @@
+//! What joins the grammar, the first fault and the canonical text of refutations. A law is the contract of a
+//! function without parameters and with an empty body.
+
+ghost use Rattle.std.specs.Prelude.{◌≡◌, ℕ, ◌⊎◌, ◌↔◌, true, List, Ok, Err};
+ghost use Rattle.dq_lits.specs.Formula.{Dqbf};
+ghost use Rattle.dq_formula.specs.Prefix.{IsLawful};
+ghost use Rattle.cert_text.specs.Canonical.{canonical};
+ghost use Rattle.cert_text.specs.Grammar.{IsDqrOf, IsPairNumber, SpellsRefutation};
+ghost use Rattle.cert_text.specs.Pairs.{is_pair_number};
+ghost use Rattle.cert_text.specs.Scan.{refutation_of};
+ghost use Rattle.cert_text.specs.declared.faults.CertRefusal.{CertRefusal};
+ghost use Rattle.cert_text.specs.declared.refutations.Dqr.{Dqr};
+
+/// A text spells one refutation for a formula, or it has a first fault, and never both. The number of its first
+/// line says only which line a fault names. Every formula is lawful (`Formula::every_formula_is_lawful`).
+pub fn refutation_or_first_fault()
+    ensures exact { (text : List ℕ) (first : ℕ) (f : Dqbf) (d : Dqr) → IsLawful f
+        → SpellsRefutation text f d ↔ (refutation_of f text first ≡ Ok d) }
+    ensures unique { (text : List ℕ) (f : Dqbf) (d e : Dqr) → IsLawful f → SpellsRefutation text f d → SpellsRefutation text f e → d ≡ e }
+    ensures either { (text : List ℕ) (first : ℕ) (f : Dqbf)
+        → ((d : Dqr) × SpellsRefutation text f d) ⊎ ((fault : CertRefusal) × (refutation_of f text first ≡ Err fault)) }
+    ensures allowed { (text : List ℕ) (first : ℕ) (f : Dqbf) (d : Dqr) → refutation_of f text first ≡ Ok d → IsDqrOf f d }
+{}
+
+/// The variables of a refutation are the numbers (k - 1) * V + y of an existential y and a row k.
+pub fn pairs_have_numbers()
+    ensures { (f : Dqbf) (rows number : ℕ) → IsLawful f → (is_pair_number f rows number ≡ true) ↔ IsPairNumber f rows number }
+{}
+
+/// The canonical text of a refutation spells it, so that reading it gives the refutation back.
+pub fn canonical_text_spells()
+    ensures spells { (f : Dqbf) (d : Dqr) → IsLawful f → IsDqrOf f d → SpellsRefutation (canonical f.universals d) f d }
+    ensures reads_back { (f : Dqbf) (d : Dqr) (first : ℕ) → IsLawful f → IsDqrOf f d → refutation_of f (canonical f.universals d) first ≡ Ok d }
+{}

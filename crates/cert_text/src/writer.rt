@@ -1,0 +1,134 @@
+//! Writing a refutation.
+
+ghost use Rattle.std.specs.Prelude.{◌≡◌, ◌++◌, not, length, IfOk, OnOk, codes};
+ghost use Rattle.std.specs.List.{flat_map, zip};
+ghost use Rattle.cert_text.specs.Canonical.{number_text, signed_text, literal_text, header_text, row_text, step_text, canonical};
+
+use crate::refutations::Dqr;
+use crate::steps::Step;
+use dq_formula::Formula;
+use dq_lits::{Lit, Memory, Row};
+use dq_text::push_natural;
+use std::alloc::Global;
+
+/// The canonical text of a refutation for a formula: the header `p dqr K N`; for each row `u`, the universals
+/// in the formula's order, each with its bit as its sign, and `0`; then the derivation lines.
+pub fn write_dqr(alloc: Global, d: &Dqr, f: &Formula) -> Result<Vec<u8>, Memory>
+    ensures { IfOk result (λ text. text.items ≡ canonical f.now.universals d.now) }
+{
+    let mut text = Vec::new(alloc);
+    let rows = d.rows.items();
+    let steps = d.steps.items();
+    write_header(rows.len(), steps.len(), &mut text)?;
+    write_rows(f.universals(), rows, &mut text)?;
+    write_steps(steps, &mut text)?;
+    Ok(text)
+}
+
+fn write_header(rows: usize, steps: usize, text: &mut Vec<u8>) -> Result<(), Memory>
+    ensures { OnOk result (text.new.items ≡ text.old.items ++ header_text rows steps) }
+{
+    text.extend_from_slice(b"p dqr ")?;
+    write_number(rows as u64, text)?;
+    push_natural(text, steps as u64)?;
+    text.push(b'\n')?;
+    Ok(())
+}
+
+fn write_word(word: &[u8], text: &mut Vec<u8>) -> Result<(), Memory>
+    ensures { OnOk result (text.new.items ≡ text.old.items ++ word.now) }
+{
+    text.extend_from_slice(word)?;
+    Ok(())
+}
+
+// A number and a space.
+fn write_number(n: u64, text: &mut Vec<u8>) -> Result<(), Memory>
+    ensures { OnOk result (text.new.items ≡ text.old.items ++ number_text n) }
+{
+    push_natural(text, n)?;
+    text.push(b' ')?;
+    Ok(())
+}
+
+// A variable, behind a minus where it is negated, and a space.
+fn write_signed(positive: bool, variable: u64, text: &mut Vec<u8>) -> Result<(), Memory>
+    ensures { OnOk result (text.new.items ≡ text.old.items ++ signed_text positive variable) }
+{
+    if !positive {
+        text.push(b'-')?;
+    }
+    write_number(variable, text)
+}
+
+fn write_literals(literals: &[Lit], text: &mut Vec<u8>) -> Result<(), Memory>
+    ensures { OnOk result (text.new.items ≡ text.old.items ++ flat_map literal_text literals.now) }
+{
+    let mut rest = literals;
+    while let Some((first, behind)) = rest.split_first() {
+        write_signed(!first.is_neg(), first.var(), text)?;
+        rest = behind;
+    }
+    Ok(())
+}
+
+fn write_hints(hints: &[u64], text: &mut Vec<u8>) -> Result<(), Memory>
+    ensures { OnOk result (text.new.items ≡ text.old.items ++ flat_map number_text hints.now) }
+{
+    let mut rest = hints;
+    while let Some((first, behind)) = rest.split_first() {
+        write_number(*first, text)?;
+        rest = behind;
+    }
+    Ok(())
+}
+
+// The universals, as far as the row has bits.
+fn write_bits(universals: &[u64], row: &Row, text: &mut Vec<u8>) -> Result<(), Memory>
+    ensures { OnOk result (text.new.items ≡ text.old.items ++ flat_map (λ x. signed_text x.1 x.0) (zip universals.now row.now)) }
+{
+    for i in 0..universals.len().min(row.len()) {
+        write_signed(row.get(i), universals[i], text)?;
+    }
+    Ok(())
+}
+
+fn write_row(universals: &[u64], row: &Row, text: &mut Vec<u8>) -> Result<(), Memory>
+    ensures { OnOk result (text.new.items ≡ text.old.items ++ row_text universals.now row.now) }
+{
+    write_word(b"u ", text)?;
+    write_bits(universals, row, text)?;
+    write_word(b"0\n", text)
+}
+
+fn write_rows(universals: &[u64], rows: &[Row], text: &mut Vec<u8>) -> Result<(), Memory>
+    ensures { OnOk result (text.new.items ≡ text.old.items ++ flat_map (row_text universals.now) rows.now) }
+{
+    let mut rest = rows;
+    while let Some((first, behind)) = rest.split_first() {
+        write_row(universals, first, text)?;
+        rest = behind;
+    }
+    Ok(())
+}
+
+fn write_step(step: &Step, text: &mut Vec<u8>) -> Result<(), Memory>
+    ensures { OnOk result (text.new.items ≡ text.old.items ++ step_text step.now) }
+{
+    write_number(step.id(), text)?;
+    write_literals(step.lits(), text)?;
+    write_word(b"0 ", text)?;
+    write_hints(step.hints(), text)?;
+    write_word(b"0\n", text)
+}
+
+fn write_steps(steps: &[Step], text: &mut Vec<u8>) -> Result<(), Memory>
+    ensures { OnOk result (text.new.items ≡ text.old.items ++ flat_map step_text steps.now) }
+{
+    let mut rest = steps;
+    while let Some((first, behind)) = rest.split_first() {
+        write_step(first, text)?;
+        rest = behind;
+    }
+    Ok(())
+}
