@@ -9,3 +9,4 @@ pub mod NumberingLaws
 pub mod CopyingLaws
 pub mod OriginalLaws
 pub mod SkolemLaws
+pub mod PlacesLaws

@@ -1,6 +1,6 @@
 -- Which input of a circuit stands for which universal, and which output for which existential: by symbols that are
 -- the variables' numbers (DQDIMACS), or in the order of declaration where there is no symbol (AIGER).
-use Rattle.std.specs.Prelude.{ℕ, zero, suc, ◌+◌, ◌==◌, pos, negsuc, Bool, not, ◌||◌, List, [], ◌∷◌, ◌++◌, length, Option, None, Some, is_some, Result, Ok, Err, if◌then◌else◌}
+use Rattle.std.specs.Prelude.{ℕ, zero, suc, ◌+◌, ◌<◌, ◌==◌, pos, negsuc, Bool, not, ◌||◌, List, [], ◌∷◌, ◌++◌, length, Option, None, Some, is_some, Result, Ok, Err, if◌then◌else◌}
 use Rattle.std.specs.List.{list_any, range_with_len}
 use Rattle.dq_lits.specs.Formula.{Dqbf}
 use Rattle.dq_formula.specs.Prefix.{existential_variables}
@@ -96,3 +96,9 @@ mapping_of f net symbols =
     if has_symbol symbols Inputs (length net.inputs) || has_symbol symbols Outputs (length net.outputs)
     then mapping_by_symbols f symbols
     else Ok (mapping_in_order f)
+
+-- the fault is at the header, at an input or at an output
+abbrev pub IsAtPlace : Netlist → MapPlace → Type 0
+IsAtPlace net Whole = Unit {0}
+IsAtPlace net (Input place) = place < length net.inputs
+IsAtPlace net (Output place) = place < length net.outputs

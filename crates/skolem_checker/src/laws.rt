@@ -1,7 +1,7 @@
 //! What passing the tests shows. Each law is the contract of a function that does nothing: who calls it may use what it
 //! ensures.
 
-ghost use Rattle.std.specs.Prelude.{◌≡◌, Ok};
+ghost use Rattle.std.specs.Prelude.{◌≡◌, Ok, Err};
 ghost use Rattle.dq_lits.specs.Formula.{Existential, Dqbf, HasLawfulPrefix, IsWellFormed};
 ghost use Rattle.dq_lits.specs.Henkin.{IsTrueFormula};
 ghost use Rattle.dq_lits.specs.Skolem.{OutputFunction, AreSkolemFunctions};
@@ -9,6 +9,8 @@ ghost use Rattle.circuit_plain.specs.Netlist.{Netlist, IsNetlist};
 ghost use Rattle.aiger_text.specs.Symbol.{SymbolTable};
 ghost use Rattle.skolem_checker.specs.Checks.{Candidate, candidate_of, IsReadsAnswer, IsRowsAnswer};
 ghost use Rattle.skolem_checker.specs.SkolemCircuit.{IsComplete, IsSkolemCircuit, ReadsUniversal};
+ghost use Rattle.skolem_checker.specs.Mapping.{IsAtPlace, mapping_of};
+ghost use Rattle.skolem_checker.specs.declared.mapping.MapError.{MapError};
 
 use dq_lits::laws::skolem_functions_show_true;
 
@@ -33,4 +35,10 @@ pub fn tested_circuit_is_skolem()
         → candidate_of c.formula c.circuit.netlist symbols ≡ Ok c
         → IsReadsAnswer (ReadsUniversal c.circuit) c.formula (Ok tt) → IsRowsAnswer c.formula c.circuit (Ok tt)
         → IsSkolemCircuit c.formula c.circuit.netlist symbols }
+{}
+
+/// A fault of a mapping is at the circuit's header, at one of its inputs or at one of its outputs.
+pub fn mapping_faults_have_places()
+    ensures { (f : Dqbf) (net : Netlist) (symbols : SymbolTable) (fault : MapError) → mapping_of f net symbols ≡ Err fault
+        → IsAtPlace net fault.at }
 {}

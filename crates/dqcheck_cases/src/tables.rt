@@ -1,0 +1,95 @@
+//! The lines of the table.
+
+use crate::settings::{Calls, Settings, words_of};
+use anyhow::{Result, anyhow};
+use dqdimacs_reader::{read, write};
+use std::alloc::Global;
+
+/// Takes a line: a setting, or a case, of which it gives what is to be printed.
+pub fn take_line(alloc: Global, settings: &mut Settings, line: &str) -> Result<Option<String>> {
+    let (word, rest) = line.split_once(' ').unwrap_or((line, ""));
+    match word {
+        "" | "#" => {}
+        "formula" => settings.formula = Some(text_of(alloc, rest)?),
+        "certificate" => settings.certificate = Some(text_of(alloc, rest)?),
+        "absent" => {
+            settings.formula = None;
+            settings.certificate = None;
+        }
+        "words" => settings.words = words_of(alloc, rest)?,
+        "reads" => settings.reads = calls_of(alloc, rest)?,
+        "writes" => settings.writes = calls_of(alloc, rest)?,
+        "run" => {
+            let (status, taken) = settings.run(alloc)?;
+            let taken = shown(alloc, &taken)?;
+            return Ok(Some(format!(in alloc; "{rest}: {status} {taken}")?));
+        }
+        "canonical" => {
+            let taken = shown(alloc, &canonical(alloc, settings)?)?;
+            return Ok(Some(format!(in alloc; "{rest}: {taken}")?));
+        }
+        _ => return Err(anyhow!("no setting: {line}")),
+    }
+    Ok(None)
+}
+
+// The canonical text of the formula.
+fn canonical(alloc: Global, settings: &Settings) -> Result<Vec<u8>> {
+    let Some(text) = &settings.formula else {
+        return Err(anyhow!("no formula"));
+    };
+    let formula = read(alloc, text)?;
+    Ok(write(alloc, &formula)?)
+}
+
+// The bytes that a spelled text stands for.
+fn text_of(alloc: Global, spelled: &str) -> Result<Vec<u8>> {
+    let mut text = Vec::new(alloc);
+    if spelled.is_empty() {
+        return Ok(text);
+    }
+    let whole = spelled.strip_suffix('\\').unwrap_or(spelled);
+    for line in whole.split(" / ") {
+        push_line(&mut text, line)?;
+    }
+    if whole.len() < spelled.len() {
+        text.pop();
+    }
+    Ok(text)
+}
+
+fn push_line(text: &mut Vec<u8>, line: &str) -> Result<()> {
+    for (i, piece) in line.split("\\r").enumerate() {
+        if i > 0 {
+            text.push(b'\r')?;
+        }
+        text.extend_from_slice(piece.as_bytes())?;
+    }
+    text.push(b'\n')?;
+    Ok(())
+}
+
+// The greatest size, and the numbers of the calls that fail.
+fn calls_of(alloc: Global, rest: &str) -> Result<Calls> {
+    let mut calls = Calls::new(alloc);
+    let mut numbers = rest.split_whitespace();
+    if let Some(greatest) = numbers.next() {
+        calls.greatest = greatest.parse()?;
+    }
+    for number in numbers {
+        calls.failing.push(number.parse()?)?;
+    }
+    Ok(calls)
+}
+
+// Bytes on one line.
+fn shown(alloc: Global, bytes: &[u8]) -> Result<String> {
+    let mut text = String::new(alloc);
+    for byte in bytes {
+        match byte {
+            b'\n' => text.push_str("\\n")?,
+            _ => text.push(char::from(*byte))?,
+        }
+    }
+    Ok(text)
+}

@@ -1,0 +1,137 @@
+-- Only one thing is said of a certificate.
+use Rattle.std.proofs.Common.{◌≡◌, ◌⊎◌, ℕ, ◌<◌, ◌^◌, Bool, true, false, inl, inr, List, length, Result, Ok, Err, refl, sym, ap, ◌∙◌, subst, arith}
+use Rattle.std.specs.Prelude.{slice_index}
+use Rattle.std.specs.List.{Contains}
+use Rattle.std.proofs.lemmas.Bool.{cases_order}
+use Rattle.std.proofs.lemmas.List.Sums.{list_all-from_AllPass}
+use Rattle.dq_lits.specs.Formula.{Existential, Dqbf}
+use Rattle.dq_lits.specs.Literal.{clause_true}
+use Rattle.circuit_plain.specs.Netlist.{Netlist}
+use Rattle.aiger_text.specs.FirstFault.{IsFirstFault}
+use Rattle.aiger_text.specs.Grammar.{SpellsCircuit}
+use Rattle.aiger_text.specs.Scan.{LineFault}
+use Rattle.aiger_text.specs.declared.files.AagFile.{AagFile}
+use Rattle.skolem_checker.specs.Checks.{Candidate, candidate_of, existential_at, ReadsDeclaredBefore, IsFirstRead, IsFirstUndeclared, IsFirstBad, RowHolds, RowFails}
+use Rattle.skolem_checker.specs.SkolemCircuit.{MappedCircuit, ReadsUniversal}
+use Rattle.skolem_checker.specs.declared.mapping.MapError.{MapError}
+use Rattle.dqcheck_core.specs.Judgement.{ByTest, IsTested, BehindMapping, IsCircuitJudgement, IsCircuitRefusal, IsCircuitAnswer, IsJudgement, is_not_built, begins_proof}
+use Rattle.dqcheck_core.specs.declared.answers.Answer.{Answer}
+use Rattle.dqcheck_core.specs.declared.answers.Answer.TheVariants.{Refused, UndeclaredRead, BadRow, Unproved, ValidTrue}
+use Rattle.dqcheck_core.specs.declared.answers.CertificateFault.TheVariants.{Circuit}
+
+read_is_declared : (Reads : ℕ → ℕ → Type 0) (f : Dqbf) (y : Existential) (x end : ℕ) (r : IsFirstRead Reads f y x)
+    → r.place < end → ReadsDeclaredBefore Reads f y end → ⊥
+read_is_declared Reads f y x end r below declared =
+    r.undeclared (subst (Contains y.sees) r.is (declared r.place below (subst (Reads y.variable) (sym r.is) r.reads)))
+
+one_read : (Reads : ℕ → ℕ → Type 0) (f : Dqbf) (y : Existential) (x w : ℕ) → IsFirstRead Reads f y x → IsFirstRead Reads f y w → x ≡ w
+one_read Reads f y x w r s =
+    elim (cases_order r.place s.place) [
+      | inl same ↦ sym r.is ∙ ap (slice_index f.universals) same ∙ s.is
+      | inr (inl earlier) ↦ absurd (read_is_declared Reads f y x s.place r earlier s.first)
+      | inr (inr later) ↦ absurd (read_is_declared Reads f y w r.place s later r.first)
+    ]
+
+undeclared_is_declared : (Reads : ℕ → ℕ → Type 0) (f : Dqbf) (y x : ℕ) (r : IsFirstUndeclared Reads f y x) (end : ℕ) → r.place < end
+    → ((p : ℕ) → p < end → ReadsDeclaredBefore Reads f (existential_at f p) (length f.universals)) → ⊥
+undeclared_is_declared Reads f y x r end below declared =
+    read_is_declared Reads f (existential_at f r.place) x (length f.universals) r.read r.read.in_range (declared r.place below)
+
+one_undeclared : (Reads : ℕ → ℕ → Type 0) (f : Dqbf) (y x z w : ℕ) → IsFirstUndeclared Reads f y x → IsFirstUndeclared Reads f z w → (y ≡ z) × (x ≡ w)
+one_undeclared Reads f y x z w r s =
+    elim (cases_order r.place s.place) [
+      | inl same ↦ (
+        sym r.is ∙ ap (λ p. (existential_at f p).variable) same ∙ s.is,
+        one_read Reads f (existential_at f s.place) x w (subst (λ p. IsFirstRead Reads f (existential_at f p) x) same r.read) s.read,
+      )
+      | inr (inl earlier) ↦ absurd (undeclared_is_declared Reads f y x r s.place earlier s.first)
+      | inr (inr later) ↦ absurd (undeclared_is_declared Reads f z w s r.place later r.first)
+    ]
+
+row_is_one : (f : Dqbf) (c : MappedCircuit) (k : ℕ) → RowHolds f c k → RowFails f c k → ⊥
+row_is_one f c k holds fails =
+    let true_there = list_all-from_AllPass (clause_true fails.assignment) f.matrix (holds fails.assignment fails.row fails.follows) in
+    let both : true ≡ false = sym true_there ∙ fails.clause_false in
+    cc
+
+one_bad : (Holds Fails : ℕ → Type 0) (end k j : ℕ) → ((i : ℕ) → Holds i → Fails i → ⊥)
+    → IsFirstBad Holds Fails end (Err k) → IsFirstBad Holds Fails end (Err j) → k ≡ j
+one_bad Holds Fails end k j exclude (k_below, k_before, k_fails) (j_below, j_before, j_fails) =
+    elim (cases_order k j) [
+      | inl same ↦ same
+      | inr (inl earlier) ↦ absurd (exclude k (j_before k earlier) k_fails)
+      | inr (inr later) ↦ absurd (exclude j (k_before j later) j_fails)
+    ]
+
+undeclared_is : (f : Dqbf) (c : MappedCircuit) (y x : ℕ) (b : Answer) → IsFirstUndeclared (ReadsUniversal c) f y x → IsTested f c b → UndeclaredRead y x ≡ b
+undeclared_is f c y x (Refused line name) r impossible = absurd impossible
+undeclared_is f c y x (UndeclaredRead z w) r s =
+    let (same_y, same_x) = one_undeclared (ReadsUniversal c) f y x z w r s in
+    cc
+undeclared_is f c y x (BadRow k) r (passes, _, _) = absurd (undeclared_is_declared (ReadsUniversal c) f y x r (length f.existentials) r.in_range passes.reads)
+undeclared_is f c y x (Unproved n) r (passes, _, _) = absurd (undeclared_is_declared (ReadsUniversal c) f y x r (length f.existentials) r.in_range passes.reads)
+undeclared_is f c y x ValidTrue r (passes, _, _) = absurd (undeclared_is_declared (ReadsUniversal c) f y x r (length f.existentials) r.in_range passes.reads)
+
+one_tested : (f : Dqbf) (c : MappedCircuit) (a b : Answer) → IsTested f c a → IsTested f c b → a ≡ b
+one_tested f c (Refused line name) b impossible _ = absurd impossible
+one_tested f c (UndeclaredRead y x) b r s = undeclared_is f c y x b r s
+one_tested f c (BadRow k) b r s = bad_row_is b s
+  where
+    bad_row_is : (b : Answer) → IsTested f c b → BadRow k ≡ b
+    bad_row_is (Refused line name) impossible = absurd impossible
+    bad_row_is (UndeclaredRead y x) s = sym (undeclared_is f c y x (BadRow k) s r)
+    bad_row_is (BadRow j) (_, _, s) = ap BadRow (one_bad (RowHolds f c) (RowFails f c) (2 ^ length f.universals) k j (row_is_one f c) r.2 s)
+    bad_row_is (Unproved n) (_, many, same) = let few = r.1 in absurd (omega (arith, few, many, same))
+    bad_row_is ValidTrue (_, _, s) = absurd (row_is_one f c k (s k r.2.0) r.2.2)
+one_tested f c (Unproved n) b r s = unproved_is b s
+  where
+    unproved_is : (b : Answer) → IsTested f c b → Unproved n ≡ b
+    unproved_is (Refused line name) impossible = absurd impossible
+    unproved_is (UndeclaredRead y x) s = sym (undeclared_is f c y x (Unproved n) s r)
+    unproved_is (BadRow j) (_, few, _) = let many = r.1 in let same = r.2 in absurd (omega (arith, few, many, same))
+    unproved_is (Unproved m) (_, _, same) = ap Unproved (r.2 ∙ sym same)
+    unproved_is ValidTrue (_, few, _) = let many = r.1 in let same = r.2 in absurd (omega (arith, few, many, same))
+one_tested f c ValidTrue b r s = valid_is b s
+  where
+    valid_is : (b : Answer) → IsTested f c b → ValidTrue ≡ b
+    valid_is (Refused line name) impossible = absurd impossible
+    valid_is (UndeclaredRead y x) s = sym (undeclared_is f c y x ValidTrue s r)
+    valid_is (BadRow j) (_, _, s) = absurd (row_is_one f c j (r.2 j s.0) s.2)
+    valid_is (Unproved n) (_, many, same) = let few = r.1 in absurd (omega (arith, few, many, same))
+    valid_is ValidTrue _ = refl
+
+one_behind_mapping : (net : Netlist) (mapped : Result Candidate MapError) (a b : Answer) → BehindMapping net mapped a → BehindMapping net mapped b → a ≡ b
+one_behind_mapping net (Err fault) a b r s = r ∙ sym s
+one_behind_mapping net (Ok c) a b r s = one_tested c.formula c.circuit a b r s
+
+by_proof_or_mapping : (P : Bool) (a b refusal : Answer) (net : Netlist) (mapped : Result Candidate MapError)
+    → ByTest P (a ≡ refusal) (BehindMapping net mapped a) → ByTest P (b ≡ refusal) (BehindMapping net mapped b) → a ≡ b
+by_proof_or_mapping true a b refusal net mapped r s = r ∙ sym s
+by_proof_or_mapping false a b refusal net mapped r s = one_behind_mapping net mapped a b r s
+
+one_circuit_judgement : (f : Dqbf) (text : List ℕ) (file : AagFile) (a b : Answer) → IsCircuitJudgement f text file a → IsCircuitJudgement f text file b → a ≡ b
+one_circuit_judgement f text file a b = by_proof_or_mapping (begins_proof file.comment) a b _ file.circuit (candidate_of f file.circuit file.symbols)
+
+-- what the law of the circuits' grammar gives
+pub record CircuitLaw : Type 0 where
+  pub unique : (text : List ℕ) (f g : AagFile) → SpellsCircuit text f → SpellsCircuit text g → f ≡ g
+  pub never_both : (text : List ℕ) (first : ℕ) (file : AagFile) (fault : LineFault) → SpellsCircuit text file → ¬ IsFirstFault text first fault
+  pub one_fault : (text : List ℕ) (first : ℕ) (f g : LineFault) → IsFirstFault text first f → IsFirstFault text first g → f ≡ g
+
+by_file_or_fault : CircuitLaw → (f : Dqbf) (text : List ℕ) (a b : Answer) → IsCircuitRefusal text a ⊎ IsCircuitAnswer f text a → IsCircuitRefusal text b ⊎ IsCircuitAnswer f text b → a ≡ b
+by_file_or_fault law f text a b (inl r) (inl s) =
+    r.is ∙ ap (λ (fault : LineFault). Refused fault.line (Circuit fault.name)) (law.one_fault text 1 r.fault s.fault r.is_first s.is_first) ∙ sym s.is
+by_file_or_fault law f text a b (inl r) (inr s) = absurd (law.never_both text 1 s.file r.fault s.spelled r.is_first)
+by_file_or_fault law f text a b (inr r) (inl s) = absurd (law.never_both text 1 r.file s.fault r.spelled s.is_first)
+by_file_or_fault law f text a b (inr r) (inr s) =
+    one_circuit_judgement f text s.file a b
+    (subst (λ (file : AagFile). IsCircuitJudgement f text file a) (law.unique text r.file s.file r.spelled s.spelled) r.is) s.is
+
+by_kind : CircuitLaw → (P : Bool) (f : Dqbf) (text : List ℕ) (a b refusal : Answer)
+    → ByTest P (a ≡ refusal) (IsCircuitRefusal text a ⊎ IsCircuitAnswer f text a)
+    → ByTest P (b ≡ refusal) (IsCircuitRefusal text b ⊎ IsCircuitAnswer f text b) → a ≡ b
+by_kind law true f text a b refusal r s = r ∙ sym s
+by_kind law false f text a b refusal r s = by_file_or_fault law f text a b r s
+
+pub one_judgement : CircuitLaw → (f : Dqbf) (text : List ℕ) (a b : Answer) → IsJudgement f text a → IsJudgement f text b → a ≡ b
+one_judgement law f text a b r s = by_kind law (is_not_built text) f text a b _ r s

@@ -1,0 +1,6 @@
+pub mod Certificates
+pub mod CircuitAnswers
+pub mod Judgements
+pub mod Places
+pub mod Runs
+pub mod Soundness

@@ -1,0 +1,18 @@
+use Rattle.std.proofs.Common.{ap, ◌∙◌, map, string_bytes}
+use Rattle.std.specs.Io.KnownBytes.{append_known}
+use Rattle.dq_io.specs.Causes.{Rose}
+use Rattle.dqcheck_core.proofs.Runs.{answered}
+use Rattle.dqcheck_core.proofs.run.dqcheck_run.Goals as goal
+
+pub returns-in-Ok-write_all-clause-answered : goal.returns-in-Ok-write_all-clause-answered
+returns-in-Ok-write_all-clause-answered g c formula certificate f told short_formula short_certificate spelled sound _ _ =
+    answered
+    (record {
+      exact = λ text f. (c.formula_or_first_fault.ensures.exact text f).0;
+      unique = c.formula_or_first_fault.ensures.unique;
+    })
+    (g.F.Files.held c.args.files.now) (Rose (g.F.Files.faults c.args.files.now) (g.F.Files.faults c.report.new.files))
+    (map string_bytes c.args.words.now) (g.K.Sink.taken c.args.out.now) (g.K.Sink.taken c.write_all.new.sink) c.in-Ok.output
+    c.in-Ok.ensures.due
+    (c.in-Ok-write_all.ensures.ok ∙ ap (append_known (g.K.Sink.taken c.args.out.now)) c.deref.ensures.value)
+    formula certificate f told short_formula short_certificate spelled sound

@@ -1,0 +1,7 @@
+pub mod CertificateNames
+pub mod Command
+pub mod Judgement
+pub mod Outputs
+pub mod Places
+pub mod Report
+pub mod Running

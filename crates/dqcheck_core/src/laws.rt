@@ -1,0 +1,26 @@
+//! What the definitions of this crate give. A law is the contract of a function without parameters: who calls it may use
+//! what it ensures.
+
+ghost use Rattle.std.specs.Prelude.{◌≡◌, ℕ, List};
+ghost use Rattle.dq_lits.specs.Formula.{Dqbf, IsWellFormed};
+ghost use Rattle.dq_lits.specs.Henkin.{IsTrueFormula};
+ghost use Rattle.dqcheck_core.specs.Judgement.{IsJudgement, Accepts};
+ghost use Rattle.dqcheck_core.specs.declared.answers.Answer.{Answer};
+
+use aiger_text::laws::circuit_or_first_fault;
+use skolem_checker::laws::{skolem_circuit_shows_true, tested_circuit_is_skolem};
+
+/// Only one thing is to be said of a certificate.
+pub fn one_judgement()
+    ensures { (f : Dqbf) (text : List ℕ) (a b : Answer) → IsJudgement f text a → IsJudgement f text b → a ≡ b }
+{
+    circuit_or_first_fault();
+}
+
+/// An accepted certificate proves that the formula is true.
+pub fn acceptance_is_sound()
+    ensures { (f : Dqbf) (text : List ℕ) → IsWellFormed f → Accepts f text → IsTrueFormula f }
+{
+    tested_circuit_is_skolem();
+    skolem_circuit_shows_true();
+}

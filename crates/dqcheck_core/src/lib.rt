@@ -1,0 +1,18 @@
+//! The checker: whether a certificate proves a formula.
+//!
+//! `dqcheck_run` is a whole run of the program `dqcheck`: its contract says which line is written and with which status
+//! it ends. `judge` judges a certificate for a formula that was read. The laws in `laws` say that what is accepted is
+//! right.
+#![tactic(auto)]
+
+pub use answers::{Answer, CertificateFault};
+pub use judging::judge;
+pub use run::dqcheck_run;
+
+mod answers;
+mod commands;
+mod judging;
+pub mod laws;
+mod names;
+mod reports;
+mod run;

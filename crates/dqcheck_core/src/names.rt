@@ -1,0 +1,70 @@
+//! The names of faults, as they are written.
+
+ghost use Rattle.std.specs.Prelude.{◌≡◌};
+ghost use Rattle.dqcheck_core.specs.CertificateNames.{circuit_fault_name, mapping_fault_name, certificate_fault_name};
+ghost use Rattle.dqcheck_core.specs.Report.{formula_fault_name};
+
+use crate::answers::CertificateFault;
+use aiger_text::AagFault;
+use dqdimacs_reader::FormulaFault;
+use skolem_checker::MapName;
+
+pub fn formula_fault_name(fault: FormulaFault) -> &'static str
+    ensures { result.now ≡ formula_fault_name fault }
+{
+    match fault {
+        FormulaFault::NoHeader => "NoHeader",
+        FormulaFault::BadNumber => "BadNumber",
+        FormulaFault::TooBig => "TooBig",
+        FormulaFault::VarRange => "VarRange",
+        FormulaFault::DeclaredTwice => "DeclaredTwice",
+        FormulaFault::NotUniversal => "NotUniversal",
+        FormulaFault::EmptyD => "EmptyD",
+        FormulaFault::PrefixLate => "PrefixLate",
+        FormulaFault::HeaderTwice => "HeaderTwice",
+        FormulaFault::TooFewClauses => "TooFewClauses",
+        FormulaFault::TooManyClauses => "TooManyClauses",
+        FormulaFault::MissingZero => "MissingZero",
+        FormulaFault::Limit => "Limit",
+    }
+}
+
+fn circuit_fault_name(fault: AagFault) -> &'static str
+    ensures { result.now ≡ circuit_fault_name fault }
+{
+    match fault {
+        AagFault::BadHeader => "BadHeader",
+        AagFault::NotCombinational => "NotCombinational",
+        AagFault::BadLine => "BadLine",
+        AagFault::TooBig => "TooBig",
+        AagFault::Range => "Range",
+        AagFault::DefinedTwice => "DefinedTwice",
+        AagFault::Undefined => "Undefined",
+        AagFault::Cyclic => "Cyclic",
+        AagFault::BadSymbol => "BadSymbol",
+        AagFault::Truncated => "Truncated",
+    }
+}
+
+fn mapping_fault_name(fault: MapName) -> &'static str
+    ensures { result.now ≡ mapping_fault_name fault }
+{
+    match fault {
+        MapName::InputCount => "InputCount",
+        MapName::OutputCount => "OutputCount",
+        MapName::SymbolMissing => "SymbolMissing",
+        MapName::SymbolNumber => "SymbolNumber",
+        MapName::SymbolTwice => "SymbolTwice",
+    }
+}
+
+pub fn certificate_fault_name(fault: CertificateFault) -> &'static str
+    ensures { result.now ≡ certificate_fault_name fault }
+{
+    match fault {
+        CertificateFault::NotBuilt => "NotBuilt",
+        CertificateFault::BadHeader => "BadHeader",
+        CertificateFault::Circuit(name) => circuit_fault_name(name),
+        CertificateFault::Mapping(name) => mapping_fault_name(name),
+    }
+}
