@@ -148,17 +148,22 @@ MEASUREMENTS = [
 ]
 
 
-def measure(folder, name, formula, certificate):
-    paths = []
-    size = 0
-    for kind, text in (("formula", formula), ("certificate", certificate)):
-        path = os.path.join(folder, kind)
-        paths.append(path)
-        if text is None:
-            continue
-        with open(path, "w", encoding="ascii") as file:
-            file.write(text)
-        size += os.path.getsize(path)
+def write(make, paths):
+    """Writes the texts in a process of its own: a child's peak memory begins with its parent's."""
+    writer = os.fork()
+    if writer == 0:
+        for path, text in zip(paths, make()):
+            if text is not None:
+                with open(path, "w", encoding="ascii") as file:
+                    file.write(text)
+        os._exit(0)
+    os.waitpid(writer, 0)
+
+
+def measure(folder, make):
+    paths = [os.path.join(folder, kind) for kind in ("formula", "certificate")]
+    write(make, paths)
+    size = sum(os.path.getsize(path) for path in paths if os.path.exists(path))
     started = time.perf_counter()
     run = subprocess.Popen([CHECKER, *paths], stdout=subprocess.PIPE)
     answer = run.stdout.read().decode().strip()
@@ -169,7 +174,7 @@ def measure(folder, name, formula, certificate):
         if os.path.exists(path):
             os.remove(path)
     print(
-        f"{name:15} {size / MEGABYTE:8.1f} MB {seconds:8.2f} s {size / MEGABYTE / seconds:8.1f} MB/s"
+        f"{make.__name__:15} {size / MEGABYTE:8.1f} MB {seconds:8.2f} s {size / MEGABYTE / seconds:8.1f} MB/s"
         f" {usage.ru_maxrss / 1000:8.0f} MB peak   {run.returncode} {answer[:60]}"
     )
 
@@ -180,7 +185,7 @@ def main():
     with tempfile.TemporaryDirectory() as folder:
         for make in MEASUREMENTS:
             if not sys.argv[1:] or any(word in make.__name__ for word in sys.argv[1:]):
-                measure(folder, make.__name__, *make())
+                measure(folder, make)
 
 
 if __name__ == "__main__":

@@ -2,6 +2,7 @@ pub mod CanonicalLines
 pub mod Checks
 pub mod HeaderSpelling
 pub mod Integers
+pub mod KindSpelling
 pub mod LineTokens
 pub mod LineWords
 pub mod NumberWords

@@ -17,14 +17,15 @@ use Rattle.cert_text.specs.declared.faults.CertFault.{CertFault}
 use Rattle.cert_text.specs.declared.faults.CertFault.TheVariants.{BadLine, Truncated}
 use Rattle.cert_text.specs.declared.faults.CertRefusal.{CertRefusal}
 use Rattle.cert_text.specs.declared.headers.Counts.{Counts}
-use Rattle.cert_text.specs.declared.reader.Part.TheVariants.{BlankLine}
+use Rattle.cert_text.specs.declared.reader.Part.{Part}
+use Rattle.cert_text.specs.declared.reader.Part.TheVariants.{RowLine, StepLine, BlankLine}
 use Rattle.cert_text.specs.declared.refutations.Dqr.{Dqr}
 use Rattle.cert_text.proofs.HeaderSpelling.{IsHeader, header_spelled}
 use Rattle.cert_text.proofs.LineTokens.{by_tokens, same_tokens}
 use Rattle.cert_text.proofs.Parts.{part_row, part_step, part_blank}
-use Rattle.cert_text.proofs.RowSpelling.{row_spelled}
+use Rattle.cert_text.proofs.RowSpelling.{IsRowLine, row_spelled}
 use Rattle.cert_text.proofs.SpelledIsRead.{read_so_far}
-use Rattle.cert_text.proofs.StepSpelling.{step_spelled}
+use Rattle.cert_text.proofs.StepSpelling.{IsStepLine, step_spelled}
 
 -- a line whose value goes on
 abbrev Reads : Type 0
@@ -50,15 +51,25 @@ record AreBlank (d : Dqr) (lines : List TextLine) (e : Dqr) : Type 0 where
   are : by_tokens lines ≡ replicate blanks []
 
 module _ (f : Dqbf) (c : Counts) where
+  -- what is read of a line and at the end, where this part comes next
+  line_of_part : (part : Part) (d e : Dqr) (line : TextLine) (lines : List TextLine) (number : ℕ) → next_part c d ≡ part →
+      read_body f c d (line ∷ lines) number ≡ Ok e →
+      behind_line line.number (read_part part f c d (line_tokens line.text)) (λ x. read_body f c x lines (line.number + 1)) ≡ Ok e
+  line_of_part part d e line lines number is read =
+      ap (λ p. behind_line line.number (read_part p f c d (line_tokens line.text)) (λ x. read_body f c x lines (line.number + 1))) (sym is) ∙ read
+
+  end_of_part : (part : Part) (d e : Dqr) (number : ℕ) → next_part c d ≡ part → read_body f c d [] number ≡ Ok e → at_end part d number ≡ Ok e
+  end_of_part part d e number is read = ap (λ p. at_end p d number) (sym is) ∙ read
+
   blanks_spelled : (d e : Dqr) → next_part c d ≡ BlankLine → (lines : List TextLine) (number : ℕ) → read_body f c d lines number ≡ Ok e → AreBlank d lines e
   blanks_spelled d e part [] number read =
-      let end : Ok d ≡ Ok e = ap (λ p. at_end p d number) (sym part) ∙ read in
+      let end : Ok d ≡ Ok e = end_of_part BlankLine d e number part read in
       let same : d ≡ e = cc in
       record { same = same; blanks = 0; are = refl }
   blanks_spelled d e part (line ∷ lines) number read =
       let next : Reads = λ x. read_body f c x lines (line.number + 1) in
       let first = blank_line line.number (line_tokens line.text) d next e
-      (ap (λ p. behind_line line.number (read_part p f c d (line_tokens line.text)) next) (sym part) ∙ read) in
+      (line_of_part BlankLine d e line lines number part read) in
       let rest = blanks_spelled d e part lines (line.number + 1) first.1 in
       record { same = rest.same; blanks = suc rest.blanks; are = ap₂ (λ t ts. t ∷ ts) first.0 rest.are }
 
@@ -72,6 +83,22 @@ module _ (f : Dqbf) (c : Counts) where
     are : by_tokens lines ≡ spelled ++ replicate blanks []
     each : AllZip SpellsStep spelled todo
     lawful : AreSteps (is_pair_number f c.rows) (first_id f c.rows + length done) todo
+
+  step_in_front : (rows : List (List Bool)) (done : List ProofStep) (s : ProofStep) (e : Dqr) (line : TextLine) (lines : List TextLine) →
+      IsStepLine (is_pair_number f c.rows) (first_id f c.rows + length done) (line_tokens line.text) s → AreStepLines rows (done ++ s ∷ []) lines e →
+      AreStepLines rows done (line ∷ lines) e
+  step_in_front rows done s e line lines here rest =
+      let later : first_id f c.rows + length (done ++ s ∷ []) ≡ first_id f c.rows + length done + 1 = omega (arith, length-append done (s ∷ [])) in
+      record {
+        todo = s ∷ rest.todo;
+        spelled = line_tokens line.text ∷ rest.spelled;
+        blanks = rest.blanks;
+        whole = rest.whole ∙ ap (read_so_far rows) (append_assoc done (s ∷ []) rest.todo);
+        counted = omega (arith, rest.counted, length-append done (s ∷ []));
+        are = ap (λ ts. line_tokens line.text ∷ ts) rest.are;
+        each = (here.spelled, rest.each);
+        lawful = (here.lawful, subst (λ i. AreSteps (is_pair_number f c.rows) i rest.todo) later rest.lawful);
+      }
 
   steps_spelled : (rows : List (List Bool)) → length rows ≡ c.rows → (k : ℕ) (done : List ProofStep) (e : Dqr) (lines : List TextLine) (number : ℕ) →
       length done + k ≡ c.steps → read_body f c (read_so_far rows done) lines number ≡ Ok e → AreStepLines rows done lines e
@@ -90,7 +117,7 @@ module _ (f : Dqbf) (c : Counts) where
       }
   steps_spelled rows full (suc k) done e [] number counted read =
       let d = read_so_far rows done in
-      never number e (ap (λ p. at_end p d number) (sym (part_step c d (omega (arith, full)) (omega (arith, counted)))) ∙ read)
+      never number e (end_of_part StepLine d e number (part_step c d (omega (arith, full)) (omega (arith, counted))) read)
   steps_spelled rows full (suc k) done e (line ∷ lines) number counted read =
       let d = read_so_far rows done in
       let p : ℕ → Bool = is_pair_number f c.rows in
@@ -99,21 +126,10 @@ module _ (f : Dqbf) (c : Counts) where
       let tokens = line_tokens line.text in
       let part = part_step c d (omega (arith, full)) (omega (arith, counted)) in
       let first = goes_on line.number (step_line p id tokens) (with_step d) next e
-      (ap (λ q. behind_line line.number (read_part q f c d tokens) next) (sym part) ∙ read) in
+      (line_of_part StepLine d e line lines number part read) in
       let s = first.0 in
-      let here = step_spelled p id tokens s first.1 in
-      let rest = steps_spelled rows full k (done ++ s ∷ []) e lines (line.number + 1) (omega (arith, counted, length-append done (s ∷ []))) first.2 in
-      let later : first_id f c.rows + length (done ++ s ∷ []) ≡ id + 1 = omega (arith, length-append done (s ∷ [])) in
-      record {
-        todo = s ∷ rest.todo;
-        spelled = tokens ∷ rest.spelled;
-        blanks = rest.blanks;
-        whole = rest.whole ∙ ap (read_so_far rows) (append_assoc done (s ∷ []) rest.todo);
-        counted = omega (arith, rest.counted, length-append done (s ∷ []));
-        are = ap (λ ts. tokens ∷ ts) rest.are;
-        each = (here.spelled, rest.each);
-        lawful = (here.lawful, subst (λ i. AreSteps p i rest.todo) later rest.lawful);
-      }
+      step_in_front rows done s e line lines (step_spelled p id tokens s first.1)
+      (steps_spelled rows full k (done ++ s ∷ []) e lines (line.number + 1) (omega (arith, counted, length-append done (s ∷ []))) first.2)
 
   -- row lines, derivation lines, and then lines of blanks
   record AreBodyLines (done : List (List Bool)) (lines : List TextLine) (e : Dqr) : Type 0 where
@@ -151,37 +167,40 @@ module _ (f : Dqbf) (c : Counts) where
             (subst (λ i. AreSteps (is_pair_number f c.rows) i s.todo) from_first s.lawful);
       }
 
+  row_in_front : (done : List (List Bool)) (row : List Bool) (e : Dqr) (line : TextLine) (lines : List TextLine) →
+      IsRowLine f.universals (line_tokens line.text) row → AreBodyLines (done ++ row ∷ []) lines e → AreBodyLines done (line ∷ lines) e
+  row_in_front done row e line lines here rest = record {
+    todo = row ∷ rest.todo;
+    row_lines = line_tokens line.text ∷ rest.row_lines;
+    step_lines = rest.step_lines;
+    blanks = rest.blanks;
+    whole = rest.whole ∙ append_assoc done (row ∷ []) rest.todo;
+    counted_rows = rest.counted_rows;
+    counted_steps = rest.counted_steps;
+    are = ap (λ ts. line_tokens line.text ∷ ts) rest.are;
+    each_row = (here.spelled, rest.each_row);
+    whole_rows = (here.whole, rest.whole_rows);
+    each_step = rest.each_step;
+    lawful = rest.lawful;
+  }
+
   rows_spelled : (k : ℕ) (done : List (List Bool)) (e : Dqr) (lines : List TextLine) (number : ℕ) →
       length done + k ≡ c.rows → read_body f c (read_so_far done []) lines number ≡ Ok e → AreBodyLines done lines e
   rows_spelled zero done e lines number counted read =
       behind_rows done e lines (omega (arith, counted)) (steps_spelled done (omega (arith, counted)) c.steps [] e lines number (omega arith) read)
   rows_spelled (suc k) done e [] number counted read =
       let d = read_so_far done [] in
-      never number e (ap (λ p. at_end p d number) (sym (part_row c d (omega (arith, counted)))) ∙ read)
+      never number e (end_of_part RowLine d e number (part_row c d (omega (arith, counted))) read)
   rows_spelled (suc k) done e (line ∷ lines) number counted read =
       let d = read_so_far done [] in
       let next : Reads = λ x. read_body f c x lines (line.number + 1) in
       let tokens = line_tokens line.text in
       let part = part_row c d (omega (arith, counted)) in
       let first = goes_on line.number (row_line f.universals tokens) (with_row d) next e
-      (ap (λ q. behind_line line.number (read_part q f c d tokens) next) (sym part) ∙ read) in
+      (line_of_part RowLine d e line lines number part read) in
       let row = first.0 in
-      let here = row_spelled f.universals tokens row first.1 in
-      let rest = rows_spelled k (done ++ row ∷ []) e lines (line.number + 1) (omega (arith, counted, length-append done (row ∷ []))) first.2 in
-      record {
-        todo = row ∷ rest.todo;
-        row_lines = tokens ∷ rest.row_lines;
-        step_lines = rest.step_lines;
-        blanks = rest.blanks;
-        whole = rest.whole ∙ append_assoc done (row ∷ []) rest.todo;
-        counted_rows = rest.counted_rows;
-        counted_steps = rest.counted_steps;
-        are = ap (λ ts. tokens ∷ ts) rest.are;
-        each_row = (here.spelled, rest.each_row);
-        whole_rows = (here.whole, rest.whole_rows);
-        each_step = rest.each_step;
-        lawful = rest.lawful;
-      }
+      row_in_front done row e line lines (row_spelled f.universals tokens row first.1)
+      (rows_spelled k (done ++ row ∷ []) e lines (line.number + 1) (omega (arith, counted, length-append done (row ∷ []))) first.2)
 
 -- a refutation's lines
 record AreLines (f : Dqbf) (lines : List TextLine) (d : Dqr) : Type 0 where

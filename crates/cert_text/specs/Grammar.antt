@@ -1,5 +1,6 @@
--- The grammar: which refutation a text spells for a formula (pairs as in universal expansion, derivation lines as in
--- LRAT without RAT steps). Numbers may stand between any spaces, tabs and CRs.
+-- The grammar: which refutation a text spells for a formula, in this project's own format: rows for a universal expansion
+-- (U. Bubeck, H. Kleine Büning, "Dependency quantified Horn formulas", 2006), and derivation lines as in LRAT (L.
+-- Cruz-Filipe et al., "Efficient certified RAT verification", 2017). Tokens stand between any spaces, tabs and CRs.
 use Rattle.std.specs.Prelude.{◌≡◌, ℕ, ◌+◌, ◌*◌, ◌<◌, ◌≤◌, ℤ, pos, neg_ℤ, Bool, true, false, List, [], ◌∷◌, ◌++◌, map, length, replicate, codes, IsSome}
 use Rattle.std.specs.List.{All, AllZip, zip}
 use Rattle.dq_lits.specs.Derivation.{ProofStep}

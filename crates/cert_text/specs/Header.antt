@@ -1,4 +1,4 @@
--- The header line of a refutation.
+-- The header line of a refutation, in this project's own format: `p dqr` and two counts.
 use Rattle.std.specs.Prelude.{ℕ, nat_lt, ◌&&◌, ◌||◌, List, [], ◌∷◌, Option, None, Some, Result, Ok, Err, codes, if◌then◌else◌}
 use Rattle.std.specs.Str.{bytes_eq}
 use Rattle.cert_text.specs.Numbers.{natural_of}

@@ -1,3 +1,4 @@
+pub mod Beginning
 pub mod Canonical
 pub mod Grammar
 pub mod Header

@@ -1,4 +1,5 @@
--- The variables of an expansion refutation: pairs of an existential and a row.
+-- The variables of an expansion refutation: pairs of an existential and a row (universal expansion; U. Bubeck, H. Kleine
+-- Büning, "Dependency quantified Horn formulas", 2006).
 use Rattle.std.specs.Prelude.{ℕ, ◌+◌, ◌-◌, ◌/◌, ◌%◌, ◌==◌, nat_lt, Bool, not, ◌&&◌, is_some}
 use Rattle.dq_lits.specs.Formula.{Dqbf, existential_of}
 

@@ -1,4 +1,4 @@
--- The first fault of a refutation's text, line by line, or the refutation.
+-- The first fault of a refutation's text, line by line, or the refutation: this project's own format.
 use Rattle.std.specs.Prelude.{◌≡◌, ℕ, ◌+◌, ◌*◌, nat_lt, Bool, true, false, List, [], ◌∷◌, ◌++◌, length, Result, Ok, Err, if◌then◌else◌}
 use Rattle.dq_lits.specs.Derivation.{ProofStep}
 use Rattle.dq_lits.specs.Formula.{Dqbf}

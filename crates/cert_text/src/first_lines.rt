@@ -1,7 +1,8 @@
 //! The lines of a certificate up to its header line.
 
-ghost use Rattle.std.specs.Prelude.{◌≡◌, codes};
+ghost use Rattle.std.specs.Prelude.{◌≡◌, ◌≤◌, length, Ok, IfOk, codes};
 ghost use Rattle.dq_text.specs.Line.{line_tokens};
+ghost use Rattle.cert_text.specs.Beginning.{header_place, header_number};
 ghost use Rattle.cert_text.specs.Kind.{verdict_of_word, stated_verdict, shown_verdict, kind_at, header_kind, agreeing, certificate_kind};
 
 use crate::faults::{CertFault, CertRefusal};
@@ -16,7 +17,9 @@ use dq_text::{LineTokens, Lines};
 /// begins a circuit and `p` a refutation. Anything else, or a missing line, is `BadHeader` at that line. A
 /// verdict that the kind doesn't show is `WrongVerdict` at line 1.
 pub fn kind(bytes: &[u8]) -> Result<Kind, CertRefusal>
-    ensures { result ≡ certificate_kind bytes.now }
+    ensures kind { result ≡ certificate_kind bytes.now }
+    ensures within { IfOk result (λ kind. header_place kind ≤ length bytes.now) }
+    ensures early { IfOk result (λ kind. (1 ≤ header_number kind) × (header_number kind ≤ 2)) }
 {
     let mut lines = Lines::new(bytes, 1);
     let Some(first) = lines.next() else {
@@ -68,7 +71,9 @@ fn verdict_of(word: &[u8]) -> Option<Verdict>
 
 // The kind of a header line that begins at a byte and has this number.
 fn header_kind(text: &[u8], at: usize, line: u64) -> Result<Kind, CertRefusal>
-    ensures { result ≡ header_kind at line (line_tokens text.now) }
+    ensures kind { result ≡ header_kind at line (line_tokens text.now) }
+    ensures place { IfOk result (λ kind. header_place kind ≡ at) }
+    ensures number { IfOk result (λ kind. header_number kind ≡ line) }
 {
     match LineTokens::new(text).next() {
         Some(word) if is_word(word, b"aag") => Ok(Kind::Circuit { at, line }),
@@ -79,7 +84,8 @@ fn header_kind(text: &[u8], at: usize, line: u64) -> Result<Kind, CertRefusal>
 
 // The kind, if it shows the verdict.
 fn agreeing(verdict: Verdict, kind: Result<Kind, CertRefusal>) -> Result<Kind, CertRefusal>
-    ensures { result ≡ agreeing verdict kind }
+    ensures agrees { result ≡ agreeing verdict kind }
+    ensures same { IfOk result (λ shown. kind ≡ Ok shown) }
 {
     let kind = kind?;
     if shown(kind) == verdict {

@@ -1,15 +1,23 @@
-//! What joins the grammar, the first fault and the canonical text of refutations. A law is the contract of a
-//! function without parameters and with an empty body.
+//! What joins the grammars, the first faults and the canonical text. A law is the contract of a function
+//! without parameters and with an empty body.
 
 ghost use Rattle.std.specs.Prelude.{◌≡◌, ℕ, ◌⊎◌, ◌↔◌, true, List, Ok, Err};
 ghost use Rattle.dq_lits.specs.Formula.{Dqbf};
 ghost use Rattle.dq_formula.specs.Prefix.{IsLawful};
+ghost use Rattle.cert_text.specs.Beginning.{Begins};
 ghost use Rattle.cert_text.specs.Canonical.{canonical};
 ghost use Rattle.cert_text.specs.Grammar.{IsDqrOf, IsPairNumber, SpellsRefutation};
+ghost use Rattle.cert_text.specs.Kind.{certificate_kind};
 ghost use Rattle.cert_text.specs.Pairs.{is_pair_number};
 ghost use Rattle.cert_text.specs.Scan.{refutation_of};
 ghost use Rattle.cert_text.specs.declared.faults.CertRefusal.{CertRefusal};
+ghost use Rattle.cert_text.specs.declared.kinds.Kind.{Kind};
 ghost use Rattle.cert_text.specs.declared.refutations.Dqr.{Dqr};
+
+/// How a text begins tells its kind, and where its header line stands.
+pub fn beginning_tells_kind()
+    ensures { (text : List ℕ) (kind : Kind) → Begins text kind ↔ (certificate_kind text ≡ Ok kind) }
+{}
 
 /// A text spells one refutation for a formula, or it has a first fault, and never both. The number of its first
 /// line says only which line a fault names. Every formula is lawful (`Formula::every_formula_is_lawful`).

@@ -35,7 +35,7 @@ pub fn take_integers(tokens: &mut LineTokens, integers: &mut Vec<i64>) -> Result
         match read_number(token) {
             Number::NotANumber => return Err(LineStop::Fault(CertFault::BadLine)),
             Number::TooBig => too_big = true,
-            Number::Int(n) => add(integers, n)?,
+            Number::Int(n) => push_integer(integers, n)?,
         }
     }
     if too_big {
@@ -44,7 +44,7 @@ pub fn take_integers(tokens: &mut LineTokens, integers: &mut Vec<i64>) -> Result
     Ok(())
 }
 
-fn add(integers: &mut Vec<i64>, n: i64) -> Result<(), Memory>
+fn push_integer(integers: &mut Vec<i64>, n: i64) -> Result<(), Memory>
     ensures { OnOk result (integers.new.items ≡ integers.old.items ++ n ∷ []) }
 {
     integers.push(n)?;

@@ -110,7 +110,7 @@ fn part_of(reader: &Reader) -> Part
     }
 }
 
-// Reads the next line.
+// Reads the next line, whatever is due there.
 fn take_line(alloc: Global, f: &Formula, reader: &mut Reader, line: &[u8]) -> Result<(), LineStop>
     requires { IsReady reader.old }
     ensures line { IsMadeOf (read_line f.now reader.old.counts (read_so_far reader.old) line.now) result (read_so_far reader.new) }

@@ -72,6 +72,7 @@ fn before_zero(numbers: &[i64]) -> Option<(&[i64], &[i64])>
     Some((&numbers[..end], &numbers[end + 1..]))
 }
 
+// Whether the id and the hints are positive, and nothing stands behind them.
 fn is_shape(id: i64, hints: &[i64], behind: &[i64]) -> bool
     ensures { result ≡ (is_positive id && (list_all is_positive hints.now && is_nil behind.now)) }
 {
@@ -81,7 +82,7 @@ fn is_shape(id: i64, hints: &[i64], behind: &[i64]) -> bool
 fn first_zero(numbers: &[i64]) -> Option<usize>
     ensures { result ≡ position is_zero numbers.now }
 {
-    numbers.iter().position(|n| n.unsigned_abs() == 0)
+    numbers.iter().position(|n| *n == 0)
 }
 
 fn are_positive(numbers: &[i64]) -> bool

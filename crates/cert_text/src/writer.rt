@@ -1,7 +1,9 @@
 //! Writing a refutation.
 
-ghost use Rattle.std.specs.Prelude.{◌≡◌, ◌++◌, not, length, IfOk, OnOk, codes};
+ghost use Rattle.std.specs.Prelude.{◌≡◌, ◌++◌, ℕ, not, length, Ok, IfOk, OnOk, codes};
 ghost use Rattle.std.specs.List.{flat_map, zip};
+ghost use Rattle.cert_text.specs.Grammar.{IsDqrOf};
+ghost use Rattle.cert_text.specs.Scan.{refutation_of};
 ghost use Rattle.cert_text.specs.Canonical.{number_text, signed_text, literal_text, header_text, row_text, step_text, canonical};
 
 use crate::refutations::Dqr;
@@ -12,10 +14,13 @@ use dq_text::push_natural;
 use std::alloc::Global;
 
 /// The canonical text of a refutation for a formula: the header `p dqr K N`; for each row `u`, the universals
-/// in the formula's order, each with its bit as its sign, and `0`; then the derivation lines.
+/// in the formula's order, each with its bit as its sign, and `0`; then the derivation lines. Where the
+/// refutation is one that a text can hold for the formula, reading the text gives it back.
 pub fn write_dqr(alloc: Global, d: &Dqr, f: &Formula) -> Result<Vec<u8>, Memory>
-    ensures { IfOk result (λ text. text.items ≡ canonical f.now.universals d.now) }
+    ensures canonical { IfOk result (λ text. text.items ≡ canonical f.now.universals d.now) }
+    ensures reads_back { IsDqrOf f.now d.now → IfOk result (λ text. (first : ℕ) → refutation_of f.now text.items first ≡ Ok d.now) }
 {
+    f.every_formula_is_lawful();
     let mut text = Vec::new(alloc);
     let rows = d.rows.items();
     let steps = d.steps.items();

@@ -1,0 +1,221 @@
+-- The kind of a certificate, as its first lines tell it.
+use Rattle.std.proofs.Common.{◌≡◌, ℕ, ◌+◌, ◌-◌, ◌==◌, ◌≤◌, Bool, true, false, cond, inl, inr, List, [], ◌∷◌, length, Option, Some, None, Result, Ok, Err, codes, refl, sym, ◌∙◌, ap, ap₂, arith, subst}
+use Rattle.std.specs.Str.{bytes_eq}
+use Rattle.std.proofs.lemmas.Slice.Eq.{bytes_eq-Decides}
+use Rattle.dq_text.specs.Line.{TextLine, line_tokens, extend_line, lines_from}
+use Rattle.cert_text.specs.Beginning.{header_word, verdict_word, header_place, header_number, BeginsPlainly, BeginsWithVerdict, Begins}
+use Rattle.cert_text.specs.Kind.{refusal, verdict_of_word, stated_verdict, shown_verdict, header_kind, same_verdict, agreeing, kind_at, kind_behind, kind_of_lines, certificate_kind}
+use Rattle.cert_text.specs.declared.faults.CertFault.TheVariants.{BadHeader, WrongVerdict}
+use Rattle.cert_text.specs.declared.faults.CertRefusal.{CertRefusal}
+use Rattle.cert_text.specs.declared.kinds.Kind.{Kind}
+use Rattle.cert_text.specs.declared.kinds.Kind.TheVariants.{Circuit, Refutation}
+use Rattle.cert_text.specs.declared.kinds.Verdict.{Verdict}
+use Rattle.cert_text.specs.declared.kinds.Verdict.TheVariants.{True, False}
+
+-- the first of the lines from a number on
+record IsFirst (n : ℕ) (text : List ℕ) (line : TextLine) (lines : List TextLine) : Type 0 where
+  number : line.number ≡ n
+  next : lines ≡ lines_from (n + 1) line.behind
+  short : length line.behind ≤ length text
+
+fed : (n : ℕ) (bytes : List ℕ) (byte : ℕ) (line : TextLine) (lines : List TextLine) →
+    record { text = []; number = n; behind = bytes } ∷ lines_from (n + 1) bytes ≡ line ∷ lines → IsFirst n (byte ∷ bytes) line lines
+fed n bytes byte line lines h =
+    let line_is : record { text = []; number = n; behind = bytes } ≡ line = cc in
+    let lines_are : lines_from (n + 1) bytes ≡ lines = cc in
+    let behind : bytes ≡ line.behind = ap (λ (l : TextLine). l.behind) line_is in
+    record {
+      number = sym (ap (λ (l : TextLine). l.number) line_is);
+      next = sym lines_are ∙ ap (lines_from (n + 1)) behind;
+      short = omega (arith, ap length behind);
+    }
+
+extended : (n : ℕ) (bytes : List ℕ) (byte : ℕ) (line : TextLine) (lines found : List TextLine) →
+    ((l : TextLine) (ls : List TextLine) → found ≡ l ∷ ls → IsFirst n bytes l ls) → extend_line byte n found ≡ line ∷ lines → IsFirst n (byte ∷ bytes) line lines
+extended n bytes byte line lines [] later h =
+    let line_is : record { text = byte ∷ []; number = n; behind = [] } ≡ line = cc in
+    let lines_are : [] ≡ lines = cc in
+    let behind : [] ≡ line.behind = ap (λ (l : TextLine). l.behind) line_is in
+    record {
+      number = sym (ap (λ (l : TextLine). l.number) line_is);
+      next = sym lines_are ∙ ap (lines_from (n + 1)) behind;
+      short = omega (arith, ap length behind);
+    }
+extended n bytes byte line lines (l ∷ ls) later h =
+    let first = later l ls refl in
+    let line_is : record { text = byte ∷ l.text; number = n; behind = l.behind } ≡ line = cc in
+    let lines_are : ls ≡ lines = cc in
+    let behind : l.behind ≡ line.behind = ap (λ (x : TextLine). x.behind) line_is in
+    record {
+      number = sym (ap (λ (x : TextLine). x.number) line_is);
+      next = sym lines_are ∙ first.next ∙ ap (lines_from (n + 1)) behind;
+      short = omega (arith, ap length behind, first.short);
+    }
+
+by_byte : (feed : Bool) (n : ℕ) (bytes : List ℕ) (byte : ℕ) (line : TextLine) (lines : List TextLine) →
+    ((l : TextLine) (ls : List TextLine) → lines_from n bytes ≡ l ∷ ls → IsFirst n bytes l ls) →
+    cond feed (record { text = []; number = n; behind = bytes } ∷ lines_from (n + 1) bytes) (extend_line byte n (lines_from n bytes)) ≡ line ∷ lines →
+    IsFirst n (byte ∷ bytes) line lines
+by_byte true n bytes byte line lines later h = fed n bytes byte line lines h
+by_byte false n bytes byte line lines later h = extended n bytes byte line lines (lines_from n bytes) later h
+
+first_line : (n : ℕ) (text : List ℕ) (line : TextLine) (lines : List TextLine) → lines_from n text ≡ line ∷ lines → IsFirst n text line lines
+first_line n [] line lines h = cc
+first_line n (byte ∷ bytes) line lines h = by_byte (byte == 10) n bytes byte line lines (first_line n bytes) h
+
+-- a header line of this kind
+record IsHeaderOf (place number : ℕ) (tokens : List (List ℕ)) (kind : Kind) : Type 0 where
+  rest : List (List ℕ)
+  word : tokens ≡ header_word kind ∷ rest
+  place_is : header_place kind ≡ place
+  number_is : header_number kind ≡ number
+
+by_words : (circuit refutation : Bool) (place number : ℕ) (word : List ℕ) (tokens : List (List ℕ)) (kind : Kind) →
+    (circuit ≡ true → word ≡ codes "aag") → (refutation ≡ true → word ≡ codes "p") →
+    cond circuit (Ok (Circuit place number)) (cond refutation (Ok (Refutation place number)) (Err (refusal number BadHeader))) ≡ Ok kind →
+    IsHeaderOf place number (word ∷ tokens) kind
+by_words true refutation place number word tokens kind aag p h =
+    let is : Circuit place number ≡ kind = cc in
+    subst (IsHeaderOf place number (word ∷ tokens)) is (record { rest = tokens; word = ap (λ w. w ∷ tokens) (aag refl); place_is = refl; number_is = refl })
+by_words false true place number word tokens kind aag p h =
+    let is : Refutation place number ≡ kind = cc in
+    subst (IsHeaderOf place number (word ∷ tokens)) is (record { rest = tokens; word = ap (λ w. w ∷ tokens) (p refl); place_is = refl; number_is = refl })
+by_words false false place number word tokens kind aag p h = cc
+
+header_is : (place number : ℕ) (tokens : List (List ℕ)) (kind : Kind) → header_kind place number tokens ≡ Ok kind → IsHeaderOf place number tokens kind
+header_is place number [] kind h = cc
+header_is place number (word ∷ tokens) kind h =
+    by_words (bytes_eq word (codes "aag")) (bytes_eq word (codes "p")) place number word tokens kind
+    (bytes_eq-Decides word (codes "aag")).0 (bytes_eq-Decides word (codes "p")).0 h
+
+abbrev word_of : Verdict → List ℕ
+word_of True = codes "TRUE"
+word_of False = codes "FALSE"
+
+verdict_is : (t f : Bool) (word : List ℕ) (verdict : Verdict) → (t ≡ true → word ≡ codes "TRUE") → (f ≡ true → word ≡ codes "FALSE") →
+    cond t (Some True) (cond f (Some False) None) ≡ Some verdict → word ≡ word_of verdict
+verdict_is true f word verdict is_true is_false h =
+    let is : True ≡ verdict = cc in is_true refl ∙ ap word_of is
+verdict_is false true word verdict is_true is_false h =
+    let is : False ≡ verdict = cc in is_false refl ∙ ap word_of is
+verdict_is false false word verdict is_true is_false h = cc
+
+by_letter : (s : Bool) (letter word : List ℕ) (verdict : Verdict) → (s ≡ true → letter ≡ codes "s") → cond s (verdict_of_word word) None ≡ Some verdict →
+    letter ∷ word ∷ [] ≡ codes "s" ∷ word_of verdict ∷ []
+by_letter true letter word verdict is_s h =
+    ap₂ (λ a b. a ∷ b ∷ []) (is_s refl)
+    (verdict_is (bytes_eq word (codes "TRUE")) (bytes_eq word (codes "FALSE")) word verdict (bytes_eq-Decides word (codes "TRUE")).0 (bytes_eq-Decides word (codes "FALSE")).0 h)
+by_letter false letter word verdict is_s h = cc
+
+stated_is : (tokens : List (List ℕ)) (verdict : Verdict) → stated_verdict tokens ≡ Some verdict → tokens ≡ codes "s" ∷ word_of verdict ∷ []
+stated_is [] verdict h = cc
+stated_is (letter ∷ []) verdict h = cc
+stated_is (letter ∷ word ∷ []) verdict h = by_letter (bytes_eq letter (codes "s")) letter word verdict (bytes_eq-Decides letter (codes "s")).0 h
+stated_is (letter ∷ word ∷ more ∷ rest) verdict h = cc
+
+same_word : (verdict : Verdict) (kind : Kind) → same_verdict (shown_verdict kind) verdict ≡ true → word_of verdict ≡ verdict_word kind
+same_word True (Circuit place number) h = refl
+same_word False (Circuit place number) h = cc
+same_word True (Refutation place number) h = cc
+same_word False (Refutation place number) h = refl
+
+agreed : (same : Bool) (kind other : Kind) → cond same (Ok kind) (Err (refusal 1 WrongVerdict)) ≡ Ok other → (same ≡ true) × (kind ≡ other)
+agreed true kind other h = let is : kind ≡ other = cc in (refl, is)
+agreed false kind other h = cc
+
+agrees : (verdict : Verdict) (found : Result Kind CertRefusal) (kind : Kind) → agreeing verdict found ≡ Ok kind →
+    (found ≡ Ok kind) × (word_of verdict ≡ verdict_word kind)
+agrees verdict (Err fault) kind h = cc
+agrees verdict (Ok found) kind h =
+    let both = agreed (same_verdict (shown_verdict found) verdict) found kind h in
+    (ap Ok both.1, same_word verdict found both.0 ∙ ap verdict_word both.1)
+
+behind_verdict : (text : List ℕ) (verdict : Verdict) (line : TextLine) (lines : List TextLine) (kind : Kind) → lines_from 1 text ≡ line ∷ lines →
+    line_tokens line.text ≡ codes "s" ∷ word_of verdict ∷ [] → agreeing verdict (kind_at (length text - length line.behind) lines) ≡ Ok kind → BeginsWithVerdict text kind
+behind_verdict text verdict line [] kind is stated h = cc
+behind_verdict text verdict line (header ∷ others) kind is stated h =
+    let first = first_line 1 text line (header ∷ others) is in
+    let second = first_line 2 line.behind header others (sym first.next) in
+    let both = agrees verdict (kind_at (length text - length line.behind) (header ∷ others)) kind h in
+    let found = header_is (length text - length line.behind) header.number (line_tokens header.text) kind both.0 in
+    record {
+      stated = line;
+      header = header;
+      others = others;
+      rest = found.rest;
+      lines = is;
+      verdict = stated ∙ ap (λ word. codes "s" ∷ word ∷ []) both.1;
+      word = found.word;
+      place = omega (arith, found.place_is, first.short);
+      number = found.number_is ∙ second.number;
+    }
+
+by_statement : (text : List ℕ) (line : TextLine) (lines : List TextLine) (stated : Option Verdict) (kind : Kind) → lines_from 1 text ≡ line ∷ lines →
+    stated_verdict (line_tokens line.text) ≡ stated → kind_behind (length text) line lines stated ≡ Ok kind → Begins text kind
+by_statement text line lines None kind is stated h =
+    let found = header_is 0 line.number (line_tokens line.text) kind h in
+    inl (record {
+      header = line;
+      others = lines;
+      rest = found.rest;
+      lines = is;
+      word = found.word;
+      place = found.place_is;
+      number = found.number_is ∙ (first_line 1 text line lines is).number;
+    })
+by_statement text line lines (Some verdict) kind is stated h =
+    inr (behind_verdict text verdict line lines kind is (stated_is (line_tokens line.text) verdict stated) h)
+
+by_lines : (text : List ℕ) (lines : List TextLine) (kind : Kind) → lines_from 1 text ≡ lines → kind_of_lines (length text) lines ≡ Ok kind → Begins text kind
+by_lines text [] kind is h = cc
+by_lines text (line ∷ lines) kind is h = by_statement text line lines (stated_verdict (line_tokens line.text)) kind is refl h
+
+pub kind_spelled : (text : List ℕ) (kind : Kind) → certificate_kind text ≡ Ok kind → Begins text kind
+kind_spelled text kind h = by_lines text (lines_from 1 text) kind refl h
+
+-- the other way
+unstated : (kind : Kind) (rest : List (List ℕ)) → stated_verdict (header_word kind ∷ rest) ≡ None
+unstated (Circuit place number) [] = refl
+unstated (Circuit place number) (word ∷ []) = refl
+unstated (Circuit place number) (word ∷ more ∷ rest) = refl
+unstated (Refutation place number) [] = refl
+unstated (Refutation place number) (word ∷ []) = refl
+unstated (Refutation place number) (word ∷ more ∷ rest) = refl
+
+told : (kind : Kind) (place number : ℕ) (rest : List (List ℕ)) → header_place kind ≡ place → header_number kind ≡ number →
+    header_kind place number (header_word kind ∷ rest) ≡ Ok kind
+told (Circuit at line) place number rest place_is number_is = ap₂ (λ p n. Ok (Circuit p n)) (sym place_is) (sym number_is)
+told (Refutation at line) place number rest place_is number_is = ap₂ (λ p n. Ok (Refutation p n)) (sym place_is) (sym number_is)
+
+plain_told : (text : List ℕ) (kind : Kind) → BeginsPlainly text kind → certificate_kind text ≡ Ok kind
+plain_told text kind b =
+    let number = b.number ∙ sym (first_line 1 text b.header b.others b.lines).number in
+    ap (kind_of_lines (length text)) b.lines
+    ∙ ap (λ tokens. kind_behind (length text) b.header b.others (stated_verdict tokens)) b.word
+    ∙ ap (kind_behind (length text) b.header b.others) (unstated kind b.rest)
+    ∙ ap (header_kind 0 b.header.number) b.word
+    ∙ told kind 0 b.header.number b.rest b.place number
+
+stated_told : (kind : Kind) → stated_verdict (codes "s" ∷ verdict_word kind ∷ []) ≡ Some (shown_verdict kind)
+stated_told (Circuit place number) = refl
+stated_told (Refutation place number) = refl
+
+agreeing_told : (kind : Kind) → agreeing (shown_verdict kind) (Ok kind) ≡ Ok kind
+agreeing_told (Circuit place number) = refl
+agreeing_told (Refutation place number) = refl
+
+verdict_told : (text : List ℕ) (kind : Kind) → BeginsWithVerdict text kind → certificate_kind text ≡ Ok kind
+verdict_told text kind b =
+    let lines = b.header ∷ b.others in
+    let first = first_line 1 text b.stated lines b.lines in
+    let second = first_line 2 b.stated.behind b.header b.others (sym first.next) in
+    let place : header_place kind ≡ length text - length b.stated.behind = omega (arith, b.place) in
+    ap (kind_of_lines (length text)) b.lines
+    ∙ ap (λ tokens. kind_behind (length text) b.stated lines (stated_verdict tokens)) b.verdict
+    ∙ ap (kind_behind (length text) b.stated lines) (stated_told kind)
+    ∙ ap (λ tokens. agreeing (shown_verdict kind) (header_kind (length text - length b.stated.behind) b.header.number tokens)) b.word
+    ∙ ap (agreeing (shown_verdict kind)) (told kind (length text - length b.stated.behind) b.header.number b.rest place (b.number ∙ sym second.number))
+    ∙ agreeing_told kind
+
+pub kind_told : (text : List ℕ) (kind : Kind) → Begins text kind → certificate_kind text ≡ Ok kind
+kind_told text kind begins = elim begins [ inl plain ↦ plain_told text kind plain | inr stated ↦ verdict_told text kind stated ]
