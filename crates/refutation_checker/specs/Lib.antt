@@ -1,0 +1,6 @@
+pub mod Refutation
+pub mod Answer
+pub mod Pairs
+pub mod Occurring
+pub mod Renaming
+pub mod PairTable
