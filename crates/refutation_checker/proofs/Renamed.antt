@@ -1,11 +1,11 @@
 -- What is derived doesn't depend on the names of the variables.
-use Rattle.std.proofs.Common.{◌≡◌, ℕ, suc, ◌+◌, ◌==◌, Bool, true, false, not, cond, ◌||◌, ◌&&◌, inl, inr, List, [], ◌∷◌, map, get_or, Option, None, Some, refl, sym, ◌∙◌, ap, subst, arith}
+use Rattle.std.proofs.Common.{◌≡◌, ℕ, ◌+◌, ◌==◌, Bool, true, false, not, cond, ◌||◌, ◌&&◌, inl, inr, List, [], ◌∷◌, map, get_or, Option, None, Some, refl, sym, ◌∙◌, ap, arith}
 use Rattle.std.specs.Prelude.{Contains}
 use Rattle.std.specs.List.{AllByRecursion, list_any, list_all, filter}
 use Rattle.std.specs.Option.{option_map}
 use Rattle.std.proofs.lemmas.Bool.{cases_Bool, eqb-true, eq-eqb}
-use Rattle.dq_lits.specs.Literal.{Literal, positive, negative, variable_of, opposite, same_literal, on_variable}
-use Rattle.dq_lits.specs.Derivation.{LiveClauses, with_clause, Status, falsified, unit, stuck, holds, status_by, status_of, fault_by, hint_fault, is_tautology, line_fault, ProofStep, ProofFault, unfinished, fault_of_step, is_empty, steps_fault, proof_fault}
+use Rattle.dq_lits.specs.Literal.{Literal, positive, negative, variable_of, opposite, same_literal}
+use Rattle.dq_lits.specs.Derivation.{LiveClauses, with_clause, Status, falsified, unit, stuck, holds, status_by, status_of, fault_by, hint_fault, is_tautology, line_fault, ProofStep, ProofFault, fault_of_step, is_empty, steps_fault, proof_fault}
 use Rattle.dq_formula.proofs.Places.{place, has-contains}
 use Rattle.dq_formula.proofs.Sorted.{get_or-place}
 use Rattle.refutation_checker.specs.Renaming.{place_of, renamed_literal, renamed_clauses, renamed_step}

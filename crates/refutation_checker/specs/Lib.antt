@@ -4,3 +4,4 @@ pub mod Pairs
 pub mod Occurring
 pub mod Renaming
 pub mod PairTable
+pub mod Lines

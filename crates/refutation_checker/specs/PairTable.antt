@@ -1,6 +1,7 @@
 -- The pairs of a formula's existentials and some rows, as far as they occur.
-use Rattle.std.specs.Prelude.{◌≡◌, ◌≤◌, ◌<◌, ◌^◌, ℕ, Bool, List, length, map, slice_index_or, []}
+use Rattle.std.specs.Prelude.{◌≡◌, ◌≤◌, ◌<◌, ◌^◌, ℕ, Bool, List, length, map, Option, slice_index_or, []}
 use Rattle.std.specs.List.{All}
+use Rattle.dq_lits.specs.Expansion.{instance_clause}
 use Rattle.dq_lits.specs.Formula.{Dqbf}
 use Rattle.dq_lits.specs.Literal.{Literal, variable_of, on_variable}
 use Rattle.cert_text.specs.Header.{max_count}
@@ -41,3 +42,7 @@ part_pairs n k part = map (λ l. pair_of n.formula n.rows (row_at n k) (variable
 
 abbrev pub with_numbers : Numbered → List ℕ → Numbered
 with_numbers n numbers = record n { pairs = with_pairs n.pairs numbers }
+
+-- the clause at j under the row at k
+abbrev pub instance_in : Dqbf → List (List Bool) → ℕ × ℕ → Option (List Literal)
+instance_in f rows at = instance_clause f rows (slice_index_or rows at.0 []) (slice_index_or f.matrix at.1 [])

@@ -1,6 +1,6 @@
 -- Pairs of a row and an existential, by the existential's variable and the row.
 use Rattle.std.specs.Prelude.{◌≡◌, ℕ, ◌+◌, ◌*◌, Bool, List, map, Option, None, Some, is_some}
-use Rattle.std.specs.List.{All, filter, position_or_len}
+use Rattle.std.specs.List.{AllByRecursion, filter, position_or_len}
 use Rattle.dq_lits.specs.Expansion.{agree_on}
 use Rattle.dq_lits.specs.Formula.{Existential, Dqbf, existential_of}
 use Rattle.dq_lits.specs.Literal.{Literal, variable_of}
@@ -19,7 +19,7 @@ pair_of f rows row v = first_row f rows v row * f.variables + v
 
 -- for each of these existentials, the first rows that agree with each row
 abbrev pub AreFirstRows : Dqbf → List (List Bool) → List (ℕ × List ℕ) → Type 0
-AreFirstRows f rows entries = All (λ e. e.1 ≡ map (first_row f rows e.0) rows) entries
+AreFirstRows f rows entries = AllByRecursion (λ e. e.1 ≡ map (first_row f rows e.0) rows) entries
 
 -- the existential literals of a clause
 abbrev pub existential_part : Dqbf → List Literal → List Literal

@@ -1,5 +1,5 @@
 -- Literals on the pairs that occur, which are numbered from 1 in order of their first occurrence.
-use Rattle.std.specs.Prelude.{ℕ, ◌+◌, ◌==◌, ◌++◌, List, [], ◌∷◌, map, fold, Option, if◌then◌else◌}
+use Rattle.std.specs.Prelude.{ℕ, ◌+◌, ◌==◌, ◌++◌, List, [], ◌∷◌, map, fold, if◌then◌else◌}
 use Rattle.std.specs.List.{list_any, position_or_len}
 use Rattle.std.specs.Option.{option_map}
 use Rattle.dq_lits.specs.Derivation.{LiveClauses, ProofStep}
