@@ -1,0 +1,217 @@
+-- The numbers of pairs.
+use Rattle.std.proofs.Common.{◌≡◌, ℕ, ◌+◌, ◌-◌, ◌*◌, ◌/◌, ◌%◌, ◌≤◌, ◌<◌, ◌^◌, ◌==◌, eqb, Bool, true, false, not, ◌&&◌, cond, inl, inr, List, [], ◌∷◌, map, length, get_or, position, Option, Contains, None, Some, IsSome, is_some, nat_lt, refl, sym, ◌∙◌, ap, subst, arith}
+use Rattle.std.specs.List.{All, IsDistinct, list_any, find, position_or_len, filter_map}
+use Rattle.std.specs.Map.{lookup}
+use Rattle.std.proofs.Math.Nat.{mul-le-mul_left}
+use Rattle.std.proofs.lemmas.Bool.{cases_Bool, eqb-true, and_parts, ltb-true}
+use Rattle.std.proofs.lemmas.Option.{slice_get-get_or}
+use Rattle.std.proofs.lemmas.List.{get_or-map, get_or_default}
+use Rattle.std.proofs.lemmas.List.Sums.{prefix_len-le-length}
+use Rattle.std.proofs.lemmas.List.Elements.{All-contains}
+use Rattle.std.proofs.lemmas.Map.Steps.{length-le_from_distinct_below}
+use Rattle.indexmap.specs.IndexMap.{insert_entry}
+use Rattle.dq_lits.specs.Expansion.{agree_on, row_assignment, pair_number, pair_literal, universal_literal_true}
+use Rattle.dq_lits.specs.Formula.{Existential, Dqbf, existential_of}
+use Rattle.dq_lits.specs.Literal.{Literal, positive, negative, variable_of, is_negative, literal_true, on_variable}
+use Rattle.dq_formula.specs.Prefix.{IsLawful}
+use Rattle.dq_formula.proofs.Places.{has, flip, contains-has, place-absent, place-found}
+use Rattle.dq_formula.proofs.Sorted.{place-below}
+use Rattle.dq_formula.proofs.Restrictions.{assignment_of-place}
+use Rattle.cert_text.specs.Header.{max_count}
+use Rattle.cert_text.specs.Pairs.{is_pair_number}
+use Rattle.cert_text.proofs.PairNumbers.{existential_in_range}
+use Rattle.refutation_checker.specs.Refutation.{normal_of, normal_number}
+use Rattle.refutation_checker.specs.Pairs.{first_agreeing, first_row, pair_of, existential_part, AreFirstRows}
+use Rattle.refutation_checker.specs.Renaming.{place_of}
+use Rattle.refutation_checker.specs.PairTable.{instance_in, instance_literals}
+
+-- a first row is one of the rows, or behind the last
+first_agreeing_le : (f : Dqbf) (rows : List (List Bool)) (o : Option Existential) (row : List Bool) → first_agreeing f rows o row ≤ length rows
+first_agreeing_le f rows None row = omega arith
+first_agreeing_le f rows (Some e) row = prefix_len-le-length (λ r. not (agree_on f e row r)) rows
+
+pub first_row_le : (f : Dqbf) (rows : List (List Bool)) (v : ℕ) (row : List Bool) → first_row f rows v row ≤ length rows
+first_row_le f rows v row = first_agreeing_le f rows (existential_of f v) row
+
+pub pair_small : (f : Dqbf) (first v variables : ℕ) → IsLawful f → first ≤ max_count → IsSome (existential_of f v) → variables ≡ f.variables
+    → first * variables + v < 2 ^ 61
+pair_small f first v variables lawful few declared is =
+    let y = existential_in_range f v lawful declared in
+    let product : first * variables ≤ first * 1000000 = mul-le-mul_left first (omega (arith, is, lawful.few_variables)) in
+    omega (arith, product, few, y.1, lawful.few_variables)
+
+-- numbers below a bound are no more than it
+pub few_pairs : (pairs : List ℕ) → IsDistinct eqb pairs → All (λ pair. pair < 2 ^ 61) pairs → length pairs ≤ 2 ^ 61
+few_pairs pairs distinct small =
+    length-le_from_distinct_below pairs (2 ^ 61) distinct (λ q among.
+    All-contains (λ pair. pair < 2 ^ 61) pairs q small (has-contains' q among))
+  where
+    has-contains' : (q : ℕ) → list_any (eqb q) pairs ≡ true → Contains pairs q
+    has-contains' q among = contains-has pairs q (sym (ap (λ p. list_any p pairs) (flip q)) ∙ among)
+
+-- what is kept of first rows
+pub found_rows : (f : Dqbf) (rows : List (List Bool)) (y : ℕ) (entries : List (ℕ × List ℕ)) (firsts : List ℕ) → AreFirstRows f rows entries
+    → Some firsts ≡ lookup (eqb y) entries → firsts ≡ map (first_row f rows y) rows
+found_rows f rows y [] firsts all found = cc
+found_rows f rows y (e ∷ entries) firsts all found =
+    elim (cases_Bool (eqb y e.0)) [
+      | inl same ↦
+          let at : Some firsts ≡ Some e.1 = found ∙ ap (λ b. cond b (Some e.1) (lookup (eqb y) entries)) same in
+          some_is firsts e.1 at ∙ all.0 ∙ ap (λ v. map (first_row f rows v) rows) (sym (eqb-true y e.0 same))
+      | inr other ↦ found_rows f rows y entries firsts all.1 (found ∙ ap (λ b. cond b (Some e.1) (lookup (eqb y) entries)) other)
+    ]
+  where
+    some_is : (xs ys : List ℕ) → Some xs ≡ Some ys → xs ≡ ys
+    some_is xs ys h = cc
+
+pub kept_rows : (f : Dqbf) (rows : List (List Bool)) (y : ℕ) (entries : List (ℕ × List ℕ)) (firsts : List ℕ) → AreFirstRows f rows entries
+    → firsts ≡ map (first_row f rows y) rows → AreFirstRows f rows (insert_entry eqb entries y firsts)
+kept_rows f rows y [] firsts all is = (is, tt)
+kept_rows f rows y (e ∷ entries) firsts all is = by (eqb y e.0) (λ same. is ∙ ap (λ v. map (first_row f rows v) rows) (eqb-true y e.0 same)) (kept_rows f rows y entries firsts all.1 is) refl
+  where
+    by : (b : Bool) → (eqb y e.0 ≡ true → firsts ≡ map (first_row f rows e.0) rows) → AreFirstRows f rows (insert_entry eqb entries y firsts) → eqb y e.0 ≡ b
+        → AreFirstRows f rows (cond b ((e.0, firsts) ∷ entries) (e ∷ insert_entry eqb entries y firsts))
+    by true here rest same = (here same, all.1)
+    by false here rest same = (all.0, rest)
+
+-- the existential of a variable stands on it
+found_variable : (es : List Existential) (v : ℕ) (e : Existential) → find (λ y. y.variable == v) es ≡ Some e → e.variable ≡ v
+found_variable [] v e found = cc
+found_variable (y ∷ es) v e found =
+    elim (cases_Bool (y.variable == v)) [
+      | inl same ↦
+          let at : Some y ≡ Some e = sym (ap (λ b. cond b (Some y) (find (λ x. x.variable == v) es)) same) ∙ found in
+          ap (λ (x : Existential). x.variable) (sym (some_is y e at)) ∙ eqb-true y.variable v same
+      | inr other ↦ found_variable es v e (sym (ap (λ b. cond b (Some y) (find (λ x. x.variable == v) es)) other) ∙ found)
+    ]
+  where
+    some_is : (x z : Existential) → Some x ≡ Some z → x ≡ z
+    some_is x z h = cc
+
+-- the pair's number is that of its existential
+pub pair_number_is : (f : Dqbf) (rows : List (List Bool)) (row : List Bool) (v : ℕ) (e : Existential) → existential_of f v ≡ Some e
+    → pair_number f rows row e ≡ pair_of f rows row v
+pair_number_is f rows row v e found =
+    ap (λ n. position_or_len (agree_on f e row) rows * f.variables + n) (found_variable f.existentials v e found)
+    ∙ ap (λ o. first_agreeing f rows o row * f.variables + v) (sym found)
+
+-- the number that a line may name a pair by
+pub named_is : (f : Dqbf) (rows : List (List Bool)) (number : ℕ) → is_pair_number f (length rows) number ≡ true
+    → normal_number f rows number ≡ pair_of f rows (get_or rows ((number - 1) / f.variables) []) ((number - 1) % f.variables + 1)
+named_is f rows number h =
+    let k = (number - 1) / f.variables in
+    let v = (number - 1) % f.variables + 1 in
+    ap (λ o. normal_of f rows number o (existential_of f v)) (slice_get-get_or rows k [] (row_within f rows number h))
+    ∙ by (existential_of f v) refl (existential_within f rows number h)
+  where
+    row_within : (g : Dqbf) (rs : List (List Bool)) (n : ℕ) → is_pair_number g (length rs) n ≡ true → (n - 1) / g.variables < length rs
+    row_within g rs n t =
+        ltb-true ((n - 1) / g.variables) (length rs)
+        (and_parts (nat_lt ((n - 1) / g.variables) (length rs)) (is_some (existential_of g ((n - 1) % g.variables + 1)))
+        (and_parts (not (n == 0)) _ (and_parts (not (g.variables == 0)) _ t).1).1).0
+
+    existential_within : (g : Dqbf) (rs : List (List Bool)) (n : ℕ) → is_pair_number g (length rs) n ≡ true → IsSome (existential_of g ((n - 1) % g.variables + 1))
+    existential_within g rs n t =
+        (and_parts (nat_lt ((n - 1) / g.variables) (length rs)) (is_some (existential_of g ((n - 1) % g.variables + 1)))
+        (and_parts (not (n == 0)) _ (and_parts (not (g.variables == 0)) _ t).1).1).1
+
+    by : (o : Option Existential) → existential_of f ((number - 1) % f.variables + 1) ≡ o → IsSome o
+        → normal_of f rows number (Some (get_or rows ((number - 1) / f.variables) [])) o
+        ≡ pair_of f rows (get_or rows ((number - 1) / f.variables) []) ((number - 1) % f.variables + 1)
+    by None found some = cc
+    by (Some e) found some = pair_number_is f rows (get_or rows ((number - 1) / f.variables) []) ((number - 1) % f.variables + 1) e found
+
+pub named_by : (f : Dqbf) (rows : List (List Bool)) (number variables : ℕ) → variables ≡ f.variables → is_pair_number f (length rows) number ≡ true
+    → normal_number f rows number ≡ pair_of f rows (get_or rows ((number - 1) / variables) []) ((number - 1) % variables + 1)
+named_by f rows number variables is h =
+    subst (λ w. normal_number f rows number ≡ pair_of f rows (get_or rows ((number - 1) / w) []) ((number - 1) % w + 1)) (sym is) (named_is f rows number h)
+
+-- the place of a pair that doesn't occur
+pub absent_place : (keys pairs : List ℕ) (pair n : ℕ) → keys ≡ pairs → n ≡ length pairs → None ≡ position (eqb pair) keys → n + 1 ≡ place_of pairs pair
+absent_place keys pairs pair n same is none =
+    let at : position_or_len (λ u. u == pair) pairs ≡ length pairs =
+    place-absent (λ u. u == pair) pairs (ap (position (λ u. u == pair)) (sym same) ∙ ap (λ p. position p keys) (sym (flip pair)) ∙ sym none) in
+    ap (λ m. m + 1) (is ∙ sym at)
+
+-- the entry of first rows at a row
+pub kept_at : (f : Dqbf) (rows : List (List Bool)) (y : ℕ) (firsts : List ℕ) (k d : ℕ) → firsts ≡ map (first_row f rows y) rows → k < length rows
+    → get_or firsts k d ≡ first_row f rows y (get_or rows k [])
+kept_at f rows y firsts k d is within = ap (λ xs. get_or xs k d) is ∙ get_or-map (first_row f rows y) rows k [] d within
+
+-- a universal's literal by the bit at its place
+pub true_universal : (f : Dqbf) (row : List Bool) (l : Literal) (v at : ℕ) (bit : Bool) → v ≡ variable_of l → length row ≡ length f.universals
+    → position (λ u. u == v) f.universals ≡ Some at → bit ≡ get_or row at false
+    → universal_literal_true f row l ≡ cond (is_negative l) (not bit) bit
+true_universal f row l v at bit v_is whole found bit_is =
+    let h = place-found f.universals v at found in
+    let value : bit ≡ row_assignment f row v = bit_is ∙ ap (λ k. get_or row k false) (sym h.0) ∙ assignment_of-place f.universals row v whole in
+    ap (λ b. b && literal_true (row_assignment f row) l) (ap (λ w. list_any (λ x. x == w) f.universals) (sym v_is) ∙ h.1)
+    ∙ by l (value ∙ ap (row_assignment f row) v_is)
+  where
+    by : (k : Literal) → bit ≡ row_assignment f row (variable_of k) → literal_true (row_assignment f row) k ≡ cond (is_negative k) (not bit) bit
+    by (positive w) is = sym is
+    by (negative w) is = ap not (sym is)
+
+pub no_universal : (f : Dqbf) (row : List Bool) (l : Literal) (v : ℕ) → v ≡ variable_of l
+    → position (λ u. u == v) f.universals ≡ None → universal_literal_true f row l ≡ false
+no_universal f row l v v_is none =
+    ap (λ b. b && literal_true (row_assignment f row) l) (ap (λ w. list_any (λ x. x == w) f.universals) (sym v_is) ∙ by (has f.universals v) refl)
+  where
+    by : (b : Bool) → has f.universals v ≡ b → has f.universals v ≡ false
+    by false e = e
+    by true e = absurd (omega (arith, place-below f.universals v e, place-absent (λ u. u == v) f.universals none))
+
+-- an instance's literals are those of the clause's existential part
+instance_part : (f : Dqbf) (rows : List (List Bool)) (row : List Bool) (clause : List Literal)
+    → filter_map (pair_literal f rows row) clause ≡ map (λ l. on_variable (pair_of f rows row (variable_of l)) l) (existential_part f clause)
+instance_part f rows row [] = refl
+instance_part f rows row (l ∷ clause) = by (existential_of f (variable_of l)) refl (instance_part f rows row clause)
+  where
+    by : (o : Option Existential) → existential_of f (variable_of l) ≡ o
+        → filter_map (pair_literal f rows row) clause ≡ map (λ k. on_variable (pair_of f rows row (variable_of k)) k) (existential_part f clause)
+        → filter_map (pair_literal f rows row) (l ∷ clause) ≡ map (λ k. on_variable (pair_of f rows row (variable_of k)) k) (existential_part f (l ∷ clause))
+    by None found rest = rw found rest
+    by (Some e) found rest = rw found (ap (λ n. on_variable n l ∷ filter_map (pair_literal f rows row) clause) (pair_number_is f rows row (variable_of l) e found) ∙ ap (λ ls. on_variable (pair_of f rows row (variable_of l)) l ∷ ls) rest)
+
+pub instance_is : (f : Dqbf) (rows : List (List Bool)) (k j : ℕ) → list_any (universal_literal_true f (get_or rows k [])) (get_or f.matrix j []) ≡ false
+    → instance_in f rows (k, j) ≡ Some (instance_literals f rows (k, j))
+instance_is f rows k j none =
+    ap (λ b. cond b None (Some (filter_map (pair_literal f rows (get_or rows k [])) (get_or f.matrix j [])))) none
+    ∙ ap Some (instance_part f rows (get_or rows k []) (get_or f.matrix j []))
+
+pub no_instance : (f : Dqbf) (rows : List (List Bool)) (k j : ℕ) → list_any (universal_literal_true f (get_or rows k [])) (get_or f.matrix j []) ≡ true
+    → instance_in f rows (k, j) ≡ None
+no_instance f rows k j found =
+    ap (λ b. cond b None (Some (filter_map (pair_literal f rows (get_or rows k [])) (get_or f.matrix j [])))) found
+
+pub pair_bound : (f g : Dqbf) (rows : List (List Bool)) (row : List Bool) (first v variables : ℕ) → g ≡ f → IsLawful g → length rows ≤ max_count
+    → first ≡ first_row f rows v row → IsSome (existential_of f v) → variables ≡ g.variables → first * variables + v < 2 ^ 61
+pair_bound f g rows row first v variables same lawful few first_is declared is =
+    let le = first_row_le f rows v row in
+    pair_small f first v variables (subst IsLawful same lawful) (omega (arith, le, few, first_is)) declared (is ∙ ap (λ (h : Dqbf). h.variables) same)
+
+pub row_is : (rows read : List (List Bool)) (k : ℕ) (row : List Bool) → read ≡ rows → row ≡ get_or read k row → k < length rows → row ≡ get_or rows k []
+row_is rows read k row same is within = is ∙ ap (λ rs. get_or rs k row) same ∙ get_or_default rows k row [] within
+
+pub row_is_whole : (f g : Dqbf) (rows read : List (List Bool)) (k : ℕ) (row : List Bool) → g ≡ f → read ≡ rows → row ≡ get_or read k row → k < length rows
+    → All (λ r. length r ≡ length f.universals) rows → length row ≡ length g.universals
+row_is_whole f g rows read k row same read_is is within whole =
+    ap length (row_is rows read k row read_is is within) ∙ whole k [] within ∙ ap (λ (h : Dqbf). length h.universals) (sym same)
+
+pub instance_found : (f g : Dqbf) (rows read : List (List Bool)) (k j : ℕ) (row : List Bool) (clause : List Literal) (b : Bool) (found : Option (List Literal))
+    → g ≡ f → read ≡ rows → row ≡ get_or read k row → k < length rows → clause ≡ get_or g.matrix j [] → b ≡ list_any (universal_literal_true g row) clause
+    → b ≡ false → found ≡ instance_in f rows (k, j) → found ≡ Some (instance_literals f rows (k, j))
+instance_found f g rows read k j row clause b found same read_is is within clause_is b_is b_false found_is =
+    found_is ∙ instance_is f rows k j
+    (ap (λ (h : Dqbf). list_any (universal_literal_true h (get_or rows k [])) (get_or h.matrix j [])) (sym same)
+    ∙ ap (λ r. list_any (universal_literal_true g r) (get_or g.matrix j [])) (sym (row_is rows read k row read_is is within))
+    ∙ ap (list_any (universal_literal_true g row)) (sym clause_is) ∙ sym b_is ∙ b_false)
+
+pub instance_missing : (f g : Dqbf) (rows read : List (List Bool)) (k j : ℕ) (row : List Bool) (clause : List Literal) (b : Bool) (found : Option (List Literal))
+    → g ≡ f → read ≡ rows → row ≡ get_or read k row → k < length rows → clause ≡ get_or g.matrix j [] → b ≡ list_any (universal_literal_true g row) clause
+    → b ≡ true → found ≡ instance_in f rows (k, j) → found ≡ None
+instance_missing f g rows read k j row clause b found same read_is is within clause_is b_is b_true found_is =
+    found_is ∙ no_instance f rows k j
+    (ap (λ (h : Dqbf). list_any (universal_literal_true h (get_or rows k [])) (get_or h.matrix j [])) (sym same)
+    ∙ ap (λ r. list_any (universal_literal_true g r) (get_or g.matrix j [])) (sym (row_is rows read k row read_is is within))
+    ∙ ap (list_any (universal_literal_true g row)) (sym clause_is) ∙ sym b_is ∙ b_true)

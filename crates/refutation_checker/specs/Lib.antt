@@ -1,0 +1,7 @@
+pub mod Refutation
+pub mod Answer
+pub mod Pairs
+pub mod Occurring
+pub mod Renaming
+pub mod PairTable
+pub mod Lines

@@ -1,0 +1,21 @@
+//! Expansion refutations: whether the rows and derivation lines of a `dqr` show that no choice of functions solves a
+//! formula.
+//!
+//! The clauses of the formula are taken under each row of the universals (universal expansion), and each line has to be
+//! derived from these instances and the lines before it by hinted unit propagation. Neither the instances nor the pairs
+//! of rows and existentials are laid out: instances are read from the formula on demand, and pairs are numbered as they
+//! occur.
+#![tactic(auto)]
+
+pub use checks::check;
+pub use faults::RefFault;
+
+mod checks;
+mod faults;
+mod first_rows;
+mod instances;
+pub mod laws;
+mod lines;
+mod occurring;
+mod pair_tables;
+mod parts;

@@ -1,0 +1,250 @@
+//! Pairs of a row and an existential, numbered as they occur.
+
+ghost use Rattle.std.specs.Prelude.{◌≡◌, ◌+◌, ◌≤◌, ◌<◌, ◌^◌, true, [], length, All, IfOk, IfSome, OnOk, OnErr, IsSome, map, slice_index_or};
+ghost use Rattle.std.specs.List.{list_any};
+ghost use Rattle.std.specs.Option.{option_map, option_and_then};
+ghost use Rattle.dq_lits.specs.Expansion.{instance_at, universal_literal_true};
+ghost use Rattle.dq_lits.specs.Formula.{existential_of};
+ghost use Rattle.dq_lits.specs.Literal.{on_variable};
+ghost use Rattle.cert_text.specs.Header.{max_count};
+ghost use Rattle.cert_text.specs.Pairs.{is_pair_number};
+ghost use Rattle.cert_text.specs.Scan.{first_id};
+ghost use Rattle.refutation_checker.specs.Refutation.{normal_number};
+ghost use Rattle.refutation_checker.specs.Pairs.{first_row, pair_of};
+ghost use Rattle.refutation_checker.specs.PairTable.{numbered_in, row_at, occurring, instance_in, instance_literals};
+ghost use Rattle.refutation_checker.specs.Renaming.{place_of};
+
+use crate::first_rows::{first_agreeing, first_rows};
+use dq_formula::Formula;
+use dq_lits::{Ids, Lit, Memory, Row};
+use indexmap::{IndexMap, IndexSet};
+use std::alloc::Global;
+use std::marker::Model;
+
+/// The pairs that occur, of a formula's existentials and some rows, numbered from 1 in order of their first occurrence.
+///
+/// For each existential that occurs it keeps the first row that agrees with each row, so that the memory is that of the
+/// rows for each such existential, and of the pairs that occur.
+#[derive(Drop)]
+pub(crate) struct PairTable<'f, 'r> {
+    formula: &'f Formula,
+    rows: &'r [Row],
+    first_rows: IndexMap<u64, Ids>,
+    pairs: IndexSet<u64>,
+}
+
+impl<'f, 'r> Model for PairTable<'f, 'r> {
+    ghost use Rattle.refutation_checker.specs.PairTable.{Numbered, numbered_in, IsNumbered};
+
+    ghost Value = { Numbered };
+
+    ghost view = { λ t. numbered_in t.formula.now t.rows.now t.pairs.keys };
+
+    ghost invariant = { λ t. IsNumbered t.formula.now t.rows.now t.first_rows.entries t.pairs.keys };
+}
+
+impl<'f, 'r> PairTable<'f, 'r> {
+    /// No pair occurs yet. It takes no memory.
+    pub(crate) fn new(alloc: Global, formula: &'f Formula, rows: &'r [Row]) -> PairTable<'f, 'r>
+        requires few { length rows.now ≤ max_count }
+        requires whole { All (λ row. length row ≡ length formula.now.universals) rows.now }
+        ensures { result ≡ numbered_in formula.now rows.now [] }
+    {
+        PairTable {
+            formula,
+            rows,
+            first_rows: IndexMap::new(alloc),
+            pairs: IndexSet::new(alloc),
+        }
+    }
+
+    pub(crate) fn formula(&self) -> &Formula
+        ensures { result.now ≡ self.now.formula }
+    {
+        self.formula
+    }
+
+    pub(crate) fn rows(&self) -> &[Row]
+        ensures value { result.now ≡ self.now.rows }
+        ensures few { length self.now.rows ≤ max_count }
+        ensures whole { All (λ row. length row ≡ length self.now.formula.universals) self.now.rows }
+    {
+        self.rows
+    }
+
+    /// How many pairs occur.
+    pub(crate) fn len(&self) -> usize
+        ensures value { result ≡ length self.now.pairs }
+        ensures few { result ≤ 2 ^ 61 }
+    {
+        self.pairs.len()
+    }
+
+    // For each row, the first one that agrees with it on what an existential sees, if it was asked for before.
+    fn known_rows(&self, y: u64) -> Option<&[u64]>
+        ensures { IfSome result (λ firsts. firsts.now ≡ map (first_row self.now.formula self.now.rows y) self.now.rows) }
+    {
+        match self.first_rows.get(&y) {
+            Some(firsts) => Some(firsts.items()),
+            None => None,
+        }
+    }
+
+    // The first row that agrees with the row at `k` on what an existential sees.
+    fn first_row(&self, y: u64, k: usize) -> u64
+        requires declared { IsSome (existential_of self.now.formula y) }
+        requires row { k < length self.now.rows }
+        ensures { result ≡ first_row self.now.formula self.now.rows y (row_at self.now k) }
+    {
+        let rows = self.rows();
+        match self.known_rows(y) {
+            Some(firsts) => firsts[k],
+            None => first_agreeing(self.formula(), rows, y, &rows[k]) as u64,
+        }
+    }
+
+    // The number of the pair of an existential and the row at `k`.
+    fn pair(&self, y: u64, k: usize) -> u64
+        requires declared { IsSome (existential_of self.now.formula y) }
+        requires row { k < length self.now.rows }
+        ensures value { result ≡ pair_of self.now.formula self.now.rows (row_at self.now k) y }
+        ensures small { result < 2 ^ 61 }
+    {
+        let _ = self.rows();
+        let f = self.formula();
+        f.every_formula_is_lawful();
+        self.first_row(y, k) * f.vars() + y
+    }
+
+    // Finds the first rows of an existential, unless they are known.
+    fn learn(&mut self, alloc: Global, y: u64) -> Result<(), Memory>
+        requires { IsSome (existential_of self.old.formula y) }
+        ensures { self.new ≡ self.old }
+    {
+        if !self.first_rows.contains_key(&y) {
+            let firsts = first_rows(alloc, self.formula, self.rows, y)?;
+            self.first_rows.insert(y, firsts)?;
+        }
+        Ok(())
+    }
+
+    /// The pair of an existential and the row at `k` occurs.
+    pub(crate) fn add(&mut self, alloc: Global, y: u64, k: usize) -> Result<(), Memory>
+        requires declared { IsSome (existential_of self.old.formula y) }
+        requires row { k < length self.old.rows }
+        ensures { OnOk result (self.new ≡ occurring self.old y k) }
+    {
+        self.learn(alloc, y)?;
+        let pair = self.pair(y, k);
+        self.pairs.insert(pair)?;
+        Ok(())
+    }
+
+    /// A literal, on the place of the pair of an existential and the row at `k`, counted from 1; one behind the last
+    /// for a pair that doesn't occur.
+    pub(crate) fn literal(&self, l: Lit, y: u64, k: usize) -> Lit
+        requires declared { IsSome (existential_of self.now.formula y) }
+        requires row { k < length self.now.rows }
+        ensures { result ≡ on_variable (place_of self.now.pairs (pair_of self.now.formula self.now.rows (row_at self.now k) y)) l }
+    {
+        let place = self.place(self.pair(y, k));
+        if l.is_neg() {
+            Lit::neg(place)
+        } else {
+            Lit::pos(place)
+        }
+    }
+
+    fn place(&self, pair: u64) -> u64
+        ensures value { result ≡ place_of self.now.pairs pair }
+        ensures small { result ≤ 2 ^ 61 + 1 }
+        ensures from_one { 1 ≤ result }
+    {
+        let len = self.len();
+        match self.pairs.get_index_of(&pair) {
+            Some(place) => place as u64 + 1,
+            None => len as u64 + 1,
+        }
+    }
+
+    /// The place of the row and the existential that a number of a pair names.
+    pub(crate) fn named(&self, number: u64) -> (usize, u64)
+        requires { is_pair_number self.now.formula (length self.now.rows) number ≡ true }
+        ensures row { result.0 < length self.now.rows }
+        ensures declared { IsSome (existential_of self.now.formula result.1) }
+        ensures normal { normal_number self.now.formula self.now.rows number
+            ≡ pair_of self.now.formula self.now.rows (row_at self.now result.0) result.1 }
+    {
+        let variables = self.formula().vars();
+        let place = number - 1;
+        ((place / variables) as usize, place % variables + 1)
+    }
+
+    /// The id of the first derivation line, behind those of the instances.
+    pub(crate) fn first_line(&self) -> u64
+        ensures value { result ≡ first_id self.now.formula (length self.now.rows) }
+        ensures small { result ≤ 10 ^ 17 }
+    {
+        let rows = self.rows();
+        (rows.len() * self.formula().clauses() + 1) as u64
+    }
+
+    /// The places of the row and the clause whose instance has this id, if it has a clause: if no universal literal is
+    /// true.
+    pub(crate) fn instance(&self, id: u64) -> Option<(usize, usize)>
+        ensures within { IfSome result (λ at. (at.0 < length self.now.rows) × (at.1 < length self.now.formula.matrix)) }
+        ensures clause { instance_at self.now.formula self.now.rows id
+            ≡ option_map (instance_literals self.now.formula self.now.rows) result }
+    {
+        let (k, j) = self.places(id)?;
+        let f = self.formula();
+        let rows = self.rows();
+        if has_true_universal(f, &rows[k], f.clause(j)) {
+            None
+        } else {
+            Some((k, j))
+        }
+    }
+
+    /// The places of the row and the clause whose instance has this id.
+    pub(crate) fn places(&self, id: u64) -> Option<(usize, usize)>
+        ensures within { IfSome result (λ at. (at.0 < length self.now.rows) × (at.1 < length self.now.formula.matrix)) }
+        ensures clause { instance_at self.now.formula self.now.rows id
+            ≡ option_and_then (instance_in self.now.formula self.now.rows) result }
+    {
+        let clauses = self.formula.clauses() as u64;
+        if id == 0 || clauses == 0 {
+            return None;
+        }
+        let k = (id - 1) / clauses;
+        if k < self.rows.len() as u64 {
+            Some((k as usize, ((id - 1) % clauses) as usize))
+        } else {
+            None
+        }
+    }
+}
+
+// Whether a universal literal of a clause is true under a row.
+fn has_true_universal(f: &Formula, row: &Row, clause: &[Lit]) -> bool
+    requires { length row.now ≡ length f.now.universals }
+    ensures { result ≡ list_any (universal_literal_true f.now row.now) clause.now }
+{
+    clause.iter().any(|l| is_true_universal(f, row, *l))
+}
+
+fn is_true_universal(f: &Formula, row: &Row, l: Lit) -> bool
+    requires { length row.now ≡ length f.now.universals }
+    ensures { result ≡ universal_literal_true f.now row.now l }
+{
+    match f.universal_place(l.var()) {
+        Some(place) => {
+            if l.is_neg() {
+                !row.get(place)
+            } else {
+                row.get(place)
+            }
+        }
+        None => false,
+    }
+}
