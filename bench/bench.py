@@ -134,6 +134,51 @@ def large_header():
     return lines("p cnf 2 0", "a 1 0", "d 2 1 0"), lines("aag 1000000000 1 0 1 0", "2000000000", "2000000000")
 
 
+def blind_bit(seen, padding, rows, lines_wanted, variables):
+    """An existential is to equal a universal that it doesn't see, told by `seen` others. Two rows for each choice of
+    these are refuted with each other; further lines repeat what is known."""
+    blind = seen + 1
+    universals = blind + padding
+    y = universals + 1
+    others = f"e {numbers(y + 1, variables)} 0" if variables > y else "e 0"
+    formula = lines(
+        f"p cnf {variables} 2",
+        f"a {numbers(1, universals)} 0",
+        f"d {y} {numbers(1, seen)} 0",
+        others,
+        f"{y} -{blind} 0",
+        f"-{y} {blind} 0",
+    )
+
+    def row(k):
+        bits = [k >> (i + 1) & 1 for i in range(seen)] + [k & 1] + [0] * padding
+        return "u " + " ".join(str(i + 1 if bit else -(i + 1)) for i, bit in enumerate(bits)) + " 0"
+
+    pair = [2 * i * variables + y for i in range(rows // 2)]
+    first = 2 * rows + 1
+    steps = []
+    for i, p in enumerate(pair):
+        steps.append(f"{first + 2 * i} -{p} 0 {4 * i + 2} 0")
+        steps.append(f"{first + 2 * i + 1} {p} 0 {4 * i + 3} 0")
+    i = 0
+    while len(steps) < lines_wanted - 1:
+        steps.append(f"{first + len(steps)} {pair[i]} -{pair[i + 1]} 0 {first + 2 * i + 1} 0")
+        steps.append(f"{first + len(steps)} -{pair[i]} {pair[i + 1]} 0 {first + 2 * i} 0")
+        i += 1
+    steps.append(f"{first + len(steps)} 0 {first} {first + 1} 0")
+    return formula, lines(f"p dqr {rows} {len(steps)}", *map(row, range(rows)), *steps)
+
+
+def many_rows():
+    """A refutation of 131,072 rows and 262,143 lines."""
+    return blind_bit(16, 16, 131_072, 262_143, 34)
+
+
+def many_variables():
+    """A refutation of 5,000 rows of a formula with a million variables."""
+    return blind_bit(12, 0, 5_000, 9_999, 1_000_000)
+
+
 MEASUREMENTS = [
     rows,
     large_formula,
@@ -145,6 +190,8 @@ MEASUREMENTS = [
     reverse_gates,
     wide_gates,
     large_header,
+    many_rows,
+    many_variables,
 ]
 
 

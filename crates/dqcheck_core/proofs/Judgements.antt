@@ -1,6 +1,6 @@
 -- Only one thing is said of a certificate.
 use Rattle.std.proofs.Common.{◌≡◌, ◌⊎◌, ℕ, ◌<◌, ◌^◌, Bool, true, false, inl, inr, List, length, Result, Ok, Err, refl, sym, ap, ◌∙◌, subst, arith}
-use Rattle.std.specs.Prelude.{slice_index}
+use Rattle.std.specs.Prelude.{slice_index, drop}
 use Rattle.std.specs.List.{Contains}
 use Rattle.std.proofs.lemmas.Bool.{cases_order}
 use Rattle.std.proofs.lemmas.List.Sums.{list_all-from_AllPass}
@@ -14,9 +14,13 @@ use Rattle.aiger_text.specs.declared.files.AagFile.{AagFile}
 use Rattle.skolem_checker.specs.Checks.{Candidate, candidate_of, existential_at, ReadsDeclaredBefore, IsFirstRead, IsFirstUndeclared, IsFirstBad, RowHolds, RowFails}
 use Rattle.skolem_checker.specs.SkolemCircuit.{MappedCircuit, ReadsUniversal}
 use Rattle.skolem_checker.specs.declared.mapping.MapError.{MapError}
-use Rattle.dqcheck_core.specs.Judgement.{ByTest, IsTested, BehindMapping, IsCircuitJudgement, IsCircuitRefusal, IsCircuitAnswer, IsJudgement, is_not_built, begins_proof}
+use Rattle.cert_text.specs.Kind.{certificate_kind}
+use Rattle.cert_text.specs.declared.faults.CertRefusal.{CertRefusal}
+use Rattle.cert_text.specs.declared.kinds.Kind.{Kind}
+use Rattle.cert_text.specs.declared.kinds.Kind.TheVariants.{Circuit as CircuitText, Refutation}
+use Rattle.dqcheck_core.specs.Judgement.{ByTest, IsTested, BehindMapping, IsCircuitJudgement, IsCircuitRefusal, IsCircuitAnswer, IsJudgementOf, IsJudgement, begins_proof}
 use Rattle.dqcheck_core.specs.declared.answers.Answer.{Answer}
-use Rattle.dqcheck_core.specs.declared.answers.Answer.TheVariants.{Refused, UndeclaredRead, BadRow, Unproved, ValidTrue}
+use Rattle.dqcheck_core.specs.declared.answers.Answer.TheVariants.{Refused, UndeclaredRead, BadRow, Unproved, UnderivedStep, NoEmptyClause, ValidTrue, ValidFalse}
 use Rattle.dqcheck_core.specs.declared.answers.CertificateFault.TheVariants.{Circuit}
 
 read_is_declared : (Reads : ℕ → ℕ → Type 0) (f : Dqbf) (y : Existential) (x end : ℕ) (r : IsFirstRead Reads f y x)
@@ -65,6 +69,9 @@ one_bad Holds Fails end k j exclude (k_below, k_before, k_fails) (j_below, j_bef
 
 undeclared_is : (f : Dqbf) (c : MappedCircuit) (y x : ℕ) (b : Answer) → IsFirstUndeclared (ReadsUniversal c) f y x → IsTested f c b → UndeclaredRead y x ≡ b
 undeclared_is f c y x (Refused line name) r impossible = absurd impossible
+undeclared_is f c y x (UnderivedStep id) r impossible = absurd impossible
+undeclared_is f c y x NoEmptyClause r impossible = absurd impossible
+undeclared_is f c y x ValidFalse r impossible = absurd impossible
 undeclared_is f c y x (UndeclaredRead z w) r s =
     let (same_y, same_x) = one_undeclared (ReadsUniversal c) f y x z w r s in
     cc
@@ -74,11 +81,17 @@ undeclared_is f c y x ValidTrue r (passes, _, _) = absurd (undeclared_is_declare
 
 one_tested : (f : Dqbf) (c : MappedCircuit) (a b : Answer) → IsTested f c a → IsTested f c b → a ≡ b
 one_tested f c (Refused line name) b impossible _ = absurd impossible
+one_tested f c (UnderivedStep id) b impossible _ = absurd impossible
+one_tested f c NoEmptyClause b impossible _ = absurd impossible
+one_tested f c ValidFalse b impossible _ = absurd impossible
 one_tested f c (UndeclaredRead y x) b r s = undeclared_is f c y x b r s
 one_tested f c (BadRow k) b r s = bad_row_is b s
   where
     bad_row_is : (b : Answer) → IsTested f c b → BadRow k ≡ b
     bad_row_is (Refused line name) impossible = absurd impossible
+    bad_row_is (UnderivedStep id) impossible = absurd impossible
+    bad_row_is NoEmptyClause impossible = absurd impossible
+    bad_row_is ValidFalse impossible = absurd impossible
     bad_row_is (UndeclaredRead y x) s = sym (undeclared_is f c y x (BadRow k) s r)
     bad_row_is (BadRow j) (_, _, s) = ap BadRow (one_bad (RowHolds f c) (RowFails f c) (2 ^ length f.universals) k j (row_is_one f c) r.2 s)
     bad_row_is (Unproved n) (_, many, same) = let few = r.1 in absurd (omega (arith, few, many, same))
@@ -87,6 +100,9 @@ one_tested f c (Unproved n) b r s = unproved_is b s
   where
     unproved_is : (b : Answer) → IsTested f c b → Unproved n ≡ b
     unproved_is (Refused line name) impossible = absurd impossible
+    unproved_is (UnderivedStep id) impossible = absurd impossible
+    unproved_is NoEmptyClause impossible = absurd impossible
+    unproved_is ValidFalse impossible = absurd impossible
     unproved_is (UndeclaredRead y x) s = sym (undeclared_is f c y x (Unproved n) s r)
     unproved_is (BadRow j) (_, few, _) = let many = r.1 in let same = r.2 in absurd (omega (arith, few, many, same))
     unproved_is (Unproved m) (_, _, same) = ap Unproved (r.2 ∙ sym same)
@@ -95,22 +111,25 @@ one_tested f c ValidTrue b r s = valid_is b s
   where
     valid_is : (b : Answer) → IsTested f c b → ValidTrue ≡ b
     valid_is (Refused line name) impossible = absurd impossible
+    valid_is (UnderivedStep id) impossible = absurd impossible
+    valid_is NoEmptyClause impossible = absurd impossible
+    valid_is ValidFalse impossible = absurd impossible
     valid_is (UndeclaredRead y x) s = sym (undeclared_is f c y x ValidTrue s r)
     valid_is (BadRow j) (_, _, s) = absurd (row_is_one f c j (r.2 j s.0) s.2)
     valid_is (Unproved n) (_, many, same) = let few = r.1 in absurd (omega (arith, few, many, same))
     valid_is ValidTrue _ = refl
 
-one_behind_mapping : (net : Netlist) (mapped : Result Candidate MapError) (a b : Answer) → BehindMapping net mapped a → BehindMapping net mapped b → a ≡ b
-one_behind_mapping net (Err fault) a b r s = r ∙ sym s
-one_behind_mapping net (Ok c) a b r s = one_tested c.formula c.circuit a b r s
+one_behind_mapping : (h : ℕ) (net : Netlist) (mapped : Result Candidate MapError) (a b : Answer) → BehindMapping h net mapped a → BehindMapping h net mapped b → a ≡ b
+one_behind_mapping h net (Err fault) a b r s = r ∙ sym s
+one_behind_mapping h net (Ok c) a b r s = one_tested c.formula c.circuit a b r s
 
-by_proof_or_mapping : (P : Bool) (a b refusal : Answer) (net : Netlist) (mapped : Result Candidate MapError)
-    → ByTest P (a ≡ refusal) (BehindMapping net mapped a) → ByTest P (b ≡ refusal) (BehindMapping net mapped b) → a ≡ b
-by_proof_or_mapping true a b refusal net mapped r s = r ∙ sym s
-by_proof_or_mapping false a b refusal net mapped r s = one_behind_mapping net mapped a b r s
+by_proof_or_mapping : (P : Bool) (a b refusal : Answer) (h : ℕ) (net : Netlist) (mapped : Result Candidate MapError)
+    → ByTest P (a ≡ refusal) (BehindMapping h net mapped a) → ByTest P (b ≡ refusal) (BehindMapping h net mapped b) → a ≡ b
+by_proof_or_mapping true a b refusal h net mapped r s = r ∙ sym s
+by_proof_or_mapping false a b refusal h net mapped r s = one_behind_mapping h net mapped a b r s
 
-one_circuit_judgement : (f : Dqbf) (text : List ℕ) (file : AagFile) (a b : Answer) → IsCircuitJudgement f text file a → IsCircuitJudgement f text file b → a ≡ b
-one_circuit_judgement f text file a b = by_proof_or_mapping (begins_proof file.comment) a b _ file.circuit (candidate_of f file.circuit file.symbols)
+one_circuit_judgement : (f : Dqbf) (h : ℕ) (text : List ℕ) (file : AagFile) (a b : Answer) → IsCircuitJudgement f h text file a → IsCircuitJudgement f h text file b → a ≡ b
+one_circuit_judgement f h text file a b = by_proof_or_mapping (begins_proof file.comment) a b _ h file.circuit (candidate_of f file.circuit file.symbols)
 
 -- what the law of the circuits' grammar gives
 pub record CircuitLaw : Type 0 where
@@ -118,20 +137,19 @@ pub record CircuitLaw : Type 0 where
   pub never_both : (text : List ℕ) (first : ℕ) (file : AagFile) (fault : LineFault) → SpellsCircuit text file → ¬ IsFirstFault text first fault
   pub one_fault : (text : List ℕ) (first : ℕ) (f g : LineFault) → IsFirstFault text first f → IsFirstFault text first g → f ≡ g
 
-by_file_or_fault : CircuitLaw → (f : Dqbf) (text : List ℕ) (a b : Answer) → IsCircuitRefusal text a ⊎ IsCircuitAnswer f text a → IsCircuitRefusal text b ⊎ IsCircuitAnswer f text b → a ≡ b
-by_file_or_fault law f text a b (inl r) (inl s) =
-    r.is ∙ ap (λ (fault : LineFault). Refused fault.line (Circuit fault.name)) (law.one_fault text 1 r.fault s.fault r.is_first s.is_first) ∙ sym s.is
-by_file_or_fault law f text a b (inl r) (inr s) = absurd (law.never_both text 1 s.file r.fault s.spelled r.is_first)
-by_file_or_fault law f text a b (inr r) (inl s) = absurd (law.never_both text 1 r.file s.fault r.spelled s.is_first)
-by_file_or_fault law f text a b (inr r) (inr s) =
-    one_circuit_judgement f text s.file a b
-    (subst (λ (file : AagFile). IsCircuitJudgement f text file a) (law.unique text r.file s.file r.spelled s.spelled) r.is) s.is
+by_file_or_fault : CircuitLaw → (f : Dqbf) (h : ℕ) (text : List ℕ) (a b : Answer) → IsCircuitRefusal h text a ⊎ IsCircuitAnswer f h text a → IsCircuitRefusal h text b ⊎ IsCircuitAnswer f h text b → a ≡ b
+by_file_or_fault law f h text a b (inl r) (inl s) =
+    r.is ∙ ap (λ (fault : LineFault). Refused fault.line (Circuit fault.name)) (law.one_fault text h r.fault s.fault r.is_first s.is_first) ∙ sym s.is
+by_file_or_fault law f h text a b (inl r) (inr s) = absurd (law.never_both text h s.file r.fault s.spelled r.is_first)
+by_file_or_fault law f h text a b (inr r) (inl s) = absurd (law.never_both text h r.file s.fault r.spelled s.is_first)
+by_file_or_fault law f h text a b (inr r) (inr s) =
+    one_circuit_judgement f h text s.file a b
+    (subst (λ (file : AagFile). IsCircuitJudgement f h text file a) (law.unique text r.file s.file r.spelled s.spelled) r.is) s.is
 
-by_kind : CircuitLaw → (P : Bool) (f : Dqbf) (text : List ℕ) (a b refusal : Answer)
-    → ByTest P (a ≡ refusal) (IsCircuitRefusal text a ⊎ IsCircuitAnswer f text a)
-    → ByTest P (b ≡ refusal) (IsCircuitRefusal text b ⊎ IsCircuitAnswer f text b) → a ≡ b
-by_kind law true f text a b refusal r s = r ∙ sym s
-by_kind law false f text a b refusal r s = by_file_or_fault law f text a b r s
+by_kind : CircuitLaw → (kind : Result Kind CertRefusal) (f : Dqbf) (text : List ℕ) (a b : Answer) → IsJudgementOf f text kind a → IsJudgementOf f text kind b → a ≡ b
+by_kind law (Ok (CircuitText at h)) f text a b r s = by_file_or_fault law f h (drop at text) a b r s
+by_kind law (Ok (Refutation at h)) f text a b r s = r ∙ sym s
+by_kind law (Err refusal) f text a b r s = r ∙ sym s
 
 pub one_judgement : CircuitLaw → (f : Dqbf) (text : List ℕ) (a b : Answer) → IsJudgement f text a → IsJudgement f text b → a ≡ b
-one_judgement law f text a b r s = by_kind law (is_not_built text) f text a b _ r s
+one_judgement law f text a b r s = by_kind law (certificate_kind text) f text a b r s

@@ -1,19 +1,21 @@
 -- From what a run's parts answer to what the run says.
-use Rattle.std.proofs.Common.{◌≡◌, ℕ, ◌<◌, ◌≤◌, List, length, Option, None, Some, Result, Ok, Err, sym, ap, ◌∙◌, subst, arith}
+use Rattle.std.proofs.Common.{◌≡◌, ◌⊎◌, inl, inr, ℕ, ◌<◌, ◌≤◌, List, length, Option, None, Some, Result, Ok, Err, sym, ap, ◌∙◌, subst, arith}
 use Rattle.std.specs.Prelude.{IfOk}
 use Rattle.std.specs.Io.KnownBytes.{append_known}
 use Rattle.dq_io.specs.Causes.{Rose}
 use Rattle.dq_io.specs.Files.{Holding, Holds}
-use Rattle.dq_lits.specs.Formula.{Dqbf}
+use Rattle.dq_lits.specs.Formula.{Dqbf, IsWellFormed}
+use Rattle.dq_lits.specs.Henkin.{IsTrueFormula, IsFalseFormula}
 use Rattle.dq_lits.specs.declared.memory.Memory.{Memory}
 use Rattle.dqdimacs_reader.specs.Grammar.{SpellsFormula}
 use Rattle.dqdimacs_reader.specs.Machine.{TextFault, reading}
 use Rattle.dqcheck_core.specs.Command.{Command, command_of}
 use Rattle.dqcheck_core.specs.Judgement.{IsJudgement}
 use Rattle.dqcheck_core.specs.Outputs.{IsOutput, IsOutputDue}
-use Rattle.dqcheck_core.specs.Report.{Report, usage, source_fault, long_formula, long_certificate, refused_formula, judged, line, answer_text}
-use Rattle.dqcheck_core.specs.Running.{max_formula, max_certificate, IsTextOf, IsLong, IsFaultOf, IsFormulaOf, IsAnswerTo, IsDueFor, IsDue, AreTold, IsAnswered}
+use Rattle.dqcheck_core.specs.Report.{Report, usage, source_fault, long_formula, long_certificate, refused_formula, judged, line, answer_text, answer_status}
+use Rattle.dqcheck_core.specs.Running.{max_formula, max_certificate, IsTextOf, IsLong, IsFaultOf, IsFormulaOf, IsAnswerTo, IsDueFor, IsDue, AreTold, IsAnswered, IsProvedTrue, IsProvedFalse, IsAcceptance}
 use Rattle.dqcheck_core.specs.declared.answers.Answer.{Answer}
+use Rattle.dqcheck_core.specs.declared.answers.Answer.TheVariants.{Refused, UndeclaredRead, BadRow, Unproved, UnderivedStep, NoEmptyClause, ValidTrue, ValidFalse}
 use Rattle.dqcheck_core.specs.declared.reports.Output.{Output}
 
 rose_earlier : (before mid now : ℕ) → before ≤ mid → Rose mid now → Rose before now
@@ -96,4 +98,53 @@ pub answered : FormulaLaw → (held : List ℕ → Holding) (Faulted : Type 0) (
 answered law held Faulted words before now output o written formula certificate f told short_formula short_certificate spelled sound =
     answered_by law held Faulted told.command formula certificate f before now output told.formula_held told.certificate_held
     short_formula short_certificate spelled sound written o.report
+    (subst (λ command. IsDue held Faulted command o.report) told.is o.due) o.is
+
+-- what the laws of acceptance give
+pub record AcceptanceLaw : Type 0 where
+  pub is_true : (f : Dqbf) (text : List ℕ) → IsWellFormed f → IsJudgement f text ValidTrue → IsTrueFormula f
+  pub is_false : (f : Dqbf) (text : List ℕ) → IsWellFormed f → IsJudgement f text ValidFalse → IsFalseFormula f
+
+verdict_of : AcceptanceLaw → (g : Dqbf) (certificate : List ℕ) (before now : Option (List ℕ)) (answer : Answer) → IsWellFormed g
+    → IsJudgement g certificate answer → answer_status answer ≡ 0 → now ≡ append_known before (line (answer_text g answer))
+    → IsProvedTrue g certificate before now ⊎ IsProvedFalse g certificate before now
+verdict_of law g certificate before now (Refused l name) formed judgement status written = absurd (omega (arith, status))
+verdict_of law g certificate before now (UndeclaredRead y x) formed judgement status written = absurd (omega (arith, status))
+verdict_of law g certificate before now (BadRow k) formed judgement status written = absurd (omega (arith, status))
+verdict_of law g certificate before now (Unproved n) formed judgement status written = absurd (omega (arith, status))
+verdict_of law g certificate before now (UnderivedStep id) formed judgement status written = absurd (omega (arith, status))
+verdict_of law g certificate before now NoEmptyClause formed judgement status written = absurd (omega (arith, status))
+verdict_of law g certificate before now ValidTrue formed judgement status written =
+    inl (record { accepted = judgement; is_true = law.is_true g certificate formed judgement; written = written })
+verdict_of law g certificate before now ValidFalse formed judgement status written =
+    inr (record { accepted = judgement; is_false = law.is_false g certificate formed judgement; written = written })
+
+accepted_by : AcceptanceLaw → (held : List ℕ → Holding) (Faulted : Type 0) (c : Command) (formula certificate : List ℕ) (before now : Option (List ℕ)) (output : Output)
+    → held c.formula ≡ Holds formula → held c.certificate ≡ Holds certificate
+    → now ≡ append_known before output.text.items → output.status ≡ 0
+    → (report : Report) → IsDueFor held Faulted c report → IsOutput report output → IsAcceptance formula certificate before now
+accepted_by law held Faulted c formula certificate before now output is_first is_second written accepted usage due is = absurd due
+accepted_by law held Faulted c formula certificate before now output is_first is_second written accepted source_fault due is =
+    let other = is.status in absurd (omega (arith, other, accepted))
+accepted_by law held Faulted c formula certificate before now output is_first is_second written accepted long_formula due is =
+    let other = is.status in absurd (omega (arith, other, accepted))
+accepted_by law held Faulted c formula certificate before now output is_first is_second written accepted long_certificate due is =
+    let other = is.status in absurd (omega (arith, other, accepted))
+accepted_by law held Faulted c formula certificate before now output is_first is_second written accepted (refused_formula fault) due is =
+    let other = is.status in absurd (omega (arith, other, accepted))
+accepted_by law held Faulted c formula certificate before now output is_first is_second written accepted (judged g answer) (one, other) is =
+    let same_formula = held_text (held c.formula) formula one.text is_first one.read.is in
+    let same_certificate = held_text (held c.certificate) certificate other.text is_second other.read.is in
+    record {
+      f = g;
+      spelled = subst (λ text. SpellsFormula text g) same_formula one.spelled;
+      verdict = verdict_of law g certificate before now answer one.well_formed (subst (λ text. IsJudgement g text answer) same_certificate other.judged)
+          (sym is.status ∙ accepted) (written ∙ ap (append_known before) is.text);
+    }
+
+pub accepted : AcceptanceLaw → (held : List ℕ → Holding) (Faulted : Type 0) (words : List (List ℕ)) (before now : Option (List ℕ)) (output : Output)
+    → IsOutputDue held Faulted (command_of words) output → now ≡ append_known before output.text.items
+    → (formula certificate : List ℕ) → AreTold held words formula certificate → output.status ≡ 0 → IsAcceptance formula certificate before now
+accepted law held Faulted words before now output o written formula certificate told success =
+    accepted_by law held Faulted told.command formula certificate before now output told.formula_held told.certificate_held written success o.report
     (subst (λ command. IsDue held Faulted command o.report) told.is o.due) o.is

@@ -2,10 +2,12 @@
 use Rattle.std.specs.Prelude.{ℕ, List, codes}
 use Rattle.aiger_text.specs.declared.faults.AagFault.{AagFault}
 use Rattle.aiger_text.specs.declared.faults.AagFault.TheVariants.{BadHeader, NotCombinational, BadLine, TooBig, Range, DefinedTwice, Undefined, Cyclic, BadSymbol, Truncated}
+use Rattle.cert_text.specs.declared.faults.CertFault.{CertFault}
+use Rattle.cert_text.specs.declared.faults.CertFault.TheVariants.{BadHeader as NoHeader, BadLine as NoLine, RowIncomplete, IdOrder, UnknownHint, TooBig as TooLarge, Truncated as TooShort, BadVariable, WrongVerdict}
 use Rattle.skolem_checker.specs.declared.mapping.MapName.{MapName}
 use Rattle.skolem_checker.specs.declared.mapping.MapName.TheVariants.{InputCount, OutputCount, SymbolMissing, SymbolNumber, SymbolTwice}
 use Rattle.dqcheck_core.specs.declared.answers.CertificateFault.{CertificateFault}
-use Rattle.dqcheck_core.specs.declared.answers.CertificateFault.TheVariants.{NotBuilt, BadHeader as BadProofHeader, Circuit, Mapping}
+use Rattle.dqcheck_core.specs.declared.answers.CertificateFault.TheVariants.{Text, Circuit, Mapping}
 
 abbrev pub circuit_fault_name : AagFault → List ℕ
 circuit_fault_name BadHeader = codes "BadHeader"
@@ -26,8 +28,18 @@ mapping_fault_name SymbolMissing = codes "SymbolMissing"
 mapping_fault_name SymbolNumber = codes "SymbolNumber"
 mapping_fault_name SymbolTwice = codes "SymbolTwice"
 
+abbrev pub text_fault_name : CertFault → List ℕ
+text_fault_name NoHeader = codes "BadHeader"
+text_fault_name NoLine = codes "BadLine"
+text_fault_name RowIncomplete = codes "RowIncomplete"
+text_fault_name IdOrder = codes "IdOrder"
+text_fault_name UnknownHint = codes "UnknownHint"
+text_fault_name TooLarge = codes "TooBig"
+text_fault_name TooShort = codes "Truncated"
+text_fault_name BadVariable = codes "BadVariable"
+text_fault_name WrongVerdict = codes "WrongVerdict"
+
 abbrev pub certificate_fault_name : CertificateFault → List ℕ
-certificate_fault_name NotBuilt = codes "NotBuilt"
-certificate_fault_name BadProofHeader = codes "BadHeader"
+certificate_fault_name (Text name) = text_fault_name name
 certificate_fault_name (Circuit name) = circuit_fault_name name
 certificate_fault_name (Mapping name) = mapping_fault_name name

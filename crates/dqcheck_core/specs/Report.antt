@@ -7,7 +7,7 @@ use Rattle.dqdimacs_reader.specs.declared.faults.FormulaFault.{FormulaFault}
 use Rattle.dqdimacs_reader.specs.declared.faults.FormulaFault.TheVariants.{NoHeader, BadNumber, TooBig, VarRange, DeclaredTwice, NotUniversal, EmptyD, PrefixLate, HeaderTwice, TooFewClauses, TooManyClauses, MissingZero, Limit}
 use Rattle.dqcheck_core.specs.CertificateNames.{certificate_fault_name}
 use Rattle.dqcheck_core.specs.declared.answers.Answer.{Answer}
-use Rattle.dqcheck_core.specs.declared.answers.Answer.TheVariants.{Refused, UndeclaredRead, BadRow, Unproved, ValidTrue}
+use Rattle.dqcheck_core.specs.declared.answers.Answer.TheVariants.{Refused, UndeclaredRead, BadRow, Unproved, UnderivedStep, NoEmptyClause, ValidTrue, ValidFalse}
 
 pub data Report : Type 0 where
   -- the words aren't the program's
@@ -53,7 +53,10 @@ answer_text f (Refused number name) = fault_text (codes "certificate") number (c
 answer_text f (UndeclaredRead y x) = codes "INVALID reads " ++ (decimal y ++ (codes " " ++ decimal x))
 answer_text f (BadRow k) = codes "INVALID row" ++ row_text k f.universals
 answer_text f (Unproved n) = codes "UNPROVED " ++ decimal n
+answer_text f (UnderivedStep id) = codes "INVALID step " ++ decimal id
+answer_text f NoEmptyClause = codes "INVALID end"
 answer_text f ValidTrue = codes "VALID TRUE"
+answer_text f ValidFalse = codes "VALID FALSE"
 
 abbrev pub text_of : Report → List ℕ
 text_of usage = line (codes "usage: dqcheck FORMULA CERT")
@@ -68,7 +71,10 @@ answer_status (Refused _ _) = 7
 answer_status (UndeclaredRead _ _) = 8
 answer_status (BadRow _) = 8
 answer_status (Unproved _) = 9
+answer_status (UnderivedStep _) = 8
+answer_status NoEmptyClause = 8
 answer_status ValidTrue = 0
+answer_status ValidFalse = 0
 
 abbrev pub status_of : Report → ℕ
 status_of usage = 1

@@ -1,16 +1,17 @@
 -- A whole run of the checker: which report is due, and what becomes of it.
-use Rattle.std.specs.Prelude.{◌≡◌, ℕ, ◌<◌, ◌≤◌, ◌^◌, ◌⊎◌, List, length, Option, None, Some, Err}
+use Rattle.std.specs.Prelude.{◌≡◌, ℕ, ◌<◌, ◌≤◌, ◌^◌, ◌⊎◌, List, length, Option, None, Some, Err, codes}
 use Rattle.std.specs.Io.KnownBytes.{append_known}
 use Rattle.dq_io.specs.Files.{Holding, Untold, Absent, Holds}
 use Rattle.dq_io.specs.Sinks.{TakesPart}
 use Rattle.dq_lits.specs.Formula.{Dqbf, IsWellFormed}
-use Rattle.dq_lits.specs.Henkin.{IsTrueFormula}
+use Rattle.dq_lits.specs.Henkin.{IsTrueFormula, IsFalseFormula}
 use Rattle.dqdimacs_reader.specs.Grammar.{SpellsFormula}
 use Rattle.dqdimacs_reader.specs.Machine.{TextFault, reading}
 use Rattle.dqcheck_core.specs.Command.{Command, command_of}
-use Rattle.dqcheck_core.specs.Judgement.{IsJudgement, Accepts}
+use Rattle.dqcheck_core.specs.Judgement.{IsJudgement}
 use Rattle.dqcheck_core.specs.Report.{Report, usage, source_fault, long_formula, long_certificate, refused_formula, judged, line, answer_text, answer_status, text_of, status_of}
 use Rattle.dqcheck_core.specs.declared.answers.Answer.{Answer}
+use Rattle.dqcheck_core.specs.declared.answers.Answer.TheVariants.{ValidTrue, ValidFalse}
 
 -- the most bytes of a formula, and of a certificate
 abbrev pub max_formula : ℕ
@@ -92,12 +93,22 @@ pub record AreTold (held : List ℕ → Holding) (words : List (List ℕ)) (form
   pub formula_held : held command.formula ≡ Holds formula
   pub certificate_held : held command.certificate ≡ Holds certificate
 
--- the texts are a formula's and an accepted certificate's, and the formula is true
-pub record IsAcceptance (formula certificate : List ℕ) : Type 0 where
+-- the line names a verdict that the certificate proves
+pub record IsProvedTrue (f : Dqbf) (certificate : List ℕ) (before now : Option (List ℕ)) : Type 0 where
+  pub accepted : IsJudgement f certificate ValidTrue
+  pub is_true : IsTrueFormula f
+  pub written : now ≡ append_known before (line (codes "VALID TRUE"))
+
+pub record IsProvedFalse (f : Dqbf) (certificate : List ℕ) (before now : Option (List ℕ)) : Type 0 where
+  pub accepted : IsJudgement f certificate ValidFalse
+  pub is_false : IsFalseFormula f
+  pub written : now ≡ append_known before (line (codes "VALID FALSE"))
+
+-- the texts are a formula's and an accepted certificate's, and what is written is right
+pub record IsAcceptance (formula certificate : List ℕ) (before now : Option (List ℕ)) : Type 0 where
   pub f : Dqbf
   pub spelled : SpellsFormula formula f
-  pub accepted : Accepts f certificate
-  pub is_true : IsTrueFormula f
+  pub verdict : IsProvedTrue f certificate before now ⊎ IsProvedFalse f certificate before now
 
 -- what is said of a formula and a certificate, and written with that status
 pub record IsAnswered (f : Dqbf) (certificate : List ℕ) (before now : Option (List ℕ)) (status : ℕ) : Type 0 where

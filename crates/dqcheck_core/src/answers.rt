@@ -1,15 +1,18 @@
 //! What the checker says of a certificate.
 
+ghost use Rattle.std.specs.Prelude.{◌≡◌};
+ghost use Rattle.dqcheck_core.specs.declared.answers.Answer.TheVariants.{Refused};
+
 use aiger_text::AagFault;
+use cert_text::CertFault;
 use skolem_checker::MapName;
 
 /// What is wrong with a certificate's text.
 #[derive(Clone, Copy, Debug, PartialEq, Eq)]
 pub enum CertificateFault {
-    /// It names its verdict or is a refutation, and neither is judged yet.
-    NotBuilt,
-    /// Its comment begins a proof, and proofs aren't read yet.
-    BadHeader,
+    /// Its first lines or its lines as a refutation have this fault. A proof in a circuit's comment, which isn't read
+    /// yet, has a bad header too.
+    Text(CertFault),
     /// It isn't a circuit file.
     Circuit(AagFault),
     /// Its inputs and outputs don't stand for the formula's variables.
@@ -19,7 +22,7 @@ pub enum CertificateFault {
 /// The answer to a formula and a certificate.
 #[derive(Clone, Copy, Debug, PartialEq, Eq)]
 pub enum Answer {
-    /// The certificate's text has a fault at this line; line 0 is the text as a whole.
+    /// The certificate's text has a fault at this line.
     Refused { line: u64, name: CertificateFault },
     /// The output for this existential reaches the input for this universal, which it may not see.
     UndeclaredRead { existential: u64, universal: u64 },
@@ -27,6 +30,19 @@ pub enum Answer {
     BadRow { number: u32 },
     /// There is no proof, and too many universals to try all rows.
     Unproved { universals: usize },
+    /// The derivation line with this id isn't derived, and all before it are.
+    UnderivedStep { id: u64 },
+    /// Every derivation line is derived, and the last one isn't the empty clause, or there is none.
+    NoEmptyClause,
     /// The circuit's outputs are Skolem functions, so the formula is true.
     ValidTrue,
+    /// The derivation shows that no choice of functions solves the formula, so it is false.
+    ValidFalse,
+}
+
+/// The certificate's text has this fault.
+pub(crate) fn refused(line: u64, name: CertificateFault) -> Answer
+    ensures { result ≡ Refused line name }
+{
+    Answer::Refused { line, name }
 }

@@ -3,11 +3,13 @@
 
 ghost use Rattle.std.specs.Prelude.{◌≡◌, ℕ, List};
 ghost use Rattle.dq_lits.specs.Formula.{Dqbf, IsWellFormed};
-ghost use Rattle.dq_lits.specs.Henkin.{IsTrueFormula};
-ghost use Rattle.dqcheck_core.specs.Judgement.{IsJudgement, Accepts};
+ghost use Rattle.dq_lits.specs.Henkin.{IsTrueFormula, IsFalseFormula};
+ghost use Rattle.dqcheck_core.specs.Judgement.{IsJudgement};
 ghost use Rattle.dqcheck_core.specs.declared.answers.Answer.{Answer};
+ghost use Rattle.dqcheck_core.specs.declared.answers.Answer.TheVariants.{ValidTrue, ValidFalse};
 
 use aiger_text::laws::circuit_or_first_fault;
+use refutation_checker::laws::refutation_shows_false;
 use skolem_checker::laws::{skolem_circuit_shows_true, tested_circuit_is_skolem};
 
 /// Only one thing is to be said of a certificate.
@@ -17,10 +19,12 @@ pub fn one_judgement()
     circuit_or_first_fault();
 }
 
-/// An accepted certificate proves that the formula is true.
+/// An accepted certificate proves the verdict that is said of it.
 pub fn acceptance_is_sound()
-    ensures { (f : Dqbf) (text : List ℕ) → IsWellFormed f → Accepts f text → IsTrueFormula f }
+    ensures is_true { (f : Dqbf) (text : List ℕ) → IsWellFormed f → IsJudgement f text ValidTrue → IsTrueFormula f }
+    ensures is_false { (f : Dqbf) (text : List ℕ) → IsWellFormed f → IsJudgement f text ValidFalse → IsFalseFormula f }
 {
+    refutation_shows_false();
     tested_circuit_is_skolem();
     skolem_circuit_shows_true();
 }

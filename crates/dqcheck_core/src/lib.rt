@@ -1,4 +1,4 @@
-//! The checker: whether a certificate proves a formula.
+//! The checker: whether a certificate proves a formula true or false.
 //!
 //! `dqcheck_run` is a whole run of the program `dqcheck`: its contract says which line is written and with which status
 //! it ends. `judge` judges a certificate for a formula that was read. The laws in `laws` say that what is accepted is
@@ -10,6 +10,7 @@ pub use judging::judge;
 pub use run::dqcheck_run;
 
 mod answers;
+mod circuits;
 mod commands;
 mod judging;
 pub mod laws;

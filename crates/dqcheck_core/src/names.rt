@@ -1,11 +1,12 @@
 //! The names of faults, as they are written.
 
 ghost use Rattle.std.specs.Prelude.{◌≡◌};
-ghost use Rattle.dqcheck_core.specs.CertificateNames.{circuit_fault_name, mapping_fault_name, certificate_fault_name};
+ghost use Rattle.dqcheck_core.specs.CertificateNames.{circuit_fault_name, text_fault_name, mapping_fault_name, certificate_fault_name};
 ghost use Rattle.dqcheck_core.specs.Report.{formula_fault_name};
 
 use crate::answers::CertificateFault;
 use aiger_text::AagFault;
+use cert_text::CertFault;
 use dqdimacs_reader::FormulaFault;
 use skolem_checker::MapName;
 
@@ -58,12 +59,27 @@ fn mapping_fault_name(fault: MapName) -> &'static str
     }
 }
 
+fn text_fault_name(fault: CertFault) -> &'static str
+    ensures { result.now ≡ text_fault_name fault }
+{
+    match fault {
+        CertFault::BadHeader => "BadHeader",
+        CertFault::BadLine => "BadLine",
+        CertFault::RowIncomplete => "RowIncomplete",
+        CertFault::IdOrder => "IdOrder",
+        CertFault::UnknownHint => "UnknownHint",
+        CertFault::TooBig => "TooBig",
+        CertFault::Truncated => "Truncated",
+        CertFault::BadVariable => "BadVariable",
+        CertFault::WrongVerdict => "WrongVerdict",
+    }
+}
+
 pub fn certificate_fault_name(fault: CertificateFault) -> &'static str
     ensures { result.now ≡ certificate_fault_name fault }
 {
     match fault {
-        CertificateFault::NotBuilt => "NotBuilt",
-        CertificateFault::BadHeader => "BadHeader",
+        CertificateFault::Text(name) => text_fault_name(name),
         CertificateFault::Circuit(name) => circuit_fault_name(name),
         CertificateFault::Mapping(name) => mapping_fault_name(name),
     }

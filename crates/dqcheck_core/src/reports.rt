@@ -90,7 +90,10 @@ fn answer_status(answer: Answer) -> u8
         Answer::UndeclaredRead { .. } => 8,
         Answer::BadRow { .. } => 8,
         Answer::Unproved { .. } => 9,
+        Answer::UnderivedStep { .. } => 8,
+        Answer::NoEmptyClause => 8,
         Answer::ValidTrue => 0,
+        Answer::ValidFalse => 0,
     }
 }
 
@@ -107,7 +110,10 @@ fn answer_line(alloc: Global, f: &Formula, answer: Answer) -> Result<Vec<u8>, Me
             universal,
         } => format!(in alloc; "INVALID reads {existential} {universal}\n")?,
         Answer::Unproved { universals } => format!(in alloc; "UNPROVED {universals}\n")?,
+        Answer::UnderivedStep { id } => format!(in alloc; "INVALID step {id}\n")?,
+        Answer::NoEmptyClause => format!(in alloc; "INVALID end\n")?,
         Answer::ValidTrue => format!(in alloc; "VALID TRUE\n")?,
+        Answer::ValidFalse => format!(in alloc; "VALID FALSE\n")?,
     };
     Ok(text.into_bytes())
 }

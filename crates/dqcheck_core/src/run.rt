@@ -45,7 +45,7 @@ pub fn dqcheck_run<F: Files, K: Sink>(
 
     // Over files that are told: what is accepted is right, and where nothing failed, the certificate is judged.
     ensures accepted { (formula certificate : List ℕ) → AreTold (F.held files.old) (map string_bytes words.now) formula certificate
-        → result ≡ 0 → IsAcceptance formula certificate }
+        → result ≡ 0 → IsAcceptance formula certificate (K.taken out.old) (K.taken out.new) }
     ensures answered { (formula certificate : List ℕ) (f : Dqbf)
         → AreTold (F.held files.old) (map string_bytes words.now) formula certificate
         → length formula ≤ max_formula → length certificate ≤ max_certificate → SpellsFormula formula f

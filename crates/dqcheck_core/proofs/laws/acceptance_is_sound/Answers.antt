@@ -1,9 +1,12 @@
-use Rattle.dqcheck_core.proofs.Soundness.{accepted_is_true}
+use Rattle.dqcheck_core.proofs.Soundness.{accepted_is_true, accepted_is_false}
 use Rattle.dqcheck_core.proofs.laws.acceptance_is_sound.Goals as goal
 
-pub returns : goal.returns
-returns c =
+pub returns-clause-is_true : goal.returns-clause-is_true
+returns-clause-is_true c =
     accepted_is_true (record {
       skolem = c.tested_circuit_is_skolem.ensures;
       is_true = c.skolem_circuit_shows_true.ensures;
     })
+
+pub returns-clause-is_false : goal.returns-clause-is_false
+returns-clause-is_false c = accepted_is_false c.refutation_shows_false.ensures

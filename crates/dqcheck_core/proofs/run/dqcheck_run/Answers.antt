@@ -1,7 +1,7 @@
 use Rattle.std.proofs.Common.{ap, ◌∙◌, map, string_bytes}
 use Rattle.std.specs.Io.KnownBytes.{append_known}
 use Rattle.dq_io.specs.Causes.{Rose}
-use Rattle.dqcheck_core.proofs.Runs.{answered}
+use Rattle.dqcheck_core.proofs.Runs.{answered, accepted}
 use Rattle.dqcheck_core.proofs.run.dqcheck_run.Goals as goal
 
 pub returns-in-Ok-write_all-clause-answered : goal.returns-in-Ok-write_all-clause-answered
@@ -16,3 +16,15 @@ returns-in-Ok-write_all-clause-answered g c formula certificate f told short_for
     c.in-Ok.ensures.due
     (c.in-Ok-write_all.ensures.ok ∙ ap (append_known (g.K.Sink.taken c.args.out.now)) c.deref.ensures.value)
     formula certificate f told short_formula short_certificate spelled sound
+
+pub returns-in-Ok-write_all-clause-accepted : goal.returns-in-Ok-write_all-clause-accepted
+returns-in-Ok-write_all-clause-accepted g c =
+    accepted
+    (record {
+      is_true = c.acceptance_is_sound.ensures.is_true;
+      is_false = c.acceptance_is_sound.ensures.is_false;
+    })
+    (g.F.Files.held c.args.files.now) (Rose (g.F.Files.faults c.args.files.now) (g.F.Files.faults c.report.new.files))
+    (map string_bytes c.args.words.now) (g.K.Sink.taken c.args.out.now) (g.K.Sink.taken c.write_all.new.sink) c.in-Ok.output
+    c.in-Ok.ensures.due
+    (c.in-Ok-write_all.ensures.ok ∙ ap (append_known (g.K.Sink.taken c.args.out.now)) c.deref.ensures.value)

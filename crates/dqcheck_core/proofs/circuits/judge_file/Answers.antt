@@ -1,6 +1,6 @@
 use Rattle.dqcheck_core.proofs.Certificates.{spelled_complete}
 use Rattle.dqcheck_core.proofs.Places.{spelled_few, candidate_fault}
-use Rattle.dqcheck_core.proofs.judging.judge_circuit.Goals as goal
+use Rattle.dqcheck_core.proofs.circuits.judge_file.Goals as goal
 
 pub new-requires-clause-complete : goal.new-requires-clause-complete
 new-requires-clause-complete c = spelled_complete c.args.text.now c.args.file.now c.requires.spelled

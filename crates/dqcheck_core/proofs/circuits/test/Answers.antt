@@ -1,7 +1,7 @@
 use Rattle.std.proofs.Common.{sym, subst}
 use Rattle.skolem_checker.specs.Checks.{Candidate}
 use Rattle.dqcheck_core.specs.Judgement.{PassesReads, IsTested}
-use Rattle.dqcheck_core.proofs.judging.test.Goals as goal
+use Rattle.dqcheck_core.proofs.circuits.test.Goals as goal
 
 pub test_rows-requires-clause-reads : goal.test_rows-requires-clause-reads
 test_rows-requires-clause-reads c =
