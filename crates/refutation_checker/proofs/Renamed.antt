@@ -10,7 +10,7 @@ use Rattle.dq_formula.proofs.Places.{place, has-contains}
 use Rattle.dq_formula.proofs.Sorted.{get_or-place}
 use Rattle.refutation_checker.specs.Renaming.{place_of, renamed_literal, renamed_clauses, renamed_step}
 
-same_tests : (a b c d : ℕ) → (a ≡ b → c ≡ d) → (c ≡ d → a ≡ b) → (a == b) ≡ (c == d)
+pub same_tests : (a b c d : ℕ) → (a ≡ b → c ≡ d) → (c ≡ d → a ≡ b) → (a == b) ≡ (c == d)
 same_tests a b c d to from =
     elim (cases_Bool (a == b)) [
       | inl same ↦ same ∙ sym (eq-eqb c d (to (eqb-true a b same)))

@@ -4,4 +4,5 @@ pub mod Pairs
 pub mod Occurring
 pub mod Renaming
 pub mod PairTable
+pub mod Labels
 pub mod Lines
