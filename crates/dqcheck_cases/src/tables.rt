@@ -2,6 +2,7 @@
 
 use crate::settings::{Calls, Settings, words_of};
 use anyhow::{Result, anyhow};
+use cert_text::{read_dqr, write_dqr};
 use dqdimacs_reader::{read, write};
 use std::alloc::Global;
 
@@ -28,6 +29,10 @@ pub fn take_line(alloc: Global, settings: &mut Settings, line: &str) -> Result<O
             let taken = shown(alloc, &canonical(alloc, settings)?)?;
             return Ok(Some(format!(in alloc; "{rest}: {taken}")?));
         }
+        "refutation" => {
+            let taken = shown(alloc, &canonical_refutation(alloc, settings)?)?;
+            return Ok(Some(format!(in alloc; "{rest}: {taken}")?));
+        }
         _ => return Err(anyhow!("no setting: {line}")),
     }
     Ok(None)
@@ -40,6 +45,16 @@ fn canonical(alloc: Global, settings: &Settings) -> Result<Vec<u8>> {
     };
     let formula = read(alloc, text)?;
     Ok(write(alloc, &formula)?)
+}
+
+// The canonical text of the certificate, a refutation of the formula.
+fn canonical_refutation(alloc: Global, settings: &Settings) -> Result<Vec<u8>> {
+    let (Some(formula), Some(certificate)) = (&settings.formula, &settings.certificate) else {
+        return Err(anyhow!("no formula or no refutation"));
+    };
+    let formula = read(alloc, formula)?;
+    let refutation = read_dqr(alloc, certificate, 1, &formula)?;
+    Ok(write_dqr(alloc, &refutation, &formula)?)
 }
 
 // The bytes that a spelled text stands for.
