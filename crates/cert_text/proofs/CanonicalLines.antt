@@ -97,24 +97,24 @@ rows_spell us [] are = tt
 rows_spell us (row ∷ rows) are = (row_spells us row are, rows_spell us rows are)
 
 -- a derivation line
-abbrev literal_word : Literal → List ℕ
+abbrev pub literal_word : Literal → List ℕ
 literal_word l = signed_word (not (is_negative l)) (variable_of l)
 
-abbrev HasSmallLiterals : List Literal → Type 0
+abbrev pub HasSmallLiterals : List Literal → Type 0
 HasSmallLiterals ls = AllByRecursion (λ l. IsSpellable (variable_of l)) ls
 
-abbrev AreSmall : List ℕ → Type 0
+abbrev pub AreSmall : List ℕ → Type 0
 AreSmall ns = AllByRecursion (λ n. n < 10 ^ 18) ns
 
-record IsSmallStep (s : ProofStep) : Type 0 where
-  id : s.id < 10 ^ 18
-  literals : HasSmallLiterals s.literals
-  hints : AreSmall s.hints
+pub record IsSmallStep (s : ProofStep) : Type 0 where
+  pub id : s.id < 10 ^ 18
+  pub literals : HasSmallLiterals s.literals
+  pub hints : AreSmall s.hints
 
-abbrev step_words : ProofStep → List (List ℕ)
+abbrev pub step_words : ProofStep → List (List ℕ)
 step_words s = decimal s.id ∷ (map literal_word s.literals ++ codes "0" ∷ map decimal s.hints)
 
-abbrev step_tokens : ProofStep → Tokens
+abbrev pub step_tokens : ProofStep → Tokens
 step_tokens s = step_words s ++ codes "0" ∷ []
 
 literals_spaced : (ls : List Literal) → flat_map literal_text ls ≡ spaced (map literal_word ls)
@@ -180,14 +180,14 @@ literals_numbers (l ∷ ls) hs are small = ap₂ (λ n ns. n ∷ ns) (literal_nu
 step_spells : (s : ProofStep) → IsSmallStep s → SpellsStep (step_tokens s) s
 step_spells s is = ap₂ (λ n ns. n ∷ ns) (natural_number_is s.id is.id) (literals_numbers s.literals s.hints is.literals is.hints)
 
-abbrev AreSmallSteps : List ProofStep → Type 0
+abbrev pub AreSmallSteps : List ProofStep → Type 0
 AreSmallSteps ss = AllByRecursion IsSmallStep ss
 
-steps_lines : (ss : List ProofStep) → AreSmallSteps ss → tokens_of (flat_map step_text ss) ≡ map step_tokens ss
+pub steps_lines : (ss : List ProofStep) → AreSmallSteps ss → tokens_of (flat_map step_text ss) ≡ map step_tokens ss
 steps_lines [] are = refl
 steps_lines (s ∷ ss) are = step_line s (flat_map step_text ss) are.0 ∙ ap (λ lines. step_tokens s ∷ lines) (steps_lines ss are.1)
 
-steps_spell : (ss : List ProofStep) → AreSmallSteps ss → AllZip SpellsStep (map step_tokens ss) ss
+pub steps_spell : (ss : List ProofStep) → AreSmallSteps ss → AllZip SpellsStep (map step_tokens ss) ss
 steps_spell [] are = tt
 steps_spell (s ∷ ss) are = (step_spells s are.0, steps_spell ss are.1)
 
@@ -200,7 +200,7 @@ small_literals : (p : ℕ → Bool) (ls : List Literal) → ((v : ℕ) → p v �
 small_literals p [] small are = tt
 small_literals p (l ∷ ls) small are = (small (variable_of l) are.0, small_literals p ls small are.1)
 
-small_hints : (id : ℕ) (hs : List ℕ) → id < 10 ^ 18 → AllByRecursion (λ h. (1 ≤ h) × (h < id)) hs → AreSmall hs
+pub small_hints : (id : ℕ) (hs : List ℕ) → id < 10 ^ 18 → AllByRecursion (λ h. (1 ≤ h) × (h < id)) hs → AreSmall hs
 small_hints id [] small are = tt
 small_hints id (h ∷ hs) small are = (omega (arith, are.0.1, small), small_hints id hs small are.1)
 

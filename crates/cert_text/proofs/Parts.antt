@@ -1,29 +1,11 @@
--- Which line comes next.
-use Rattle.std.proofs.Common.{◌≡◌, ℕ, ◌≤◌, ◌<◌, ◌==◌, zero, suc, ◌+◌, ◌-◌, ◌/◌, ◌%◌, nat_lt, true, not, ◌&&◌, List, [], ◌∷◌, ◌++◌, length, is_some, if◌then◌else◌, ◌∙◌, ap, arith}
+-- What holds of the numbers of a lawful formula's variables and of pairs.
+use Rattle.std.proofs.Common.{◌≡◌, ℕ, ◌≤◌, ◌==◌, zero, suc, ◌+◌, ◌-◌, ◌/◌, ◌%◌, nat_lt, true, not, ◌&&◌, List, [], ◌∷◌, ◌++◌, is_some, arith}
 use Rattle.std.specs.List.{AllByRecursion}
-use Rattle.std.proofs.lemmas.Bool.{and_parts, lt-ltb, le-ltb}
+use Rattle.std.proofs.lemmas.Bool.{and_parts}
 use Rattle.std.proofs.lemmas.List.Elements.{recursion_from_All}
 use Rattle.dq_lits.specs.Formula.{Dqbf, declared, existential_of}
 use Rattle.dq_formula.specs.Prefix.{IsLawful}
 use Rattle.cert_text.specs.Pairs.{is_pair_number}
-use Rattle.cert_text.specs.Scan.{next_part}
-use Rattle.cert_text.specs.declared.headers.Counts.{Counts}
-use Rattle.cert_text.specs.declared.reader.Part.TheVariants.{RowLine, StepLine, BlankLine}
-use Rattle.cert_text.specs.declared.refutations.Dqr.{Dqr}
-
-pub part_row : (c : Counts) (d : Dqr) → length d.rows < c.rows → next_part c d ≡ RowLine
-part_row c d below =
-    ap (λ b. if b then RowLine else if nat_lt (length d.steps) c.steps then StepLine else BlankLine) (lt-ltb (length d.rows) c.rows below)
-
-pub part_step : (c : Counts) (d : Dqr) → c.rows ≤ length d.rows → length d.steps < c.steps → next_part c d ≡ StepLine
-part_step c d full below =
-    ap (λ b. if b then RowLine else if nat_lt (length d.steps) c.steps then StepLine else BlankLine) (le-ltb (length d.rows) c.rows full)
-    ∙ ap (λ b. if b then StepLine else BlankLine) (lt-ltb (length d.steps) c.steps below)
-
-pub part_blank : (c : Counts) (d : Dqr) → c.rows ≤ length d.rows → c.steps ≤ length d.steps → next_part c d ≡ BlankLine
-part_blank c d full done =
-    ap (λ b. if b then RowLine else if nat_lt (length d.steps) c.steps then StepLine else BlankLine) (le-ltb (length d.rows) c.rows full)
-    ∙ ap (λ b. if b then StepLine else BlankLine) (le-ltb (length d.steps) c.steps done)
 
 some_number : (n : ℕ) → not (n == 0) ≡ true → 1 ≤ n
 some_number zero h = cc

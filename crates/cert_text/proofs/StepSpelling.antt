@@ -191,9 +191,9 @@ nil_is [] h = refl
 nil_is (n ∷ ns) h = cc
 
 -- numbers that are a derivation line's
-record IsShape (ns : List ℤ) (s : ProofStep) : Type 0 where
-  numbers : ns ≡ step_numbers s
-  hints : AreIds s.hints
+pub record IsShape (ns : List ℤ) (s : ProofStep) : Type 0 where
+  pub numbers : ns ≡ step_numbers s
+  pub hints : AreIds s.hints
 
 made_of : (b : Bool) (made s : ProofStep) → cond b (Some made) None ≡ Some s → (b ≡ true) × (made ≡ s)
 made_of true made s h = let is : made ≡ s = cc in (refl, is)
@@ -211,7 +211,7 @@ shape_of_parts id ls hs more s h =
     (ap₂ (λ xs ys. xs ++ pos 0 ∷ ys) (sym (numbers_back ls)) (ap₂ (λ xs ys. xs ++ pos 0 ∷ ys) (sym ids.0) (nil_is more second.1))) in
     subst (IsShape (id ∷ (ls ++ pos 0 ∷ (hs ++ pos 0 ∷ more)))) parts.1 (record { numbers = numbers; hints = ids.1 })
 
-shape_read : (ns : List ℤ) (s : ProofStep) → step_of ns ≡ Some s → IsShape ns s
+pub shape_read : (ns : List ℤ) (s : ProofStep) → step_of ns ≡ Some s → IsShape ns s
 shape_read [] s h = cc
 shape_read (id ∷ ns) s h =
     let Parts : Type 0 = List ℤ × List ℤ in

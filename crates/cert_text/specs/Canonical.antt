@@ -1,9 +1,10 @@
--- The canonical text of a refutation: one space between tokens, and LF at the end of each line.
+-- The canonical texts of refutations and of circuits' proofs: one space between tokens, and LF at the end of each line.
 use Rattle.std.specs.Prelude.{ℕ, Bool, true, false, not, List, [], ◌∷◌, ◌++◌, length, codes}
 use Rattle.std.specs.Fmt.{decimal}
 use Rattle.std.specs.List.{flat_map, zip}
 use Rattle.dq_lits.specs.Derivation.{ProofStep}
 use Rattle.dq_lits.specs.Literal.{Literal, variable_of, is_negative}
+use Rattle.cert_text.specs.declared.circuit_proofs.Dqp.{Dqp}
 use Rattle.cert_text.specs.declared.refutations.Dqr.{Dqr}
 
 -- a number and a space
@@ -37,3 +38,10 @@ step_text s = number_text s.id ++ (flat_map literal_text s.literals ++ (codes "0
 abbrev pub canonical : List ℕ → Dqr → List ℕ
 canonical universals d =
     header_text (length d.rows) (length d.steps) ++ (flat_map (row_text universals) d.rows ++ flat_map step_text d.steps)
+
+abbrev pub proof_header_text : ℕ → List ℕ
+proof_header_text steps = codes "dqp " ++ (decimal steps ++ 10 ∷ [])
+
+-- the header, a line for each derivation line
+abbrev pub canonical_proof : Dqp → List ℕ
+canonical_proof d = proof_header_text (length d.steps) ++ flat_map step_text d.steps

@@ -1,7 +1,7 @@
 -- The grammar: which refutation a text spells for a formula, in this project's own format: rows for a universal expansion
 -- (U. Bubeck, H. Kleine Büning, "Dependency quantified Horn formulas", 2006), and derivation lines as in LRAT (L.
 -- Cruz-Filipe et al., "Efficient certified RAT verification", 2017). Tokens stand between any spaces, tabs and CRs.
-use Rattle.std.specs.Prelude.{◌≡◌, ℕ, ◌+◌, ◌*◌, ◌<◌, ◌≤◌, ℤ, pos, neg_ℤ, Bool, true, false, List, [], ◌∷◌, ◌++◌, map, length, replicate, codes, IsSome}
+use Rattle.std.specs.Prelude.{◌≡◌, ℕ, ◌+◌, ◌*◌, ◌^◌, ◌<◌, ◌≤◌, ℤ, pos, neg_ℤ, Bool, true, false, List, [], ◌∷◌, ◌++◌, map, length, replicate, codes, IsSome}
 use Rattle.std.specs.List.{All, AllZip, zip}
 use Rattle.dq_lits.specs.Derivation.{ProofStep}
 use Rattle.dq_lits.specs.Formula.{Dqbf, existential_of}
@@ -57,6 +57,11 @@ pub record IsStep (is_variable : ℕ → Bool) (id : ℕ) (s : ProofStep) : Type
   pub numbered : s.id ≡ id
   pub on_variables : All (λ l. is_variable (variable_of l) ≡ true) s.literals
   pub hints_before : All (λ hint. (1 ≤ hint) × (hint < id)) s.hints
+
+-- numbers that a text can hold; hints are below the id
+pub record HasSmallNumbers (s : ProofStep) : Type 0 where
+  pub id : s.id < 10 ^ 18
+  pub variables : All (λ l. variable_of l < 10 ^ 18) s.literals
 
 -- derivation lines that are numbered from an id on
 abbrev pub AreSteps : (ℕ → Bool) → ℕ → List ProofStep → Type 0

@@ -1,4 +1,4 @@
--- The header line of a refutation, in this project's own format: `p dqr` and two counts.
+-- The header lines of refutations and of circuits' proofs, in this project's own formats: `p dqr` and two counts, `dqp` and one.
 use Rattle.std.specs.Prelude.{ℕ, nat_lt, ◌&&◌, ◌||◌, List, [], ◌∷◌, Option, None, Some, Result, Ok, Err, codes, if◌then◌else◌}
 use Rattle.std.specs.Str.{bytes_eq}
 use Rattle.cert_text.specs.Numbers.{natural_of}
@@ -20,3 +20,12 @@ abbrev pub header_of : List (List ℕ) → Result Counts CertFault
 header_of (letter ∷ word ∷ rows ∷ steps ∷ []) =
     if bytes_eq letter (codes "p") && bytes_eq word (codes "dqr") then counts_of (natural_of rows) (natural_of steps) else Err BadHeader
 header_of _ = Err BadHeader
+
+abbrev pub count_of : Option ℕ → Result ℕ CertFault
+count_of None = Err BadHeader
+count_of (Some count) = if nat_lt max_count count then Err TooBig else Ok count
+
+-- `dqp`, how many derivation lines
+abbrev pub proof_header : List (List ℕ) → Result ℕ CertFault
+proof_header (word ∷ count ∷ []) = if bytes_eq word (codes "dqp") then count_of (natural_of count) else Err BadHeader
+proof_header _ = Err BadHeader

@@ -1,6 +1,9 @@
 -- What a function that reads a line answers.
-use Rattle.std.specs.Prelude.{◌≡◌, Result, Ok, Err}
+use Rattle.std.specs.Prelude.{◌≡◌, ℕ, Result, Ok, Err}
+use Rattle.cert_text.specs.Kind.{refusal}
 use Rattle.cert_text.specs.declared.faults.CertFault.{CertFault}
+use Rattle.cert_text.specs.declared.faults.CertStop.{CertStop}
+use Rattle.cert_text.specs.declared.faults.CertStop.TheVariants.{Refused, Memory as NoMemory}
 use Rattle.cert_text.specs.declared.faults.LineStop.{LineStop}
 use Rattle.cert_text.specs.declared.faults.LineStop.TheVariants.{Fault, Memory}
 
@@ -20,3 +23,8 @@ IsMadeOf line (Err Memory) made = Unit {0}
 abbrev pub and_then : {A B : Type 0} → (A → Result B CertFault) → Result A CertFault → Result B CertFault
 and_then make (Ok value) = make value
 and_then make (Err name) = Err name
+
+-- the line's stop as one of the text
+abbrev pub StopsAt : ℕ → LineStop → CertStop → Type 0
+StopsAt line (Fault name) stop = stop ≡ Refused (refusal line name)
+StopsAt line Memory stop = stop ≡ NoMemory

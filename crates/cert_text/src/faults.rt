@@ -1,6 +1,7 @@
 ghost use Rattle.std.specs.Prelude.{◌≡◌};
 ghost use Rattle.cert_text.specs.declared.faults.CertStop.TheVariants.{Refused, Memory as OutOfMemory};
 ghost use Rattle.cert_text.specs.declared.faults.LineStop.TheVariants.{Fault, Memory as LineOutOfMemory};
+ghost use Rattle.cert_text.specs.LineStop.{StopsAt};
 
 use dq_lits::Memory;
 use thiserror::Error;
@@ -84,5 +85,22 @@ impl From<CertFault> for LineStop {
 
     fn from(fault: CertFault) -> LineStop {
         LineStop::Fault(fault)
+    }
+}
+
+/// The refusal of a text for the fault of a line.
+pub fn refused(line: u64, name: CertFault) -> CertStop
+    ensures { result ≡ CertStop.Refused (record { line = line; name = name }) }
+{
+    CertStop::Refused(CertRefusal { line, name })
+}
+
+/// A line's stop as one of the text.
+pub fn at_line(line: u64, stop: LineStop) -> CertStop
+    ensures { StopsAt line stop result }
+{
+    match stop {
+        LineStop::Fault(name) => refused(line, name),
+        LineStop::Memory => CertStop::Memory,
     }
 }

@@ -1,9 +1,9 @@
-//! The header line of a refutation.
+//! The header lines of refutations and of circuits' proofs.
 
 ghost use Rattle.std.specs.Prelude.{◌≡◌, ◌≤◌, IfOk};
 ghost use Rattle.dq_text.specs.Line.{line_tokens};
-ghost use Rattle.cert_text.specs.Header.{counts_of, header_of};
-ghost use Rattle.cert_text.specs.ReaderState.{AreSmall};
+ghost use Rattle.cert_text.specs.Header.{count_of, counts_of, header_of, proof_header};
+ghost use Rattle.cert_text.specs.HeaderCounts.{AreSmall};
 
 use crate::faults::CertFault;
 use crate::numbers::natural;
@@ -48,4 +48,33 @@ fn counts_from(rows: Option<u64>, steps: Option<u64>) -> Result<Counts, CertFaul
         return Err(CertFault::TooBig);
     }
     Ok(Counts { rows, steps })
+}
+
+/// Reads the header line of a circuit's proof: exactly the tokens `dqp` and a natural number, which is
+/// how many derivation lines follow.
+pub fn read_proof_header(line: &[u8]) -> Result<u64, CertFault>
+    ensures { result ≡ proof_header (line_tokens line.now) }
+{
+    let mut tokens = LineTokens::new(line);
+    match (tokens.next(), tokens.next()) {
+        (Some(word), Some(count)) if tokens.next().is_none() => {
+            if !is_word(word, b"dqp") {
+                return Err(CertFault::BadHeader);
+            }
+            count_from(natural(count))
+        }
+        _ => Err(CertFault::BadHeader),
+    }
+}
+
+fn count_from(count: Option<u64>) -> Result<u64, CertFault>
+    ensures { result ≡ count_of count }
+{
+    let Some(count) = count else {
+        return Err(CertFault::BadHeader);
+    };
+    if count > MAX_COUNT {
+        return Err(CertFault::TooBig);
+    }
+    Ok(count)
 }

@@ -1,15 +1,20 @@
 //! What joins the grammars, the first faults and the canonical text. A law is the contract of a function
 //! without parameters and with an empty body.
 
-ghost use Rattle.std.specs.Prelude.{◌≡◌, ℕ, ◌⊎◌, ◌↔◌, true, List, Ok, Err};
+ghost use Rattle.std.specs.Prelude.{◌≡◌, ℕ, ◌⊎◌, length, ◌↔◌, true, List, Ok, Err};
 ghost use Rattle.dq_lits.specs.Formula.{Dqbf};
 ghost use Rattle.dq_formula.specs.Prefix.{IsLawful};
+ghost use Rattle.circuit_plain.specs.Netlist.{Netlist};
 ghost use Rattle.cert_text.specs.Beginning.{Begins};
-ghost use Rattle.cert_text.specs.Canonical.{canonical};
+ghost use Rattle.cert_text.specs.Canonical.{canonical, canonical_proof};
+ghost use Rattle.cert_text.specs.CircuitProof.{circuit_proof_of};
 ghost use Rattle.cert_text.specs.Grammar.{IsDqrOf, IsPairNumber, SpellsRefutation};
 ghost use Rattle.cert_text.specs.Kind.{certificate_kind};
+ghost use Rattle.cert_text.specs.NegatedMatrix.{negated_clauses, negated_clause_count};
 ghost use Rattle.cert_text.specs.Pairs.{is_pair_number};
+ghost use Rattle.cert_text.specs.ProofGrammar.{IsDqpOf, SpellsProof};
 ghost use Rattle.cert_text.specs.Scan.{refutation_of};
+ghost use Rattle.cert_text.specs.declared.circuit_proofs.Dqp.{Dqp};
 ghost use Rattle.cert_text.specs.declared.faults.CertRefusal.{CertRefusal};
 ghost use Rattle.cert_text.specs.declared.kinds.Kind.{Kind};
 ghost use Rattle.cert_text.specs.declared.refutations.Dqr.{Dqr};
@@ -39,4 +44,28 @@ pub fn pairs_have_numbers()
 pub fn canonical_text_spells()
     ensures spells { (f : Dqbf) (d : Dqr) → IsLawful f → IsDqrOf f d → SpellsRefutation (canonical f.universals d) f d }
     ensures reads_back { (f : Dqbf) (d : Dqr) (first : ℕ) → IsLawful f → IsDqrOf f d → refutation_of f (canonical f.universals d) first ≡ Ok d }
+{}
+
+/// A text spells one proof over a formula and a circuit, or it has a first fault, and never both. The number of its
+/// first line says only which line a fault names.
+pub fn proof_or_first_fault()
+    ensures exact { (text : List ℕ) (first : ℕ) (f : Dqbf) (net : Netlist) (d : Dqp)
+        → SpellsProof text f net d ↔ (circuit_proof_of f net text first ≡ Ok d) }
+    ensures unique { (text : List ℕ) (f : Dqbf) (net : Netlist) (d e : Dqp) → SpellsProof text f net d → SpellsProof text f net e → d ≡ e }
+    ensures either { (text : List ℕ) (first : ℕ) (f : Dqbf) (net : Netlist)
+        → ((d : Dqp) × SpellsProof text f net d) ⊎ ((fault : CertRefusal) × (circuit_proof_of f net text first ≡ Err fault)) }
+    ensures allowed { (text : List ℕ) (first : ℕ) (f : Dqbf) (net : Netlist) (d : Dqp)
+        → circuit_proof_of f net text first ≡ Ok d → IsDqpOf f net d }
+{}
+
+/// The canonical text of a circuit's proof spells it, so that reading it gives the proof back.
+pub fn canonical_proof_spells()
+    ensures spells { (f : Dqbf) (net : Netlist) (d : Dqp) → IsDqpOf f net d → SpellsProof (canonical_proof d) f net d }
+    ensures reads_back { (f : Dqbf) (net : Netlist) (d : Dqp) (first : ℕ) → IsDqpOf f net d
+        → circuit_proof_of f net (canonical_proof d) first ≡ Ok d }
+{}
+
+/// The first line of a circuit's proof has the id behind those of the negated matrix.
+pub fn negated_clauses_are_counted()
+    ensures { (f : Dqbf) (net : Netlist) (circuit_literal : ℕ → ℕ) → length (negated_clauses f net circuit_literal) ≡ negated_clause_count f net }
 {}

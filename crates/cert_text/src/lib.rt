@@ -1,14 +1,19 @@
-//! The texts of certificates: which kind one is, and expansion refutations (`dqr`), read exactly.
+//! The texts of certificates: which kind one is, and expansion refutations (`dqr`) and circuits' proofs (`dqp`),
+//! read exactly.
 #![tactic(auto)]
 
+pub use circuit_proofs::Dqp;
 pub use faults::{CertFault, CertRefusal, CertStop};
 pub use first_lines::kind;
 pub use kinds::Kind;
+pub use proof_reader::read_dqp;
 pub use reader::read_dqr;
 pub use refutations::Dqr;
 pub use steps::{Step, StepList};
-pub use writer::write_dqr;
+pub use writer::{write_dqp, write_dqr};
 
+mod circuit_proofs;
+pub mod examples;
 mod faults;
 mod first_lines;
 mod headers;
@@ -16,10 +21,14 @@ mod kinds;
 pub mod laws;
 mod numbers;
 mod pairs;
+mod proof_reader;
 mod reader;
 mod refutations;
 mod row_lines;
+mod row_lists;
 mod step_lines;
+mod step_lists;
 mod steps;
+mod variables;
 mod words;
 mod writer;

@@ -7,15 +7,14 @@ ghost use Rattle.std.specs.Option.{option_map};
 ghost use Rattle.dq_lits.specs.Literal.{dimacs_literal, variable_of};
 ghost use Rattle.dq_text.specs.Line.{line_tokens};
 ghost use Rattle.cert_text.specs.LineStop.{IsLineOf};
-ghost use Rattle.cert_text.specs.Pairs.{is_pair_number};
 ghost use Rattle.cert_text.specs.StepLine.{is_zero, is_nil, cut_at_zero, step_of, checked_step, step_line};
 ghost use Rattle.cert_text.specs.StepNumbers.{numbered_step, maybe_step, IsLiteralNumber};
+ghost use Rattle.cert_text.specs.Variables.{is_variable};
 
 use crate::faults::{CertFault, LineStop};
-use crate::headers::MAX_COUNT;
 use crate::numbers::take_integers;
-use crate::pairs::Pairs;
 use crate::steps::Step;
+use crate::variables::Variables;
 use dq_lits::{Clause, Ids, Lit, Memory};
 use dq_text::LineTokens;
 use std::alloc::Global;
@@ -28,22 +27,21 @@ pub struct StepNumbers<'a> {
     pub hints: &'a [i64],
 }
 
-/// Reads a derivation line with the next id, over these pairs.
+/// Reads a derivation line with the next id, over these variables.
 pub fn read_step(
     alloc: Global,
-    pairs: Pairs,
-    next: u64,
+    variables: Variables,
+    next: u128,
     line: &[u8],
     integers: &mut Vec<i64>,
 ) -> Result<Step, LineStop>
-    requires { pairs.rows ≤ MAX_COUNT }
-    ensures { IsLineOf (step_line (is_pair_number pairs.entry.formula.now pairs.entry.rows) next (line_tokens line.now)) result }
+    ensures { IsLineOf (step_line (is_variable variables.entry) next (line_tokens line.now)) result }
 {
     take_integers(&mut LineTokens::new(line), integers)?;
     let Some(numbers) = step_numbers(integers) else {
         return Err(LineStop::Fault(CertFault::BadLine));
     };
-    check_step(pairs, next, numbers)?;
+    check_step(variables, next, numbers)?;
     Ok(kept_step(alloc, numbers)?)
 }
 
@@ -93,17 +91,16 @@ fn are_positive(numbers: &[i64]) -> bool
 
 // The checks behind the shape, in their order.
 #[tactic(auto, using(crate::proofs::Checks::checked_numbers))]
-fn check_step(pairs: Pairs, next: u64, step: StepNumbers) -> Result<(), CertFault>
-    requires { pairs.rows ≤ MAX_COUNT }
+fn check_step(variables: Variables, next: u128, step: StepNumbers) -> Result<(), CertFault>
     ensures { MatchResult result
-        (λ _. (checked_step (is_pair_number pairs.entry.formula.now pairs.entry.rows) next (numbered_step step.entry) ≡ Ok (numbered_step step.entry))
-        × All IsLiteralNumber step.entry.literals.now)
-        (λ name. checked_step (is_pair_number pairs.entry.formula.now pairs.entry.rows) next (numbered_step step.entry) ≡ Err name) }
+        (λ _. (checked_step (is_variable variables.entry) next (numbered_step step.entry) ≡ Ok (numbered_step step.entry))
+        × All (λ n. 1 ≤ nat_abs n) step.entry.literals.now)
+        (λ name. checked_step (is_variable variables.entry) next (numbered_step step.entry) ≡ Err name) }
 {
-    if step.id != next {
+    if step.id as u128 != next {
         return Err(CertFault::IdOrder);
     }
-    if !are_pairs(pairs, step.literals) {
+    if !are_on(variables, step.literals) {
         return Err(CertFault::BadVariable);
     }
     if !are_below(step.hints, step.id) {
@@ -112,12 +109,11 @@ fn check_step(pairs: Pairs, next: u64, step: StepNumbers) -> Result<(), CertFaul
     Ok(())
 }
 
-fn are_pairs(pairs: Pairs, literals: &[i64]) -> bool
-    requires { pairs.rows ≤ MAX_COUNT }
-    ensures pairs { result ≡ list_all (λ n. is_pair_number pairs.entry.formula.now pairs.entry.rows (variable_of (dimacs_literal n))) literals.now }
-    ensures small { IsTrue result → All IsLiteralNumber literals.now }
+fn are_on(variables: Variables, literals: &[i64]) -> bool
+    ensures variables { result ≡ list_all (λ n. is_variable variables.entry (variable_of (dimacs_literal n))) literals.now }
+    ensures some { IsTrue result → All (λ n. 1 ≤ nat_abs n) literals.now }
 {
-    literals.iter().all(|n| pairs.has_literal(*n))
+    literals.iter().all(|n| variables.has_literal(*n))
 }
 
 fn are_below(hints: &[i64], id: u64) -> bool

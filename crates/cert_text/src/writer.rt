@@ -1,11 +1,16 @@
-//! Writing a refutation.
+//! Writing refutations and circuits' proofs.
 
 ghost use Rattle.std.specs.Prelude.{◌≡◌, ◌++◌, ℕ, not, length, Ok, IfOk, OnOk, codes};
 ghost use Rattle.std.specs.List.{flat_map, zip};
+ghost use Rattle.dq_lits.specs.Formula.{Dqbf};
+ghost use Rattle.circuit_plain.specs.Netlist.{Netlist};
+ghost use Rattle.cert_text.specs.CircuitProof.{circuit_proof_of};
 ghost use Rattle.cert_text.specs.Grammar.{IsDqrOf};
+ghost use Rattle.cert_text.specs.ProofGrammar.{IsDqpOf};
 ghost use Rattle.cert_text.specs.Scan.{refutation_of};
-ghost use Rattle.cert_text.specs.Canonical.{number_text, signed_text, literal_text, header_text, row_text, step_text, canonical};
+ghost use Rattle.cert_text.specs.Canonical.{number_text, signed_text, literal_text, header_text, proof_header_text, row_text, step_text, canonical, canonical_proof};
 
+use crate::circuit_proofs::Dqp;
 use crate::refutations::Dqr;
 use crate::steps::Step;
 use dq_formula::Formula;
@@ -30,11 +35,34 @@ pub fn write_dqr(alloc: Global, d: &Dqr, f: &Formula) -> Result<Vec<u8>, Memory>
     Ok(text)
 }
 
+/// The canonical text of a circuit's proof: the header `dqp N`, and then the derivation lines. Where the proof is
+/// one that a text can hold over a formula and a circuit, reading the text over these gives it back.
+pub fn write_dqp(alloc: Global, d: &Dqp) -> Result<Vec<u8>, Memory>
+    ensures canonical { IfOk result (λ text. text.items ≡ canonical_proof d.now) }
+    ensures reads_back { (f : Dqbf) (net : Netlist) (first : ℕ) → IsDqpOf f net d.now
+        → IfOk result (λ text. circuit_proof_of f net text.items first ≡ Ok d.now) }
+{
+    let mut text = Vec::new(alloc);
+    let steps = d.steps.items();
+    write_proof_header(steps.len(), &mut text)?;
+    write_steps(steps, &mut text)?;
+    Ok(text)
+}
+
 fn write_header(rows: usize, steps: usize, text: &mut Vec<u8>) -> Result<(), Memory>
     ensures { OnOk result (text.new.items ≡ text.old.items ++ header_text rows steps) }
 {
     text.extend_from_slice(b"p dqr ")?;
     write_number(rows as u64, text)?;
+    push_natural(text, steps as u64)?;
+    text.push(b'\n')?;
+    Ok(())
+}
+
+fn write_proof_header(steps: usize, text: &mut Vec<u8>) -> Result<(), Memory>
+    ensures { OnOk result (text.new.items ≡ text.old.items ++ proof_header_text steps) }
+{
+    text.extend_from_slice(b"dqp ")?;
     push_natural(text, steps as u64)?;
     text.push(b'\n')?;
     Ok(())

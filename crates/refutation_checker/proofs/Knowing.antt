@@ -26,16 +26,16 @@ with_pair-has pairs number = by (list_any (λ pair. pair == number) pairs) refl
     by true found = contains-has pairs number found
     by false found = Contains-push pairs number
 
-with_pairs-keeps : (numbers pairs : List ℕ) (v : ℕ) → Contains pairs v → Contains (with_pairs pairs numbers) v
+pub with_pairs-keeps : (numbers pairs : List ℕ) (v : ℕ) → Contains pairs v → Contains (with_pairs pairs numbers) v
 with_pairs-keeps [] pairs v known = known
 with_pairs-keeps (number ∷ numbers) pairs v known = with_pairs-keeps numbers (with_pair pairs number) v (with_pair-keeps pairs number v known)
 
-with_pairs-have : (numbers pairs : List ℕ) → AllByRecursion (Contains (with_pairs pairs numbers)) numbers
+pub with_pairs-have : (numbers pairs : List ℕ) → AllByRecursion (Contains (with_pairs pairs numbers)) numbers
 with_pairs-have [] pairs = tt
 with_pairs-have (number ∷ numbers) pairs =
     (with_pairs-keeps numbers (with_pair pairs number) number (with_pair-has pairs number), with_pairs-have numbers (with_pair pairs number))
 
-split : (P : ℕ → Type 0) (xs ys : List ℕ) → AllByRecursion P (xs ++ ys) → AllByRecursion P xs × AllByRecursion P ys
+pub split : (P : ℕ → Type 0) (xs ys : List ℕ) → AllByRecursion P (xs ++ ys) → AllByRecursion P xs × AllByRecursion P ys
 split P [] ys all = (tt, all)
 split P (x ∷ xs) ys all = let rest = split P xs ys all.1 in ((all.0, rest.0), rest.1)
 
@@ -48,11 +48,11 @@ known_line : (f : Dqbf) (rows : List (List Bool)) (pairs : List ℕ) (literals :
 known_line f rows pairs [] all = tt
 known_line f rows pairs (l ∷ literals) all = (on_known pairs (normal_number f rows (variable_of l)) l all.0, known_line f rows pairs literals all.1)
 
-known_literals : (pairs : List ℕ) (clause : List Literal) → AllByRecursion (Contains pairs) (map variable_of clause) → AreKnown pairs clause
+pub known_literals : (pairs : List ℕ) (clause : List Literal) → AllByRecursion (Contains pairs) (map variable_of clause) → AreKnown pairs clause
 known_literals pairs [] all = tt
 known_literals pairs (l ∷ clause) all = (all.0, known_literals pairs clause all.1)
 
-known_clause : (pairs : List ℕ) (clause : Option (List Literal)) → AllByRecursion (Contains pairs) (clause_variables clause) → IsKnownClause pairs clause
+pub known_clause : (pairs : List ℕ) (clause : Option (List Literal)) → AllByRecursion (Contains pairs) (clause_variables clause) → IsKnownClause pairs clause
 known_clause pairs None all = tt
 known_clause pairs (Some clause) all = known_literals pairs clause all
 

@@ -1,4 +1,4 @@
-ghost use Rattle.std.specs.Prelude.{◌≡◌, ◌≤◌, length, IfOk};
+ghost use Rattle.std.specs.Prelude.{◌≡◌, ◌≢◌, ◌≤◌, length, AllPairs, IfOk};
 ghost use Rattle.dq_lits.specs.Formula.{IsWellFormed};
 ghost use Rattle.circuit_plain.specs.Order.{IsOrder};
 ghost use Rattle.skolem_checker.specs.Checks.{candidate_of, IsReadsAnswer, IsRowsAnswer};
@@ -94,6 +94,36 @@ impl<'a> Bench<'a> {
             bits,
             values,
         })
+    }
+
+    /// The formula that the circuit is tested against.
+    pub fn formula(&self) -> &Formula
+        ensures { result.now ≡ self.now.formula }
+    {
+        self.formula
+    }
+
+    /// The circuit that is tested.
+    pub fn circuit(&self) -> &Circuit
+        ensures { result.now ≡ self.now.circuit.netlist }
+    {
+        self.circuit
+    }
+
+    /// By input, the universal that it stands for.
+    pub fn inputs(&self) -> &[u64]
+        ensures value { result.now ≡ self.now.circuit.mapping.inputs }
+        ensures once { AllPairs (λ v w. v ≢ w) self.now.circuit.mapping.inputs }
+    {
+        &self.mapped.inputs
+    }
+
+    /// By output, the existential that it stands for.
+    pub fn outputs(&self) -> &[u64]
+        ensures value { result.now ≡ self.now.circuit.mapping.outputs }
+        ensures once { AllPairs (λ v w. v ≢ w) self.now.circuit.mapping.outputs }
+    {
+        &self.mapped.outputs
     }
 
     /// Whether each existential's output reaches inputs for universals of its dependency set alone, whatever the

@@ -1,10 +1,10 @@
-use Rattle.std.proofs.Common.{rules, ◌≡◌, [], sym}
-use Rattle.cert_text.specs.ReaderState.{read_so_far}
-use Rattle.cert_text.proofs.ReadIsSpelled.{read_to_end}
+use Rattle.std.proofs.Common.{rules}
+use Rattle.cert_text.specs.Lines.{IsReading}
+use Rattle.cert_text.specs.Scan.{refutation_of}
+use Rattle.cert_text.proofs.RefutationSpelling.{reading_allowed}
 use Rattle.cert_text.proofs.reader.read_dqr.Goals as goal
 
-pub returns-in-BlankLine-clause-allowed : goal.returns-in-BlankLine-clause-allowed
-returns-in-BlankLine-clause-allowed c =
-    let end : c.loop-line.lines.rest ≡ [] = search rules in
-    read_to_end c.args.bytes.now c.args.first c.args.f.now c.loop-line.reader.counts (read_so_far c.loop-line.reader) c.loop-line.lines.rest
-    c.loop-line.lines.number c.loop-line.invariant.same end (sym c.in-BlankLine.ensures)
+pub returns-clause-allowed : goal.returns-clause-allowed
+returns-clause-allowed c =
+    let read : IsReading (refutation_of c.args.f.now c.args.bytes.now c.args.first) c.read_body.result = search rules in
+    reading_allowed c.args.bytes.now c.args.first c.args.f.now c.read_body.result read

@@ -1,0 +1,41 @@
+use Rattle.std.proofs.Common.{◌≡◌, ℕ, ◌+◌, ◌<◌, Result, sym, ◌∙◌, ap, arith}
+use Rattle.dq_lits.specs.Derivation.{ProofStep}
+use Rattle.dq_text.specs.Line.{TextLine, lines_from}
+use Rattle.dq_text.specs.TextLine.{text_line}
+use Rattle.cert_text.specs.Grammar.{Tokens}
+use Rattle.cert_text.specs.StepLine.{step_line}
+use Rattle.cert_text.specs.Variables.{is_variable}
+use Rattle.cert_text.specs.declared.faults.CertFault.{CertFault}
+use Rattle.cert_text.proofs.LinesReading.{line_missing, line_at_fault, line_read, refused_at, stopped}
+use Rattle.cert_text.proofs.step_lists.take_steps.Goals as goal
+
+pub returns-in_default : goal.returns-in_default
+returns-in_default c =
+    let line_at : ℕ → Tokens → Result ProofStep CertFault = step_line (is_variable c.args.variables) in
+    let more : c.loop-k.k < c.args.count = omega (arith, c.loop-k-test.true) in
+    let number : c.loop-k.lines.number ≡ c.number.result = sym (c.number.ensures ∙ ap (λ lines. lines.number) c.in_default.ensures.end) in
+    refused_at _ _ c.refused.result c.loop-k.steps c.next.new.self c.refused.ensures
+    (c.loop-k.invariant
+    ∙ line_missing line_at c.args.first_id c.loop-k.k c.args.count c.loop-k.steps c.loop-k.lines c.number.result more c.in_default.ensures.line number)
+
+pub returns-in-Err : goal.returns-in-Err
+returns-in-Err c =
+    let line_at : ℕ → Tokens → Result ProofStep CertFault = step_line (is_variable c.args.variables) in
+    let behind = c.next.new.self in
+    let line : TextLine = text_line c.in-Some.line behind.rest in
+    let more : c.loop-k.k < c.args.count = omega (arith, c.loop-k-test.true) in
+    stopped _ line.number _ c.in-Err.stop c.at_line.result c.loop-k.steps behind c.in-Err.ensures c.at_line.ensures
+    (λ name fault. c.loop-k.invariant
+    ∙ line_at_fault line_at c.args.first_id c.loop-k.k c.args.count c.loop-k.steps c.loop-k.lines line (lines_from behind.number behind.rest) name more
+    c.in-Some.ensures.line fault)
+
+pub loop-k-preserved : goal.loop-k-preserved
+loop-k-preserved c =
+    let line_at : ℕ → Tokens → Result ProofStep CertFault = step_line (is_variable c.args.variables) in
+    let behind = c.next.new.self in
+    let line : TextLine = text_line c.in-Some.line behind.rest in
+    let more : c.loop-k.k < c.args.count = omega (arith, c.loop-k-test.true) in
+    let next : behind.number ≡ line.number + 1 = c.in-Some.ensures.next_number ∙ ap (λ n. n + 1) (sym c.in-Some.ensures.number) in
+    c.loop-k.invariant
+    ∙ line_read line_at c.args.first_id c.loop-k.k c.args.count c.loop-k.steps c.loop-k.lines behind line c.in-Ok.step c.push.new.self more
+    c.in-Some.ensures.line next c.in-Ok.ensures c.in_ok-push-in-Ok.ensures.ok

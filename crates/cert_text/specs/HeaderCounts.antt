@@ -1,0 +1,9 @@
+-- A header's counts as the definitions see them.
+use Rattle.std.specs.Prelude.{◌≤◌}
+use Rattle.cert_text.specs.declared.headers.Counts.{Counts}
+use Rattle.cert_text.specs.declared.headers.TheConstants.{MAX_COUNT}
+
+-- the counts are within their limit
+pub record AreSmall (c : Counts) : Type 0 where
+  pub rows : c.rows ≤ MAX_COUNT
+  pub steps : c.steps ≤ MAX_COUNT

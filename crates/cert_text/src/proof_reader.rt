@@ -1,0 +1,88 @@
+//! Reading a circuit's proof.
+
+ghost use Rattle.std.specs.Prelude.{◌≡◌, ◌+◌, ◌<◌, ◌^◌, length, IfOk};
+ghost use Rattle.std.specs.List.{sum_by};
+ghost use Rattle.dq_text.specs.Line.{lines_from};
+ghost use Rattle.cert_text.specs.CircuitProof.{circuit_proof_of, first_proof_id, read_proof_lines};
+ghost use Rattle.cert_text.specs.Lines.{IsReading};
+ghost use Rattle.cert_text.specs.ProofGrammar.{IsDqpOf};
+
+use crate::circuit_proofs::Dqp;
+use crate::faults::{CertFault, CertStop, refused};
+use crate::headers::read_proof_header;
+use crate::step_lists::read_steps;
+use crate::variables::Variables;
+use circuit_plain::Circuit;
+use dq_formula::Formula;
+use dq_text::Lines;
+use std::alloc::Global;
+
+/// Reads a circuit's proof for a formula and a circuit, from the line `dqp N` on, which has the number `first`:
+/// exactly the proof that the text spells, or its first fault by line and name. What stands behind the N
+/// derivation lines is free text.
+///
+/// The variables are those of the circuit, 1 to M, and M + j for 'clause j is false'. Which clauses have the
+/// ids before the first line's, the definition `negated_matrix` says.
+pub fn read_dqp(
+    alloc: Global,
+    bytes: &[u8],
+    first: u64,
+    f: &Formula,
+    c: &Circuit,
+) -> Result<Dqp, CertStop>
+    requires { first + length bytes.now < 2 ^ 64 }
+    ensures reading { IsReading (circuit_proof_of f.now c.now bytes.now first) result }
+    ensures allowed { IfOk result (IsDqpOf f.now c.now) }
+{
+    let mut lines = Lines::new(bytes, first);
+    let Some(line) = lines.next() else {
+        return Err(refused(first, CertFault::BadHeader));
+    };
+    let count = match read_proof_header(line.text) {
+        Ok(count) => count,
+        Err(name) => return Err(refused(line.number, name)),
+    };
+    read_proof_lines(alloc, f, c, count, &mut lines)
+}
+
+// Reads the lines behind the header.
+fn read_proof_lines(
+    alloc: Global,
+    f: &Formula,
+    c: &Circuit,
+    count: u64,
+    lines: &mut Lines,
+) -> Result<Dqp, CertStop>
+    ensures { IsReading (read_proof_lines f.now c.now count (lines_from lines.old.number lines.old.rest) lines.old.number) result }
+{
+    let variables = Variables::UpTo(last_variable(f, c));
+    let steps = read_steps(alloc, variables, first_id(f, c), count, lines)?;
+    Ok(Dqp { steps })
+}
+
+// The variable of the last clause.
+fn last_variable(f: &Formula, c: &Circuit) -> u64
+    ensures { result ≡ c.now.max_var + length f.now.matrix }
+{
+    c.max_var() + f.clauses() as u64
+}
+
+// The id of the first derivation line. No contract says how long the clauses are in all, but 128 bits hold any such
+// sum.
+fn first_id(f: &Formula, c: &Circuit) -> u128
+    ensures id { result ≡ first_proof_id f.now c.now }
+    ensures small { result < 2 ^ 127 }
+{
+    3 * c.gates() as u128 + literals_in_all(f) + 2
+}
+
+fn literals_in_all(f: &Formula) -> u128
+    ensures sum { result ≡ sum_by length f.now.matrix }
+    ensures small { result < 2 ^ 100 }
+{
+    let mut sum = 0;
+    for j in 0..f.clauses() {
+        sum += f.clause(j).len() as u128;
+    }
+    sum
+}
