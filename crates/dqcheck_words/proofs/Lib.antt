@@ -1,0 +1,4 @@
+pub mod Words
+pub mod Spelled
+pub mod GivenNames
+pub mod Readings
