@@ -1,10 +1,14 @@
 //! The lines of the table.
 
 use crate::settings::{Calls, Settings, words_of};
+use aiger_text::AagFile;
 use anyhow::{Result, anyhow};
-use cert_text::{read_dqr, write_dqr};
+use cert_text::{read_dqp, read_dqr, write_dqp, write_dqr};
 use dqdimacs_reader::{read, write};
 use std::alloc::Global;
+
+/// The most bytes of a circuit whose proof is written again.
+const MAX_CIRCUIT: usize = 1 << 20;
 
 /// Takes a line: a setting, or a case, of which it gives what is to be printed.
 pub fn take_line(alloc: Global, settings: &mut Settings, line: &str) -> Result<Option<String>> {
@@ -33,6 +37,10 @@ pub fn take_line(alloc: Global, settings: &mut Settings, line: &str) -> Result<O
             let taken = shown(alloc, &canonical_refutation(alloc, settings)?)?;
             return Ok(Some(format!(in alloc; "{rest}: {taken}")?));
         }
+        "proof" => {
+            let taken = shown(alloc, &canonical_proof(alloc, settings)?)?;
+            return Ok(Some(format!(in alloc; "{rest}: {taken}")?));
+        }
         _ => return Err(anyhow!("no setting: {line}")),
     }
     Ok(None)
@@ -55,6 +63,27 @@ fn canonical_refutation(alloc: Global, settings: &Settings) -> Result<Vec<u8>> {
     let formula = read(alloc, formula)?;
     let refutation = read_dqr(alloc, certificate, 1, &formula)?;
     Ok(write_dqr(alloc, &refutation, &formula)?)
+}
+
+fn circuit_file(alloc: Global, text: &[u8]) -> Result<AagFile> {
+    if text.len() > MAX_CIRCUIT {
+        return Err(anyhow!("too long a circuit"));
+    }
+    Ok(aiger_text::read(alloc, text, 1)?)
+}
+
+// The canonical text of the proof in the certificate, a circuit for the formula.
+fn canonical_proof(alloc: Global, settings: &Settings) -> Result<Vec<u8>> {
+    let (Some(formula), Some(certificate)) = (&settings.formula, &settings.certificate) else {
+        return Err(anyhow!("no formula or no circuit"));
+    };
+    let formula = read(alloc, formula)?;
+    let file = circuit_file(alloc, certificate)?;
+    let Some(comment) = &file.comment else {
+        return Err(anyhow!("no proof"));
+    };
+    let proof = read_dqp(alloc, comment.items(), 1, &formula, &file.circuit)?;
+    Ok(write_dqp(alloc, &proof)?)
 }
 
 // The bytes that a spelled text stands for.

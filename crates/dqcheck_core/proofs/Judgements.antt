@@ -1,5 +1,5 @@
 -- Only one thing is said of a certificate.
-use Rattle.std.proofs.Common.{◌≡◌, ◌⊎◌, ℕ, ◌<◌, ◌^◌, Bool, true, false, inl, inr, List, length, Result, Ok, Err, refl, sym, ap, ◌∙◌, subst, arith}
+use Rattle.std.proofs.Common.{◌≡◌, ◌⊎◌, ℕ, ◌<◌, ◌^◌, true, false, inl, inr, List, length, Option, None, Some, Result, Ok, Err, refl, sym, ap, ◌∙◌, subst, arith}
 use Rattle.std.specs.Prelude.{slice_index, drop}
 use Rattle.std.specs.List.{Contains}
 use Rattle.std.proofs.lemmas.Bool.{cases_order}
@@ -15,10 +15,11 @@ use Rattle.skolem_checker.specs.Checks.{Candidate, candidate_of, existential_at,
 use Rattle.skolem_checker.specs.SkolemCircuit.{MappedCircuit, ReadsUniversal}
 use Rattle.skolem_checker.specs.declared.mapping.MapError.{MapError}
 use Rattle.cert_text.specs.Kind.{certificate_kind}
+use Rattle.cert_text.specs.declared.circuit_proofs.Dqp.{Dqp}
 use Rattle.cert_text.specs.declared.faults.CertRefusal.{CertRefusal}
 use Rattle.cert_text.specs.declared.kinds.Kind.{Kind}
 use Rattle.cert_text.specs.declared.kinds.Kind.TheVariants.{Circuit as CircuitText, Refutation}
-use Rattle.dqcheck_core.specs.Judgement.{ByTest, IsTested, BehindMapping, IsCircuitJudgement, IsCircuitRefusal, IsCircuitAnswer, IsJudgementOf, IsJudgement, begins_proof}
+use Rattle.dqcheck_core.specs.Judgement.{proof_in, IsTestedByRows, IsTestedBy, HasUndeclaredRead, PassesReads, IsTested, BehindMapping, BehindProof, IsCircuitJudgement, IsCircuitRefusal, IsCircuitAnswer, IsJudgementOf, IsJudgement}
 use Rattle.dqcheck_core.specs.declared.answers.Answer.{Answer}
 use Rattle.dqcheck_core.specs.declared.answers.Answer.TheVariants.{Refused, UndeclaredRead, BadRow, Unproved, UnderivedStep, NoEmptyClause, ValidTrue, ValidFalse}
 use Rattle.dqcheck_core.specs.declared.answers.CertificateFault.TheVariants.{Circuit}
@@ -67,69 +68,78 @@ one_bad Holds Fails end k j exclude (k_below, k_before, k_fails) (j_below, j_bef
       | inr (inr later) ↦ absurd (exclude j (k_before j later) j_fails)
     ]
 
-undeclared_is : (f : Dqbf) (c : MappedCircuit) (y x : ℕ) (b : Answer) → IsFirstUndeclared (ReadsUniversal c) f y x → IsTested f c b → UndeclaredRead y x ≡ b
-undeclared_is f c y x (Refused line name) r impossible = absurd impossible
-undeclared_is f c y x (UnderivedStep id) r impossible = absurd impossible
-undeclared_is f c y x NoEmptyClause r impossible = absurd impossible
-undeclared_is f c y x ValidFalse r impossible = absurd impossible
-undeclared_is f c y x (UndeclaredRead z w) r s =
-    let (same_y, same_x) = one_undeclared (ReadsUniversal c) f y x z w r s in
-    cc
-undeclared_is f c y x (BadRow k) r (passes, _, _) = absurd (undeclared_is_declared (ReadsUniversal c) f y x r (length f.existentials) r.in_range passes.reads)
-undeclared_is f c y x (Unproved n) r (passes, _, _) = absurd (undeclared_is_declared (ReadsUniversal c) f y x r (length f.existentials) r.in_range passes.reads)
-undeclared_is f c y x ValidTrue r (passes, _, _) = absurd (undeclared_is_declared (ReadsUniversal c) f y x r (length f.existentials) r.in_range passes.reads)
+read_and_passes : (c : Candidate) (proof : Option Dqp) (a b : Answer) → HasUndeclaredRead c a → PassesReads proof c b → ⊥
+read_and_passes c proof a b r s =
+    undeclared_is_declared (ReadsUniversal c.circuit) c.formula r.existential r.universal r.first (length c.formula.existentials) r.first.in_range s.reads
 
-one_tested : (f : Dqbf) (c : MappedCircuit) (a b : Answer) → IsTested f c a → IsTested f c b → a ≡ b
-one_tested f c (Refused line name) b impossible _ = absurd impossible
-one_tested f c (UnderivedStep id) b impossible _ = absurd impossible
-one_tested f c NoEmptyClause b impossible _ = absurd impossible
-one_tested f c ValidFalse b impossible _ = absurd impossible
-one_tested f c (UndeclaredRead y x) b r s = undeclared_is f c y x b r s
-one_tested f c (BadRow k) b r s = bad_row_is b s
+one_undeclared_read : (c : Candidate) (a b : Answer) → HasUndeclaredRead c a → HasUndeclaredRead c b → a ≡ b
+one_undeclared_read c a b r s =
+    let (same_y, same_x) = one_undeclared (ReadsUniversal c.circuit) c.formula r.existential r.universal s.existential s.universal r.first s.first in
+    r.is ∙ ap (λ y. UndeclaredRead y r.universal) same_y ∙ ap (UndeclaredRead s.existential) same_x ∙ sym s.is
+
+one_by_rows : (f : Dqbf) (c : MappedCircuit) (a b : Answer) → IsTestedByRows f c a → IsTestedByRows f c b → a ≡ b
+one_by_rows f c (Refused line name) b impossible _ = absurd impossible
+one_by_rows f c (UndeclaredRead y x) b impossible _ = absurd impossible
+one_by_rows f c (UnderivedStep id) b impossible _ = absurd impossible
+one_by_rows f c NoEmptyClause b impossible _ = absurd impossible
+one_by_rows f c ValidFalse b impossible _ = absurd impossible
+one_by_rows f c (BadRow k) b r s = bad_row_is b s
   where
-    bad_row_is : (b : Answer) → IsTested f c b → BadRow k ≡ b
+    bad_row_is : (b : Answer) → IsTestedByRows f c b → BadRow k ≡ b
     bad_row_is (Refused line name) impossible = absurd impossible
+    bad_row_is (UndeclaredRead y x) impossible = absurd impossible
     bad_row_is (UnderivedStep id) impossible = absurd impossible
     bad_row_is NoEmptyClause impossible = absurd impossible
     bad_row_is ValidFalse impossible = absurd impossible
-    bad_row_is (UndeclaredRead y x) s = sym (undeclared_is f c y x (BadRow k) s r)
-    bad_row_is (BadRow j) (_, _, s) = ap BadRow (one_bad (RowHolds f c) (RowFails f c) (2 ^ length f.universals) k j (row_is_one f c) r.2 s)
-    bad_row_is (Unproved n) (_, many, same) = let few = r.1 in absurd (omega (arith, few, many, same))
-    bad_row_is ValidTrue (_, _, s) = absurd (row_is_one f c k (s k r.2.0) r.2.2)
-one_tested f c (Unproved n) b r s = unproved_is b s
+    bad_row_is (BadRow j) (_, s) = ap BadRow (one_bad (RowHolds f c) (RowFails f c) (2 ^ length f.universals) k j (row_is_one f c) r.1 s)
+    bad_row_is (Unproved n) (many, same) = let few = r.0 in absurd (omega (arith, few, many, same))
+    bad_row_is ValidTrue (_, s) = absurd (row_is_one f c k (s k r.1.0) r.1.2)
+one_by_rows f c (Unproved n) b r s = unproved_is b s
   where
-    unproved_is : (b : Answer) → IsTested f c b → Unproved n ≡ b
+    unproved_is : (b : Answer) → IsTestedByRows f c b → Unproved n ≡ b
     unproved_is (Refused line name) impossible = absurd impossible
+    unproved_is (UndeclaredRead y x) impossible = absurd impossible
     unproved_is (UnderivedStep id) impossible = absurd impossible
     unproved_is NoEmptyClause impossible = absurd impossible
     unproved_is ValidFalse impossible = absurd impossible
-    unproved_is (UndeclaredRead y x) s = sym (undeclared_is f c y x (Unproved n) s r)
-    unproved_is (BadRow j) (_, few, _) = let many = r.1 in let same = r.2 in absurd (omega (arith, few, many, same))
-    unproved_is (Unproved m) (_, _, same) = ap Unproved (r.2 ∙ sym same)
-    unproved_is ValidTrue (_, few, _) = let many = r.1 in let same = r.2 in absurd (omega (arith, few, many, same))
-one_tested f c ValidTrue b r s = valid_is b s
+    unproved_is (BadRow j) (few, _) = let many = r.0 in let same = r.1 in absurd (omega (arith, few, many, same))
+    unproved_is (Unproved m) (_, same) = ap Unproved (r.1 ∙ sym same)
+    unproved_is ValidTrue (few, _) = let many = r.0 in let same = r.1 in absurd (omega (arith, few, many, same))
+one_by_rows f c ValidTrue b r s = valid_is b s
   where
-    valid_is : (b : Answer) → IsTested f c b → ValidTrue ≡ b
+    valid_is : (b : Answer) → IsTestedByRows f c b → ValidTrue ≡ b
     valid_is (Refused line name) impossible = absurd impossible
+    valid_is (UndeclaredRead y x) impossible = absurd impossible
     valid_is (UnderivedStep id) impossible = absurd impossible
     valid_is NoEmptyClause impossible = absurd impossible
     valid_is ValidFalse impossible = absurd impossible
-    valid_is (UndeclaredRead y x) s = sym (undeclared_is f c y x ValidTrue s r)
-    valid_is (BadRow j) (_, _, s) = absurd (row_is_one f c j (r.2 j s.0) s.2)
-    valid_is (Unproved n) (_, many, same) = let few = r.1 in absurd (omega (arith, few, many, same))
+    valid_is (BadRow j) (_, s) = absurd (row_is_one f c j (r.1 j s.0) s.2)
+    valid_is (Unproved n) (many, same) = let few = r.0 in absurd (omega (arith, few, many, same))
     valid_is ValidTrue _ = refl
 
-one_behind_mapping : (h : ℕ) (net : Netlist) (mapped : Result Candidate MapError) (a b : Answer) → BehindMapping h net mapped a → BehindMapping h net mapped b → a ≡ b
-one_behind_mapping h net (Err fault) a b r s = r ∙ sym s
-one_behind_mapping h net (Ok c) a b r s = one_tested c.formula c.circuit a b r s
+one_tested_by : (proof : Option Dqp) (c : Candidate) (a b : Answer) → IsTestedBy proof c a → IsTestedBy proof c b → a ≡ b
+one_tested_by (Some d) c a b r s = r ∙ sym s
+one_tested_by None c a b r s = one_by_rows c.formula c.circuit a b r s
 
-by_proof_or_mapping : (P : Bool) (a b refusal : Answer) (h : ℕ) (net : Netlist) (mapped : Result Candidate MapError)
-    → ByTest P (a ≡ refusal) (BehindMapping h net mapped a) → ByTest P (b ≡ refusal) (BehindMapping h net mapped b) → a ≡ b
-by_proof_or_mapping true a b refusal h net mapped r s = r ∙ sym s
-by_proof_or_mapping false a b refusal h net mapped r s = one_behind_mapping h net mapped a b r s
+one_tested : (proof : Option Dqp) (c : Candidate) (a b : Answer) → IsTested proof c a → IsTested proof c b → a ≡ b
+one_tested proof c a b (inl r) (inl s) = one_undeclared_read c a b r s
+one_tested proof c a b (inl r) (inr s) = absurd (read_and_passes c proof a b r s)
+one_tested proof c a b (inr r) (inl s) = absurd (read_and_passes c proof b a s r)
+one_tested proof c a b (inr r) (inr s) = one_tested_by proof c a b r.tested s.tested
+
+one_behind_mapping : (h : ℕ) (net : Netlist) (proof : Option Dqp) (mapped : Result Candidate MapError) (a b : Answer)
+    → BehindMapping h net proof mapped a → BehindMapping h net proof mapped b → a ≡ b
+one_behind_mapping h net proof (Err fault) a b r s = r ∙ sym s
+one_behind_mapping h net proof (Ok c) a b r s = one_tested proof c a b r s
+
+one_behind_proof : (h : ℕ) (net : Netlist) (read : Result (Option Dqp) CertRefusal) (mapped : Result Candidate MapError) (a b : Answer)
+    → BehindProof h net read mapped a → BehindProof h net read mapped b → a ≡ b
+one_behind_proof h net (Err refusal) mapped a b r s = r ∙ sym s
+one_behind_proof h net (Ok proof) mapped a b r s = one_behind_mapping h net proof mapped a b r s
 
 one_circuit_judgement : (f : Dqbf) (h : ℕ) (text : List ℕ) (file : AagFile) (a b : Answer) → IsCircuitJudgement f h text file a → IsCircuitJudgement f h text file b → a ≡ b
-one_circuit_judgement f h text file a b = by_proof_or_mapping (begins_proof file.comment) a b _ h file.circuit (candidate_of f file.circuit file.symbols)
+one_circuit_judgement f h text file a b =
+    one_behind_proof h file.circuit (proof_in f h text file.circuit file.comment) (candidate_of f file.circuit file.symbols) a b
 
 -- what the law of the circuits' grammar gives
 pub record CircuitLaw : Type 0 where

@@ -17,7 +17,7 @@ pub spelled_few : (text : List ℕ) (file : AagFile) → SpellsCircuit text file
 spelled_few text file h =
     let few = h.header.few_variables in
     let enough = h.header.enough in
-    record { inputs = omega arith; outputs = h.header.few_outputs }
+    record { variables = few; inputs = omega arith; outputs = h.header.few_outputs }
 
 mapping_fault : (f : Dqbf) (net : Netlist) (fault : MapError) (mapped : Result Mapping MapError) → with_mapping f net mapped ≡ Err fault → mapped ≡ Err fault
 mapping_fault f net fault (Ok mapping) same = cc

@@ -9,7 +9,7 @@ use Rattle.dq_lits.specs.Henkin.{IsTrueFormula, IsFalseFormula}
 use Rattle.dq_lits.specs.declared.memory.Memory.{Memory}
 use Rattle.dqdimacs_reader.specs.Grammar.{SpellsFormula}
 use Rattle.dqdimacs_reader.specs.Machine.{TextFault, reading}
-use Rattle.dqcheck_core.specs.Command.{Command, command_of}
+use Rattle.dqcheck_words.specs.Command.{Command, command_of}
 use Rattle.dqcheck_core.specs.Judgement.{IsJudgement}
 use Rattle.dqcheck_core.specs.Outputs.{IsOutput, IsOutputDue}
 use Rattle.dqcheck_core.specs.Report.{Report, usage, source_fault, long_formula, long_certificate, refused_formula, judged, line, answer_text, answer_status}

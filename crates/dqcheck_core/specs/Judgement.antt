@@ -1,5 +1,5 @@
 -- What is to be said of a certificate: the first of its faults, or that it proves the formula true or false.
-use Rattle.std.specs.Prelude.{◌≡◌, ℕ, ◌+◌, ◌-◌, ◌<◌, ◌≤◌, ◌==◌, ◌⊎◌, Bool, true, false, List, [], ◌∷◌, length, take, drop, Option, None, Some, Result, Ok, Err, codes}
+use Rattle.std.specs.Prelude.{◌≡◌, ℕ, ◌+◌, ◌-◌, ◌<◌, ◌≤◌, ◌==◌, ◌⊎◌, Bool, false, List, [], ◌∷◌, length, take, drop, Option, None, Some, Result, Ok, Err, codes, if◌then◌else◌}
 use Rattle.std.specs.List.{filter, position}
 use Rattle.std.specs.Str.{bytes_eq}
 use Rattle.dq_lits.specs.Derivation.{ProofFault, underived, unfinished}
@@ -10,13 +10,15 @@ use Rattle.aiger_text.specs.FirstFault.{IsFirstFault}
 use Rattle.aiger_text.specs.Grammar.{SpellsCircuit}
 use Rattle.aiger_text.specs.Scan.{LineFault}
 use Rattle.aiger_text.specs.declared.files.AagFile.{AagFile}
+use Rattle.cert_text.specs.CircuitProof.{circuit_proof_of}
 use Rattle.cert_text.specs.Kind.{certificate_kind}
 use Rattle.cert_text.specs.Scan.{refutation_of}
-use Rattle.cert_text.specs.declared.faults.CertFault.TheVariants.{BadHeader}
+use Rattle.cert_text.specs.declared.circuit_proofs.Dqp.{Dqp}
 use Rattle.cert_text.specs.declared.faults.CertRefusal.{CertRefusal}
 use Rattle.cert_text.specs.declared.kinds.Kind.{Kind}
 use Rattle.cert_text.specs.declared.kinds.Kind.TheVariants.{Circuit as CircuitText, Refutation}
 use Rattle.cert_text.specs.declared.refutations.Dqr.{Dqr}
+use Rattle.proof_checker.specs.CircuitProof.{circuit_proof_fault}
 use Rattle.refutation_checker.specs.Refutation.{refutation_fault}
 use Rattle.skolem_checker.specs.Checks.{Candidate, candidate_of, IsReadsAnswer, IsRowsAnswer}
 use Rattle.skolem_checker.specs.SkolemCircuit.{MappedCircuit, ReadsUniversal}
@@ -39,18 +41,26 @@ first_line bytes = until (position (λ byte. byte == 10) bytes) bytes
     until None bytes = bytes
     until (Some end) bytes = take end bytes
 
--- the first line behind the line `c` begins a proof, which isn't read yet
-abbrev pub begins_proof : Option (List ℕ) → Bool
-begins_proof None = false
-begins_proof (Some comment) = begins_with (codes "dqp") (line_tokens (first_line comment))
-
 abbrev pub line_ends : List ℕ → ℕ
 line_ends bytes = length (filter (λ byte. byte == 10) bytes)
 
 -- the number of the first line of a comment, which ends a text whose first line has the number h
-abbrev pub comment_line : ℕ → List ℕ → Option (List ℕ) → ℕ
-comment_line h text None = 0
-comment_line h text (Some comment) = h + (line_ends text - line_ends comment)
+abbrev pub comment_line : ℕ → List ℕ → List ℕ → ℕ
+comment_line h text comment = h + (line_ends text - line_ends comment)
+
+-- a comment is a proof where its first line begins one
+abbrev pub begins_proof : List ℕ → Bool
+begins_proof comment = begins_with (codes "dqp") (line_tokens (first_line comment))
+
+abbrev pub as_proof : Result Dqp CertRefusal → Result (Option Dqp) CertRefusal
+as_proof (Ok d) = Ok (Some d)
+as_proof (Err refusal) = Err refusal
+
+-- the proof in a circuit's comment, if it begins one, or the first fault of that proof's text
+abbrev pub proof_in : Dqbf → ℕ → List ℕ → Netlist → Option (List ℕ) → Result (Option Dqp) CertRefusal
+proof_in f h text net None = Ok None
+proof_in f h text net (Some comment) =
+    if begins_proof comment then as_proof (circuit_proof_of f net comment (comment_line h text comment)) else Ok None
 
 -- the line of a fault of the mapping: the header is line h, then follow the inputs' lines and then the outputs'
 abbrev pub mapping_line : ℕ → Netlist → MapPlace → ℕ
@@ -62,34 +72,55 @@ mapping_line h net (Output place) = h + 1 + length net.inputs + place
 abbrev pub max_row_universals : ℕ
 max_row_universals = 20
 
--- what the tests of a mapped circuit say: first its reads, then the number of universals, then its rows
-pub record PassesReads (f : Dqbf) (c : MappedCircuit) : Type 0 where
-  pub reads : IsReadsAnswer (ReadsUniversal c) f (Ok tt)
+-- the verdict where a derivation has no fault, and else the fault
+abbrev pub answer_of_derivation : Answer → Option ProofFault → Answer
+answer_of_derivation verdict None = verdict
+answer_of_derivation verdict (Some (underived id)) = UnderivedStep id
+answer_of_derivation verdict (Some unfinished) = NoEmptyClause
 
-abbrev pub IsTested : Dqbf → MappedCircuit → Answer → Type 0
-IsTested f c (Refused line name) = ⊥
-IsTested f c (UndeclaredRead y x) = IsReadsAnswer (ReadsUniversal c) f (Err (y, x))
-IsTested f c (Unproved n) = PassesReads f c × (max_row_universals < n) × (n ≡ length f.universals)
-IsTested f c (UnderivedStep id) = ⊥
-IsTested f c NoEmptyClause = ⊥
-IsTested f c ValidFalse = ⊥
-IsTested f c (BadRow k) = PassesReads f c × (length f.universals ≤ max_row_universals) × IsRowsAnswer f c (Err k)
-IsTested f c ValidTrue = PassesReads f c × (length f.universals ≤ max_row_universals) × IsRowsAnswer f c (Ok tt)
+-- first the number of universals, then the rows
+abbrev pub IsTestedByRows : Dqbf → MappedCircuit → Answer → Type 0
+IsTestedByRows f c (Refused line name) = ⊥
+IsTestedByRows f c (UndeclaredRead y x) = ⊥
+IsTestedByRows f c (UnderivedStep id) = ⊥
+IsTestedByRows f c NoEmptyClause = ⊥
+IsTestedByRows f c ValidFalse = ⊥
+IsTestedByRows f c (Unproved n) = (max_row_universals < n) × (n ≡ length f.universals)
+IsTestedByRows f c (BadRow k) = (length f.universals ≤ max_row_universals) × IsRowsAnswer f c (Err k)
+IsTestedByRows f c ValidTrue = (length f.universals ≤ max_row_universals) × IsRowsAnswer f c (Ok tt)
 
-abbrev pub BehindMapping : ℕ → Netlist → Result Candidate MapError → Answer → Type 0
-BehindMapping h net (Err fault) answer = answer ≡ Refused (mapping_line h net fault.at) (Mapping fault.name)
-BehindMapping h net (Ok c) answer = IsTested c.formula c.circuit answer
+-- by its proof, or by its rows where it has none
+abbrev pub IsTestedBy : Option Dqp → Candidate → Answer → Type 0
+IsTestedBy (Some d) c answer = answer ≡ answer_of_derivation ValidTrue (circuit_proof_fault c d.steps)
+IsTestedBy None c answer = IsTestedByRows c.formula c.circuit answer
 
--- the first where the test holds, and else the second
-abbrev pub ByTest : Bool → Type 0 → Type 0 → Type 0
-ByTest true First Second = First
-ByTest false First Second = Second
+-- an output reads a universal that its existential may not see
+pub record HasUndeclaredRead (c : Candidate) (answer : Answer) : Type 0 where
+  pub existential : ℕ
+  pub universal : ℕ
+  pub first : IsReadsAnswer (ReadsUniversal c.circuit) c.formula (Err (existential, universal))
+  pub is : answer ≡ UndeclaredRead existential universal
 
--- a proof in the comment comes first, then the mapping, then the tests
+pub record PassesReads (proof : Option Dqp) (c : Candidate) (answer : Answer) : Type 0 where
+  pub reads : IsReadsAnswer (ReadsUniversal c.circuit) c.formula (Ok tt)
+  pub tested : IsTestedBy proof c answer
+
+-- what the tests of a mapped circuit say: first its reads, then its proof or its rows
+abbrev pub IsTested : Option Dqp → Candidate → Answer → Type 0
+IsTested proof c answer = HasUndeclaredRead c answer ⊎ PassesReads proof c answer
+
+abbrev pub BehindMapping : ℕ → Netlist → Option Dqp → Result Candidate MapError → Answer → Type 0
+BehindMapping h net proof (Err fault) answer = answer ≡ Refused (mapping_line h net fault.at) (Mapping fault.name)
+BehindMapping h net proof (Ok c) answer = IsTested proof c answer
+
+abbrev pub BehindProof : ℕ → Netlist → Result (Option Dqp) CertRefusal → Result Candidate MapError → Answer → Type 0
+BehindProof h net (Err refusal) mapped answer = answer ≡ Refused refusal.line (Text refusal.name)
+BehindProof h net (Ok proof) mapped answer = BehindMapping h net proof mapped answer
+
+-- the text of a proof in the comment comes first, then the mapping, then the tests
 abbrev pub IsCircuitJudgement : Dqbf → ℕ → List ℕ → AagFile → Answer → Type 0
 IsCircuitJudgement f h text file answer =
-    ByTest (begins_proof file.comment) (answer ≡ Refused (comment_line h text file.comment) (Text BadHeader))
-    (BehindMapping h file.circuit (candidate_of f file.circuit file.symbols) answer)
+    BehindProof h file.circuit (proof_in f h text file.circuit file.comment) (candidate_of f file.circuit file.symbols) answer
 
 -- the text, whose first line has the number h, isn't a circuit file
 pub record IsCircuitRefusal (h : ℕ) (text : List ℕ) (answer : Answer) : Type 0 where
@@ -103,14 +134,9 @@ pub record IsCircuitAnswer (f : Dqbf) (h : ℕ) (text : List ℕ) (answer : Answ
   pub spelled : SpellsCircuit text file
   pub is : IsCircuitJudgement f h text file answer
 
-abbrev pub answer_of_derivation : Option ProofFault → Answer
-answer_of_derivation None = ValidFalse
-answer_of_derivation (Some (underived id)) = UnderivedStep id
-answer_of_derivation (Some unfinished) = NoEmptyClause
-
 -- the first fault of a refutation's text, and then of its derivation
 abbrev pub answer_of_refutation : Dqbf → Result Dqr CertRefusal → Answer
-answer_of_refutation f (Ok d) = answer_of_derivation (refutation_fault f d)
+answer_of_refutation f (Ok d) = answer_of_derivation ValidFalse (refutation_fault f d)
 answer_of_refutation f (Err refusal) = Refused refusal.line (Text refusal.name)
 
 -- by the kind of the certificate, and where its header line begins

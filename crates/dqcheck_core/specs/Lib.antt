@@ -1,5 +1,4 @@
 pub mod CertificateNames
-pub mod Command
 pub mod Judgement
 pub mod Outputs
 pub mod Places

@@ -1,7 +1,7 @@
 -- What the parts of a run answer, words of private contracts.
 use Rattle.std.specs.Prelude.{◌≡◌, ℕ, List, Option}
 use Rattle.dq_io.specs.Files.{Holding}
-use Rattle.dqcheck_core.specs.Command.{Command}
+use Rattle.dqcheck_words.specs.Command.{Command}
 use Rattle.dqcheck_core.specs.Report.{Report, text_of, status_of}
 use Rattle.dqcheck_core.specs.Running.{IsDue}
 use Rattle.dqcheck_core.specs.declared.reports.Output.{Output}

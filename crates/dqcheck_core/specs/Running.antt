@@ -7,7 +7,7 @@ use Rattle.dq_lits.specs.Formula.{Dqbf, IsWellFormed}
 use Rattle.dq_lits.specs.Henkin.{IsTrueFormula, IsFalseFormula}
 use Rattle.dqdimacs_reader.specs.Grammar.{SpellsFormula}
 use Rattle.dqdimacs_reader.specs.Machine.{TextFault, reading}
-use Rattle.dqcheck_core.specs.Command.{Command, command_of}
+use Rattle.dqcheck_words.specs.Command.{Command, command_of}
 use Rattle.dqcheck_core.specs.Judgement.{IsJudgement}
 use Rattle.dqcheck_core.specs.Report.{Report, usage, source_fault, long_formula, long_certificate, refused_formula, judged, line, answer_text, answer_status, text_of, status_of}
 use Rattle.dqcheck_core.specs.declared.answers.Answer.{Answer}

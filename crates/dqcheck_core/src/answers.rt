@@ -10,8 +10,7 @@ use skolem_checker::MapName;
 /// What is wrong with a certificate's text.
 #[derive(Clone, Copy, Debug, PartialEq, Eq)]
 pub enum CertificateFault {
-    /// Its first lines or its lines as a refutation have this fault. A proof in a circuit's comment, which isn't read
-    /// yet, has a bad header too.
+    /// Its first lines, its lines as a refutation, or those of the proof in its comment have this fault.
     Text(CertFault),
     /// It isn't a circuit file.
     Circuit(AagFault),
@@ -34,7 +33,7 @@ pub enum Answer {
     UnderivedStep { id: u64 },
     /// Every derivation line is derived, and the last one isn't the empty clause, or there is none.
     NoEmptyClause,
-    /// The circuit's outputs are Skolem functions, so the formula is true.
+    /// The circuit's outputs are Skolem functions, by its proof or by all rows, so the formula is true.
     ValidTrue,
     /// The derivation shows that no choice of functions solves the formula, so it is false.
     ValidFalse,

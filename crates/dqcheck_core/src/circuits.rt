@@ -1,23 +1,29 @@
-//! Judging a circuit: its text, its mapping, its reads and its rows.
+//! Judging a circuit: its text, the text of its proof, its mapping, its reads, and then its proof or its rows.
 
-ghost use Rattle.std.specs.Prelude.{◌≡◌, ◌==◌, ◌+◌, ◌<◌, ◌≤◌, ◌^◌, ◌⊎◌, length, Option, Some, Ok, IfOk, codes, if◌then◌else◌};
+ghost use Rattle.std.specs.Prelude.{◌≡◌, ◌==◌, ◌+◌, ◌<◌, ◌≤◌, ◌^◌, ◌⊎◌, length, Option, IfOk, IfSome};
 ghost use Rattle.std.specs.List.{position};
-ghost use Rattle.std.specs.Str.{bytes_eq};
 ghost use Rattle.dq_lits.specs.Formula.{IsWellFormed};
 ghost use Rattle.dq_text.specs.Line.{line_tokens};
 ghost use Rattle.aiger_text.specs.Grammar.{SpellsCircuit};
+ghost use Rattle.cert_text.specs.Lines.{IsReading};
+ghost use Rattle.cert_text.specs.ProofGrammar.{IsDqpOf};
+ghost use Rattle.proof_checker.specs.CircuitProof.{circuit_proof_fault};
+ghost use Rattle.skolem_checker.specs.Checks.{candidate_of};
 ghost use Rattle.skolem_checker.specs.Mapping.{IsAtPlace};
-ghost use Rattle.dqcheck_core.specs.Judgement.{begins_with, first_line, begins_proof, line_ends, comment_line, mapping_line, PassesReads, IsTested, IsCircuitJudgement, IsCircuitRefusal, IsCircuitAnswer};
+ghost use Rattle.skolem_checker.specs.SkolemCircuit.{IsComplete};
+ghost use Rattle.dqcheck_core.specs.Judgement.{begins_with, first_line, begins_proof, line_ends, comment_line, proof_in, mapping_line, answer_of_derivation, IsTestedByRows, IsTestedBy, IsTested, BehindMapping, IsCircuitJudgement, IsCircuitRefusal, IsCircuitAnswer};
 ghost use Rattle.dqcheck_core.specs.Places.{HasFewLines};
+ghost use Rattle.dqcheck_core.specs.declared.answers.Answer.TheVariants.{ValidTrue};
 
 use crate::answers::{Answer, CertificateFault, refused};
 use aiger_text::laws::circuit_or_first_fault;
-use aiger_text::{AagFile, AagStop, Text};
-use cert_text::CertFault;
+use aiger_text::{AagFile, AagStop};
+use cert_text::{CertStop, Dqp, read_dqp};
 use circuit_plain::Circuit;
 use dq_formula::Formula;
 use dq_lits::Memory;
 use dq_text::LineTokens;
+use proof_checker::{ProofFault, by_proof};
 use skolem_checker::laws::mapping_faults_have_places;
 use skolem_checker::{Bench, BenchStop, MapPlace};
 use std::alloc::Global;
@@ -65,7 +71,7 @@ fn first_line(bytes: &[u8]) -> &[u8]
 }
 
 fn begins_proof(comment: &[u8]) -> bool
-    ensures { result ≡ begins_proof (Some comment.now) }
+    ensures { result ≡ begins_proof comment.now }
 {
     begins_with(first_line(comment), b"dqp")
 }
@@ -77,18 +83,36 @@ fn line_ends(bytes: &[u8]) -> usize
     bytes.iter().filter(|byte| **byte == b'\n').count()
 }
 
-// The number of the line at which a proof begins, if the comment begins one.
-fn proof_line(first: u64, text: &[u8], comment: &Option<Text>) -> Option<u64>
+// The number of the first line of a comment, which ends the text.
+fn comment_line(first: u64, text: &[u8], comment: &[u8]) -> u64
     requires { first + length text.now < 2 ^ 62 }
-    ensures { result ≡ (if begins_proof comment.now then Some (comment_line first text.now comment.now) else None) }
+    ensures is { result ≡ comment_line first text.now comment.now }
+    ensures small { result < 2 ^ 62 }
 {
-    let Some(comment) = comment else {
-        return None;
+    first + line_ends(text).saturating_sub(line_ends(comment)) as u64
+}
+
+// The proof in the circuit's comment, if it begins one.
+fn read_proof(
+    alloc: Global,
+    f: &Formula,
+    first: u64,
+    text: &[u8],
+    file: &AagFile,
+) -> Result<Option<Dqp>, CertStop>
+    requires { first + length text.now < 2 ^ 62 }
+    ensures reading { IsReading (proof_in f.now first text.now file.now.circuit file.now.comment) result }
+    ensures allowed { IfOk result (λ proof. IfSome proof (IsDqpOf f.now file.now.circuit)) }
+{
+    let Some(comment) = &file.comment else {
+        return Ok(None);
     };
-    if !begins_proof(comment.items()) {
-        return None;
+    let comment = comment.items();
+    if !begins_proof(comment) {
+        return Ok(None);
     }
-    Some(first + line_ends(text).saturating_sub(line_ends(comment.items())) as u64)
+    let line = comment_line(first, text, comment);
+    Ok(Some(read_dqp(alloc, comment, line, f, &file.circuit)?))
 }
 
 // The line of an input or an output, or of the header.
@@ -118,11 +142,32 @@ fn judge_file(
     requires spelled { SpellsCircuit text.now file.now }
     ensures { IfOk result (IsCircuitJudgement f.now first text.now file.now) }
 {
-    if let Some(line) = proof_line(first, text, &file.comment) {
-        return Ok(refused(line, CertificateFault::Text(CertFault::BadHeader)));
+    match read_proof(alloc, f, first, text, file) {
+        Ok(proof) => judge_mapped(alloc, f, first, file, &proof),
+        Err(CertStop::Refused(refusal)) => {
+            Ok(refused(refusal.line, CertificateFault::Text(refusal.name)))
+        }
+        Err(CertStop::Memory) => Err(Memory),
     }
+}
+
+// Judges a circuit file whose proof, if it has one, was read.
+fn judge_mapped(
+    alloc: Global,
+    f: &Formula,
+    first: u64,
+    file: &AagFile,
+    proof: &Option<Dqp>,
+) -> Result<Answer, Memory>
+    requires well_formed { IsWellFormed f.now }
+    requires fits { first < 2 ^ 62 }
+    requires complete { IsComplete file.now.circuit }
+    requires few { HasFewLines file.now.circuit }
+    requires lawful { IfSome proof.now (IsDqpOf f.now file.now.circuit) }
+    ensures { IfOk result (BehindMapping first file.now.circuit proof.now (candidate_of f.now file.now.circuit file.now.symbols)) }
+{
     match Bench::new(alloc, f, file) {
-        Ok(mut bench) => Ok(test(f, &mut bench)),
+        Ok(mut bench) => test(alloc, f, &mut bench, proof),
         Err(BenchStop::Map(fault)) => {
             mapping_faults_have_places();
             let line = mapping_line(first, &file.circuit, fault.at);
@@ -133,24 +178,62 @@ fn judge_file(
 }
 
 // Tests a mapped circuit.
-fn test(f: &Formula, bench: &mut Bench) -> Answer
-    requires { bench.old.formula ≡ f.now }
-    ensures { IsTested bench.old.formula bench.old.circuit result }
+fn test(
+    alloc: Global,
+    f: &Formula,
+    bench: &mut Bench,
+    proof: &Option<Dqp>,
+) -> Result<Answer, Memory>
+    requires formula { bench.old.formula ≡ f.now }
+    requires few { HasFewLines bench.old.circuit.netlist }
+    requires lawful { IfSome proof.now (IsDqpOf bench.old.formula bench.old.circuit.netlist) }
+    ensures { IfOk result (IsTested proof.now bench.old) }
 {
     match bench.reads_ok() {
-        Ok(()) => test_rows(f, bench),
-        Err((existential, universal)) => Answer::UndeclaredRead {
+        Ok(()) => test_further(alloc, f, bench, proof),
+        Err((existential, universal)) => Ok(Answer::UndeclaredRead {
             existential,
             universal,
-        },
+        }),
     }
 }
 
-// Tests the rows of a circuit that reads declared universals alone.
-fn test_rows(f: &Formula, bench: &mut Bench) -> Answer
+// Tests a circuit that reads declared universals alone.
+fn test_further(
+    alloc: Global,
+    f: &Formula,
+    bench: &mut Bench,
+    proof: &Option<Dqp>,
+) -> Result<Answer, Memory>
     requires formula { bench.old.formula ≡ f.now }
-    requires reads { PassesReads bench.old.formula bench.old.circuit }
-    ensures { IsTested bench.old.formula bench.old.circuit result }
+    requires few { HasFewLines bench.old.circuit.netlist }
+    requires lawful { IfSome proof.now (IsDqpOf bench.old.formula bench.old.circuit.netlist) }
+    ensures { IfOk result (IsTestedBy proof.now bench.old) }
+{
+    match proof {
+        Some(proof) => test_proof(alloc, bench, proof),
+        None => Ok(test_rows(f, bench)),
+    }
+}
+
+// Tests the proof that a circuit has.
+fn test_proof(alloc: Global, bench: &Bench, proof: &Dqp) -> Result<Answer, Memory>
+    requires few { HasFewLines bench.now.circuit.netlist }
+    requires lawful { IsDqpOf bench.now.formula bench.now.circuit.netlist proof.now }
+    ensures { IfOk result (λ answer. answer ≡ answer_of_derivation ValidTrue (circuit_proof_fault bench.now proof.now.steps)) }
+{
+    match by_proof(alloc, bench, proof) {
+        Ok(()) => Ok(Answer::ValidTrue),
+        Err(ProofFault::Step(id)) => Ok(Answer::UnderivedStep { id }),
+        Err(ProofFault::NoEmptyClause) => Ok(Answer::NoEmptyClause),
+        Err(ProofFault::Memory) => Err(Memory),
+    }
+}
+
+// Tests the rows of a circuit that has no proof.
+fn test_rows(f: &Formula, bench: &mut Bench) -> Answer
+    requires { bench.old.formula ≡ f.now }
+    ensures { IsTestedByRows bench.old.formula bench.old.circuit result }
 {
     let universals = f.universals().len();
     if universals > MAX_ROW_UNIVERSALS {

@@ -6,6 +6,7 @@ ghost use Rattle.cert_text.specs.Grammar.{IsDqrOf};
 ghost use Rattle.cert_text.specs.Scan.{refutation_of};
 ghost use Rattle.refutation_checker.specs.Refutation.{refutation_fault};
 ghost use Rattle.dqcheck_core.specs.Judgement.{answer_of_derivation, answer_of_refutation, IsJudgement};
+ghost use Rattle.dqcheck_core.specs.declared.answers.Answer.TheVariants.{ValidFalse};
 
 use crate::answers::{Answer, CertificateFault, refused};
 use crate::circuits::judge_circuit;
@@ -46,7 +47,7 @@ fn judge_refutation(alloc: Global, f: &Formula, first: u64, text: &[u8]) -> Resu
 fn judge_derivation(alloc: Global, f: &Formula, d: &Dqr) -> Result<Answer, Memory>
     requires well_formed { IsWellFormed f.now }
     requires allowed { IsDqrOf f.now d.now }
-    ensures { IfOk result (λ answer. answer ≡ answer_of_derivation (refutation_fault f.now d.now)) }
+    ensures { IfOk result (λ answer. answer ≡ answer_of_derivation ValidFalse (refutation_fault f.now d.now)) }
 {
     match check(alloc, f, d) {
         Ok(()) => Ok(Answer::ValidFalse),

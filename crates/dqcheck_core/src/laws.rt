@@ -9,6 +9,7 @@ ghost use Rattle.dqcheck_core.specs.declared.answers.Answer.{Answer};
 ghost use Rattle.dqcheck_core.specs.declared.answers.Answer.TheVariants.{ValidTrue, ValidFalse};
 
 use aiger_text::laws::circuit_or_first_fault;
+use proof_checker::laws::proved_circuit_shows_true;
 use refutation_checker::laws::refutation_shows_false;
 use skolem_checker::laws::{skolem_circuit_shows_true, tested_circuit_is_skolem};
 
@@ -25,6 +26,7 @@ pub fn acceptance_is_sound()
     ensures is_false { (f : Dqbf) (text : List ℕ) → IsWellFormed f → IsJudgement f text ValidFalse → IsFalseFormula f }
 {
     refutation_shows_false();
+    proved_circuit_shows_true();
     tested_circuit_is_skolem();
     skolem_circuit_shows_true();
 }

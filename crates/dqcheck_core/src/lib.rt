@@ -11,7 +11,6 @@ pub use run::dqcheck_run;
 
 mod answers;
 mod circuits;
-mod commands;
 mod judging;
 pub mod laws;
 mod names;

@@ -4,11 +4,10 @@ ghost use Rattle.std.specs.Prelude.{◌≡◌, ◌≢◌, ◌≤◌, ◌<◌, �
 ghost use Rattle.dq_io.specs.Causes.{Rose};
 ghost use Rattle.dq_lits.specs.Formula.{Dqbf};
 ghost use Rattle.dqdimacs_reader.specs.Grammar.{SpellsFormula};
-ghost use Rattle.dqcheck_core.specs.Command.{Command, command_of};
+ghost use Rattle.dqcheck_words.specs.Command.{Command, command_of};
 ghost use Rattle.dqcheck_core.specs.Running.{max_formula, max_certificate, IsDue, IsDueFor, Ends, AreTold, IsAcceptance, IsAnswered, IsFormulaOf};
 ghost use Rattle.dqcheck_core.specs.Outputs.{IsOutputDue};
 
-use crate::commands::{FileNames, file_names};
 use crate::judging::judge;
 use crate::laws::{acceptance_is_sound, one_judgement};
 use crate::reports::{
@@ -18,6 +17,7 @@ use crate::reports::{
 use dq_formula::Formula;
 use dq_io::{Files, ReadStop, Sink, read_all, write_all};
 use dq_lits::Memory;
+use dqcheck_words::{FileNames, file_names};
 use dqdimacs_reader::laws::formula_or_first_fault;
 use std::alloc::Global;
 
@@ -29,7 +29,7 @@ const MAX_CERTIFICATE: u64 = 1 << 40;
 
 /// Judges the certificate in one file for the formula in another, and writes one line.
 ///
-/// The words are the program's name and the files' names. The status is 0 where the certificate is accepted, 1 where
+/// The words are the program's name and the files' names, as clap reads them. The status is 0 where the certificate is accepted, 1 where
 /// the words are others, 2 where the formula's text has a fault, 3 where a file can't be read, 4 where the line can't be
 /// written, 5 for want of memory, 6 where a file is too long, 7 where the certificate's text has a fault, 8 where the
 /// certificate is wrong, and 9 where it has no proof and there are too many universals to try all rows.
@@ -77,7 +77,7 @@ fn report<F: Files>(alloc: Global, words: &[String], files: &mut F) -> Result<Ou
     ensures long { IfOk result (λ output. output.status ≡ 6 → max_formula < F.given files.new) }
     ensures held { F.held files.new ≡ F.held files.old }
 {
-    match file_names(words) {
+    match file_names(alloc, words)? {
         None => usage_output(alloc),
         Some(names) => report_files(alloc, names, files),
     }

@@ -6,6 +6,7 @@ returns-clause-is_true c =
     accepted_is_true (record {
       skolem = c.tested_circuit_is_skolem.ensures;
       is_true = c.skolem_circuit_shows_true.ensures;
+      proved = c.proved_circuit_shows_true.ensures;
     })
 
 pub returns-clause-is_false : goal.returns-clause-is_false

@@ -1,0 +1,9 @@
+pub mod Negating
+pub mod Witnessing
+pub mod Solving
+pub mod Standing
+pub mod Naming
+pub mod Looking
+pub mod Bounding
+pub mod Deciding
+pub mod Judging

@@ -1,0 +1,5 @@
+use Rattle.proof_checker.proofs.Solving.{refuted_solves}
+use Rattle.proof_checker.proofs.laws.refuted_negation_solves.Goals as goal
+
+pub returns : goal.returns
+returns c candidate symbols steps = refuted_solves candidate symbols steps c.derivation_is_sound.ensures

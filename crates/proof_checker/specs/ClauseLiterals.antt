@@ -1,0 +1,21 @@
+-- Words of private contracts: the literals of a matrix, each with the variable that tells that its clause is false.
+use Rattle.std.specs.Prelude.{◌≡◌, ◌≤◌, ℕ, ◌+◌, ◌*◌, List, [], ◌∷◌, ◌++◌, map}
+use Rattle.dq_lits.specs.Formula.{Dqbf}
+use Rattle.dq_lits.specs.Literal.{Literal}
+use Rattle.circuit_plain.specs.Netlist.{Netlist}
+use Rattle.aiger_text.specs.Lines.{max_count}
+use Rattle.cert_text.specs.NegatedMatrix.{opposite_of, literal_under}
+
+-- the clauses' variables are the numbers from `bad` on
+abbrev pub clause_literals : ℕ → List (List Literal) → List (ℕ × Literal)
+clause_literals bad [] = []
+clause_literals bad (clause ∷ clauses) = map (λ l. (bad, l)) clause ++ clause_literals (bad + 1) clauses
+
+-- where the variable is true, the literal is false
+abbrev pub falsity_clause : (ℕ → ℕ) → ℕ × Literal → List ℕ
+falsity_clause outputs o = opposite_of (2 * o.0) ∷ opposite_of (literal_under outputs o.1) ∷ []
+
+-- what the negated matrix keeps of a formula and a circuit's netlist
+pub record AreClauseLiterals (f : Dqbf) (net : Netlist) (literals : List (ℕ × Literal)) : Type 0 where
+  pub few : net.max_var ≤ max_count
+  pub are : literals ≡ clause_literals (net.max_var + 1) f.matrix

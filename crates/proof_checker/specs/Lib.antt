@@ -1,0 +1,4 @@
+pub mod Answer
+pub mod CircuitProof
+pub mod ClauseLiterals
+pub mod Lines
