@@ -2,7 +2,7 @@
 //! ensures.
 
 ghost use Rattle.std.specs.Prelude.{◌≡◌, ◌↔◌, Ok, Err};
-ghost use Rattle.dq_lits.specs.Formula.{Existential, Dqbf, HasLawfulPrefix, IsWellFormed};
+ghost use Rattle.dq_lits.specs.Formula.{Existential, Dqbf, HasLawfulPrefix};
 ghost use Rattle.dq_lits.specs.Henkin.{IsTrueFormula};
 ghost use Rattle.dq_lits.specs.Skolem.{OutputFunction, AreSkolemFunctions};
 ghost use Rattle.circuit_plain.specs.Netlist.{Netlist, IsNetlist};
