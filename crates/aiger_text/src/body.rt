@@ -1,10 +1,10 @@
 //! The lines of inputs, outputs and gates.
 
-ghost use Rattle.std.specs.Prelude.{◌≡◌, ◌==◌, ◌<◌, ◌≤◌, ◌/◌, ◌^◌, ℕ, not, ◌&&◌, ◌||◌, length, MatchResult, OnOk, Ok, Err};
+ghost use Rattle.std.specs.Prelude.{◌≡◌, ◌==◌, ◌<◌, ◌/◌, ◌^◌, ℕ, ◌&&◌, ◌||◌, length, MatchResult, OnOk, Ok, Err};
 ghost use Rattle.std.specs.List.{list_any};
-ghost use Rattle.circuit_plain.specs.Netlist.{IsVariable, IsLiteral, IsDefined};
+ghost use Rattle.circuit_plain.specs.Netlist.{IsLiteral};
 ghost use Rattle.dq_text.specs.Line.{line_tokens};
-ghost use Rattle.aiger_text.specs.Lines.{numbers_of, is_positive, is_literal, is_too_big, is_defined, with_input, with_output, with_gate, input_of, output_of, gate_of, input_line, output_line, gate_line};
+ghost use Rattle.aiger_text.specs.Lines.{numbers_of, is_positive, is_literal, with_input, with_output, with_gate, input_of, output_of, gate_of, input_line, output_line, gate_line};
 ghost use Rattle.aiger_text.specs.Scan.{start, next_part};
 ghost use Rattle.aiger_text.specs.ReaderState.{body_of, IsSmall, IsReady, IsNetlistOf, SameElse, IsNewVariable, IsNewGate};
 

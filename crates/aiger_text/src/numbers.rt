@@ -1,6 +1,6 @@
 //! The natural numbers of a line.
 
-ghost use Rattle.std.specs.Prelude.{◌≡◌, [], Some, None, IfOk, if◌then◌else◌};
+ghost use Rattle.std.specs.Prelude.{◌≡◌, Some, None, IfOk, if◌then◌else◌};
 ghost use Rattle.dq_text.specs.Line.{line_tokens};
 ghost use Rattle.aiger_text.specs.Lines.{natural_of, numbers_of, one_of, three_of};
 ghost use Rattle.aiger_text.specs.LineStop.{IsLineOf};

@@ -1,8 +1,8 @@
 //! Symbol lines, and the lines that end the symbols.
 
-ghost use Rattle.std.specs.Prelude.{◌≡◌, Bool, not, ℕ, MatchOption};
+ghost use Rattle.std.specs.Prelude.{◌≡◌, not};
 ghost use Rattle.std.specs.Char.{is_ascii_digit};
-ghost use Rattle.std.specs.List.{position, position_or_len};
+ghost use Rattle.std.specs.List.{position};
 ghost use Rattle.aiger_text.specs.Lines.{digits_end, without_end_crs, behind_place, behind_kind, symbol_of, is_blank_line, begins_comment};
 ghost use Rattle.aiger_text.specs.SymbolEntry.{entry_line};
 

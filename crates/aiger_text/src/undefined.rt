@@ -1,6 +1,6 @@
 //! Variables that are named and not defined.
 
-ghost use Rattle.std.specs.Prelude.{◌≡◌, ◌+◌, ◌<◌, ◌^◌, ◌/◌, not, Some, None, length};
+ghost use Rattle.std.specs.Prelude.{◌≡◌, ◌+◌, ◌<◌, ◌/◌, not, Some, None, length};
 ghost use Rattle.std.specs.List.{position};
 ghost use Rattle.circuit_plain.specs.Netlist.{gate_at};
 ghost use Rattle.aiger_text.specs.Scan.{stands_on_defined, reads_defined, undefined_line};

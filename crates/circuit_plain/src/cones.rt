@@ -1,4 +1,4 @@
-ghost use Rattle.std.specs.Prelude.{◌≡◌, ◌+◌, ◌<◌, ◌≤◌, ◌↔◌, ℕ, true, false, length, replicate, slice_index, slice_set, IsTrue};
+ghost use Rattle.std.specs.Prelude.{◌≡◌, ◌+◌, ◌<◌, ◌↔◌, ℕ, true, false, length, replicate, slice_index, IsTrue};
 ghost use Rattle.dq_lits.specs.Row.{bit_of};
 ghost use Rattle.circuit_plain.specs.Steps.{MarksReach};
 ghost use Rattle.circuit_plain.specs.Netlist.{literal_variable};

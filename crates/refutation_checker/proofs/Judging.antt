@@ -25,7 +25,7 @@ use Rattle.refutation_checker.specs.Renaming.{place_of, renamed_literal, renamed
 use Rattle.refutation_checker.proofs.Knowing.{placed_fault}
 
 -- no instance has the id of a line or a later one
-no_row : (f : Dqbf) (rows : List (List Bool)) (clauses i : ℕ) → clauses ≡ length f.matrix → length rows * clauses ≤ i → instance_at f rows (suc i) ≡ None
+pub no_row : (f : Dqbf) (rows : List (List Bool)) (clauses i : ℕ) → clauses ≡ length f.matrix → length rows * clauses ≤ i → instance_at f rows (suc i) ≡ None
 no_row f rows zero i is le = nothing (slice_get rows (i / length f.matrix))
   where
     nothing : (o : Option (List Bool)) → option_and_then (λ row. option_and_then (instance_clause f rows row) (slice_get f.matrix (i % length f.matrix))) o ≡ None

@@ -1,11 +1,11 @@
 //! Which pairs occur in a refutation: those of its lines and of the instances that they hint.
 
-ghost use Rattle.std.specs.Prelude.{◌≡◌, ◌<◌, true, length, All, IfOk, OnOk, IsSome, map};
+ghost use Rattle.std.specs.Prelude.{◌≡◌, ◌<◌, true, length, All, OnOk, IsSome, map};
 ghost use Rattle.std.specs.List.{flat_map};
 ghost use Rattle.dq_lits.specs.Formula.{existential_of};
 ghost use Rattle.dq_lits.specs.Literal.{variable_of};
 ghost use Rattle.cert_text.specs.Pairs.{is_pair_number};
-ghost use Rattle.refutation_checker.specs.Occurring.{instance_pairs, line_pairs, step_pairs, occurring_pairs};
+ghost use Rattle.refutation_checker.specs.Occurring.{instance_pairs, line_pairs, occurring_pairs};
 ghost use Rattle.refutation_checker.specs.Pairs.{existential_part};
 ghost use Rattle.refutation_checker.specs.PairTable.{part_pairs, with_numbers};
 

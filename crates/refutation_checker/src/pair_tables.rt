@@ -1,6 +1,6 @@
 //! Pairs of a row and an existential, numbered as they occur.
 
-ghost use Rattle.std.specs.Prelude.{◌≡◌, ◌+◌, ◌≤◌, ◌<◌, ◌^◌, true, [], length, All, IfOk, IfSome, OnOk, OnErr, IsSome, map, slice_index_or};
+ghost use Rattle.std.specs.Prelude.{◌≡◌, ◌+◌, ◌≤◌, ◌<◌, ◌^◌, true, [], length, All, IfSome, OnOk, IsSome, map};
 ghost use Rattle.std.specs.List.{list_any};
 ghost use Rattle.std.specs.Option.{option_map, option_and_then};
 ghost use Rattle.dq_lits.specs.Expansion.{instance_at, universal_literal_true};

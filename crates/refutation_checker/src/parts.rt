@@ -1,6 +1,6 @@
 //! The existential literals of a formula's clauses.
 
-ghost use Rattle.std.specs.Prelude.{◌≡◌, ◌+◌, map, IfOk};
+ghost use Rattle.std.specs.Prelude.{◌≡◌, map, IfOk};
 ghost use Rattle.refutation_checker.specs.Pairs.{existential_part};
 
 use dq_formula::Formula;

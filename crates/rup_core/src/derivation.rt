@@ -1,4 +1,4 @@
-ghost use Rattle.std.specs.Prelude.{◌≡◌, ◌≤◌, true, [], All, IfSome, not, map};
+ghost use Rattle.std.specs.Prelude.{◌≡◌, true, [], All, IfSome, not, map};
 ghost use Rattle.dq_lits.specs.Literal.{opposite};
 ghost use Rattle.dq_lits.specs.Derivation.{line_fault, hint_fault, is_tautology};
 ghost use Rattle.rup_core.specs.Range.{StandsWithin, LineStandsWithin};

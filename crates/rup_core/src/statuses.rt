@@ -1,8 +1,7 @@
-ghost use Rattle.std.specs.Prelude.{◌≡◌, ◌≤◌, IfSome};
-ghost use Rattle.dq_lits.specs.Literal.{variable_of, same_literal};
+ghost use Rattle.std.specs.Prelude.{◌≡◌, IfSome};
+ghost use Rattle.dq_lits.specs.Literal.{same_literal};
 ghost use Rattle.dq_lits.specs.Derivation.{status_of};
 ghost use Rattle.rup_core.specs.Range.{StandsWithin};
-ghost use Rattle.rup_core.specs.Truth.{literal_value};
 ghost use Rattle.rup_core.specs.Extension.{seen, with_free, with_literal, UnitIsFree};
 
 use crate::bases::Base;

@@ -1,4 +1,5 @@
 pub mod MappingLaws
+pub mod NamingLaws
 pub mod ReadsLaws
 pub mod RowsLaws
 pub mod OntoLaws

@@ -141,7 +141,7 @@ both-mapped f net (Ok inputs) (Ok outputs) a b on_inputs on_outputs = record {
       (on_outputs.1 ∙ sym (length-map f.existentials (λ (y : Existential). y.variable)));
 }
 
-get_or-append_left : (xs ys : List ℕ) (i d : ℕ) → i < length xs → get_or (xs ++ ys) i d ≡ get_or xs i d
+pub get_or-append_left : (xs ys : List ℕ) (i d : ℕ) → i < length xs → get_or (xs ++ ys) i d ≡ get_or xs i d
 get_or-append_left [] ys i d below = absurd (omega arith)
 get_or-append_left (x ∷ xs) ys zero d below = refl
 get_or-append_left (x ∷ xs) ys (suc i) d below = get_or-append_left xs ys i d (omega arith)

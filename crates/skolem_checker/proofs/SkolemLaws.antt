@@ -20,7 +20,7 @@ use Rattle.circuit_plain.specs.Value.{HasValue}
 use Rattle.circuit_plain.proofs.ValueLaws.{grounded_have_values, values_follow_reach, values_are_unique}
 use Rattle.aiger_text.specs.Symbol.{SymbolTable}
 use Rattle.skolem_checker.specs.Mapping.{Mapping, mapping_of}
-use Rattle.skolem_checker.specs.SkolemCircuit.{MappedCircuit, IsComplete, input_bits, ReadsUniversal, FollowsCircuit, IsSkolemCircuit}
+use Rattle.skolem_checker.specs.SkolemCircuit.{MappedCircuit, IsComplete, input_bits, ReadsUniversal, FollowsCircuit, IsSkolemCircuit, AreOutputsOf}
 use Rattle.skolem_checker.specs.Checks.{Candidate, with_mapping, candidate_of, existential_at, IsReadsAnswer, IsRowsAnswer}
 use Rattle.skolem_checker.specs.Tables.{IsMapping}
 use Rattle.skolem_checker.specs.declared.mapping.MapError.{MapError}
@@ -84,7 +84,7 @@ module _ (f : Dqbf) (net : Netlist) (mapping : Mapping) (kept : IsNetlist net) (
   pub skolem_functions : ((k : ℕ) (d : Existential) → k < length f.existentials
       → (x : ℕ) → ReadsUniversal (record { netlist = net; mapping = mapping }) (get_or f.existentials k d).variable x → Contains (get_or f.existentials k d).sees x)
       → ((m : Assignment) → FollowsCircuit f (record { netlist = net; mapping = mapping }) m → MatrixHolds f m)
-      → (output : Existential → OutputFunction) × AreSkolemFunctions f output
+      → (output : Existential → OutputFunction) × AreSkolemFunctions f output × AreOutputsOf f (record { netlist = net; mapping = mapping }) output
   unfolding output
   skolem_functions declared holds = (
     output,
@@ -102,10 +102,24 @@ module _ (f : Dqbf) (net : Netlist) (mapping : Mapping) (kept : IsNetlist net) (
             signed = given k d below;
           });
     },
+    record {
+      values = λ k d below m.
+          let y = get_or f.existentials k d in
+          record {
+            out = place_of y;
+            in_range = place-below mapping.outputs y.variable (known k d below);
+            stands_for = get_or-place mapping.outputs y.variable 0 (known k d below);
+            variable_bit = (bit_of_output y m).0;
+            value = (bit_of_output y m).1;
+            signed = refl;
+          };
+      supports = λ k d below. declared k d below;
+    },
   )
 
 pub outputs_are_skolem : (f : Dqbf) (net : Netlist) (symbols : SymbolTable) → HasLawfulPrefix f → IsNetlist net → IsComplete net
-    → IsSkolemCircuit f net symbols → (output : Existential → OutputFunction) × AreSkolemFunctions f output
+    → (h : IsSkolemCircuit f net symbols)
+    → (output : Existential → OutputFunction) × AreSkolemFunctions f output × AreOutputsOf f (record { netlist = net; mapping = h.mapping }) output
 outputs_are_skolem f net symbols lawful kept complete h =
     skolem_functions f net h.mapping kept complete (subst (IsMapped f net) h.maps (mapped f net symbols lawful)) h.reads_declared h.holds
 

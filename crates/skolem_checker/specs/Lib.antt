@@ -1,5 +1,6 @@
 pub mod Mapping
 pub mod MappingReading
+pub mod Naming
 pub mod Checks
 pub mod SkolemCircuit
 pub mod Tables

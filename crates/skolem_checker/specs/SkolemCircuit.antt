@@ -3,8 +3,9 @@
 -- output reads only universals that its existential may see, and with the outputs' values every clause is true.
 use Rattle.std.specs.Prelude.{◌≡◌, ℕ, ◌<◌, Bool, length, slice_index, Ok, All, Contains}
 use Rattle.dq_lits.specs.Literal.{Assignment}
-use Rattle.dq_lits.specs.Formula.{Dqbf}
+use Rattle.dq_lits.specs.Formula.{Existential, Dqbf}
 use Rattle.dq_lits.specs.Henkin.{MatrixHolds}
+use Rattle.dq_lits.specs.Skolem.{OutputFunction}
 use Rattle.circuit_plain.specs.Ground.{IsGrounded}
 use Rattle.circuit_plain.specs.Netlist.{Netlist, literal_variable, signed_bit}
 use Rattle.circuit_plain.specs.Reach.{Reaches}
@@ -59,3 +60,9 @@ pub record IsSkolemCircuit (f : Dqbf) (net : Netlist) (symbols : SymbolTable) : 
   pub reads_declared : All (λ y. (x : ℕ) → ReadsUniversal (record { netlist = net; mapping = mapping }) y.variable x
       → Contains y.sees x) f.existentials
   pub holds : (m : Assignment) → FollowsCircuit f (record { netlist = net; mapping = mapping }) m → MatrixHolds f m
+
+-- each existential's function is its output: it has the output's value, and its support holds each universal that the output
+-- reads
+pub record AreOutputsOf (f : Dqbf) (c : MappedCircuit) (output : Existential → OutputFunction) : Type 0 where
+  pub values : All (λ y. (m : Assignment) → HasOutputValue c m y.variable ((output y).value m)) f.existentials
+  pub supports : All (λ y. (x : ℕ) → ReadsUniversal c y.variable x → Contains (output y).support x) f.existentials

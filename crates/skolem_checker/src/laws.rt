@@ -1,23 +1,26 @@
 //! What passing the tests shows. Each law is the contract of a function that does nothing: who calls it may use what it
 //! ensures.
 
-ghost use Rattle.std.specs.Prelude.{◌≡◌, Ok, Err};
-ghost use Rattle.dq_lits.specs.Formula.{Existential, Dqbf, HasLawfulPrefix, IsWellFormed};
+ghost use Rattle.std.specs.Prelude.{◌≡◌, ◌↔◌, Ok, Err};
+ghost use Rattle.dq_lits.specs.Formula.{Existential, Dqbf, HasLawfulPrefix};
 ghost use Rattle.dq_lits.specs.Henkin.{IsTrueFormula};
 ghost use Rattle.dq_lits.specs.Skolem.{OutputFunction, AreSkolemFunctions};
 ghost use Rattle.circuit_plain.specs.Netlist.{Netlist, IsNetlist};
 ghost use Rattle.aiger_text.specs.Symbol.{SymbolTable};
 ghost use Rattle.skolem_checker.specs.Checks.{Candidate, candidate_of, IsReadsAnswer, IsRowsAnswer};
-ghost use Rattle.skolem_checker.specs.SkolemCircuit.{IsComplete, IsSkolemCircuit, ReadsUniversal};
-ghost use Rattle.skolem_checker.specs.Mapping.{IsAtPlace, mapping_of};
+ghost use Rattle.skolem_checker.specs.SkolemCircuit.{IsComplete, IsSkolemCircuit, ReadsUniversal, AreOutputsOf};
+ghost use Rattle.skolem_checker.specs.Mapping.{IsAtPlace, Mapping, mapping_of};
+ghost use Rattle.skolem_checker.specs.Naming.{IsToldMapping, IsToldFault};
 ghost use Rattle.skolem_checker.specs.declared.mapping.MapError.{MapError};
 
 use dq_lits::laws::skolem_functions_show_true;
 
-/// The outputs of a Skolem circuit are Skolem functions.
+/// The outputs of a Skolem circuit are Skolem functions: there is a function for each existential, with its output's value and
+/// with what the output reads in its support.
 pub fn outputs_are_skolem_functions()
     ensures { (f : Dqbf) (net : Netlist) (symbols : SymbolTable) → HasLawfulPrefix f → IsNetlist net → IsComplete net
-        → IsSkolemCircuit f net symbols → (output : Existential → OutputFunction) × AreSkolemFunctions f output }
+        → (h : IsSkolemCircuit f net symbols) → (output : Existential → OutputFunction) × AreSkolemFunctions f output
+        × AreOutputsOf f (record { netlist = net; mapping = h.mapping }) output }
 {}
 
 /// A Skolem circuit shows that the formula is true.
@@ -41,4 +44,13 @@ pub fn tested_circuit_is_skolem()
 pub fn mapping_faults_have_places()
     ensures { (f : Dqbf) (net : Netlist) (symbols : SymbolTable) (fault : MapError) → mapping_of f net symbols ≡ Err fault
         → IsAtPlace net fault.at }
+{}
+
+/// Inputs and outputs stand for the variables that their symbols say, or for those in the order of declaration where there is
+/// no symbol; where that gives no mapping, its first fault is named.
+pub fn mapping_is_as_told()
+    ensures exact { (f : Dqbf) (net : Netlist) (symbols : SymbolTable) (mapping : Mapping) →
+        (mapping_of f net symbols ≡ Ok mapping) ↔ IsToldMapping f net symbols mapping }
+    ensures fault { (f : Dqbf) (net : Netlist) (symbols : SymbolTable) (fault : MapError) →
+        mapping_of f net symbols ≡ Err fault → IsToldFault fault.at fault.name f net symbols }
 {}

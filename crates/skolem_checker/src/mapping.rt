@@ -1,10 +1,8 @@
 //! Which input stands for which universal, and which output for which existential.
 
-ghost use Rattle.std.specs.Prelude.{◌≡◌, ◌==◌, ◌+◌, ◌≤◌, ℕ, List, length, Option, None, Some, Ok, Err, true, [], ◌∷◌, ◌++◌, IfOk, OnOk};
-ghost use Rattle.std.specs.List.{list_any, range_with_len};
+ghost use Rattle.std.specs.Prelude.{◌≡◌, ◌+◌, ◌≤◌, ℕ, List, length, Option, None, Some, Ok, Err, true, [], ◌∷◌, ◌++◌, IfOk, OnOk};
 ghost use Rattle.std.specs.Option.{option_copied};
-ghost use Rattle.dq_text.specs.Number.{number_of};
-ghost use Rattle.skolem_checker.specs.Mapping.{Mapping, natural, declares, symbol_at, place_of, symbol_variable, new_variable, named_from, has_symbol, mapping_of, mapping_by_symbols, mapping_in_order};
+ghost use Rattle.skolem_checker.specs.Mapping.{natural, declares, symbol_at, place_of, symbol_variable, named_from, has_symbol, mapping_of, mapping_by_symbols, mapping_in_order};
 ghost use Rattle.skolem_checker.specs.MappingReading.{IsSeen, Answers, mapping_in};
 ghost use Rattle.skolem_checker.specs.declared.mapping.MapName.{MapName};
 ghost use Rattle.skolem_checker.specs.declared.mapping.MapPlace.TheVariants.{Whole};

@@ -1,6 +1,6 @@
 //! What the outputs read.
 
-ghost use Rattle.std.specs.Prelude.{◌≡◌, ◌+◌, ◌<◌, ℕ, Some, length, slice_index, All, IsSome, MatchOption};
+ghost use Rattle.std.specs.Prelude.{◌≡◌, ◌+◌, ◌<◌, Some, length, slice_index, All, IsSome, MatchOption};
 ghost use Rattle.dq_lits.specs.Formula.{Existential, existential_of};
 ghost use Rattle.dq_lits.specs.Row.{bit_of};
 ghost use Rattle.dq_formula.specs.Prefix.{existential_variables};
