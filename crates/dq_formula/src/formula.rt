@@ -1,4 +1,4 @@
-ghost use Rattle.std.specs.Prelude.{◌≡◌, ◌-◌, ◌==◌, ◌≤◌, ◌<◌, Bool, false, true, not, ◌&&◌, Some, None, [], ◌∷◌, ◌++◌, length, map, replicate, is_some, slice_index, slice_index_or, filter, All, Contains, nat_eq, IsTrue, IsSome, IfSome, IfOk, OnOk, OnErr, position, ◌↔◌};
+ghost use Rattle.std.specs.Prelude.{◌≡◌, ◌-◌, ◌==◌, ◌≤◌, ◌<◌, false, true, not, ◌&&◌, Some, None, [], ◌∷◌, ◌++◌, length, map, is_some, slice_index, slice_index_or, filter, All, Contains, nat_eq, IsTrue, IsSome, IfSome, IfOk, OnOk, OnErr, position, ◌↔◌};
 ghost use Rattle.std.specs.List.{position_or_len};
 ghost use Rattle.std.specs.List.Sorted.{IsBinarySearchResult, IsSearchInRange};
 ghost use Rattle.std.specs.Ordering.{nat_cmp};
@@ -8,7 +8,7 @@ ghost use Rattle.dq_lits.specs.Formula.{is_universal, existential_of};
 ghost use Rattle.dq_lits.specs.Henkin.{restriction, same_bits};
 ghost use Rattle.dq_lits.specs.Expansion.{row_assignment};
 ghost use Rattle.dq_lits.specs.Literal.{variable_of};
-ghost use Rattle.dq_formula.specs.Dependencies.{padded, dependencies, dependency_count, listed_universals, IsDependencySet};
+ghost use Rattle.dq_formula.specs.Dependencies.{padded, dependencies, listed_universals, IsDependencySet};
 ghost use Rattle.dq_formula.specs.Layout.{existential, unseeing_entry, start_of, clauses_at, AreEnds};
 ghost use Rattle.dq_formula.specs.Prefix.{IsLawful, is_declared, existential_variables, free_variables, unseeing};
 

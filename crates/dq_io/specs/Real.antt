@@ -1,6 +1,7 @@
--- What is told of real files: counts, and no content.
-use Rattle.std.specs.Prelude.{ℕ}
+-- What is told of real files: whether one is open, and counts, but no content.
+use Rattle.std.specs.Prelude.{ℕ, Bool}
 
-pub record FileCounts : Type 0 where
+pub record RealState : Type 0 where
+  pub is_open : Bool
   pub given : ℕ
   pub faults : ℕ

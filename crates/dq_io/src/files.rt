@@ -8,8 +8,8 @@ use crate::errors::Failed;
 /// Files that are read by name, one at a time, through reads that may be short, as POSIX has them.
 /// Before the first `pick` nothing is left to read.
 ///
-/// What an object knows of its files it may tell or not. Faults it always counts, and a call fails
-/// only where the count rose, so that without a counted fault every call is Ok.
+/// What an object knows of its files it may tell or not. Faults it always counts: a call fails where
+/// the count rose and there alone, so that Ok says that no fault came.
 pub trait Files {
     /// What is told of the file of a name.
     ghost held: { Self → List ℕ → Holding };

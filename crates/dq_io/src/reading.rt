@@ -31,8 +31,9 @@ pub fn read_all<F: Files>(
     ensures end { OnOk result (IsAtEnd (F.rest files.new)) }
     ensures too_long { IsErrOf result ReadStop.TooLong ↔ (limit < F.given files.new) }
 
-    // A fault has its cause.
+    // A fault has its cause, and where one is counted it is the answer.
     ensures fault { IsErrOf result ReadStop.Fault → Rose (F.faults files.old) (F.faults files.new) }
+    ensures unfaulted { ¬ IsErrOf result ReadStop.Fault → F.faults files.new ≡ F.faults files.old }
     ensures later { F.faults files.old ≤ F.faults files.new }
     ensures held { F.held files.new ≡ F.held files.old }
 {

@@ -1,6 +1,6 @@
 // The trusted edge: files and the output of the system that the program runs on. It tells nothing of
 // what they hold, and counts every error.
-ghost use Rattle.std.specs.Prelude.{◌≡◌, ◌+◌, ◌<◌, ◌≤◌, ℕ, length, IfOk, OnOk, OnErr, None};
+ghost use Rattle.std.specs.Prelude.{◌≡◌, ◌+◌, ◌<◌, ◌≤◌, ℕ, true, false, length, IfOk, OnOk, OnErr, Ok, None};
 ghost use Rattle.dq_io.specs.Causes.{HasCause, next_count};
 ghost use Rattle.dq_io.specs.Files.{Untold};
 
@@ -30,16 +30,17 @@ pub struct RealFiles<R: rt::Files> {
 }
 
 impl<R: rt::Files> Model for RealFiles<R> {
-    ghost use Rattle.dq_io.specs.Real.{FileCounts};
+    ghost use Rattle.std.specs.Prelude.{is_some};
+    ghost use Rattle.dq_io.specs.Real.{RealState};
 
-    ghost Value = { FileCounts };
+    ghost Value = { RealState };
 
-    ghost view = { λ f. record { given = f.given; faults = f.faults } };
+    ghost view = { λ f. record { is_open = is_some f.file; given = f.given; faults = f.faults } };
 }
 
 impl<R: rt::Files> RealFiles<R> {
     pub fn new(runtime: R) -> RealFiles<R>
-        ensures { result ≡ record { given = 0; faults = 0 } }
+        ensures { result ≡ record { is_open = false; given = 0; faults = 0 } }
     {
         RealFiles {
             runtime,
@@ -60,9 +61,9 @@ impl<R: rt::Files> Files for RealFiles<R> {
     ghost faults = { λ f. f.faults };
 
     fn pick(&mut self, name: &str) -> Result<(), Failed>
-        ensures ok { OnOk result (self.new ≡ record self.old { given = 0 }) }
+        ensures ok { OnOk result (self.new ≡ record self.old { is_open = true; given = 0 }) }
         ensures err { OnErr result
-            (self.new ≡ record { given = 0; faults = next_count self.old.faults }) }
+            (self.new ≡ record { is_open = false; given = 0; faults = next_count self.old.faults }) }
         ensures cause { HasCause self.old.faults self.new.faults result }
     {
         self.file = None;
@@ -76,13 +77,15 @@ impl<R: rt::Files> Files for RealFiles<R> {
         }
     }
 
-    /// It fails too where the count of the bytes given would overflow.
+    /// Where no file is open nothing is left. It fails too where the count of the bytes given would
+    /// overflow.
     fn read(&mut self, buf: &mut [u8]) -> Result<usize, Failed>
         ensures bound { IfOk result (λ n. n ≤ length buf.new) }
         ensures ok { IfOk result (λ n.
             self.new ≡ record self.old { given = self.old.given + n }) }
         ensures err { OnErr result
             (self.new ≡ record self.old { faults = next_count self.old.faults }) }
+        ensures closed { self.old.is_open ≡ false → result ≡ Ok 0 }
         ensures cause { HasCause self.old.faults self.new.faults result }
     {
         let Some(file) = &mut self.file else {

@@ -72,11 +72,11 @@ abbrev pub fault_of_step : Option ℕ → ℕ → Option ProofFault → Option P
 fault_of_step (Some _) id _ = Some (underived id)
 fault_of_step None _ rest = rest
 
--- the first fault of the steps to come, where `finished` tells whether the last step before them is empty
 abbrev pub is_empty : List Literal → Bool
 is_empty [] = true
 is_empty (_ ∷ _) = false
 
+-- the first fault of the steps to come, where `finished` tells whether the last step before them is empty
 abbrev pub steps_fault : Bool → LiveClauses → List ProofStep → Option ProofFault
 steps_fault finished live [] = if finished then None else Some unfinished
 steps_fault finished live (step ∷ steps) =

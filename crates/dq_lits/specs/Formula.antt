@@ -26,7 +26,7 @@ existential_of f v = find (λ y. y.variable == v) f.existentials
 abbrev pub declared : Dqbf → List ℕ
 declared f = f.universals ++ map (λ y. y.variable) f.existentials
 
--- each variable is declared once and in range
+-- each variable is declared once and in range, and existentials see declared universals
 pub record HasLawfulPrefix (f : Dqbf) : Type 0 where
   pub in_range : All (λ v. (1 ≤ v) × (v ≤ f.variables)) (declared f)
   pub declared_once : AllPairs (λ v w. v ≢ w) (declared f)

@@ -35,6 +35,11 @@ pub fn skolem_functions_show_true()
     ensures { (f : Dqbf) (output : Existential → OutputFunction) → AreSkolemFunctions f output → IsTrueFormula f }
 {}
 
+/// A true formula has Skolem functions.
+pub fn true_formulas_have_skolem_functions()
+    ensures { (f : Dqbf) → IsTrueFormula f → (output : Existential → OutputFunction) × AreSkolemFunctions f output }
+{}
+
 /// Lifting: an unsatisfiable expansion shows that a formula is false.
 pub fn expansion_lifts()
     ensures { (f : Dqbf) (rows : List (List Bool)) → IsWellFormed f → IsExpansionUnsatisfiable f rows → IsFalseFormula f }

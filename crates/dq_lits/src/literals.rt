@@ -1,5 +1,5 @@
-ghost use Rattle.std.specs.Prelude.{◌≡◌, ◌<◌, ◌≤◌, ◌^◌, IsTrue, ◌↔◌};
-ghost use Rattle.dq_lits.specs.Literal.{positive, negative, variable_of, is_negative, opposite, same_literal};
+ghost use Rattle.std.specs.Prelude.{◌≡◌, ◌<◌, ◌≤◌, ◌^◌};
+ghost use Rattle.dq_lits.specs.Literal.{positive, negative, variable_of, is_negative, opposite};
 
 use std::marker::Model;
 

@@ -149,7 +149,7 @@ cut_parts place line at bytes front back n m begins some is front_is back_is lon
     ∙ ap (λ k. record { text = front; line = line; at = at } ∷ tokens_from InLine line (at + k) (drop n bytes)) (sym long)
     ∙ ap (λ rest. record { text = front; line = line; at = at } ∷ tokens_from InLine line (at + m) rest) (sym back_is)
 
-token_step : (separator : Bool) (byte : ℕ) (bytes : List ℕ) (tokens : List (List ℕ)) → separator ≡ false →
+pub token_step : (separator : Bool) (byte : ℕ) (bytes : List ℕ) (tokens : List (List ℕ)) → separator ≡ false →
     cond separator tokens (cond (goes_on bytes) (extend_token byte tokens) ((byte ∷ []) ∷ tokens))
     ≡ cond (goes_on bytes) (extend_token byte tokens) ((byte ∷ []) ∷ tokens)
 token_step true byte bytes tokens h = cc

@@ -1,2 +1,4 @@
 mod Cutting
 mod FirstLine
+mod LongestRuns
+mod TokenLines

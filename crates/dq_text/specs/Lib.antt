@@ -2,7 +2,9 @@ pub mod Bytes
 pub mod Cursor
 pub mod Line
 pub mod LinesInside
+pub mod LongestRuns
 pub mod Number
+pub mod NumberedTokens
 pub mod TextLine
 pub mod Token
 pub mod TokensInside

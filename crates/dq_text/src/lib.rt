@@ -9,6 +9,7 @@ pub use tokens::{Token, Tokens};
 
 mod bytes;
 mod cursors;
+pub mod laws;
 mod lines;
 mod numbers;
 #[cfg(test)]

@@ -1,20 +1,17 @@
 -- The canonical text of a formula (DQDIMACS).
-use Rattle.std.specs.Prelude.{ℕ, ◌==◌, pos, neg_ℤ, ℤ, List, [], ◌∷◌, ◌++◌, length, codes, if◌then◌else◌}
+use Rattle.std.specs.Prelude.{ℕ, ◌==◌, List, [], ◌∷◌, ◌++◌, length, codes, if◌then◌else◌}
 use Rattle.std.specs.Fmt.{decimal, signed_decimal}
 use Rattle.std.specs.List.{flat_map}
-use Rattle.dq_lits.specs.Literal.{Literal, positive, negative}
+use Rattle.dq_lits.specs.Literal.{Literal, dimacs_number}
 use Rattle.dq_lits.specs.Formula.{Existential, Dqbf}
 
 -- a number and a space
 abbrev pub number_text : ℕ → List ℕ
 number_text n = decimal n ++ 32 ∷ []
 
-abbrev pub literal_number : Literal → ℤ
-literal_number (positive v) = pos v
-literal_number (negative v) = neg_ℤ (pos v)
-
+-- a literal as DIMACS writes it, and a space
 abbrev pub literal_text : Literal → List ℕ
-literal_text l = signed_decimal (literal_number l) ++ 32 ∷ []
+literal_text l = signed_decimal (dimacs_number l) ++ 32 ∷ []
 
 -- `0` and the end of the line
 abbrev pub line_end : List ℕ

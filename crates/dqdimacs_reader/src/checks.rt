@@ -1,6 +1,6 @@
 //! The checks of a token where it stands, in their order; see `specs/Machine.antt` for the whole table.
 
-ghost use Rattle.std.specs.Prelude.{◌≡◌, ◌<◌, length};
+ghost use Rattle.std.specs.Prelude.{◌≡◌, ◌<◌};
 ghost use Rattle.dqdimacs_reader.specs.Machine.{Reading, wanted, is_p, is_cnf, check_natural, check_limit, check_entry, check_signed, check_declared, check_dependent, check_dependency, check_part_letter, check_clause, check_literal};
 
 use crate::faults::FormulaFault;

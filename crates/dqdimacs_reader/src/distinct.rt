@@ -1,5 +1,4 @@
 ghost use Rattle.std.specs.Prelude.{◌≡◌, [], OnOk, OnErr};
-ghost use Rattle.dq_lits.specs.Literal.{variable_of};
 ghost use Rattle.dqdimacs_reader.specs.Building.{add_literal};
 ghost use Rattle.dqdimacs_reader.specs.LiteralKey.{literal_key};
 

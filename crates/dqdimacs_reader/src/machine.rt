@@ -1,7 +1,7 @@
 //! The reader as a machine over tokens: where the next one stands, and the formula so far.
 
-ghost use Rattle.std.specs.Prelude.{◌≡◌, ◌++◌, ◌∷◌, [], None, OnOk, ℕ, length};
-ghost use Rattle.dqdimacs_reader.specs.Machine.{check, advance, before_header};
+ghost use Rattle.std.specs.Prelude.{◌≡◌};
+ghost use Rattle.dqdimacs_reader.specs.Machine.{check, before_header};
 ghost use Rattle.dqdimacs_reader.specs.MachineState.{state_of, IsReady};
 
 use crate::checks;

@@ -1,9 +1,8 @@
 //! The machine's steps: what a token that passes its checks does.
 
 ghost use Rattle.std.specs.Prelude.{◌≡◌, ◌≤◌, ◌<◌, [], None, OnOk, length};
-ghost use Rattle.dq_lits.specs.Literal.{variable_of};
-ghost use Rattle.dqdimacs_reader.specs.Machine.{check, advance, natural_or, inside_clause, check_limit, check_declared, check_dependent, check_dependency, at_start, in_clause, literal_or_end};
-ghost use Rattle.dqdimacs_reader.specs.MachineState.{state_of, reading_of, literal_on, IsReady, IsReadyAt, IsCounted};
+ghost use Rattle.dqdimacs_reader.specs.Machine.{check, advance, check_declared, check_dependency, at_start, in_clause, literal_or_end};
+ghost use Rattle.dqdimacs_reader.specs.MachineState.{state_of, reading_of, literal_on, IsReady, IsCounted};
 
 use crate::distinct::DistinctLiterals;
 use crate::lexemes::Lexeme;

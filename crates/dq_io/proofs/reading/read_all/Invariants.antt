@@ -8,7 +8,7 @@ invariant-loop-bytes g l = record {
   given : g.F.Files.given l.files ≡ length l.bytes.items;
   within : length l.bytes.items ≤ l.limit;
   told : prepend_known l.bytes.items (g.F.Files.rest l.files) ≡ whole (g.F.Files.held l.fn.files l.name);
-  later : g.F.Files.faults l.fn.files ≤ g.F.Files.faults l.files;
+  unfaulted : g.F.Files.faults l.files ≡ g.F.Files.faults l.fn.files;
   held : g.F.Files.held l.files ≡ g.F.Files.held l.fn.files;
   buffer : length l.buffer.items ≡ 65536;
 }

@@ -13,5 +13,5 @@ loop-written-preserved g c =
     record {
       within = omega (arith, bound, length-drop at bytes);
       taken = taken_more _ _ _ bytes at _ c.loop-written.invariant.taken taken;
-      later = omega (arith, cause.later);
+      unfaulted = rw cause.succeeded c.loop-written.invariant.unfaulted;
     }
