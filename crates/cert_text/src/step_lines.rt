@@ -135,7 +135,7 @@ fn kept_literals(alloc: Global, numbers: &[i64]) -> Result<Clause, Memory>
     requires { All IsLiteralNumber numbers.now }
     ensures { IfOk result (λ clause. clause ≡ map dimacs_literal numbers.now) }
 {
-    let mut clause = Clause::new(alloc);
+    let mut clause = Clause::with_room(alloc, numbers.len())?;
     for n in numbers {
         clause.push(literal(*n))?;
     }
@@ -156,7 +156,7 @@ fn literal(number: i64) -> Lit
 fn kept_hints(alloc: Global, numbers: &[i64]) -> Result<Ids, Memory>
     ensures { IfOk result (λ hints. hints ≡ map nat_abs numbers.now) }
 {
-    let mut hints = Ids::new(alloc);
+    let mut hints = Ids::with_room(alloc, numbers.len())?;
     for n in numbers {
         hints.push(n.unsigned_abs())?;
     }

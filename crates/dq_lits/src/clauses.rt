@@ -1,4 +1,4 @@
-ghost use Rattle.std.specs.Prelude.{◌≡◌, ◌<◌, [], ◌∷◌, ◌++◌, length, OnOk, OnErr, All};
+ghost use Rattle.std.specs.Prelude.{◌≡◌, ◌<◌, [], ◌∷◌, ◌++◌, length, IfOk, OnOk, OnErr, All};
 ghost use Rattle.dq_lits.specs.Literal.{variable_of, clause_true};
 ghost use Rattle.dq_lits.specs.Row.{bit_of};
 
@@ -31,6 +31,14 @@ impl Clause {
         Clause {
             lits: Vec::new(alloc),
         }
+    }
+
+    /// The empty clause, with room for so many literals.
+    pub fn with_room(alloc: Global, literals: usize) -> Result<Clause, Memory>
+        ensures { IfOk result (λ clause. clause ≡ []) }
+    {
+        let lits = Vec::with_capacity(alloc, literals)?;
+        Ok(Clause { lits })
     }
 
     /// Adds a literal at the end.

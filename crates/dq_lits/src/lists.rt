@@ -1,4 +1,4 @@
-ghost use Rattle.std.specs.Prelude.{◌≡◌, [], ◌∷◌, ◌++◌, OnOk, OnErr};
+ghost use Rattle.std.specs.Prelude.{◌≡◌, [], ◌∷◌, ◌++◌, IfOk, OnOk, OnErr};
 
 use crate::memory::Memory;
 use crate::rows::Row;
@@ -27,6 +27,14 @@ impl Ids {
         Ids {
             ids: Vec::new(alloc),
         }
+    }
+
+    /// No ids, with room for so many.
+    pub fn with_room(alloc: Global, count: usize) -> Result<Ids, Memory>
+        ensures { IfOk result (λ list. list ≡ []) }
+    {
+        let ids = Vec::with_capacity(alloc, count)?;
+        Ok(Ids { ids })
     }
 
     /// Adds an id at the end.
