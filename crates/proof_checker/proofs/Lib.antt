@@ -2,8 +2,7 @@ pub mod Negating
 pub mod Witnessing
 pub mod Solving
 pub mod Standing
-pub mod Naming
 pub mod Looking
+pub mod Shortening
 pub mod Bounding
-pub mod Deciding
 pub mod Judging

@@ -1,5 +1,5 @@
 -- The clauses of the negated matrix by their places.
-use Rattle.std.proofs.Common.{◌≡◌, ℕ, zero, suc, ◌+◌, ◌-◌, ◌*◌, ◌/◌, ◌%◌, ◌<◌, ◌≤◌, eqb, List, [], ◌∷◌, ◌++◌, map, drop, length, get_or, slice_get, position, Option, None, Some, Result, Ok, Err, IfOk, IsSome, IfSome, refl, sym, ◌∙◌, ap, subst, arith, length-append}
+use Rattle.std.proofs.Common.{◌≡◌, ◌≢◌, ℕ, zero, suc, ◌+◌, ◌-◌, ◌*◌, ◌/◌, ◌%◌, ◌<◌, ◌≤◌, eqb, List, [], ◌∷◌, ◌++◌, map, drop, length, get_or, slice_get, position, Option, None, Some, Result, Ok, Err, IfOk, IsSome, IfSome, refl, sym, ◌∙◌, ap, subst, arith, add-one, length-append}
 use Rattle.std.specs.List.{AllByRecursion, flat_map}
 use Rattle.std.specs.Option.{option_map, option_and_then}
 use Rattle.std.proofs.lemmas.List.{length-map, map-append, append_assoc, get_or-map, get_or_default}
@@ -9,18 +9,12 @@ use Rattle.dq_lits.specs.Literal.{Literal}
 use Rattle.dq_formula.proofs.Places.{flip}
 use Rattle.circuit_plain.specs.Netlist.{Netlist, gate_at}
 use Rattle.circuit_plain.specs.declared.circuits.Gate.{Gate}
-use Rattle.cert_text.specs.NegatedMatrix.{opposite_of, gate_clauses, literal_under, falsity_clauses, all_falsity_clauses, some_clause_false, negated_clauses}
+use Rattle.cert_text.specs.NegatedMatrix.{opposite_of, gate_clauses, literal_under, falsity_clauses, all_falsity_clauses, some_clause_false, negated_clauses, without_constants}
 use Rattle.rup_core.specs.Reading.{literal_at}
 use Rattle.skolem_checker.specs.Checks.{Candidate}
-use Rattle.refutation_checker.specs.Renaming.{renamed_step}
-use Rattle.refutation_checker.proofs.Numbering.{drop_at}
-use Rattle.proof_checker.specs.CircuitProof.{circuit_literal}
-use Rattle.proof_checker.specs.ClauseLiterals.{clause_literals, falsity_clause}
-use Rattle.proof_checker.specs.Lines.{renamed_line, clause_of_id}
-
-pub if_ok : {A E : Type 0} (r : Result A E) (P Q : A → Type 0) → ((x : A) → P x → Q x) → IfOk r P → IfOk r Q
-if_ok (Ok x) P Q f h = f x h
-if_ok (Err e) P Q f h = tt
+use Rattle.std.proofs.Math.Seq.{drop-cons}
+use Rattle.proof_checker.specs.CircuitProof.{circuit_literal, negated_candidate}
+use Rattle.proof_checker.specs.ClauseLiterals.{clause_literals, falsity_clause, formula_clauses}
 
 append_left : {X : Type 0} (xs ys : List X) (i : ℕ) → i < length xs → slice_get (xs ++ ys) i ≡ slice_get xs i
 append_left [] ys i below = absurd (omega (arith, below))
@@ -122,11 +116,6 @@ number_below bad clauses literals i o are below is =
     (subst (AllByRecursion (λ (x : ℕ × Literal). x.0 < bad + length clauses)) (sym are) (numbers_below bad clauses)) i o below)
 
 -- the clauses behind those of the gates
-abbrev pub formula_clauses : Candidate → List (List ℕ)
-formula_clauses c =
-    all_falsity_clauses (circuit_literal c.circuit) (c.circuit.netlist.max_var + 1) c.formula.matrix
-    ++ some_clause_false c.circuit.netlist c.formula.matrix ∷ []
-
 module _ (c : Candidate) (literals : List (ℕ × Literal)) (are : literals ≡ clause_literals (c.circuit.netlist.max_var + 1) c.formula.matrix) (i : ℕ) where
   abbrev outputs : ℕ → ℕ
   outputs = circuit_literal c.circuit
@@ -163,6 +152,20 @@ module _ (c : Candidate) (literals : List (ℕ × Literal)) (are : literals ≡ 
       sym (slice_get_past (formula_clauses c) i
       (omega (arith, long, behind, length-append falsity (some_clause_false c.circuit.netlist c.formula.matrix ∷ []))))
 
+pub gates_first : (c : Candidate) (i : ℕ) → i / 3 < length c.circuit.netlist.gates
+    → slice_get (negated_clauses c.formula c.circuit.netlist (circuit_literal c.circuit)) i ≡ slice_get (flat_map gate_clauses c.circuit.netlist.gates) i
+gates_first c i below =
+    let long = gates_length c.circuit.netlist.gates in
+    append_left (flat_map gate_clauses c.circuit.netlist.gates) (formula_clauses c) i (omega (arith, long, below))
+
+-- the clauses have the ids from 1 on
+pub by_id : (c : Candidate) (id i : ℕ) → id ≢ 0 → i ≡ id - 1
+    → negated_candidate c id ≡ option_and_then without_constants (slice_get (negated_clauses c.formula c.circuit.netlist (circuit_literal c.circuit)) i)
+by_id c zero i some is = absurd (some refl)
+by_id c (suc n) i some is =
+    let same : n ≡ i = omega (arith, is) in
+    ap (λ k. option_and_then without_constants (slice_get (negated_clauses c.formula c.circuit.netlist (circuit_literal c.circuit)) k)) same
+
 pub behind_gates : (c : Candidate) (i n : ℕ) → n ≡ length c.circuit.netlist.gates → n ≤ i / 3
     → slice_get (negated_clauses c.formula c.circuit.netlist (circuit_literal c.circuit)) i ≡ slice_get (formula_clauses c) (i - 3 * n)
 behind_gates c i n is behind =
@@ -172,6 +175,9 @@ behind_gates c i n is behind =
     ap (slice_get (gates ++ formula_clauses c)) at ∙ append_right gates (formula_clauses c) (i - 3 * n)
 
 -- loops
+one_dropped : {X : Type 0} (xs : List X) (i : ℕ) (d : X) → i < length xs → drop i xs ≡ get_or xs i d ∷ drop (i + 1) xs
+one_dropped xs i d below = rw (add-one) (drop-cons xs i d below)
+
 pub next_clause : (first j : ℕ) (matrix : List (List Literal)) (all new goal : List (ℕ × Literal)) (clause : List Literal) → j < length matrix
     → clause ≡ get_or matrix j [] → all ++ clause_literals (first + j) (drop j matrix) ≡ goal → new ≡ all ++ map (λ l. (first + j, l)) clause
     → new ++ clause_literals (first + (j + 1)) (drop (j + 1) matrix) ≡ goal
@@ -181,38 +187,10 @@ next_clause first j matrix all new goal clause below is before added =
     ap (λ ls. ls ++ clause_literals (first + (j + 1)) (drop (j + 1) matrix)) (added ∙ ap (λ ls. all ++ map (λ l. (first + j, l)) ls) is)
     ∙ ap (λ n. (all ++ own) ++ clause_literals n (drop (j + 1) matrix)) next
     ∙ append_assoc all own (clause_literals (first + j + 1) (drop (j + 1) matrix))
-    ∙ sym (ap (λ cs. all ++ clause_literals (first + j) cs) (drop_at matrix j [] below))
+    ∙ sym (ap (λ cs. all ++ clause_literals (first + j) cs) (one_dropped matrix j [] below))
     ∙ before
 
--- clauses by their ids
-pub clause_found : (ids : List ℕ) (clauses : List (Option (List Literal))) (id place : ℕ) (entry : Option (List Literal)) (clause : List Literal)
-    → Some place ≡ position (eqb id) ids → place < length clauses → get_or clauses place entry ≡ Some clause
-    → clause_of_id ids clauses id ≡ Some clause
-clause_found ids clauses id place entry clause at below is =
-    ap (option_and_then (λ p. get_or clauses p None)) (sym (at ∙ ap (λ p. position p ids) (flip id)))
-    ∙ get_or_default clauses place None entry below ∙ is
-
-there : (clause : List Literal) (i : ℕ) → IsSome (slice_get clause i) → i < length clause
-there [] i some = cc
-there (l ∷ clause) zero some = omega arith
-there (l ∷ clause) (suc i) some = let h = there clause i some in omega (arith, h)
-
-pub literal_there : (o : Option (List Literal)) (clause lits : List Literal) (i : ℕ) → o ≡ Some clause → lits ≡ clause → IsSome (literal_at o i) → i < length lits
-literal_there o clause lits i is lits_is some =
-    let h = there clause i (subst (λ x. IsSome (literal_at x i)) is some) in
-    omega (arith, h, ap length lits_is)
-
-pub literal_found : (o : Option (List Literal)) (clause lits : List Literal) (i : ℕ) (l : Literal) → o ≡ Some clause → lits ≡ clause → i < length lits
-    → l ≡ get_or lits i l → literal_at o i ≡ Some l
-literal_found o clause lits i l is lits_is below l_is =
-    ap (λ x. literal_at x i) is ∙ ap (λ ls. slice_get ls i) (sym lits_is) ∙ slice_get-get_or lits i l below ∙ ap Some (sym l_is)
-
-pub line_found : (names : List ℕ) (steps : List ProofStep) (clauses : List (List Literal)) (k : ℕ) (clause lits : List Literal)
-    → k < length (map (renamed_step names) steps) → clauses ≡ map (renamed_line names) steps → clause ≡ get_or clauses k clause → lits ≡ clause
-    → IfSome (slice_get (map (renamed_step names) steps) k) (λ s. lits ≡ s.literals)
-line_found names steps clauses k clause lits lt are is lits_is =
-    let blank : ProofStep = record { id = 0; literals = []; hints = [] } in
-    let P : Option ProofStep → Type 0 = λ o. IfSome o (λ s. lits ≡ s.literals) in
-    let below : k < length steps = omega (arith, lt, length-map steps (renamed_step names)) in
-    subst P (sym (slice_get-map (renamed_step names) steps k ∙ ap (option_map (renamed_step names)) (slice_get-get_or steps k blank below)))
-    (lits_is ∙ is ∙ ap (λ cs. get_or cs k clause) are ∙ get_or-map (renamed_line names) steps k blank clause below)
+pub place_below : (clause : List Literal) (i : ℕ) → IsSome (slice_get clause i) → i < length clause
+place_below [] i some = cc
+place_below (l ∷ clause) zero some = omega arith
+place_below (l ∷ clause) (suc i) some = let h = place_below clause i some in omega (arith, h)

@@ -2,3 +2,4 @@ pub mod Answer
 pub mod CircuitProof
 pub mod ClauseLiterals
 pub mod Lines
+pub mod ShortClause

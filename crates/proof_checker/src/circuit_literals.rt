@@ -51,7 +51,8 @@ fn places(alloc: Global, variables: &[u64]) -> Result<IndexSet<u64>, Memory>
 /// The opposite of a circuit's literal.
 pub(crate) fn opposite_of(literal: u64) -> u64
     requires { literal ≤ 9223372036854775807 }
-    ensures { result ≡ opposite_of literal }
+    ensures value { result ≡ opposite_of literal }
+    ensures in_range { result ≤ 9223372036854775807 }
 {
     if literal % 2 == 1 {
         literal - 1

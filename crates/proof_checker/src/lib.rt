@@ -2,8 +2,8 @@
 //! any number of universals.
 //!
 //! The lines refute the negated matrix, the clauses which say that the gates have their values and some clause of the
-//! formula is false. Of these only the ones that the lines hint are made, and variables are numbered as they occur, so
-//! that memory follows the lines that are there, whatever numbers they name.
+//! formula is false. Its clauses are read off the circuit and the formula as the lines hint them, and variables are
+//! numbered as they occur, so that memory follows the lines that are there, whatever numbers they name.
 #![tactic(auto)]
 
 pub use checks::by_proof;
@@ -11,10 +11,7 @@ pub use faults::ProofFault;
 
 mod checks;
 mod circuit_literals;
-mod constants;
 mod faults;
-mod hinted;
 pub mod laws;
-mod lines;
-mod names;
 mod negated;
+mod short_clauses;

@@ -1,23 +1,26 @@
 //! The clauses of the negated matrix, one at a time.
 
-ghost use Rattle.std.specs.Prelude.{◌≡◌, ◌+◌, ◌-◌, ◌*◌, ◌/◌, ◌<◌, ◌≤◌, ◌++◌, ◌∷◌, [], length, map, All, Some, IfOk, OnOk};
-ghost use Rattle.std.specs.List.{flat_map, range_with_len, slice_get};
-ghost use Rattle.std.specs.Option.{option_map};
+ghost use Rattle.std.specs.Prelude.{◌≡◌, ◌+◌, ◌-◌, ◌*◌, ◌/◌, ◌<◌, ◌≤◌, ◌++◌, length, map, Some, IfOk, OnOk};
+ghost use Rattle.std.specs.List.{flat_map, slice_get};
+ghost use Rattle.std.specs.Option.{option_map, option_and_then};
 ghost use Rattle.aiger_text.specs.Lines.{max_count};
-ghost use Rattle.cert_text.specs.NegatedMatrix.{gate_clauses, all_falsity_clauses, some_clause_false, negated_clauses};
-ghost use Rattle.proof_checker.specs.CircuitProof.{circuit_literal, negated_candidate};
-ghost use Rattle.proof_checker.specs.ClauseLiterals.{clause_literals};
+ghost use Rattle.cert_text.specs.NegatedMatrix.{gate_clauses, without_constants};
+ghost use Rattle.skolem_checker.specs.Checks.{Candidate};
+ghost use Rattle.proof_checker.specs.CircuitProof.{negated_candidate};
+ghost use Rattle.proof_checker.specs.ClauseLiterals.{clause_literals, formula_clauses};
+ghost use Rattle.proof_checker.specs.ShortClause.{short_literals, last_literals, literals_of};
 
 use crate::circuit_literals::{CircuitLiterals, opposite_of};
-use crate::constants::without_constants;
+use crate::short_clauses::{ShortClause, short_of_three, short_of_two};
 use circuit_plain::Circuit;
 use dq_formula::Formula;
-use dq_lits::{Clause, Lit, Memory};
+use dq_lits::{Lit, Memory};
+use rup_core::Base;
 use skolem_checker::Bench;
 use std::alloc::Global;
 use std::marker::Model;
 
-/// The negated matrix of a formula under a circuit. It takes memory as the formula does.
+/// The negated matrix of a formula under a circuit. It takes memory as the formula does; a clause takes none.
 #[derive(Drop)]
 pub(crate) struct NegatedMatrix<'b> {
     formula: &'b Formula,
@@ -35,6 +38,17 @@ impl<'b> Model for NegatedMatrix<'b> {
     ghost view = { λ n. record { formula = n.formula.now; circuit = n.circuit } };
 
     ghost invariant = { λ n. AreClauseLiterals n.formula.now n.circuit.netlist n.literals.items };
+}
+
+/// A clause of the negated matrix.
+#[derive(Clone, Copy, Debug)]
+pub(crate) enum NegatedClause {
+    /// There is none with the id, or a constant makes it true.
+    Missing,
+    /// It belongs to a gate, or to a literal of the formula.
+    Short(ShortClause),
+    /// It says that some clause of the formula is false.
+    Last,
 }
 
 // The literals of a formula's clauses, with the numbers from `first` on for the clauses.
@@ -58,50 +72,28 @@ fn push_literals(all: &mut Vec<(u64, Lit)>, bad: u64, clause: &[Lit]) -> Result<
     Ok(())
 }
 
-fn two(alloc: Global, k: u64, l: u64) -> Result<Vec<u64>, Memory>
-    ensures { IfOk result (λ all. all.items ≡ k ∷ l ∷ []) }
-{
-    let mut all = Vec::new(alloc);
-    all.push(k)?;
-    all.push(l)?;
-    Ok(all)
-}
-
-fn three(alloc: Global, j: u64, k: u64, l: u64) -> Result<Vec<u64>, Memory>
-    ensures { IfOk result (λ all. all.items ≡ j ∷ k ∷ l ∷ []) }
-{
-    let mut all = Vec::new(alloc);
-    all.push(j)?;
-    all.push(k)?;
-    all.push(l)?;
-    Ok(all)
-}
-
-// One of the clauses of the gates, of which each has three.
-fn gate_clause(alloc: Global, circuit: &Circuit, i: u64) -> Result<Vec<u64>, Memory>
+// One of the clauses of the gates, of which each has three; none where a constant makes it true.
+fn gate_clause(circuit: &Circuit, i: u64) -> Option<ShortClause>
     requires { i / 3 < length circuit.now.gates }
-    ensures { IfOk result (λ clause. slice_get (flat_map gate_clauses circuit.now.gates) i ≡ Some clause.items) }
+    ensures { option_map short_literals result ≡ option_and_then without_constants (slice_get (flat_map gate_clauses circuit.now.gates) i) }
 {
     let _ = circuit.max_var();
     let (variable, left, right) = circuit.gate((i / 3) as usize);
     match i % 3 {
-        0 => two(alloc, opposite_of(variable), left),
-        1 => two(alloc, opposite_of(variable), right),
-        2 => three(alloc, variable, opposite_of(left), opposite_of(right)),
+        0 => short_of_two(opposite_of(variable), left),
+        1 => short_of_two(opposite_of(variable), right),
+        2 => short_of_three(variable, opposite_of(left), opposite_of(right)),
         _ => unreachable!(),
     }
 }
 
-// The clause that some clause of the formula is false.
-fn some_clause_false(alloc: Global, first: u64, clauses: usize) -> Result<Vec<u64>, Memory>
-    requires { first + clauses ≤ 4 * max_count }
-    ensures { IfOk result (λ all. all.items ≡ map (λ bad. 2 * bad) (range_with_len first clauses)) }
+fn short(clause: Option<ShortClause>) -> NegatedClause
+    ensures { (c : Candidate) → literals_of c result ≡ option_map short_literals clause }
 {
-    let mut all = Vec::new(alloc);
-    for j in 0..clauses {
-        all.push(2 * (first + j as u64))?;
+    match clause {
+        Some(clause) => NegatedClause::Short(clause),
+        None => NegatedClause::Missing,
     }
-    Ok(all)
 }
 
 impl<'b> NegatedMatrix<'b> {
@@ -119,52 +111,65 @@ impl<'b> NegatedMatrix<'b> {
         })
     }
 
-    // The clause at a place behind those of the gates, if there is one.
-    fn formula_clause(&self, alloc: Global, i: u64) -> Result<Option<Vec<u64>>, Memory>
-        ensures { IfOk result (λ clause. option_map (λ c. c.items) clause
-            ≡ slice_get (all_falsity_clauses (circuit_literal self.now.circuit) (self.now.circuit.netlist.max_var + 1) self.now.formula.matrix
-            ++ some_clause_false self.now.circuit.netlist self.now.formula.matrix ∷ []) i) }
+    // The clause at a place behind those of the gates.
+    fn formula_clause(&self, i: u64) -> NegatedClause
+        ensures { literals_of self.now result ≡ option_and_then without_constants (slice_get (formula_clauses self.now) i) }
     {
-        let circuit = self.circuit.circuit();
         let literals: &[(u64, Lit)] = &self.literals;
-        let clauses = self.formula.clauses();
+        let _ = self.formula.clauses();
         if i < literals.len() as u64 {
             let entry = literals[i as usize];
             let literal = self.circuit.literal_under(entry.1);
-            return Ok(Some(two(alloc, opposite_of(2 * entry.0), opposite_of(literal))?));
+            return short(short_of_two(opposite_of(2 * entry.0), opposite_of(literal)));
         }
         if i == literals.len() as u64 {
-            let first = circuit.max_var() + 1;
-            return Ok(Some(some_clause_false(alloc, first, clauses)?));
+            return NegatedClause::Last;
         }
-        Ok(None)
+        NegatedClause::Missing
     }
 
-    // The literals of the clause at a place, if there is one.
-    fn literals(&self, alloc: Global, i: u64) -> Result<Option<Vec<u64>>, Memory>
-        ensures { IfOk result (λ clause. option_map (λ c. c.items) clause
-            ≡ slice_get (negated_clauses self.now.formula self.now.circuit.netlist (circuit_literal self.now.circuit)) i) }
+    // The clause with an id.
+    fn clause(&self, id: u64) -> NegatedClause
+        ensures { literals_of self.now result ≡ negated_candidate self.now id }
     {
+        if id == 0 {
+            return NegatedClause::Missing;
+        }
+        let i = id - 1;
         let circuit = self.circuit.circuit();
         let gates = circuit.gates() as u64;
         if i / 3 < gates {
-            return Ok(Some(gate_clause(alloc, circuit, i)?));
+            return short(gate_clause(circuit, i));
         }
-        self.formula_clause(alloc, i - 3 * gates)
+        self.formula_clause(i - 3 * gates)
     }
 
-    /// The clause with an id, if there is one.
-    pub(crate) fn clause(&self, alloc: Global, id: u64) -> Result<Option<Clause>, Memory>
-        ensures { IfOk result (λ clause. clause ≡ negated_candidate self.now id) }
+    // The literal at a place of the last clause.
+    fn last_literal(&self, i: usize) -> Lit
+        requires { i < length self.now.formula.matrix }
+        ensures { slice_get (last_literals self.now) i ≡ Some result }
     {
-        let _ = self.circuit.circuit().max_var();
         let _ = self.formula.clauses();
-        if id == 0 {
-            return Ok(None);
+        Lit::pos(self.circuit.circuit().max_var() + 1 + i as u64)
+    }
+}
+
+impl<'b> Base for NegatedMatrix<'b> {
+    ghost clauses = { λ n. negated_candidate n };
+
+    fn size(&self, id: u64) -> Option<usize> {
+        match self.clause(id) {
+            NegatedClause::Missing => None,
+            NegatedClause::Short(clause) => Some(clause.len()),
+            NegatedClause::Last => Some(self.formula.clauses()),
         }
-        match self.literals(alloc, id - 1)? {
-            Some(literals) => without_constants(alloc, &literals),
-            None => Ok(None),
+    }
+
+    fn lit(&self, id: u64, i: usize) -> Lit {
+        match self.clause(id) {
+            NegatedClause::Missing => unreachable!(),
+            NegatedClause::Short(clause) => clause.literal(i),
+            NegatedClause::Last => self.last_literal(i),
         }
     }
 }

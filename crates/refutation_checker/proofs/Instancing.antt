@@ -10,7 +10,7 @@ use Rattle.dq_lits.specs.Literal.{Literal, positive, negative, variable_of, on_v
 use Rattle.rup_core.specs.Reading.{literal_at}
 use Rattle.refutation_checker.specs.Pairs.{pair_of, existential_part}
 use Rattle.refutation_checker.specs.PairTable.{Numbered, row_at, instance_in, instance_literals}
-use Rattle.refutation_checker.specs.Renaming.{place_of, renamed_literal}
+use Rattle.sparse_proofs.specs.Renaming.{place_of, renamed_literal}
 use Rattle.refutation_checker.proofs.Pairing.{instance_is, no_instance}
 
 pub renamed_on : (pairs : List ℕ) (number : ℕ) (l : Literal) → renamed_literal pairs (on_variable number l) ≡ on_variable (place_of pairs number) l

@@ -20,8 +20,9 @@ use Rattle.rup_core.specs.Range.{StandsWithin, LineStandsWithin}
 use Rattle.refutation_checker.specs.Lines.{placed_steps}
 use Rattle.refutation_checker.specs.PairTable.{Numbered, numbered_in, with_numbers}
 use Rattle.refutation_checker.specs.Occurring.{occurring_pairs}
-use Rattle.refutation_checker.specs.Refutation.{refutation_fault}
-use Rattle.refutation_checker.specs.Renaming.{place_of, renamed_literal, renamed_clauses, with_pairs}
+use Rattle.refutation_checker.specs.Refutation.{normal_step, refutation_fault}
+use Rattle.sparse_proofs.specs.Renaming.{place_of, renamed_literal, renamed_clauses, with_variables}
+use Rattle.sparse_proofs.proofs.Within.{all_within}
 use Rattle.refutation_checker.proofs.Knowing.{placed_fault}
 
 -- no instance has the id of a line or a later one
@@ -59,47 +60,9 @@ numbered_from n is_variable steps first id is all = subst (λ i. AreNumbered i (
 pub few_lines : (n : Numbered) (steps : List ProofStep) → length (placed_steps n steps) ≡ length steps
 few_lines n steps = length-map (map _ steps) _ ∙ length-map steps _
 
--- every place is that of a pair, or one behind
-on_variable_is : (v : ℕ) (l : Literal) → variable_of (on_variable v l) ≡ v
-on_variable_is v (positive w) = refl
-on_variable_is v (negative w) = refl
-
-place_within : (pairs : List ℕ) (l : Literal) → variable_of (renamed_literal pairs l) ≤ length pairs + 1
-place_within pairs l =
-    let is = on_variable_is (place_of pairs (variable_of l)) l in
-    let le : position_or_len (λ pair. pair == variable_of l) pairs ≤ length pairs = prefix_len-le-length (λ pair. not (pair == variable_of l)) pairs in
-    omega (arith, is, le)
-
-literals_within : (pairs : List ℕ) (marks : ℕ) → marks ≡ length pairs + 1 → (literals : List Literal)
-    → AllByRecursion (λ l. variable_of l ≤ marks) (map (renamed_literal pairs) literals)
-literals_within pairs marks is [] = tt
-literals_within pairs marks is (l ∷ literals) = (let le = place_within pairs l in omega (arith, le, is), literals_within pairs marks is literals)
-
-pub renamed_within : (pairs : List ℕ) (marks : ℕ) → marks ≡ length pairs + 1 → (literals : List Literal) → StandsWithin marks (map (renamed_literal pairs) literals)
-renamed_within pairs marks is literals =
-    All-from_recursion (λ l. variable_of l ≤ marks) (map (renamed_literal pairs) literals) (literals_within pairs marks is literals)
-
-clause_within : (pairs : List ℕ) (marks : ℕ) → marks ≡ length pairs + 1 → (clause : Option (List Literal))
-    → IfSome (option_map (map (renamed_literal pairs)) clause) (StandsWithin marks)
-clause_within pairs marks is None = tt
-clause_within pairs marks is (Some clause) = renamed_within pairs marks is clause
-
-lines_within : (n : Numbered) (marks : ℕ) → marks ≡ length n.pairs + 1 → (live : LiveClauses) (steps : List ProofStep)
-    → AllByRecursion (λ step. LineStandsWithin marks (renamed_clauses n.pairs live) step.literals step.hints) (placed_steps n steps)
-lines_within n marks is live [] = tt
-lines_within n marks is live (step ∷ steps) = (
-  record {
-    line = renamed_within n.pairs marks is _;
-    hinted = λ k d below. clause_within n.pairs marks is (live (get_or step.hints k d));
-  },
-  lines_within n marks is live steps,
-)
-
-pub all_within : (n : Numbered) (marks : ℕ) → marks ≡ length n.pairs + 1 → (steps : List ProofStep)
+pub placed_within : (n : Numbered) (marks : ℕ) → marks ≡ length n.pairs + 1 → (steps : List ProofStep)
     → All (λ step. LineStandsWithin marks (renamed_clauses n.pairs (instance_at n.formula n.rows)) step.literals step.hints) (placed_steps n steps)
-all_within n marks is steps =
-    All-from_recursion (λ step. LineStandsWithin marks (renamed_clauses n.pairs (instance_at n.formula n.rows)) step.literals step.hints) (placed_steps n steps)
-    (lines_within n marks is (instance_at n.formula n.rows) steps)
+placed_within n marks is steps = all_within n.pairs marks is (instance_at n.formula n.rows) (map (normal_step n.formula n.rows) steps)
 
 -- the literals of the lines stand on pairs
 pub steps_on_pairs : (is_variable : ℕ → Bool) (steps : List ProofStep) (first : ℕ) → AreSteps is_variable first steps
@@ -114,20 +77,20 @@ steps_on_pairs is_variable steps first all =
 -- the table that a refutation is judged by
 pub table_is : (f : Dqbf) (d : Dqr) (start new : Numbered) (rows : List (List Bool)) (steps : List ProofStep) → rows ≡ d.rows → steps ≡ d.steps
     → start ≡ numbered_in f rows [] → new ≡ with_numbers start (occurring_pairs start.formula start.rows steps)
-    → new ≡ numbered_in f d.rows (with_pairs [] (occurring_pairs f d.rows d.steps))
+    → new ≡ numbered_in f d.rows (with_variables [] (occurring_pairs f d.rows d.steps))
 table_is f d start new rows steps rows_is steps_is start_is new_is =
     new_is ∙ ap (λ (t : Numbered). with_numbers t (occurring_pairs t.formula t.rows steps)) start_is
-    ∙ ap (λ rs. numbered_in f rs (with_pairs [] (occurring_pairs f rs steps))) rows_is
-    ∙ ap (λ ss. numbered_in f d.rows (with_pairs [] (occurring_pairs f d.rows ss))) steps_is
+    ∙ ap (λ rs. numbered_in f rs (with_variables [] (occurring_pairs f rs steps))) rows_is
+    ∙ ap (λ ss. numbered_in f d.rows (with_variables [] (occurring_pairs f d.rows ss))) steps_is
 
 pub judged : (f : Dqbf) (d : Dqr) (new : Numbered) (steps : List ProofStep) (fault : Option ProofFault) → steps ≡ d.steps
-    → new ≡ numbered_in f d.rows (with_pairs [] (occurring_pairs f d.rows d.steps))
+    → new ≡ numbered_in f d.rows (with_variables [] (occurring_pairs f d.rows d.steps))
     → fault ≡ proof_fault (renamed_clauses new.pairs (instance_at new.formula new.rows)) (placed_steps new steps) → fault ≡ refutation_fault f d
 judged f d new steps fault steps_is new_is fault_is =
     fault_is ∙ ap (λ (t : Numbered). proof_fault (renamed_clauses t.pairs (instance_at t.formula t.rows)) (placed_steps t steps)) new_is
-    ∙ ap (λ ss. proof_fault (renamed_clauses (with_pairs [] (occurring_pairs f d.rows d.steps)) (instance_at f d.rows))
-    (placed_steps (numbered_in f d.rows (with_pairs [] (occurring_pairs f d.rows d.steps))) ss)) steps_is
-    ∙ placed_fault f d.rows d.steps (with_pairs [] (occurring_pairs f d.rows d.steps)) refl
+    ∙ ap (λ ss. proof_fault (renamed_clauses (with_variables [] (occurring_pairs f d.rows d.steps)) (instance_at f d.rows))
+    (placed_steps (numbered_in f d.rows (with_variables [] (occurring_pairs f d.rows d.steps))) ss)) steps_is
+    ∙ placed_fault f d.rows d.steps (with_variables [] (occurring_pairs f d.rows d.steps)) refl
 
 pub on_pairs : (f : Dqbf) (d : Dqr) (t : Numbered) (steps : List ProofStep) (first : ℕ) → t.formula ≡ f → t.rows ≡ d.rows → steps ≡ d.steps
     → AreSteps (is_pair_number f (length d.rows)) first d.steps

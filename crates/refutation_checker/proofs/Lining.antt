@@ -9,7 +9,7 @@ use Rattle.refutation_checker.specs.Lines.{line_clause, line_clauses, placed_ste
 use Rattle.refutation_checker.specs.Pairs.{pair_of}
 use Rattle.refutation_checker.specs.PairTable.{Numbered, row_at}
 use Rattle.refutation_checker.specs.Refutation.{normal_number, normal_literal, normal_step}
-use Rattle.refutation_checker.specs.Renaming.{place_of, renamed_literal, renamed_step}
+use Rattle.sparse_proofs.specs.Renaming.{place_of, renamed_literal, renamed_step}
 use Rattle.refutation_checker.proofs.Instancing.{renamed_on}
 
 abbrev placed : Numbered → ProofStep → ProofStep

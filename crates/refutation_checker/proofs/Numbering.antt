@@ -13,8 +13,9 @@ use Rattle.refutation_checker.specs.Refutation.{normal_number}
 use Rattle.dq_lits.specs.Literal.{Literal, positive, negative, variable_of, on_variable}
 use Rattle.refutation_checker.specs.Pairs.{pair_of, existential_part}
 use Rattle.refutation_checker.specs.PairTable.{Numbered, row_at, with_numbers, instance_literals, part_pairs}
-use Rattle.refutation_checker.specs.Occurring.{clause_variables, instance_pairs, line_pairs, step_pairs}
-use Rattle.refutation_checker.specs.Renaming.{with_pair}
+use Rattle.sparse_proofs.specs.Occurring.{clause_variables}
+use Rattle.refutation_checker.specs.Occurring.{instance_pairs, line_pairs, step_pairs}
+use Rattle.sparse_proofs.specs.Renaming.{with_variable}
 
 pub drop_at : {X : Type 0} (xs : List X) (i : ℕ) (d : X) → i < length xs → drop i xs ≡ get_or xs i d ∷ drop (i + 1) xs
 drop_at xs i d lt = rw (add-one) (drop-cons xs i d lt)
@@ -24,9 +25,9 @@ element_is xs i x d lt is = is ∙ get_or_default xs i x d lt
 
 -- one pair for each element
 pub one_more : {X : Type 0} (g : X → ℕ) (n other goal : Numbered) (xs : List X) (i : ℕ) (x : X) (number : ℕ) → i < length xs → x ≡ get_or xs i x → number ≡ g x
-    → with_numbers n (map g (drop i xs)) ≡ goal → other ≡ record n { pairs = with_pair n.pairs number } → with_numbers other (map g (drop (i + 1) xs)) ≡ goal
+    → with_numbers n (map g (drop i xs)) ≡ goal → other ≡ record n { pairs = with_variable n.pairs number } → with_numbers other (map g (drop (i + 1) xs)) ≡ goal
 one_more g n other goal xs i x number lt x_is number_is before is =
-    ap (λ (m : Numbered). with_numbers m (map g (drop (i + 1) xs))) (is ∙ ap (λ v. record n { pairs = with_pair n.pairs v }) (number_is ∙ ap g x_is))
+    ap (λ (m : Numbered). with_numbers m (map g (drop (i + 1) xs))) (is ∙ ap (λ v. record n { pairs = with_variable n.pairs v }) (number_is ∙ ap g x_is))
     ∙ sym (ap (λ ys. with_numbers n (map g ys)) (drop_at xs i x lt)) ∙ before
 
 -- some pairs for each element
@@ -34,7 +35,7 @@ pub some_more : {X : Type 0} (g : X → List ℕ) (n other goal : Numbered) (xs 
     → with_numbers n (flat_map g (drop i xs)) ≡ goal → other ≡ with_numbers n (g x) → with_numbers other (flat_map g (drop (i + 1) xs)) ≡ goal
 some_more g n other goal xs i x lt x_is before is =
     ap (λ (m : Numbered). with_numbers m (flat_map g (drop (i + 1) xs))) (is ∙ ap (λ y. with_numbers n (g y)) x_is)
-    ∙ ap (λ ps. record n { pairs = ps }) (sym (fold-append with_pair n.pairs (g (get_or xs i x)) (flat_map g (drop (i + 1) xs))))
+    ∙ ap (λ ps. record n { pairs = ps }) (sym (fold-append with_variable n.pairs (g (get_or xs i x)) (flat_map g (drop (i + 1) xs))))
     ∙ sym (ap (λ ys. with_numbers n (flat_map g ys)) (drop_at xs i x lt)) ∙ before
 
 -- formula and rows stay
@@ -123,7 +124,7 @@ pub step_added : (n m hinted new : Numbered) (step : ProofStep) (hints : List �
 step_added n m hinted new step hints literals same rows_same hints_is literals_is hinted_is new_is =
     new_is
     ∙ ap (λ (t : Numbered). with_numbers t (line_pairs t.formula t.rows literals)) hinted_is
-    ∙ ap (λ ps. record n { pairs = ps }) (sym (fold-append with_pair n.pairs (flat_map (instance_pairs n.formula n.rows) hints) (line_pairs n.formula n.rows literals)))
+    ∙ ap (λ ps. record n { pairs = ps }) (sym (fold-append with_variable n.pairs (flat_map (instance_pairs n.formula n.rows) hints) (line_pairs n.formula n.rows literals)))
     ∙ ap (λ hs. with_numbers n (flat_map (instance_pairs n.formula n.rows) hs ++ line_pairs n.formula n.rows literals)) hints_is
     ∙ ap (λ ls. with_numbers n (flat_map (instance_pairs n.formula n.rows) step.hints ++ line_pairs n.formula n.rows ls)) literals_is
     ∙ ap (λ (f : Dqbf). with_numbers n (step_pairs f n.rows step)) same

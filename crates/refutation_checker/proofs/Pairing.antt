@@ -22,7 +22,7 @@ use Rattle.cert_text.specs.Pairs.{is_pair_number}
 use Rattle.cert_text.proofs.PairNumbers.{existential_in_range}
 use Rattle.refutation_checker.specs.Refutation.{normal_of, normal_number}
 use Rattle.refutation_checker.specs.Pairs.{first_agreeing, first_row, pair_of, existential_part, AreFirstRows}
-use Rattle.refutation_checker.specs.Renaming.{place_of}
+use Rattle.sparse_proofs.specs.Renaming.{place_of}
 use Rattle.refutation_checker.specs.PairTable.{instance_in, instance_literals}
 
 -- a first row is one of the rows, or behind the last
@@ -39,15 +39,6 @@ pair_small f first v variables lawful few declared is =
     let y = existential_in_range f v lawful declared in
     let product : first * variables ≤ first * 1000000 = mul-le-mul_left first (omega (arith, is, lawful.few_variables)) in
     omega (arith, product, few, y.1, lawful.few_variables)
-
--- numbers below a bound are no more than it
-pub few_pairs : (pairs : List ℕ) → IsDistinct eqb pairs → All (λ pair. pair < 2 ^ 61) pairs → length pairs ≤ 2 ^ 61
-few_pairs pairs distinct small =
-    length-le_from_distinct_below pairs (2 ^ 61) distinct (λ q among.
-    All-contains (λ pair. pair < 2 ^ 61) pairs q small (has-contains' q among))
-  where
-    has-contains' : (q : ℕ) → list_any (eqb q) pairs ≡ true → Contains pairs q
-    has-contains' q among = contains-has pairs q (sym (ap (λ p. list_any p pairs) (flip q)) ∙ among)
 
 -- what is kept of first rows
 pub found_rows : (f : Dqbf) (rows : List (List Bool)) (y : ℕ) (entries : List (ℕ × List ℕ)) (firsts : List ℕ) → AreFirstRows f rows entries
@@ -125,13 +116,6 @@ pub named_by : (f : Dqbf) (rows : List (List Bool)) (number variables : ℕ) →
     → normal_number f rows number ≡ pair_of f rows (get_or rows ((number - 1) / variables) []) ((number - 1) % variables + 1)
 named_by f rows number variables is h =
     subst (λ w. normal_number f rows number ≡ pair_of f rows (get_or rows ((number - 1) / w) []) ((number - 1) % w + 1)) (sym is) (named_is f rows number h)
-
--- the place of a pair that doesn't occur
-pub absent_place : (keys pairs : List ℕ) (pair n : ℕ) → keys ≡ pairs → n ≡ length pairs → None ≡ position (eqb pair) keys → n + 1 ≡ place_of pairs pair
-absent_place keys pairs pair n same is none =
-    let at : position_or_len (λ u. u == pair) pairs ≡ length pairs =
-    place-absent (λ u. u == pair) pairs (ap (position (λ u. u == pair)) (sym same) ∙ ap (λ p. position p keys) (sym (flip pair)) ∙ sym none) in
-    ap (λ m. m + 1) (is ∙ sym at)
 
 -- the entry of first rows at a row
 pub kept_at : (f : Dqbf) (rows : List (List Bool)) (y : ℕ) (firsts : List ℕ) (k d : ℕ) → firsts ≡ map (first_row f rows y) rows → k < length rows

@@ -15,7 +15,7 @@ use Rattle.dq_formula.proofs.Restrictions.{assignment_of-place}
 use Rattle.refutation_checker.specs.Labels.{first_places, AreLabels, same_label, row_of, IsSplitAt, agree_over, IsSplit, key_of, HasKeys}
 use Rattle.refutation_checker.specs.Pairs.{first_agreeing}
 use Rattle.refutation_checker.proofs.Numbering.{drop_at}
-use Rattle.refutation_checker.proofs.Renamed.{same_tests}
+use Rattle.sparse_proofs.proofs.Renamed.{same_tests}
 
 -- the first place of an element is at most its own
 place_le : (keys : List ℕ) (k d : ℕ) → k < length keys → place keys (get_or keys k d) ≤ k

@@ -2,7 +2,6 @@ pub mod Refutation
 pub mod Answer
 pub mod Pairs
 pub mod Occurring
-pub mod Renaming
 pub mod PairTable
 pub mod Labels
 pub mod Lines

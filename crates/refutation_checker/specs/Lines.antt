@@ -4,7 +4,7 @@ use Rattle.dq_lits.specs.Derivation.{ProofStep}
 use Rattle.dq_lits.specs.Literal.{Literal}
 use Rattle.refutation_checker.specs.PairTable.{Numbered}
 use Rattle.refutation_checker.specs.Refutation.{normal_literal, normal_step}
-use Rattle.refutation_checker.specs.Renaming.{renamed_literal, renamed_step}
+use Rattle.sparse_proofs.specs.Renaming.{renamed_literal, renamed_step}
 
 abbrev pub line_clause : Numbered → List Literal → List Literal
 line_clause n literals = map (renamed_literal n.pairs) (map (normal_literal n.formula n.rows) literals)

@@ -5,11 +5,8 @@ use Rattle.dq_lits.specs.Derivation.{ProofStep}
 use Rattle.dq_lits.specs.Expansion.{instance_at}
 use Rattle.dq_lits.specs.Formula.{Dqbf}
 use Rattle.dq_lits.specs.Literal.{Literal, variable_of}
+use Rattle.sparse_proofs.specs.Occurring.{clause_variables}
 use Rattle.refutation_checker.specs.Refutation.{normal_number}
-
-abbrev pub clause_variables : Option (List Literal) → List ℕ
-clause_variables None = []
-clause_variables (Some clause) = map variable_of clause
 
 abbrev pub instance_pairs : Dqbf → List (List Bool) → ℕ → List ℕ
 instance_pairs f rows id = clause_variables (instance_at f rows id)

@@ -6,7 +6,7 @@ use Rattle.dq_lits.specs.Formula.{Dqbf}
 use Rattle.dq_lits.specs.Literal.{Literal, variable_of, on_variable}
 use Rattle.cert_text.specs.Header.{max_count}
 use Rattle.refutation_checker.specs.Pairs.{pair_of, existential_part, AreFirstRows}
-use Rattle.refutation_checker.specs.Renaming.{with_pair, with_pairs}
+use Rattle.sparse_proofs.specs.Renaming.{with_variable, with_variables}
 
 pub record Numbered : Type 0 where
   pub formula : Dqbf
@@ -29,7 +29,7 @@ row_at n k = slice_index_or n.rows k []
 
 -- with the pair of an existential and the row at k
 abbrev pub occurring : Numbered → ℕ → ℕ → Numbered
-occurring n v k = record n { pairs = with_pair n.pairs (pair_of n.formula n.rows (row_at n k) v) }
+occurring n v k = record n { pairs = with_variable n.pairs (pair_of n.formula n.rows (row_at n k) v) }
 
 -- the literals of the clause at j under the row at k, on their pairs
 abbrev pub instance_literals : Dqbf → List (List Bool) → ℕ × ℕ → List Literal
@@ -41,7 +41,7 @@ abbrev pub part_pairs : Numbered → ℕ → List Literal → List ℕ
 part_pairs n k part = map (λ l. pair_of n.formula n.rows (row_at n k) (variable_of l)) part
 
 abbrev pub with_numbers : Numbered → List ℕ → Numbered
-with_numbers n numbers = record n { pairs = with_pairs n.pairs numbers }
+with_numbers n numbers = record n { pairs = with_variables n.pairs numbers }
 
 -- the clause at j under the row at k
 abbrev pub instance_in : Dqbf → List (List Bool) → ℕ × ℕ → Option (List Literal)

@@ -11,7 +11,7 @@ ghost use Rattle.refutation_checker.specs.Answer.{IsAnswer};
 ghost use Rattle.refutation_checker.specs.Lines.{line_clauses, placed_steps};
 ghost use Rattle.refutation_checker.specs.Pairs.{existential_part};
 ghost use Rattle.refutation_checker.specs.Refutation.{refutation_fault};
-ghost use Rattle.refutation_checker.specs.Renaming.{renamed_clauses};
+ghost use Rattle.sparse_proofs.specs.Renaming.{renamed_clauses};
 
 use crate::faults::RefFault;
 use crate::instances::Instances;

@@ -3,7 +3,7 @@
 ghost use Rattle.std.specs.Prelude.{◌≡◌, map};
 ghost use Rattle.dq_lits.specs.Expansion.{instance_at};
 ghost use Rattle.refutation_checker.specs.Pairs.{existential_part};
-ghost use Rattle.refutation_checker.specs.Renaming.{renamed_clauses};
+ghost use Rattle.sparse_proofs.specs.Renaming.{renamed_clauses};
 
 use crate::pair_tables::PairTable;
 use dq_lits::{Clause, Lit};

@@ -12,7 +12,7 @@ ghost use Rattle.cert_text.specs.Scan.{first_id};
 ghost use Rattle.refutation_checker.specs.Refutation.{normal_number};
 ghost use Rattle.refutation_checker.specs.Pairs.{first_row, pair_of};
 ghost use Rattle.refutation_checker.specs.PairTable.{numbered_in, row_at, occurring, instance_in, instance_literals};
-ghost use Rattle.refutation_checker.specs.Renaming.{place_of};
+ghost use Rattle.sparse_proofs.specs.Renaming.{place_of};
 
 use crate::first_rows::{first_agreeing, first_rows};
 use dq_formula::Formula;

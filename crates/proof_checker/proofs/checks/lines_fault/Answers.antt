@@ -1,30 +1,28 @@
-use Rattle.std.proofs.Common.{◌≤◌, ◌<◌, ◌^◌, sym, subst, length, All, IfSome, arith}
-use Rattle.dq_lits.specs.Formula.{Dqbf}
-use Rattle.dq_lits.specs.Literal.{variable_of}
+use Rattle.std.proofs.Common.{◌≡◌, ◌≤◌, length, None, ap, subst, ◌∙◌, arith}
+use Rattle.std.specs.Prelude.{IfOk}
 use Rattle.aiger_text.specs.Lines.{max_count}
+use Rattle.rup_core.specs.ProofVerdict.{proof_fault_in}
 use Rattle.cert_text.specs.CircuitProof.{is_proof_variable}
-use Rattle.circuit_plain.specs.Netlist.{IsNetlist}
-use Rattle.proof_checker.proofs.Judging.{clauses_small, none_behind, lines_numbered, judged_if_ok}
+use Rattle.skolem_checker.specs.Checks.{Candidate}
+use Rattle.proof_checker.specs.CircuitProof.{negated_candidate, circuit_proof_fault}
+use Rattle.proof_checker.proofs.Judging.{none_behind, lines_numbered, clauses_small}
 use Rattle.proof_checker.proofs.checks.lines_fault.Goals as goal
 
-pub names_of-requires-clause-clauses : goal.names_of-requires-clause-clauses
-names_of-requires-clause-clauses c =
-    let few : length c.formula.result.now.matrix ≤ max_count = omega (arith, c.clauses.ensures.value, c.clauses.ensures.few) in
-    subst (All (λ clause. IfSome clause (All (λ l. variable_of l < 2 ^ 61)))) (sym c.deref.ensures.value)
-    (clauses_small c.args.bench.now c.in_ok-hinted.hinted.ids.keys c.in_ok-hinted.hinted.clauses.items c.in_ok-hinted.ensures.clauses
-    (subst IsNetlist c.circuit.ensures c.max_var.ensures.kept) c.requires.few_variables
-    (subst (λ (f : Dqbf). length f.matrix ≤ max_count) c.formula.ensures few))
+pub first_fault-requires-clause-behind : goal.first_fault-requires-clause-behind
+first_fault-requires-clause-behind c id le =
+    ap (λ (k : Candidate). negated_candidate k id) c.in_ok-matrix.ensures ∙ none_behind c.args.bench.now c.args.first id c.requires.behind le
 
-pub named_fault-requires-clause-behind : goal.named_fault-requires-clause-behind
-named_fault-requires-clause-behind c id le =
-    none_behind c.args.bench.now c.in_ok-hinted.hinted.ids.keys c.in_ok-hinted.hinted.clauses.items c.args.first id
-    c.in_ok-hinted.ensures.clauses c.requires.behind le
-
-pub named_fault-requires-clause-numbered : goal.named_fault-requires-clause-numbered
-named_fault-requires-clause-numbered c =
+pub first_fault-requires-clause-numbered : goal.first_fault-requires-clause-numbered
+first_fault-requires-clause-numbered c =
     lines_numbered (is_proof_variable c.args.bench.now.formula c.args.bench.now.circuit.netlist) c.args.steps.now c.args.first c.requires.lines
+
+pub first_fault-requires-clause-small_clauses : goal.first_fault-requires-clause-small_clauses
+first_fault-requires-clause-small_clauses c id =
+    let few : length c.formula.result.now.matrix ≤ max_count = omega (arith, c.clauses.ensures.value, c.clauses.ensures.few) in
+    clauses_small c.args.bench.now c.in_ok-matrix.matrix c.circuit.result.now c.formula.result.now c.in_ok-matrix.ensures c.circuit.ensures c.formula.ensures
+    c.max_var.ensures.kept c.requires.few_variables few id
 
 pub returns : goal.returns
 returns c =
-    judged_if_ok c.args.bench.now c.args.steps.now c.in_ok-hinted.hinted.ids.keys c.in_ok-names.names c.in_ok-hinted.hinted.clauses.items c.deref.result.now
-    c.named_fault.result c.in_ok-hinted.ensures.ids c.in_ok-hinted.ensures.clauses c.deref.ensures.value c.in_ok-names.ensures c.named_fault.ensures
+    subst (λ (k : Candidate). IfOk c.first_fault.result (λ fault. proof_fault_in fault ≡ circuit_proof_fault k c.args.steps.now)) c.in_ok-matrix.ensures
+    c.first_fault.ensures

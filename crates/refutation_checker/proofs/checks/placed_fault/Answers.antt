@@ -1,7 +1,7 @@
 use Rattle.std.proofs.Common.{◌≤◌, length, subst, arith}
 use Rattle.cert_text.specs.Pairs.{is_pair_number}
 use Rattle.cert_text.specs.Scan.{first_id}
-use Rattle.refutation_checker.proofs.Judging.{none_behind, numbered_from, few_lines, all_within}
+use Rattle.refutation_checker.proofs.Judging.{none_behind, numbered_from, few_lines, placed_within}
 use Rattle.refutation_checker.proofs.checks.placed_fault.Goals as goal
 
 pub first_fault-requires-clause-behind : goal.first_fault-requires-clause-behind
@@ -19,4 +19,4 @@ first_fault-requires-clause-few c =
     omega (arith, long, c.requires.few, c.first_line-first.ensures.small)
 
 pub first_fault-requires-clause-in_range : goal.first_fault-requires-clause-in_range
-first_fault-requires-clause-in_range c = all_within c.args.table.now c.args.marks.now c.requires.marks c.args.steps.now
+first_fault-requires-clause-in_range c = placed_within c.args.table.now c.args.marks.now c.requires.marks c.args.steps.now

@@ -1,6 +1,6 @@
 use Rattle.std.proofs.Common.{ap}
 use Rattle.refutation_checker.specs.PairTable.{Numbered}
-use Rattle.refutation_checker.proofs.Pairing.{absent_place}
+use Rattle.sparse_proofs.proofs.Naming.{absent_place}
 use Rattle.refutation_checker.proofs.pair_tables.PairTable.place.Goals as goal
 
 pub returns-in-None-clause-value : goal.returns-in-None-clause-value

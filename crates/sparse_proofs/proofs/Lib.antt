@@ -1,0 +1,4 @@
+pub mod Renamed
+pub mod Occurring
+pub mod Naming
+pub mod Within

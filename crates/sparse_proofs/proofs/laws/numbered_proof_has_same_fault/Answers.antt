@@ -1,0 +1,5 @@
+use Rattle.sparse_proofs.proofs.Occurring.{numbered_fault}
+use Rattle.sparse_proofs.proofs.laws.numbered_proof_has_same_fault.Goals as goal
+
+pub returns : goal.returns
+returns c = numbered_fault
