@@ -57,6 +57,10 @@ pub fn dqcheck_run<F: Files, K: Sink>(
     ensures source { result ≡ 3 → Rose (F.faults files.old) (F.faults files.new) }
     ensures sink { result ≡ 4 → Rose (K.faults out.old) (K.faults out.new) }
     ensures long { result ≡ 6 → max_formula < F.given files.new }
+
+    // No fault is passed over: where one was counted, its status comes, or a later cause's.
+    ensures unfaulted_files { result ≢ 3 → result ≢ 4 → result ≢ 5 → F.faults files.new ≡ F.faults files.old }
+    ensures unfaulted_sink { result ≢ 4 → K.faults out.new ≡ K.faults out.old }
     ensures held { F.held files.new ≡ F.held files.old }
 {
     one_judgement();
@@ -75,6 +79,7 @@ pub fn dqcheck_run<F: Files, K: Sink>(
 fn report<F: Files>(alloc: Global, words: &[String], files: &mut F) -> Result<Output, Memory>
     ensures due { IfOk result (IsOutputDue (F.held files.old) (Rose (F.faults files.old) (F.faults files.new)) (command_of (map string_bytes words.now))) }
     ensures long { IfOk result (λ output. output.status ≡ 6 → max_formula < F.given files.new) }
+    ensures unfaulted { IfOk result (λ output. output.status ≢ 3 → F.faults files.new ≡ F.faults files.old) }
     ensures held { F.held files.new ≡ F.held files.old }
 {
     match file_names(alloc, words)? {
@@ -88,6 +93,7 @@ fn report_files<F: Files>(alloc: Global, names: FileNames, files: &mut F) -> Res
     ensures due { IfOk result (IsOutputDue (F.held files.old) (Rose (F.faults files.old) (F.faults files.new))
         (Some (record { formula = names.entry.formula.now; certificate = names.entry.certificate.now }))) }
     ensures long { IfOk result (λ output. output.status ≡ 6 → max_formula < F.given files.new) }
+    ensures unfaulted { IfOk result (λ output. output.status ≢ 3 → F.faults files.new ≡ F.faults files.old) }
     ensures held { F.held files.new ≡ F.held files.old }
 {
     let text = match read_all(alloc, files, names.formula, MAX_FORMULA) {
@@ -117,6 +123,7 @@ fn report_certificate<F: Files>(
     ensures due { IfOk result (IsOutputDue (F.held files.old) (Rose (F.faults files.old) (F.faults files.new))
         (Some (record { formula = names.entry.formula.now; certificate = names.entry.certificate.now }))) }
     ensures long { IfOk result (λ output. output.status ≡ 6 → max_certificate < F.given files.new) }
+    ensures unfaulted { IfOk result (λ output. output.status ≢ 3 → F.faults files.new ≡ F.faults files.old) }
     ensures held { F.held files.new ≡ F.held files.old }
 {
     let text = match read_all(alloc, files, names.certificate, MAX_CERTIFICATE) {
