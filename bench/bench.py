@@ -6,6 +6,7 @@ Usage: bench/bench.py [NAME..]     all measurements, or those whose names contai
 """
 
 import os
+import random
 import subprocess
 import sys
 import tempfile
@@ -179,6 +180,144 @@ def many_variables():
     return blind_bit(12, 0, 5_000, 9_999, 1_000_000)
 
 
+class Proof:
+    """A circuit's proof: its lines so far, and the ids of the clauses before them. Gates, clauses and places in a
+    clause count from 0; the parts of a gate are 0 (not g, a), 1 (not g, b) and 2 (g, not a, not b)."""
+
+    def __init__(self, universals, clauses, gates):
+        self.universals = universals
+        self.clauses = clauses
+        self.gates = gates
+        self.variables = universals + len(gates)
+        self.starts = [3 * len(gates) + 1]
+        for clause in clauses:
+            self.starts.append(self.starts[-1] + len(clause))
+        self.last = self.starts[-1]
+        self.lines = []
+
+    def gate(self, k, part):
+        """The id of a gate's clause."""
+        return 3 * k + 1 + part
+
+    def literal(self, j, place):
+        """The id of the clause that says that clause j, if false, has this literal false."""
+        return self.starts[j] + place
+
+    def false(self, j):
+        """The variable that says that clause j is false."""
+        return self.variables + 1 + j
+
+    def derive(self, literals, hints):
+        """Adds a line and answers its id."""
+        id = self.last + 1 + len(self.lines)
+        self.lines.append(" ".join(map(str, (id, *literals, 0, *hints, 0))))
+        return id
+
+    def texts(self, outputs):
+        """The formula, where each existential sees all universals, and the circuit, where outputs are gates' variables."""
+        variables = self.universals + len(outputs)
+        formula = lines(
+            f"p cnf {variables} {len(self.clauses)}",
+            f"a {numbers(1, self.universals)} 0",
+            f"e {numbers(self.universals + 1, variables)} 0",
+            *(" ".join(map(str, (*clause, 0))) for clause in self.clauses),
+        )
+        circuit = lines(
+            f"aag {self.variables} {self.universals} 0 {len(outputs)} {len(self.gates)}",
+            *range(2, 2 * self.universals + 1, 2),
+            *(2 * output for output in outputs),
+            *(f"{2 * g} {2 * a} {2 * b}" for g, a, b in self.gates),
+            "c",
+            f"dqp {len(self.lines)}",
+            *self.lines,
+        )
+        return formula, circuit
+
+
+def chain(universals, count):
+    """A chain of and-gates that takes each universal in turn; the formula says that its last gate is the AND of all.
+    Answers the proof so far and the ids of its lines: a clause of a universal isn't false, since where the last gate
+    is 1, so are the gates before it and the universals that they take."""
+    y = universals + 1
+    clauses = [[-y, i] for i in range(1, y)] + [[y, *(-i for i in range(1, y))]]
+    gates = [(y + k, y + k - 1 if k else 1, (k + 1) % universals + 1) for k in range(count)]
+    proof = Proof(universals, clauses, gates)
+    last, ends, above = gates[-1][0], [], []
+    for k in range(count - 1, count - 1 - universals, -1):
+        gate, before, x = gates[k]
+        j = x - 1
+        ends.append(proof.derive([-proof.false(j)], [proof.literal(j, 0), *above, proof.gate(k, 1), proof.literal(j, 1)]))
+        above = [proof.derive([-last, before], [*above, proof.gate(k, 0)])]
+    return proof, ends
+
+
+def gates_and_proof():
+    """A chain of a million gates over 24 universals, and a proof with a line for each gate: where all universals are
+    1, so is the gate."""
+    universals, count = 24, 1_000_000
+    proof, ends = chain(universals, count)
+    known = proof.literal(universals, 1)
+    for k, (gate, _, x) in enumerate(proof.gates):
+        known = proof.derive([-proof.false(universals), gate], [known, proof.literal(universals, x), proof.gate(k, 2)])
+    ends.append(proof.derive([-proof.false(universals)], [known, proof.literal(universals, 0)]))
+    proof.derive([], [*ends, proof.last])
+    return proof.texts([proof.gates[-1][0]])
+
+
+def long_proof():
+    """A proof of a million lines for a chain of a thousand gates. Each says that an earlier gate is 1 where a later
+    one is, from up to twelve lines of its block; a block's lines have up to seven literals of universals besides."""
+    universals, count, wanted, block, window = 24, 1_000, 1_000_000, 3_000, 200
+    proof, ends = chain(universals, count)
+    falsity = proof.false(universals)
+    hints = [proof.literal(universals, place) for place in range(1, universals + 1)]
+    hints += [proof.gate(k, 2) for k in range(count)]
+    ends.append(proof.derive([-falsity], [*hints, proof.literal(universals, 0)]))
+    choose = random.Random(1)
+    while len(proof.lines) < wanted - 1:
+        more = [choose.choice((-x, x)) for x in choose.sample(range(1, universals + 1), choose.randrange(8))]
+        base = choose.randrange(count - window)
+        below = {}
+        for k in range(base + 1, base + window):
+            gate, before, _ = proof.gates[k]
+            below[k] = [(k - 1, proof.derive([*more, -gate, before], [proof.gate(k, 0)]))]
+        for _ in range(min(block, wanted - 1 - len(proof.lines))):
+            start = k = choose.randrange(base + window // 2, base + window)
+            hints = []
+            for _ in range(choose.randrange(5, 13)):
+                if k > base:
+                    k, hint = choose.choice(below[k])
+                    hints.append(hint)
+            id = proof.derive([*more, -proof.gates[start][0], proof.gates[k][0]], hints)
+            if start - k < 16:
+                below[start].append((k, id))
+    proof.derive([], [*ends, proof.last])
+    return proof.texts([proof.gates[-1][0]])
+
+
+def wide_last_clause():
+    """A million clauses of three literals over a thousand gates, a line for each clause, and a last line that hints
+    all of these and the clause of a million literals."""
+    universals, existentials, count = 24, 1_000, 1_000_000
+    gates, clauses = [], []
+    for k in range(existentials):
+        a = k % universals + 1
+        gates.append((universals + 1 + k, a, (a + k // universals % (universals - 1)) % universals + 1))
+    for j in range(count):
+        y, a, b = gates[j % existentials]
+        other = universals + 1 + (7 * j + 3) % existentials
+        clauses.append(([-y, a, other], [-y, b, -other], [y, -a, -b])[j // existentials % 3])
+    proof = Proof(universals, clauses, gates)
+    lines_of_clauses = []
+    for j in range(count):
+        part = j // existentials % 3
+        hints = [proof.literal(j, 1), proof.literal(j, 2)] if part == 2 else [proof.literal(j, 0)]
+        hints += [proof.gate(j % existentials, part), proof.literal(j, 0 if part == 2 else 1)]
+        lines_of_clauses.append(proof.derive([-proof.false(j)], hints))
+    proof.derive([], [*lines_of_clauses, proof.last])
+    return proof.texts([gate for gate, _, _ in gates])
+
+
 MEASUREMENTS = [
     rows,
     large_formula,
@@ -192,6 +331,9 @@ MEASUREMENTS = [
     large_header,
     many_rows,
     many_variables,
+    long_proof,
+    gates_and_proof,
+    wide_last_clause,
 ]
 
 
@@ -221,7 +363,7 @@ def measure(folder, make):
         if os.path.exists(path):
             os.remove(path)
     print(
-        f"{make.__name__:15} {size / MEGABYTE:8.1f} MB {seconds:8.2f} s {size / MEGABYTE / seconds:8.1f} MB/s"
+        f"{make.__name__:16} {size / MEGABYTE:8.1f} MB {seconds:8.2f} s {size / MEGABYTE / seconds:8.1f} MB/s"
         f" {usage.ru_maxrss / 1000:8.0f} MB peak   {run.returncode} {answer[:60]}"
     )
 
