@@ -8,9 +8,11 @@ use Rattle.aiger_text.specs.Grammar.{SpellsCircuit}
 use Rattle.aiger_text.specs.Scan.{LineFault, AllGrounded, IsAagReading, scan}
 use Rattle.aiger_text.specs.declared.faults.AagFault.{AagFault}
 use Rattle.aiger_text.specs.declared.faults.AagStop.{AagStop}
-use Rattle.aiger_text.specs.declared.faults.AagStop.TheVariants.{Refused as RefusedText}
+use Rattle.aiger_text.specs.declared.faults.AagStop.TheVariants.{Refused as RefusedText, Memory as NoMemory}
 use Rattle.aiger_text.specs.declared.files.AagFile.{AagFile}
-use Rattle.dqcheck_core.specs.Judgement.{IsCircuitJudgement, IsCircuitRefusal, IsCircuitAnswer}
+use Rattle.skolem_checker.specs.Checks.{candidate_of}
+use Rattle.dqcheck_core.specs.Judgement.{line_ends, proof_in, BehindProof, IsCircuitRefusal, IsCircuitAnswer}
+use Rattle.dqcheck_core.specs.Places.{AnswersStop}
 use Rattle.dqcheck_core.specs.declared.answers.Answer.{Answer}
 use Rattle.dqcheck_core.specs.declared.answers.Answer.TheVariants.{Refused}
 use Rattle.dqcheck_core.specs.declared.answers.CertificateFault.TheVariants.{Circuit}
@@ -22,23 +24,34 @@ by_scan_ok : (h : ℕ) (text : List ℕ) (file : AagFile) → SpellingIs text �
 by_scan_ok h text file exact (Ok made) is (same, grounded) = (exact h file).1 (is ∙ ap Ok (sym same), subst (λ (f : AagFile). AllGrounded f.circuit) (sym same) grounded)
 by_scan_ok h text file exact (Err fault) is impossible = absurd impossible
 
-pub read_spells : (h : ℕ) (text : List ℕ) (file : AagFile) → SpellingIs text → IsAagReading h (scan text h) (Ok file) → SpellsCircuit text file
-read_spells h text file exact reading = by_scan_ok h text file exact (scan text h) refl reading
+pub read_spells : (h : ℕ) (bytes text : List ℕ) (file : AagFile) → bytes ≡ text → SpellingIs text → IsAagReading h (scan bytes h) (Ok file) → SpellsCircuit text file
+read_spells h bytes text file same exact reading =
+    by_scan_ok h text file exact (scan text h) refl (subst (λ t. IsAagReading h (scan t h) (Ok file)) same reading)
 
 by_scan_err : (h : ℕ) (text : List ℕ) (line : ℕ) (name : AagFault) (r : Result AagFile LineFault) → scan text h ≡ r → IsAagReading h r (Err (RefusedText line name))
     → IsFirstFault text h (record { line = line; name = name })
 by_scan_err h text line name (Ok file) is (cyclic, at_line) = inr (record { file = file; scanned = is; cyclic = cyclic; at_line = at_line })
 by_scan_err h text line name (Err fault) is same = inl (is ∙ ap Err same)
 
-pub refusal_answers : (h : ℕ) (text : List ℕ) (line : ℕ) (name : AagFault) (stop : AagStop) (answer : Answer) → answer ≡ Refused line (Circuit name)
-    → stop ≡ RefusedText line name → IsAagReading h (scan text h) (Err stop) → IsCircuitRefusal h text answer
-refusal_answers h text line name stop answer given is stopped = record {
+pub stop_answers : (f : Dqbf) (h : ℕ) (bytes text : List ℕ) (r : Result AagFile AagStop) (stop : AagStop) (answered : Result Answer Memory) → bytes ≡ text
+    → r ≡ Err stop → IsAagReading h (scan bytes h) r → IfOk answered (AnswersStop stop)
+    → IfOk answered (λ answer. IsCircuitRefusal h text answer ⊎ IsCircuitAnswer f h text answer)
+stop_answers f h bytes text r (RefusedText line name) (Ok answer) same is reading given = inl (record {
   fault = record { line = line; name = name };
-  is_first = by_scan_err h text line name (scan text h) refl (subst (λ s. IsAagReading h (scan text h) (Err s)) is stopped);
+  is_first = by_scan_err h text line name (scan text h) refl
+      (subst (λ t. IsAagReading h (scan t h) (Err (RefusedText line name))) same (subst (IsAagReading h (scan bytes h)) is reading));
   is = given;
-}
+})
+stop_answers f h bytes text r NoMemory (Ok answer) same is reading given = absurd given
+stop_answers f h bytes text r stop (Err _) same is reading given = tt
 
-pub file_answers : (f : Dqbf) (h : ℕ) (text : List ℕ) (file : AagFile) (r : Result Answer Memory) → SpellsCircuit text file
-    → IfOk r (IsCircuitJudgement f h text file) → IfOk r (λ answer. IsCircuitRefusal h text answer ⊎ IsCircuitAnswer f h text answer)
-file_answers f h text file (Ok answer) spelled judged = inr (record { file = file; spelled = spelled; is = judged })
-file_answers f h text file (Err _) spelled judged = tt
+pub file_answers : (f : Dqbf) (h ends : ℕ) (bytes text : List ℕ) (file : AagFile) (r : Result Answer Memory) → bytes ≡ text → SpellsCircuit text file
+    → ends ≡ line_ends bytes → IfOk r (BehindProof h file.circuit (proof_in f h ends file.circuit file.comment) (candidate_of f file.circuit file.symbols))
+    → IfOk r (λ answer. IsCircuitRefusal h text answer ⊎ IsCircuitAnswer f h text answer)
+file_answers f h ends bytes text file (Ok answer) same spelled is judged = inr (record {
+  file = file;
+  spelled = spelled;
+  is = subst (λ n. BehindProof h file.circuit (proof_in f h n file.circuit file.comment) (candidate_of f file.circuit file.symbols) answer)
+      (is ∙ ap line_ends same) judged;
+})
+file_answers f h ends bytes text file (Err _) same spelled is judged = tt

@@ -19,7 +19,7 @@ use Rattle.cert_text.specs.declared.circuit_proofs.Dqp.{Dqp}
 use Rattle.cert_text.specs.declared.faults.CertRefusal.{CertRefusal}
 use Rattle.cert_text.specs.declared.kinds.Kind.{Kind}
 use Rattle.cert_text.specs.declared.kinds.Kind.TheVariants.{Circuit as CircuitText, Refutation}
-use Rattle.dqcheck_core.specs.Judgement.{proof_in, IsTestedByRows, IsTestedBy, HasUndeclaredRead, PassesReads, IsTested, BehindMapping, BehindProof, IsCircuitJudgement, IsCircuitRefusal, IsCircuitAnswer, IsJudgementOf, IsJudgement}
+use Rattle.dqcheck_core.specs.Judgement.{line_ends, proof_in, IsTestedByRows, IsTestedBy, HasUndeclaredRead, PassesReads, IsTested, BehindMapping, BehindProof, IsCircuitJudgement, IsCircuitRefusal, IsCircuitAnswer, IsJudgementOf, IsJudgement}
 use Rattle.dqcheck_core.specs.declared.answers.Answer.{Answer}
 use Rattle.dqcheck_core.specs.declared.answers.Answer.TheVariants.{Refused, UndeclaredRead, BadRow, Unproved, UnderivedStep, NoEmptyClause, ValidTrue, ValidFalse}
 use Rattle.dqcheck_core.specs.declared.answers.CertificateFault.TheVariants.{Circuit}
@@ -139,7 +139,7 @@ one_behind_proof h net (Ok proof) mapped a b r s = one_behind_mapping h net proo
 
 one_circuit_judgement : (f : Dqbf) (h : ℕ) (text : List ℕ) (file : AagFile) (a b : Answer) → IsCircuitJudgement f h text file a → IsCircuitJudgement f h text file b → a ≡ b
 one_circuit_judgement f h text file a b =
-    one_behind_proof h file.circuit (proof_in f h text file.circuit file.comment) (candidate_of f file.circuit file.symbols) a b
+    one_behind_proof h file.circuit (proof_in f h (line_ends text) file.circuit file.comment) (candidate_of f file.circuit file.symbols) a b
 
 -- what the law of the circuits' grammar gives
 pub record CircuitLaw : Type 0 where

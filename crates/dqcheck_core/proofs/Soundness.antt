@@ -19,7 +19,7 @@ use Rattle.skolem_checker.specs.Checks.{Candidate, candidate_of, with_mapping, I
 use Rattle.skolem_checker.specs.Mapping.{Mapping, mapping_of}
 use Rattle.skolem_checker.specs.SkolemCircuit.{IsComplete, IsSkolemCircuit, ReadsUniversal}
 use Rattle.skolem_checker.specs.declared.mapping.MapError.{MapError}
-use Rattle.dqcheck_core.specs.Judgement.{IsTested, BehindMapping, BehindProof, IsJudgementOf, IsJudgement, answer_of_derivation, answer_of_refutation, mapping_line, proof_in}
+use Rattle.dqcheck_core.specs.Judgement.{IsTested, BehindMapping, BehindProof, IsJudgementOf, IsJudgement, answer_of_derivation, answer_of_refutation, line_ends, mapping_line, proof_in}
 use Rattle.dqcheck_core.specs.declared.answers.Answer.TheVariants.{Refused, UndeclaredRead, ValidTrue, ValidFalse}
 use Rattle.dqcheck_core.specs.declared.answers.CertificateFault.{CertificateFault}
 use Rattle.dqcheck_core.specs.declared.answers.CertificateFault.TheVariants.{Text, Circuit, Mapping as BadMapping}
@@ -91,7 +91,7 @@ true_by_kind : TestsLaw → (kind : Result Kind CertRefusal) (f : Dqbf) (text : 
 true_by_kind law (Ok (CircuitText at h)) f text formed (inl r) = absurd (true_is_no_refusal r.fault.line (Circuit r.fault.name) r.is)
 true_by_kind law (Ok (CircuitText at h)) f text formed (inr r) =
     true_by_proof law f r.file.circuit r.file.symbols formed r.spelled.lawful (spelled_complete (drop at text) r.file r.spelled) h
-    (proof_in f h (drop at text) r.file.circuit r.file.comment) r.is
+    (proof_in f h (line_ends (drop at text)) r.file.circuit r.file.comment) r.is
 true_by_kind law (Ok (Refutation at h)) f text formed r = absurd (true_is_no_refutation f (refutation_of f (drop at text) h) r)
 true_by_kind law (Err refusal) f text formed r = absurd (true_is_no_refusal refusal.line (Text refusal.name) r)
 
@@ -132,7 +132,7 @@ false_by_refutation law f formed (Err refusal) same = absurd (false_is_no_refusa
 false_by_kind : RefutationLaw → (kind : Result Kind CertRefusal) (f : Dqbf) (text : List ℕ) → IsWellFormed f → IsJudgementOf f text kind ValidFalse → IsFalseFormula f
 false_by_kind law (Ok (CircuitText at h)) f text formed (inl r) = absurd (false_is_no_refusal r.fault.line (Circuit r.fault.name) r.is)
 false_by_kind law (Ok (CircuitText at h)) f text formed (inr r) =
-    absurd (false_by_proof h r.file.circuit (proof_in f h (drop at text) r.file.circuit r.file.comment) (candidate_of f r.file.circuit r.file.symbols) r.is)
+    absurd (false_by_proof h r.file.circuit (proof_in f h (line_ends (drop at text)) r.file.circuit r.file.comment) (candidate_of f r.file.circuit r.file.symbols) r.is)
 false_by_kind law (Ok (Refutation at h)) f text formed r = false_by_refutation law f formed (refutation_of f (drop at text) h) r
 false_by_kind law (Err refusal) f text formed r = absurd (false_is_no_refusal refusal.line (Text refusal.name) r)
 

@@ -44,9 +44,9 @@ first_line bytes = until (position (λ byte. byte == 10) bytes) bytes
 abbrev pub line_ends : List ℕ → ℕ
 line_ends bytes = length (filter (λ byte. byte == 10) bytes)
 
--- the number of the first line of a comment, which ends a text whose first line has the number h
-abbrev pub comment_line : ℕ → List ℕ → List ℕ → ℕ
-comment_line h text comment = h + (line_ends text - line_ends comment)
+-- the number of the first line of a comment, which ends a text of so many line ends whose first line has the number h
+abbrev pub comment_line : ℕ → ℕ → List ℕ → ℕ
+comment_line h ends comment = h + (ends - line_ends comment)
 
 -- a comment is a proof where its first line begins one
 abbrev pub begins_proof : List ℕ → Bool
@@ -57,10 +57,10 @@ as_proof (Ok d) = Ok (Some d)
 as_proof (Err refusal) = Err refusal
 
 -- the proof in a circuit's comment, if it begins one, or the first fault of that proof's text
-abbrev pub proof_in : Dqbf → ℕ → List ℕ → Netlist → Option (List ℕ) → Result (Option Dqp) CertRefusal
-proof_in f h text net None = Ok None
-proof_in f h text net (Some comment) =
-    if begins_proof comment then as_proof (circuit_proof_of f net comment (comment_line h text comment)) else Ok None
+abbrev pub proof_in : Dqbf → ℕ → ℕ → Netlist → Option (List ℕ) → Result (Option Dqp) CertRefusal
+proof_in f h ends net None = Ok None
+proof_in f h ends net (Some comment) =
+    if begins_proof comment then as_proof (circuit_proof_of f net comment (comment_line h ends comment)) else Ok None
 
 -- the line of a fault of the mapping: the header is line h, then follow the inputs' lines and then the outputs'
 abbrev pub mapping_line : ℕ → Netlist → MapPlace → ℕ
@@ -120,7 +120,7 @@ BehindProof h net (Ok proof) mapped answer = BehindMapping h net proof mapped an
 -- the text of a proof in the comment comes first, then the mapping, then the tests
 abbrev pub IsCircuitJudgement : Dqbf → ℕ → List ℕ → AagFile → Answer → Type 0
 IsCircuitJudgement f h text file answer =
-    BehindProof h file.circuit (proof_in f h text file.circuit file.comment) (candidate_of f file.circuit file.symbols) answer
+    BehindProof h file.circuit (proof_in f h (line_ends text) file.circuit file.comment) (candidate_of f file.circuit file.symbols) answer
 
 -- the text, whose first line has the number h, isn't a circuit file
 pub record IsCircuitRefusal (h : ℕ) (text : List ℕ) (answer : Answer) : Type 0 where

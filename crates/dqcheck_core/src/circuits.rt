@@ -1,18 +1,17 @@
 //! Judging a circuit: its text, the text of its proof, its mapping, its reads, and then its proof or its rows.
 
-ghost use Rattle.std.specs.Prelude.{◌≡◌, ◌==◌, ◌+◌, ◌<◌, ◌≤◌, ◌^◌, ◌⊎◌, length, Option, IfOk, IfSome};
+ghost use Rattle.std.specs.Prelude.{◌≡◌, ◌==◌, ◌+◌, ◌<◌, ◌≤◌, ◌^◌, ◌⊎◌, length, drop, Option, IfOk, IfSome};
 ghost use Rattle.std.specs.List.{position};
 ghost use Rattle.dq_lits.specs.Formula.{IsWellFormed};
 ghost use Rattle.dq_text.specs.Line.{line_tokens};
-ghost use Rattle.aiger_text.specs.Grammar.{SpellsCircuit};
 ghost use Rattle.cert_text.specs.Lines.{IsReading};
 ghost use Rattle.cert_text.specs.ProofGrammar.{IsDqpOf};
 ghost use Rattle.proof_checker.specs.CircuitProof.{circuit_proof_fault};
 ghost use Rattle.skolem_checker.specs.Checks.{candidate_of};
 ghost use Rattle.skolem_checker.specs.Mapping.{IsAtPlace};
 ghost use Rattle.skolem_checker.specs.SkolemCircuit.{IsComplete};
-ghost use Rattle.dqcheck_core.specs.Judgement.{begins_with, first_line, begins_proof, line_ends, comment_line, proof_in, mapping_line, answer_of_derivation, IsTestedByRows, IsTestedBy, IsTested, BehindMapping, IsCircuitJudgement, IsCircuitRefusal, IsCircuitAnswer};
-ghost use Rattle.dqcheck_core.specs.Places.{HasFewLines};
+ghost use Rattle.dqcheck_core.specs.Judgement.{begins_with, first_line, begins_proof, line_ends, comment_line, proof_in, mapping_line, answer_of_derivation, IsTestedByRows, IsTestedBy, IsTested, BehindMapping, BehindProof, IsCircuitRefusal, IsCircuitAnswer};
+ghost use Rattle.dqcheck_core.specs.Places.{HasFewLines, AnswersStop};
 ghost use Rattle.dqcheck_core.specs.declared.answers.Answer.TheVariants.{ValidTrue};
 
 use crate::answers::{Answer, CertificateFault, refused};
@@ -31,18 +30,45 @@ use std::alloc::Global;
 /// The most universals of which all rows are tried.
 const MAX_ROW_UNIVERSALS: usize = 20;
 
-/// Judges a circuit, whose header line begins the text and has the number `first`.
-pub fn judge_circuit(alloc: Global, f: &Formula, first: u64, text: &[u8]) -> Result<Answer, Memory>
+/// Judges a circuit, whose header line begins at a place of the text and has the number `first`.
+pub fn judge_circuit(
+    alloc: Global,
+    f: &Formula,
+    first: u64,
+    text: Vec<u8>,
+    at: usize,
+) -> Result<Answer, Memory>
     requires well_formed { IsWellFormed f.now }
-    requires fits { first + length text.now < 2 ^ 62 }
-    ensures { IfOk result (λ answer. IsCircuitRefusal first text.now answer ⊎ IsCircuitAnswer f.now first text.now answer) }
+    requires fits { first + length text.items < 2 ^ 62 }
+    requires inside { at ≤ length text.items }
+    ensures { IfOk result (λ answer. IsCircuitRefusal first (drop at text.items) answer ⊎ IsCircuitAnswer f.now first (drop at text.items) answer) }
 {
     circuit_or_first_fault();
-    match aiger_text::read(alloc, text, first) {
-        Ok(file) => judge_file(alloc, f, first, text, &file),
-        Err(AagStop::Refused { line, name }) => Ok(refused(line, CertificateFault::Circuit(name))),
-        Err(AagStop::Memory) => Err(Memory),
+    let bytes = bytes_from(&text, at);
+    let ends = line_ends(bytes);
+    let read = aiger_text::read(alloc, bytes, first);
+    drop(text);
+    match read {
+        Ok(file) => judge_file(alloc, f, first, ends, file),
+        Err(stop) => stopped(stop),
     }
+}
+
+// The answer where the reading of a circuit file stopped.
+fn stopped(stop: AagStop) -> Result<Answer, Memory>
+    ensures { IfOk result (AnswersStop stop) }
+{
+    match stop {
+        AagStop::Refused { line, name } => Ok(refused(line, CertificateFault::Circuit(name))),
+        AagStop::Memory => Err(Memory),
+    }
+}
+
+fn bytes_from(text: &[u8], at: usize) -> &[u8]
+    requires { at ≤ length text.now }
+    ensures { result.now ≡ drop at text.now }
+{
+    &text[at..]
 }
 
 // Whether the text's first token is this word.
@@ -83,25 +109,25 @@ fn line_ends(bytes: &[u8]) -> usize
     bytes.iter().filter(|byte| **byte == b'\n').count()
 }
 
-// The number of the first line of a comment, which ends the text.
-fn comment_line(first: u64, text: &[u8], comment: &[u8]) -> u64
-    requires { first + length text.now < 2 ^ 62 }
-    ensures is { result ≡ comment_line first text.now comment.now }
+// The number of the first line of a comment, which ends a text of so many line ends.
+fn comment_line(first: u64, ends: usize, comment: &[u8]) -> u64
+    requires { first + ends < 2 ^ 62 }
+    ensures is { result ≡ comment_line first ends comment.now }
     ensures small { result < 2 ^ 62 }
 {
-    first + line_ends(text).saturating_sub(line_ends(comment)) as u64
+    first + ends.saturating_sub(line_ends(comment)) as u64
 }
 
-// The proof in the circuit's comment, if it begins one.
+// The proof in the circuit's comment, if it begins one. The comment ends a text of so many line ends.
 fn read_proof(
     alloc: Global,
     f: &Formula,
     first: u64,
-    text: &[u8],
+    ends: usize,
     file: &AagFile,
 ) -> Result<Option<Dqp>, CertStop>
-    requires { first + length text.now < 2 ^ 62 }
-    ensures reading { IsReading (proof_in f.now first text.now file.now.circuit file.now.comment) result }
+    requires { first + ends < 2 ^ 62 }
+    ensures reading { IsReading (proof_in f.now first ends file.now.circuit file.now.comment) result }
     ensures allowed { IfOk result (λ proof. IfSome proof (IsDqpOf f.now file.now.circuit)) }
 {
     let Some(comment) = &file.comment else {
@@ -111,7 +137,7 @@ fn read_proof(
     if !begins_proof(comment) {
         return Ok(None);
     }
-    let line = comment_line(first, text, comment);
+    let line = comment_line(first, ends, comment);
     Ok(Some(read_dqp(alloc, comment, line, f, &file.circuit)?))
 }
 
@@ -129,21 +155,25 @@ fn mapping_line(header: u64, circuit: &Circuit, at: MapPlace) -> u64
     }
 }
 
-// Judges a circuit file that was read.
+// Judges a circuit file that was read from a text of so many line ends. Its comment is let go once the proof was read.
 fn judge_file(
     alloc: Global,
     f: &Formula,
     first: u64,
-    text: &[u8],
-    file: &AagFile,
+    ends: usize,
+    mut file: AagFile,
 ) -> Result<Answer, Memory>
     requires well_formed { IsWellFormed f.now }
-    requires fits { first + length text.now < 2 ^ 62 }
-    requires spelled { SpellsCircuit text.now file.now }
-    ensures { IfOk result (IsCircuitJudgement f.now first text.now file.now) }
+    requires fits { first + ends < 2 ^ 62 }
+    requires complete { IsComplete file.circuit }
+    requires few { HasFewLines file.circuit }
+    ensures { IfOk result (BehindProof first file.circuit (proof_in f.now first ends file.circuit file.comment)
+        (candidate_of f.now file.circuit file.symbols)) }
 {
-    match read_proof(alloc, f, first, text, file) {
-        Ok(proof) => judge_mapped(alloc, f, first, file, &proof),
+    let read = read_proof(alloc, f, first, ends, &file);
+    file.comment = None;
+    match read {
+        Ok(proof) => judge_mapped(alloc, f, first, &file, &proof),
         Err(CertStop::Refused(refusal)) => {
             Ok(refused(refusal.line, CertificateFault::Text(refusal.name)))
         }

@@ -132,6 +132,6 @@ fn report_certificate<F: Files>(
         Err(ReadStop::Fault) => return source_fault_output(alloc),
         Err(ReadStop::TooLong) => return long_certificate_output(alloc),
     };
-    let answer = judge(alloc, formula, &text)?;
+    let answer = judge(alloc, formula, text)?;
     judged_output(alloc, formula, answer)
 }
