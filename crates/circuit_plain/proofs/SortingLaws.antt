@@ -1,15 +1,9 @@
 -- The steps of a sort of the gates.
-use Rattle.std.proofs.Common.{◌≡◌, ◌≢◌, ℕ, ◌+◌, ◌<◌, ◌≤◌, ◌⊎◌, ◌↔◌, inl, inr, Bool, true, false, ◌&&◌, eqb, List, [], ◌∷◌, ◌++◌, map, length, get_or, take, refl, sym, ap, ◌∙◌, subst, arith, below_more}
+use Rattle.std.proofs.Common.{◌≡◌, ◌≢◌, ℕ, ◌+◌, ◌<◌, ◌≤◌, ◌⊎◌, ◌↔◌, ◌==◌, inl, inr, Bool, true, false, ◌&&◌, eqb, List, [], ◌∷◌, ◌++◌, map, length, get_or, take, refl, sym, ap, ◌∙◌, subst, arith, below_more}
 use Rattle.std.specs.Prelude.{All, Contains, slice_index}
-use Rattle.std.specs.BTreeSet.{BTreeSet, contains, Updates}
-use Rattle.std.specs.BTreeMap.{is_at}
-use Rattle.std.specs.Ordering.{nat_cmp, is_eq, MatchOrdering}
 use Rattle.std.specs.List.{list_any}
-use Rattle.std.specs.declared.cmp.Ordering.{Ordering}
-use Rattle.std.specs.declared.cmp.Ordering.TheVariants.{Less, Equal, Greater}
-use Rattle.std.proofs.lemmas.Cmp.{ranked}
-use Rattle.std.proofs.lemmas.Bool.{cases_eq, cases_lt, cond-true, cond-false, and_from, and_parts, or_cases, false≢true, both_ways, eqb-true}
-use Rattle.std.proofs.lemmas.Bool.Decides.{Decides-eqb}
+use Rattle.std.proofs.lemmas.Bool.{cases_eq, cases_lt, cond-true, cond-false, and_from, and_parts, or_cases, false≢true, both_ways, eqb-true, eq-eqb}
+use Rattle.std.proofs.lemmas.Bool.Decides.{Decides-eqb, nat_tests}
 use Rattle.std.proofs.lemmas.List.{get_or_default, get_or-map, length-map, length_push, take_at, take-append-le, get_or_append_left, get_or_push, map_push}
 use Rattle.std.proofs.lemmas.List.Elements.{All-push, All-head, All-tail, Contains-append_left, Contains-push}
 use Rattle.std.proofs.lemmas.List.Quantifiers.{all_pairs_push}
@@ -20,39 +14,26 @@ use Rattle.circuit_plain.specs.Ground.{IsFirstUngrounded}
 use Rattle.circuit_plain.specs.Netlist.{Netlist, IsNetlist, variable_of_gate, gate_at, literal_variable}
 use Rattle.circuit_plain.specs.Order.{IsSettled, IsReady, IsOrder}
 use Rattle.circuit_plain.specs.Steps.{IsPartialOrder, IsDraft, IsPassed, IsClosed}
+use Rattle.circuit_plain.specs.Settled.{Adds}
 use Rattle.circuit_plain.proofs.EvaluationLaws.{settled_cases, Contains-map, gate_read}
 use Rattle.circuit_plain.proofs.NetlistLaws.{same_place, gate_fits, input_apart, gate_at_member}
 use Rattle.circuit_plain.proofs.OrderLaws.{settled_ground, grounded_settled}
 
--- a key of a set of numbers
-same_rank : (k q : ℕ) (r : Ordering) → MatchOrdering r (k < q) (k ≡ q) (q < k) → k ≡ q → is_eq r ≡ true
-same_rank k q Less h e = absurd (omega arith)
-same_rank k q Equal h e = refl
-same_rank k q Greater h e = absurd (omega arith)
-
-other_rank : (k q : ℕ) (r : Ordering) → MatchOrdering r (k < q) (k ≡ q) (q < k) → k ≢ q → is_eq r ≡ false
-other_rank k q Less h other = refl
-other_rank k q Equal h other = absurd (other h)
-other_rank k q Greater h other = refl
-
-at_same : (k q : ℕ) → k ≡ q → is_at (nat_cmp k) q ≡ true
-at_same k q e = same_rank k q (nat_cmp k q) (ranked k q (nat_cmp k q) refl) e
-
-at_other : (k q : ℕ) → k ≢ q → is_at (nat_cmp k) q ≡ false
-at_other k q other = other_rank k q (nat_cmp k q) (ranked k q (nat_cmp k q) refl) other
-
 -- what a set holds after an insert
-pub inserted : (old new : BTreeSet ℕ) (key : ℕ) (P : ℕ → Type 0) → Updates nat_cmp old new key true
-    → ((v : ℕ) → (contains nat_cmp old v ≡ true) ↔ P v) → (v : ℕ) → (contains nat_cmp new v ≡ true) ↔ (P v ⊎ (key ≡ v))
+apart : (k q : ℕ) → k ≢ q → (k == q) ≡ false
+apart k q other = grind (arith, nat_tests)
+
+pub inserted : (old new : ℕ → Bool) (key : ℕ) (P : ℕ → Type 0) → Adds old new key
+    → ((v : ℕ) → (old v ≡ true) ↔ P v) → (v : ℕ) → (new v ≡ true) ↔ (P v ⊎ (key ≡ v))
 inserted old new key P updates holds v =
-    let now_is = updates.0 v in
+    let now_is = updates v in
     elim (cases_eq key v) [
       | inl same ↦
-          let on : contains nat_cmp new v ≡ true = now_is ∙ cond-true (is_at (nat_cmp key) v) true (contains nat_cmp old v) (at_same key v same) in
+          let on : new v ≡ true = now_is ∙ cond-true (key == v) true (old v) (eq-eqb key v same) in
           (λ _. inr same, λ _. on)
       | inr other ↦
-          let kept : contains nat_cmp new v ≡ contains nat_cmp old v =
-          now_is ∙ cond-false (is_at (nat_cmp key) v) true (contains nat_cmp old v) (at_other key v other) in (
+          let kept : new v ≡ old v =
+          now_is ∙ cond-false (key == v) true (old v) (apart key v other) in (
             λ on. inl ((holds v).0 (sym kept ∙ on)),
             λ h. elim h [ inl before ↦ kept ∙ (holds v).1 before | inr here ↦ absurd (other here) ],
           )
@@ -62,9 +43,9 @@ inserted old new key P updates holds v =
 abbrev pub IsLeafBefore : Netlist → ℕ → ℕ → Type 0
 IsLeafBefore net n v = (v ≡ 0) ⊎ ((k : ℕ) × (k < n) × (slice_index net.inputs k ≡ v))
 
-pub leaves_more : (net : Netlist) (old new : BTreeSet ℕ) (n v : ℕ) → v ≡ slice_index net.inputs n → Updates nat_cmp old new v true
-    → ((w : ℕ) → (contains nat_cmp old w ≡ true) ↔ IsLeafBefore net n w)
-    → (w : ℕ) → (contains nat_cmp new w ≡ true) ↔ IsLeafBefore net (n + 1) w
+pub leaves_more : (net : Netlist) (old new : ℕ → Bool) (n v : ℕ) → v ≡ slice_index net.inputs n → Adds old new v
+    → ((w : ℕ) → (old w ≡ true) ↔ IsLeafBefore net n w)
+    → (w : ℕ) → (new w ≡ true) ↔ IsLeafBefore net (n + 1) w
 leaves_more net old new n v read updates so_far w =
     let h = inserted old new v (IsLeafBefore net n) updates so_far w in (
       λ on. elim (h.0 on) [
@@ -82,8 +63,8 @@ leaves_more net old new n v read updates so_far w =
       ],
     )
 
-pub leaves_draft : (net : Netlist) (settled : BTreeSet ℕ) (n : ℕ) → n ≡ length net.inputs
-    → ((w : ℕ) → (contains nat_cmp settled w ≡ true) ↔ IsLeafBefore net n w) → IsDraft net [] settled
+pub leaves_draft : (net : Netlist) (settled : ℕ → Bool) (n : ℕ) → n ≡ length net.inputs
+    → ((w : ℕ) → (settled w ≡ true) ↔ IsLeafBefore net n w) → IsDraft net [] settled
 leaves_draft net settled n whole leaves = record {
   partial = record {
     in_range = λ k d k_in. absurd (omega arith);
@@ -141,12 +122,12 @@ partial_push net places p p_in partial fresh ready = record {
       ];
 }
 
-pub draft_push : (net : Netlist) (places after : List ℕ) (settled new : BTreeSet ℕ) (p v : ℕ) → p < length net.gates
-    → v ≡ (gate_at net p).variable → IsDraft net places settled → contains nat_cmp settled v ≡ false
-    → IsReady net places (gate_at net p) → after ≡ places ++ p ∷ [] → Updates nat_cmp settled new v true → IsDraft net after new
+pub draft_push : (net : Netlist) (places after : List ℕ) (settled new : ℕ → Bool) (p v : ℕ) → p < length net.gates
+    → v ≡ (gate_at net p).variable → IsDraft net places settled → settled v ≡ false
+    → IsReady net places (gate_at net p) → after ≡ places ++ p ∷ [] → Adds settled new v → IsDraft net after new
 draft_push net places after settled new p v p_in is draft off ready after_is updates =
     let fresh : ¬ IsSettled net places (gate_at net p).variable =
-    λ h. both_ways (contains nat_cmp settled v) off ((draft.exact v).1 (subst (IsSettled net places) (sym is) h)) in
+    λ h. both_ways (settled v) off ((draft.exact v).1 (subst (IsSettled net places) (sym is) h)) in
     rw after_is (record {
       partial = partial_push net places p p_in draft.partial fresh ready;
       exact = λ w.
@@ -157,23 +138,23 @@ draft_push net places after settled new p v p_in is draft off ready after_is upd
     })
 
 -- a try of one gate; g is the gate read
-module _ (net : Netlist) (gates : List Gate) (places : List ℕ) (settled : BTreeSet ℕ) (g : Gate) (p : ℕ) (same : net.gates ≡ gates)
+module _ (net : Netlist) (gates : List Gate) (places : List ℕ) (settled : ℕ → Bool) (g : Gate) (p : ℕ) (same : net.gates ≡ gates)
     (p_in : p < length net.gates) (read : g ≡ get_or gates p g) (draft : IsDraft net places settled) where
-  pub stuck_gate : (contains nat_cmp settled (literal_variable g.left) && contains nat_cmp settled (literal_variable g.right)) ≡ false
+  pub stuck_gate : (settled (literal_variable g.left) && settled (literal_variable g.right)) ≡ false
       → IsPassed net places p
   stuck_gate off =
       let g_is : g ≡ gate_at net p = gate_read net gates g p same p_in read in
       inr (λ ready.
       let sides : IsReady net places g = subst (λ (h : Gate). IsReady net places h) (sym g_is) ready in
-      both_ways (contains nat_cmp settled (literal_variable g.left) && contains nat_cmp settled (literal_variable g.right)) off
+      both_ways (settled (literal_variable g.left) && settled (literal_variable g.right)) off
       (and_from _ _ ((draft.exact _).1 sides.0) ((draft.exact _).1 sides.1)))
 
-  pub put_gate : (after : List ℕ) (new : BTreeSet ℕ) → contains nat_cmp settled g.variable ≡ false
-      → (contains nat_cmp settled (literal_variable g.left) && contains nat_cmp settled (literal_variable g.right)) ≡ true
-      → after ≡ places ++ p ∷ [] → Updates nat_cmp settled new g.variable true → IsDraft net after new
+  pub put_gate : (after : List ℕ) (new : ℕ → Bool) → settled g.variable ≡ false
+      → (settled (literal_variable g.left) && settled (literal_variable g.right)) ≡ true
+      → after ≡ places ++ p ∷ [] → Adds settled new g.variable → IsDraft net after new
   put_gate after new off on after_is updates =
       let g_is : g ≡ gate_at net p = gate_read net gates g p same p_in read in
-      let both = and_parts (contains nat_cmp settled (literal_variable g.left)) (contains nat_cmp settled (literal_variable g.right)) on in
+      let both = and_parts (settled (literal_variable g.left)) (settled (literal_variable g.right)) on in
       let ready : IsReady net places g = ((draft.exact _).0 both.0, (draft.exact _).0 both.1) in
       draft_push net places after settled new p g.variable p_in (ap variable_of_gate g_is) draft off
       (subst (λ (h : Gate). IsReady net places h) g_is ready) after_is updates
@@ -194,20 +175,20 @@ length-draft net places partial =
     (λ q on. any_below (length net.gates) q places partial.in_range on)
 
 -- a round of tries, as far as a place
-pub record RoundSoFar (net : Netlist) (start places : List ℕ) (settled : BTreeSet ℕ) (added : Bool) (n : ℕ) : Type 0 where
+pub record RoundSoFar (net : Netlist) (start places : List ℕ) (settled : ℕ → Bool) (added : Bool) (n : ℕ) : Type 0 where
   pub draft : IsDraft net places settled
   pub no_less : length start ≤ length places
   pub grown : added ≡ true → length start < length places
   pub still : added ≡ false → (p : ℕ) → p < n → IsPassed net places p
 
-pub round_grown : (net : Netlist) (start places after : List ℕ) (settled new : BTreeSet ℕ) (added : Bool) (n : ℕ)
+pub round_grown : (net : Netlist) (start places after : List ℕ) (settled new : ℕ → Bool) (added : Bool) (n : ℕ)
     → RoundSoFar net start places settled added n → IsDraft net after new → length after ≡ length places + 1
     → RoundSoFar net start after new true (n + 1)
 round_grown net start places after settled new added n so_far draft longer =
     let no_less = so_far.no_less in
     record { draft = draft; no_less = omega arith; grown = λ _. omega arith; still = λ off. absurd (false≢true (sym off)) }
 
-pub round_passed : (net : Netlist) (start places after : List ℕ) (settled new : BTreeSet ℕ) (added : Bool) (n : ℕ)
+pub round_passed : (net : Netlist) (start places after : List ℕ) (settled new : ℕ → Bool) (added : Bool) (n : ℕ)
     → RoundSoFar net start places settled added n → IsDraft net after new → after ≡ places → IsPassed net places n
     → RoundSoFar net start after new added (n + 1)
 round_passed net start places after settled new added n so_far draft same passed =
@@ -252,15 +233,15 @@ item_variable net items n none same n_in =
     ap (λ (gs : List Gate). (get_or gs n none).variable) same ∙ ap variable_of_gate (get_or_default net.gates n none _ n_below)
 
 -- a gate whose variable the set does not hold
-pub not_put : (net : Netlist) (items : List Gate) (places : List ℕ) (settled : BTreeSet ℕ) (n : ℕ) (none : Gate) → items ≡ net.gates
-    → n < length items → IsDraft net places settled → contains nat_cmp settled (get_or items n none).variable ≡ false
+pub not_put : (net : Netlist) (items : List Gate) (places : List ℕ) (settled : ℕ → Bool) (n : ℕ) (none : Gate) → items ≡ net.gates
+    → n < length items → IsDraft net places settled → settled (get_or items n none).variable ≡ false
     → ¬ IsSettled net places (gate_at net n).variable
 not_put net items places settled n none same n_in draft off h =
     let e : (get_or items n none).variable ≡ (gate_at net n).variable = item_variable net items n none same n_in in
-    both_ways (contains nat_cmp settled (get_or items n none).variable) off ((draft.exact _).1 (subst (IsSettled net places) (sym e) h))
+    both_ways (settled (get_or items n none).variable) off ((draft.exact _).1 (subst (IsSettled net places) (sym e) h))
 
-pub is_put : (net : Netlist) (items : List Gate) (places : List ℕ) (settled : BTreeSet ℕ) (n : ℕ) (none : Gate) → items ≡ net.gates
-    → n < length items → IsDraft net places settled → contains nat_cmp settled (get_or items n none).variable ≡ true
+pub is_put : (net : Netlist) (items : List Gate) (places : List ℕ) (settled : ℕ → Bool) (n : ℕ) (none : Gate) → items ≡ net.gates
+    → n < length items → IsDraft net places settled → settled (get_or items n none).variable ≡ true
     → IsSettled net places (gate_at net n).variable
 is_put net items places settled n none same n_in draft on =
     subst (IsSettled net places) (item_variable net items n none same n_in) ((draft.exact _).0 on)

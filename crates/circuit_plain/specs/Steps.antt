@@ -1,8 +1,6 @@
 -- Words of private contracts: how far an evaluation, a walk and a sort have come. No public contract cites
 -- them.
 use Rattle.std.specs.Prelude.{◌≢◌, ℕ, ◌<◌, ◌⊎◌, ◌↔◌, Bool, List, IsTrue, take, length, slice_index, All, AllPairs}
-use Rattle.std.specs.BTreeSet.{BTreeSet, contains}
-use Rattle.std.specs.Ordering.{nat_cmp}
 use Rattle.circuit_plain.specs.declared.walks.Task.{Task}
 use Rattle.circuit_plain.specs.declared.walks.Task.TheVariants.{Visit, Leave}
 use Rattle.circuit_plain.specs.Netlist.{Netlist, gate_at}
@@ -26,9 +24,9 @@ pub record IsPartialOrder (net : Netlist) (places : List ℕ) : Type 0 where
       → IsReady net (take k places) (gate_at net (slice_index places k))
 
 -- the beginning of an order, with the set of what it settles
-pub record IsDraft (net : Netlist) (places : List ℕ) (settled : BTreeSet ℕ) : Type 0 where
+pub record IsDraft (net : Netlist) (places : List ℕ) (settled : ℕ → Bool) : Type 0 where
   pub partial : IsPartialOrder net places
-  pub exact : (v : ℕ) → IsTrue (contains nat_cmp settled v) ↔ IsSettled net places v
+  pub exact : (v : ℕ) → IsTrue (settled v) ↔ IsSettled net places v
 
 -- the gate at a place is put already, or cannot be put
 abbrev pub IsPassed : Netlist → List ℕ → ℕ → Type 0

@@ -15,6 +15,7 @@ mod circuits;
 mod cones;
 pub mod laws;
 mod orders;
+mod settled;
 mod sorting;
 #[cfg(test)]
 mod tests;

@@ -1,6 +1,7 @@
 ghost use Rattle.std.specs.Prelude.{◌≡◌, ℕ, Option, None, Some, Result, Err, IfOk};
 ghost use Rattle.circuit_plain.specs.Ground.{IsFirstUngrounded};
 ghost use Rattle.circuit_plain.specs.Order.{IsOrder};
+ghost use Rattle.circuit_plain.specs.Settled.{is_settled};
 ghost use Rattle.circuit_plain.specs.Steps.{IsDraft, IsClosed};
 ghost use Rattle.circuit_plain.specs.declared.orders.OrderStop.TheVariants.{Memory as OutOfMemory};
 
@@ -79,13 +80,13 @@ impl Circuit {
 
     // The first gate that isn't put.
     fn first_unsettled(&self, draft: &Draft) -> Option<usize>
-        requires draft { IsDraft self.now draft.now.places.items draft.now.settled }
+        requires draft { IsDraft self.now draft.now.places.items (is_settled draft.now.settled) }
         requires closed { IsClosed self.now draft.now.places.items }
         ensures none { result ≡ None → IsOrder self.now draft.now.places.items }
         ensures some { (place : ℕ) → result ≡ Some place → IsFirstUngrounded self.now place }
     {
         for (place, gate) in self.gates.iter().enumerate() {
-            if !draft.settled.contains(&gate.variable) {
+            if !draft.settled.contains(gate.variable) {
                 return Some(place);
             }
         }

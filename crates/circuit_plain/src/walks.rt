@@ -19,7 +19,7 @@ enum Task {
 pub(crate) fn depth_first(alloc: Global, gates: &[Gate]) -> Result<Vec<usize>, Memory>
     ensures { IfOk result (λ places. All (λ place. place < length gates.now) places.items) }
 {
-    let place_of = places_by_variable(alloc, gates)?;
+    let place_of = GatePlaces::new(alloc, gates)?;
     let mut seen = vec![in alloc; false; gates.len()]?;
     let mut places = Vec::new(alloc);
     let mut tasks = visits(alloc, gates.len())?;
@@ -32,13 +32,51 @@ pub(crate) fn depth_first(alloc: Global, gates: &[Gate]) -> Result<Vec<usize>, M
     Ok(places)
 }
 
-// The place of each gate, by its variable.
-fn places_by_variable(alloc: Global, gates: &[Gate]) -> Result<BTreeMap<u64, usize>, Memory> {
-    let mut place_of = BTreeMap::new(alloc);
-    for (place, gate) in gates.iter().enumerate() {
-        place_of.insert(gate.variable, place)?;
+// The place of each gate, by its variable. A table holds the variables that are small beside the number of gates, so that
+// where these have no large gaps nothing is searched; a map holds the others.
+#[derive(Drop)]
+struct GatePlaces {
+    table: Vec<usize>,
+    rest: BTreeMap<u64, usize>,
+}
+
+// Where a variable of the table has no gate.
+const NOWHERE: usize = usize::MAX;
+
+impl GatePlaces {
+    fn new(alloc: Global, gates: &[Gate]) -> Result<GatePlaces, Memory> {
+        let mut table = vec![in alloc; NOWHERE; table_len(gates)]?;
+        let mut rest = BTreeMap::new(alloc);
+        for (place, gate) in gates.iter().enumerate() {
+            match table.get_mut(gate.variable as usize) {
+                Some(slot) => *slot = place,
+                None => {
+                    rest.insert(gate.variable, place)?;
+                }
+            }
+        }
+        Ok(GatePlaces { table, rest })
     }
-    Ok(place_of)
+
+    // The place of a variable's gate. It may be none of the gates' places where there is no gate.
+    fn place(&self, variable: u64) -> Option<usize> {
+        match self.table.get(variable as usize) {
+            Some(place) => Some(*place),
+            None => self.rest.get(&variable).copied(),
+        }
+    }
+}
+
+// One more than the largest variable of a gate that is small beside the number of gates.
+pub(crate) fn table_len(gates: &[Gate]) -> usize {
+    let limit = gates.len().saturating_mul(4).saturating_add(1024) as u64;
+    let mut len = 0;
+    for gate in gates {
+        if gate.variable < limit && gate.variable >= len {
+            len = gate.variable + 1;
+        }
+    }
+    len as usize
 }
 
 // A visit of each place below `n`, the first one last.
@@ -56,7 +94,7 @@ fn visits(alloc: Global, n: usize) -> Result<Vec<Task>, Memory>
 fn visit(
     place: usize,
     gates: &[Gate],
-    place_of: &BTreeMap<u64, usize>,
+    place_of: &GatePlaces,
     seen: &mut [bool],
     tasks: &mut Vec<Task>,
 ) -> Result<(), Memory>
@@ -80,7 +118,7 @@ fn visit(
 // Adds a visit of the gate that a right side stands on, where it wasn't seen.
 fn visit_side(
     side: u64,
-    place_of: &BTreeMap<u64, usize>,
+    place_of: &GatePlaces,
     seen: &[bool],
     tasks: &mut Vec<Task>,
 ) -> Result<(), Memory>
@@ -88,9 +126,9 @@ fn visit_side(
     ensures in_range { OnOk result (All (λ task. task_place task < length seen.now) tasks.new.items) }
     ensures one_more { OnOk result (length tasks.new.items ≤ length tasks.old.items + 1) }
 {
-    if let Some(place) = place_of.get(&(side / 2)) {
-        if *place < seen.len() && !seen[*place] {
-            tasks.push(Task::Visit(*place))?;
+    if let Some(place) = place_of.place(side / 2) {
+        if place < seen.len() && !seen[place] {
+            tasks.push(Task::Visit(place))?;
         }
     }
     Ok(())

@@ -1,10 +1,9 @@
 use Rattle.std.proofs.Common.{◌≡◌, ℕ, true}
 use Rattle.std.specs.Prelude.{◌↔◌}
-use Rattle.std.specs.BTreeSet.{contains}
-use Rattle.std.specs.Ordering.{nat_cmp}
+use Rattle.circuit_plain.specs.Settled.{is_settled}
 use Rattle.circuit_plain.proofs.SortingLaws.{IsLeafBefore}
 use Rattle.circuit_plain.proofs.circuits.Circuit.empty_draft.Given as goal
 
 abbrev pub invariant-loop-variable : goal.invariant-loop-variable
 invariant-loop-variable l =
-    (v : ℕ) → (contains nat_cmp l.settled v ≡ true) ↔ IsLeafBefore l.self l.variable-index v
+    (v : ℕ) → (is_settled l.settled v ≡ true) ↔ IsLeafBefore l.self l.variable-index v
