@@ -14,8 +14,6 @@ use Rattle.skolem_checker.specs.Checks.{candidate_of}
 use Rattle.dqcheck_core.specs.Judgement.{line_ends, proof_in, BehindProof, IsCircuitRefusal, IsCircuitAnswer}
 use Rattle.dqcheck_core.specs.Places.{AnswersStop}
 use Rattle.dqcheck_core.specs.declared.answers.Answer.{Answer}
-use Rattle.dqcheck_core.specs.declared.answers.Answer.TheVariants.{Refused}
-use Rattle.dqcheck_core.specs.declared.answers.CertificateFault.TheVariants.{Circuit}
 
 abbrev SpellingIs : List ℕ → Type 0
 SpellingIs text = (first : ℕ) (file : AagFile) → SpellsCircuit text file ↔ ((scan text first ≡ Ok file) × AllGrounded file.circuit)

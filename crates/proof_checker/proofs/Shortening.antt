@@ -1,11 +1,10 @@
 -- The clause that some clause of the formula is false, with the constants put in.
-use Rattle.std.proofs.Common.{◌≡◌, ◌≢◌, ℕ, zero, suc, ◌+◌, ◌-◌, ◌*◌, ◌/◌, ◌%◌, ◌<◌, ◌≤◌, ◌==◌, Bool, true, false, not, cond, ◌||◌, List, [], ◌∷◌, ◌++◌, map, length, slice_get, Option, None, Some, IsSome, refl, sym, ◌∙◌, ap, subst, arith, length-append}
+use Rattle.std.proofs.Common.{◌≡◌, ◌≢◌, ℕ, zero, suc, ◌+◌, ◌*◌, ◌/◌, ◌%◌, ◌<◌, ◌≤◌, ◌==◌, Bool, true, false, not, cond, ◌||◌, List, ◌∷◌, map, length, slice_get, None, Some, refl, sym, ◌∙◌, ap, arith}
 use Rattle.std.specs.List.{filter, list_any, range_with_len}
-use Rattle.std.proofs.lemmas.Bool.{eq-eqb}
-use Rattle.dq_lits.specs.Literal.{Literal, positive, negative}
+use Rattle.dq_lits.specs.Literal.{positive, negative}
 use Rattle.dq_formula.proofs.Places.{ne-false}
 use Rattle.cert_text.specs.NegatedMatrix.{as_literal, without_constants}
-use Rattle.proof_checker.specs.ShortClause.{optional, kept_literals}
+use Rattle.proof_checker.specs.ShortClause.{kept_literals}
 
 or_false : (a b : Bool) → a ≡ false → b ≡ false → (a || b) ≡ false
 or_false a b a_is b_is = ap (λ t. t || b) a_is ∙ b_is

@@ -1,27 +1,26 @@
 -- What `first_fault` asks of the instances and the lines.
-use Rattle.std.proofs.Common.{◌≡◌, ℕ, zero, suc, ◌+◌, ◌*◌, ◌/◌, ◌%◌, ◌<◌, ◌≤◌, ◌==◌, not, Bool, true, List, [], ◌∷◌, map, length, get_or, slice_get, Option, None, Some, IfSome, refl, sym, ◌∙◌, ap, subst, arith}
-use Rattle.std.specs.List.{All, AllByRecursion, position_or_len}
+use Rattle.std.proofs.Common.{◌≡◌, ℕ, zero, suc, ◌+◌, ◌*◌, ◌/◌, ◌%◌, ◌<◌, ◌≤◌, Bool, true, List, [], ◌∷◌, map, length, slice_get, Option, None, Some, refl, sym, ◌∙◌, ap, subst, arith}
+use Rattle.std.specs.List.{All, AllByRecursion}
 use Rattle.std.specs.Option.{option_map, option_and_then}
 use Rattle.std.proofs.Math.Nat.{le-div_iff_mul-le}
 use Rattle.std.proofs.lemmas.List.{length-map}
 use Rattle.std.proofs.lemmas.List.Elements.{All-from_recursion}
-use Rattle.std.proofs.lemmas.List.Sums.{prefix_len-le-length}
 use Rattle.std.proofs.lemmas.Option.{slice_get_past}
-use Rattle.dq_lits.specs.Derivation.{LiveClauses, ProofStep, ProofFault, proof_fault}
+use Rattle.dq_lits.specs.Derivation.{ProofStep, ProofFault, proof_fault}
 use Rattle.dq_lits.specs.Expansion.{instance_at, instance_clause}
 use Rattle.dq_lits.specs.Formula.{Dqbf}
-use Rattle.dq_lits.specs.Literal.{Literal, positive, negative, variable_of, on_variable}
+use Rattle.dq_lits.specs.Literal.{variable_of}
 use Rattle.cert_text.specs.Grammar.{AreSteps}
 use Rattle.cert_text.specs.Pairs.{is_pair_number}
 use Rattle.cert_text.specs.Scan.{first_id}
 use Rattle.cert_text.specs.declared.refutations.Dqr.{Dqr}
 use Rattle.rup_core.specs.Growth.{AreNumbered}
-use Rattle.rup_core.specs.Range.{StandsWithin, LineStandsWithin}
+use Rattle.rup_core.specs.Range.{LineStandsWithin}
 use Rattle.refutation_checker.specs.Lines.{placed_steps}
 use Rattle.refutation_checker.specs.PairTable.{Numbered, numbered_in, with_numbers}
 use Rattle.refutation_checker.specs.Occurring.{occurring_pairs}
 use Rattle.refutation_checker.specs.Refutation.{normal_step, refutation_fault}
-use Rattle.sparse_proofs.specs.Renaming.{place_of, renamed_literal, renamed_clauses, with_variables}
+use Rattle.sparse_proofs.specs.Renaming.{renamed_literal, renamed_clauses, with_variables}
 use Rattle.sparse_proofs.proofs.Within.{all_within}
 use Rattle.refutation_checker.proofs.Knowing.{placed_fault}
 

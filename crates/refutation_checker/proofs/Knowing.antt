@@ -1,16 +1,14 @@
 -- Every pair that a refutation needs is among those that occur.
-use Rattle.std.proofs.Common.{◌≡◌, ℕ, ◌==◌, Bool, true, false, cond, List, [], ◌∷◌, ◌++◌, map, Option, None, Some, Contains, refl, sym, subst}
-use Rattle.std.specs.List.{AllByRecursion, list_any, flat_map}
-use Rattle.std.proofs.lemmas.List.Elements.{Contains-append_left, Contains-push}
+use Rattle.std.proofs.Common.{◌≡◌, ℕ, Bool, List, [], ◌∷◌, map, Contains, sym, subst}
+use Rattle.std.specs.List.{AllByRecursion, flat_map}
 use Rattle.dq_lits.specs.Derivation.{ProofStep, proof_fault}
 use Rattle.dq_lits.specs.Expansion.{instance_at}
 use Rattle.dq_lits.specs.Formula.{Dqbf}
 use Rattle.dq_lits.specs.Literal.{Literal, positive, negative, variable_of, on_variable}
-use Rattle.dq_formula.proofs.Places.{contains-has}
 use Rattle.sparse_proofs.proofs.Occurring.{with_variables-have, split, known_clause}
 use Rattle.refutation_checker.specs.Occurring.{instance_pairs, line_pairs, step_pairs, occurring_pairs}
 use Rattle.refutation_checker.specs.Refutation.{normal_number, normal_literal, normal_step}
-use Rattle.sparse_proofs.specs.Renaming.{with_variable, with_variables, renamed_clauses, renamed_step}
+use Rattle.sparse_proofs.specs.Renaming.{with_variables, renamed_clauses, renamed_step}
 use Rattle.sparse_proofs.proofs.Renamed.{IsKnown, AreKnown, IsKnownClause, IsKnownStep, proof_fault-renamed}
 
 on_known : (pairs : List ℕ) (number : ℕ) (l : Literal) → Contains pairs number → IsKnown pairs (on_variable number l)

@@ -1,20 +1,18 @@
 -- The numbers of pairs.
-use Rattle.std.proofs.Common.{◌≡◌, ℕ, ◌+◌, ◌-◌, ◌*◌, ◌/◌, ◌%◌, ◌≤◌, ◌<◌, ◌^◌, ◌==◌, eqb, Bool, true, false, not, ◌&&◌, cond, inl, inr, List, [], ◌∷◌, map, length, get_or, position, Option, Contains, None, Some, IsSome, is_some, nat_lt, refl, sym, ◌∙◌, ap, subst, arith}
-use Rattle.std.specs.List.{All, IsDistinct, list_any, find, position_or_len, filter_map}
+use Rattle.std.proofs.Common.{◌≡◌, ℕ, ◌+◌, ◌-◌, ◌*◌, ◌/◌, ◌%◌, ◌≤◌, ◌<◌, ◌^◌, ◌==◌, eqb, Bool, true, false, not, ◌&&◌, cond, inl, inr, List, [], ◌∷◌, map, length, get_or, position, Option, None, Some, IsSome, is_some, nat_lt, refl, sym, ◌∙◌, ap, subst, arith}
+use Rattle.std.specs.List.{All, list_any, find, position_or_len, filter_map}
 use Rattle.std.specs.Map.{lookup}
 use Rattle.std.proofs.Math.Nat.{mul-le-mul_left}
 use Rattle.std.proofs.lemmas.Bool.{cases_Bool, eqb-true, and_parts, ltb-true}
 use Rattle.std.proofs.lemmas.Option.{slice_get-get_or}
 use Rattle.std.proofs.lemmas.List.{get_or-map, get_or_default}
 use Rattle.std.proofs.lemmas.List.Sums.{prefix_len-le-length}
-use Rattle.std.proofs.lemmas.List.Elements.{All-contains}
-use Rattle.std.proofs.lemmas.Map.Steps.{length-le_from_distinct_below}
 use Rattle.indexmap.specs.IndexMap.{insert_entry}
 use Rattle.dq_lits.specs.Expansion.{agree_on, row_assignment, pair_number, pair_literal, universal_literal_true}
 use Rattle.dq_lits.specs.Formula.{Existential, Dqbf, existential_of}
 use Rattle.dq_lits.specs.Literal.{Literal, positive, negative, variable_of, is_negative, literal_true, on_variable}
 use Rattle.dq_formula.specs.Prefix.{IsLawful}
-use Rattle.dq_formula.proofs.Places.{has, flip, contains-has, place-absent, place-found}
+use Rattle.dq_formula.proofs.Places.{has, place-absent, place-found}
 use Rattle.dq_formula.proofs.Sorted.{place-below}
 use Rattle.dq_formula.proofs.Restrictions.{assignment_of-place}
 use Rattle.cert_text.specs.Header.{max_count}
@@ -22,7 +20,6 @@ use Rattle.cert_text.specs.Pairs.{is_pair_number}
 use Rattle.cert_text.proofs.PairNumbers.{existential_in_range}
 use Rattle.refutation_checker.specs.Refutation.{normal_of, normal_number}
 use Rattle.refutation_checker.specs.Pairs.{first_agreeing, first_row, pair_of, existential_part, AreFirstRows}
-use Rattle.sparse_proofs.specs.Renaming.{place_of}
 use Rattle.refutation_checker.specs.PairTable.{instance_in, instance_literals}
 
 -- a first row is one of the rows, or behind the last

@@ -1,5 +1,5 @@
 -- The pairs that occur in a refutation: those of its lines, and those of the instances that they hint.
-use Rattle.std.specs.Prelude.{ℕ, Bool, List, [], ◌++◌, map, Option, None, Some}
+use Rattle.std.specs.Prelude.{ℕ, Bool, List, ◌++◌, map}
 use Rattle.std.specs.List.{flat_map}
 use Rattle.dq_lits.specs.Derivation.{ProofStep}
 use Rattle.dq_lits.specs.Expansion.{instance_at}

@@ -7,7 +7,7 @@ use Rattle.std.proofs.lemmas.List.Elements.{All-contains}
 use Rattle.std.proofs.lemmas.List.Sums.{fold-append}
 use Rattle.std.proofs.lemmas.Map.Steps.{length-le_from_distinct_below}
 use Rattle.std.proofs.lemmas.Option.{slice_get-map, slice_get-get_or}
-use Rattle.dq_lits.specs.Derivation.{LiveClauses, ProofStep}
+use Rattle.dq_lits.specs.Derivation.{ProofStep}
 use Rattle.dq_lits.specs.Literal.{Literal, variable_of}
 use Rattle.dq_formula.proofs.Places.{flip, contains-has, place-absent}
 use Rattle.rup_core.specs.Reading.{clause_size, literal_at}
