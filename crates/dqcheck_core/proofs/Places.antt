@@ -18,12 +18,3 @@ spelled_few text file h =
     let few = h.header.few_variables in
     let enough = h.header.enough in
     record { variables = few; inputs = omega arith; outputs = h.header.few_outputs }
-
-mapping_fault : (f : Dqbf) (net : Netlist) (fault : MapError) (mapped : Result Mapping MapError) → with_mapping f net mapped ≡ Err fault → mapped ≡ Err fault
-mapping_fault f net fault (Ok mapping) same = cc
-mapping_fault f net fault (Err other) same = cc
-
-pub candidate_fault : {B : Type 0} (value : B → Candidate) (f : Dqbf) (net : Netlist) (symbols : SymbolTable) (fault : MapError) (stop : BenchStop)
-    → stop ≡ Map fault → Answers value (candidate_of f net symbols) (Err stop) → mapping_of f net symbols ≡ Err fault
-candidate_fault value f net symbols fault stop is answer =
-    mapping_fault f net fault (mapping_of f net symbols) (subst (λ s. Answers value (candidate_of f net symbols) (Err s)) is answer)

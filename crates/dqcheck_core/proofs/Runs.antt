@@ -21,27 +21,27 @@ use Rattle.dqcheck_core.specs.declared.reports.Output.{Output}
 rose_earlier : (before mid now : ℕ) → before ≤ mid → Rose mid now → Rose before now
 rose_earlier before mid now later rose = omega arith
 
-due_for_weaker : (held : List ℕ → Holding) (A B : Type 0) (c : Command) (report : Report) → (A → B) → IsDueFor held A c report → IsDueFor held B c report
-due_for_weaker held A B c usage weaker due = due
-due_for_weaker held A B c source_fault weaker due = weaker due
-due_for_weaker held A B c long_formula weaker due = due
-due_for_weaker held A B c long_certificate weaker due = due
-due_for_weaker held A B c (refused_formula fault) weaker due = due
-due_for_weaker held A B c (judged f answer) weaker due = due
+due_for_weaker : (held : List ℕ → Holding) (A B : Type 0) (given : ℕ) (c : Command) (report : Report) → (A → B) → IsDueFor held A given c report → IsDueFor held B given c report
+due_for_weaker held A B given c usage weaker due = due
+due_for_weaker held A B given c source_fault weaker due = weaker due
+due_for_weaker held A B given c long_formula weaker due = due
+due_for_weaker held A B given c long_certificate weaker due = due
+due_for_weaker held A B given c (refused_formula fault) weaker due = due
+due_for_weaker held A B given c (judged f answer) weaker due = due
 
-due_weaker : (held : List ℕ → Holding) (A B : Type 0) (command : Option Command) (report : Report) → (A → B) → IsDue held A command report → IsDue held B command report
-due_weaker held A B None report weaker due = due
-due_weaker held A B (Some c) report weaker due = due_for_weaker held A B c report weaker due
+due_weaker : (held : List ℕ → Holding) (A B : Type 0) (given : ℕ) (command : Option Command) (report : Report) → (A → B) → IsDue held A given command report → IsDue held B given command report
+due_weaker held A B given None report weaker due = due
+due_weaker held A B given (Some c) report weaker due = due_for_weaker held A B given c report weaker due
 
-pub due_earlier : (old mid : List ℕ → Holding) (before later now : ℕ) (command : Option Command) (r : Result Output Memory) → mid ≡ old → before ≤ later
-    → IfOk r (IsOutputDue mid (Rose later now) command) → IfOk r (IsOutputDue old (Rose before now) command)
-due_earlier old mid before later now command (Ok output) same rises o = record {
+pub due_earlier : (old mid : List ℕ → Holding) (before later now given : ℕ) (command : Option Command) (r : Result Output Memory) → mid ≡ old → before ≤ later
+    → IfOk r (IsOutputDue mid (Rose later now) given command) → IfOk r (IsOutputDue old (Rose before now) given command)
+due_earlier old mid before later now given command (Ok output) same rises o = record {
   report = o.report;
-  due = due_weaker old (Rose later now) (Rose before now) command o.report (rose_earlier before later now rises)
-      (subst (λ held. IsDue held (Rose later now) command o.report) same o.due);
+  due = due_weaker old (Rose later now) (Rose before now) given command o.report (rose_earlier before later now rises)
+      (subst (λ held. IsDue held (Rose later now) given command o.report) same o.due);
   is = o.is;
 }
-due_earlier old mid before later now command (Err _) same rises o = tt
+due_earlier old mid before later now given command (Err _) same rises o = tt
 
 -- what the law of the formulas' grammar gives
 pub record FormulaLaw : Type 0 where
@@ -68,20 +68,20 @@ judged_is law formula certificate f g answer first second is_first is_second spe
     let same : g ≡ f = law.unique formula g f (subst (λ text. SpellsFormula text g) same_formula one.spelled) spelled in
     (same, subst (λ h. IsJudgement h certificate answer) same (subst (λ text. IsJudgement g text answer) same_certificate other.judged))
 
-answered_by : FormulaLaw → (held : List ℕ → Holding) (Faulted : Type 0) (c : Command) (formula certificate : List ℕ) (f : Dqbf) (before now : Option (List ℕ)) (output : Output)
+answered_by : FormulaLaw → (held : List ℕ → Holding) (Faulted : Type 0) (given : ℕ) (c : Command) (formula certificate : List ℕ) (f : Dqbf) (before now : Option (List ℕ)) (output : Output)
     → held c.formula ≡ Holds formula → held c.certificate ≡ Holds certificate
     → length formula ≤ max_formula → length certificate ≤ max_certificate → SpellsFormula formula f → (Faulted → ⊥)
     → now ≡ append_known before output.text.items
-    → (report : Report) → IsDueFor held Faulted c report → IsOutput report output → IsAnswered f certificate before now output.status
-answered_by law held Faulted c formula certificate f before now output is_first is_second short_formula short_certificate spelled sound written usage due is = absurd due
-answered_by law held Faulted c formula certificate f before now output is_first is_second short_formula short_certificate spelled sound written source_fault due is = absurd (sound due)
-answered_by law held Faulted c formula certificate f before now output is_first is_second short_formula short_certificate spelled sound written long_formula due is =
-    let long = held_long max_formula (held c.formula) formula is_first due in absurd (omega (arith, long, short_formula))
-answered_by law held Faulted c formula certificate f before now output is_first is_second short_formula short_certificate spelled sound written long_certificate due is =
+    → (report : Report) → IsDueFor held Faulted given c report → IsOutput report output → IsAnswered f certificate before now output.status
+answered_by law held Faulted given c formula certificate f before now output is_first is_second short_formula short_certificate spelled sound written usage due is = absurd due
+answered_by law held Faulted given c formula certificate f before now output is_first is_second short_formula short_certificate spelled sound written source_fault due is = absurd (sound due)
+answered_by law held Faulted given c formula certificate f before now output is_first is_second short_formula short_certificate spelled sound written long_formula due is =
+    let long = held_long max_formula (held c.formula) formula is_first due.0 in absurd (omega (arith, long, short_formula))
+answered_by law held Faulted given c formula certificate f before now output is_first is_second short_formula short_certificate spelled sound written long_certificate due is =
     let long = held_long max_certificate (held c.certificate) certificate is_second due.2 in absurd (omega (arith, long, short_certificate))
-answered_by law held Faulted c formula certificate f before now output is_first is_second short_formula short_certificate spelled sound written (refused_formula fault) due is =
+answered_by law held Faulted given c formula certificate f before now output is_first is_second short_formula short_certificate spelled sound written (refused_formula fault) due is =
     absurd (no_fault law formula f (held c.formula) fault is_first spelled due)
-answered_by law held Faulted c formula certificate f before now output is_first is_second short_formula short_certificate spelled sound written (judged g answer) due is =
+answered_by law held Faulted given c formula certificate f before now output is_first is_second short_formula short_certificate spelled sound written (judged g answer) due is =
     let (same, judgement) = judged_is law formula certificate f g answer (held c.formula) (held c.certificate) is_first is_second spelled due.0 due.1 in
     record {
       answer = answer;
@@ -90,15 +90,15 @@ answered_by law held Faulted c formula certificate f before now output is_first 
       written = written ∙ ap (append_known before) (is.text ∙ ap (λ h. line (answer_text h answer)) same);
     }
 
-pub answered : FormulaLaw → (held : List ℕ → Holding) (Faulted : Type 0) (words : List (List ℕ)) (before now : Option (List ℕ)) (output : Output)
-    → IsOutputDue held Faulted (command_of words) output → now ≡ append_known before output.text.items
+pub answered : FormulaLaw → (held : List ℕ → Holding) (Faulted : Type 0) (given : ℕ) (words : List (List ℕ)) (before now : Option (List ℕ)) (output : Output)
+    → IsOutputDue held Faulted given (command_of words) output → now ≡ append_known before output.text.items
     → (formula certificate : List ℕ) (f : Dqbf) → AreTold held words formula certificate
     → length formula ≤ max_formula → length certificate ≤ max_certificate → SpellsFormula formula f → (Faulted → ⊥)
     → IsAnswered f certificate before now output.status
-answered law held Faulted words before now output o written formula certificate f told short_formula short_certificate spelled sound =
-    answered_by law held Faulted told.command formula certificate f before now output told.formula_held told.certificate_held
+answered law held Faulted given words before now output o written formula certificate f told short_formula short_certificate spelled sound =
+    answered_by law held Faulted given told.command formula certificate f before now output told.formula_held told.certificate_held
     short_formula short_certificate spelled sound written o.report
-    (subst (λ command. IsDue held Faulted command o.report) told.is o.due) o.is
+    (subst (λ command. IsDue held Faulted given command o.report) told.is o.due) o.is
 
 -- what the laws of acceptance give
 pub record AcceptanceLaw : Type 0 where
@@ -119,20 +119,20 @@ verdict_of law g certificate before now ValidTrue formed judgement status writte
 verdict_of law g certificate before now ValidFalse formed judgement status written =
     inr (record { accepted = judgement; is_false = law.is_false g certificate formed judgement; written = written })
 
-accepted_by : AcceptanceLaw → (held : List ℕ → Holding) (Faulted : Type 0) (c : Command) (formula certificate : List ℕ) (before now : Option (List ℕ)) (output : Output)
+accepted_by : AcceptanceLaw → (held : List ℕ → Holding) (Faulted : Type 0) (given : ℕ) (c : Command) (formula certificate : List ℕ) (before now : Option (List ℕ)) (output : Output)
     → held c.formula ≡ Holds formula → held c.certificate ≡ Holds certificate
     → now ≡ append_known before output.text.items → output.status ≡ 0
-    → (report : Report) → IsDueFor held Faulted c report → IsOutput report output → IsAcceptance formula certificate before now
-accepted_by law held Faulted c formula certificate before now output is_first is_second written accepted usage due is = absurd due
-accepted_by law held Faulted c formula certificate before now output is_first is_second written accepted source_fault due is =
+    → (report : Report) → IsDueFor held Faulted given c report → IsOutput report output → IsAcceptance formula certificate before now
+accepted_by law held Faulted given c formula certificate before now output is_first is_second written accepted usage due is = absurd due
+accepted_by law held Faulted given c formula certificate before now output is_first is_second written accepted source_fault due is =
     let other = is.status in absurd (omega (arith, other, accepted))
-accepted_by law held Faulted c formula certificate before now output is_first is_second written accepted long_formula due is =
+accepted_by law held Faulted given c formula certificate before now output is_first is_second written accepted long_formula due is =
     let other = is.status in absurd (omega (arith, other, accepted))
-accepted_by law held Faulted c formula certificate before now output is_first is_second written accepted long_certificate due is =
+accepted_by law held Faulted given c formula certificate before now output is_first is_second written accepted long_certificate due is =
     let other = is.status in absurd (omega (arith, other, accepted))
-accepted_by law held Faulted c formula certificate before now output is_first is_second written accepted (refused_formula fault) due is =
+accepted_by law held Faulted given c formula certificate before now output is_first is_second written accepted (refused_formula fault) due is =
     let other = is.status in absurd (omega (arith, other, accepted))
-accepted_by law held Faulted c formula certificate before now output is_first is_second written accepted (judged g answer) (one, other) is =
+accepted_by law held Faulted given c formula certificate before now output is_first is_second written accepted (judged g answer) (one, other) is =
     let same_formula = held_text (held c.formula) formula one.text is_first one.read.is in
     let same_certificate = held_text (held c.certificate) certificate other.text is_second other.read.is in
     record {
@@ -142,9 +142,9 @@ accepted_by law held Faulted c formula certificate before now output is_first is
           (sym is.status ∙ accepted) (written ∙ ap (append_known before) is.text);
     }
 
-pub accepted : AcceptanceLaw → (held : List ℕ → Holding) (Faulted : Type 0) (words : List (List ℕ)) (before now : Option (List ℕ)) (output : Output)
-    → IsOutputDue held Faulted (command_of words) output → now ≡ append_known before output.text.items
+pub accepted : AcceptanceLaw → (held : List ℕ → Holding) (Faulted : Type 0) (given : ℕ) (words : List (List ℕ)) (before now : Option (List ℕ)) (output : Output)
+    → IsOutputDue held Faulted given (command_of words) output → now ≡ append_known before output.text.items
     → (formula certificate : List ℕ) → AreTold held words formula certificate → output.status ≡ 0 → IsAcceptance formula certificate before now
-accepted law held Faulted words before now output o written formula certificate told success =
-    accepted_by law held Faulted told.command formula certificate before now output told.formula_held told.certificate_held written success o.report
-    (subst (λ command. IsDue held Faulted command o.report) told.is o.due) o.is
+accepted law held Faulted given words before now output o written formula certificate told success =
+    accepted_by law held Faulted given told.command formula certificate before now output told.formula_held told.certificate_held written success o.report
+    (subst (λ command. IsDue held Faulted given command o.report) told.is o.due) o.is

@@ -11,7 +11,7 @@ pub record IsOutput (report : Report) (output : Output) : Type 0 where
   pub status : output.status ≡ status_of report
   pub text : output.text.items ≡ text_of report
 
-pub record IsOutputDue (held : List ℕ → Holding) (Faulted : Type 0) (command : Option Command) (output : Output) : Type 0 where
+pub record IsOutputDue (held : List ℕ → Holding) (Faulted : Type 0) (given : ℕ) (command : Option Command) (output : Output) : Type 0 where
   pub report : Report
-  pub due : IsDue held Faulted command report
+  pub due : IsDue held Faulted given command report
   pub is : IsOutput report output

@@ -56,19 +56,21 @@ pub record IsAnswerTo (f : Dqbf) (holding : Holding) (answer : Answer) : Type 0 
   pub judged : IsJudgement f text answer
 
 -- Which report is due for the files of a command: the formula's file comes first, then its text, then the
--- certificate's file and text. `Faulted` says that the files counted a fault.
-abbrev pub IsDueFor : (List ℕ → Holding) → Type 0 → Command → Report → Type 0
-IsDueFor held Faulted c usage = ⊥
-IsDueFor held Faulted c source_fault = Faulted
-IsDueFor held Faulted c long_formula = IsLong max_formula (held c.formula)
-IsDueFor held Faulted c (refused_formula fault) = IsFaultOf (held c.formula) fault
-IsDueFor held Faulted c long_certificate = (f : Dqbf) × IsFormulaOf (held c.formula) f × IsLong max_certificate (held c.certificate)
-IsDueFor held Faulted c (judged f answer) = IsFormulaOf (held c.formula) f × IsAnswerTo f (held c.certificate) answer
+-- certificate's file and text. `Faulted` says that the files counted a fault, at any of these steps; `given` bytes
+-- were given since the last file was picked.
+abbrev pub IsDueFor : (List ℕ → Holding) → Type 0 → ℕ → Command → Report → Type 0
+IsDueFor held Faulted given c usage = ⊥
+IsDueFor held Faulted given c source_fault = Faulted
+IsDueFor held Faulted given c long_formula = IsLong max_formula (held c.formula) × (max_formula < given)
+IsDueFor held Faulted given c (refused_formula fault) = IsFaultOf (held c.formula) fault
+IsDueFor held Faulted given c long_certificate =
+    (f : Dqbf) × IsFormulaOf (held c.formula) f × IsLong max_certificate (held c.certificate) × (max_certificate < given)
+IsDueFor held Faulted given c (judged f answer) = IsFormulaOf (held c.formula) f × IsAnswerTo f (held c.certificate) answer
 
 -- the words come before all
-abbrev pub IsDue : (List ℕ → Holding) → Type 0 → Option Command → Report → Type 0
-IsDue held Faulted None report = report ≡ usage
-IsDue held Faulted (Some c) report = IsDueFor held Faulted c report
+abbrev pub IsDue : (List ℕ → Holding) → Type 0 → ℕ → Option Command → Report → Type 0
+IsDue held Faulted given None report = report ≡ usage
+IsDue held Faulted given (Some c) report = IsDueFor held Faulted given c report
 
 -- all of a report was written, or the sink failed before its end
 abbrev pub IsDelivered : Option (List ℕ) → Option (List ℕ) → Report → ℕ → Type 0
@@ -77,14 +79,14 @@ IsDelivered before now report status =
     ⊎ ((status ≡ 4) × TakesPart before now (text_of report))
 
 -- a report was due, and was delivered
-pub record Reports (held : List ℕ → Holding) (Faulted : Type 0) (words : List (List ℕ)) (before now : Option (List ℕ)) (status : ℕ) : Type 0 where
+pub record Reports (held : List ℕ → Holding) (Faulted : Type 0) (given : ℕ) (words : List (List ℕ)) (before now : Option (List ℕ)) (status : ℕ) : Type 0 where
   pub report : Report
-  pub due : IsDue held Faulted (command_of words) report
+  pub due : IsDue held Faulted given (command_of words) report
   pub delivered : IsDelivered before now report status
 
 -- memory was wanted, and nothing written; or a report
-abbrev pub Ends : (List ℕ → Holding) → Type 0 → List (List ℕ) → Option (List ℕ) → Option (List ℕ) → ℕ → Type 0
-Ends held Faulted words before now status = ((status ≡ 5) × (now ≡ before)) ⊎ Reports held Faulted words before now status
+abbrev pub Ends : (List ℕ → Holding) → Type 0 → ℕ → List (List ℕ) → Option (List ℕ) → Option (List ℕ) → ℕ → Type 0
+Ends held Faulted given words before now status = ((status ≡ 5) × (now ≡ before)) ⊎ Reports held Faulted given words before now status
 
 -- the words name files with these texts
 pub record AreTold (held : List ℕ → Holding) (words : List (List ℕ)) (formula certificate : List ℕ) : Type 0 where

@@ -40,7 +40,7 @@ pub fn dqcheck_run<F: Files, K: Sink>(
     out: &mut K,
 ) -> u8
     // What is written is the line that is due, and the status is that line's.
-    ensures ends { Ends (F.held files.old) (Rose (F.faults files.old) (F.faults files.new)) (map string_bytes words.now)
+    ensures ends { Ends (F.held files.old) (Rose (F.faults files.old) (F.faults files.new)) (F.given files.new) (map string_bytes words.now)
         (K.taken out.old) (K.taken out.new) result }
 
     // Over files that are told: what is accepted is right, and where nothing failed, the certificate is judged.
@@ -77,7 +77,7 @@ pub fn dqcheck_run<F: Files, K: Sink>(
 
 // What is to be written.
 fn report<F: Files>(alloc: Global, words: &[String], files: &mut F) -> Result<Output, Memory>
-    ensures due { IfOk result (IsOutputDue (F.held files.old) (Rose (F.faults files.old) (F.faults files.new)) (command_of (map string_bytes words.now))) }
+    ensures due { IfOk result (IsOutputDue (F.held files.old) (Rose (F.faults files.old) (F.faults files.new)) (F.given files.new) (command_of (map string_bytes words.now))) }
     ensures long { IfOk result (λ output. output.status ≡ 6 → max_formula < F.given files.new) }
     ensures unfaulted { IfOk result (λ output. output.status ≢ 3 → F.faults files.new ≡ F.faults files.old) }
     ensures held { F.held files.new ≡ F.held files.old }
@@ -90,7 +90,7 @@ fn report<F: Files>(alloc: Global, words: &[String], files: &mut F) -> Result<Ou
 
 // What is to be written where the words name two files.
 fn report_files<F: Files>(alloc: Global, names: FileNames, files: &mut F) -> Result<Output, Memory>
-    ensures due { IfOk result (IsOutputDue (F.held files.old) (Rose (F.faults files.old) (F.faults files.new))
+    ensures due { IfOk result (IsOutputDue (F.held files.old) (Rose (F.faults files.old) (F.faults files.new)) (F.given files.new)
         (Some (record { formula = names.entry.formula.now; certificate = names.entry.certificate.now }))) }
     ensures long { IfOk result (λ output. output.status ≡ 6 → max_formula < F.given files.new) }
     ensures unfaulted { IfOk result (λ output. output.status ≢ 3 → F.faults files.new ≡ F.faults files.old) }
@@ -120,7 +120,7 @@ fn report_certificate<F: Files>(
     files: &mut F,
 ) -> Result<Output, Memory>
     requires { IsFormulaOf (F.held files.old names.formula.now) formula.now }
-    ensures due { IfOk result (IsOutputDue (F.held files.old) (Rose (F.faults files.old) (F.faults files.new))
+    ensures due { IfOk result (IsOutputDue (F.held files.old) (Rose (F.faults files.old) (F.faults files.new)) (F.given files.new)
         (Some (record { formula = names.entry.formula.now; certificate = names.entry.certificate.now }))) }
     ensures long { IfOk result (λ output. output.status ≡ 6 → max_certificate < F.given files.new) }
     ensures unfaulted { IfOk result (λ output. output.status ≢ 3 → F.faults files.new ≡ F.faults files.old) }

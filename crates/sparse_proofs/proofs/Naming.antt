@@ -39,27 +39,6 @@ some_more g old now next xs i x lt is before added =
     ∙ ap (with_variables old) (flat_map_more g [] (take i xs) (get_or xs i x))
     ∙ ap (λ ys. with_variables old (flat_map g ys)) (sym (take_more xs i x lt))
 
--- the variables of a clause, read literal by literal
-pub sized : (clause : Option (List Literal)) (n : ℕ) → Some n ≡ clause_size clause → n ≡ length (literals_in clause)
-sized None n is = cc
-sized (Some clause) n is = cc
-
-none_sized : (clause : Option (List Literal)) → None ≡ clause_size clause → clause ≡ None
-none_sized None is = refl
-none_sized (Some clause) is = cc
-
-pub no_variables : (old : List ℕ) (clause : Option (List Literal)) → None ≡ clause_size clause → old ≡ with_variables old (clause_variables clause)
-no_variables old clause is = ap (λ o. with_variables old (clause_variables o)) (sym (none_sized clause is))
-
-there : (clause : List Literal) (i : ℕ) → i < length clause → IsSome (slice_get clause i)
-there [] i below = absurd (omega (arith, below))
-there (l ∷ clause) zero below = refl
-there (l ∷ clause) (suc i) below = there clause i (omega (arith, below))
-
-pub literal_there : (clause : Option (List Literal)) (n i : ℕ) → Some n ≡ clause_size clause → i < n → IsSome (literal_at clause i)
-literal_there None n i is below = cc
-literal_there (Some clause) n i is below = there clause i (let same = sized (Some clause) n is in omega (arith, same, below))
-
 found : (clause : List Literal) (i : ℕ) (l : Literal) → slice_get clause i ≡ Some l → (i < length clause) × (l ≡ get_or clause i l)
 found [] i l at = cc
 found (k ∷ clause) zero l at = (omega arith, (let same : k ≡ l = cc in sym same))
@@ -69,31 +48,12 @@ at_found : (clause : Option (List Literal)) (i : ℕ) (l : Literal) → literal_
 at_found None i l at = cc
 at_found (Some clause) i l at = found clause i l at
 
-pub small_at : (clause : Option (List Literal)) (i : ℕ) (l : Literal) → literal_at clause i ≡ Some l → IfSome clause AreSmall → variable_of l < 2 ^ 61
-small_at None i l at small = cc
-small_at (Some clause) i l at small = let h = found clause i l at in subst (λ k. variable_of k < 2 ^ 61) (sym h.1) (small i l h.0)
-
 pub next_literal : (old now next : List ℕ) (clause : Option (List Literal)) (i : ℕ) (l : Literal) → literal_at clause i ≡ Some l
     → now ≡ with_variables old (map variable_of (take i (literals_in clause))) → next ≡ with_variable now (variable_of l)
     → next ≡ with_variables old (map variable_of (take (i + 1) (literals_in clause)))
 next_literal old now next clause i l at before added =
     let h = at_found clause i l at in
     one_more variable_of old now next (literals_in clause) i l h.0 h.1 before added
-
-variables_in : (clause : Option (List Literal)) → clause_variables clause ≡ map variable_of (literals_in clause)
-variables_in None = refl
-variables_in (Some clause) = refl
-
-pub all_literals : (old now : List ℕ) (clause : Option (List Literal)) (n : ℕ) → Some n ≡ clause_size clause
-    → now ≡ with_variables old (map variable_of (take n (literals_in clause))) → now ≡ with_variables old (clause_variables clause)
-all_literals old now clause n is added =
-    let same = sized clause n is in
-    added ∙ ap (λ ls. with_variables old (map variable_of ls)) (take_all n (literals_in clause) (omega (arith, same)))
-    ∙ ap (with_variables old) (sym (variables_in clause))
-
--- the variables of the clauses that are hinted, and then of the line
-pub both_added : (old mid now xs ys : List ℕ) → mid ≡ with_variables old xs → now ≡ with_variables mid ys → now ≡ with_variables old (xs ++ ys)
-both_added old mid now xs ys first second = second ∙ ap (λ vs. with_variables vs ys) first ∙ sym (fold-append with_variable old xs ys)
 
 -- the number of a variable that doesn't occur
 pub absent_place : (keys variables : List ℕ) (v n : ℕ) → keys ≡ variables → n ≡ length variables → None ≡ position (eqb v) keys → n + 1 ≡ place_of variables v

@@ -68,19 +68,6 @@ renamed_numbered variables (s ∷ steps) first numbered (suc k) step at =
     let later = renamed_numbered variables steps (first + 1) (λ j t found. let own = numbered (suc j) t found in omega (arith, own)) k step at in
     omega (arith, later)
 
--- a base on numbered variables
-pub renamed_size : (g : Literal → Literal) (clause : Option (List Literal)) → clause_size (option_map (map g) clause) ≡ clause_size clause
-renamed_size g None = refl
-renamed_size g (Some clause) = ap Some (length-map clause g)
-
-some_there : {X Y : Type 0} (g : X → Y) (o : Option X) → IsSome (option_map g o) → IsSome o
-some_there g None h = h
-some_there g (Some x) h = refl
-
-pub renamed_there : (g : Literal → Literal) (clause : Option (List Literal)) (i : ℕ) → IsSome (literal_at (option_map (map g) clause) i) → IsSome (literal_at clause i)
-renamed_there g None i h = h
-renamed_there g (Some clause) i h = some_there g (slice_get clause i) (subst IsSome (slice_get-map g clause i) h)
-
 pub renamed_at : (g : Literal → Literal) (clause : Option (List Literal)) (i : ℕ) (l : Literal) → literal_at clause i ≡ Some l
     → literal_at (option_map (map g) clause) i ≡ Some (g l)
 renamed_at g None i l is = cc
