@@ -223,10 +223,10 @@ class Cases:
 
 
 def spoiled_line(choose, line, variables):
-    """The derivation line with a literal or a hint changed, added, dropped or moved."""
+    """The derivation line with a literal or a hint changed, added, repeated, dropped or moved."""
     id, literals, hints = line.id, list(line.literals), list(line.hints)
     ways = ["add literal", "add hint"] + ["add opposite", "negate", "drop literal"] * bool(literals)
-    ways += ["change hint", "drop hint", "drop last hint", "move hints"] * bool(hints)
+    ways += ["change hint", "repeat hint", "drop hint", "drop last hint", "move hints"] * bool(hints)
     way = choose.choice(ways)
     if way == "add literal":
         literals.append(either_sign(choose, choose.randrange(1, variables + 2)))
@@ -240,6 +240,9 @@ def spoiled_line(choose, line, variables):
         literals.pop(choose.randrange(len(literals)))
     elif way == "change hint":
         hints[choose.randrange(len(hints))] = choose.randrange(1, id + 1)
+    elif way == "repeat hint":
+        place = choose.randrange(len(hints))
+        hints.insert(place, hints[place])
     elif way == "drop hint":
         hints.pop(choose.randrange(len(hints)))
     elif way == "drop last hint":
