@@ -1,0 +1,659 @@
+"""A second judge of formulas and certificates, for tests. It is written from docs/FORMATS.md and docs/MEANING.md alone,
+apart from the checker's code, and made to be read beside them: each part of the formats is a function or a small class,
+and none is fast.
+
+`answer` gives the line that the checker is to print for a formula's text and a certificate's, and `STATUSES` the exit
+status by the line's first word.
+"""
+
+import re
+from dataclasses import dataclass, field
+from typing import NamedTuple
+
+TOO_BIG = 10**18
+MOST_VARIABLES = 1_000_000
+MOST_CLAUSES = 10_000_000
+LARGEST_COUNT = 1_000_000_000
+MOST_UNIVERSALS_BY_ROWS = 20
+STATUSES = {"VALID": 0, "refused": 2, "certificate": 7, "INVALID": 8, "UNPROVED": 9}
+
+
+class Fault(Exception):
+    """The first fault of a text: its line and its name."""
+
+    def __init__(self, line, name):
+        super().__init__(f"{line} {name}")
+
+
+# Numbers, tokens, lines
+
+
+def lines_of(text):
+    """The lines without their LFs; an empty piece behind the last LF is none."""
+    lines = text.split(b"\n")
+    return lines if lines[-1] else lines[:-1]
+
+
+def tokens_of(line):
+    return re.findall(rb"[^ \t\r]+", line)
+
+
+def number(token):
+    """The number that a token spells, of any magnitude, or None."""
+    if not re.fullmatch(rb"-?[0-9]+", token):
+        return None
+    value = int(token)
+    return None if value == 0 and token.startswith(b"-") else value
+
+
+def natural(token):
+    """The natural number that a token spells, of any magnitude, or None."""
+    value = number(token)
+    return None if value is None or value < 0 else value
+
+
+class LineReader:
+    """Takes a text's lines in order; a fault is one of the line taken last."""
+
+    def __init__(self, lines):
+        self.lines = lines
+        self.number = 0
+
+    def is_done(self):
+        return self.number >= len(self.lines)
+
+    def take(self, at_end="Truncated"):
+        self.number += 1
+        self.check(self.number <= len(self.lines), at_end)
+        return self.lines[self.number - 1]
+
+    def check(self, holds, name):
+        if not holds:
+            raise Fault(self.number, name)
+
+
+# DQDIMACS
+
+
+@dataclass
+class Formula:
+    """A formula whose header states so many variables. Each existential has the set of the universals that it sees;
+    the order is that of declaration, and undeclared variables follow."""
+
+    variables: int
+    universals: list = field(default_factory=list)
+    dependencies: dict = field(default_factory=dict)
+    clauses: list = field(default_factory=list)
+
+    @property
+    def existentials(self):
+        return list(self.dependencies)
+
+
+class FormulaReader:
+    """Reads the formula that a text spells; a fault is one of the token taken last, or of the end of the text."""
+
+    def __init__(self, text):
+        self.tokens = [
+            (place, token)
+            for place, line in enumerate(text.split(b"\n"), 1)
+            if not line.strip(b" \t\r").startswith(b"c")
+            for token in tokens_of(line)
+        ]
+        self.taken = 0
+        self.last_line = text.count(b"\n") + 1
+        self.line, self.token = None, None
+
+    def read(self):
+        self.take_header()
+        while self.taken < len(self.tokens):
+            self.take_part()
+        if len(self.formula.clauses) < self.clause_count:
+            raise Fault(self.last_line, "TooFewClauses")
+        self.add_undeclared()
+        return self.formula
+
+    def take(self, at_end):
+        if self.taken == len(self.tokens):
+            raise Fault(self.last_line, at_end)
+        self.line, self.token = self.tokens[self.taken]
+        self.taken += 1
+
+    def check(self, holds, name):
+        if not holds:
+            raise Fault(self.line, name)
+
+    def value(self, read):
+        """The number of the token taken last, where `read` is `number` or `natural`."""
+        value = read(self.token)
+        self.check(value is not None, "BadNumber")
+        self.check(abs(value) < TOO_BIG, "TooBig")
+        return value
+
+    def take_header(self):
+        for word in (b"p", b"cnf"):
+            self.take("NoHeader")
+            self.check(self.token == word, "NoHeader")
+        self.formula = Formula(self.take_count(MOST_VARIABLES))
+        self.clause_count = self.take_count(MOST_CLAUSES)
+
+    def take_count(self, limit):
+        self.take("NoHeader")
+        count = self.value(natural)
+        self.check(count <= limit, "Limit")
+        return count
+
+    def take_part(self):
+        """A set, an item or a clause."""
+        self.take("MissingZero")
+        self.check(self.token != b"p", "HeaderTwice")
+        takers = {b"a": self.take_universals, b"e": self.take_existentials, b"d": self.take_item}
+        if self.token in takers:
+            self.check(not self.formula.clauses, "PrefixLate")
+            takers[self.token]()
+        else:
+            self.take_clause()
+
+    def take_in_prefix(self):
+        self.take("MissingZero")
+        self.check(self.token != b"p", "HeaderTwice")
+        return self.value(natural)
+
+    def check_range(self, literal):
+        self.check(abs(literal) <= self.formula.variables, "VarRange")
+
+    def check_new(self, variable):
+        self.check_range(variable)
+        declared = variable in self.formula.universals or variable in self.formula.dependencies
+        self.check(not declared, "DeclaredTwice")
+
+    def take_universals(self):
+        while variable := self.take_in_prefix():
+            self.check_new(variable)
+            self.formula.universals.append(variable)
+
+    def take_existentials(self):
+        while variable := self.take_in_prefix():
+            self.check_new(variable)
+            self.formula.dependencies[variable] = set(self.formula.universals)
+
+    def take_item(self):
+        existential = self.take_in_prefix()
+        self.check(existential != 0, "EmptyD")
+        self.check_new(existential)
+        seen = self.formula.dependencies[existential] = set()
+        while universal := self.take_in_prefix():
+            self.check_range(universal)
+            self.check(universal in self.formula.universals, "NotUniversal")
+            seen.add(universal)
+
+    def take_clause(self):
+        """The clause whose first token was taken."""
+        literal = self.value(number)
+        self.check(len(self.formula.clauses) < self.clause_count, "TooManyClauses")
+        clause = []
+        while literal:
+            self.check_range(literal)
+            if literal not in clause:
+                clause.append(literal)
+            literal = self.take_in_clause()
+        self.formula.clauses.append(clause)
+
+    def take_in_clause(self):
+        self.take("MissingZero")
+        self.check(self.token != b"p", "HeaderTwice")
+        self.check(self.token not in (b"a", b"e", b"d"), "PrefixLate")
+        return self.value(number)
+
+    def add_undeclared(self):
+        """Variables of clauses that aren't declared are existentials that see nothing."""
+        used = {abs(literal) for clause in self.formula.clauses for literal in clause}
+        for variable in sorted(used - {*self.formula.universals, *self.formula.dependencies}):
+            self.formula.dependencies[variable] = set()
+
+
+# Circuits
+
+
+class Gate(NamedTuple):
+    """An and-gate: its variable and the literals of its right sides."""
+
+    variable: int
+    sides: tuple
+
+
+@dataclass
+class Circuit:
+    """A circuit file: inputs are variables and outputs are literals, and names go by place. `header_line` is the
+    number of its header line."""
+
+    header_line: int
+    variables: int
+    input_count: int
+    output_count: int
+    gate_count: int
+    inputs: list = field(default_factory=list)
+    outputs: list = field(default_factory=list)
+    gates: list = field(default_factory=list)
+    input_names: dict = field(default_factory=dict)
+    output_names: dict = field(default_factory=dict)
+    has_comment: bool = False
+
+    def input_line(self, place):
+        return self.header_line + 1 + place
+
+    def output_line(self, place):
+        return self.input_line(self.input_count) + place
+
+    def gate_line(self, place):
+        return self.output_line(self.output_count) + place
+
+    def is_defined(self, variable):
+        return variable in self.inputs or any(gate.variable == variable for gate in self.gates)
+
+
+def read_circuit(reader, header):
+    """The circuit file whose header line, with these tokens, was taken. Where it has a comment, the line `c` is the one
+    taken last."""
+    circuit = Circuit(reader.number, *circuit_counts(reader, header))
+    read_inputs(reader, circuit)
+    read_outputs(reader, circuit)
+    read_gates(reader, circuit)
+    read_symbols(reader, circuit)
+    check_defined(circuit)
+    check_acyclic(circuit)
+    return circuit
+
+
+def circuit_counts(reader, header):
+    """The numbers M, I, O and A."""
+    counts = [natural(token) for token in header[1:]]
+    reader.check(header[0] == b"aag" and 5 <= len(counts) <= 9 and None not in counts, "BadHeader")
+    reader.check(max(counts) <= LARGEST_COUNT, "TooBig")
+    variables, inputs, latches, outputs, gates, *further = counts
+    reader.check(latches == 0 and not any(further), "NotCombinational")
+    reader.check(variables >= inputs + gates, "BadHeader")
+    return variables, inputs, outputs, gates
+
+
+def take_naturals(reader, count):
+    values = [natural(token) for token in tokens_of(reader.take())]
+    reader.check(len(values) == count and None not in values, "BadLine")
+    reader.check(max(values) < TOO_BIG, "TooBig")
+    return values
+
+
+def is_variable_literal(circuit, literal):
+    return literal % 2 == 0 and 2 <= literal <= 2 * circuit.variables
+
+
+def is_literal(circuit, literal):
+    return literal <= 2 * circuit.variables + 1
+
+
+def read_inputs(reader, circuit):
+    for _ in range(circuit.input_count):
+        [literal] = take_naturals(reader, 1)
+        reader.check(is_variable_literal(circuit, literal), "Range")
+        reader.check(not circuit.is_defined(literal // 2), "DefinedTwice")
+        circuit.inputs.append(literal // 2)
+
+
+def read_outputs(reader, circuit):
+    for _ in range(circuit.output_count):
+        [literal] = take_naturals(reader, 1)
+        reader.check(is_literal(circuit, literal), "Range")
+        circuit.outputs.append(literal)
+
+
+def read_gates(reader, circuit):
+    for _ in range(circuit.gate_count):
+        literal, *sides = take_naturals(reader, 3)
+        reader.check(is_variable_literal(circuit, literal), "Range")
+        reader.check(all(is_literal(circuit, side) for side in sides), "Range")
+        reader.check(not circuit.is_defined(literal // 2), "DefinedTwice")
+        circuit.gates.append(Gate(literal // 2, tuple(sides)))
+
+
+def read_symbols(reader, circuit):
+    """Symbols and lines of blanks, up to the line `c` or the end of the text."""
+    tables = {b"i": (circuit.input_names, circuit.input_count), b"o": (circuit.output_names, circuit.output_count)}
+    while not reader.is_done() and not circuit.has_comment:
+        line = reader.take()
+        if re.fullmatch(rb"c[ \t\r]*", line):
+            circuit.has_comment = True
+        elif tokens_of(line):
+            symbol = re.fullmatch(rb"([io])([0-9]+)[ \t](.*[^\r])\r*", line, re.DOTALL)
+            reader.check(symbol, "BadSymbol")
+            names, count = tables[symbol[1]]
+            place = int(symbol[2])
+            reader.check(place < count and place not in names, "BadSymbol")
+            names[place] = symbol[3]
+
+
+def check_defined(circuit):
+    """Every variable that an output or a gate names is an input or a gate."""
+    named = [(circuit.output_line(place), [literal]) for place, literal in enumerate(circuit.outputs)]
+    named += [(circuit.gate_line(place), gate.sides) for place, gate in enumerate(circuit.gates)]
+    for line, literals in named:
+        for literal in literals:
+            if literal >= 2 and not circuit.is_defined(literal // 2):
+                raise Fault(line, "Undefined")
+
+
+def check_acyclic(circuit):
+    """Every gate is in the least set that holds a gate as soon as each right side is a constant, an input or in it."""
+    held, size = {0, *circuit.inputs}, None
+    while size != len(held):
+        size = len(held)
+        held.update(gate.variable for gate in circuit.gates if all(side // 2 in held for side in gate.sides))
+    for place, gate in enumerate(circuit.gates):
+        if gate.variable not in held:
+            raise Fault(circuit.gate_line(place), "Cyclic")
+
+
+# Inputs, outputs and variables
+
+
+def mapping(formula, circuit):
+    """The input, a variable, of each universal, and the output, a literal, of each existential."""
+    if circuit.input_count != len(formula.universals):
+        raise Fault(circuit.header_line, "InputCount")
+    if circuit.output_count != len(formula.existentials):
+        raise Fault(circuit.header_line, "OutputCount")
+    universals, existentials = formula.universals, formula.existentials
+    if circuit.input_names or circuit.output_names:
+        universals = named_variables(circuit.input_names, universals, circuit.input_line)
+        existentials = named_variables(circuit.output_names, existentials, circuit.output_line)
+    return dict(zip(universals, circuit.inputs)), dict(zip(existentials, circuit.outputs))
+
+
+def named_variables(names, variables, line_of):
+    """The variables that the symbols of all places name, each at its place."""
+    named = []
+    for place in range(len(variables)):
+        if place not in names:
+            raise Fault(line_of(place), "SymbolMissing")
+        variable = number(names[place])
+        if variable not in variables:
+            raise Fault(line_of(place), "SymbolNumber")
+        if variable in named:
+            raise Fault(line_of(place), "SymbolTwice")
+        named.append(variable)
+    return named
+
+
+# Derivations
+
+
+class DerivationLine(NamedTuple):
+    id: int
+    literals: list
+    hints: list
+
+
+def read_derivation(reader, count, first_id, is_variable):
+    """So many derivation lines; `is_variable` tells the variables that the proof has."""
+    return [read_derivation_line(reader, first_id + place, is_variable) for place in range(count)]
+
+
+def read_derivation_line(reader, next_id, is_variable):
+    values = [number(token) for token in tokens_of(reader.take())]
+    reader.check(values and None not in values, "BadLine")
+    reader.check(all(abs(value) < TOO_BIG for value in values), "TooBig")
+    zeros = [place for place, value in enumerate(values) if value == 0]
+    reader.check(len(zeros) == 2 and zeros[1] == len(values) - 1, "BadLine")
+    literals, hints = values[1 : zeros[0]], values[zeros[0] + 1 : -1]
+    reader.check(values[0] > 0 and all(hint > 0 for hint in hints), "BadLine")
+    reader.check(values[0] == next_id, "IdOrder")
+    reader.check(all(is_variable(abs(literal)) for literal in literals), "BadVariable")
+    reader.check(all(hint < next_id for hint in hints), "UnknownHint")
+    return DerivationLine(next_id, literals, hints)
+
+
+def is_derived(line, clauses):
+    """Whether hinted unit propagation over the clauses, sets of literals by id, derives the line."""
+    true = {-literal for literal in line.literals}
+    if any(literal in true for literal in line.literals) or not line.hints:
+        return False
+    *before, last = line.hints
+    for hint in before:
+        left = [literal for literal in clauses.get(hint, ()) if -literal not in true]
+        if len(left) != 1 or left[0] in true:
+            return False
+        true.add(left[0])
+    return last in clauses and all(-literal in true for literal in clauses[last])
+
+
+def derivation_fault(clauses, lines):
+    """What is wrong with a derivation from these clauses that is to end on the empty clause, or None."""
+    clauses = dict(clauses)
+    for line in lines:
+        if not is_derived(line, clauses):
+            return f"INVALID step {line.id}"
+        clauses[line.id] = frozenset(line.literals)
+    return None if lines and not lines[-1].literals else "INVALID end"
+
+
+# Circuits' proofs
+
+
+def first_id_of_proof(formula, circuit):
+    return 3 * len(circuit.gates) + sum(map(len, formula.clauses)) + 2
+
+
+def read_proof(reader, formula, circuit):
+    """The derivation lines of the proof in a circuit's comment, or None where it begins none."""
+    if not circuit.has_comment or reader.is_done():
+        return None
+    header = tokens_of(reader.take())
+    if header[:1] != [b"dqp"]:
+        return None
+    counts = [natural(token) for token in header[1:]]
+    reader.check(len(counts) == 1 and None not in counts, "BadHeader")
+    reader.check(counts[0] <= LARGEST_COUNT, "TooBig")
+    largest = circuit.variables + len(formula.clauses)
+    return read_derivation(reader, counts[0], first_id_of_proof(formula, circuit), lambda variable: variable <= largest)
+
+
+def negated_matrix(formula, circuit, inputs, outputs):
+    """The clauses, by id, that hold where the gates have their values and some clause of the formula is false."""
+    clauses = []
+    for gate in circuit.gates:
+        itself = 2 * gate.variable
+        left, right = gate.sides
+        clauses += [[itself ^ 1, left], [itself ^ 1, right], [itself, left ^ 1, right ^ 1]]
+    falsities = [2 * (circuit.variables + place) for place in range(1, len(formula.clauses) + 1)]
+    for falsity, clause in zip(falsities, formula.clauses):
+        clauses += [[falsity ^ 1, circuit_literal(literal, inputs, outputs) ^ 1] for literal in clause]
+    clauses.append(falsities)
+    return {id: without_constants(clause) for id, clause in enumerate(clauses, 1) if 1 not in clause}
+
+
+def circuit_literal(literal, inputs, outputs):
+    """The circuit's literal that has the value of a clause's literal."""
+    variable = abs(literal)
+    positive = 2 * inputs[variable] if variable in inputs else outputs[variable]
+    return positive if literal > 0 else positive ^ 1
+
+
+def without_constants(clause):
+    """A clause of circuit literals as a set of signed variables, without those that are 0."""
+    return frozenset(-(literal // 2) if literal % 2 else literal // 2 for literal in clause if literal != 0)
+
+
+# Reads and rows
+
+
+def foreign_read(formula, circuit, inputs, outputs):
+    """The first existential whose output reaches a universal that it may not see, with the first such, or None."""
+    for existential, seen in formula.dependencies.items():
+        reached = reached_variables(circuit, outputs[existential])
+        for universal in formula.universals:
+            if inputs[universal] in reached and universal not in seen:
+                return f"INVALID reads {existential} {universal}"
+    return None
+
+
+def reached_variables(circuit, literal):
+    sides = {gate.variable: gate.sides for gate in circuit.gates}
+    reached, waiting = set(), [literal // 2]
+    while waiting:
+        variable = waiting.pop()
+        if variable not in reached:
+            reached.add(variable)
+            waiting += [side // 2 for side in sides.get(variable, ())]
+    return reached
+
+
+def bad_row(formula, circuit, inputs, outputs):
+    """The first row under which a clause is false, or None. Bit i of a row's number is the universal's at place i."""
+    for row in range(2 ** len(formula.universals)):
+        values = {universal: bool(row >> place & 1) for place, universal in enumerate(formula.universals)}
+        assignment = values | output_values(circuit, inputs, outputs, values)
+        if not all(is_true(clause, assignment) for clause in formula.clauses):
+            return " ".join(["INVALID row", *(str(x if values[x] else -x) for x in formula.universals)])
+    return None
+
+
+def output_values(circuit, inputs, outputs, values):
+    """The values of the existentials' outputs where the universals have these values."""
+    sides = {gate.variable: gate.sides for gate in circuit.gates}
+    known = {0: False, **{inputs[universal]: value for universal, value in values.items()}}
+
+    def value(literal):
+        variable = literal // 2
+        if variable not in known:
+            known[variable] = all([value(side) for side in sides[variable]])
+        return known[variable] != bool(literal % 2)
+
+    return {existential: value(literal) for existential, literal in outputs.items()}
+
+
+def is_true(clause, assignment):
+    return any(assignment[abs(literal)] == (literal > 0) for literal in clause)
+
+
+# Expansion refutations
+
+
+def read_refutation(reader, header, formula):
+    """The rows and the derivation lines of the refutation whose header line, with these tokens, was taken."""
+    counts = [natural(token) for token in header[2:]]
+    reader.check(header[:2] == [b"p", b"dqr"] and len(counts) == 2 and None not in counts, "BadHeader")
+    reader.check(max(counts) <= LARGEST_COUNT, "TooBig")
+    rows = [read_row(reader, formula) for _ in range(counts[0])]
+    first_id = len(rows) * len(formula.clauses) + 1
+    lines = read_derivation(reader, counts[1], first_id, lambda variable: is_pair(formula, rows, variable))
+    while not reader.is_done():
+        reader.check(not tokens_of(reader.take()), "BadLine")
+    return rows, lines
+
+
+def read_row(reader, formula):
+    """The value of each universal under a row."""
+    tokens = tokens_of(reader.take())
+    reader.check(tokens[:1] == [b"u"], "BadLine")
+    values = [number(token) for token in tokens[1:]]
+    reader.check(None not in values, "BadLine")
+    reader.check(all(abs(value) < TOO_BIG for value in values), "TooBig")
+    reader.check([abs(value) for value in values] == [*formula.universals, 0], "RowIncomplete")
+    return {abs(value): value > 0 for value in values[:-1]}
+
+
+def is_pair(formula, rows, variable):
+    """Whether a positive number is that of an existential under a row."""
+    if formula.variables == 0:
+        return False
+    row, place = divmod(variable - 1, formula.variables)
+    return row < len(rows) and place + 1 in formula.dependencies
+
+
+def first_pair(formula, rows, row, existential):
+    """The variable of an existential under a row, both counted as in the formats but the row from 0: the pair with the
+    first row that gives its dependency set the same bits."""
+    seen = formula.dependencies[existential]
+    same = (other for other, bits in enumerate(rows) if all(bits[x] == rows[row][x] for x in seen))
+    return next(same) * formula.variables + existential
+
+
+def shared_literal(formula, rows, literal):
+    """A literal on a pair, with the pair as rows share it."""
+    row, place = divmod(abs(literal) - 1, formula.variables)
+    variable = first_pair(formula, rows, row, place + 1)
+    return variable if literal > 0 else -variable
+
+
+def instances(formula, rows):
+    """The clauses under the rows, by id, where no universal literal makes them true."""
+    clauses = {}
+    for row, bits in enumerate(rows):
+        for place, clause in enumerate(formula.clauses, 1):
+            if not is_true([literal for literal in clause if abs(literal) in bits], bits):
+                clauses[row * len(formula.clauses) + place] = instance(formula, rows, row, clause)
+    return clauses
+
+
+def instance(formula, rows, row, clause):
+    literals = [literal for literal in clause if abs(literal) in formula.dependencies]
+    pairs = {literal: first_pair(formula, rows, row, abs(literal)) for literal in literals}
+    return frozenset(pair if literal > 0 else -pair for literal, pair in pairs.items())
+
+
+# Judgement
+
+
+def judge_circuit(reader, header, formula):
+    circuit = read_circuit(reader, header)
+    proof = read_proof(reader, formula, circuit)
+    inputs, outputs = mapping(formula, circuit)
+    fault = foreign_read(formula, circuit, inputs, outputs)
+    if fault is None and proof is not None:
+        fault = derivation_fault(negated_matrix(formula, circuit, inputs, outputs), proof)
+    elif fault is None and len(formula.universals) > MOST_UNIVERSALS_BY_ROWS:
+        fault = f"UNPROVED {len(formula.universals)}"
+    elif fault is None:
+        fault = bad_row(formula, circuit, inputs, outputs)
+    return fault or "VALID TRUE"
+
+
+def judge_refutation(reader, header, formula):
+    rows, lines = read_refutation(reader, header, formula)
+    shared = [
+        DerivationLine(id, [shared_literal(formula, rows, literal) for literal in literals], hints)
+        for id, literals, hints in lines
+    ]
+    return derivation_fault(instances(formula, rows), shared) or "VALID FALSE"
+
+
+def judge(formula, text):
+    """The line that a certificate's text earns; a fault of the text is raised."""
+    reader = LineReader(lines_of(text))
+    tokens = tokens_of(reader.take("BadHeader"))
+    verdict = None
+    if tokens[:1] == [b"s"]:
+        reader.check(tokens[1:] in ([b"TRUE"], [b"FALSE"]), "BadHeader")
+        verdict = tokens[1]
+        tokens = tokens_of(reader.take("BadHeader"))
+    reader.check(tokens[:1] in ([b"aag"], [b"p"]), "BadHeader")
+    is_circuit = tokens[0] == b"aag"
+    if verdict is not None and is_circuit != (verdict == b"TRUE"):
+        raise Fault(1, "WrongVerdict")
+    return (judge_circuit if is_circuit else judge_refutation)(reader, tokens, formula)
+
+
+def certificate_answer(formula, text):
+    """The line that is due on a certificate's text for a formula."""
+    try:
+        return judge(formula, text)
+    except Fault as fault:
+        return f"certificate {fault}"
+
+
+def answer(formula_text, certificate_text):
+    """The line that is due on two texts."""
+    try:
+        formula = FormulaReader(formula_text).read()
+    except Fault as fault:
+        return f"refused {fault}"
+    return certificate_answer(formula, certificate_text)
