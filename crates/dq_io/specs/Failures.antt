@@ -1,5 +1,5 @@
 -- Calls that are to fail, by their numbers: fault injection for tests.
-use Rattle.std.specs.Prelude.{ℕ, Bool, List, ◌==◌}
+use Rattle.std.specs.Prelude.{ℕ, Bool, List, length, ◌==◌}
 use Rattle.std.specs.List.{list_any}
 use Rattle.dq_io.specs.Causes.{next_count}
 
@@ -12,6 +12,10 @@ pub record CallFailures : Type 0 where
 -- the next call is to fail
 abbrev pub fails_next : CallFailures → Bool
 fails_next failures = list_any (λ number. number == next_count failures.calls) failures.failing
+
+-- no call is to fail
+abbrev pub never_fails : CallFailures → Bool
+never_fails failures = length failures.failing == 0
 
 -- after one more call
 abbrev pub called : CallFailures → CallFailures

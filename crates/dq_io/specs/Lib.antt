@@ -4,4 +4,5 @@ pub mod Files
 pub mod Memory
 pub mod Real
 pub mod Sinks
+pub mod State
 pub mod Store

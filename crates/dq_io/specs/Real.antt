@@ -5,3 +5,4 @@ pub record RealState : Type 0 where
   pub is_open : Bool
   pub given : ℕ
   pub faults : ℕ
+  pub picks : ℕ

@@ -6,11 +6,12 @@ pub record NamedBytes : Type 0 where
   pub name : List ℕ
   pub bytes : List ℕ
 
--- the files, what is left to read of the open one, and how many of its bytes were read
+-- the files, what is left to read of the open one, how many of its bytes were read, and how many times one was picked
 pub record StoredFiles : Type 0 where
   pub files : List NamedBytes
   pub rest : List ℕ
   pub given : ℕ
+  pub picks : ℕ
 
 abbrev pub holding_of : Option NamedBytes → Holding
 holding_of None = Absent

@@ -1,6 +1,6 @@
-ghost use Rattle.std.specs.Prelude.{◌≡◌, ℕ, ◌+◌, ◌<◌, ◌≤◌, List, length, take, drop, Option, IfSome, IfOk, OnOk, OnErr, IsErr};
+ghost use Rattle.std.specs.Prelude.{◌≡◌, ℕ, ◌+◌, ◌<◌, ◌≤◌, Bool, true, List, length, take, drop, Option, IfSome, IfOk, OnOk, OnErr, IsOk, IsErr};
 ghost use Rattle.std.specs.Io.KnownBytes.{prepend_known, IsAtEnd};
-ghost use Rattle.dq_io.specs.Causes.{HasCause};
+ghost use Rattle.dq_io.specs.Causes.{HasCause, next_count};
 ghost use Rattle.dq_io.specs.Files.{Holding, Absent, whole, nothing};
 
 use crate::errors::Failed;
@@ -23,6 +23,12 @@ pub trait Files {
     /// How many faults were counted.
     ghost faults: { Self → ℕ };
 
+    /// How many times a file was picked, successfully or not.
+    ghost picks: { Self → ℕ };
+
+    /// Whether it is told that no call fails but a pick of a name that isn't held.
+    ghost reliable: { Self → Bool };
+
     /// Picks the file of that name, to be read from its front. A name that isn't held is a fault,
     /// and after one nothing is left to read.
     fn pick(&mut self, name: &str) -> Result<(), Failed>
@@ -31,7 +37,10 @@ pub trait Files {
         ensures absent { held self.old name.now ≡ Absent → IsErr result }
         ensures given { given self.new ≡ 0 }
         ensures held { held self.new ≡ held self.old }
-        ensures cause { HasCause (faults self.old) (faults self.new) result };
+        ensures cause { HasCause (faults self.old) (faults self.new) result }
+        ensures picked { picks self.new ≡ next_count (picks self.old) }
+        ensures reliable { reliable self.old ≡ true → IsErr result → held self.old name.now ≡ Absent }
+        ensures still_reliable { reliable self.new ≡ reliable self.old };
 
     /// Moves bytes from the front of what is left into the front of the buffer, and says how many:
     /// none only where nothing is left or the buffer is empty.
@@ -46,5 +55,8 @@ pub trait Files {
         ensures err_rest { OnErr result (rest self.new ≡ rest self.old) }
         ensures err_given { OnErr result (given self.new ≡ given self.old) }
         ensures held { held self.new ≡ held self.old }
-        ensures cause { HasCause (faults self.old) (faults self.new) result };
+        ensures cause { HasCause (faults self.old) (faults self.new) result }
+        ensures picks { picks self.new ≡ picks self.old }
+        ensures reliable { reliable self.old ≡ true → IsOk result }
+        ensures still_reliable { reliable self.new ≡ reliable self.old };
 }

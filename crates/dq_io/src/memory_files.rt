@@ -1,7 +1,7 @@
 ghost use Rattle.std.specs.Prelude.{◌≡◌, ◌+◌, ◌≤◌, ◌<◌, ◌||◌, not, min, is_err, IfOk, OnOk, OnErr, [], ◌∷◌, ◌++◌, ℕ, length, take, drop, Some};
-ghost use Rattle.dq_io.specs.Causes.{HasCause};
+ghost use Rattle.dq_io.specs.Causes.{HasCause, next_count};
 ghost use Rattle.dq_io.specs.Store.{held_in, is_held, bytes_of};
-ghost use Rattle.dq_io.specs.Failures.{fails_next, called, faulted};
+ghost use Rattle.dq_io.specs.Failures.{fails_next, never_fails, called, faulted};
 
 use crate::errors::Failed;
 use crate::failures::Failures;
@@ -38,7 +38,7 @@ impl MemFiles {
         requires { 1 ≤ greatest }
         ensures { IfOk result (λ m. m ≡ record {
           greatest = greatest;
-          store = record { files = []; rest = []; given = 0 };
+          store = record { files = []; rest = []; given = 0; picks = 0 };
           failures = record { failing = failing.now; calls = 0; faults = 0 };
         }) }
     {
@@ -71,6 +71,10 @@ impl Files for MemFiles {
 
     ghost faults = { λ m. m.failures.faults };
 
+    ghost picks = { λ m. m.store.picks };
+
+    ghost reliable = { λ m. never_fails m.failures };
+
     /// It fails where the call's number is among those that are to fail, or the name isn't held.
     fn pick(&mut self, name: &str) -> Result<(), Failed>
         ensures fails { is_err result
@@ -79,11 +83,12 @@ impl Files for MemFiles {
           store = record self.old.store {
             rest = bytes_of (held_in self.old.store.files name.now);
             given = 0;
+            picks = next_count self.old.store.picks;
           };
           failures = called self.old.failures;
         }) }
         ensures err { OnErr result (self.new ≡ record self.old {
-          store = record self.old.store { rest = []; given = 0 };
+          store = record self.old.store { rest = []; given = 0; picks = next_count self.old.store.picks };
           failures = faulted (called self.old.failures);
         }) }
         ensures cause { HasCause self.old.failures.faults self.new.failures.faults result }

@@ -1,4 +1,5 @@
-ghost use Rattle.std.specs.Prelude.{◌≡◌, ◌+◌, ◌<◌, [], ◌∷◌, ◌++◌, min, length, take, drop, OnOk, OnErr, IsOk, IfOk, Ok, Some, None};
+ghost use Rattle.std.specs.Prelude.{◌≡◌, ◌+◌, ◌<◌, [], ◌∷◌, ◌++◌, min, length, take, drop, true, OnOk, OnErr, IsOk, IfOk, Ok, Some, None};
+ghost use Rattle.dq_io.specs.Causes.{next_count};
 ghost use Rattle.dq_io.specs.Files.{Holds};
 ghost use Rattle.dq_io.specs.Store.{held_in, bytes_of};
 
@@ -28,7 +29,7 @@ impl Model for NeverFailFiles {
 impl NeverFailFiles {
     /// No files. It takes no memory.
     pub fn new(alloc: Global) -> NeverFailFiles
-        ensures { result ≡ record { files = []; rest = []; given = 0 } }
+        ensures { result ≡ record { files = []; rest = []; given = 0; picks = 0 } }
     {
         NeverFailFiles {
             store: FileStore::new(alloc),
@@ -55,11 +56,16 @@ impl Files for NeverFailFiles {
 
     ghost faults = { λ f. 0 };
 
+    ghost picks = { λ f. f.picks };
+
+    ghost reliable = { λ f. true };
+
     fn pick(&mut self, name: &str) -> Result<(), Failed>
         ensures never { IsOk result }
         ensures after { self.new ≡ record self.old {
           rest = bytes_of (held_in self.old.files name.now);
           given = 0;
+          picks = next_count self.old.picks;
         } }
     {
         let _held = self.store.open(name);

@@ -1,6 +1,6 @@
-ghost use Rattle.std.specs.Prelude.{◌≡◌, ℕ, ◌<◌, ◌≤◌, ◌↔◌, List, length, vec_len, IfOk, OnOk, IsErrOf, Err};
+ghost use Rattle.std.specs.Prelude.{◌≡◌, ℕ, ◌<◌, ◌≤◌, ◌↔◌, true, List, length, vec_len, IfOk, OnOk, IsErrOf, Err};
 ghost use Rattle.std.specs.Io.KnownBytes.{IsAtEnd};
-ghost use Rattle.dq_io.specs.Causes.{Rose};
+ghost use Rattle.dq_io.specs.Causes.{Rose, next_count};
 ghost use Rattle.dq_io.specs.Files.{Absent, Holds};
 
 use crate::errors::ReadStop;
@@ -36,6 +36,12 @@ pub fn read_all<F: Files>(
     ensures unfaulted { ¬ IsErrOf result ReadStop.Fault → F.faults files.new ≡ F.faults files.old }
     ensures later { F.faults files.old ≤ F.faults files.new }
     ensures held { F.held files.new ≡ F.held files.old }
+
+    // One file is picked. Over files that are told to be reliable only one that isn't held is a fault.
+    ensures picked { F.picks files.new ≡ next_count (F.picks files.old) }
+    ensures reliable { F.reliable files.old ≡ true → IsErrOf result ReadStop.Fault →
+        F.held files.old name.now ≡ Absent }
+    ensures still_reliable { F.reliable files.new ≡ F.reliable files.old }
 {
     files.pick(name)?;
     let mut buffer = zeros(alloc, PIECE)?;

@@ -27,6 +27,7 @@ pub struct RealFiles<R: rt::Files> {
     file: Option<R::File>,
     given: u64,
     faults: u64,
+    picks: u64,
 }
 
 impl<R: rt::Files> Model for RealFiles<R> {
@@ -35,18 +36,19 @@ impl<R: rt::Files> Model for RealFiles<R> {
 
     ghost Value = { RealState };
 
-    ghost view = { λ f. record { is_open = is_some f.file; given = f.given; faults = f.faults } };
+    ghost view = { λ f. record { is_open = is_some f.file; given = f.given; faults = f.faults; picks = f.picks } };
 }
 
 impl<R: rt::Files> RealFiles<R> {
     pub fn new(runtime: R) -> RealFiles<R>
-        ensures { result ≡ record { is_open = false; given = 0; faults = 0 } }
+        ensures { result ≡ record { is_open = false; given = 0; faults = 0; picks = 0 } }
     {
         RealFiles {
             runtime,
             file: None,
             given: 0,
             faults: 0,
+            picks: 0,
         }
     }
 }
@@ -60,12 +62,25 @@ impl<R: rt::Files> Files for RealFiles<R> {
 
     ghost faults = { λ f. f.faults };
 
+    ghost picks = { λ f. f.picks };
+
+    ghost reliable = { λ f. false };
+
     fn pick(&mut self, name: &str) -> Result<(), Failed>
-        ensures ok { OnOk result (self.new ≡ record self.old { is_open = true; given = 0 }) }
-        ensures err { OnErr result
-            (self.new ≡ record { is_open = false; given = 0; faults = next_count self.old.faults }) }
+        ensures ok { OnOk result (self.new ≡ record self.old {
+          is_open = true;
+          given = 0;
+          picks = next_count self.old.picks;
+        }) }
+        ensures err { OnErr result (self.new ≡ record {
+          is_open = false;
+          given = 0;
+          faults = next_count self.old.faults;
+          picks = next_count self.old.picks;
+        }) }
         ensures cause { HasCause self.old.faults self.new.faults result }
     {
+        self.picks = self.picks.saturating_add(1);
         self.file = None;
         self.given = 0;
         match fs::open(&self.runtime, name) {

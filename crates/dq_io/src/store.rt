@@ -1,4 +1,5 @@
 ghost use Rattle.std.specs.Prelude.{◌≡◌, ◌+◌, ◌^◌, ◌<◌, min, [], ◌∷◌, ◌++◌, length, take, drop, position, bytes_eq, IfOk, OnOk, OnErr};
+ghost use Rattle.dq_io.specs.Causes.{next_count};
 ghost use Rattle.dq_io.specs.Store.{held_in, is_held, bytes_of};
 
 use dq_lits::Memory;
@@ -57,6 +58,7 @@ pub struct FileStore {
     files: Vec<NamedFile>,
     place: Option<usize>,
     given: usize,
+    picks: u64,
 }
 
 impl Model for FileStore {
@@ -68,6 +70,7 @@ impl Model for FileStore {
       files = s.files.items;
       rest = rest_from s.files.items s.place s.given;
       given = s.given;
+      picks = s.picks;
     } };
 
     ghost invariant = { λ s. IsOpenAt s.files.items s.place s.given };
@@ -76,13 +79,14 @@ impl Model for FileStore {
 impl FileStore {
     /// No files. It takes no memory.
     pub fn new(alloc: Global) -> FileStore
-        ensures { result ≡ record { files = []; rest = []; given = 0 } }
+        ensures { result ≡ record { files = []; rest = []; given = 0; picks = 0 } }
     {
         FileStore {
             alloc,
             files: Vec::new(alloc),
             place: None,
             given: 0,
+            picks: 0,
         }
     }
 
@@ -98,23 +102,26 @@ impl FileStore {
         Ok(())
     }
 
-    /// Opens the first file of that name, at its front, and says whether there is one.
+    /// Picks the first file of that name, at its front, and says whether there is one.
     pub fn open(&mut self, name: &str) -> bool
         ensures found { result ≡ is_held (held_in self.old.files name.now) }
         ensures opened { self.new ≡ record self.old {
           rest = bytes_of (held_in self.old.files name.now);
           given = 0;
+          picks = next_count self.old.picks;
         } }
     {
+        self.picks = self.picks.saturating_add(1);
         self.place = place_of(&self.files, name);
         self.given = 0;
         self.place.is_some()
     }
 
-    /// Closes the open file, if there is one.
+    /// Picks no file: a pick that failed.
     pub fn close(&mut self)
-        ensures { self.new ≡ record self.old { rest = []; given = 0 } }
+        ensures { self.new ≡ record self.old { rest = []; given = 0; picks = next_count self.old.picks } }
     {
+        self.picks = self.picks.saturating_add(1);
         self.place = None;
         self.given = 0;
     }

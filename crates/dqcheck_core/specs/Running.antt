@@ -1,8 +1,10 @@
 -- A whole run of the checker: which report is due, and what becomes of it.
-use Rattle.std.specs.Prelude.{◌≡◌, ℕ, ◌<◌, ◌≤◌, ◌^◌, ◌⊎◌, List, length, Option, None, Some, Err, codes}
+use Rattle.std.specs.Prelude.{◌≡◌, true, ℕ, ◌<◌, ◌≤◌, ◌^◌, ◌⊎◌, List, length, Option, None, Some, Err, codes}
 use Rattle.std.specs.Io.KnownBytes.{append_known}
+use Rattle.dq_io.specs.Causes.{next_count, Rose}
 use Rattle.dq_io.specs.Files.{Holding, Untold, Absent, Holds}
 use Rattle.dq_io.specs.Sinks.{TakesPart}
+use Rattle.dq_io.specs.State.{FilesState}
 use Rattle.dq_lits.specs.Formula.{Dqbf, IsWellFormed}
 use Rattle.dq_lits.specs.Henkin.{IsTrueFormula, IsFalseFormula}
 use Rattle.dqdimacs_reader.specs.Grammar.{SpellsFormula}
@@ -55,22 +57,37 @@ pub record IsAnswerTo (f : Dqbf) (holding : Holding) (answer : Answer) : Type 0 
   pub read : IsShortText max_certificate holding text
   pub judged : IsJudgement f text answer
 
--- Which report is due for the files of a command: the formula's file comes first, then its text, then the
--- certificate's file and text. `Faulted` says that the files counted a fault, at any of these steps; `given` bytes
--- were given since the last file was picked.
-abbrev pub IsDueFor : (List ℕ → Holding) → Type 0 → ℕ → Command → Report → Type 0
-IsDueFor held Faulted given c usage = ⊥
-IsDueFor held Faulted given c source_fault = Faulted
-IsDueFor held Faulted given c long_formula = IsLong max_formula (held c.formula) × (max_formula < given)
-IsDueFor held Faulted given c (refused_formula fault) = IsFaultOf (held c.formula) fault
-IsDueFor held Faulted given c long_certificate =
-    (f : Dqbf) × IsFormulaOf (held c.formula) f × IsLong max_certificate (held c.certificate) × (max_certificate < given)
-IsDueFor held Faulted given c (judged f answer) = IsFormulaOf (held c.formula) f × IsAnswerTo f (held c.certificate) answer
+-- a file can't be read: a fault was counted, and over reliable files no file has the name
+pub record IsUnreadable (before now : FilesState) (name : List ℕ) : Type 0 where
+  pub counted : Rose before.faults now.faults
+  pub absent : before.reliable ≡ true → before.held name ≡ Absent
+
+abbrev pub PickedOnce : FilesState → FilesState → Type 0
+PickedOnce before now = now.picks ≡ next_count before.picks
+
+abbrev pub PickedTwice : FilesState → FilesState → Type 0
+PickedTwice before now = now.picks ≡ next_count (next_count before.picks)
+
+-- Which report is due for the files of a command, by what the files told before the run and tell behind it: the formula's
+-- file comes first, then its text, then the certificate's file and text. The certificate's file is picked only for a
+-- formula, and no other file is picked.
+abbrev pub IsDueFor : FilesState → FilesState → Command → Report → Type 0
+IsDueFor before now c usage = ⊥
+IsDueFor before now c source_fault =
+    (IsUnreadable before now c.formula × PickedOnce before now)
+    ⊎ ((f : Dqbf) × IsFormulaOf (before.held c.formula) f × IsUnreadable before now c.certificate × PickedTwice before now)
+IsDueFor before now c long_formula = IsLong max_formula (before.held c.formula) × (max_formula < now.given) × PickedOnce before now
+IsDueFor before now c (refused_formula fault) = IsFaultOf (before.held c.formula) fault × PickedOnce before now
+IsDueFor before now c long_certificate =
+    (f : Dqbf) × IsFormulaOf (before.held c.formula) f × IsLong max_certificate (before.held c.certificate) × (max_certificate < now.given)
+    × PickedTwice before now
+IsDueFor before now c (judged f answer) =
+    IsFormulaOf (before.held c.formula) f × IsAnswerTo f (before.held c.certificate) answer × PickedTwice before now
 
 -- the words come before all
-abbrev pub IsDue : (List ℕ → Holding) → Type 0 → ℕ → Option Command → Report → Type 0
-IsDue held Faulted given None report = report ≡ usage
-IsDue held Faulted given (Some c) report = IsDueFor held Faulted given c report
+abbrev pub IsDue : FilesState → FilesState → Option Command → Report → Type 0
+IsDue before now None report = (report ≡ usage) × (now.picks ≡ before.picks)
+IsDue before now (Some c) report = IsDueFor before now c report
 
 -- all of a report was written, or the sink failed before its end
 abbrev pub IsDelivered : Option (List ℕ) → Option (List ℕ) → Report → ℕ → Type 0
@@ -79,14 +96,14 @@ IsDelivered before now report status =
     ⊎ ((status ≡ 4) × TakesPart before now (text_of report))
 
 -- a report was due, and was delivered
-pub record Reports (held : List ℕ → Holding) (Faulted : Type 0) (given : ℕ) (words : List (List ℕ)) (before now : Option (List ℕ)) (status : ℕ) : Type 0 where
+pub record Reports (files now : FilesState) (words : List (List ℕ)) (taken taken_now : Option (List ℕ)) (status : ℕ) : Type 0 where
   pub report : Report
-  pub due : IsDue held Faulted given (command_of words) report
-  pub delivered : IsDelivered before now report status
+  pub due : IsDue files now (command_of words) report
+  pub delivered : IsDelivered taken taken_now report status
 
 -- memory was wanted, and nothing written; or a report
-abbrev pub Ends : (List ℕ → Holding) → Type 0 → ℕ → List (List ℕ) → Option (List ℕ) → Option (List ℕ) → ℕ → Type 0
-Ends held Faulted given words before now status = ((status ≡ 5) × (now ≡ before)) ⊎ Reports held Faulted given words before now status
+abbrev pub Ends : FilesState → FilesState → List (List ℕ) → Option (List ℕ) → Option (List ℕ) → ℕ → Type 0
+Ends files now words taken taken_now status = ((status ≡ 5) × (taken_now ≡ taken)) ⊎ Reports files now words taken taken_now status
 
 -- the words name files with these texts
 pub record AreTold (held : List ℕ → Holding) (words : List (List ℕ)) (formula certificate : List ℕ) : Type 0 where

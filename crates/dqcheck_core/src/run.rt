@@ -2,11 +2,12 @@
 
 ghost use Rattle.std.specs.Prelude.{◌≡◌, ◌≢◌, ◌≤◌, ◌<◌, ℕ, List, length, map, string_bytes, Option, Some, None, IfOk};
 ghost use Rattle.dq_io.specs.Causes.{Rose};
-ghost use Rattle.dq_lits.specs.Formula.{Dqbf};
+ghost use Rattle.dq_io.specs.State.{state_of};
+ghost use Rattle.dq_lits.specs.Formula.{Dqbf, IsWellFormed};
 ghost use Rattle.dqdimacs_reader.specs.Grammar.{SpellsFormula};
 ghost use Rattle.dqcheck_words.specs.Command.{Command, command_of};
-ghost use Rattle.dqcheck_core.specs.Running.{max_formula, max_certificate, IsDue, IsDueFor, Ends, AreTold, IsAcceptance, IsAnswered, IsFormulaOf};
-ghost use Rattle.dqcheck_core.specs.Outputs.{IsOutputDue};
+ghost use Rattle.dqcheck_core.specs.Running.{max_formula, max_certificate, Ends, AreTold, IsAcceptance, IsAnswered};
+ghost use Rattle.dqcheck_core.specs.Outputs.{IsOutputDue, IsOutputBehind};
 
 use crate::judging::judge;
 use crate::laws::{acceptance_is_sound, one_judgement};
@@ -40,7 +41,7 @@ pub fn dqcheck_run<F: Files, K: Sink>(
     out: &mut K,
 ) -> u8
     // What is written is the line that is due, and the status is that line's.
-    ensures ends { Ends (F.held files.old) (Rose (F.faults files.old) (F.faults files.new)) (F.given files.new) (map string_bytes words.now)
+    ensures ends { Ends (state_of F.Files files.old) (state_of F.Files files.new) (map string_bytes words.now)
         (K.taken out.old) (K.taken out.new) result }
 
     // Over files that are told: what is accepted is right, and where nothing failed, the certificate is judged.
@@ -77,7 +78,8 @@ pub fn dqcheck_run<F: Files, K: Sink>(
 
 // What is to be written.
 fn report<F: Files>(alloc: Global, words: &[String], files: &mut F) -> Result<Output, Memory>
-    ensures due { IfOk result (IsOutputDue (F.held files.old) (Rose (F.faults files.old) (F.faults files.new)) (F.given files.new) (command_of (map string_bytes words.now))) }
+    ensures due { IfOk result (IsOutputDue (state_of F.Files files.old) (state_of F.Files files.new)
+        (command_of (map string_bytes words.now))) }
     ensures long { IfOk result (λ output. output.status ≡ 6 → max_formula < F.given files.new) }
     ensures unfaulted { IfOk result (λ output. output.status ≢ 3 → F.faults files.new ≡ F.faults files.old) }
     ensures held { F.held files.new ≡ F.held files.old }
@@ -90,7 +92,7 @@ fn report<F: Files>(alloc: Global, words: &[String], files: &mut F) -> Result<Ou
 
 // What is to be written where the words name two files.
 fn report_files<F: Files>(alloc: Global, names: FileNames, files: &mut F) -> Result<Output, Memory>
-    ensures due { IfOk result (IsOutputDue (F.held files.old) (Rose (F.faults files.old) (F.faults files.new)) (F.given files.new)
+    ensures due { IfOk result (IsOutputDue (state_of F.Files files.old) (state_of F.Files files.new)
         (Some (record { formula = names.entry.formula.now; certificate = names.entry.certificate.now }))) }
     ensures long { IfOk result (λ output. output.status ≡ 6 → max_formula < F.given files.new) }
     ensures unfaulted { IfOk result (λ output. output.status ≢ 3 → F.faults files.new ≡ F.faults files.old) }
@@ -119,9 +121,9 @@ fn report_certificate<F: Files>(
     names: FileNames,
     files: &mut F,
 ) -> Result<Output, Memory>
-    requires { IsFormulaOf (F.held files.old names.formula.now) formula.now }
-    ensures due { IfOk result (IsOutputDue (F.held files.old) (Rose (F.faults files.old) (F.faults files.new)) (F.given files.new)
-        (Some (record { formula = names.entry.formula.now; certificate = names.entry.certificate.now }))) }
+    requires { IsWellFormed formula.now }
+    ensures due { IfOk result (IsOutputBehind (state_of F.Files files.old) (state_of F.Files files.new)
+        names.entry.certificate.now formula.now) }
     ensures long { IfOk result (λ output. output.status ≡ 6 → max_certificate < F.given files.new) }
     ensures unfaulted { IfOk result (λ output. output.status ≢ 3 → F.faults files.new ≡ F.faults files.old) }
     ensures held { F.held files.new ≡ F.held files.old }

@@ -1,6 +1,6 @@
 use Rattle.std.proofs.Common.{ap, ◌∙◌, map, string_bytes}
 use Rattle.std.specs.Io.KnownBytes.{append_known}
-use Rattle.dq_io.specs.Causes.{Rose}
+use Rattle.dq_io.specs.State.{state_of}
 use Rattle.dqcheck_core.proofs.Runs.{answered, accepted}
 use Rattle.dqcheck_core.proofs.run.dqcheck_run.Goals as goal
 
@@ -11,7 +11,7 @@ returns-in-Ok-write_all-clause-answered g c formula certificate f told short_for
       exact = λ text f. (c.formula_or_first_fault.ensures.exact text f).0;
       unique = c.formula_or_first_fault.ensures.unique;
     })
-    (g.F.Files.held c.args.files.now) (Rose (g.F.Files.faults c.args.files.now) (g.F.Files.faults c.report.new.files)) (g.F.Files.given c.report.new.files)
+    (state_of g.F.Files c.args.files.now) (state_of g.F.Files c.report.new.files)
     (map string_bytes c.args.words.now) (g.K.Sink.taken c.args.out.now) (g.K.Sink.taken c.write_all.new.sink) c.in-Ok.output
     c.in-Ok.ensures.due
     (c.in-Ok-write_all.ensures.ok ∙ ap (append_known (g.K.Sink.taken c.args.out.now)) c.deref.ensures.value)
@@ -24,7 +24,7 @@ returns-in-Ok-write_all-clause-accepted g c =
       is_true = c.acceptance_is_sound.ensures.is_true;
       is_false = c.acceptance_is_sound.ensures.is_false;
     })
-    (g.F.Files.held c.args.files.now) (Rose (g.F.Files.faults c.args.files.now) (g.F.Files.faults c.report.new.files)) (g.F.Files.given c.report.new.files)
+    (state_of g.F.Files c.args.files.now) (state_of g.F.Files c.report.new.files)
     (map string_bytes c.args.words.now) (g.K.Sink.taken c.args.out.now) (g.K.Sink.taken c.write_all.new.sink) c.in-Ok.output
     c.in-Ok.ensures.due
     (c.in-Ok-write_all.ensures.ok ∙ ap (append_known (g.K.Sink.taken c.args.out.now)) c.deref.ensures.value)

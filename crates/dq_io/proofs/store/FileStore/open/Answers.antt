@@ -12,4 +12,4 @@ pub returns-clause-opened : goal.returns-clause-opened
 returns-clause-opened c =
     let at = rw c.deref.ensures.value at c.place_of-self-inside.ensures in
     let opens = opened_by_name c.self.inside.files.items c.args.name.now _ at in
-    rw (← c.self.view_is) (rw opens.rest refl)
+    rw (← c.self.view_is) (rw (← c.saturating_add-self-inside.ensures) (rw opens.rest refl))
