@@ -19,7 +19,8 @@ use Rattle.cert_text.specs.Scan.{first_id}
 use Rattle.cert_text.specs.declared.refutations.Dqr.{Dqr}
 use Rattle.cert_text.proofs.LineTokens.{tokens_by_text}
 use Rattle.cert_text.proofs.LineWords.{IsWord, AreWords, spaced, tokens_of, line_of_words}
-use Rattle.cert_text.proofs.NumberWords.{IsSpellable, signed_word, natural_is_word, natural_number_is, signed_is_word, signed_number_is}
+use Rattle.dq_text.proofs.Numerals.{natural_is_read}
+use Rattle.cert_text.proofs.NumberWords.{IsSpellable, signed_word, natural_is_word, signed_is_word, signed_number_is}
 use Rattle.cert_text.proofs.PairNumbers.{pair_small}
 use Rattle.cert_text.proofs.Parts.{pair_positive, universals_in_range}
 
@@ -169,7 +170,7 @@ literal_number (negative v) is = signed_number_is false v is
 
 hints_numbers : (hs : List ℕ) → AreSmall hs → map number_of (map decimal hs ++ codes "0" ∷ []) ≡ integers (map (λ hint. pos hint) hs ++ pos 0 ∷ [])
 hints_numbers [] are = refl
-hints_numbers (h ∷ hs) are = ap₂ (λ n ns. n ∷ ns) (natural_number_is h are.0) (hints_numbers hs are.1)
+hints_numbers (h ∷ hs) are = ap₂ (λ n ns. n ∷ ns) (natural_is_read h are.0) (hints_numbers hs are.1)
 
 literals_numbers : (ls : List Literal) (hs : List ℕ) → HasSmallLiterals ls → AreSmall hs →
     map number_of ((map literal_word ls ++ codes "0" ∷ map decimal hs) ++ codes "0" ∷ [])
@@ -178,7 +179,7 @@ literals_numbers [] hs are small = ap (λ ns. Int (pos 0) ∷ ns) (hints_numbers
 literals_numbers (l ∷ ls) hs are small = ap₂ (λ n ns. n ∷ ns) (literal_number l are.0) (literals_numbers ls hs are.1 small)
 
 step_spells : (s : ProofStep) → IsSmallStep s → SpellsStep (step_tokens s) s
-step_spells s is = ap₂ (λ n ns. n ∷ ns) (natural_number_is s.id is.id) (literals_numbers s.literals s.hints is.literals is.hints)
+step_spells s is = ap₂ (λ n ns. n ∷ ns) (natural_is_read s.id is.id) (literals_numbers s.literals s.hints is.literals is.hints)
 
 abbrev pub AreSmallSteps : List ProofStep → Type 0
 AreSmallSteps ss = AllByRecursion IsSmallStep ss
@@ -240,8 +241,8 @@ canonical_spells f d lawful is =
         rows_token = decimal rows;
         steps_token = decimal steps;
         words = refl;
-        rows_number = natural_number_is rows (omega (arith, is.few_rows));
-        steps_number = natural_number_is steps (omega (arith, is.few_steps));
+        rows_number = natural_is_read rows (omega (arith, is.few_rows));
+        steps_number = natural_is_read steps (omega (arith, is.few_steps));
       };
       rows_spelled = rows_spell us d.rows spelled_universals;
       steps_spelled = steps_spell d.steps small;

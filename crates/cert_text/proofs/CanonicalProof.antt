@@ -15,7 +15,8 @@ use Rattle.cert_text.specs.declared.circuit_proofs.Dqp.{Dqp}
 use Rattle.cert_text.proofs.CanonicalLines.{HasSmallLiterals, AreSmallSteps, step_tokens, small_hints, steps_lines, steps_spell}
 use Rattle.cert_text.proofs.LineTokens.{tokens_by_text}
 use Rattle.cert_text.proofs.LineWords.{tokens_of, line_of_words}
-use Rattle.cert_text.proofs.NumberWords.{natural_is_word, natural_number_is}
+use Rattle.dq_text.proofs.Numerals.{natural_is_read}
+use Rattle.cert_text.proofs.NumberWords.{natural_is_word}
 use Rattle.cert_text.proofs.ProofSpelling.{variable_some}
 
 header_line : (steps : ℕ) (rest : List ℕ) → steps < 10 ^ 18 → tokens_of (proof_header_text steps ++ rest) ≡ (codes "dqp" ∷ decimal steps ∷ []) ∷ tokens_of rest
@@ -53,7 +54,7 @@ canonical_spells f net d is =
       lines = tokens_by_text 1 (canonical_proof d)
           ∙ header_line steps (flat_map step_text d.steps) (omega (arith, is.few_steps))
           ∙ ap (λ lines. (codes "dqp" ∷ decimal steps ∷ []) ∷ lines) (steps_lines d.steps small ∙ sym (append-nil (map step_tokens d.steps)));
-      header_spelled = record { steps_token = decimal steps; words = refl; steps_number = natural_number_is steps (omega (arith, is.few_steps)) };
+      header_spelled = record { steps_token = decimal steps; words = refl; steps_number = natural_is_read steps (omega (arith, is.few_steps)) };
       steps_spelled = steps_spell d.steps small;
       allowed = is;
     }

@@ -7,11 +7,9 @@ use Rattle.dq_text.specs.Line.{line_tokens, extend_token}
 use Rattle.dq_text.specs.Token.{is_separator, goes_on}
 use Rattle.dq_text.specs.declared.bytes.ByteKind.{ByteKind}
 use Rattle.dq_text.specs.declared.bytes.ByteKind.TheVariants.{LineFeed, Other}
+use Rattle.dq_text.proofs.Numerals.{AreOther}
 use Rattle.cert_text.specs.Grammar.{Tokens}
 use Rattle.cert_text.proofs.LineTokens.{extend_text, texts_of}
-
-abbrev pub AreOther : List ℕ → Type 0
-AreOther bytes = AllByRecursion (λ byte. kind_of byte ≡ Other) bytes
 
 abbrev pub IsWord : List ℕ → Type 0
 IsWord [] = ⊥

@@ -1,4 +1,5 @@
 mod Cutting
 mod FirstLine
 mod LongestRuns
+pub mod Numerals
 mod TokenLines

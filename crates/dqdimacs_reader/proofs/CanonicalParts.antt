@@ -57,9 +57,6 @@ pub record IsOrdered (universals : List ℕ) (y : Existential) : Type 0 where
   pub listed : y.sees ≡ listed_universals universals y.sees
   pub whole : length y.sees ≡ length universals → y.sees ≡ universals
 
-with_existential : ℕ → List ℕ → List Existential → Existential → Dqbf
-with_existential variables us es y = prefix variables us (es ++ y ∷ [])
-
 sees_given : (variables : ℕ) (us : List ℕ) (es : List Existential) (y : Existential) (sees : List ℕ) → y.sees ≡ sees →
     prefix variables us (es ++ record { variable = y.variable; sees = sees } ∷ []) ≡ prefix variables us (es ++ y ∷ [])
 sees_given variables us es y sees is =

@@ -1,15 +1,14 @@
 -- The lexemes of a canonical text.
-use Rattle.std.proofs.Common.{◌≡◌, ℕ, zero, suc, ◌==◌, ◌^◌, ◌<◌, ◌≤◌, ◌||◌, Bool, true, false, if◌then◌else◌, List, [], ◌∷◌, ◌++◌, map, length, refl, sym, ◌∙◌, ap, arith, append_assoc, append-nil}
+use Rattle.std.proofs.Common.{◌≡◌, ℕ, zero, suc, ◌==◌, ◌^◌, ◌<◌, ◌≤◌, Bool, true, false, if◌then◌else◌, List, [], ◌∷◌, ◌++◌, map, length, refl, sym, ◌∙◌, ap, arith, append_assoc, append-nil}
 use Rattle.std.specs.Fmt.{decimal}
 use Rattle.std.specs.List.{AllByRecursion, flat_map}
 use Rattle.std.proofs.lemmas.Grind.{flat_map-append}
-use Rattle.std.proofs.lemmas.Bool.{ne_eqb}
-use Rattle.std.proofs.lemmas.Fmt.{decimal_nonempty, digits_decimal}
 use Rattle.dq_lits.specs.Literal.{Literal, positive, negative, variable_of}
 use Rattle.dq_lits.specs.Formula.{Existential, Dqbf}
+use Rattle.dq_text.proofs.Numerals.{AreDigits, digits_other, decimal_digits}
 use Rattle.dq_text.specs.Bytes.{kind_of}
 use Rattle.dq_text.specs.Token.{TextToken, tokens_of}
-use Rattle.dq_text.specs.declared.bytes.ByteKind.TheVariants.{Blank, LineFeed, LetterC, Other}
+use Rattle.dq_text.specs.declared.bytes.ByteKind.TheVariants.{Other}
 use Rattle.dq_text.specs.declared.cursors.LinePlace.{LinePlace}
 use Rattle.dq_text.specs.declared.cursors.LinePlace.TheVariants.{LineStart, InLine}
 use Rattle.dqdimacs_reader.specs.Canonical.{number_text, literal_text, line_end, numbers_line, header_text, universals_text, existential_text, clause_text, canonical}
@@ -17,8 +16,8 @@ use Rattle.dqdimacs_reader.specs.Grammar.{Part, numbers, part_lexemes, clause_le
 use Rattle.dqdimacs_reader.specs.Lexeme.{lexeme_of}
 use Rattle.dqdimacs_reader.specs.declared.lexemes.Lexeme.{Lexeme}
 use Rattle.dqdimacs_reader.specs.declared.lexemes.Lexeme.TheVariants.{P as LetterP, Cnf, A, Natural}
-use Rattle.dqdimacs_reader.proofs.NumberWords.{AreDigits, tells, model, natural_word, negative_word}
-use Rattle.dqdimacs_reader.proofs.Words.{text_of, words_from, words_are, AreOther, IsOpen, word_space, word_line}
+use Rattle.dqdimacs_reader.proofs.NumberWords.{natural_word, negative_word}
+use Rattle.dqdimacs_reader.proofs.Words.{text_of, words_from, words_are, IsOpen, word_space, word_line}
 
 abbrev pub lexemes : LinePlace → List ℕ → List Lexeme
 lexemes place bytes = map lexeme_of (words_from place bytes)
@@ -29,19 +28,6 @@ each_text (token ∷ tokens) = ap (λ rest. lexeme_of token.text ∷ rest) (each
 
 pub token_lexemes : (text : List ℕ) → map (λ token. lexeme_of token.text) (tokens_of text) ≡ lexemes LineStart text
 token_lexemes text = each_text (tokens_of text) ∙ ap (map lexeme_of) (words_are LineStart 1 0 text)
-
--- digits are bytes of words
-digit_kind : (d : ℕ) → 48 ≤ d → d ≤ 57 → kind_of d ≡ Other
-digit_kind d low high =
-    ap (λ b. if b || (d == 9 || d == 13) then Blank else if d == 10 then LineFeed else if d == 99 then LetterC else Other) (ne_eqb d 32 (λ h. omega arith))
-    ∙ ap (λ b. if b || d == 13 then Blank else if d == 10 then LineFeed else if d == 99 then LetterC else Other) (ne_eqb d 9 (λ h. omega arith))
-    ∙ ap (λ b. if b then Blank else if d == 10 then LineFeed else if d == 99 then LetterC else Other) (ne_eqb d 13 (λ h. omega arith))
-    ∙ ap (λ b. if b then LineFeed else if d == 99 then LetterC else Other) (ne_eqb d 10 (λ h. omega arith))
-    ∙ ap (λ b. if b then LetterC else Other) (ne_eqb d 99 (λ h. omega arith))
-
-digits_other : (ds : List ℕ) → AreDigits ds → AreOther ds
-digits_other [] are = tt
-digits_other (d ∷ ds) are = let parts = tells.parts d ds are in (digit_kind d parts.0.0 parts.0.1, digits_other ds parts.1)
 
 digits_space : (place : LinePlace) (ds rest : List ℕ) → IsOpen place → 0 < length ds → AreDigits ds →
     words_from place (ds ++ 32 ∷ rest) ≡ ds ∷ words_from InLine rest
@@ -58,17 +44,17 @@ digits_line place (d ∷ ds) rest start some are =
 natural_space : (place : LinePlace) (n : ℕ) (rest : List ℕ) → IsOpen place → n < 10 ^ 18 →
     lexemes place (number_text n ++ rest) ≡ Natural n ∷ lexemes InLine rest
 natural_space place n rest start small =
-    let wide : n < 2 ^ 64 = omega arith in
+    let of = decimal_digits n small in
     ap (lexemes place) (append_assoc (decimal n) (32 ∷ []) rest)
-    ∙ ap (map lexeme_of) (digits_space place (decimal n) rest start (decimal_nonempty n wide) (digits_decimal model n wide))
+    ∙ ap (map lexeme_of) (digits_space place (decimal n) rest start of.some of.are)
     ∙ ap (λ lexeme. lexeme ∷ lexemes InLine rest) (natural_word n small)
 
 natural_line : (n : ℕ) (rest : List ℕ) → n < 10 ^ 18 →
     lexemes InLine ((decimal n ++ 10 ∷ []) ++ rest) ≡ Natural n ∷ lexemes LineStart rest
 natural_line n rest small =
-    let wide : n < 2 ^ 64 = omega arith in
+    let of = decimal_digits n small in
     ap (lexemes InLine) (append_assoc (decimal n) (10 ∷ []) rest)
-    ∙ ap (map lexeme_of) (digits_line InLine (decimal n) rest tt (decimal_nonempty n wide) (digits_decimal model n wide))
+    ∙ ap (map lexeme_of) (digits_line InLine (decimal n) rest tt of.some of.are)
     ∙ ap (λ lexeme. lexeme ∷ lexemes LineStart rest) (natural_word n small)
 
 end_lexemes : (place : LinePlace) (rest : List ℕ) → IsOpen place → lexemes place (line_end ++ rest) ≡ Natural 0 ∷ lexemes LineStart rest
@@ -105,17 +91,14 @@ header_lexemes f rest few_variables few_clauses =
 abbrev pub IsNumbered : Literal → Type 0
 IsNumbered l = (1 ≤ variable_of l) × (variable_of l < 10 ^ 18)
 
-minus_kind : kind_of 45 ≡ Other
-minus_kind = refl
-
 literal_space : (place : LinePlace) (l : Literal) (rest : List ℕ) → IsOpen place → IsNumbered l →
     lexemes place (literal_text l ++ rest) ≡ literal_lexeme l ∷ lexemes InLine rest
 literal_space place (positive v) rest start is = natural_space place v rest start is.1
 literal_space place (negative zero) rest start is = absurd (omega (arith, is.0))
 literal_space place (negative (suc n)) rest start is =
-    let wide : suc n < 2 ^ 64 = omega (arith, is.1) in
+    let of = decimal_digits (suc n) is.1 in
     ap (λ bytes. lexemes place (45 ∷ bytes)) (append_assoc (decimal (suc n)) (32 ∷ []) rest)
-    ∙ ap (map lexeme_of) (word_space place 45 (decimal (suc n)) rest start refl (digits_other (decimal (suc n)) (digits_decimal model (suc n) wide)))
+    ∙ ap (map lexeme_of) (word_space place 45 (decimal (suc n)) rest start refl (digits_other (decimal (suc n)) of.are))
     ∙ ap (λ lexeme. lexeme ∷ lexemes InLine rest) (negative_word n is.1)
 
 clause_lexemes_of : (place : LinePlace) (ls : List Literal) (rest : List ℕ) → IsOpen place → AllByRecursion IsNumbered ls →

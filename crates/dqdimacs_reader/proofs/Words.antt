@@ -1,6 +1,6 @@
 -- The tokens of a text that is put together from words.
 use Rattle.std.proofs.Common.{◌≡◌, ℕ, ◌+◌, Bool, true, false, not, if◌then◌else◌, List, [], ◌∷◌, ◌++◌, map, refl, ◌∙◌, ap}
-use Rattle.std.specs.List.{AllByRecursion}
+use Rattle.dq_text.proofs.Numerals.{AreOther}
 use Rattle.dq_text.specs.Bytes.{kind_of}
 use Rattle.dq_text.specs.Token.{TextToken, tokens_from, place_after, line_after, is_in_token, is_separator, goes_on, extend, put_byte}
 use Rattle.dq_text.specs.declared.bytes.ByteKind.TheVariants.{Other}
@@ -49,10 +49,6 @@ words_are place line at (byte ∷ bytes) =
     chosen inside byte line at bytes (tokens_from (place_after kind place) (line_after kind line) (at + 1) bytes)
     ∙ ap (λ words. if inside then put_in_word byte bytes words else words)
     (words_are (place_after kind place) (line_after kind line) (at + 1) bytes)
-
--- bytes of a word that is no comment
-abbrev pub AreOther : List ℕ → Type 0
-AreOther bytes = AllByRecursion (λ byte. kind_of byte ≡ Other) bytes
 
 abbrev pub IsOpen : LinePlace → Type 0
 IsOpen LineStart = Unit {0}
