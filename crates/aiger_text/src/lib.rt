@@ -16,6 +16,4 @@ mod reader;
 mod symbol_lines;
 mod symbol_steps;
 mod symbols;
-#[cfg(test)]
-mod tests;
 mod undefined;

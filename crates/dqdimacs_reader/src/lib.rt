@@ -13,6 +13,4 @@ mod lexemes;
 mod machine;
 mod reader;
 mod steps;
-#[cfg(test)]
-mod tests;
 mod writer;
