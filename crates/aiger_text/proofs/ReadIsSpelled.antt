@@ -29,9 +29,6 @@ no_netlist h few = record {
 no_names : (count : ℕ) → AreNames count []
 no_names count = record { placed = λ k d below. absurd (omega arith); once = λ i j d before below. absurd (omega arith) }
 
-join_lines : (all own rest behind : List TextLine) → all ≡ own ++ rest → rest ≡ behind → all ≡ own ++ behind
-join_lines all own rest behind parted same = parted ∙ ap (λ ls. own ++ ls) same
-
 header_goes_on : (line : ℕ) (r : Result Header AagFault) (next : Body → Result AagFile LineFault) (file : AagFile) → behind_header line r next ≡ Ok file →
     (h : Header) × (r ≡ Ok h) × (next (start line h) ≡ Ok file)
 header_goes_on line (Ok h) next file read = (h, refl, read)

@@ -11,7 +11,7 @@ use Rattle.cert_text.specs.NegatedMatrix.{opposite_of, gate_clauses, literal_und
 use Rattle.skolem_checker.specs.Checks.{Candidate}
 use Rattle.std.proofs.Math.Seq.{drop-cons}
 use Rattle.proof_checker.specs.CircuitProof.{circuit_literal, negated_candidate}
-use Rattle.proof_checker.specs.ClauseLiterals.{clause_literals, falsity_clause, formula_clauses}
+use Rattle.proof_checker.specs.ClauseLiterals.{clause_literals, formula_clauses}
 
 append_left : {X : Type 0} (xs ys : List X) (i : ℕ) → i < length xs → slice_get (xs ++ ys) i ≡ slice_get xs i
 append_left [] ys i below = absurd (omega (arith, below))
@@ -67,6 +67,10 @@ module _ (net : Netlist) (i : ℕ) (below : i / 3 < length net.gates) (t : ℕ �
       found_at 2 rest
       ∙ ap Some (sym (items_is ∙ ap (λ x. t.0 ∷ x ∷ p ∷ []) o_is ∙ ap (λ x. t.0 ∷ opposite_of t.1 ∷ x ∷ []) p_is
       ∙ ap (λ (u : ℕ × ℕ × ℕ). u.0 ∷ opposite_of u.1 ∷ opposite_of u.2 ∷ []) is))
+
+-- where the variable is true, the literal is false
+abbrev falsity_clause : (ℕ → ℕ) → ℕ × Literal → List ℕ
+falsity_clause outputs o = opposite_of (2 * o.0) ∷ opposite_of (literal_under outputs o.1) ∷ []
 
 -- clauses of the formula
 one_mapped : (outputs : ℕ → ℕ) (bad : ℕ) (clause : List Literal) → falsity_clauses outputs bad clause ≡ map (falsity_clause outputs) (map (λ l. (bad, l)) clause)

@@ -1,10 +1,10 @@
 -- Words of private contracts: the literals of a matrix, each with the variable that tells that its clause is false.
-use Rattle.std.specs.Prelude.{◌≡◌, ◌≤◌, ℕ, ◌+◌, ◌*◌, List, [], ◌∷◌, ◌++◌, map}
+use Rattle.std.specs.Prelude.{◌≡◌, ◌≤◌, ℕ, ◌+◌, List, [], ◌∷◌, ◌++◌, map}
 use Rattle.dq_lits.specs.Formula.{Dqbf}
 use Rattle.dq_lits.specs.Literal.{Literal}
 use Rattle.circuit_plain.specs.Netlist.{Netlist}
 use Rattle.aiger_text.specs.Lines.{max_count}
-use Rattle.cert_text.specs.NegatedMatrix.{opposite_of, literal_under, all_falsity_clauses, some_clause_false}
+use Rattle.cert_text.specs.NegatedMatrix.{all_falsity_clauses, some_clause_false}
 use Rattle.skolem_checker.specs.Checks.{Candidate}
 use Rattle.proof_checker.specs.CircuitProof.{circuit_literal}
 
@@ -12,10 +12,6 @@ use Rattle.proof_checker.specs.CircuitProof.{circuit_literal}
 abbrev pub clause_literals : ℕ → List (List Literal) → List (ℕ × Literal)
 clause_literals bad [] = []
 clause_literals bad (clause ∷ clauses) = map (λ l. (bad, l)) clause ++ clause_literals (bad + 1) clauses
-
--- where the variable is true, the literal is false
-abbrev pub falsity_clause : (ℕ → ℕ) → ℕ × Literal → List ℕ
-falsity_clause outputs o = opposite_of (2 * o.0) ∷ opposite_of (literal_under outputs o.1) ∷ []
 
 -- the clauses behind those of the gates
 abbrev pub formula_clauses : Candidate → List (List ℕ)

@@ -99,11 +99,3 @@ on_pairs f d t steps first same rows_same steps_is all =
     (subst (λ (g : Dqbf). All (λ step. All (λ l. is_pair_number g (length t.rows) (variable_of l) ≡ true) step.literals) d.steps) (sym same)
     (subst (λ rs. All (λ step. All (λ l. is_pair_number f (length rs) (variable_of l) ≡ true) step.literals) d.steps) (sym rows_same)
     (steps_on_pairs (is_pair_number f (length d.rows)) d.steps first all)))
-
-pub steps_kept : (f : Dqbf) (d : Dqr) (t : Numbered) (steps : List ProofStep) → t.formula ≡ f → t.rows ≡ d.rows → steps ≡ d.steps
-    → AreSteps (is_pair_number f (length d.rows)) (first_id f (length d.rows)) d.steps
-    → AreSteps (is_pair_number t.formula (length t.rows)) (first_id t.formula (length t.rows)) steps
-steps_kept f d t steps same rows_same steps_is all =
-    subst (λ ss. AreSteps (is_pair_number t.formula (length t.rows)) (first_id t.formula (length t.rows)) ss) (sym steps_is)
-    (subst (λ (g : Dqbf). AreSteps (is_pair_number g (length t.rows)) (first_id g (length t.rows)) d.steps) (sym same)
-    (subst (λ rs. AreSteps (is_pair_number f (length rs)) (first_id f (length rs)) d.steps) (sym rows_same) all))

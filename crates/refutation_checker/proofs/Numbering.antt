@@ -2,7 +2,7 @@
 use Rattle.std.proofs.Common.{◌≡◌, ℕ, ◌+◌, ◌<◌, Bool, true, false, cond, List, [], ◌∷◌, ◌++◌, map, length, drop, get_or, Some, is_some, IsSome, refl, sym, ◌∙◌, ap, subst, add-one}
 use Rattle.std.specs.List.{All, AllByRecursion, flat_map}
 use Rattle.std.proofs.Math.Seq.{drop-cons}
-use Rattle.std.proofs.lemmas.List.{get_or_default, get_or-map}
+use Rattle.std.proofs.lemmas.List.{get_or-map}
 use Rattle.std.proofs.lemmas.List.Sums.{fold-append}
 use Rattle.std.proofs.lemmas.List.Elements.{All-from_recursion}
 use Rattle.dq_lits.specs.Formula.{Dqbf, existential_of}
@@ -19,9 +19,6 @@ use Rattle.sparse_proofs.specs.Renaming.{with_variable}
 
 pub drop_at : {X : Type 0} (xs : List X) (i : ℕ) (d : X) → i < length xs → drop i xs ≡ get_or xs i d ∷ drop (i + 1) xs
 drop_at xs i d lt = rw (add-one) (drop-cons xs i d lt)
-
-pub element_is : {X : Type 0} (xs : List X) (i : ℕ) (x d : X) → i < length xs → x ≡ get_or xs i x → x ≡ get_or xs i d
-element_is xs i x d lt is = is ∙ get_or_default xs i x d lt
 
 -- one pair for each element
 pub one_more : {X : Type 0} (g : X → ℕ) (n other goal : Numbered) (xs : List X) (i : ℕ) (x : X) (number : ℕ) → i < length xs → x ≡ get_or xs i x → number ≡ g x
@@ -41,9 +38,6 @@ some_more g n other goal xs i x lt x_is before is =
 -- formula and rows stay
 pub same_formula : (n m : Numbered) (xs ys : List ℕ) → with_numbers n xs ≡ with_numbers m ys → n.formula ≡ m.formula
 same_formula n m xs ys same = ap (λ (t : Numbered). t.formula) same
-
-pub same_rows : (n m : Numbered) (xs ys : List ℕ) → with_numbers n xs ≡ with_numbers m ys → n.rows ≡ m.rows
-same_rows n m xs ys same = ap (λ (t : Numbered). t.rows) same
 
 -- the literals of an existential part are existential
 part_declared : (f : Dqbf) (clause : List Literal) → AllByRecursion (λ l. IsSome (existential_of f (variable_of l))) (existential_part f clause)

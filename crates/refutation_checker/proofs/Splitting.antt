@@ -2,8 +2,7 @@
 use Rattle.std.proofs.Common.{◌≡◌, ◌≢◌, ℕ, zero, ◌+◌, ◌*◌, ◌<◌, ◌≤◌, ◌==◌, Bool, true, false, cond, ◌&&◌, inl, inr, List, [], ◌∷◌, ◌++◌, map, take, drop, length, get_or, set, replicate, Option, None, Some, IfSome, IsSome, IfOk, Result, Ok, Err, refl, sym, ◌∙◌, ap, subst, arith}
 use Rattle.std.specs.List.{All, position_or_len}
 use Rattle.std.proofs.lemmas.Bool.{cases_Bool, eqb-true, eq-eqb, ne_eqb, cases_lt}
-use Rattle.std.proofs.lemmas.List.{get_or-map, length-map, length-set, length-replicate, get_or-replicate, get_or-set_same, get_or-set_other, get_or_default, ext_get_or, drop_all, length-append, get_or_append_left, map_more}
-use Rattle.std.proofs.Math.Seq.{get_or-append_seam}
+use Rattle.std.proofs.lemmas.List.{get_or-map, length-map, length-set, length-replicate, get_or-replicate, get_or-set_same, get_or-set_other, get_or_default, ext_get_or, map_more}
 use Rattle.std.proofs.lemmas.List.Sums.{position_or_len_is, fails_before_first, passes_at_first}
 use Rattle.dq_lits.specs.Expansion.{row_assignment, agree_on}
 use Rattle.dq_lits.specs.Formula.{Existential, Dqbf}
@@ -139,18 +138,6 @@ split_is rows at labels keys finer has_keys is = record {
       ∙ key_test (get_or labels j 0) (get_or labels k 0) (bit_of (row_of rows j) at) (bit_of (row_of rows k) at);
 }
 
--- keys stay below twice the number of rows
-pub keys_small : (rows : List (List Bool)) (at : ℕ) (labels keys : List ℕ) (bound : ℕ) → AreLabels (length rows) labels → HasKeys rows at labels keys → bound ≡ 2 * length rows
-    → All (λ key. key < bound) keys
-keys_small rows at labels keys bound are has_keys bound_is k d lt =
-    let inside : k < length rows = omega (arith, lt, has_keys.count) in
-    let label : get_or labels k 0 < length rows = are.small k 0 (omega (arith, inside, are.count)) in
-    subst (λ n. n < bound) (sym (get_or_default keys k d 0 lt ∙ has_keys.are k inside)) (by (get_or labels k 0) (bit_of (row_of rows k) at) label)
-  where
-    by : (l : ℕ) (b : Bool) → l < length rows → key_of l b < bound
-    by l true h = omega (arith, h, bound_is)
-    by l false h = omega (arith, h, bound_is)
-
 -- one universal more
 and_assoc : (a b c : Bool) → (a && (b && c)) ≡ ((a && b) && c)
 and_assoc true b c = refl
@@ -185,16 +172,6 @@ split_more f rows universals labels i finer next at whole lt at_is before split 
 
 pub split_first : (f : Dqbf) (rows : List (List Bool)) (universals labels : List ℕ) → AreLabels (length rows) labels → IsSplitSoFar f rows universals labels 0 labels
 split_first f rows universals labels are = record { are_labels = are; same = λ j k j_in k_in. refl }
-
-pub split_all : (f : Dqbf) (rows : List (List Bool)) (universals labels : List ℕ) (i : ℕ) (finer : List ℕ) → length universals ≤ i
-    → IsSplitSoFar f rows universals labels i finer → IsSplit f rows universals labels finer
-split_all f rows universals labels i finer end before = record {
-  are_labels = before.are_labels;
-  same = λ j k j_in k_in.
-      sym (and_true (same_label finer j k))
-      ∙ sym (ap (λ xs. same_label finer j k && agree_over f xs (row_of rows j) (row_of rows k)) (drop_all i universals end))
-      ∙ before.same j k j_in k_in;
-}
 
 -- at first all labels are the same
 pub same_labels : (count : ℕ) (labels : List ℕ) → labels ≡ replicate count 0 → AreLabels count labels
@@ -251,21 +228,6 @@ pub record HasKeysSoFar (rows : List (List Bool)) (at : ℕ) (labels : List ℕ)
 
 pub no_keys : (rows : List (List Bool)) (at : ℕ) (labels keys : List ℕ) → keys ≡ [] → HasKeysSoFar rows at labels 0 keys
 no_keys rows at labels keys is = record { count = ap length is; are = λ i lt. absurd (omega arith) }
-
-pub keys_more : (rows : List (List Bool)) (at : ℕ) (labels : List ℕ) (k : ℕ) (keys new : List ℕ) (row : List Bool) (b : Bool) (key : ℕ) → k < length rows
-    → row ≡ get_or rows k row → b ≡ bit_of row at → key ≡ key_of (get_or labels k 0) b → HasKeysSoFar rows at labels k keys → new ≡ keys ++ key ∷ []
-    → HasKeysSoFar rows at labels (k + 1) new
-keys_more rows at labels k keys new row b key lt row_is b_is key_is before new_is = record {
-  count = ap length new_is ∙ length-append keys (key ∷ []) ∙ ap (λ n. n + 1) before.count;
-  are = λ i i_lt. ap (λ xs. get_or xs i 0) new_is ∙ elim (cases_lt i k) [
-    | inl below ↦ get_or_append_left keys (key ∷ []) 0 i (omega (arith, below, before.count)) ∙ before.are i below
-    | inr le ↦
-        let here : i ≡ length keys = omega (arith, le, i_lt, before.count) in
-        ap (λ n. get_or (keys ++ key ∷ []) n 0) here ∙ get_or-append_seam keys key [] 0 ∙ key_is
-        ∙ ap (λ c. key_of (get_or labels k 0) c) (b_is ∙ ap (λ r. bit_of r at) (row_is ∙ get_or_default rows k row [] lt))
-        ∙ ap (λ n. key_of (get_or labels n 0) (bit_of (row_of rows n) at)) (let e : k ≡ i = omega (arith, le, i_lt) in e)
-  ];
-}
 
 pub ok_from : {T E : Type 0} (P Q : T → Type 0) (r : Result T E) → ((t : T) → P t → Q t) → IfOk r P → IfOk r Q
 ok_from P Q (Ok t) from h = from t h

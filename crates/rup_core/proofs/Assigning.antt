@@ -96,33 +96,12 @@ told_only values literals told i lt p n =
     told_free (get_or values i Unassigned) (holds (reverse literals) (positive (suc i))) (holds (reverse literals) (negative (suc i))) (told i lt)
     (holds-reverse literals (positive (suc i)) p) (holds-reverse literals (negative (suc i)) n)
 
-pub one_taken_back : (values : List TruthValue) (l : Literal) (rest : List Literal) (i : ℕ) → variable_of l ≡ suc i → i < length values →
-    StandsOnlyOn values (l ∷ rest) → StandsOnlyOn (set values i Unassigned) rest
-one_taken_back values l rest i e lt only j lt' p n =
-    elim (cases_eq j i) [
-      | inl same ↦
-          let P : ℕ → Type 0 = λ m. get_or (set values i Unassigned) m Unassigned ≡ Unassigned in
-          subst P (sym same) (get_or-set_same values i Unassigned Unassigned lt)
-      | inr other ↦
-          let ne : suc j ≢ variable_of l = λ h. other (omega (arith, h ∙ e)) in
-          let read : get_or (set values i Unassigned) j Unassigned ≡ get_or values j Unassigned = rw get_or-set_other refl in
-          let in_range : j < length values = omega (arith, length-set values i Unassigned) in
-          read ∙ only j in_range (ap (λ b. b || holds rest (positive (suc j))) (other_positive (suc j) l ne) ∙ p)
-          (ap (λ b. b || holds rest (negative (suc j))) (other_negative (suc j) l ne) ∙ n)
-    ]
-
 All-single : {X : Type 0} (P : X → Type 0) (x : X) → P x → All P (x ∷ [])
 All-single P x here = All-from_get_or P (x ∷ []) x (λ i lt. at i lt)
   where
     at : (i : ℕ) → i < length (x ∷ []) → P (get_or (x ∷ []) i x)
     at zero h = here
     at (suc i) h = absurd (omega arith)
-
--- a table without values tells that nothing is true
-pub tells_none : (values : List TruthValue) → All (λ value. value ≡ Unassigned) values → Tells values []
-tells_none values none i lt =
-    let P : TruthValue → Type 0 = λ t. IsTold t false false in
-    subst P (sym (none i Unassigned lt)) (refl, refl)
 
 -- no literal is left whose variable has a value
 pub all_taken_back : (values : List TruthValue) (literals : List Literal) (n : ℕ) → length literals ≤ n → StandsOnlyOn values (drop n literals) →

@@ -1,63 +1,19 @@
 -- A line's literals, made false one by one.
-use Rattle.std.proofs.Common.{◌≡◌, ℕ, ◌<◌, Bool, true, false, not, cond, ◌||◌, inl, inr, List, [], ◌∷◌, ◌++◌, map, take, drop, length, Option, Some, refl, sym, ◌∙◌, ap, get_or}
+use Rattle.std.proofs.Common.{◌≡◌, ℕ, ◌<◌, Bool, true, false, not, cond, ◌||◌, inl, inr, List, [], ◌∷◌, map, take, drop, length, Option, Some, refl, sym, ◌∙◌, ap, get_or}
 use Rattle.std.specs.List.{list_any}
-use Rattle.std.proofs.lemmas.Bool.{cases_Bool, not-true, or_cases, or_from, or_left, or_right}
+use Rattle.std.proofs.lemmas.Bool.{not-true, or_cases, or_from, or_left, or_right}
 use Rattle.std.proofs.lemmas.List.{take-append-drop}
 use Rattle.std.proofs.lemmas.List.Folds.{list_any_at}
 use Rattle.dq_lits.specs.Literal.{Literal, positive, negative, opposite, same_literal}
 use Rattle.dq_lits.specs.Derivation.{LiveClauses, holds, is_tautology, hint_fault, line_fault}
 use Rattle.rup_core.specs.Truth.{literal_value, AreSame}
-use Rattle.rup_core.specs.declared.trails.TruthValue.TheVariants.{True, False}
+use Rattle.rup_core.specs.declared.trails.TruthValue.TheVariants.{True}
 use Rattle.rup_core.proofs.Hinting.{hint_fault-same}
-use Rattle.rup_core.proofs.Holding.{same_literal-sound, same_literal-refl, opposite-opposite, opposite-other, holds-append, value_false, value_true}
+use Rattle.rup_core.proofs.Holding.{same_literal-sound, same_literal-refl, opposite-opposite, holds-append, value_true}
 
 -- no literal beside its negation
 abbrev pub IsConsistent : List Literal → Type 0
 IsConsistent literals = (l : Literal) → holds literals l ≡ true → holds literals (opposite l) ≡ false
-
--- a literal that is false already
-pub assumed_before : (trues line : List Literal) (l : Literal) → AreSame trues line → literal_value trues l ≡ False → AreSame trues (line ++ opposite l ∷ [])
-assumed_before trues line l same is_false k =
-    elim (cases_Bool (same_literal k (opposite l))) [
-      | inl here ↦
-          let held = ap (holds trues) (same_literal-sound k (opposite l) here) ∙ value_false trues l is_false in
-          held ∙ sym (holds-append line (opposite l ∷ []) k ∙ or_right (holds line k) (holds (opposite l ∷ []) k) (or_left (same_literal k (opposite l)) false here))
-      | inr other ↦
-          same k ∙ sym (holds-append line (opposite l ∷ []) k ∙ ap (λ b. holds line k || (b || false)) other ∙ or_nothing (holds line k))
-    ]
-  where
-    or_nothing : (b : Bool) → (b || (false || false)) ≡ b
-    or_nothing true = refl
-    or_nothing false = refl
-
-or_swap : (a b : Bool) → (a || b) ≡ (b || (a || false))
-or_swap true true = refl
-or_swap true false = refl
-or_swap false true = refl
-or_swap false false = refl
-
--- an unassigned literal that is made false
-pub assumed_now : (trues line : List Literal) (l : Literal) → AreSame trues line → AreSame (opposite l ∷ trues) (line ++ opposite l ∷ [])
-assumed_now trues line l same k =
-    ap (λ b. same_literal k (opposite l) || b) (same k) ∙ or_swap (same_literal k (opposite l)) (holds line k) ∙ sym (holds-append line (opposite l ∷ []) k)
-
-pub consistent_more : (trues : List Literal) (l : Literal) → IsConsistent trues → holds trues l ≡ false → holds trues (opposite l) ≡ false → IsConsistent (l ∷ trues)
-consistent_more trues l consistent free free' k h =
-    elim (or_cases (same_literal k l) (holds trues k) h) [
-      | inl here ↦
-          let e = same_literal-sound k l here in
-          or_from (same_literal (opposite k) l) (holds trues (opposite k)) (ap (λ j. same_literal (opposite j) l) e ∙ opposite-other l) (ap (λ j. holds trues (opposite j)) e ∙ free')
-      | inr before ↦
-          or_from (same_literal (opposite k) l) (holds trues (opposite k))
-          (elim (cases_Bool (same_literal (opposite k) l)) [
-            | inl same ↦
-                let e : k ≡ opposite l = sym (opposite-opposite k) ∙ ap opposite (same_literal-sound (opposite k) l same) in
-                let n : true ≡ false = sym before ∙ ap (holds trues) e ∙ free' in
-                cc
-            | inr other ↦ other
-          ])
-          (consistent k before)
-    ]
 
 any_none : (p : Literal → Bool) (line : List Literal) → ((l : Literal) → holds line l ≡ true → p l ≡ false) → list_any p line ≡ false
 any_none p [] none = refl

@@ -1,13 +1,12 @@
 -- A proof's lines, taken into a base one by one.
-use Rattle.std.proofs.Common.{◌≡◌, ℕ, suc, ◌==◌, ◌+◌, ◌-◌, ◌<◌, ◌≤◌, nat_lt, nat_eq, Bool, true, false, cond, inl, inr, List, [], ◌∷◌, map, drop, length, get_or, Option, None, Some, IfSome, refl, sym, ◌∙◌, ap, subst, arith, add-one}
+use Rattle.std.proofs.Common.{◌≡◌, ℕ, suc, ◌==◌, ◌+◌, ◌-◌, ◌<◌, nat_lt, nat_eq, Bool, true, false, cond, inl, inr, List, [], ◌∷◌, map, drop, length, get_or, Option, None, Some, IfSome, refl, sym, ◌∙◌, ap, subst, arith, add-one}
 use Rattle.std.specs.List.{All, slice_get}
 use Rattle.std.proofs.Math.Seq.{drop-cons}
 use Rattle.std.proofs.lemmas.Bool.{cases_eq, cases_lt, eq-eqb, ne_eqb, lt-ltb, le-ltb}
-use Rattle.std.proofs.lemmas.List.{drop_all}
 use Rattle.std.proofs.lemmas.List.Elements.{All-get_or}
 use Rattle.std.proofs.lemmas.Option.{slice_get-get_or, slice_get_cases, get_or_from_slice_get}
 use Rattle.dq_lits.specs.Literal.{Literal, opposite}
-use Rattle.dq_lits.specs.Derivation.{LiveClauses, with_clause, ProofStep, underived, unfinished, status_of, fault_by, hint_fault, is_tautology, line_fault, is_empty, fault_of_step, steps_fault, proof_fault}
+use Rattle.dq_lits.specs.Derivation.{LiveClauses, with_clause, ProofStep, underived, status_of, fault_by, hint_fault, is_tautology, line_fault, is_empty, fault_of_step, steps_fault, proof_fault}
 use Rattle.rup_core.specs.Growth.{AreNumbered, clause_of, grown}
 use Rattle.rup_core.specs.Range.{StandsWithin, LineStandsWithin}
 use Rattle.rup_core.proofs.Hinting.{fault_by-same}
@@ -37,17 +36,6 @@ steps_fault-live (step ∷ steps) live other same finished =
     ap (λ fault. fault_of_step fault step.id (steps_fault (is_empty step.literals) (with_clause live step.id step.literals) steps)) (line_fault-live live other same step.literals step.hints)
     ∙ ap (fault_of_step (line_fault other step.literals step.hints) step.id)
     (steps_fault-live steps (with_clause live step.id step.literals) (with_clause other step.id step.literals) (with_clause-live live other same step.id step.literals) (is_empty step.literals))
-
--- at first there are the clauses of the base alone
-grown_none : (live : LiveClauses) (first : ℕ) (steps : List ProofStep) → ((id : ℕ) → first ≤ id → live id ≡ None) → SameClauses live (grown live first steps 0)
-grown_none live first steps behind id =
-    elim (cases_lt id first) [
-      | inl before ↦ sym (ap (λ b. cond b (live id) (cond (nat_lt (id - first) 0) (clause_of (slice_get steps (id - first))) None)) (lt-ltb id first before))
-      | inr after ↦
-          behind id after
-          ∙ sym (ap (λ b. cond b (live id) (cond (nat_lt (id - first) 0) (clause_of (slice_get steps (id - first))) None)) (le-ltb id first after)
-          ∙ ap (λ b. cond b (clause_of (slice_get steps (id - first))) None) (le-ltb (id - first) 0 (omega arith)))
-    ]
 
 -- then a line has its clause
 grown_more : (live : LiveClauses) (first : ℕ) (steps : List ProofStep) (k : ℕ) (step : ProofStep) → slice_get steps k ≡ Some step → step.id ≡ first + k →
@@ -84,9 +72,6 @@ grown_more live first steps k step at numbered id =
 -- the fault of a proof is that of the steps left, where the earlier ones are derived
 abbrev pub IsFaultLeft : LiveClauses → ℕ → List ProofStep → Bool → ℕ → Type 0
 IsFaultLeft live first steps finished k = proof_fault live steps ≡ steps_fault finished (grown live first steps k) (drop k steps)
-
-pub fault_left_first : (live : LiveClauses) (first : ℕ) (steps : List ProofStep) → ((id : ℕ) → first ≤ id → live id ≡ None) → IsFaultLeft live first steps false 0
-fault_left_first live first steps behind = steps_fault-live steps live (grown live first steps 0) (grown_none live first steps behind) false
 
 step_left : (steps : List ProofStep) (k : ℕ) (step : ProofStep) → k < length steps → slice_get steps k ≡ Some step → drop k steps ≡ step ∷ drop (k + 1) steps
 step_left steps k step lt at =
@@ -170,7 +155,3 @@ line_within n live first steps k literals hints within read =
       line = subst Q (sym r.2) here.line;
       hinted = subst R (sym r.3) (λ i d lt. grown_within n live first steps k (get_or r.0.hints i d) all (here.hinted i d lt));
     }
-
-pub fault_at_end : (live : LiveClauses) (first : ℕ) (steps : List ProofStep) (finished : Bool) (k : ℕ) → length steps ≤ k → IsFaultLeft live first steps finished k →
-    cond finished None (Some unfinished) ≡ proof_fault live steps
-fault_at_end live first steps finished k all before = sym (before ∙ ap (steps_fault finished (grown live first steps k)) (drop_all k steps all))

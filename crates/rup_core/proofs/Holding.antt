@@ -20,14 +20,6 @@ pub opposite-opposite : (l : Literal) → opposite (opposite l) ≡ l
 opposite-opposite (positive v) = refl
 opposite-opposite (negative v) = refl
 
-pub opposite-other : (l : Literal) → same_literal (opposite l) l ≡ false
-opposite-other (positive v) = refl
-opposite-other (negative v) = refl
-
-pub variable_of-opposite : (l : Literal) → variable_of (opposite l) ≡ variable_of l
-variable_of-opposite (positive v) = refl
-variable_of-opposite (negative v) = refl
-
 pub other_positive : (v : ℕ) (l : Literal) → v ≢ variable_of l → same_literal (positive v) l ≡ false
 other_positive v (positive w) h = ne_eqb v w h
 other_positive v (negative w) h = refl
@@ -59,18 +51,6 @@ value_free trues l h =
       ]
     ]
 
-pub value_false : (trues : List Literal) (l : Literal) → literal_value trues l ≡ False → holds trues (opposite l) ≡ true
-value_false trues l h =
-    elim (cases_Bool (holds trues (opposite l))) [
-      | inl is_false ↦ is_false
-      | inr other ↦
-          let e = ap (λ b. cond b False (cond (holds trues l) True Unassigned)) other in
-          elim (cases_Bool (holds trues l)) [
-            | inl is_true ↦ let f = ap (λ b. cond b True Unassigned) is_true in let n : True ≡ False = sym f ∙ sym e ∙ h in cc
-            | inr free ↦ let f = ap (λ b. cond b True Unassigned) free in let n : Unassigned ≡ False = sym f ∙ sym e ∙ h in cc
-          ]
-    ]
-
 pub value_true : (trues : List Literal) (l : Literal) → literal_value trues l ≡ True → holds trues l ≡ true
 value_true trues l h =
     elim (cases_Bool (holds trues l)) [
@@ -84,6 +64,3 @@ value_true trues l h =
             cc
       ]
     ]
-
-pub free_value : (trues : List Literal) (l : Literal) → holds trues l ≡ false → holds trues (opposite l) ≡ false → literal_value trues l ≡ Unassigned
-free_value trues l h o = ap (λ b. cond b False (cond (holds trues l) True Unassigned)) o ∙ ap (λ b. cond b True Unassigned) h

@@ -1,5 +1,5 @@
 -- What a reading of the mapping gives.
-use Rattle.std.proofs.Common.{◌≡◌, ℕ, zero, suc, ◌+◌, ◌-◌, ◌<◌, ◌≤◌, ◌==◌, Bool, true, false, ◌||◌, List, [], ◌∷◌, ◌++◌, length, set, replicate, inl, inr, refl, sym, ap, ◌∙◌, subst, arith, Ok, Err, is_some}
+use Rattle.std.proofs.Common.{◌≡◌, ℕ, suc, ◌+◌, ◌-◌, ◌<◌, ◌≤◌, ◌==◌, Bool, true, false, ◌||◌, List, [], ◌∷◌, ◌++◌, length, set, inl, inr, refl, sym, ap, ◌∙◌, subst, arith, Ok, Err, is_some}
 use Rattle.std.proofs.lemmas.Bool.{cases_eq, eq-eqb, ne_eqb}
 use Rattle.std.proofs.lemmas.List.{get_or-set_same, get_or-set_other}
 use Rattle.std.proofs.lemmas.List.Elements.{All-contains}
@@ -56,11 +56,6 @@ seen-set bits vs v below seen w =
     or_false : (a : Bool) → (a || false) ≡ a
     or_false true = refl
     or_false false = refl
-
-pub seen-none : (n : ℕ) → IsSeen (replicate n false) []
-seen-none zero w = refl
-seen-none (suc n) zero = refl
-seen-none (suc n) (suc w) = seen-none n w
 
 -- one place more, or the first fault
 one_less : (count place : ℕ) → place < count → count - place ≡ suc (count - (place + 1))

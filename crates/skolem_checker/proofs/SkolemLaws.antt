@@ -137,10 +137,6 @@ digit-bit : (b : Bool) → b ≡ (bit_at (digit b) 0 == 1)
 digit-bit true = refl
 digit-bit false = refl
 
-digit-le : (b : Bool) → digit b ≤ 1
-digit-le true = omega arith
-digit-le false = omega arith
-
 times-le : (b : Bool) (p : ℕ) → digit b * p ≤ p
 times-le true p = omega arith
 times-le false p = omega arith

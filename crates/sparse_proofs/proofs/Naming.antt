@@ -1,8 +1,8 @@
 -- How the variables that occur are added, and their numbers.
-use Rattle.std.proofs.Common.{◌≡◌, true, ℕ, zero, suc, ◌+◌, ◌<◌, ◌≤◌, ◌^◌, ◌==◌, eqb, List, [], ◌∷◌, ◌++◌, map, take, length, get_or, slice_get, position, Option, None, Some, Contains, IfSome, IsSome, refl, sym, ◌∙◌, ap, subst, arith}
+use Rattle.std.proofs.Common.{◌≡◌, true, ℕ, zero, suc, ◌+◌, ◌<◌, ◌≤◌, ◌^◌, ◌==◌, eqb, List, [], ◌∷◌, ◌++◌, map, take, length, get_or, slice_get, position, Option, None, Some, Contains, IfSome, sym, ◌∙◌, ap, subst, arith}
 use Rattle.std.specs.List.{All, IsDistinct, flat_map, list_any, position_or_len}
 use Rattle.std.specs.Option.{option_map}
-use Rattle.std.proofs.lemmas.List.{map_more, take_more, flat_map_more, get_or-map, length-map, take_all}
+use Rattle.std.proofs.lemmas.List.{map_more, take_more, flat_map_more, get_or-map, length-map}
 use Rattle.std.proofs.lemmas.List.Elements.{All-contains}
 use Rattle.std.proofs.lemmas.List.Sums.{fold-append}
 use Rattle.std.proofs.lemmas.Map.Steps.{length-le_from_distinct_below}
@@ -10,10 +10,14 @@ use Rattle.std.proofs.lemmas.Option.{slice_get-map, slice_get-get_or}
 use Rattle.dq_lits.specs.Derivation.{ProofStep}
 use Rattle.dq_lits.specs.Literal.{Literal, variable_of}
 use Rattle.dq_formula.proofs.Places.{flip, contains-has, place-absent}
-use Rattle.rup_core.specs.Reading.{clause_size, literal_at}
-use Rattle.sparse_proofs.specs.Lines.{renamed_line, literals_in}
-use Rattle.sparse_proofs.specs.Occurring.{clause_variables, AreSmall}
+use Rattle.rup_core.specs.Reading.{literal_at}
+use Rattle.sparse_proofs.specs.Lines.{renamed_line}
 use Rattle.sparse_proofs.specs.Renaming.{with_variable, with_variables, place_of, renamed_step}
+
+-- the literals of a clause, none where there is no clause
+abbrev pub literals_in : Option (List Literal) → List Literal
+literals_in None = []
+literals_in (Some clause) = clause
 
 pub one_more : {X : Type 0} (g : X → ℕ) (old now next : List ℕ) (xs : List X) (i : ℕ) (x : X) → i < length xs → x ≡ get_or xs i x
     → now ≡ with_variables old (map g (take i xs)) → next ≡ with_variable now (g x) → next ≡ with_variables old (map g (take (i + 1) xs))

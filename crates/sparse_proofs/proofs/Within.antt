@@ -1,8 +1,7 @@
 -- What `first_fault` of rup_core asks of a base and of lines on numbered variables.
-use Rattle.std.proofs.Common.{◌≡◌, ℕ, zero, suc, ◌+◌, ◌≤◌, ◌==◌, not, List, [], ◌∷◌, map, length, get_or, slice_get, Option, None, Some, IfSome, IsSome, refl, ◌∙◌, ap, subst, arith}
+use Rattle.std.proofs.Common.{◌≡◌, ℕ, zero, suc, ◌+◌, ◌≤◌, ◌==◌, not, List, [], ◌∷◌, map, length, get_or, Option, None, Some, IfSome, refl, ◌∙◌, ap, arith}
 use Rattle.std.specs.List.{All, AllByRecursion, position_or_len}
 use Rattle.std.specs.Option.{option_map}
-use Rattle.std.proofs.lemmas.List.{length-map}
 use Rattle.std.proofs.lemmas.List.Elements.{All-from_recursion}
 use Rattle.std.proofs.lemmas.List.Sums.{prefix_len-le-length}
 use Rattle.std.proofs.lemmas.Option.{slice_get-map}
@@ -10,7 +9,7 @@ use Rattle.dq_lits.specs.Derivation.{LiveClauses, ProofStep}
 use Rattle.dq_lits.specs.Literal.{Literal, positive, negative, variable_of, on_variable}
 use Rattle.rup_core.specs.Growth.{AreNumbered}
 use Rattle.rup_core.specs.Range.{StandsWithin, LineStandsWithin}
-use Rattle.rup_core.specs.Reading.{clause_size, literal_at}
+use Rattle.rup_core.specs.Reading.{literal_at}
 use Rattle.sparse_proofs.specs.Renaming.{place_of, renamed_literal, renamed_clauses, renamed_step}
 
 -- every place is that of a variable that occurs, or one behind

@@ -1,6 +1,6 @@
 use Rattle.std.proofs.Common.{◌≡◌, take, map}
 use Rattle.dq_lits.specs.Literal.{variable_of}
-use Rattle.sparse_proofs.specs.Lines.{literals_in}
+use Rattle.sparse_proofs.proofs.Naming.{literals_in}
 use Rattle.sparse_proofs.specs.Renaming.{with_variables}
 use Rattle.sparse_proofs.proofs.names.Names.add_clause.Given as goal
 
