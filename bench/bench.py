@@ -180,6 +180,37 @@ def many_variables():
     return blind_bit(12, 0, 5_000, 9_999, 1_000_000)
 
 
+def many_existentials():
+    """A refutation of 65,536 rows of a formula with 2,000 existentials that see one universal each, and are to equal
+    another. Each has four lines: its two pairs, false by one row and true by another."""
+    universals, existentials = 16, 2_000
+    variables = universals + existentials
+    seen = [i % universals for i in range(existentials)]
+    blind = [(i + 1) % universals for i in range(existentials)]
+    formula = lines(
+        f"p cnf {variables} {2 * existentials}",
+        f"a {numbers(1, universals)} 0",
+        *(f"d {universals + 1 + i} {seen[i] + 1} 0" for i in range(existentials)),
+        *(
+            clause
+            for i in range(existentials)
+            for clause in (f"{universals + 1 + i} -{blind[i] + 1} 0", f"-{universals + 1 + i} {blind[i] + 1} 0")
+        ),
+    )
+    rows, first = 1 << universals, 2 * existentials * (1 << universals) + 1
+    choose = random.Random(1)
+    steps = []
+    for i in range(existentials):
+        for value in (0, 1):
+            row = choose.randrange(rows) & ~(1 << seen[i]) & ~(1 << blind[i]) | value << seen[i]
+            for k, sign, j in ((row, "-", 2 * i + 1), (row | 1 << blind[i], "", 2 * i)):
+                literal = f"{sign}{k * variables + universals + 1 + i}"
+                steps.append(f"{first + len(steps)} {literal} 0 {2 * existentials * k + j + 1} 0")
+    steps.append(f"{first + len(steps)} 0 {first} {first + 1} 0")
+    texts = (" ".join(str(x + 1 if k >> x & 1 else -x - 1) for x in range(universals)) for k in range(rows))
+    return formula, lines(f"p dqr {rows} {len(steps)}", *(f"u {row} 0" for row in texts), *steps)
+
+
 class Proof:
     """A circuit's proof: its lines so far, and the ids of the clauses before them. Gates, clauses and places in a
     clause count from 0; the parts of a gate are 0 (not g, a), 1 (not g, b) and 2 (g, not a, not b)."""
@@ -331,6 +362,7 @@ MEASUREMENTS = [
     large_header,
     many_rows,
     many_variables,
+    many_existentials,
     long_proof,
     gates_and_proof,
     wide_last_clause,

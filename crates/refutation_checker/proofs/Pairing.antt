@@ -1,11 +1,12 @@
 -- The numbers of pairs.
-use Rattle.std.proofs.Common.{◌≡◌, ℕ, ◌+◌, ◌-◌, ◌*◌, ◌/◌, ◌%◌, ◌≤◌, ◌<◌, ◌^◌, ◌==◌, eqb, Bool, true, false, not, ◌&&◌, cond, inl, inr, List, [], ◌∷◌, map, length, get_or, position, Option, None, Some, IsSome, is_some, nat_lt, refl, sym, ◌∙◌, ap, subst, arith}
+use Rattle.std.proofs.Common.{◌≡◌, ℕ, ◌+◌, ◌-◌, ◌*◌, ◌/◌, ◌%◌, ◌≤◌, ◌<◌, ◌^◌, ◌==◌, eqb, Bool, true, false, not, ◌&&◌, cond, inl, inr, List, [], ◌∷◌, map, take, drop, length, get_or, position, Option, None, Some, IsSome, is_some, nat_lt, refl, sym, ◌∙◌, ap, subst, arith}
 use Rattle.std.specs.List.{All, list_any, find, position_or_len, filter_map}
 use Rattle.std.specs.Map.{lookup}
-use Rattle.std.proofs.Math.Nat.{mul-le-mul_left}
+use Rattle.std.proofs.Math.Nat.{mul-le-mul_left, div-add-mod, mod-lt}
 use Rattle.std.proofs.lemmas.Bool.{cases_Bool, eqb-true, and_parts, ltb-true}
+use Rattle.std.proofs.lemmas.Nat.{div-mul-add, mod-mul-add}
 use Rattle.std.proofs.lemmas.Option.{slice_get-get_or}
-use Rattle.std.proofs.lemmas.List.{get_or-map, get_or_default}
+use Rattle.std.proofs.lemmas.List.{get_or-map, get_or_default, get_or-take, get_or-drop, length-map, length-take, length-drop, take-map, drop-map}
 use Rattle.std.proofs.lemmas.List.Sums.{prefix_len-le-length}
 use Rattle.indexmap.specs.IndexMap.{insert_entry}
 use Rattle.dq_lits.specs.Expansion.{agree_on, row_assignment, pair_number, pair_literal, universal_literal_true}
@@ -19,7 +20,7 @@ use Rattle.cert_text.specs.Header.{max_count}
 use Rattle.cert_text.specs.Pairs.{is_pair_number}
 use Rattle.cert_text.proofs.PairNumbers.{existential_in_range}
 use Rattle.refutation_checker.specs.Refutation.{normal_of, normal_number}
-use Rattle.refutation_checker.specs.Pairs.{first_agreeing, first_row, pair_of, existential_part, AreFirstRows}
+use Rattle.refutation_checker.specs.Pairs.{first_agreeing, first_row, pair_of, blocks, block_firsts, existential_part, AreBlockFirsts}
 use Rattle.refutation_checker.specs.PairTable.{instance_in, instance_literals}
 
 -- a first row is one of the rows, or behind the last
@@ -38,27 +39,27 @@ pair_small f first v variables lawful few declared is =
     omega (arith, product, few, y.1, lawful.few_variables)
 
 -- what is kept of first rows
-pub found_rows : (f : Dqbf) (rows : List (List Bool)) (y : ℕ) (entries : List (ℕ × List ℕ)) (firsts : List ℕ) → AreFirstRows f rows entries
-    → Some firsts ≡ lookup (eqb y) entries → firsts ≡ map (first_row f rows y) rows
-found_rows f rows y [] firsts all found = cc
-found_rows f rows y (e ∷ entries) firsts all found =
-    elim (cases_Bool (eqb y e.0)) [
+pub found_rows : (f : Dqbf) (rows : List (List Bool)) (number : ℕ) (entries : List (ℕ × List ℕ)) (firsts : List ℕ) → AreBlockFirsts f rows entries
+    → Some firsts ≡ lookup (eqb number) entries → firsts ≡ block_firsts f rows number
+found_rows f rows number [] firsts all found = cc
+found_rows f rows number (e ∷ entries) firsts all found =
+    elim (cases_Bool (eqb number e.0)) [
       | inl same ↦
-          let at : Some firsts ≡ Some e.1 = found ∙ ap (λ b. cond b (Some e.1) (lookup (eqb y) entries)) same in
-          some_is firsts e.1 at ∙ all.0 ∙ ap (λ v. map (first_row f rows v) rows) (sym (eqb-true y e.0 same))
-      | inr other ↦ found_rows f rows y entries firsts all.1 (found ∙ ap (λ b. cond b (Some e.1) (lookup (eqb y) entries)) other)
+          let at : Some firsts ≡ Some e.1 = found ∙ ap (λ b. cond b (Some e.1) (lookup (eqb number) entries)) same in
+          some_is firsts e.1 at ∙ all.0 ∙ ap (block_firsts f rows) (sym (eqb-true number e.0 same))
+      | inr other ↦ found_rows f rows number entries firsts all.1 (found ∙ ap (λ b. cond b (Some e.1) (lookup (eqb number) entries)) other)
     ]
   where
     some_is : (xs ys : List ℕ) → Some xs ≡ Some ys → xs ≡ ys
     some_is xs ys h = cc
 
-pub kept_rows : (f : Dqbf) (rows : List (List Bool)) (y : ℕ) (entries : List (ℕ × List ℕ)) (firsts : List ℕ) → AreFirstRows f rows entries
-    → firsts ≡ map (first_row f rows y) rows → AreFirstRows f rows (insert_entry eqb entries y firsts)
-kept_rows f rows y [] firsts all is = (is, tt)
-kept_rows f rows y (e ∷ entries) firsts all is = by (eqb y e.0) (λ same. is ∙ ap (λ v. map (first_row f rows v) rows) (eqb-true y e.0 same)) (kept_rows f rows y entries firsts all.1 is) refl
+pub kept_rows : (f : Dqbf) (rows : List (List Bool)) (number : ℕ) (entries : List (ℕ × List ℕ)) (firsts : List ℕ) → AreBlockFirsts f rows entries
+    → firsts ≡ block_firsts f rows number → AreBlockFirsts f rows (insert_entry eqb entries number firsts)
+kept_rows f rows number [] firsts all is = (is, tt)
+kept_rows f rows number (e ∷ entries) firsts all is = by (eqb number e.0) (λ same. is ∙ ap (block_firsts f rows) (eqb-true number e.0 same)) (kept_rows f rows number entries firsts all.1 is) refl
   where
-    by : (b : Bool) → (eqb y e.0 ≡ true → firsts ≡ map (first_row f rows e.0) rows) → AreFirstRows f rows (insert_entry eqb entries y firsts) → eqb y e.0 ≡ b
-        → AreFirstRows f rows (cond b ((e.0, firsts) ∷ entries) (e ∷ insert_entry eqb entries y firsts))
+    by : (b : Bool) → (eqb number e.0 ≡ true → firsts ≡ block_firsts f rows e.0) → AreBlockFirsts f rows (insert_entry eqb entries number firsts) → eqb number e.0 ≡ b
+        → AreBlockFirsts f rows (cond b ((e.0, firsts) ∷ entries) (e ∷ insert_entry eqb entries number firsts))
     by true here rest same = (here same, all.1)
     by false here rest same = (all.0, rest)
 
@@ -114,10 +115,46 @@ pub named_by : (f : Dqbf) (rows : List (List Bool)) (number variables : ℕ) →
 named_by f rows number variables is h =
     subst (λ w. normal_number f rows number ≡ pair_of f rows (get_or rows ((number - 1) / w) []) ((number - 1) % w + 1)) (sym is) (named_is f rows number h)
 
--- the entry of first rows at a row
-pub kept_at : (f : Dqbf) (rows : List (List Bool)) (y : ℕ) (firsts : List ℕ) (k d : ℕ) → firsts ≡ map (first_row f rows y) rows → k < length rows
-    → get_or firsts k d ≡ first_row f rows y (get_or rows k [])
-kept_at f rows y firsts k d is within = ap (λ xs. get_or xs k d) is ∙ get_or-map (first_row f rows y) rows k [] d within
+-- the block of the row at k
+block_parts : (rows y k : ℕ) → k < rows → ((y * blocks rows + k / 16) / blocks rows ≡ y) × ((y * blocks rows + k / 16) % blocks rows ≡ k / 16)
+block_parts rows y k lt =
+    let row : k % 16 < 16 = mod-lt k (omega arith) in
+    let last : rows % 16 < 16 = mod-lt rows (omega arith) in
+    let few : k / 16 < blocks rows = omega (arith, lt, div-add-mod k 16, div-add-mod rows 16, row, last) in
+    (div-mul-add y (blocks rows) (k / 16) few, mod-mul-add y (blocks rows) (k / 16) few)
+
+-- its entry at that row
+pub kept_at : (f : Dqbf) (rows : List (List Bool)) (y k number : ℕ) (firsts : List ℕ) (d : ℕ) → k < length rows → number ≡ y * blocks (length rows) + k / 16
+    → firsts ≡ block_firsts f rows number → (k % 16 < length firsts) × (get_or firsts (k % 16) d ≡ first_row f rows y (get_or rows k []))
+kept_at f rows y k number firsts d lt number_is is =
+    let parts = block_parts (length rows) y k lt in
+    let v : number / blocks (length rows) ≡ y = ap (λ m. m / blocks (length rows)) number_is ∙ parts.0 in
+    let b : number % blocks (length rows) ≡ k / 16 = ap (λ m. m % blocks (length rows)) number_is ∙ parts.1 in
+    let block = take 16 (drop (k / 16 * 16) rows) in
+    let here : firsts ≡ map (first_row f rows y) block =
+    is ∙ ap (λ w. map (first_row f rows w) (take 16 (drop (number % blocks (length rows) * 16) rows))) v
+    ∙ ap (λ m. map (first_row f rows y) (take 16 (drop (m * 16) rows))) b in
+    let split = div-add-mod k 16 in
+    let rest : k % 16 < 16 = mod-lt k (omega arith) in
+    let long = length-drop (k / 16 * 16) rows in
+    let short = length-take 16 (drop (k / 16 * 16) rows) in
+    let inside : k % 16 < length block = omega (arith, split, rest, long, short, lt) in
+    let place : k / 16 * 16 + k % 16 ≡ k = omega (arith, split) in (
+      (let mapped = ap length here ∙ length-map block (first_row f rows y) in omega (arith, mapped, inside)),
+      ap (λ xs. get_or xs (k % 16) d) here ∙ get_or-map (first_row f rows y) block (k % 16) [] d inside
+          ∙ ap (first_row f rows y) (get_or-take 16 (drop (k / 16 * 16) rows) (k % 16) [] rest ∙ get_or-drop (k / 16 * 16) rows (k % 16) [] ∙ ap (λ i. get_or rows i []) place),
+    )
+
+-- the block that is learnt
+pub learnt_block : (f : Dqbf) (rows : List (List Bool)) (number count y : ℕ) (places items firsts : List ℕ) → count ≡ blocks (length rows)
+    → places ≡ map (first_row f rows y) rows → y ≡ number / count → items ≡ places → firsts ≡ take 16 (drop (number % count * 16) items)
+    → firsts ≡ block_firsts f rows number
+learnt_block f rows number count y places items firsts count_is places_are y_is same is =
+    is ∙ ap (λ xs. take 16 (drop (number % count * 16) xs)) (same ∙ places_are)
+    ∙ ap (take 16) (drop-map (first_row f rows y) (number % count * 16) rows)
+    ∙ take-map (first_row f rows y) 16 (drop (number % count * 16) rows)
+    ∙ ap (λ v. map (first_row f rows v) (take 16 (drop (number % count * 16) rows))) y_is
+    ∙ ap (λ n. map (first_row f rows (number / n)) (take 16 (drop (number % n * 16) rows))) count_is
 
 -- a universal's literal by the bit at its place
 pub true_universal : (f : Dqbf) (row : List Bool) (l : Literal) (v at : ℕ) (bit : Bool) → v ≡ variable_of l → length row ≡ length f.universals
@@ -170,6 +207,14 @@ pub pair_bound : (f g : Dqbf) (rows : List (List Bool)) (row : List Bool) (first
 pair_bound f g rows row first v variables same lawful few first_is declared is =
     let le = first_row_le f rows v row in
     pair_small f first v variables (subst IsLawful same lawful) (omega (arith, le, few, first_is)) declared (is ∙ ap (λ (h : Dqbf). h.variables) same)
+
+pub block_bound : (f g : Dqbf) (v rows k count : ℕ) → g ≡ f → IsLawful g → IsSome (existential_of f v) → rows ≤ max_count → k < rows → count ≤ 10 ^ 8
+    → v * count + k / 16 < 2 ^ 61
+block_bound f g v rows k count same lawful declared few lt le =
+    let lawful_f = subst IsLawful same lawful in
+    let in_range = existential_in_range f v lawful_f declared in
+    let product : v * count ≤ v * 100000000 = mul-le-mul_left v le in
+    omega (arith, product, lt, few, div-add-mod k 16, in_range.1, lawful_f.few_variables)
 
 pub row_is : (rows read : List (List Bool)) (k : ℕ) (row : List Bool) → read ≡ rows → row ≡ get_or read k row → k < length rows → row ≡ get_or rows k []
 row_is rows read k row same is within = is ∙ ap (λ rs. get_or rs k row) same ∙ get_or_default rows k row [] within

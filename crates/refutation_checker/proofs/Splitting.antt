@@ -170,9 +170,6 @@ split_more f rows universals labels i finer next at whole lt at_is before split 
       ∙ before.same j k j_in k_in;
 }
 
-pub split_first : (f : Dqbf) (rows : List (List Bool)) (universals labels : List ℕ) → AreLabels (length rows) labels → IsSplitSoFar f rows universals labels 0 labels
-split_first f rows universals labels are = record { are_labels = are; same = λ j k j_in k_in. refl }
-
 -- at first all labels are the same
 pub same_labels : (count : ℕ) (labels : List ℕ) → labels ≡ replicate count 0 → AreLabels count labels
 same_labels count labels is = record {
@@ -225,9 +222,6 @@ first_rows_are f rows (Some e) sees start labels firsts some sees_is start_is sp
 pub record HasKeysSoFar (rows : List (List Bool)) (at : ℕ) (labels : List ℕ) (k : ℕ) (keys : List ℕ) : Type 0 where
   pub count : length keys ≡ k
   pub are : (i : ℕ) → i < k → get_or keys i 0 ≡ key_of (get_or labels i 0) (bit_of (row_of rows i) at)
-
-pub no_keys : (rows : List (List Bool)) (at : ℕ) (labels keys : List ℕ) → keys ≡ [] → HasKeysSoFar rows at labels 0 keys
-no_keys rows at labels keys is = record { count = ap length is; are = λ i lt. absurd (omega arith) }
 
 pub ok_from : {T E : Type 0} (P Q : T → Type 0) (r : Result T E) → ((t : T) → P t → Q t) → IfOk r P → IfOk r Q
 ok_from P Q (Ok t) from h = from t h

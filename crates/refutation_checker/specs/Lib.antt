@@ -4,4 +4,5 @@ pub mod Pairs
 pub mod Occurring
 pub mod PairTable
 pub mod Labels
+pub mod FirstRows
 pub mod Lines

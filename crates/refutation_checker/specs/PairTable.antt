@@ -5,7 +5,7 @@ use Rattle.dq_lits.specs.Expansion.{instance_clause}
 use Rattle.dq_lits.specs.Formula.{Dqbf}
 use Rattle.dq_lits.specs.Literal.{Literal, variable_of, on_variable}
 use Rattle.cert_text.specs.Header.{max_count}
-use Rattle.refutation_checker.specs.Pairs.{pair_of, existential_part, AreFirstRows}
+use Rattle.refutation_checker.specs.Pairs.{pair_of, existential_part, IsBlock, AreBlockFirsts}
 use Rattle.sparse_proofs.specs.Renaming.{with_variable, with_variables}
 
 pub record Numbered : Type 0 where
@@ -17,15 +17,18 @@ pub record Numbered : Type 0 where
 abbrev pub numbered_in : Dqbf → List (List Bool) → List ℕ → Numbered
 numbered_in f rows pairs = record { formula = f; rows = rows; pairs = pairs }
 
--- whole rows, first rows that agree, and numbers of pairs
+-- whole rows, first rows for some blocks, and numbers of pairs
 pub record IsNumbered (f : Dqbf) (rows : List (List Bool)) (entries : List (ℕ × List ℕ)) (pairs : List ℕ) : Type 0 where
   pub few : length rows ≤ max_count
   pub whole : All (λ row. length row ≡ length f.universals) rows
-  pub first_rows : AreFirstRows f rows entries
+  pub first_rows : AreBlockFirsts f rows entries
   pub small : All (λ pair. pair < 2 ^ 61) pairs
 
 abbrev pub row_at : Numbered → ℕ → List Bool
 row_at n k = slice_index_or n.rows k []
+
+abbrev pub AreBlocks : Numbered → List ℕ → Type 0
+AreBlocks n numbers = All (IsBlock n.formula (length n.rows)) numbers
 
 -- with the pair of an existential and the row at k
 abbrev pub occurring : Numbered → ℕ → ℕ → Numbered

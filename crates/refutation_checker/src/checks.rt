@@ -13,6 +13,7 @@ ghost use Rattle.refutation_checker.specs.Pairs.{existential_part};
 ghost use Rattle.refutation_checker.specs.Refutation.{refutation_fault};
 ghost use Rattle.sparse_proofs.specs.Renaming.{renamed_clauses};
 
+use crate::blocks::learn_steps;
 use crate::faults::RefFault;
 use crate::instances::Instances;
 use crate::lines::{Lines, line_clauses};
@@ -37,7 +38,8 @@ pub fn check(alloc: Global, f: &Formula, d: &Dqr) -> Result<(), RefFault>
     let parts = existential_parts(alloc, f)?;
     let steps = d.steps.items();
     let mut table = PairTable::new(alloc, f, d.rows.items());
-    add_steps(alloc, &mut table, &parts, steps)?;
+    learn_steps(alloc, &mut table, &parts, steps)?;
+    add_steps(&mut table, &parts, steps)?;
     let clauses = line_clauses(alloc, &table, steps)?;
     let mut marks = Marks::new(alloc, table.len() + 1)?;
     let fault = placed_fault(&mut marks, &table, &parts, steps, &clauses);

@@ -6,6 +6,7 @@ ghost use Rattle.dq_lits.specs.Formula.{existential_of};
 ghost use Rattle.dq_lits.specs.Row.{bit_of};
 ghost use Rattle.cert_text.specs.Header.{max_count};
 ghost use Rattle.refutation_checker.specs.Labels.{first_places, AreLabels, IsSplitAt, IsSplit, HasKeys};
+ghost use Rattle.refutation_checker.specs.FirstRows.{AreFirstRows};
 ghost use Rattle.refutation_checker.specs.Pairs.{first_row};
 
 use dq_formula::{Deps, Formula};
@@ -25,6 +26,37 @@ pub(crate) fn first_agreeing(f: &Formula, rows: &[Row], y: u64, row: &Row) -> us
         }
     }
     rows.len()
+}
+
+/// For each row, the place of the first one that agrees with it on what an existential sees.
+#[derive(Drop)]
+pub(crate) struct FirstRows {
+    pub existential: u64,
+    pub places: Ids,
+}
+
+impl FirstRows {
+    /// Finds those of an existential in their place, unless they are its own.
+    pub(crate) fn turn_to(
+        &mut self,
+        alloc: Global,
+        f: &Formula,
+        rows: &[Row],
+        y: u64,
+    ) -> Result<(), Memory>
+        requires declared { IsSome (existential_of f.now y) }
+        requires whole { All (λ other. length other ≡ length f.now.universals) rows.now }
+        requires few { length rows.now ≤ max_count }
+        requires first { AreFirstRows f.now rows.now self.old }
+        ensures existential { OnOk result (self.new.existential ≡ y) }
+        ensures first { OnOk result (AreFirstRows f.now rows.now self.new) }
+    {
+        if self.existential != y {
+            self.places = first_rows(alloc, f, rows, y)?;
+            self.existential = y;
+        }
+        Ok(())
+    }
 }
 
 /// For each row, the first one that agrees with it on what an existential sees.

@@ -10,6 +10,7 @@
 pub use checks::check;
 pub use faults::RefFault;
 
+mod blocks;
 mod checks;
 mod faults;
 mod first_rows;

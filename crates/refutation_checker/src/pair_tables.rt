@@ -1,6 +1,6 @@
 //! Pairs of a row and an existential, numbered as they occur.
 
-ghost use Rattle.std.specs.Prelude.{◌≡◌, ◌+◌, ◌≤◌, ◌<◌, ◌^◌, true, [], length, All, IfSome, OnOk, IsSome, map};
+ghost use Rattle.std.specs.Prelude.{◌≡◌, ◌+◌, ◌*◌, ◌/◌, ◌≤◌, ◌<◌, ◌^◌, true, [], length, take, drop, All, IfSome, IfOk, OnOk, IsSome};
 ghost use Rattle.std.specs.List.{list_any};
 ghost use Rattle.std.specs.Option.{option_map, option_and_then};
 ghost use Rattle.dq_lits.specs.Expansion.{instance_at, universal_literal_true};
@@ -10,25 +10,32 @@ ghost use Rattle.cert_text.specs.Header.{max_count};
 ghost use Rattle.cert_text.specs.Pairs.{is_pair_number};
 ghost use Rattle.cert_text.specs.Scan.{first_id};
 ghost use Rattle.refutation_checker.specs.Refutation.{normal_number};
-ghost use Rattle.refutation_checker.specs.Pairs.{first_row, pair_of};
-ghost use Rattle.refutation_checker.specs.PairTable.{numbered_in, row_at, occurring, instance_in, instance_literals};
+ghost use Rattle.refutation_checker.specs.FirstRows.{AreFirstRows};
+ghost use Rattle.refutation_checker.specs.Pairs.{first_row, pair_of, blocks, block_firsts, IsBlock};
+ghost use Rattle.refutation_checker.specs.PairTable.{numbered_in, row_at, occurring, instance_in, instance_literals, AreBlocks};
 ghost use Rattle.sparse_proofs.specs.Renaming.{place_of};
 
-use crate::first_rows::{first_agreeing, first_rows};
+use crate::first_rows::{FirstRows, first_agreeing, first_rows};
 use dq_formula::Formula;
 use dq_lits::{Ids, Lit, Memory, Row};
 use indexmap::{IndexMap, IndexSet};
 use std::alloc::Global;
 use std::marker::Model;
 
+// How many rows a block has. In larger ones a row that occurs alone takes more memory; in smaller ones rows that occur
+// together do.
+const BLOCK_ROWS: usize = 16;
+
 /// The pairs that occur, of a formula's existentials and some rows, numbered from 1 in order of their first occurrence.
 ///
-/// For each existential that occurs it keeps the first row that agrees with each row, so that the memory is that of the
-/// rows for each such existential, and of the pairs that occur.
+/// For each existential and block of rows that it learnt it keeps the first row that agrees with each row of the block;
+/// others are found anew each time. So its memory is that of the blocks and the pairs that occur, and while it learns
+/// that of the rows once, however many existentials there are.
 #[derive(Drop)]
 pub(crate) struct PairTable<'f, 'r> {
     formula: &'f Formula,
     rows: &'r [Row],
+    // Those of each block that was learnt.
     first_rows: IndexMap<u64, Ids>,
     pairs: IndexSet<u64>,
 }
@@ -80,12 +87,37 @@ impl<'f, 'r> PairTable<'f, 'r> {
         self.pairs.len()
     }
 
-    // For each row, the first one that agrees with it on what an existential sees, if it was asked for before.
-    fn known_rows(&self, y: u64) -> Option<&[u64]>
-        ensures { IfSome result (λ firsts. firsts.now ≡ map (first_row self.now.formula self.now.rows y) self.now.rows) }
+    // How many blocks the rows stand in.
+    fn blocks(&self) -> u64
+        ensures value { result ≡ blocks (length self.now.rows) }
+        ensures small { result ≤ 10 ^ 8 }
     {
-        match self.first_rows.get(&y) {
-            Some(firsts) => Some(firsts.items()),
+        let rows = self.rows();
+        (rows.len() / BLOCK_ROWS + 1) as u64
+    }
+
+    /// The number of an existential and the block of the row at `k`. In ascending order those of one existential stand
+    /// side by side.
+    pub(crate) fn block(&self, y: u64, k: usize) -> u64
+        requires declared { IsSome (existential_of self.now.formula y) }
+        requires row { k < length self.now.rows }
+        ensures value { result ≡ y * blocks (length self.now.rows) + k / 16 }
+        ensures block { IsBlock self.now.formula (length self.now.rows) result }
+    {
+        let _ = self.rows();
+        self.formula().every_formula_is_lawful();
+        y * self.blocks() + (k / BLOCK_ROWS) as u64
+    }
+
+    // The first row that agrees with the row at `k` on what an existential sees, if it is kept.
+    fn known_row(&self, y: u64, k: usize) -> Option<u64>
+        requires declared { IsSome (existential_of self.now.formula y) }
+        requires row { k < length self.now.rows }
+        ensures { IfSome result (λ first. first ≡ first_row self.now.formula self.now.rows y (row_at self.now k)) }
+    {
+        let block = self.block(y, k);
+        match self.first_rows.get(&block) {
+            Some(firsts) => Some(firsts.items()[k % BLOCK_ROWS]),
             None => None,
         }
     }
@@ -97,8 +129,8 @@ impl<'f, 'r> PairTable<'f, 'r> {
         ensures { result ≡ first_row self.now.formula self.now.rows y (row_at self.now k) }
     {
         let rows = self.rows();
-        match self.known_rows(y) {
-            Some(firsts) => firsts[k],
+        match self.known_row(y, k) {
+            Some(first) => first,
             None => first_agreeing(self.formula(), rows, y, &rows[k]) as u64,
         }
     }
@@ -116,25 +148,73 @@ impl<'f, 'r> PairTable<'f, 'r> {
         self.first_row(y, k) * f.vars() + y
     }
 
-    // Finds the first rows of an existential, unless they are known.
-    fn learn(&mut self, alloc: Global, y: u64) -> Result<(), Memory>
-        requires { IsSome (existential_of self.old.formula y) }
+    /// Finds and keeps the first rows of these blocks.
+    ///
+    /// Those of all rows are found for one existential at a time, and anew where the existential changes: for blocks in
+    /// ascending order, once for each existential.
+    pub(crate) fn learn(&mut self, alloc: Global, blocks: &[u64]) -> Result<(), Memory>
+        requires { AreBlocks self.old blocks.now }
         ensures { self.new ≡ self.old }
     {
-        if !self.first_rows.contains_key(&y) {
-            let firsts = first_rows(alloc, self.formula, self.rows, y)?;
-            self.first_rows.insert(y, firsts)?;
+        match blocks.first() {
+            Some(first) => {
+                let existential = *first / self.blocks();
+                let places = first_rows(alloc, self.formula, self.rows, existential)?;
+                let mut latest = FirstRows {
+                    existential,
+                    places,
+                };
+                self.learn_all(alloc, &mut latest, blocks)
+            }
+            None => Ok(()),
+        }
+    }
+
+    // The same, where the first rows of some existential are at hand.
+    fn learn_all(
+        &mut self,
+        alloc: Global,
+        latest: &mut FirstRows,
+        blocks: &[u64],
+    ) -> Result<(), Memory>
+        requires blocks { AreBlocks self.old blocks.now }
+        requires latest { AreFirstRows self.old.formula self.old.rows latest.old }
+        ensures { self.new ≡ self.old }
+    {
+        self.first_rows.reserve(blocks.len())?;
+        for block in blocks {
+            self.learn_one(alloc, latest, *block)?;
         }
         Ok(())
     }
 
+    fn learn_one(&mut self, alloc: Global, latest: &mut FirstRows, block: u64) -> Result<(), Memory>
+        requires block { IsBlock self.old.formula (length self.old.rows) block }
+        requires latest { AreFirstRows self.old.formula self.old.rows latest.old }
+        ensures same { self.new ≡ self.old }
+        ensures latest { OnOk result (AreFirstRows self.old.formula self.old.rows latest.new) }
+    {
+        let blocks = self.blocks();
+        latest.turn_to(alloc, self.formula, self.rows, block / blocks)?;
+        let place = (block % blocks) as usize;
+        let firsts = block_at(alloc, latest.places.items(), place)?;
+        self.keep(block, firsts)
+    }
+
+    fn keep(&mut self, block: u64, firsts: Ids) -> Result<(), Memory>
+        requires { firsts ≡ block_firsts self.old.formula self.old.rows block }
+        ensures { self.new ≡ self.old }
+    {
+        self.first_rows.insert(block, firsts)?;
+        Ok(())
+    }
+
     /// The pair of an existential and the row at `k` occurs.
-    pub(crate) fn add(&mut self, alloc: Global, y: u64, k: usize) -> Result<(), Memory>
+    pub(crate) fn add(&mut self, y: u64, k: usize) -> Result<(), Memory>
         requires declared { IsSome (existential_of self.old.formula y) }
         requires row { k < length self.old.rows }
         ensures { OnOk result (self.new ≡ occurring self.old y k) }
     {
-        self.learn(alloc, y)?;
         let pair = self.pair(y, k);
         self.pairs.insert(pair)?;
         Ok(())
@@ -223,6 +303,32 @@ impl<'f, 'r> PairTable<'f, 'r> {
             None
         }
     }
+}
+
+// The block at a place.
+fn block_at(alloc: Global, firsts: &[u64], place: usize) -> Result<Ids, Memory>
+    requires { place * 16 ≤ length firsts.now }
+    ensures { IfOk result (λ block. block ≡ take 16 (drop (place * 16) firsts.now)) }
+{
+    let (_, rest) = firsts.split_at(place * BLOCK_ROWS);
+    copied(
+        alloc,
+        if rest.len() > BLOCK_ROWS {
+            &rest[..BLOCK_ROWS]
+        } else {
+            rest
+        },
+    )
+}
+
+fn copied(alloc: Global, ids: &[u64]) -> Result<Ids, Memory>
+    ensures { IfOk result (λ list. list ≡ ids.now) }
+{
+    let mut list = Ids::with_room(alloc, ids.len())?;
+    for id in ids {
+        list.push(*id)?;
+    }
+    Ok(list)
 }
 
 // Whether a universal literal of a clause is true under a row.

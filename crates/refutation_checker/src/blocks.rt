@@ -1,0 +1,141 @@
+//! Which blocks of rows occur in a refutation, with which existentials: those of its lines and of the instances that they
+//! hint.
+
+ghost use Rattle.std.specs.Prelude.{◌≡◌, ◌<◌, true, length, All, IfOk, OnOk, IsSome, map};
+ghost use Rattle.dq_lits.specs.Formula.{existential_of};
+ghost use Rattle.dq_lits.specs.Literal.{variable_of};
+ghost use Rattle.cert_text.specs.Pairs.{is_pair_number};
+ghost use Rattle.refutation_checker.specs.Pairs.{existential_part};
+ghost use Rattle.refutation_checker.specs.PairTable.{AreBlocks};
+
+use crate::pair_tables::PairTable;
+use cert_text::Step;
+use dq_lits::{Clause, Lit, Memory};
+use indexmap::IndexSet;
+use std::alloc::Global;
+
+/// Finds and keeps the first rows of all that occurs in some derivation lines and in the instances that they hint.
+pub(crate) fn learn_steps(
+    alloc: Global,
+    table: &mut PairTable,
+    parts: &[Clause],
+    steps: &[Step],
+) -> Result<(), Memory>
+    requires parts { parts.now ≡ map (existential_part table.old.formula) table.old.formula.matrix }
+    requires pairs { All (λ step. All (λ l. is_pair_number table.old.formula (length table.old.rows) (variable_of l) ≡ true) step.literals) steps.now }
+    ensures { table.new ≡ table.old }
+{
+    let blocks = blocks_of(alloc, table, parts, steps)?;
+    table.learn(alloc, &blocks)
+}
+
+// Each block once, in ascending order.
+fn blocks_of(
+    alloc: Global,
+    table: &PairTable,
+    parts: &[Clause],
+    steps: &[Step],
+) -> Result<Vec<u64>, Memory>
+    requires parts { parts.now ≡ map (existential_part table.now.formula) table.now.formula.matrix }
+    requires pairs { All (λ step. All (λ l. is_pair_number table.now.formula (length table.now.rows) (variable_of l) ≡ true) step.literals) steps.now }
+    ensures { IfOk result (λ blocks. AreBlocks table.now blocks.items) }
+{
+    let mut seen = IndexSet::new(alloc);
+    see_steps(table, parts, steps, &mut seen)?;
+    let mut blocks = Vec::from_slice(alloc, seen.as_slice())?;
+    blocks.sort_unstable();
+    Ok(blocks)
+}
+
+fn see_steps(
+    table: &PairTable,
+    parts: &[Clause],
+    steps: &[Step],
+    seen: &mut IndexSet<u64>,
+) -> Result<(), Memory>
+    requires parts { parts.now ≡ map (existential_part table.now.formula) table.now.formula.matrix }
+    requires pairs { All (λ step. All (λ l. is_pair_number table.now.formula (length table.now.rows) (variable_of l) ≡ true) step.literals) steps.now }
+    requires seen { AreBlocks table.now seen.old.keys }
+    ensures { OnOk result (AreBlocks table.now seen.new.keys) }
+{
+    for step in steps {
+        see_hinted(table, parts, step.hints(), seen)?;
+        see_line(table, step.lits(), seen)?;
+    }
+    Ok(())
+}
+
+// The blocks of the instances with these ids.
+fn see_hinted(
+    table: &PairTable,
+    parts: &[Clause],
+    hints: &[u64],
+    seen: &mut IndexSet<u64>,
+) -> Result<(), Memory>
+    requires parts { parts.now ≡ map (existential_part table.now.formula) table.now.formula.matrix }
+    requires seen { AreBlocks table.now seen.old.keys }
+    ensures { OnOk result (AreBlocks table.now seen.new.keys) }
+{
+    for hint in hints {
+        see_instance(table, parts, *hint, seen)?;
+    }
+    Ok(())
+}
+
+fn see_instance(
+    table: &PairTable,
+    parts: &[Clause],
+    id: u64,
+    seen: &mut IndexSet<u64>,
+) -> Result<(), Memory>
+    requires parts { parts.now ≡ map (existential_part table.now.formula) table.now.formula.matrix }
+    requires seen { AreBlocks table.now seen.old.keys }
+    ensures { OnOk result (AreBlocks table.now seen.new.keys) }
+{
+    match table.instance(id) {
+        Some((k, j)) => see_part(table, parts[j].lits(), k, seen),
+        None => Ok(()),
+    }
+}
+
+// The blocks of existential literals under the row at `k`.
+fn see_part(
+    table: &PairTable,
+    part: &[Lit],
+    k: usize,
+    seen: &mut IndexSet<u64>,
+) -> Result<(), Memory>
+    requires declared { All (λ l. IsSome (existential_of table.now.formula (variable_of l))) part.now }
+    requires row { k < length table.now.rows }
+    requires seen { AreBlocks table.now seen.old.keys }
+    ensures { OnOk result (AreBlocks table.now seen.new.keys) }
+{
+    for l in part {
+        see(table, l.var(), k, seen)?;
+    }
+    Ok(())
+}
+
+// The blocks of a derivation line.
+fn see_line(table: &PairTable, lits: &[Lit], seen: &mut IndexSet<u64>) -> Result<(), Memory>
+    requires pairs { All (λ l. is_pair_number table.now.formula (length table.now.rows) (variable_of l) ≡ true) lits.now }
+    requires seen { AreBlocks table.now seen.old.keys }
+    ensures { OnOk result (AreBlocks table.now seen.new.keys) }
+{
+    for l in lits {
+        let (k, y) = table.named(l.var());
+        see(table, y, k, seen)?;
+    }
+    Ok(())
+}
+
+// The block of an existential and the row at `k`.
+fn see(table: &PairTable, y: u64, k: usize, seen: &mut IndexSet<u64>) -> Result<(), Memory>
+    requires declared { IsSome (existential_of table.now.formula y) }
+    requires row { k < length table.now.rows }
+    requires seen { AreBlocks table.now seen.old.keys }
+    ensures { OnOk result (AreBlocks table.now seen.new.keys) }
+{
+    seen.insert(table.block(y, k))?;
+    Ok(())
+}
