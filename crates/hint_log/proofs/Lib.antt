@@ -1,0 +1,4 @@
+mod Finding
+mod Keeping
+mod Marking
+mod Naming

@@ -1,0 +1,46 @@
+-- The names, as they are kept.
+use Rattle.std.proofs.Common.{◌≡◌, ℕ, eqb, cond, Bool, true, false, true≢false, List, [], ◌∷◌, ◌++◌, reverse, Option, Some, None, IsSome, refl, sym, ap, ◌∙◌}
+use Rattle.std.specs.Map.{lookup}
+use Rattle.std.proofs.lemmas.Bool.{eqb-true}
+use Rattle.hint_log.specs.Entries.{ProofLog, name_of}
+use Rattle.hint_log.specs.LogInside.{names_of, AreNamedOnce}
+use Rattle.hint_log.specs.declared.entries.Entry.{Entry}
+use Rattle.hint_log.specs.declared.entries.Entry.TheVariants.{Named, Given, Learned, Answer, Round}
+use Rattle.hint_log.specs.declared.names.Name.{Name}
+
+-- a name more, behind the others: of another variable, or of one that had none
+lookup_other : (names : List (ℕ × Name)) (w v : ℕ) (name : Name) → eqb v w ≡ false → lookup (eqb v) (names ++ (w, name) ∷ []) ≡ lookup (eqb v) names
+lookup_other [] w v name other = ap (λ b. cond b (Some name) None) other
+lookup_other (n ∷ names) w v name other = ap (λ found. cond (eqb v n.0) (Some n.1) found) (lookup_other names w v name other)
+
+lookup_new : (names : List (ℕ × Name)) (w v : ℕ) (name : Name) → eqb v w ≡ true → lookup (eqb v) names ≡ None → lookup (eqb v) (names ++ (w, name) ∷ []) ≡ Some name
+lookup_new [] w v name here none = ap (λ b. cond b (Some name) None) here
+lookup_new (n ∷ names) w v name here none = by (eqb v n.0) (lookup_new names w v name here) none
+  where
+    by : (b : Bool) → (lookup (eqb v) names ≡ None → lookup (eqb v) (names ++ (w, name) ∷ []) ≡ Some name) → cond b (Some n.1) (lookup (eqb v) names) ≡ None
+        → cond b (Some n.1) (lookup (eqb v) (names ++ (w, name) ∷ [])) ≡ Some name
+    by true more is = cc
+    by false more is = more is
+
+found_names : (entries : List Entry) (v : ℕ) → AreNamedOnce entries → lookup (eqb v) (names_of entries) ≡ name_of entries v
+found_names [] v once = refl
+found_names (Given _ _ ∷ entries) v once = found_names entries v once
+found_names (Learned _ _ ∷ entries) v once = found_names entries v once
+found_names (Answer _ _ ∷ entries) v once = found_names entries v once
+found_names (Round _ _ _ ∷ entries) v once = found_names entries v once
+found_names (Named w name ∷ entries) v once = by (eqb v w) refl (found_names entries v once.1)
+  where
+    by : (b : Bool) → eqb v w ≡ b → lookup (eqb v) (names_of entries) ≡ name_of entries v
+        → lookup (eqb v) (names_of entries ++ (w, name) ∷ []) ≡ cond b (Some name) (name_of entries v)
+    by true here before =
+        lookup_new (names_of entries) w v name here (before ∙ ap (name_of entries) (eqb-true v w here) ∙ once.0)
+    by false other before = lookup_other (names_of entries) w v name other ∙ before
+
+pub kept_names : (log : ProofLog) (limit : ℕ) (xs : List Entry) (names : List (ℕ × Name)) (v : ℕ) → record { limit = limit; entries = reverse xs } ≡ log
+    → names ≡ names_of (reverse xs) → AreNamedOnce (reverse xs) → lookup (eqb v) names ≡ name_of log.entries v
+kept_names log limit xs names v is names_are once =
+    ap (lookup (eqb v)) names_are ∙ found_names (reverse xs) v once ∙ ap (λ (l : ProofLog). name_of l.entries v) is
+
+pub no_name : (name : Option Name) → None ≡ name → IsSome name → ⊥
+no_name None none some = absurd (true≢false (sym some))
+no_name (Some name) none some = cc

@@ -1,0 +1,5 @@
+pub mod Conditions
+pub mod Entries
+pub mod LogInside
+pub mod Marks
+pub mod Reached
