@@ -135,11 +135,11 @@ fn kept_literals(alloc: Global, numbers: &[i64]) -> Result<Clause, Memory>
     requires { All IsLiteralNumber numbers.now }
     ensures { IfOk result (λ clause. clause ≡ map dimacs_literal numbers.now) }
 {
-    let mut clause = Clause::with_room(alloc, numbers.len())?;
+    let mut lits = Vec::with_capacity(alloc, numbers.len())?;
     for n in numbers {
-        clause.push(literal(*n))?;
+        lits.push(literal(*n))?;
     }
-    Ok(clause)
+    Ok(Clause::from_vec(lits))
 }
 
 fn literal(number: i64) -> Lit
@@ -156,9 +156,9 @@ fn literal(number: i64) -> Lit
 fn kept_hints(alloc: Global, numbers: &[i64]) -> Result<Ids, Memory>
     ensures { IfOk result (λ hints. hints ≡ map nat_abs numbers.now) }
 {
-    let mut hints = Ids::with_room(alloc, numbers.len())?;
-    for n in numbers {
-        hints.push(n.unsigned_abs())?;
-    }
-    Ok(hints)
+    let hints = numbers
+        .iter()
+        .map(|n| n.unsigned_abs())
+        .collect(alloc)?;
+    Ok(Ids::from_vec(hints))
 }

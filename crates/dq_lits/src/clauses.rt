@@ -33,12 +33,19 @@ impl Clause {
         }
     }
 
-    /// The empty clause, with room for so many literals.
-    pub fn with_room(alloc: Global, literals: usize) -> Result<Clause, Memory>
-        ensures { IfOk result (λ clause. clause ≡ []) }
+    /// The clause of these literals, in order.
+    pub fn from_slice(alloc: Global, lits: &[Lit]) -> Result<Clause, Memory>
+        ensures { IfOk result (λ clause. clause ≡ lits.now) }
     {
-        let lits = Vec::with_capacity(alloc, literals)?;
+        let lits = lits.to_vec(alloc)?;
         Ok(Clause { lits })
+    }
+
+    /// The clause of these literals, in order. It takes no memory.
+    pub fn from_vec(lits: Vec<Lit>) -> Clause
+        ensures { result ≡ lits.items }
+    {
+        Clause { lits }
     }
 
     /// Adds a literal at the end.

@@ -29,12 +29,19 @@ impl Ids {
         }
     }
 
-    /// No ids, with room for so many.
-    pub fn with_room(alloc: Global, count: usize) -> Result<Ids, Memory>
-        ensures { IfOk result (λ list. list ≡ []) }
+    /// These ids, in order.
+    pub fn from_slice(alloc: Global, ids: &[u64]) -> Result<Ids, Memory>
+        ensures { IfOk result (λ list. list ≡ ids.now) }
     {
-        let ids = Vec::with_capacity(alloc, count)?;
+        let ids = ids.to_vec(alloc)?;
         Ok(Ids { ids })
+    }
+
+    /// These ids, in order. It takes no memory.
+    pub fn from_vec(ids: Vec<u64>) -> Ids
+        ensures { result ≡ ids.items }
+    {
+        Ids { ids }
     }
 
     /// Adds an id at the end.

@@ -1,5 +1,7 @@
 ghost use Rattle.std.specs.Prelude.{◌≡◌, ◌<◌, ◌≤◌, ◌^◌};
-ghost use Rattle.dq_lits.specs.Literal.{positive, negative, variable_of, is_negative, opposite};
+ghost use Rattle.dq_lits.specs.Literal.{positive, negative, variable_of, is_negative, opposite, same_literal};
+ghost use Rattle.std.proofs.Common.{rules};
+ghost use Rattle.std.specs.Cmp.Rules.{comparing};
 
 use std::marker::Model;
 
@@ -70,4 +72,18 @@ impl Lit {
     {
         Lit { code: -self.code }
     }
+}
+
+impl PartialEq for Lit {
+    ghost eq = { same_literal };
+
+    ghost laws = { Prim.search (comparing, rules) };
+
+    fn eq(&self, other: &Lit) -> bool {
+        self.code == other.code
+    }
+}
+
+impl Eq for Lit {
+    ghost laws = { Prim.search (comparing, rules) };
 }

@@ -12,7 +12,7 @@ use Rattle.dq_lits.specs.declared.memory.Memory.{Memory}
 use Rattle.dqdimacs_reader.specs.Grammar.{SpellsFormula}
 use Rattle.dqdimacs_reader.specs.Machine.{TextFault, reading}
 use Rattle.dqcheck_words.specs.Command.{Command, command_of}
-use Rattle.dqcheck_core.specs.Judgement.{IsJudgement}
+use Rattle.dqcheck_core.specs.Judgement.{IsJudgement, HoldsSkolemCircuit}
 use Rattle.dqcheck_core.specs.Outputs.{IsOutput, IsOutputDue, IsDueBehind, IsOutputBehind}
 use Rattle.dqcheck_core.specs.Report.{Report, usage, source_fault, long_formula, long_certificate, refused_formula, judged, line, answer_text, answer_status}
 use Rattle.dqcheck_core.specs.Running.{max_formula, max_certificate, IsTextOf, IsLong, IsFaultOf, IsFormulaOf, IsAnswerTo, IsUnreadable, PickedOnce, PickedTwice, IsDueFor, IsDue, AreTold, IsAnswered, IsProvedTrue, IsProvedFalse, IsAcceptance}
@@ -135,6 +135,7 @@ answered law files files_now words before now output o written formula certifica
 
 -- what the laws of acceptance give
 pub record AcceptanceLaw : Type 0 where
+  pub circuit : (f : Dqbf) (text : List ℕ) → IsWellFormed f → IsJudgement f text ValidTrue → HoldsSkolemCircuit f text
   pub is_true : (f : Dqbf) (text : List ℕ) → IsWellFormed f → IsJudgement f text ValidTrue → IsTrueFormula f
   pub is_false : (f : Dqbf) (text : List ℕ) → IsWellFormed f → IsJudgement f text ValidFalse → IsFalseFormula f
 
@@ -148,7 +149,7 @@ verdict_of law g certificate before now (Unproved n) formed judgement status wri
 verdict_of law g certificate before now (UnderivedStep id) formed judgement status written = absurd (omega (arith, status))
 verdict_of law g certificate before now NoEmptyClause formed judgement status written = absurd (omega (arith, status))
 verdict_of law g certificate before now ValidTrue formed judgement status written =
-    inl (record { accepted = judgement; is_true = law.is_true g certificate formed judgement; written = written })
+    inl (record { accepted = judgement; circuit = law.circuit g certificate formed judgement; is_true = law.is_true g certificate formed judgement; written = written })
 verdict_of law g certificate before now ValidFalse formed judgement status written =
     inr (record { accepted = judgement; is_false = law.is_false g certificate formed judgement; written = written })
 
@@ -171,6 +172,7 @@ accepted_by law files files_now c formula certificate before now output is_first
     record {
       f = g;
       spelled = subst (λ text. SpellsFormula text g) same_formula one.spelled;
+      well_formed = one.well_formed;
       verdict = verdict_of law g certificate before now answer one.well_formed (subst (λ text. IsJudgement g text answer) same_certificate other.judged)
           (sym is.status ∙ accepted) (written ∙ ap (append_known before) is.text);
     }

@@ -19,7 +19,7 @@ use Rattle.skolem_checker.specs.Checks.{Candidate, candidate_of, with_mapping, I
 use Rattle.skolem_checker.specs.Mapping.{Mapping, mapping_of}
 use Rattle.skolem_checker.specs.SkolemCircuit.{IsComplete, IsSkolemCircuit, ReadsUniversal}
 use Rattle.skolem_checker.specs.declared.mapping.MapError.{MapError}
-use Rattle.dqcheck_core.specs.Judgement.{IsTested, BehindMapping, BehindProof, IsJudgementOf, IsJudgement, answer_of_derivation, answer_of_refutation, line_ends, mapping_line, proof_in}
+use Rattle.dqcheck_core.specs.Judgement.{HoldsSkolemCircuit, IsTested, BehindMapping, BehindProof, IsJudgementOf, IsJudgement, answer_of_derivation, answer_of_refutation, line_ends, mapping_line, proof_in}
 use Rattle.dqcheck_core.specs.declared.answers.Answer.TheVariants.{Refused, UndeclaredRead, ValidTrue, ValidFalse}
 use Rattle.dqcheck_core.specs.declared.answers.CertificateFault.{CertificateFault}
 use Rattle.dqcheck_core.specs.declared.answers.CertificateFault.TheVariants.{Text, Circuit, Mapping as BadMapping}
@@ -37,7 +37,7 @@ pub record TestsLaw : Type 0 where
       → IsNetlist c.circuit.netlist → IsComplete c.circuit.netlist
       → candidate_of c.formula c.circuit.netlist symbols ≡ Ok c
       → IsReadsAnswer (ReadsUniversal c.circuit) c.formula (Ok tt) → circuit_proof_fault c steps ≡ None
-      → IsTrueFormula c.formula
+      → IsSkolemCircuit c.formula c.circuit.netlist symbols
 
 -- what the law of refutations gives
 abbrev pub RefutationLaw : Type 0
@@ -61,20 +61,20 @@ module _ (law : TestsLaw) (f : Dqbf) (net : Netlist) (symbols : SymbolTable) (fo
   abbrev mapped_by : Mapping → Candidate
   mapped_by mapping = record { formula = f; circuit = record { netlist = net; mapping = mapping } }
 
-  true_by_tests : (proof : Option Dqp) (mapping : Mapping) → mapping_of f net symbols ≡ Ok mapping → IsTested proof (mapped_by mapping) ValidTrue → IsTrueFormula f
+  true_by_tests : (proof : Option Dqp) (mapping : Mapping) → mapping_of f net symbols ≡ Ok mapping → IsTested proof (mapped_by mapping) ValidTrue → IsSkolemCircuit f net symbols
   true_by_tests proof mapping is (inl r) = absurd (true_is_no_read r.existential r.universal r.is)
   true_by_tests None mapping is (inr r) =
-      law.is_true f net symbols formed.prefix kept complete (law.skolem (mapped_by mapping) symbols formed.prefix (ap (with_mapping f net) is) r.reads r.tested.1)
+      law.skolem (mapped_by mapping) symbols formed.prefix (ap (with_mapping f net) is) r.reads r.tested.1
   true_by_tests (Some d) mapping is (inr r) =
       law.proved (mapped_by mapping) symbols d.steps formed kept complete (ap (with_mapping f net) is) r.reads
       (no_fault (circuit_proof_fault (mapped_by mapping) d.steps) r.tested)
 
   true_by_mapping : (h : ℕ) (proof : Option Dqp) (mapped : Result Mapping MapError) → mapping_of f net symbols ≡ mapped
-      → BehindMapping h net proof (with_mapping f net mapped) ValidTrue → IsTrueFormula f
+      → BehindMapping h net proof (with_mapping f net mapped) ValidTrue → IsSkolemCircuit f net symbols
   true_by_mapping h proof (Err fault) is r = absurd (true_is_no_refusal (mapping_line h net fault.at) (BadMapping fault.name) r)
   true_by_mapping h proof (Ok mapping) is r = true_by_tests proof mapping is r
 
-  true_by_proof : (h : ℕ) (read : Result (Option Dqp) CertRefusal) → BehindProof h net read (candidate_of f net symbols) ValidTrue → IsTrueFormula f
+  true_by_proof : (h : ℕ) (read : Result (Option Dqp) CertRefusal) → BehindProof h net read (candidate_of f net symbols) ValidTrue → IsSkolemCircuit f net symbols
   true_by_proof h (Err refusal) r = absurd (true_is_no_refusal refusal.line (Text refusal.name) r)
   true_by_proof h (Ok proof) r = true_by_mapping h proof (mapping_of f net symbols) refl r
 
@@ -87,16 +87,23 @@ true_is_no_refutation : (f : Dqbf) (read : Result Dqr CertRefusal) → ValidTrue
 true_is_no_refutation f (Ok d) same = true_is_no_derivation (refutation_fault f d) same
 true_is_no_refutation f (Err refusal) same = true_is_no_refusal refusal.line (Text refusal.name) same
 
-true_by_kind : TestsLaw → (kind : Result Kind CertRefusal) (f : Dqbf) (text : List ℕ) → IsWellFormed f → IsJudgementOf f text kind ValidTrue → IsTrueFormula f
-true_by_kind law (Ok (CircuitText at h)) f text formed (inl r) = absurd (true_is_no_refusal r.fault.line (Circuit r.fault.name) r.is)
-true_by_kind law (Ok (CircuitText at h)) f text formed (inr r) =
-    true_by_proof law f r.file.circuit r.file.symbols formed r.spelled.lawful (spelled_complete (drop at text) r.file r.spelled) h
-    (proof_in f h (line_ends (drop at text)) r.file.circuit r.file.comment) r.is
-true_by_kind law (Ok (Refutation at h)) f text formed r = absurd (true_is_no_refutation f (refutation_of f (drop at text) h) r)
-true_by_kind law (Err refusal) f text formed r = absurd (true_is_no_refusal refusal.line (Text refusal.name) r)
+circuit_by_kind : TestsLaw → (kind : Result Kind CertRefusal) (f : Dqbf) (text : List ℕ) → IsWellFormed f → IsJudgementOf f text kind ValidTrue → HoldsSkolemCircuit f text
+circuit_by_kind law (Ok (CircuitText at h)) f text formed (inl r) = absurd (true_is_no_refusal r.fault.line (Circuit r.fault.name) r.is)
+circuit_by_kind law (Ok (CircuitText at h)) f text formed (inr r) = record {
+    at = at; file = r.file; spelled = r.spelled;
+    skolem = true_by_proof law f r.file.circuit r.file.symbols formed r.spelled.lawful (spelled_complete (drop at text) r.file r.spelled) h
+    (proof_in f h (line_ends (drop at text)) r.file.circuit r.file.comment) r.is;
+}
+circuit_by_kind law (Ok (Refutation at h)) f text formed r = absurd (true_is_no_refutation f (refutation_of f (drop at text) h) r)
+circuit_by_kind law (Err refusal) f text formed r = absurd (true_is_no_refusal refusal.line (Text refusal.name) r)
+
+pub accepted_circuit : TestsLaw → (f : Dqbf) (text : List ℕ) → IsWellFormed f → IsJudgement f text ValidTrue → HoldsSkolemCircuit f text
+accepted_circuit law f text formed r = circuit_by_kind law (certificate_kind text) f text formed r
 
 pub accepted_is_true : TestsLaw → (f : Dqbf) (text : List ℕ) → IsWellFormed f → IsJudgement f text ValidTrue → IsTrueFormula f
-accepted_is_true law f text formed r = true_by_kind law (certificate_kind text) f text formed r
+accepted_is_true law f text formed r =
+    let h = accepted_circuit law f text formed r in
+    law.is_true f h.file.circuit h.file.symbols formed.prefix h.spelled.lawful (spelled_complete (drop h.at text) h.file h.spelled) h.skolem
 
 false_is_no_read : (y x : ℕ) → ValidFalse ≡ UndeclaredRead y x → ⊥
 false_is_no_read y x same = cc

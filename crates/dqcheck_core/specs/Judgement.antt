@@ -21,7 +21,7 @@ use Rattle.cert_text.specs.declared.refutations.Dqr.{Dqr}
 use Rattle.proof_checker.specs.CircuitProof.{circuit_proof_fault}
 use Rattle.refutation_checker.specs.Refutation.{refutation_fault}
 use Rattle.skolem_checker.specs.Checks.{Candidate, candidate_of, IsReadsAnswer, IsRowsAnswer}
-use Rattle.skolem_checker.specs.SkolemCircuit.{MappedCircuit, ReadsUniversal}
+use Rattle.skolem_checker.specs.SkolemCircuit.{MappedCircuit, ReadsUniversal, IsSkolemCircuit}
 use Rattle.skolem_checker.specs.declared.mapping.MapError.{MapError}
 use Rattle.skolem_checker.specs.declared.mapping.MapPlace.{MapPlace}
 use Rattle.skolem_checker.specs.declared.mapping.MapPlace.TheVariants.{Whole, Input, Output}
@@ -147,3 +147,10 @@ IsJudgementOf f text (Err refusal) answer = answer ≡ Refused refusal.line (Tex
 
 abbrev pub IsJudgement : Dqbf → List ℕ → Answer → Type 0
 IsJudgement f text answer = IsJudgementOf f text (certificate_kind text) answer
+
+-- the text spells, behind its first lines, a circuit that is made of Skolem functions
+pub record HoldsSkolemCircuit (f : Dqbf) (text : List ℕ) : Type 0 where
+  pub at : ℕ
+  pub file : AagFile
+  pub spelled : SpellsCircuit (drop at text) file
+  pub skolem : IsSkolemCircuit f file.circuit file.symbols

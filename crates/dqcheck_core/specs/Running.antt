@@ -10,7 +10,7 @@ use Rattle.dq_lits.specs.Henkin.{IsTrueFormula, IsFalseFormula}
 use Rattle.dqdimacs_reader.specs.Grammar.{SpellsFormula}
 use Rattle.dqdimacs_reader.specs.Machine.{TextFault, reading}
 use Rattle.dqcheck_words.specs.Command.{Command, command_of}
-use Rattle.dqcheck_core.specs.Judgement.{IsJudgement}
+use Rattle.dqcheck_core.specs.Judgement.{IsJudgement, HoldsSkolemCircuit}
 use Rattle.dqcheck_core.specs.Report.{Report, usage, source_fault, long_formula, long_certificate, refused_formula, judged, line, answer_text, answer_status, text_of, status_of}
 use Rattle.dqcheck_core.specs.declared.answers.Answer.{Answer}
 use Rattle.dqcheck_core.specs.declared.answers.Answer.TheVariants.{ValidTrue, ValidFalse}
@@ -115,6 +115,7 @@ pub record AreTold (held : List ℕ → Holding) (words : List (List ℕ)) (form
 -- the line names a verdict that the certificate proves
 pub record IsProvedTrue (f : Dqbf) (certificate : List ℕ) (before now : Option (List ℕ)) : Type 0 where
   pub accepted : IsJudgement f certificate ValidTrue
+  pub circuit : HoldsSkolemCircuit f certificate
   pub is_true : IsTrueFormula f
   pub written : now ≡ append_known before (line (codes "VALID TRUE"))
 
@@ -127,6 +128,7 @@ pub record IsProvedFalse (f : Dqbf) (certificate : List ℕ) (before now : Optio
 pub record IsAcceptance (formula certificate : List ℕ) (before now : Option (List ℕ)) : Type 0 where
   pub f : Dqbf
   pub spelled : SpellsFormula formula f
+  pub well_formed : IsWellFormed f
   pub verdict : IsProvedTrue f certificate before now ⊎ IsProvedFalse f certificate before now
 
 -- what is said of a formula and a certificate, and written with that status

@@ -43,16 +43,9 @@ fault_if false _ rest = rest
 
 -- the checks of a natural number, behind those that it is one
 abbrev pub check_natural : Lexeme → (ℕ → Option FormulaFault) → Option FormulaFault
-check_natural P _ = Some BadNumber
-check_natural Cnf _ = Some BadNumber
-check_natural A _ = Some BadNumber
-check_natural D _ = Some BadNumber
-check_natural E _ = Some BadNumber
 check_natural (Natural n) check = check n
-check_natural (Negative _) _ = Some BadNumber
 check_natural Large _ = Some TooBig
-check_natural NegativeLarge _ = Some BadNumber
-check_natural Other _ = Some BadNumber
+check_natural _ _ = Some BadNumber
 
 abbrev pub check_limit : ℕ → ℕ → Option FormulaFault
 check_limit limit n = fault_if (nat_lt limit n) Limit None
@@ -60,20 +53,13 @@ check_limit limit n = fault_if (nat_lt limit n) Limit None
 -- inside a set or an item a second header comes before all else
 abbrev pub check_entry : Lexeme → (ℕ → Option FormulaFault) → Option FormulaFault
 check_entry P _ = Some HeaderTwice
-check_entry Cnf _ = Some BadNumber
-check_entry A _ = Some BadNumber
-check_entry D _ = Some BadNumber
-check_entry E _ = Some BadNumber
 check_entry (Natural n) check = check n
-check_entry (Negative _) _ = Some BadNumber
 check_entry Large _ = Some TooBig
-check_entry NegativeLarge _ = Some BadNumber
-check_entry Other _ = Some BadNumber
+check_entry _ _ = Some BadNumber
 
 -- the checks of a signed number, where letters have their own
 abbrev pub check_signed : Lexeme → Option FormulaFault → (ℕ → Option FormulaFault) → Option FormulaFault
 check_signed P _ _ = Some HeaderTwice
-check_signed Cnf _ _ = Some BadNumber
 check_signed A letter _ = letter
 check_signed D letter _ = letter
 check_signed E letter _ = letter
@@ -81,7 +67,7 @@ check_signed (Natural n) _ check = check n
 check_signed (Negative n) _ check = check n
 check_signed Large _ _ = Some TooBig
 check_signed NegativeLarge _ _ = Some TooBig
-check_signed Other _ _ = Some BadNumber
+check_signed _ _ _ = Some BadNumber
 
 abbrev pub check_range : Reading → ℕ → Option FormulaFault → Option FormulaFault
 check_range r v rest = fault_if (nat_lt r.formula.variables v) VarRange rest
@@ -124,27 +110,11 @@ wanted false = Some NoHeader
 
 abbrev pub is_p : Lexeme → Bool
 is_p P = true
-is_p Cnf = false
-is_p A = false
-is_p D = false
-is_p E = false
-is_p (Natural _) = false
-is_p (Negative _) = false
-is_p Large = false
-is_p NegativeLarge = false
-is_p Other = false
+is_p _ = false
 
 abbrev pub is_cnf : Lexeme → Bool
-is_cnf P = false
 is_cnf Cnf = true
-is_cnf A = false
-is_cnf D = false
-is_cnf E = false
-is_cnf (Natural _) = false
-is_cnf (Negative _) = false
-is_cnf Large = false
-is_cnf NegativeLarge = false
-is_cnf Other = false
+is_cnf _ = false
 
 -- the first check that a token fails where it stands
 abbrev pub check : State → Lexeme → Option FormulaFault
@@ -168,40 +138,21 @@ literal_or_end r clause v l = if v == 0 then at_part (with_formula r (add_clause
 
 -- the state behind a token that passes its checks
 abbrev pub at_start : Reading → Lexeme → State
-at_start r P = at_part r
-at_start r Cnf = at_part r
 at_start r A = in_universals r
 at_start r D = at_dependent r
 at_start r E = in_existentials r
 at_start r (Natural v) = literal_or_end r [] v (positive v)
 at_start r (Negative v) = literal_or_end r [] v (negative v)
-at_start r Large = at_part r
-at_start r NegativeLarge = at_part r
-at_start r Other = at_part r
+at_start r _ = at_part r
 
 abbrev pub natural_or : State → Lexeme → (ℕ → State) → State
-natural_or other P _ = other
-natural_or other Cnf _ = other
-natural_or other A _ = other
-natural_or other D _ = other
-natural_or other E _ = other
 natural_or other (Natural n) next = next n
-natural_or other (Negative _) _ = other
-natural_or other Large _ = other
-natural_or other NegativeLarge _ = other
-natural_or other Other _ = other
+natural_or other _ _ = other
 
 abbrev pub inside_clause : Reading → List Literal → Lexeme → State
-inside_clause r clause P = in_clause r clause
-inside_clause r clause Cnf = in_clause r clause
-inside_clause r clause A = in_clause r clause
-inside_clause r clause D = in_clause r clause
-inside_clause r clause E = in_clause r clause
 inside_clause r clause (Natural v) = literal_or_end r clause v (positive v)
 inside_clause r clause (Negative v) = literal_or_end r clause v (negative v)
-inside_clause r clause Large = in_clause r clause
-inside_clause r clause NegativeLarge = in_clause r clause
-inside_clause r clause Other = in_clause r clause
+inside_clause r clause _ = in_clause r clause
 
 abbrev pub advance : State → Lexeme → State
 advance before_header _ = before_format

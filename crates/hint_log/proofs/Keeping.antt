@@ -3,8 +3,8 @@ use Rattle.std.proofs.Common.{◌≡◌, ℕ, ◌+◌, ◌<◌, eqb, cond, Bool,
 use Rattle.std.proofs.lemmas.List.{reverse-append, length-reverse, length-append}
 use Rattle.std.specs.List.{AllByRecursion}
 use Rattle.indexmap.specs.IndexMap.{insert_entry}
-use Rattle.hint_log.specs.Conditions.{AreIds}
-use Rattle.hint_log.specs.Entries.{ProofLog, has_id, is_counted, last_id, steps_of, hints_of, name_of}
+use Rattle.hint_log.specs.Conditions.{MayFollow, IsNewName}
+use Rattle.hint_log.specs.Entries.{ProofLog, has_id, is_counted, last_id, steps_of, name_of}
 use Rattle.hint_log.specs.LogInside.{places, names_of, IsKept}
 use Rattle.hint_log.specs.declared.entries.Entry.{Entry}
 use Rattle.hint_log.specs.declared.entries.Entry.TheVariants.{Named, Given, Learned, Answer, Round}
@@ -19,30 +19,28 @@ place_more xs ids now earlier is before =
     is ∙ ap (λ places. places ++ length xs ∷ []) before ∙ ap (λ n. earlier ++ n ∷ []) (sym (length-reverse xs))
 
 pub kept_with_id : (limit steps counted : ℕ) (xs : List Entry) (e : Entry) (ids now rounds : List ℕ) (names : List (ℕ × Name)) → has_id e ≡ true
-    → (is_counted e ≡ true → steps_of (reverse xs) < limit) → AreIds (reverse xs) (hints_of e) → counted ≡ (if is_counted e then 1 else 0)
+    → (is_counted e ≡ true → steps_of (reverse xs) < limit) → MayFollow (reverse xs) e → counted ≡ (if is_counted e then 1 else 0)
     → IsKept limit steps (reverse xs) ids rounds names → now ≡ ids ++ length xs ∷ []
     → IsKept limit (steps + counted) (e ∷ reverse xs) now rounds names
-kept_with_id limit steps counted xs (Named v name) ids now rounds names is room hints counts kept now_is = absurd (true≢false (sym is))
-kept_with_id limit steps counted xs (Round row values j) ids now rounds names is room hints counts kept now_is = absurd (true≢false (sym is))
-kept_with_id limit steps counted xs (Given origin clause) ids now rounds names is room hints counts kept now_is = record {
+kept_with_id limit steps counted xs (Named v name) ids now rounds names is room may counts kept now_is = absurd (true≢false (sym is))
+kept_with_id limit steps counted xs (Round row values j) ids now rounds names is room may counts kept now_is = absurd (true≢false (sym is))
+kept_with_id limit steps counted xs (Given origin clause) ids now rounds names is room may counts kept now_is = record {
   ids_are = place_more xs ids now (places has_id (reverse xs)) now_is kept.ids_are;
   rounds_are = kept.rounds_are;
   names_are = kept.names_are;
   steps_are = let none : counted ≡ 0 = counts in let before = kept.steps_are in omega (arith, none, before);
   within = let none : counted ≡ 0 = counts in let before = kept.within in omega (arith, none, before);
-  earlier = (hints, kept.earlier);
-  once = kept.once;
+  logged = (may, kept.logged);
 }
-kept_with_id limit steps counted xs (Answer clause hs) ids now rounds names is room hints counts kept now_is = record {
+kept_with_id limit steps counted xs (Answer clause hs) ids now rounds names is room may counts kept now_is = record {
   ids_are = place_more xs ids now (places has_id (reverse xs)) now_is kept.ids_are;
   rounds_are = kept.rounds_are;
   names_are = kept.names_are;
   steps_are = let none : counted ≡ 0 = counts in let before = kept.steps_are in omega (arith, none, before);
   within = let none : counted ≡ 0 = counts in let before = kept.within in omega (arith, none, before);
-  earlier = (hints, kept.earlier);
-  once = kept.once;
+  logged = (may, kept.logged);
 }
-kept_with_id limit steps counted xs (Learned clause hs) ids now rounds names is room hints counts kept now_is = record {
+kept_with_id limit steps counted xs (Learned clause hs) ids now rounds names is room may counts kept now_is = record {
   ids_are = place_more xs ids now (places has_id (reverse xs)) now_is kept.ids_are;
   rounds_are = kept.rounds_are;
   names_are = kept.names_are;
@@ -50,19 +48,18 @@ kept_with_id limit steps counted xs (Learned clause hs) ids now rounds names is 
   within =
       let one : counted ≡ 1 = counts in let before = kept.steps_are in let below : steps_of (reverse xs) < limit = room refl in
       omega (arith, one, before, below);
-  earlier = (hints, kept.earlier);
-  once = kept.once;
+  logged = (may, kept.logged);
 }
 
 pub appended : (log : ProofLog) (limit steps counted at : ℕ) (xs items : List Entry) (e : Entry) (ids now rounds : List ℕ) (names : List (ℕ × Name))
     → record { limit = limit; entries = reverse xs } ≡ log → has_id e ≡ true → (is_counted e ≡ true → steps_of log.entries < log.limit)
-    → AreIds log.entries (hints_of e) → counted ≡ (if is_counted e then 1 else 0) → IsKept limit steps (reverse xs) ids rounds names
+    → MayFollow log.entries e → counted ≡ (if is_counted e then 1 else 0) → IsKept limit steps (reverse xs) ids rounds names
     → at ≡ length xs → now ≡ ids ++ at ∷ [] → items ≡ xs ++ e ∷ [] → IsKept limit (steps + counted) (reverse items) now rounds names
-appended log limit steps counted at xs items e ids now rounds names is numbered room hints counts kept at_is now_is items_is =
+appended log limit steps counted at xs items e ids now rounds names is numbered room may counts kept at_is now_is items_is =
     subst (λ es. IsKept limit (steps + counted) es now rounds names) (sym (ap reverse items_is ∙ newest xs e))
     (kept_with_id limit steps counted xs e ids now rounds names numbered
     (subst (λ (l : ProofLog). is_counted e ≡ true → steps_of l.entries < l.limit) (sym is) room)
-    (subst (λ (l : ProofLog). AreIds l.entries (hints_of e)) (sym is) hints) counts kept (now_is ∙ ap (λ n. ids ++ n ∷ []) at_is))
+    (subst (λ (l : ProofLog). MayFollow l.entries e) (sym is) may) counts kept (now_is ∙ ap (λ n. ids ++ n ∷ []) at_is))
 
 -- the entry's id is the number of ids
 pub id_is : (entries : List Entry) (ids : List ℕ) → ids ≡ places has_id entries → length ids ≡ last_id entries
@@ -103,17 +100,17 @@ unnamed_absent (Named w name ∷ entries) v none = by (eqb v w) (λ other. unnam
     by false before is other = absent_append v (names_of entries) ((w, name) ∷ []) (before other) (is, tt)
 
 pub kept_name : (log : ProofLog) (limit steps var : ℕ) (name : Name) (xs items : List Entry) (ids rounds : List ℕ) (names now : List (ℕ × Name))
-    → record { limit = limit; entries = reverse xs } ≡ log → name_of log.entries var ≡ None
+    → record { limit = limit; entries = reverse xs } ≡ log → IsNewName log.entries var name
     → IsKept limit steps (reverse xs) ids rounds names → items ≡ xs ++ Named var name ∷ [] → now ≡ insert_entry eqb names var name
     → IsKept limit steps (reverse items) ids rounds now
-kept_name log limit steps var name xs items ids rounds names now is unnamed kept items_is now_is =
-    let none : name_of (reverse xs) var ≡ None = ap (λ (l : ProofLog). name_of l.entries var) is ∙ unnamed in
+kept_name log limit steps var name xs items ids rounds names now is asked kept items_is now_is =
+    let new : IsNewName (reverse xs) var name = subst (λ (l : ProofLog). IsNewName l.entries var name) (sym is) asked in
+    let none = new.unnamed in
     subst (λ es. IsKept limit steps es ids rounds now) (sym (ap reverse items_is ∙ newest xs (Named var name))) (record {
       ids_are = kept.ids_are;
       rounds_are = kept.rounds_are;
       names_are = now_is ∙ ap (λ ns. insert_entry eqb ns var name) kept.names_are ∙ insert_absent (names_of (reverse xs)) var name (unnamed_absent (reverse xs) var none);
       steps_are = kept.steps_are;
       within = kept.within;
-      earlier = ((λ hint has. let below = has.1 in absurd (omega (arith, below))), kept.earlier);
-      once = (none, kept.once);
+      logged = (new, kept.logged);
     })

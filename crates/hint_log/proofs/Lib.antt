@@ -1,4 +1,6 @@
 mod Finding
 mod Keeping
+mod Lawful
+mod Logged
 mod Marking
 mod Naming

@@ -10,13 +10,13 @@ use Rattle.dq_lits.specs.Row.{bit_of}
 use Rattle.dq_lits.specs.declared.memory.Memory.{Memory}
 use Rattle.hint_log.specs.Conditions.{IsId}
 use Rattle.hint_log.specs.Entries.{ProofLog, has_id, last_id, numbered, hints_of, hints_at}
-use Rattle.hint_log.specs.LogInside.{AreEarlier}
+use Rattle.hint_log.proofs.Logged.{AreEarlier}
 use Rattle.hint_log.specs.Marks.{AreMarks, AreMore, AreMarked}
 use Rattle.hint_log.specs.Reached.{Reaches, itself, by_hint, AreReached}
 use Rattle.hint_log.specs.declared.entries.Entry.{Entry}
 
 -- a hint is an earlier id
-hint_earlier : (entries : List Entry) (id : ℕ) (e : Entry) → AreEarlier entries → numbered has_id entries id ≡ Some e
+pub hint_earlier : (entries : List Entry) (id : ℕ) (e : Entry) → AreEarlier entries → numbered has_id entries id ≡ Some e
     → (hint : ℕ) → Contains (hints_of e) hint → (1 ≤ hint) × (hint < id)
 hint_earlier [] id e earlier found hint has = cc
 hint_earlier (x ∷ es) id e earlier found hint has =

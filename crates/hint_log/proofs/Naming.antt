@@ -3,7 +3,8 @@ use Rattle.std.proofs.Common.{◌≡◌, ℕ, eqb, cond, Bool, true, false, true
 use Rattle.std.specs.Map.{lookup}
 use Rattle.std.proofs.lemmas.Bool.{eqb-true}
 use Rattle.hint_log.specs.Entries.{ProofLog, name_of}
-use Rattle.hint_log.specs.LogInside.{names_of, AreNamedOnce}
+use Rattle.hint_log.specs.LogInside.{names_of}
+use Rattle.hint_log.proofs.Logged.{AreNamedOnce}
 use Rattle.hint_log.specs.declared.entries.Entry.{Entry}
 use Rattle.hint_log.specs.declared.entries.Entry.TheVariants.{Named, Given, Learned, Answer, Round}
 use Rattle.hint_log.specs.declared.names.Name.{Name}

@@ -1,11 +1,13 @@
 -- What the calls of a log ask for.
-use Rattle.std.specs.Prelude.{◌≡◌, ℕ, ◌≤◌, Bool, true, false, List, Option, Some, None, IsSome, Contains}
+use Rattle.std.specs.Prelude.{◌≡◌, ℕ, ◌≤◌, ◌<◌, ◌^◌, Bool, true, false, List, Option, Some, None, IsSome, Contains}
 use Rattle.std.specs.List.{All}
 use Rattle.dq_lits.specs.Literal.{Literal, variable_of}
 use Rattle.hint_log.specs.declared.entries.Entry.{Entry}
+use Rattle.hint_log.specs.declared.entries.Entry.TheVariants.{Named, Given, Learned, Answer}
 use Rattle.hint_log.specs.declared.names.Name.{Name}
-use Rattle.hint_log.specs.declared.names.Name.TheVariants.{Selector, Pair, Input, And, Bad, Copy}
+use Rattle.hint_log.specs.declared.names.Name.TheVariants.{Input, And}
 use Rattle.hint_log.specs.Entries.{name_of, last_id}
+use Rattle.hint_log.specs.Growth.{Each}
 
 -- the literals stand on variables that have names
 abbrev pub AreNamed : List Entry → List Literal → Type 0
@@ -13,23 +15,15 @@ AreNamed entries literals = All (λ l. IsSome (name_of entries (variable_of l)))
 
 -- inputs and gates
 abbrev pub is_circuit_name : Option Name → Bool
-is_circuit_name None = false
-is_circuit_name (Some (Selector _)) = false
-is_circuit_name (Some (Pair _ _)) = false
 is_circuit_name (Some (Input _)) = true
 is_circuit_name (Some (And _ _)) = true
-is_circuit_name (Some (Bad _ _)) = false
-is_circuit_name (Some (Copy _ _)) = false
+is_circuit_name _ = false
 
 -- the sides of a gate stand on inputs and gates that were named before
 abbrev pub HasSides : List Entry → Name → Type 0
-HasSides entries (Selector _) = Unit {0}
-HasSides entries (Pair _ _) = Unit {0}
-HasSides entries (Input _) = Unit {0}
 HasSides entries (And a b) =
     (is_circuit_name (name_of entries (variable_of a)) ≡ true) × (is_circuit_name (name_of entries (variable_of b)) ≡ true)
-HasSides entries (Bad _ _) = Unit {0}
-HasSides entries (Copy _ _) = Unit {0}
+HasSides entries _ = Unit {0}
 
 -- an entry has this id
 pub record IsId (entries : List Entry) (id : ℕ) : Type 0 where
@@ -38,3 +32,23 @@ pub record IsId (entries : List Entry) (id : ℕ) : Type 0 where
 
 abbrev pub AreIds : List Entry → List ℕ → Type 0
 AreIds entries ids = (id : ℕ) → Contains ids id → IsId entries id
+
+-- a variable that has no name may have this one, which no other has
+pub record IsNewName (earlier : List Entry) (v : ℕ) (name : Name) : Type 0 where
+  pub from_one : 1 ≤ v
+  pub in_range : v < 2 ^ 62
+  pub unnamed : name_of earlier v ≡ None
+  pub fresh : (w : ℕ) → name_of earlier w ≡ Some name → ⊥
+  pub sides : HasSides earlier name
+
+-- what is asked of an entry behind these
+abbrev pub MayFollow : List Entry → Entry → Type 0
+MayFollow earlier (Named v name) = IsNewName earlier v name
+MayFollow earlier (Given _ clause) = AreNamed earlier clause
+MayFollow earlier (Learned clause hints) = AreNamed earlier clause × AreIds earlier hints
+MayFollow earlier (Answer clause hints) = AreNamed earlier clause × AreIds earlier hints
+MayFollow earlier _ = Unit {0}
+
+-- what holds of every log
+abbrev pub AreLogged : List Entry → Type 0
+AreLogged entries = Each MayFollow entries

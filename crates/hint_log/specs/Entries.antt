@@ -19,25 +19,18 @@ with_entry log entry = record log { entries = entry ∷ log.entries }
 -- the entries that have ids
 abbrev pub has_id : Entry → Bool
 has_id (Named _ _) = false
-has_id (Given _ _) = true
-has_id (Learned _ _) = true
-has_id (Answer _ _) = true
 has_id (Round _ _ _) = false
+has_id _ = true
 
 abbrev pub is_round : Entry → Bool
-is_round (Named _ _) = false
-is_round (Given _ _) = false
-is_round (Learned _ _) = false
-is_round (Answer _ _) = false
 is_round (Round _ _ _) = true
+is_round _ = false
 
 -- the entries that count as steps
 abbrev pub is_counted : Entry → Bool
-is_counted (Named _ _) = false
-is_counted (Given _ _) = false
 is_counted (Learned _ _) = true
-is_counted (Answer _ _) = false
 is_counted (Round _ _ _) = true
+is_counted _ = false
 
 abbrev pub count : (Entry → Bool) → List Entry → ℕ
 count test [] = 0
@@ -60,33 +53,24 @@ numbered test (e ∷ earlier) number =
     if test e && (number == count test earlier + 1) then Some e else numbered test earlier number
 
 abbrev pub clause_of : Entry → Option (List Literal)
-clause_of (Named _ _) = None
 clause_of (Given _ clause) = Some clause
 clause_of (Learned clause _) = Some clause
 clause_of (Answer clause _) = Some clause
-clause_of (Round _ _ _) = None
+clause_of _ = None
 
 -- a given clause has no hints
 abbrev pub hints_of : Entry → List ℕ
-hints_of (Named _ _) = []
-hints_of (Given _ _) = []
 hints_of (Learned _ hints) = hints
 hints_of (Answer _ hints) = hints
-hints_of (Round _ _ _) = []
+hints_of _ = []
 
 abbrev pub origin_of : Entry → Option Origin
-origin_of (Named _ _) = None
 origin_of (Given origin _) = Some origin
-origin_of (Learned _ _) = None
-origin_of (Answer _ _) = None
-origin_of (Round _ _ _) = None
+origin_of _ = None
 
 abbrev pub row_of : Entry → Option (List Bool)
-row_of (Named _ _) = None
-row_of (Given _ _) = None
-row_of (Learned _ _) = None
-row_of (Answer _ _) = None
 row_of (Round row _ _) = Some row
+row_of _ = None
 
 abbrev pub clause_at : List Entry → ℕ → Option (List Literal)
 clause_at entries id = option_and_then clause_of (numbered has_id entries id)
@@ -104,7 +88,4 @@ row_at entries k = option_and_then row_of (numbered is_round entries k)
 abbrev pub name_of : List Entry → ℕ → Option Name
 name_of [] v = None
 name_of (Named w name ∷ earlier) v = if v == w then Some name else name_of earlier v
-name_of (Given _ _ ∷ earlier) v = name_of earlier v
-name_of (Learned _ _ ∷ earlier) v = name_of earlier v
-name_of (Answer _ _ ∷ earlier) v = name_of earlier v
-name_of (Round _ _ _ ∷ earlier) v = name_of earlier v
+name_of (_ ∷ earlier) v = name_of earlier v

@@ -3,3 +3,8 @@ pub mod Entries
 pub mod LogInside
 pub mod Marks
 pub mod Reached
+pub mod Growth
+pub mod Naming
+pub mod Origins
+pub mod ProductiveLog
+pub mod Deciding

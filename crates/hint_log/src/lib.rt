@@ -12,6 +12,7 @@ pub use origins::{Leaf, Origin};
 pub use stops::Stop;
 
 mod entries;
+pub mod laws;
 mod logs;
 mod names;
 mod origins;

@@ -1,7 +1,7 @@
 ghost use Rattle.std.specs.Prelude.{◌≡◌, ◌+◌, ◌≤◌, ◌<◌, ◌^◌, ◌↔◌, ℕ, true, false, List, [], length, Contains, All, OnOk, OnErr, IfOk, IsErrOf, Some, None, IsSome, ◌∷◌};
 ghost use Rattle.dq_lits.specs.Literal.{variable_of};
-ghost use Rattle.hint_log.specs.Conditions.{AreNamed, HasSides, IsId, AreIds};
-ghost use Rattle.hint_log.specs.Entries.{with_entry, has_id, hints_of, is_counted, last_id, steps_of, rounds_of, clause_at, hints_at, origin_at, row_at, name_of, numbered};
+ghost use Rattle.hint_log.specs.Conditions.{AreNamed, HasSides, IsId, AreIds, MayFollow, AreLogged};
+ghost use Rattle.hint_log.specs.Entries.{with_entry, has_id, is_counted, last_id, steps_of, rounds_of, clause_at, hints_at, origin_at, row_at, name_of, numbered};
 ghost use Rattle.hint_log.specs.declared.entries.Entry.TheVariants.{Named, Given, Learned, Answer, Round};
 
 use crate::entries::Entry;
@@ -89,7 +89,7 @@ impl Log {
         ensures id { IfOk result (λ id. id ≡ last_id self.new.entries) }
         ensures err { OnErr result (self.new ≡ self.old) }
     {
-        let clause = copied(self.alloc, lits)?;
+        let clause = Clause::from_slice(self.alloc, lits)?;
         self.append(Entry::Given(origin, clause))
     }
 
@@ -101,8 +101,8 @@ impl Log {
         ensures id { IfOk result (λ id. id ≡ last_id self.new.entries) }
         ensures err { OnErr result (self.new ≡ self.old) }
     {
-        let clause = copied(self.alloc, lits)?;
-        let hints = copied_ids(self.alloc, hints)?;
+        let clause = Clause::from_slice(self.alloc, lits)?;
+        let hints = Ids::from_slice(self.alloc, hints)?;
         self.append(Entry::Answer(clause, hints))
     }
 
@@ -118,8 +118,8 @@ impl Log {
         if self.steps == self.limit {
             return Err(Stop::Limit);
         }
-        let clause = copied(self.alloc, lits)?;
-        let hints = copied_ids(self.alloc, hints)?;
+        let clause = Clause::from_slice(self.alloc, lits)?;
+        let hints = Ids::from_slice(self.alloc, hints)?;
         let id = self.append(Entry::Learned(clause, hints))?;
         Ok(id)
     }
@@ -146,6 +146,20 @@ impl Log {
         ensures within { result ≤ self.now.limit }
     {
         self.steps
+    }
+
+    /// The most entries that count as steps.
+    pub fn limit(&self) -> u64
+        ensures { result ≡ self.now.limit }
+    {
+        self.limit
+    }
+
+    /// What holds of every log. The call does nothing: its contract is for callers' proofs.
+    pub fn every_log_is_lawful(&self)
+        ensures { AreLogged self.now.entries }
+    {
+        let _ = &self.limit;
     }
 
     /// How many rounds there are.
@@ -244,7 +258,7 @@ impl Log {
     fn append(&mut self, entry: Entry) -> Result<u64, Memory>
         requires has_id { has_id entry ≡ true }
         requires counted { is_counted entry ≡ true → steps_of self.old.entries < self.old.limit }
-        requires hints { AreIds self.old.entries (hints_of entry) }
+        requires asked { MayFollow self.old.entries entry }
         ensures ok { OnOk result (self.new ≡ with_entry self.old entry) }
         ensures id { IfOk result (λ id. id ≡ last_id self.new.entries) }
         ensures err { OnErr result (self.new ≡ self.old) }
@@ -273,24 +287,4 @@ fn named_entry(var: u64, name: &Name) -> Entry
     ensures { result ≡ Named var name.now }
 {
     Entry::Named(var, *name)
-}
-
-fn copied(alloc: Global, lits: &[Lit]) -> Result<Clause, Memory>
-    ensures { IfOk result (λ clause. clause ≡ lits.now) }
-{
-    let mut clause = Clause::with_room(alloc, lits.len())?;
-    for l in lits {
-        clause.push(*l)?;
-    }
-    Ok(clause)
-}
-
-fn copied_ids(alloc: Global, ids: &[u64]) -> Result<Ids, Memory>
-    ensures { IfOk result (λ list. list ≡ ids.now) }
-{
-    let mut list = Ids::with_room(alloc, ids.len())?;
-    for id in ids {
-        list.push(*id)?;
-    }
-    Ok(list)
 }

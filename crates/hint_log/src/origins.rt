@@ -11,13 +11,30 @@ pub enum Leaf {
 #[derive(Clone, Copy, Debug)]
 pub enum Origin {
     /// The instance of a clause under the row of a round.
-    Instance(u64, u64),
-    /// One of the three clauses of a gate, from 1 to 3.
-    Gate(u64, u64),
-    /// Where a clause is false, a literal of it is false under an output; or, with zeros, that some clause is false.
-    Fault(u64, u64, Leaf),
+    Instance {
+        round: u64,
+        clause: u64,
+    },
+    /// One of the three clauses of the gate that a variable is named for; parts are numbered from 1 to 3.
+    Gate {
+        variable: u64,
+        part: u64,
+    },
+    /// Where a clause is false, the literal at this place of it, counted from 1, is false under an output; or, with zeros, that
+    /// some clause is false.
+    Fault {
+        clause: u64,
+        place: u64,
+        output: Leaf,
+    },
     /// A clause in the first or second copy of the matrix.
-    Copy(u64, u64),
-    /// One of the two clauses by which a variable has the same value in both copies.
-    Link(u64, u64),
+    Copy {
+        side: u64,
+        clause: u64,
+    },
+    /// One of the two clauses by which a variable has the same value in both copies; parts are numbered from 1 to 2.
+    Link {
+        variable: u64,
+        part: u64,
+    },
 }

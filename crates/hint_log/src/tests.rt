@@ -7,8 +7,8 @@ use std::test::Fail;
 fn a_log_takes_entries_up_to_its_limit(rt: HostRuntime) -> Result<(), Fail> {
     let mut log = Log::new(rt.alloc(), 2);
     let row = Row::new(rt.alloc(), 1)?;
-    log.named(1, Name::Selector(1))?;
-    assert!(rt; matches!(log.given(Origin::Copy(1, 1), &[]), Ok(1)));
+    log.named(1, Name::Selector { group: 1 })?;
+    assert!(rt; matches!(log.given(Origin::Copy { side: 1, clause: 1 }, &[]), Ok(1)));
     assert!(rt; matches!(log.learned(&[], &[1]), Ok(2)));
     assert!(rt; log.round(&row, &row, 1).is_ok());
     assert!(rt; matches!(log.learned(&[], &[1]), Err(Stop::Limit)));

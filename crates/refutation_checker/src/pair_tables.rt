@@ -311,7 +311,7 @@ fn block_at(alloc: Global, firsts: &[u64], place: usize) -> Result<Ids, Memory>
     ensures { IfOk result (λ block. block ≡ take 16 (drop (place * 16) firsts.now)) }
 {
     let (_, rest) = firsts.split_at(place * BLOCK_ROWS);
-    copied(
+    Ids::from_slice(
         alloc,
         if rest.len() > BLOCK_ROWS {
             &rest[..BLOCK_ROWS]
@@ -319,16 +319,6 @@ fn block_at(alloc: Global, firsts: &[u64], place: usize) -> Result<Ids, Memory>
             rest
         },
     )
-}
-
-fn copied(alloc: Global, ids: &[u64]) -> Result<Ids, Memory>
-    ensures { IfOk result (λ list. list ≡ ids.now) }
-{
-    let mut list = Ids::with_room(alloc, ids.len())?;
-    for id in ids {
-        list.push(*id)?;
-    }
-    Ok(list)
 }
 
 // Whether a universal literal of a clause is true under a row.

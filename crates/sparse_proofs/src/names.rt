@@ -142,11 +142,8 @@ impl Names {
     fn renamed_clause(&self, alloc: Global, lits: &[Lit]) -> Result<Clause, Memory>
         ensures { IfOk result (λ clause. clause ≡ map (renamed_literal self.now) lits.now) }
     {
-        let mut clause = Clause::with_room(alloc, lits.len())?;
-        for l in lits {
-            clause.push(self.renamed(*l))?;
-        }
-        Ok(clause)
+        let lits = lits.iter().map(|l| self.renamed(*l)).collect(alloc)?;
+        Ok(Clause::from_vec(lits))
     }
 
     /// The clauses of these lines on the variables' numbers.

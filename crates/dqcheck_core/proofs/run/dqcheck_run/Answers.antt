@@ -21,6 +21,7 @@ pub returns-in-Ok-write_all-clause-accepted : goal.returns-in-Ok-write_all-claus
 returns-in-Ok-write_all-clause-accepted g c =
     accepted
     (record {
+      circuit = c.acceptance_is_sound.ensures.circuit;
       is_true = c.acceptance_is_sound.ensures.is_true;
       is_false = c.acceptance_is_sound.ensures.is_false;
     })

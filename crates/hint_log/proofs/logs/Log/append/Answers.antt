@@ -6,7 +6,7 @@ pub invariant_of-self-2 : goal.invariant_of-self-2
 invariant_of-self-2 c =
     appended c.args.self.now c.self.inside.limit c.self.inside.steps c.steps.result c.len.result c.self.inside.entries.items c.push-2.new.self.items c.args.entry
     c.self.inside.ids.items c.push.new.self.items c.self.inside.rounds.items c.self.inside.names.entries
-    c.self.view_is c.requires.has_id c.requires.counted c.requires.hints
+    c.self.view_is c.requires.has_id c.requires.counted c.requires.asked
     c.steps.ensures c.self.invariant (search) c.in_ok-push.ensures.items
     ((rw c.unwrap.ensures at c.push-2.ensures.items) ∙ ap (λ xs. xs ++ c.args.entry ∷ []) c.reserve.ensures.items)
 
