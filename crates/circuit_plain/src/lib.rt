@@ -17,7 +17,5 @@ pub mod laws;
 mod orders;
 mod settled;
 mod sorting;
-#[cfg(test)]
-mod tests;
 mod values;
 mod walks;

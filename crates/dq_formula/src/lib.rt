@@ -9,5 +9,3 @@ pub use formula::{Formula, MAX_CLAUSES, MAX_VARIABLES};
 
 mod dependencies;
 mod formula;
-#[cfg(test)]
-mod tests;

@@ -26,6 +26,4 @@ mod reading;
 mod real;
 mod sinks;
 mod store;
-#[cfg(test)]
-mod tests;
 mod writing;

@@ -18,5 +18,3 @@ mod lists;
 mod literals;
 mod memory;
 mod rows;
-#[cfg(test)]
-mod tests;

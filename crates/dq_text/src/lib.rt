@@ -12,6 +12,4 @@ mod cursors;
 pub mod laws;
 mod lines;
 mod numbers;
-#[cfg(test)]
-mod tests;
 mod tokens;

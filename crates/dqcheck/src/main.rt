@@ -1,26 +1,8 @@
 //! `dqcheck FORMULA CERT`: judges a certificate for a formula, writes one line, and ends with its status.
 #![tactic(auto)]
 
-use dq_io::{RealFiles, RealSink};
-use dqcheck_core::dqcheck_run;
 use std::process::ExitCode;
-use std::{env, io};
-
-/// The status for want of memory.
-const WANT_OF_MEMORY: u8 = 5;
 
 fn main(rt: HostRuntime) -> ExitCode {
-    let mut files = RealFiles::new(&rt);
-    let mut out = RealSink::new(&rt);
-    let status = match words(&rt) {
-        Ok(words) => dqcheck_run(rt.alloc(), &words, &mut files, &mut out),
-        Err(error) if error.kind() == io::ErrorKind::OutOfMemory => WANT_OF_MEMORY,
-        Err(_) => dqcheck_run(rt.alloc(), &[], &mut files, &mut out),
-    };
-    ExitCode::from(status)
-}
-
-// The words of the command line, the program's name first.
-fn words(rt: &HostRuntime) -> io::Result<Vec<String>> {
-    Ok(env::args(rt)?.collect(rt.alloc())?)
+    dqcheck_program::run(&rt)
 }

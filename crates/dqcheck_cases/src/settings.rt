@@ -1,7 +1,7 @@
 //! What a case runs on.
 
 use anyhow::Result;
-use dq_io::{MemFiles, MemSink};
+use dq_io::{MemFiles, MemSink, NeverFailFiles, NeverFailSink, ReadStop, read_all};
 use dqcheck_core::dqcheck_run;
 use std::alloc::Global;
 
@@ -48,6 +48,35 @@ impl Settings {
 
     /// Runs the checker, and gives its status and what was written. Then words, reads and writes are as at the start.
     pub fn run(&mut self, alloc: Global) -> Result<(u8, Vec<u8>)> {
+        let mut files = self.files(alloc)?;
+        let mut sink = MemSink::new(alloc, self.writes.greatest.max(1), &self.writes.failing)?;
+        let status = dqcheck_run(alloc, &self.words, &mut files, &mut sink);
+        self.words = words_of(alloc, WORDS)?;
+        self.reads = Calls::new(alloc);
+        self.writes = Calls::new(alloc);
+        Ok((status, sink.taken().to_vec(alloc)?))
+    }
+
+    /// Runs the checker over files and a sink that never fail, and gives its status.
+    pub fn run_unfailing(&self, alloc: Global) -> Result<u8> {
+        let mut files = NeverFailFiles::new(alloc);
+        if let Some(formula) = &self.formula {
+            files.hold("formula", formula)?;
+        }
+        if let Some(certificate) = &self.certificate {
+            files.hold("certificate", certificate)?;
+        }
+        let mut sink = NeverFailSink::new();
+        Ok(dqcheck_run(alloc, &self.words, &mut files, &mut sink))
+    }
+
+    /// Reads the formula's file, of at most so many bytes.
+    pub fn read(&self, alloc: Global, limit: u64) -> Result<Result<Vec<u8>, ReadStop>> {
+        let mut files = self.files(alloc)?;
+        Ok(read_all(alloc, &mut files, "formula", limit))
+    }
+
+    fn files(&self, alloc: Global) -> Result<MemFiles> {
         let mut files = MemFiles::new(alloc, self.reads.greatest.max(1), &self.reads.failing)?;
         if let Some(formula) = &self.formula {
             files.hold("formula", formula)?;
@@ -55,12 +84,7 @@ impl Settings {
         if let Some(certificate) = &self.certificate {
             files.hold("certificate", certificate)?;
         }
-        let mut sink = MemSink::new(alloc, self.writes.greatest.max(1), &self.writes.failing)?;
-        let status = dqcheck_run(alloc, &self.words, &mut files, &mut sink);
-        self.words = words_of(alloc, WORDS)?;
-        self.reads = Calls::new(alloc);
-        self.writes = Calls::new(alloc);
-        Ok((status, sink.taken().to_vec(alloc)?))
+        Ok(files)
     }
 }
 

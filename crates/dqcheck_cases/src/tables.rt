@@ -4,6 +4,7 @@ use crate::settings::{Calls, Settings, words_of};
 use aiger_text::AagFile;
 use anyhow::{Result, anyhow};
 use cert_text::{read_dqp, read_dqr, write_dqp, write_dqr};
+use dq_io::ReadStop;
 use dqdimacs_reader::{read, write};
 use std::alloc::Global;
 
@@ -29,6 +30,14 @@ pub fn take_line(alloc: Global, settings: &mut Settings, line: &str) -> Result<O
             let taken = shown(alloc, &taken)?;
             return Ok(Some(format!(in alloc; "{rest}: {status} {taken}")?));
         }
+        "unfailing" => {
+            let status = settings.run_unfailing(alloc)?;
+            return Ok(Some(format!(in alloc; "{rest}: {status}")?));
+        }
+        "read" => {
+            let taken = reading(alloc, settings, rest.parse()?)?;
+            return Ok(Some(format!(in alloc; "at most {rest}: {taken}")?));
+        }
         "canonical" => {
             let taken = shown(alloc, &canonical(alloc, settings)?)?;
             return Ok(Some(format!(in alloc; "{rest}: {taken}")?));
@@ -44,6 +53,16 @@ pub fn take_line(alloc: Global, settings: &mut Settings, line: &str) -> Result<O
         _ => return Err(anyhow!("no setting: {line}")),
     }
     Ok(None)
+}
+
+// What is read of the formula's file, of at most so many bytes.
+fn reading(alloc: Global, settings: &Settings, limit: u64) -> Result<String> {
+    match settings.read(alloc, limit)? {
+        Ok(bytes) => shown(alloc, &bytes),
+        Err(ReadStop::Memory) => Ok(format!(in alloc; "memory")?),
+        Err(ReadStop::Fault) => Ok(format!(in alloc; "fault")?),
+        Err(ReadStop::TooLong) => Ok(format!(in alloc; "too long")?),
+    }
 }
 
 // The canonical text of the formula.

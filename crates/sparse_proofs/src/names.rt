@@ -142,8 +142,11 @@ impl Names {
     fn renamed_clause(&self, alloc: Global, lits: &[Lit]) -> Result<Clause, Memory>
         ensures { IfOk result (λ clause. clause ≡ map (renamed_literal self.now) lits.now) }
     {
-        let lits = lits.iter().map(|l| self.renamed(*l)).collect(alloc)?;
-        Ok(Clause::from_vec(lits))
+        let mut renamed = Vec::with_capacity(alloc, lits.len())?;
+        for l in lits {
+            renamed.push(self.renamed(*l))?;
+        }
+        Ok(Clause::from_vec(renamed))
     }
 
     /// The clauses of these lines on the variables' numbers.
