@@ -1,6 +1,6 @@
 -- The lists that lie end to end in one list.
-use Rattle.std.proofs.Common.{◌≡◌, ℕ, zero, suc, ◌+◌, ◌-◌, ◌≤◌, ◌<◌, List, [], ◌∷◌, ◌++◌, length, take, drop, get_or, refl, ap, sym, arith, length-append, length-drop}
-use Rattle.std.proofs.lemmas.List.{take_all, drop_at, take-append-le, drop-append-le}
+use Rattle.std.proofs.Common.{◌≡◌, ℕ, zero, suc, ◌+◌, ◌-◌, ◌≤◌, ◌<◌, List, [], ◌∷◌, ◌++◌, length, take, drop, get_or, refl, ap, sym, ◌∙◌, arith, length-append, length-drop}
+use Rattle.std.proofs.lemmas.List.{take_all, drop_at, take-append-le, drop-append-le, take-append-drop, length-take-le}
 use Rattle.flat_lists.specs.Layout.{lists_at, start_of, AreEnds}
 
 -- there are as many lists as ends
@@ -46,3 +46,56 @@ list_bounds start [] n j h l = absurd (omega arith)
 list_bounds start (end ∷ ends) n zero h l = (h.0, AreEnds-start end ends n h.1)
 list_bounds start (end ∷ ends) n (suc zero) h l = list_bounds end ends n zero h.1 (omega arith)
 list_bounds start (end ∷ ends) n (suc (suc j)) h l = list_bounds end ends n (suc j) h.1 (omega arith)
+
+-- items behind the last list leave the lists as they are
+pub lists_at-behind : {X : Type 0} (start : ℕ) (ends : List ℕ) (items more : List X) → AreEnds start ends (length items)
+    → lists_at start ends (items ++ more) ≡ lists_at start ends items
+lists_at-behind start [] items more h = refl
+lists_at-behind start (end ∷ ends) items more h =
+    let below = AreEnds-start end ends (length items) h.1 in
+    let here : take (end - start) (drop start (items ++ more)) ≡ take (end - start) (drop start items) = take-inside start (end - start) items more (omega (arith, h.0)) (omega (arith, h.0)) in
+    rw here (ap (λ ls. take (end - start) (drop start items) ∷ ls) (lists_at-behind end ends items more h.1))
+
+-- the first lists end at the first ends
+lists_at-take : {X : Type 0} (start : ℕ) (k : ℕ) (ends : List ℕ) (items : List X) → lists_at start (take k ends) items ≡ take k (lists_at start ends items)
+lists_at-take start zero ends items = refl
+lists_at-take start (suc k) [] items = refl
+lists_at-take start (suc k) (end ∷ ends) items = ap (λ ls. take (end - start) (drop start items) ∷ ls) (lists_at-take end k ends items)
+
+start_behind : (end : ℕ) (ends : List ℕ) (k : ℕ) → start_of end ends k ≡ get_or (end ∷ ends) k 0
+start_behind end ends zero = refl
+start_behind end ends (suc k) = refl
+
+-- all ends but the last
+AreEnds-but_last : (start end : ℕ) (ends : List ℕ) (n : ℕ) → AreEnds start (end ∷ ends) n
+    → AreEnds start (take (length ends) (end ∷ ends)) (start_of start (end ∷ ends) (length ends)) × (start_of start (end ∷ ends) (length ends) ≤ n)
+AreEnds-but_last start end [] n h = let last = h.1 in (refl, omega (arith, h.0, last))
+AreEnds-but_last start end (next ∷ ends) n h =
+    let rest = AreEnds-but_last end next ends n h.1 in
+    let same = start_behind end (next ∷ ends) (length ends) in
+    rw (← same) ((h.0, rest.0), rest.1)
+
+pub AreEnds-pop : {X : Type 0} (ends : List ℕ) (items : List X) → 0 < length ends → AreEnds 0 ends (length items)
+    → AreEnds 0 (take (length ends - 1) ends) (length (take (start_of 0 ends (length ends - 1)) items))
+AreEnds-pop [] items some h = absurd (omega (arith, some))
+AreEnds-pop (end ∷ ends) items some h =
+    let rest = AreEnds-but_last 0 end ends (length items) h in
+    let one : length (end ∷ ends) - 1 ≡ length ends = omega arith in
+    let long : length (take (start_of 0 (end ∷ ends) (length ends)) items) ≡ start_of 0 (end ∷ ends) (length ends) = length-take-le _ items rest.1 in
+    rw one (rw long rest.0)
+
+-- the last list, and its items, are taken away
+pub lists_at-pop : {X : Type 0} (ends : List ℕ) (items : List X) → 0 < length ends → AreEnds 0 ends (length items)
+    → lists_at 0 (take (length ends - 1) ends) (take (start_of 0 ends (length ends - 1)) items) ≡ take (length (lists_at 0 ends items) - 1) (lists_at 0 ends items)
+lists_at-pop ends items some h =
+    let s = start_of 0 ends (length ends - 1) in
+    sym (lists_at-behind 0 (take (length ends - 1) ends) (take s items) (drop s items) (AreEnds-pop ends items some h))
+    ∙ ap (lists_at 0 (take (length ends - 1) ends)) (take-append-drop s items)
+    ∙ lists_at-take 0 (length ends - 1) ends items
+    ∙ ap (λ n. take (n - 1) (lists_at 0 ends items)) (sym (length-lists_at 0 ends items))
+
+pub popped : {X : Type 0} (ends fewer read : List ℕ) (items less : List X) (rest start : ℕ) → rest ≡ length ends - 1 → 0 < length ends → read ≡ ends → start ≡ start_of 0 read rest
+    → less ≡ take start items → fewer ≡ take rest ends → AreEnds 0 ends (length items)
+    → AreEnds 0 fewer (length less) × (lists_at 0 fewer less ≡ take (length (lists_at 0 ends items) - 1) (lists_at 0 ends items))
+popped ends fewer read items less rest start rest_is some read_is start_is less_is fewer_is h =
+    rw (less_is, fewer_is, start_is, read_is, rest_is) (AreEnds-pop ends items some h, lists_at-pop ends items some h)

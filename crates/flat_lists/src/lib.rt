@@ -1,7 +1,7 @@
 //! Lists that lie end to end in one vector: a list costs its elements and 8 bytes, and no block of its own.
 #![tactic(auto)]
 
-ghost use Rattle.std.specs.Prelude.{◌≡◌, ◌<◌, ◌∷◌, ◌++◌, [], length, slice_index_or, OnOk, OnErr};
+ghost use Rattle.std.specs.Prelude.{◌≡◌, ◌-◌, ◌<◌, ◌∷◌, ◌++◌, [], length, take, slice_index_or, OnOk, OnErr};
 ghost use Rattle.flat_lists.specs.Layout.{lists_at, start_of, AreEnds};
 
 use std::alloc::{AllocError, Global};
@@ -95,6 +95,19 @@ impl<T: Copy> FlatLists<T> {
     {
         append(&mut self.ends, &mut self.items, list)?;
         Ok(())
+    }
+
+    /// Takes the last list away, where there is one.
+    pub fn pop(&mut self)
+        ensures { self.new ≡ take (length self.old - 1) self.old }
+    {
+        if self.ends.is_empty() {
+            return;
+        }
+        let rest = self.ends.len() - 1;
+        let start = start_of(&self.ends, rest);
+        self.items.truncate(start);
+        self.ends.truncate(rest);
     }
 
     /// Takes all lists away.

@@ -6,8 +6,8 @@ use Rattle.dq_lits.specs.Literal.{Literal, variable_of}
 use Rattle.hint_log.specs.Conditions.{AreNamed, HasSides, IsId, MayFollow, AreLogged, is_circuit_name}
 use Rattle.hint_log.specs.Entries.{has_id, last_id, steps_of, rounds_of, numbered, clause_of, clause_at, hints_of, name_of}
 use Rattle.hint_log.specs.Reached.{Reaches, itself, by_hint}
-use Rattle.hint_log.specs.declared.entries.Entry.{Entry}
-use Rattle.hint_log.specs.declared.entries.Entry.TheVariants.{Named, Given, Learned, Answer, Round}
+use Rattle.hint_log.specs.Entries.{Entry}
+use Rattle.hint_log.specs.Entries.{Named, Given, Learned, Answer, Round}
 use Rattle.hint_log.specs.declared.names.Name.{Name}
 use Rattle.hint_log.specs.declared.names.Name.TheVariants.{Selector, Pair, Input, And, Bad, Copy}
 use Rattle.hint_log.proofs.Logged.{are_earlier}

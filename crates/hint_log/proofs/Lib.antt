@@ -1,4 +1,4 @@
-mod Finding
+mod Interleaving
 mod Keeping
 mod Lawful
 mod Logged

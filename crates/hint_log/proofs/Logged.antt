@@ -2,8 +2,8 @@
 use Rattle.std.proofs.Common.{◌≡◌, List, [], ◌∷◌, None, arith}
 use Rattle.hint_log.specs.Conditions.{AreIds, AreLogged}
 use Rattle.hint_log.specs.Entries.{hints_of, name_of}
-use Rattle.hint_log.specs.declared.entries.Entry.{Entry}
-use Rattle.hint_log.specs.declared.entries.Entry.TheVariants.{Named, Given, Learned, Answer, Round}
+use Rattle.hint_log.specs.Entries.{Entry}
+use Rattle.hint_log.specs.Entries.{Named, Given, Learned, Answer, Round}
 
 -- each hint is an earlier id
 abbrev pub AreEarlier : List Entry → Type 0

@@ -1,5 +1,5 @@
 -- How an answer's ids are marked.
-use Rattle.std.proofs.Common.{◌≡◌, ℕ, zero, suc, ◌+◌, ◌-◌, ◌<◌, ◌≤◌, ◌==◌, ◌⊎◌, Bool, true, false, true≢false, ◌&&◌, cond, List, [], ◌∷◌, ◌++◌, length, replicate, reverse, get_or, set, slice_index, Result, Ok, Err, Some, Contains, inl, inr, refl, sym, ap, ◌∙◌, subst, arith}
+use Rattle.std.proofs.Common.{◌≡◌, ℕ, zero, suc, ◌+◌, ◌-◌, ◌<◌, ◌≤◌, ◌==◌, ◌⊎◌, Bool, true, false, true≢false, ◌&&◌, cond, List, [], ◌∷◌, ◌++◌, length, replicate, get_or, set, slice_index, Result, Ok, Err, Some, Contains, inl, inr, refl, sym, ap, ◌∙◌, subst, arith}
 use Rattle.std.specs.Option.{option_and_then}
 use Rattle.std.proofs.Math.Seq.{get_or-append_seam}
 use Rattle.std.proofs.lemmas.Bool.{cases_Bool, cases_lt, and_parts, eqb-true, eqb-false, eq-eqb}
@@ -9,11 +9,11 @@ use Rattle.std.specs.Prelude.{IfOk}
 use Rattle.dq_lits.specs.Row.{bit_of}
 use Rattle.dq_lits.specs.declared.memory.Memory.{Memory}
 use Rattle.hint_log.specs.Conditions.{IsId}
-use Rattle.hint_log.specs.Entries.{ProofLog, has_id, last_id, numbered, hints_of, hints_at}
+use Rattle.hint_log.specs.Entries.{has_id, last_id, numbered, hints_of, hints_at}
 use Rattle.hint_log.proofs.Logged.{AreEarlier}
 use Rattle.hint_log.specs.Marks.{AreMarks, AreMore, AreMarked}
 use Rattle.hint_log.specs.Reached.{Reaches, itself, by_hint, AreReached}
-use Rattle.hint_log.specs.declared.entries.Entry.{Entry}
+use Rattle.hint_log.specs.Entries.{Entry}
 
 -- a hint is an earlier id
 pub hint_earlier : (entries : List Entry) (id : ℕ) (e : Entry) → AreEarlier entries → numbered has_id entries id ≡ Some e
@@ -31,11 +31,6 @@ hint_earlier (x ∷ es) id e earlier found hint has =
         let last = h.last in
         (h.from_one, omega (arith, at, last))
     by false here rest is = rest is
-
-pub hints_are_earlier : (log : ProofLog) (limit : ℕ) (xs : List Entry) (id : ℕ) (e : Entry) (hints : List ℕ) → record { limit = limit; entries = reverse xs } ≡ log
-    → AreEarlier (reverse xs) → numbered has_id log.entries id ≡ Some e → hints ≡ hints_of e → (hint : ℕ) → Contains hints hint → (1 ≤ hint) × (hint < id)
-hints_are_earlier log limit xs id e hints is earlier found hints_is hint has =
-    hint_earlier log.entries id e (subst (λ (l : ProofLog). AreEarlier l.entries) is earlier) found hint (subst (λ hs. Contains hs hint) hints_is has)
 
 -- one mark more
 bit_same : (marks : List Bool) (at i : ℕ) → at < length marks → at ≡ i → bit_of (set marks at true) i ≡ true

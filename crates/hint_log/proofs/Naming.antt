@@ -1,12 +1,11 @@
 -- The names, as they are kept.
-use Rattle.std.proofs.Common.{◌≡◌, ℕ, eqb, cond, Bool, true, false, true≢false, List, [], ◌∷◌, ◌++◌, reverse, Option, Some, None, IsSome, refl, sym, ap, ◌∙◌}
+use Rattle.std.proofs.Common.{◌≡◌, ℕ, zero, suc, ◌<◌, length, slice_get, arith, eqb, cond, Bool, true, false, true≢false, List, [], ◌∷◌, ◌++◌, Option, Some, None, IsSome, refl, sym, ap, ◌∙◌}
 use Rattle.std.specs.Map.{lookup}
 use Rattle.std.proofs.lemmas.Bool.{eqb-true}
-use Rattle.hint_log.specs.Entries.{ProofLog, name_of}
-use Rattle.hint_log.specs.LogInside.{names_of}
+use Rattle.hint_log.specs.Entries.{name_of, names_of}
 use Rattle.hint_log.proofs.Logged.{AreNamedOnce}
-use Rattle.hint_log.specs.declared.entries.Entry.{Entry}
-use Rattle.hint_log.specs.declared.entries.Entry.TheVariants.{Named, Given, Learned, Answer, Round}
+use Rattle.hint_log.specs.Entries.{Entry}
+use Rattle.hint_log.specs.Entries.{Named, Given, Learned, Answer, Round}
 use Rattle.hint_log.specs.declared.names.Name.{Name}
 
 -- a name more, behind the others: of another variable, or of one that had none
@@ -23,7 +22,7 @@ lookup_new (n ∷ names) w v name here none = by (eqb v n.0) (lookup_new names w
     by true more is = cc
     by false more is = more is
 
-found_names : (entries : List Entry) (v : ℕ) → AreNamedOnce entries → lookup (eqb v) (names_of entries) ≡ name_of entries v
+pub found_names : (entries : List Entry) (v : ℕ) → AreNamedOnce entries → lookup (eqb v) (names_of entries) ≡ name_of entries v
 found_names [] v once = refl
 found_names (Given _ _ ∷ entries) v once = found_names entries v once
 found_names (Learned _ _ ∷ entries) v once = found_names entries v once
@@ -37,11 +36,15 @@ found_names (Named w name ∷ entries) v once = by (eqb v w) refl (found_names e
         lookup_new (names_of entries) w v name here (before ∙ ap (name_of entries) (eqb-true v w here) ∙ once.0)
     by false other before = lookup_other (names_of entries) w v name other ∙ before
 
-pub kept_names : (log : ProofLog) (limit : ℕ) (xs : List Entry) (names : List (ℕ × Name)) (v : ℕ) → record { limit = limit; entries = reverse xs } ≡ log
-    → names ≡ names_of (reverse xs) → AreNamedOnce (reverse xs) → lookup (eqb v) names ≡ name_of log.entries v
-kept_names log limit xs names v is names_are once =
-    ap (lookup (eqb v)) names_are ∙ found_names (reverse xs) v once ∙ ap (λ (l : ProofLog). name_of l.entries v) is
-
 pub no_name : (name : Option Name) → None ≡ name → IsSome name → ⊥
 no_name None none some = absurd (true≢false (sym some))
 no_name (Some name) none some = cc
+
+-- a place below the length has an element
+pub no_gap : {X : Type 0} (xs ys : List X) (i : ℕ) → xs ≡ ys → i < length ys → None ≡ slice_get xs i → ⊥
+no_gap xs ys i same lt none = some_there ys i lt (none ∙ ap (λ zs. slice_get zs i) same)
+  where
+    some_there : {X : Type 0} (zs : List X) (k : ℕ) → k < length zs → None ≡ slice_get zs k → ⊥
+    some_there [] k below gap = absurd (omega (arith, below))
+    some_there (z ∷ zs) zero below gap = cc
+    some_there (z ∷ zs) (suc k) below gap = some_there zs k (omega (arith, below)) gap

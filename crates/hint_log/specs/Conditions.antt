@@ -2,8 +2,8 @@
 use Rattle.std.specs.Prelude.{◌≡◌, ℕ, ◌≤◌, ◌<◌, ◌^◌, Bool, true, false, List, Option, Some, None, IsSome, Contains}
 use Rattle.std.specs.List.{All}
 use Rattle.dq_lits.specs.Literal.{Literal, variable_of}
-use Rattle.hint_log.specs.declared.entries.Entry.{Entry}
-use Rattle.hint_log.specs.declared.entries.Entry.TheVariants.{Named, Given, Learned, Answer}
+use Rattle.hint_log.specs.Entries.{Entry}
+use Rattle.hint_log.specs.Entries.{Named, Given, Learned, Answer}
 use Rattle.hint_log.specs.declared.names.Name.{Name}
 use Rattle.hint_log.specs.declared.names.Name.TheVariants.{Input, And}
 use Rattle.hint_log.specs.Entries.{name_of, last_id}

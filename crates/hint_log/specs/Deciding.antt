@@ -7,8 +7,8 @@ use Rattle.dq_lits.specs.Formula.{Dqbf, Existential}
 use Rattle.dq_lits.specs.Derivation.{holds}
 use Rattle.hint_log.specs.Entries.{has_id, numbered, name_of}
 use Rattle.hint_log.specs.Reached.{Reaches}
-use Rattle.hint_log.specs.declared.entries.Entry.{Entry}
-use Rattle.hint_log.specs.declared.entries.Entry.TheVariants.{Given, Learned, Answer}
+use Rattle.hint_log.specs.Entries.{Entry}
+use Rattle.hint_log.specs.Entries.{Given, Learned, Answer}
 use Rattle.hint_log.specs.declared.names.Name.TheVariants.{Selector, Input, And}
 use Rattle.hint_log.specs.declared.origins.Leaf.{Leaf}
 use Rattle.hint_log.specs.declared.origins.Leaf.TheVariants.{Constant, Literal as LeafLiteral}

@@ -1,12 +1,23 @@
 -- A proof log, newest entry first: what a search named, was given, learned, answered and tried. Clauses that were derived have hints, as
 -- in LRAT (L. Cruz-Filipe, M. Heule, W. Hunt, M. Kaufmann, P. Schneider-Kamp, "Efficient certified RAT verification", 2017).
-use Rattle.std.specs.Prelude.{ℕ, ◌+◌, ◌==◌, Bool, true, false, ◌&&◌, List, [], ◌∷◌, Option, Some, None, if◌then◌else◌}
+use Rattle.std.specs.Prelude.{ℕ, ◌+◌, ◌==◌, Bool, true, false, ◌&&◌, List, [], ◌∷◌, ◌++◌, Option, Some, None, if◌then◌else◌}
 use Rattle.std.specs.Option.{option_and_then}
 use Rattle.dq_lits.specs.Literal.{Literal}
-use Rattle.hint_log.specs.declared.entries.Entry.{Entry}
-use Rattle.hint_log.specs.declared.entries.Entry.TheVariants.{Named, Given, Learned, Answer, Round}
 use Rattle.hint_log.specs.declared.names.Name.{Name}
 use Rattle.hint_log.specs.declared.origins.Origin.{Origin}
+
+-- clauses have ids, and rounds have numbers of their own
+pub data Entry : Type 0 where
+  -- a solver variable gets its name
+  Named : ℕ → Name → Entry
+  -- a clause that was put to the solver, with its origin
+  Given : Origin → List Literal → Entry
+  -- a clause that was learned, with the hints that derive it
+  Learned : List Literal → List ℕ → Entry
+  -- a clause that shows that some groups can't be true together, with the hints that derive it
+  Answer : List Literal → List ℕ → Entry
+  -- candidates failed: a row, the values of the existentials there, and the number of a clause that is false
+  Round : List Bool → List Bool → ℕ → Entry
 
 pub record ProofLog : Type 0 where
   -- the most counted entries
@@ -89,3 +100,9 @@ abbrev pub name_of : List Entry → ℕ → Option Name
 name_of [] v = None
 name_of (Named w name ∷ earlier) v = if v == w then Some name else name_of earlier v
 name_of (_ ∷ earlier) v = name_of earlier v
+
+-- the variables and their names, in order of time
+abbrev pub names_of : List Entry → List (ℕ × Name)
+names_of [] = []
+names_of (Named v name ∷ earlier) = names_of earlier ++ (v, name) ∷ []
+names_of (_ ∷ earlier) = names_of earlier

@@ -1,6 +1,6 @@
 pub mod Conditions
 pub mod Entries
-pub mod LogInside
+pub mod Kept
 pub mod Marks
 pub mod Reached
 pub mod Growth

@@ -3,7 +3,7 @@ use Rattle.std.specs.Prelude.{◌≡◌, ℕ, ◌+◌, ◌<◌, ◌⊎◌, Bool,
 use Rattle.std.specs.List.{All}
 use Rattle.std.specs.List.Sorted.{IsStrictlyIncreasing}
 use Rattle.dq_lits.specs.Row.{bit_of}
-use Rattle.hint_log.specs.declared.entries.Entry.{Entry}
+use Rattle.hint_log.specs.Entries.{Entry}
 use Rattle.hint_log.specs.Entries.{hints_at}
 use Rattle.hint_log.specs.Reached.{Reaches}
 

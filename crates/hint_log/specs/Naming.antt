@@ -7,8 +7,8 @@ use Rattle.dq_lits.specs.Formula.{Dqbf, Existential, is_universal, existential_o
 use Rattle.dq_lits.specs.Row.{assignment_of}
 use Rattle.dq_lits.specs.Expansion.{row_assignment, agree_on}
 use Rattle.hint_log.specs.Entries.{name_of}
-use Rattle.hint_log.specs.declared.entries.Entry.{Entry}
-use Rattle.hint_log.specs.declared.entries.Entry.TheVariants.{Round}
+use Rattle.hint_log.specs.Entries.{Entry}
+use Rattle.hint_log.specs.Entries.{Round}
 use Rattle.hint_log.specs.declared.names.Name.{Name}
 use Rattle.hint_log.specs.declared.names.Name.TheVariants.{Selector, Pair}
 

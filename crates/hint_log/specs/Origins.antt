@@ -9,8 +9,8 @@ use Rattle.dq_lits.specs.Formula.{Dqbf, is_universal}
 use Rattle.dq_lits.specs.Expansion.{universal_literal_true}
 use Rattle.hint_log.specs.Conditions.{is_circuit_name}
 use Rattle.hint_log.specs.Entries.{name_of, row_at}
-use Rattle.hint_log.specs.declared.entries.Entry.{Entry}
-use Rattle.hint_log.specs.declared.entries.Entry.TheVariants.{Given}
+use Rattle.hint_log.specs.Entries.{Entry}
+use Rattle.hint_log.specs.Entries.{Given}
 use Rattle.hint_log.specs.declared.names.Name.TheVariants.{Selector, Input, And, Bad, Copy as CopyOf}
 use Rattle.hint_log.specs.declared.origins.Leaf.{Leaf}
 use Rattle.hint_log.specs.declared.origins.Leaf.TheVariants.{Constant, Literal as LeafLiteral}

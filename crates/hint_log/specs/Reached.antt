@@ -1,7 +1,7 @@
 -- Which clauses an answer rests on.
 use Rattle.std.specs.Prelude.{◌≡◌, ℕ, List, Some, Contains}
 use Rattle.std.specs.List.Sorted.{IsStrictlyIncreasing}
-use Rattle.hint_log.specs.declared.entries.Entry.{Entry}
+use Rattle.hint_log.specs.Entries.{Entry}
 use Rattle.hint_log.specs.Entries.{hints_at}
 
 -- the id itself, and the hints of each id reached

@@ -5,7 +5,7 @@ ghost use Rattle.dq_lits.specs.Literal.{Literal};
 ghost use Rattle.hint_log.specs.Conditions.{AreNamed, HasSides, IsId, AreLogged};
 ghost use Rattle.hint_log.specs.Entries.{has_id, clause_at, name_of, numbered, rounds_of, steps_of};
 ghost use Rattle.hint_log.specs.Reached.{Reaches};
-ghost use Rattle.hint_log.specs.declared.entries.Entry.{Entry};
+ghost use Rattle.hint_log.specs.Entries.{Entry};
 ghost use Rattle.hint_log.specs.declared.names.Name.{Name};
 
 /// What an id reaches are ids.

@@ -5,18 +5,15 @@
 //! the ids that an answer rests on.
 #![tactic(auto)]
 
-pub use entries::Entry;
 pub use logs::Log;
 pub use names::Name;
 pub use origins::{Leaf, Origin};
 pub use stops::Stop;
 
-mod entries;
+mod kinds;
 pub mod laws;
 mod logs;
 mod names;
 mod origins;
 mod stops;
-#[cfg(test)]
-mod tests;
 mod trimming;

@@ -1,14 +1,17 @@
-ghost use Rattle.std.specs.Prelude.{◌≡◌, ◌+◌, ◌≤◌, ◌<◌, ◌^◌, ◌↔◌, ℕ, true, false, List, [], length, Contains, All, OnOk, OnErr, IfOk, IsErrOf, Some, None, IsSome, ◌∷◌};
+ghost use Rattle.std.specs.Prelude.{◌≡◌, ◌+◌, ◌-◌, ◌≤◌, ◌<◌, ◌^◌, ◌↔◌, ℕ, true, false, List, [], length, Contains, All, OnOk, OnErr, IfOk, IsErrOf, Some, None, IsSome, ◌∷◌, slice_get};
 ghost use Rattle.dq_lits.specs.Literal.{variable_of};
 ghost use Rattle.hint_log.specs.Conditions.{AreNamed, HasSides, IsId, AreIds, MayFollow, AreLogged};
-ghost use Rattle.hint_log.specs.Entries.{with_entry, has_id, is_counted, last_id, steps_of, rounds_of, clause_at, hints_at, origin_at, row_at, name_of, numbered};
-ghost use Rattle.hint_log.specs.declared.entries.Entry.TheVariants.{Named, Given, Learned, Answer, Round};
+ghost use Rattle.hint_log.specs.Entries.{Named, Given, Learned, Answer, Round, with_entry, is_counted, origin_of, last_id, steps_of, rounds_of, clause_at, hints_at, origin_at, row_at, name_of, names_of};
+ghost use Rattle.hint_log.specs.Kept.{entry_by, HasNumbers};
+ghost use Rattle.hint_log.specs.declared.origins.Origin.TheVariants.{Fault};
+ghost use Rattle.hint_log.specs.declared.origins.Leaf.TheVariants.{Literal as LeafLiteral};
 
-use crate::entries::Entry;
+use crate::kinds::{ClauseKind, EntryKind, KeptRound, kept_hints, kept_origin};
 use crate::names::Name;
-use crate::origins::Origin;
+use crate::origins::{Leaf, Origin};
 use crate::stops::Stop;
-use dq_lits::{Clause, Ids, Lit, Memory, Row};
+use dq_lits::{Lit, Memory, Row};
+use flat_lists::FlatLists;
 use indexmap::IndexMap;
 use std::alloc::Global;
 use std::marker::Model;
@@ -19,22 +22,25 @@ pub struct Log {
     alloc: Global,
     limit: u64,
     steps: u64,
-    entries: Vec<Entry>,
-    ids: Vec<usize>,
-    rounds: Vec<usize>,
+    // What each entry is, in order of time.
+    entries: Vec<EntryKind>,
     names: IndexMap<u64, Name>,
+    // The clauses by id.
+    kinds: Vec<ClauseKind>,
+    literals: FlatLists<Lit>,
+    numbers: FlatLists<u64>,
+    rounds: Vec<KeptRound>,
 }
 
 impl Model for Log {
-    ghost use Rattle.std.specs.Prelude.{reverse};
     ghost use Rattle.hint_log.specs.Entries.{ProofLog};
-    ghost use Rattle.hint_log.specs.LogInside.{IsKept};
+    ghost use Rattle.hint_log.specs.Kept.{log_entries, IsKept};
 
     ghost Value = { ProofLog };
 
-    ghost view = { λ l. record { limit = l.limit; entries = reverse l.entries.items } };
+    ghost view = { λ l. record { limit = l.limit; entries = log_entries l.entries.items l.names.entries l.kinds.items l.literals l.numbers l.rounds.items } };
 
-    ghost invariant = { λ l. IsKept l.limit l.steps (reverse l.entries.items) l.ids.items l.rounds.items l.names.entries };
+    ghost invariant = { λ l. IsKept l.limit l.steps l.entries.items l.names.entries l.kinds.items l.literals l.numbers l.rounds.items };
 }
 
 impl Log {
@@ -47,9 +53,11 @@ impl Log {
             limit,
             steps: 0,
             entries: Vec::new(alloc),
-            ids: Vec::new(alloc),
-            rounds: Vec::new(alloc),
             names: IndexMap::new(alloc),
+            kinds: Vec::new(alloc),
+            literals: FlatLists::new(alloc),
+            numbers: FlatLists::new(alloc),
+            rounds: Vec::new(alloc),
         }
     }
 
@@ -60,9 +68,11 @@ impl Log {
         self.limit = limit;
         self.steps = 0;
         self.entries.clear();
-        self.ids.clear();
-        self.rounds.clear();
         self.names.clear();
+        self.kinds.clear();
+        self.literals.clear();
+        self.numbers.clear();
+        self.rounds.clear();
     }
 
     /// Names a variable.
@@ -75,10 +85,9 @@ impl Log {
         ensures ok { OnOk result (self.new ≡ with_entry self.old (Named var name)) }
         ensures err { OnErr result (self.new ≡ self.old) }
     {
-        let entry = named_entry(var, &name);
         self.entries.reserve(1)?;
         self.names.insert(var, name)?;
-        self.entries.push(entry).unwrap();
+        self.entries.push(EntryKind::Naming).unwrap();
         Ok(())
     }
 
@@ -89,8 +98,25 @@ impl Log {
         ensures id { IfOk result (λ id. id ≡ last_id self.new.entries) }
         ensures err { OnErr result (self.new ≡ self.old) }
     {
-        let clause = Clause::from_slice(self.alloc, lits)?;
-        self.append(Entry::Given(origin, clause))
+        match origin {
+            Origin::Instance { round, clause } => {
+                self.append(ClauseKind::OfInstance, lits, &[round, clause])
+            }
+            Origin::Gate { variable, part } => {
+                self.append(ClauseKind::OfGate, lits, &[variable, part])
+            }
+            Origin::Fault {
+                clause,
+                place,
+                output,
+            } => { self.append_fault(lits, clause, place, output) }
+            Origin::Copy { side, clause } => {
+                self.append(ClauseKind::OfCopy, lits, &[side, clause])
+            }
+            Origin::Link { variable, part } => {
+                self.append(ClauseKind::OfLink, lits, &[variable, part])
+            }
+        }
     }
 
     /// Logs an answer with its hints, and answers its id.
@@ -101,9 +127,7 @@ impl Log {
         ensures id { IfOk result (λ id. id ≡ last_id self.new.entries) }
         ensures err { OnErr result (self.new ≡ self.old) }
     {
-        let clause = Clause::from_slice(self.alloc, lits)?;
-        let hints = Ids::from_slice(self.alloc, hints)?;
-        self.append(Entry::Answer(clause, hints))
+        self.append(ClauseKind::OfAnswer, lits, hints)
     }
 
     /// Logs a learned clause with its hints, and answers its id, unless the limit is reached.
@@ -118,9 +142,7 @@ impl Log {
         if self.steps == self.limit {
             return Err(Stop::Limit);
         }
-        let clause = Clause::from_slice(self.alloc, lits)?;
-        let hints = Ids::from_slice(self.alloc, hints)?;
-        let id = self.append(Entry::Learned(clause, hints))?;
+        let id = self.append(ClauseKind::OfLemma, lits, hints)?;
         Ok(id)
     }
 
@@ -169,17 +191,20 @@ impl Log {
         self.rounds.len() as u64
     }
 
+    /// The last id; 0 where no entry has one. Ids run from 1 on without gaps.
+    pub fn last_id(&self) -> u64
+        ensures value { result ≡ last_id self.now.entries }
+        ensures few { result < 2 ^ 63 }
+    {
+        self.kinds.len() as u64
+    }
+
     /// The literals of the clause with an id.
     pub fn clause(&self, id: u64) -> &[Lit]
         requires { IsId self.now.entries id }
         ensures { clause_at self.now.entries id ≡ Some result.now }
     {
-        match self.entry(id) {
-            Entry::Given(_, clause) => clause.lits(),
-            Entry::Learned(clause, _) => clause.lits(),
-            Entry::Answer(clause, _) => clause.lits(),
-            _ => unreachable!(),
-        }
+        self.literals.get(id as usize - 1)
     }
 
     /// The hints of the clause with an id: none, where it was given. Each is an earlier id.
@@ -188,12 +213,8 @@ impl Log {
         ensures value { hints_at self.now.entries id ≡ Some result.now }
         ensures earlier { (hint : ℕ) → Contains result.now hint → (1 ≤ hint) × (hint < id) }
     {
-        let _ = &self.entries;
-        match self.entry(id) {
-            Entry::Learned(_, hints) => hints.items(),
-            Entry::Answer(_, hints) => hints.items(),
-            _ => &[],
-        }
+        let place = id as usize - 1;
+        kept_hints(self.kinds[place], self.numbers.get(place))
     }
 
     /// The origin of the clause with an id, where it was given.
@@ -201,9 +222,25 @@ impl Log {
         requires { IsId self.now.entries id }
         ensures { origin_at self.now.entries id ≡ result }
     {
-        match self.entry(id) {
-            Entry::Given(origin, _) => Some(*origin),
-            _ => None,
+        let place = id as usize - 1;
+        kept_origin(self.kinds[place], self.numbers.get(place))
+    }
+
+    /// How many variables have names.
+    pub fn names(&self) -> usize
+        ensures { result ≡ length (names_of self.now.entries) }
+    {
+        self.names.len()
+    }
+
+    /// The variable that was named at a place, from 0, in order of time, and its name.
+    pub fn name_at(&self, place: usize) -> (u64, Name)
+        requires { place < length (names_of self.now.entries) }
+        ensures { slice_get (names_of self.now.entries) place ≡ Some result }
+    {
+        match self.names.get_index(place) {
+            Some((variable, name)) => (*variable, *name),
+            None => unreachable!(),
         }
     }
 
@@ -224,19 +261,7 @@ impl Log {
         requires last { k ≤ rounds_of self.now.entries }
         ensures { row_at self.now.entries k ≡ Some result.now }
     {
-        let place = self.rounds[k as usize - 1];
-        match &self.entries[place] {
-            Entry::Round(row, _, _) => row,
-            _ => unreachable!(),
-        }
-    }
-
-    // How many ids there are.
-    pub(crate) fn ids(&self) -> u64
-        ensures value { result ≡ last_id self.now.entries }
-        ensures few { result < 2 ^ 63 }
-    {
-        self.ids.len() as u64
+        &self.rounds[k as usize - 1].row
     }
 
     // What the log's memory is taken from.
@@ -244,30 +269,76 @@ impl Log {
         self.alloc
     }
 
-    // The entry with an id.
-    fn entry(&self, id: u64) -> &Entry
-        requires { IsId self.now.entries id }
-        ensures value { numbered has_id self.now.entries id ≡ Some result.now }
-        ensures has_id { has_id result.now ≡ true }
+    fn append_fault(
+        &mut self,
+        lits: &[Lit],
+        clause: u64,
+        place: u64,
+        output: Leaf,
+    ) -> Result<u64, Memory>
+        requires { AreNamed self.old.entries lits.now }
+        ensures ok { OnOk result (self.new ≡ with_entry self.old (Given (Fault clause place output) lits.now)) }
+        ensures id { IfOk result (λ id. id ≡ last_id self.new.entries) }
+        ensures err { OnErr result (self.new ≡ self.old) }
     {
-        let place = self.ids[id as usize - 1];
-        &self.entries[place]
+        match output {
+            Leaf::Constant(false) => self.append(ClauseKind::OfFalseFault, lits, &[clause, place]),
+            Leaf::Constant(true) => self.append(ClauseKind::OfTrueFault, lits, &[clause, place]),
+            Leaf::Literal(l) => self.append_output(lits, clause, place, &l),
+        }
     }
 
-    // Adds an entry that has a clause, and answers its id.
-    fn append(&mut self, entry: Entry) -> Result<u64, Memory>
-        requires has_id { has_id entry ≡ true }
-        requires counted { is_counted entry ≡ true → steps_of self.old.entries < self.old.limit }
-        requires asked { MayFollow self.old.entries entry }
-        ensures ok { OnOk result (self.new ≡ with_entry self.old entry) }
+    fn append_output(
+        &mut self,
+        lits: &[Lit],
+        clause: u64,
+        place: u64,
+        output: &Lit,
+    ) -> Result<u64, Memory>
+        requires { AreNamed self.old.entries lits.now }
+        ensures ok { OnOk result (self.new ≡ with_entry self.old (Given (Fault clause place (LeafLiteral output.now)) lits.now)) }
+        ensures id { IfOk result (λ id. id ≡ last_id self.new.entries) }
+        ensures err { OnErr result (self.new ≡ self.old) }
+    {
+        let variable = output.var();
+        if output.is_neg() {
+            self.append(
+                ClauseKind::OfNegativeFault,
+                lits,
+                &[clause, place, variable],
+            )
+        } else {
+            self.append(
+                ClauseKind::OfPositiveFault,
+                lits,
+                &[clause, place, variable],
+            )
+        }
+    }
+
+    // Adds a clause, and answers its id.
+    fn append(&mut self, kind: ClauseKind, lits: &[Lit], numbers: &[u64]) -> Result<u64, Memory>
+        requires counted { is_counted (entry_by kind lits.now numbers.now) ≡ true → steps_of self.old.entries < self.old.limit }
+        requires asked { MayFollow self.old.entries (entry_by kind lits.now numbers.now) }
+        requires numbers { HasNumbers kind numbers.now }
+        ensures ok { OnOk result (self.new ≡ with_entry self.old (entry_by kind lits.now numbers.now)) }
         ensures id { IfOk result (λ id. id ≡ last_id self.new.entries) }
         ensures err { OnErr result (self.new ≡ self.old) }
     {
         self.entries.reserve(1)?;
-        self.ids.push(self.entries.len())?;
-        self.steps += entry.steps();
-        self.entries.push(entry).unwrap();
-        Ok(self.ids.len() as u64)
+        self.kinds.reserve(1)?;
+        self.numbers.push(numbers)?;
+        match self.literals.push(lits) {
+            Ok(()) => {}
+            Err(_) => {
+                self.numbers.pop();
+                return Err(Memory);
+            }
+        }
+        self.steps += kind.steps();
+        self.entries.push(EntryKind::Clause).unwrap();
+        self.kinds.push(kind).unwrap();
+        Ok(self.kinds.len() as u64)
     }
 
     fn append_round(&mut self, row: Row, values: Row, j: u64) -> Result<(), Memory>
@@ -276,15 +347,13 @@ impl Log {
         ensures err { OnErr result (self.new ≡ self.old) }
     {
         self.entries.reserve(1)?;
-        self.rounds.push(self.entries.len())?;
+        self.rounds.push(KeptRound {
+            row,
+            values,
+            clause: j,
+        })?;
         self.steps += 1;
-        self.entries.push(Entry::Round(row, values, j)).unwrap();
+        self.entries.push(EntryKind::Failure).unwrap();
         Ok(())
     }
-}
-
-fn named_entry(var: u64, name: &Name) -> Entry
-    ensures { result ≡ Named var name.now }
-{
-    Entry::Named(var, *name)
 }

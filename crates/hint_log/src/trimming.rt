@@ -27,7 +27,7 @@ impl Log {
         requires { IsId self.now.entries id }
         ensures { IfOk result (AreMarks self.now.entries id 0) }
     {
-        let _ = self.ids();
+        let _ = self.last_id();
         let mut marks = Row::new(self.alloc(), id as usize + 1)?;
         marks.set(id as usize, true);
         let mut at = id;

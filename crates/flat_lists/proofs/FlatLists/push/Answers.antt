@@ -1,5 +1,4 @@
-use Rattle.std.proofs.Common.{◌≡◌, ◌≤◌, [], ◌∷◌, ◌++◌, length, sym, refl, arith, length-append, subst}
-use Rattle.flat_lists.specs.Layout.{lists_at, AreEnds}
+use Rattle.std.proofs.Common.{◌≤◌, ◌++◌, length, refl, arith, length-append}
 use Rattle.flat_lists.proofs.Lists.{lists_at-push, AreEnds-push}
 use Rattle.flat_lists.proofs.FlatLists.push.Goals as goal
 

@@ -1,15 +1,26 @@
-use Rattle.std.proofs.Common.{sym, ap, ◌∙◌}
-use Rattle.hint_log.specs.Entries.{hints_of}
-use Rattle.hint_log.proofs.Logged.{are_earlier}
-use Rattle.hint_log.proofs.Marking.{hints_are_earlier}
+use Rattle.std.proofs.Common.{arith}
+use Rattle.hint_log.proofs.Keeping.{at_id, hints_found, hints_earlier}
 use Rattle.hint_log.proofs.logs.Log.hints.Goals as goal
 
-pub returns-in-Learned-clause-earlier : goal.returns-in-Learned-clause-earlier
-returns-in-Learned-clause-earlier c =
-    hints_are_earlier c.args.self.now c.self.inside.limit c.self.inside.entries.items c.args.id c.entry.result.now c.items.result.now c.self.view_is
-    (are_earlier _ c.self.invariant.logged) c.entry.ensures.value (c.items.ensures ∙ ap hints_of (sym c.in-Learned.is))
+pub index-requires : goal.index-requires
+index-requires c =
+    let l = c.self.inside in
+    let inside = (at_id c.args.self.now l.limit l.steps l.entries.items l.names.entries l.kinds.items l.literals l.numbers l.rounds.items c.args.id c.self.view_is c.self.invariant c.requires).kind_inside in
+    omega (arith, inside, l.kinds.ok.0)
 
-pub returns-in-Answer-clause-earlier : goal.returns-in-Answer-clause-earlier
-returns-in-Answer-clause-earlier c =
-    hints_are_earlier c.args.self.now c.self.inside.limit c.self.inside.entries.items c.args.id c.entry.result.now c.items-in-Answer.result.now c.self.view_is
-    (are_earlier _ c.self.invariant.logged) c.entry.ensures.value (c.items-in-Answer.ensures ∙ ap hints_of (sym c.in-Answer.is))
+pub get-requires : goal.get-requires
+get-requires c =
+    let l = c.self.inside in
+    (at_id c.args.self.now l.limit l.steps l.entries.items l.names.entries l.kinds.items l.literals l.numbers l.rounds.items c.args.id c.self.view_is c.self.invariant c.requires).numbers_inside
+
+pub returns-clause-value : goal.returns-clause-value
+returns-clause-value c =
+    let l = c.self.inside in
+    hints_found c.args.self.now l.limit l.steps l.entries.items l.names.entries l.kinds.items l.literals l.numbers l.rounds.items c.args.id c.index.result.now c.get.result.now c.kept_hints.result.now c.self.view_is c.self.invariant c.requires
+    c.index.ensures c.get.ensures c.kept_hints.ensures
+
+pub returns-clause-earlier : goal.returns-clause-earlier
+returns-clause-earlier c =
+    let l = c.self.inside in
+    hints_earlier c.args.self.now l.limit l.steps l.entries.items l.names.entries l.kinds.items l.literals l.numbers l.rounds.items c.args.id c.index.result.now c.get.result.now c.kept_hints.result.now c.self.view_is c.self.invariant c.requires
+    c.index.ensures c.get.ensures c.kept_hints.ensures

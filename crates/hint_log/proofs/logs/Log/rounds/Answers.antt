@@ -1,10 +1,9 @@
-use Rattle.std.proofs.Common.{length, reverse, ap, ◌∙◌, arith}
-use Rattle.hint_log.specs.Entries.{ProofLog, is_round, rounds_of}
-use Rattle.hint_log.proofs.Finding.{places_count}
+use Rattle.std.proofs.Common.{arith}
+use Rattle.hint_log.proofs.Keeping.{rounds_counted}
 use Rattle.hint_log.proofs.logs.Log.rounds.Goals as goal
 
 pub returns : goal.returns
 returns c =
-    let many = ap length c.self.invariant.rounds_are ∙ places_count is_round (reverse c.self.inside.entries.items)
-    ∙ ap (λ (l : ProofLog). rounds_of l.entries) c.self.view_is in
-    omega (arith, many, c.len.ensures, c.self.inside.rounds.ok.0)
+    let l = c.self.inside in
+    let many = rounds_counted c.args.self.now l.limit l.steps l.entries.items l.names.entries l.kinds.items l.literals l.numbers l.rounds.items c.self.view_is c.self.invariant in
+    omega (arith, many, c.len.ensures, l.rounds.ok.0)
