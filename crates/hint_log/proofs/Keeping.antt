@@ -18,7 +18,7 @@ use Rattle.hint_log.specs.declared.names.Name.{Name}
 use Rattle.hint_log.specs.Entries.{Entry, ProofLog, Named, Given, Learned, Answer, Round, with_entry, has_id, is_round, is_counted, last_id, rounds_of, steps_of, numbered, clause_of, hints_of, origin_of, clause_at, hints_at, origin_at, name_of, names_of}
 use Rattle.hint_log.specs.Kept.{KeptClause, HasNumbers, HasOwnNumbers, entry_by, clause_entry, round_entry, kept_clauses, log_entries, IsKept}
 use Rattle.hint_log.proofs.Logged.{are_earlier, are_named_once}
-use Rattle.hint_log.proofs.Marking.{hint_earlier}
+use Rattle.hint_log.proofs.Reaching.{hint_earlier}
 use Rattle.hint_log.proofs.Naming.{found_names}
 use Rattle.hint_log.proofs.Interleaving.{counted_by, clause_by, hints_by, origin_by, ids_are, rounds_are, names_are, clause_at_place, round_at_place}
 

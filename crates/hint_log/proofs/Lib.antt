@@ -2,5 +2,5 @@ mod Interleaving
 mod Keeping
 mod Lawful
 mod Logged
-mod Marking
 mod Naming
+mod Reaching

@@ -1,10 +1,10 @@
 pub mod Conditions
 pub mod Entries
 pub mod Kept
-pub mod Marks
 pub mod Reached
 pub mod Growth
 pub mod Naming
 pub mod Origins
 pub mod ProductiveLog
 pub mod Deciding
+pub mod Pending

@@ -15,5 +15,6 @@ pub mod laws;
 mod logs;
 mod names;
 mod origins;
+mod pending;
 mod stops;
 mod trimming;

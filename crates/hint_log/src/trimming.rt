@@ -1,16 +1,15 @@
 //! What an answer rests on.
 //!
-//! Ids are walked downwards from the answer: since a hint is a smaller id, all that reach an id are settled before it.
+//! The greatest id that is still to be looked at is taken out, and its hints are added. Since a hint is a smaller id, each id is
+//! taken out once, and no id is looked at that isn't reached.
 
-ghost use Rattle.std.specs.Prelude.{◌≡◌, ◌+◌, ◌<◌, ℕ, true, length, Contains, IfOk};
-ghost use Rattle.dq_lits.specs.Row.{bit_of};
+ghost use Rattle.std.specs.Prelude.{reverse, IfOk};
 ghost use Rattle.hint_log.specs.Conditions.{IsId};
-ghost use Rattle.hint_log.specs.Marks.{AreMarks, AreMore, AreMarked};
 ghost use Rattle.hint_log.specs.Reached.{AreReached};
 
 use crate::logs::Log;
-use dq_lits::{Ids, Memory, Row};
-use std::alloc::Global;
+use crate::pending::none_pending;
+use dq_lits::{Ids, Memory};
 
 impl Log {
     /// The ids that the clause with an id rests on: its own, and all that are reached from it by hints, ascending.
@@ -18,48 +17,24 @@ impl Log {
         requires { IsId self.now.entries id }
         ensures { IfOk result (AreReached self.now.entries id) }
     {
-        let marks = self.marks(id)?;
-        marked(self.alloc(), &marks)
+        let mut ids = self.reached(id)?;
+        ids.reverse();
+        Ok(Ids::from_vec(ids))
     }
 
-    // The ids that are reached, as marks.
-    fn marks(&self, id: u64) -> Result<Row, Memory>
+    // The ids that are reached, descending.
+    fn reached(&self, id: u64) -> Result<Vec<u64>, Memory>
         requires { IsId self.now.entries id }
-        ensures { IfOk result (AreMarks self.now.entries id 0) }
+        ensures { IfOk result (λ ids. AreReached self.now.entries id (reverse ids.items)) }
     {
-        let _ = self.last_id();
-        let mut marks = Row::new(self.alloc(), id as usize + 1)?;
-        marks.set(id as usize, true);
-        let mut at = id;
-        while at > 0 {
-            if marks.get(at as usize) {
-                mark_all(&mut marks, self.hints(at));
-            }
-            at -= 1;
+        self.every_log_is_lawful();
+        let mut reached = Vec::new(self.alloc());
+        let mut pending = none_pending(self.alloc());
+        pending.insert(id)?;
+        while let Some(at) = pending.pop() {
+            pending.insert_all(self.hints(at))?;
+            reached.push(at)?;
         }
-        Ok(marks)
+        Ok(reached)
     }
-}
-
-// Marks some ids more.
-fn mark_all(marks: &mut Row, ids: &[u64])
-    requires { (id : ℕ) → Contains ids.now id → id < length marks.old }
-    ensures { AreMore ids.now marks.old marks.new }
-{
-    for id in ids {
-        marks.set(*id as usize, true);
-    }
-}
-
-// The places that are marked, ascending.
-fn marked(alloc: Global, marks: &Row) -> Result<Ids, Memory>
-    ensures { IfOk result (AreMarked marks.now (length marks.now)) }
-{
-    let mut ids = Ids::new(alloc);
-    for place in 0..marks.len() {
-        if marks.get(place) {
-            ids.push(place as u64)?;
-        }
-    }
-    Ok(ids)
 }
