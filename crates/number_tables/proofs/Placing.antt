@@ -1,12 +1,13 @@
 -- The place of a number among others.
 use Rattle.std.proofs.Common.{◌≡◌, ℕ, ◌+◌, ◌<◌, ◌≤◌, ◌==◌, ltb, cond, Bool, true, false, List, [], ◌∷◌, ◌++◌, length, None, Some, inl, inr, sym, ap, ◌∙◌, refl, arith, eq-eqb, is_some, if◌then◌else◌, not}
+use Rattle.std.specs.Prelude.{Contains}
 use Rattle.std.specs.List.{list_any, position, position_or_len}
 use Rattle.std.proofs.lemmas.Bool.{cases_Bool, eqb-true, true≢false, ltb-true, ltb-false, ne_eqb}
 use Rattle.std.proofs.lemmas.Grind.{common_steps}
 use Rattle.std.proofs.lemmas.List.Folds.{position_or_len_push}
 use Rattle.std.proofs.lemmas.List.{length-append}
-use Rattle.std.proofs.lemmas.List.Sums.{prefix_len-le-length}
-use Rattle.number_tables.specs.Numbers.{has_number, place_of}
+use Rattle.std.proofs.lemmas.List.Sums.{prefix_len-le-length, passes_at_first}
+use Rattle.number_tables.specs.Numbers.{has_number, place_of, with_number}
 
 found : (p : ℕ → Bool) (xs : List ℕ) → ltb (position_or_len p xs) (length xs) ≡ list_any p xs
 found p [] = refl
@@ -56,3 +57,13 @@ placed_last xs n m absent =
           | inl same ↦ absurd (true≢false (sym among ∙ ap (has_number xs) (sym (eqb-true n m same)) ∙ absent))
           | inr other ↦ sym (ap (λ b. if b then Some (length xs) else place_of xs m) other)
         ]
+
+pub with_new : (xs : List ℕ) (n : ℕ) → (Contains xs n → ⊥) → with_number xs n ≡ xs ++ n ∷ []
+with_new xs n new =
+    elim (cases_Bool (has_number xs n)) [
+      | inl among ↦
+          let place = position_or_len (λ x. x == n) xs in
+          let below : place < length xs = ltb-true place (length xs) (found (λ x. x == n) xs ∙ among) in
+          absurd (new (place, below, eqb-true _ n (passes_at_first (λ x. x == n) xs n below)))
+      | inr apart ↦ ap (λ b. if b then xs else xs ++ n ∷ []) apart
+    ]

@@ -1,4 +1,4 @@
-ghost use Rattle.std.specs.Prelude.{◌≡◌, ◌<◌, ◌==◌, ◌||◌, ℕ, [], length, not, IfOk, OnOk, OnErr, IfSome};
+ghost use Rattle.std.specs.Prelude.{◌≡◌, ◌<◌, ◌^◌, ◌==◌, ◌||◌, ◌++◌, ◌∷◌, ℕ, [], Contains, length, is_some, not, IfOk, OnOk, OnErr, IfSome};
 ghost use Rattle.number_tables.specs.Numbers.{has_number, place_of, with_number};
 
 use crate::places::Places;
@@ -35,6 +35,14 @@ impl NumberSet {
         }
     }
 
+    /// How many numbers there are.
+    pub fn len(&self) -> usize
+        ensures value { result ≡ length self.now }
+        ensures small { result < 2 ^ 63 }
+    {
+        self.numbers.len()
+    }
+
     /// The numbers in order.
     pub fn items(&self) -> &[u64]
         ensures { result.now ≡ self.now }
@@ -45,6 +53,7 @@ impl NumberSet {
     /// The place of a number, counted from 0, if it is there.
     pub fn place(&self, number: u64) -> Option<usize>
         ensures place { result ≡ place_of self.now number }
+        ensures found { is_some result ≡ has_number self.now number }
         ensures within { IfSome result (λ place. place < length self.now) }
     {
         self.places.get(number)
@@ -72,5 +81,15 @@ impl NumberSet {
         self.places.put(number, self.numbers.len())?;
         self.numbers.push(number).unwrap();
         Ok(true)
+    }
+
+    /// Adds a number that isn't there, behind the others. The only error is want of memory, and then nothing changed.
+    pub fn push(&mut self, number: u64) -> Result<(), Memory>
+        requires { ¬ Contains self.old number }
+        ensures ok { OnOk result (self.new ≡ self.old ++ number ∷ []) }
+        ensures err { OnErr result (self.new ≡ self.old) }
+    {
+        self.insert(number)?;
+        Ok(())
     }
 }
