@@ -1,6 +1,6 @@
 use Rattle.std.proofs.Common.{◌≡◌}
 use Rattle.rup_core.proofs.Growing.{IsFaultLeft}
-use Rattle.rup_core.proofs.steps.first_fault.Given as goal
+use Rattle.rup_core.proofs.steps.first_fault_any.Given as goal
 
 abbrev pub invariant-loop-k : goal.invariant-loop-k
 invariant-loop-k g l = record {
