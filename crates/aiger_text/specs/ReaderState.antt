@@ -1,6 +1,6 @@
 -- The reader's fields as the definitions see them.
-use Rattle.std.specs.Prelude.{◌≡◌, ℕ, ◌==◌, ◌/◌, ◌%◌, ◌^◌, ◌<◌, ◌≤◌, length, Result, Ok, Err}
-use Rattle.std.specs.List.{list_any}
+use Rattle.std.specs.Prelude.{◌≡◌, ℕ, ◌/◌, ◌%◌, ◌^◌, ◌<◌, ◌≤◌, length, Result, Ok, Err}
+use Rattle.number_tables.specs.Numbers.{has_number}
 use Rattle.circuit_plain.specs.Netlist.{Netlist, IsVariable, IsLiteral, IsDefined}
 use Rattle.circuit_plain.specs.declared.circuits.Gate.{Gate}
 use Rattle.aiger_text.specs.Lines.{is_defined}
@@ -25,7 +25,7 @@ pub record IsSmall (h : Header) : Type 0 where
 
 -- the set has the variables of the inputs and gates, and the circuit the header's range
 pub record IsReady (r : Reader) : Type 0 where
-  pub defined : (v : ℕ) → list_any (λ x. x == v) r.defined.keys ≡ is_defined r.circuit v
+  pub defined : (v : ℕ) → has_number r.defined v ≡ is_defined r.circuit v
   pub max_var : r.circuit.max_var ≡ r.header.max_var
   pub small : IsSmall r.header
   pub inputs_counted : length r.circuit.inputs ≤ r.header.inputs

@@ -1,7 +1,6 @@
 //! The lines of inputs, outputs and gates.
 
-ghost use Rattle.std.specs.Prelude.{◌≡◌, ◌==◌, ◌<◌, ◌/◌, ◌^◌, ℕ, ◌&&◌, ◌||◌, length, MatchResult, OnOk, Ok, Err};
-ghost use Rattle.std.specs.List.{list_any};
+ghost use Rattle.std.specs.Prelude.{◌≡◌, ◌==◌, ◌<◌, ◌/◌, ◌^◌, ◌&&◌, length, MatchResult, OnOk, Ok, Err};
 ghost use Rattle.circuit_plain.specs.Netlist.{IsLiteral};
 ghost use Rattle.dq_text.specs.Line.{line_tokens};
 ghost use Rattle.aiger_text.specs.Lines.{numbers_of, is_positive, is_literal, with_input, with_output, with_gate, input_of, output_of, gate_of, input_line, output_line, gate_line};
@@ -13,8 +12,7 @@ use crate::headers::Header;
 use crate::numbers::{TOO_BIG, one_number, three_numbers};
 use crate::symbols::Symbols;
 use circuit_plain::{Circuit, Gate};
-use dq_lits::Memory;
-use indexmap::IndexSet;
+use number_tables::NumberSet;
 use std::alloc::Global;
 
 /// What was read behind the header, and the header's line.
@@ -24,7 +22,7 @@ pub struct Reader {
     pub header: Header,
     pub circuit: Circuit,
     /// The variables of the inputs and gates so far.
-    pub defined: IndexSet<u64>,
+    pub defined: NumberSet,
     pub symbols: Symbols,
     /// A buffer for a line's numbers.
     pub numbers: Vec<u64>,
@@ -51,7 +49,7 @@ pub fn start_reader(alloc: Global, header_line: u64, header: Header, numbers: Ve
         header_line,
         header,
         circuit: Circuit::new(alloc, header.max_var),
-        defined: IndexSet::new(alloc),
+        defined: NumberSet::new(alloc),
         symbols: Symbols::new(alloc),
         numbers,
     }
@@ -73,13 +71,6 @@ fn is_literal_in_range(max_var: u64, literal: u64) -> bool
     literal <= 2 * max_var + 1
 }
 
-/// Whether a set of variables has this one.
-pub fn has_variable(defined: &IndexSet<u64>, variable: u64) -> bool
-    ensures { result ≡ list_any (λ x. x == variable) defined.now.keys }
-{
-    defined.contains(&variable)
-}
-
 // The variable of an input.
 fn input_variable(reader: &Reader, literal: u64) -> Result<u64, AagFault>
     requires { IsReady reader.now }
@@ -93,7 +84,7 @@ fn input_variable(reader: &Reader, literal: u64) -> Result<u64, AagFault>
     if !is_positive_literal(reader.circuit.max_var(), literal) {
         return Err(AagFault::Range);
     }
-    if has_variable(&reader.defined, literal / 2) {
+    if reader.defined.contains(literal / 2) {
         return Err(AagFault::DefinedTwice);
     }
     Ok(literal / 2)
@@ -110,16 +101,7 @@ pub fn take_input(reader: &mut Reader, line: &[u8]) -> Result<(), LineStop>
     let literal = one_number(line, &mut reader.numbers)?;
     let variable = input_variable(reader, literal)?;
     reader.circuit.add_input(variable)?;
-    define(&mut reader.defined, variable)?;
-    Ok(())
-}
-
-// Adds a variable to a set of variables.
-fn define(defined: &mut IndexSet<u64>, variable: u64) -> Result<(), Memory>
-    ensures { OnOk result ((v : ℕ) → list_any (λ x. x == v) defined.new.keys
-        ≡ (list_any (λ x. x == v) defined.old.keys || (variable == v))) }
-{
-    defined.insert(variable)?;
+    reader.defined.insert(variable)?;
     Ok(())
 }
 
@@ -174,7 +156,7 @@ fn gate_variable(reader: &Reader, numbers: Gate) -> Result<u64, AagFault>
     if !is_gate_in_range(max_var, numbers) {
         return Err(AagFault::Range);
     }
-    if has_variable(&reader.defined, lhs / 2) {
+    if reader.defined.contains(lhs / 2) {
         return Err(AagFault::DefinedTwice);
     }
     Ok(lhs / 2)
@@ -203,7 +185,7 @@ pub fn take_gate(reader: &mut Reader, line: &[u8]) -> Result<(), LineStop>
     reader
         .circuit
         .add_gate(numbers.variable, numbers.left, numbers.right)?;
-    define(&mut reader.defined, variable)?;
+    reader.defined.insert(variable)?;
     Ok(())
 }
 

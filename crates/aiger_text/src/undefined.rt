@@ -6,7 +6,7 @@ ghost use Rattle.circuit_plain.specs.Netlist.{gate_at};
 ghost use Rattle.aiger_text.specs.Scan.{stands_on_defined, reads_defined, undefined_line};
 ghost use Rattle.aiger_text.specs.ReaderState.{body_of, IsReady};
 
-use crate::body::{Reader, has_variable};
+use crate::body::Reader;
 
 /// The line of the first output, or else of the first gate, that names a variable that is neither input nor gate.
 pub fn first_undefined_line(reader: &Reader) -> Option<u64>
@@ -26,7 +26,7 @@ fn is_named(reader: &Reader, literal: u64) -> bool
     requires { IsReady reader.now }
     ensures { result ≡ stands_on_defined reader.now.circuit literal }
 {
-    literal / 2 == 0 || has_variable(&reader.defined, literal / 2)
+    literal / 2 == 0 || reader.defined.contains(literal / 2)
 }
 
 fn undefined_output(reader: &Reader) -> Option<usize>

@@ -1,8 +1,9 @@
 -- The steps of a sort of the gates.
-use Rattle.std.proofs.Common.{◌≡◌, ◌≢◌, ℕ, ◌+◌, ◌<◌, ◌≤◌, ◌⊎◌, ◌↔◌, ◌==◌, inl, inr, Bool, true, false, ◌&&◌, eqb, List, [], ◌∷◌, ◌++◌, map, length, get_or, take, refl, sym, ap, ◌∙◌, subst, arith, below_more}
+use Rattle.std.proofs.Common.{◌≡◌, ◌≢◌, ℕ, ◌+◌, ◌<◌, ◌≤◌, ◌⊎◌, ◌↔◌, ◌==◌, inl, inr, Bool, true, false, ◌&&◌, ◌||◌, eqb, List, [], ◌∷◌, ◌++◌, map, length, get_or, take, refl, sym, ap, ◌∙◌, subst, arith, below_more}
 use Rattle.std.specs.Prelude.{All, Contains, slice_index}
 use Rattle.std.specs.List.{list_any}
-use Rattle.std.proofs.lemmas.Bool.{cases_eq, cases_lt, cond-true, cond-false, and_from, and_parts, or_cases, false≢true, both_ways, eqb-true, eq-eqb}
+use Rattle.std.proofs.lemmas.Bool.{cases_eq, cases_lt, and_from, and_parts, or_cases, false≢true, both_ways, eqb-true, eq-eqb}
+use Rattle.std.proofs.Math.Bool.{or-true, or-false}
 use Rattle.std.proofs.lemmas.Bool.Decides.{Decides-eqb, nat_tests}
 use Rattle.std.proofs.lemmas.List.{get_or_default, get_or-map, length-map, length_push, take_at, take-append-le, get_or_append_left, get_or_push, map_push}
 use Rattle.std.proofs.lemmas.List.Elements.{All-push, All-head, All-tail, Contains-append_left, Contains-push}
@@ -14,12 +15,14 @@ use Rattle.circuit_plain.specs.Ground.{IsFirstUngrounded}
 use Rattle.circuit_plain.specs.Netlist.{Netlist, IsNetlist, variable_of_gate, gate_at, literal_variable}
 use Rattle.circuit_plain.specs.Order.{IsSettled, IsReady, IsOrder}
 use Rattle.circuit_plain.specs.Steps.{IsPartialOrder, IsDraft, IsPassed, IsClosed}
-use Rattle.circuit_plain.specs.Settled.{Adds}
 use Rattle.circuit_plain.proofs.EvaluationLaws.{settled_cases, Contains-map, gate_read}
 use Rattle.circuit_plain.proofs.NetlistLaws.{same_place, gate_fits, input_apart, gate_at_member}
 use Rattle.circuit_plain.proofs.OrderLaws.{settled_ground, grounded_settled}
 
 -- what a set holds after an insert
+abbrev pub Adds : (ℕ → Bool) → (ℕ → Bool) → ℕ → Type 0
+Adds old new key = (v : ℕ) → new v ≡ (old v || (key == v))
+
 apart : (k q : ℕ) → k ≢ q → (k == q) ≡ false
 apart k q other = grind (arith, nat_tests)
 
@@ -29,11 +32,11 @@ inserted old new key P updates holds v =
     let now_is = updates v in
     elim (cases_eq key v) [
       | inl same ↦
-          let on : new v ≡ true = now_is ∙ cond-true (key == v) true (old v) (eq-eqb key v same) in
+          let on : new v ≡ true = now_is ∙ ap (λ b. old v || b) (eq-eqb key v same) ∙ or-true (old v) in
           (λ _. inr same, λ _. on)
       | inr other ↦
           let kept : new v ≡ old v =
-          now_is ∙ cond-false (key == v) true (old v) (apart key v other) in (
+          now_is ∙ ap (λ b. old v || b) (apart key v other) ∙ or-false (old v) in (
             λ on. inl ((holds v).0 (sym kept ∙ on)),
             λ h. elim h [ inl before ↦ kept ∙ (holds v).1 before | inr here ↦ absurd (other here) ],
           )

@@ -4,4 +4,3 @@ pub mod Order
 pub mod Reach
 pub mod Steps
 pub mod Value
-pub mod Settled

@@ -15,7 +15,6 @@ mod circuits;
 mod cones;
 pub mod laws;
 mod orders;
-mod settled;
 mod sorting;
 mod values;
 mod walks;

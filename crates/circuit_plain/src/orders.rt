@@ -1,7 +1,7 @@
 ghost use Rattle.std.specs.Prelude.{◌≡◌, ℕ, Option, None, Some, Result, Err, IfOk};
 ghost use Rattle.circuit_plain.specs.Ground.{IsFirstUngrounded};
 ghost use Rattle.circuit_plain.specs.Order.{IsOrder};
-ghost use Rattle.circuit_plain.specs.Settled.{is_settled};
+ghost use Rattle.number_tables.specs.Numbers.{has_number};
 ghost use Rattle.circuit_plain.specs.Steps.{IsDraft, IsClosed};
 ghost use Rattle.circuit_plain.specs.declared.orders.OrderStop.TheVariants.{Memory as OutOfMemory};
 
@@ -80,7 +80,7 @@ impl Circuit {
 
     // The first gate that isn't put.
     fn first_unsettled(&self, draft: &Draft) -> Option<usize>
-        requires draft { IsDraft self.now draft.now.places.items (is_settled draft.now.settled) }
+        requires draft { IsDraft self.now draft.now.places.items (has_number draft.now.settled) }
         requires closed { IsClosed self.now draft.now.places.items }
         ensures none { result ≡ None → IsOrder self.now draft.now.places.items }
         ensures some { (place : ℕ) → result ≡ Some place → IsFirstUngrounded self.now place }

@@ -1,13 +1,12 @@
 ghost use Rattle.std.specs.Prelude.{◌≡◌, ◌+◌, ◌<◌, ◌&&◌, All, length, IfOk, OnOk};
 ghost use Rattle.std.specs.Bool.{OnTrue, OnFalse};
 ghost use Rattle.circuit_plain.specs.Netlist.{literal_variable};
-ghost use Rattle.circuit_plain.specs.Settled.{is_settled};
+ghost use Rattle.number_tables.specs.Numbers.{has_number};
 ghost use Rattle.circuit_plain.specs.Steps.{IsDraft, IsPassed, IsClosed};
 
 use crate::circuits::{Circuit, Gate};
-use crate::settled::Settled;
-use crate::walks::table_len;
 use dq_lits::Memory;
+use number_tables::NumberSet;
 
 // An order in the making.
 #[derive(Drop)]
@@ -15,15 +14,15 @@ pub(crate) struct Draft {
     // The places of the gates put so far, each behind those that it reads.
     pub(crate) places: Vec<usize>,
     // The constant 0, the inputs, and the variables of these gates.
-    pub(crate) settled: Settled,
+    pub(crate) settled: NumberSet,
 }
 
 impl Circuit {
     // No gate is put: the constant and the inputs are settled.
     pub(crate) fn empty_draft(&self) -> Result<Draft, Memory>
-        ensures { IfOk result (λ draft. IsDraft self.now draft.places.items (is_settled draft.settled)) }
+        ensures { IfOk result (λ draft. IsDraft self.now draft.places.items (has_number draft.settled)) }
     {
-        let mut settled = Settled::new(*self.gates.allocator(), table_len(&self.gates))?;
+        let mut settled = NumberSet::new(*self.gates.allocator());
         settled.insert(0)?;
         for variable in &self.inputs {
             settled.insert(*variable)?;
@@ -38,8 +37,8 @@ impl Circuit {
     // Where memory is refused the draft is of no more use.
     fn put(&self, place: usize, draft: &mut Draft) -> Result<bool, Memory>
         requires in_range { place < length self.now.gates }
-        requires draft { IsDraft self.now draft.old.places.items (is_settled draft.old.settled) }
-        ensures draft { OnOk result (IsDraft self.now draft.new.places.items (is_settled draft.new.settled)) }
+        requires draft { IsDraft self.now draft.old.places.items (has_number draft.old.settled) }
+        ensures draft { OnOk result (IsDraft self.now draft.new.places.items (has_number draft.new.settled)) }
         ensures added { IfOk result (λ added. OnTrue added (
             length draft.new.places.items ≡ length draft.old.places.items + 1)) }
         ensures passed { IfOk result (λ added. OnFalse added (
@@ -61,8 +60,8 @@ impl Circuit {
     // Puts the gates at these places, as far as each can be put at its turn.
     pub(crate) fn put_all(&self, places: &[usize], draft: &mut Draft) -> Result<(), Memory>
         requires in_range { All (λ place. place < length self.now.gates) places.now }
-        requires draft { IsDraft self.now draft.old.places.items (is_settled draft.old.settled) }
-        ensures { OnOk result (IsDraft self.now draft.new.places.items (is_settled draft.new.settled)) }
+        requires draft { IsDraft self.now draft.old.places.items (has_number draft.old.settled) }
+        ensures { OnOk result (IsDraft self.now draft.new.places.items (has_number draft.new.settled)) }
     {
         for place in places {
             self.put(*place, draft)?;
@@ -72,8 +71,8 @@ impl Circuit {
 
     // Tries each gate in turn, and says whether any was put.
     pub(crate) fn put_round(&self, draft: &mut Draft) -> Result<bool, Memory>
-        requires { IsDraft self.now draft.old.places.items (is_settled draft.old.settled) }
-        ensures draft { OnOk result (IsDraft self.now draft.new.places.items (is_settled draft.new.settled)) }
+        requires { IsDraft self.now draft.old.places.items (has_number draft.old.settled) }
+        ensures draft { OnOk result (IsDraft self.now draft.new.places.items (has_number draft.new.settled)) }
         ensures added { IfOk result (λ added. OnTrue added (
             length draft.old.places.items < length draft.new.places.items)) }
         ensures closed { IfOk result (λ added. OnFalse added (IsClosed self.now draft.new.places.items)) }
@@ -89,9 +88,9 @@ impl Circuit {
 }
 
 // Whether both right sides of a gate are settled.
-fn is_ready(gate: &Gate, settled: &Settled) -> bool
-    ensures { result ≡ (is_settled settled.now (literal_variable gate.now.left)
-        && is_settled settled.now (literal_variable gate.now.right)) }
+fn is_ready(gate: &Gate, settled: &NumberSet) -> bool
+    ensures { result ≡ (has_number settled.now (literal_variable gate.now.left)
+        && has_number settled.now (literal_variable gate.now.right)) }
 {
     settled.contains(gate.left / 2) && settled.contains(gate.right / 2)
 }

@@ -3,8 +3,8 @@ ghost use Rattle.circuit_plain.specs.Steps.{task_place};
 
 use crate::circuits::Gate;
 use dq_lits::Memory;
+use number_tables::NumberSet;
 use std::alloc::Global;
-use std::collections::BTreeMap;
 
 // What a walk still has to do at the gate of a place: walk to it, or put it behind what it reads.
 #[derive(Clone, Copy)]
@@ -19,64 +19,26 @@ enum Task {
 pub(crate) fn depth_first(alloc: Global, gates: &[Gate]) -> Result<Vec<usize>, Memory>
     ensures { IfOk result (λ places. All (λ place. place < length gates.now) places.items) }
 {
-    let place_of = GatePlaces::new(alloc, gates)?;
+    let variables = gate_variables(alloc, gates)?;
     let mut seen = vec![in alloc; false; gates.len()]?;
     let mut places = Vec::new(alloc);
     let mut tasks = visits(alloc, gates.len())?;
     while let Some(task) = tasks.pop() {
         match task {
             Task::Leave(place) => places.push(place)?,
-            Task::Visit(place) => visit(place, gates, &place_of, &mut seen, &mut tasks)?,
+            Task::Visit(place) => visit(place, gates, &variables, &mut seen, &mut tasks)?,
         }
     }
     Ok(places)
 }
 
-// The place of each gate, by its variable. A table holds the variables that are small beside the number of gates, so that
-// where these have no large gaps nothing is searched; a map holds the others.
-#[derive(Drop)]
-struct GatePlaces {
-    table: Vec<usize>,
-    rest: BTreeMap<u64, usize>,
-}
-
-// Where a variable of the table has no gate.
-const NOWHERE: usize = usize::MAX;
-
-impl GatePlaces {
-    fn new(alloc: Global, gates: &[Gate]) -> Result<GatePlaces, Memory> {
-        let mut table = vec![in alloc; NOWHERE; table_len(gates)]?;
-        let mut rest = BTreeMap::new(alloc);
-        for (place, gate) in gates.iter().enumerate() {
-            match table.get_mut(gate.variable as usize) {
-                Some(slot) => *slot = place,
-                None => {
-                    rest.insert(gate.variable, place)?;
-                }
-            }
-        }
-        Ok(GatePlaces { table, rest })
-    }
-
-    // The place of a variable's gate. It may be none of the gates' places where there is no gate.
-    fn place(&self, variable: u64) -> Option<usize> {
-        match self.table.get(variable as usize) {
-            Some(place) => Some(*place),
-            None => self.rest.get(&variable).copied(),
-        }
-    }
-}
-
-// One more than the largest variable of a gate that is small beside the number of gates.
-pub(crate) fn table_len(gates: &[Gate]) -> usize {
-    let limit = gates.len().saturating_mul(4).saturating_add(1024) as u64;
-    let mut len = 0;
+// The variables of the gates: as these differ, each stands at the place of its gate.
+fn gate_variables(alloc: Global, gates: &[Gate]) -> Result<NumberSet, Memory> {
+    let mut variables = NumberSet::new(alloc);
     for gate in gates {
-        if gate.variable < limit && gate.variable >= len {
-            len = gate.variable + 1;
-        }
+        variables.insert(gate.variable)?;
     }
-    len as usize
+    Ok(variables)
 }
 
 // A visit of each place below `n`, the first one last.
@@ -94,7 +56,7 @@ fn visits(alloc: Global, n: usize) -> Result<Vec<Task>, Memory>
 fn visit(
     place: usize,
     gates: &[Gate],
-    place_of: &GatePlaces,
+    variables: &NumberSet,
     seen: &mut [bool],
     tasks: &mut Vec<Task>,
 ) -> Result<(), Memory>
@@ -109,8 +71,8 @@ fn visit(
     if !seen[place] {
         seen[place] = true;
         tasks.push(Task::Leave(place))?;
-        visit_side(gates[place].right, place_of, seen, tasks)?;
-        visit_side(gates[place].left, place_of, seen, tasks)?;
+        visit_side(gates[place].right, variables, seen, tasks)?;
+        visit_side(gates[place].left, variables, seen, tasks)?;
     }
     Ok(())
 }
@@ -118,7 +80,7 @@ fn visit(
 // Adds a visit of the gate that a right side stands on, where it wasn't seen.
 fn visit_side(
     side: u64,
-    place_of: &GatePlaces,
+    variables: &NumberSet,
     seen: &[bool],
     tasks: &mut Vec<Task>,
 ) -> Result<(), Memory>
@@ -126,7 +88,7 @@ fn visit_side(
     ensures in_range { OnOk result (All (λ task. task_place task < length seen.now) tasks.new.items) }
     ensures one_more { OnOk result (length tasks.new.items ≤ length tasks.old.items + 1) }
 {
-    if let Some(place) = place_of.place(side / 2) {
+    if let Some(place) = variables.place(side / 2) {
         if place < seen.len() && !seen[place] {
             tasks.push(Task::Visit(place))?;
         }

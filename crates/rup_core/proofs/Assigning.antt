@@ -1,6 +1,9 @@
 -- A table of values, where a literal is made true and where all are taken back.
-use Rattle.std.proofs.Common.{◌≡◌, ◌≢◌, ℕ, zero, suc, ◌+◌, ◌<◌, ◌≤◌, Bool, true, false, not, cond, ◌||◌, inl, inr, List, [], ◌∷◌, ◌++◌, reverse, length, drop, set, get_or, count_by, refl, sym, ◌∙◌, ap, subst, arith, length-append, get_or-set_other, get_or-set_same}
+use Rattle.std.proofs.Common.{◌≡◌, ◌≢◌, ℕ, zero, suc, ◌+◌, ◌<◌, ◌≤◌, Bool, true, false, not, cond, ◌||◌, inl, inr, List, [], ◌∷◌, ◌++◌, reverse, length, drop, set, get_or, count_by, refl, sym, ◌∙◌, ap, subst, arith, length-append, get_or-set_other, get_or-set_same, add-one}
+use Rattle.std.proofs.Math.Seq.{drop-cons}
+use Rattle.std.specs.BTreeMap.{BTreeMap, get}
 use Rattle.std.specs.List.{All}
+use Rattle.std.specs.Ordering.{nat_cmp}
 use Rattle.std.proofs.lemmas.Bool.{cases_eq, eq-eqb, or_left}
 use Rattle.std.proofs.lemmas.List.{drop_all, length-set, reverse-append}
 use Rattle.std.proofs.lemmas.List.Elements.{All-append, All-from_get_or}
@@ -8,8 +11,7 @@ use Rattle.std.proofs.lemmas.List.Sums.{sum_by-set, count_by-le-length}
 use Rattle.std.proofs.lemmas.List.Sorted.{list_any-IsPermutation, IsPermutation-reverse}
 use Rattle.dq_lits.specs.Literal.{Literal, positive, negative, variable_of, is_negative, opposite, same_literal}
 use Rattle.dq_lits.specs.Derivation.{holds}
-use Rattle.rup_core.specs.Range.{StandsWithin}
-use Rattle.rup_core.specs.Table.{IsTold, Tells, StandsOnlyOn, is_assigned}
+use Rattle.rup_core.specs.Table.{IsTold, Tells, TellsFar, far_value, StandsOnlyOn, is_assigned}
 use Rattle.rup_core.specs.Truth.{literal_value}
 use Rattle.rup_core.specs.declared.trails.TruthValue.{TruthValue}
 use Rattle.rup_core.specs.declared.trails.TruthValue.TheVariants.{True, False, Unassigned}
@@ -112,25 +114,22 @@ all_taken_back values literals n all only =
     let left : StandsOnlyOn values [] = subst P none only in
     All-from_get_or (λ value. value ≡ Unassigned) values Unassigned (λ i lt. left i lt refl refl)
 
--- a literal fewer than the variables is true before one more is made true
-pub assign_room : (values : List TruthValue) (literals : List Literal) (l : Literal) (i : ℕ) → Tells values (reverse literals) →
-    length literals ≤ count_by is_assigned values → variable_of l ≡ suc i → i < length values →
-    literal_value (reverse literals) l ≡ Unassigned → length literals < length values
-assign_room values literals l i told counted e lt free =
+-- there is room where a variable of the table has no value yet
+pub assign_room : (values : List TruthValue) (literals : List Literal) (l : Literal) (i capacity : ℕ) → Tells values (reverse literals) →
+    length literals + length values ≤ capacity + count_by is_assigned values → variable_of l ≡ suc i → i < length values →
+    literal_value (reverse literals) l ≡ Unassigned → length literals < capacity
+assign_room values literals l i capacity told room e lt free =
     let f = value_free (reverse literals) l free in
     let at = free_at values (reverse literals) l i told e lt f.0 f.1 in
-    let room = room_left values i lt at in
-    omega (arith, counted, room)
+    let left = room_left values i lt at in
+    omega (arith, room, left)
 
-pub assign_counted : (values : List TruthValue) (literals more : List Literal) (l : Literal) (i : ℕ) (t : TruthValue) → Tells values (reverse literals) →
-    length literals ≤ count_by is_assigned values → variable_of l ≡ suc i → i < length values →
-    literal_value (reverse literals) l ≡ Unassigned → t ≡ value_where_true l → more ≡ literals ++ l ∷ [] → length more ≤ count_by is_assigned (set values i t)
-assign_counted values literals more l i t told counted e lt free is longer =
+pub assign_counted : (values : List TruthValue) (literals : List Literal) (l : Literal) (i : ℕ) (t : TruthValue) → Tells values (reverse literals) →
+    variable_of l ≡ suc i → i < length values → literal_value (reverse literals) l ≡ Unassigned → t ≡ value_where_true l →
+    count_by is_assigned (set values i t) ≡ count_by is_assigned values + 1
+assign_counted values literals l i t told e lt free is =
     let f = value_free (reverse literals) l free in
-    let at = free_at values (reverse literals) l i told e lt f.0 f.1 in
-    let one = one_more_counted values i t lt at (ap is_assigned is ∙ has_value l) in
-    let long : length more ≡ length literals + length (l ∷ []) = ap length longer ∙ length-append literals (l ∷ []) in
-    omega (arith, counted, one, long)
+    one_more_counted values i t lt (free_at values (reverse literals) l i told e lt f.0 f.1) (ap is_assigned is ∙ has_value l)
   where
     has_value : (k : Literal) → is_assigned (value_where_true k) ≡ true
     has_value (positive v) = refl
@@ -146,12 +145,47 @@ assign_told values literals more l i t told e lt free is longer =
     let newest : reverse more ≡ l ∷ reverse literals = ap reverse longer ∙ reverse-append literals (l ∷ []) in
     subst P (sym is) (subst Q (sym newest) (tells_more values (reverse literals) l i told e lt f.1))
 
-pub assign_in_range : (values : List TruthValue) (literals more : List Literal) (l : Literal) (i : ℕ) (t : TruthValue) → StandsWithin (length values) literals →
-    variable_of l ≡ suc i → i < length values → more ≡ literals ++ l ∷ [] → StandsWithin (length (set values i t)) more
-assign_in_range values literals more l i t within e lt longer =
-    let P : ℕ → Type 0 = λ n. StandsWithin n more in
-    let Q : List Literal → Type 0 = λ ls. StandsWithin (length values) ls in
-    let R : ℕ → Type 0 = λ v. v ≤ length values in
-    let here : variable_of l ≤ length values = subst R (sym e) lt in
-    let single : StandsWithin (length values) (l ∷ []) = All-single (λ k. variable_of k ≤ length values) l here in
-    subst P (sym (length-set values i t)) (subst Q (sym longer) (All-append (λ k. variable_of k ≤ length values) literals (l ∷ []) within single))
+-- what one more true literal leaves as it is
+other_told : (t : TruthValue) (trues : List Literal) (l : Literal) (v : ℕ) → v ≢ variable_of l → IsTold t (holds trues (positive v)) (holds trues (negative v)) →
+    IsTold t (holds (l ∷ trues) (positive v)) (holds (l ∷ trues) (negative v))
+other_told t trues l v ne told =
+    told_along t (holds (l ∷ trues) (positive v)) (holds trues (positive v)) (holds (l ∷ trues) (negative v)) (holds trues (negative v))
+    (ap (λ b. b || holds trues (positive v)) (other_positive v l ne)) (ap (λ b. b || holds trues (negative v)) (other_negative v l ne)) told
+
+newest_first : (literals more : List Literal) (l : Literal) → more ≡ literals ++ l ∷ [] → reverse more ≡ l ∷ reverse literals
+newest_first literals more l longer = ap reverse longer ∙ reverse-append literals (l ∷ [])
+
+-- a literal of the table, for the map
+pub near_keeps_far : (n m : ℕ) (far : BTreeMap ℕ Bool) (literals more : List Literal) (l : Literal) → TellsFar n far (reverse literals) → variable_of l ≤ n → m ≡ n →
+    more ≡ literals ++ l ∷ [] → TellsFar m far (reverse more)
+near_keeps_far n m far literals more l told near same longer v lt =
+    let P : List Literal → Type 0 = λ ls. IsTold (far_value (get nat_cmp far v)) (holds ls (positive v)) (holds ls (negative v)) in
+    subst P (sym (newest_first literals more l longer))
+    (other_told (far_value (get nat_cmp far v)) (reverse literals) l v (λ e. omega (arith, lt, near, same, e)) (told v (omega (arith, lt, same))))
+
+-- the value of a literal's variable is taken back
+left_behind : (near : List TruthValue) (literals : List Literal) (n i : ℕ) (l : Literal) → n < length literals → get_or literals n l ≡ l →
+    StandsOnlyOn near (drop n literals) → i < length near → suc i ≢ variable_of l → holds (drop (n + 1) literals) (positive (suc i)) ≡ false →
+    holds (drop (n + 1) literals) (negative (suc i)) ≡ false → get_or near i Unassigned ≡ Unassigned
+left_behind near literals n i l n_in at only lt ne p m =
+    let next : drop n literals ≡ l ∷ drop (n + 1) literals = rw (add-one) (drop-cons literals n l n_in ∙ ap (λ k. k ∷ drop (suc n) literals) at) in
+    only i lt
+    (ap (λ ls. holds ls (positive (suc i))) next ∙ ap (λ b. b || holds (drop (n + 1) literals) (positive (suc i))) (other_positive (suc i) l ne) ∙ p)
+    (ap (λ ls. holds ls (negative (suc i))) next ∙ ap (λ b. b || holds (drop (n + 1) literals) (negative (suc i))) (other_negative (suc i) l ne) ∙ m)
+
+pub taken_back : (near : List TruthValue) (literals : List Literal) (n place : ℕ) (l : Literal) → n < length literals → get_or literals n l ≡ l →
+    place + 1 ≡ variable_of l → StandsOnlyOn near (drop n literals) → StandsOnlyOn (set near place Unassigned) (drop (n + 1) literals)
+taken_back near literals n place l n_in at is only i lt p m =
+    let same_length = length-set near place Unassigned in
+    let inside : i < length near = omega (arith, lt, same_length) in
+    elim (cases_eq i place) [
+      | inl same ↦ ap (λ j. get_or (set near place Unassigned) j Unassigned) same ∙ get_or-set_same near place Unassigned Unassigned (omega (arith, inside, same))
+      | inr other ↦
+          let read : get_or (set near place Unassigned) i Unassigned ≡ get_or near i Unassigned = rw get_or-set_other refl in
+          read ∙ left_behind near literals n i l n_in at only inside (λ e. other (omega (arith, e, is))) p m
+    ]
+
+pub beyond_taken_back : (near : List TruthValue) (literals : List Literal) (n place : ℕ) (l : Literal) → n < length literals → get_or literals n l ≡ l →
+    place + 1 ≡ variable_of l → length near ≤ place → StandsOnlyOn near (drop n literals) → StandsOnlyOn near (drop (n + 1) literals)
+beyond_taken_back near literals n place l n_in at is beyond only i lt p m =
+    left_behind near literals n i l n_in at only lt (λ e. omega (arith, e, is, beyond, lt)) p m

@@ -1,5 +1,5 @@
 -- A line's literals, made false one by one.
-use Rattle.std.proofs.Common.{◌≡◌, ℕ, ◌<◌, Bool, true, false, not, cond, ◌||◌, inl, inr, List, [], ◌∷◌, map, take, drop, length, Option, Some, refl, sym, ◌∙◌, ap, get_or}
+use Rattle.std.proofs.Common.{◌≡◌, ℕ, ◌<◌, Bool, true, false, not, cond, ◌||◌, inl, inr, List, [], ◌∷◌, map, take, drop, length, Option, Some, Result, Ok, Err, IfOk, refl, sym, ◌∙◌, ap, get_or}
 use Rattle.std.specs.List.{list_any}
 use Rattle.std.proofs.lemmas.Bool.{not-true, or_cases, or_from, or_left, or_right}
 use Rattle.std.proofs.lemmas.List.{take-append-drop}
@@ -67,3 +67,9 @@ pub line_goes_on : (live : LiveClauses) (line trues : List Literal) (hints : Lis
 line_goes_on live line trues hints b fault went consistent same is =
     let plain : is_tautology line ≡ false = not-true (is_tautology line) (sym consistent ∙ went) in
     is ∙ hint_fault-same live hints trues (map opposite line) 1 same ∙ sym (ap (λ t. cond t (Some 0) (hint_fault live (map opposite line) 1 hints)) plain)
+
+-- where the hints are read
+pub hints_go_on : (E : Type 0) (live : LiveClauses) (line trues : List Literal) (hints : List ℕ) (b : Bool) (read : Result (Option ℕ) E) → b ≡ true → b ≡ not (is_tautology line) →
+    AreSame trues (map opposite line) → IfOk read (λ fault. fault ≡ hint_fault live trues 1 hints) → IfOk read (λ fault. fault ≡ line_fault live line hints)
+hints_go_on E live line trues hints b (Ok fault) went consistent same is = line_goes_on live line trues hints b fault went consistent same is
+hints_go_on E live line trues hints b (Err stop) went consistent same is = tt

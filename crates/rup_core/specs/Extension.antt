@@ -1,8 +1,7 @@
 -- How a clause stands, as its literals are read one by one.
-use Rattle.std.specs.Prelude.{◌≡◌, ◌≤◌, if◌then◌else◌}
+use Rattle.std.specs.Prelude.{◌≡◌, ℕ, ◌≤◌, List, if◌then◌else◌}
 use Rattle.dq_lits.specs.Literal.{Literal, variable_of, same_literal}
 use Rattle.dq_lits.specs.Derivation.{Status, falsified, unit, stuck}
-use Rattle.rup_core.specs.Assigned.{Assigned}
 use Rattle.rup_core.specs.Truth.{literal_value}
 use Rattle.rup_core.specs.declared.trails.TruthValue.{TruthValue}
 use Rattle.rup_core.specs.declared.trails.TruthValue.TheVariants.{True, False, Unassigned}
@@ -26,8 +25,14 @@ with_literal status l False = status
 with_literal status l True = stuck
 with_literal status l Unassigned = with_free status l
 
--- the literal of a unit clause can be made true
-abbrev pub UnitIsFree : Assigned → Status → Type 0
-UnitIsFree trail falsified = Unit {0}
-UnitIsFree trail (unit l) = (variable_of l ≤ trail.variables) × (literal_value trail.trues l ≡ Unassigned)
-UnitIsFree trail stuck = Unit {0}
+-- the literal of a unit clause is unassigned
+abbrev pub UnitIsFree : List Literal → Status → Type 0
+UnitIsFree trues falsified = Unit {0}
+UnitIsFree trues (unit l) = literal_value trues l ≡ Unassigned
+UnitIsFree trues stuck = Unit {0}
+
+-- its variable is one up to n
+abbrev pub UnitStandsWithin : ℕ → Status → Type 0
+UnitStandsWithin n falsified = Unit {0}
+UnitStandsWithin n (unit l) = variable_of l ≤ n
+UnitStandsWithin n stuck = Unit {0}

@@ -1,5 +1,7 @@
--- A table of values by variable; variable v has place v - 1.
-use Rattle.std.specs.Prelude.{◌≡◌, ℕ, suc, ◌<◌, Bool, true, false, List, length, slice_index_or}
+-- The values of variables: a table, in which variable v has place v - 1, and a map for the variables beyond it.
+use Rattle.std.specs.Prelude.{◌≡◌, ℕ, suc, ◌<◌, Bool, true, false, List, length, slice_index_or, Option, None, Some}
+use Rattle.std.specs.BTreeMap.{BTreeMap, get}
+use Rattle.std.specs.Ordering.{nat_cmp}
 use Rattle.dq_lits.specs.Literal.{Literal, positive, negative}
 use Rattle.dq_lits.specs.Derivation.{holds}
 use Rattle.rup_core.specs.declared.trails.TruthValue.{TruthValue}
@@ -14,6 +16,15 @@ IsTold Unassigned plain negated = (plain ≡ false) × (negated ≡ false)
 abbrev pub Tells : List TruthValue → List Literal → Type 0
 Tells values trues = (i : ℕ) → i < length values →
     IsTold (slice_index_or values i Unassigned) (holds trues (positive (suc i))) (holds trues (negative (suc i)))
+
+-- the value of a variable in the map
+abbrev pub far_value : Option Bool → TruthValue
+far_value None = Unassigned
+far_value (Some true) = True
+far_value (Some false) = False
+
+abbrev pub TellsFar : ℕ → BTreeMap ℕ Bool → List Literal → Type 0
+TellsFar n far trues = (v : ℕ) → n < v → IsTold (far_value (get nat_cmp far v)) (holds trues (positive v)) (holds trues (negative v))
 
 -- a variable with a value stands in one of the literals
 abbrev pub StandsOnlyOn : List TruthValue → List Literal → Type 0

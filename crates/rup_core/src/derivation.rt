@@ -1,4 +1,4 @@
-ghost use Rattle.std.specs.Prelude.{◌≡◌, true, [], All, IfSome, not, map};
+ghost use Rattle.std.specs.Prelude.{◌≡◌, true, [], All, IfSome, IfOk, IsOk, not, map};
 ghost use Rattle.dq_lits.specs.Literal.{opposite};
 ghost use Rattle.dq_lits.specs.Derivation.{line_fault, hint_fault, is_tautology};
 ghost use Rattle.rup_core.specs.Range.{StandsWithin, LineStandsWithin};
@@ -9,7 +9,7 @@ use crate::bases::Base;
 use crate::marks::Marks;
 use crate::statuses::{Status, status_of};
 use crate::trails::{Trail, TruthValue};
-use dq_lits::Lit;
+use dq_lits::{Lit, Memory};
 
 /// Whether a line is derived.
 #[derive(Clone, Copy, Debug, PartialEq, Eq)]
@@ -31,63 +31,86 @@ pub fn derive<B: Base>(marks: &mut Marks, lits: &[Lit], hints: &[u64], base: &B)
     ensures same { marks.new ≡ marks.old }
     ensures answer { fault_in result ≡ line_fault (B.clauses base.now) lits.now hints.now }
 {
+    match derive_any(marks, lits, hints, base) {
+        Ok(derived) => derived,
+        Err(Memory) => unreachable!(),
+    }
+}
+
+/// The same, whichever variables the line and the clauses that it hints stand on. It takes memory for those beyond the
+/// marks that are assigned, and gives it back.
+pub fn derive_any<B: Base>(
+    marks: &mut Marks,
+    lits: &[Lit],
+    hints: &[u64],
+    base: &B,
+) -> Result<Derived, Memory>
+    ensures same { marks.new ≡ marks.old }
+    ensures answer { IfOk result (λ derived. fault_in derived ≡ line_fault (B.clauses base.now) lits.now hints.now) }
+    ensures marked { LineStandsWithin marks.old (B.clauses base.now) lits.now hints.now → IsOk result }
+{
     let fault = line_fault(&mut marks.trail, lits, hints, base);
     marks.trail.clear();
-    match fault {
-        None => Derived::Yes,
-        Some(place) => Derived::No(place),
+    match fault? {
+        None => Ok(Derived::Yes),
+        Some(place) => Ok(Derived::No(place)),
     }
 }
 
 // The place of a line's fault. The literals that were made true stay so.
-fn line_fault<B: Base>(trail: &mut Trail, lits: &[Lit], hints: &[u64], base: &B) -> Option<usize>
-    requires clear { trail.old.trues ≡ [] }
-    requires in_range { LineStandsWithin trail.old.variables (B.clauses base.now) lits.now hints.now }
+fn line_fault<B: Base>(
+    trail: &mut Trail,
+    lits: &[Lit],
+    hints: &[u64],
+    base: &B,
+) -> Result<Option<usize>, Memory>
+    requires { trail.old.trues ≡ [] }
     ensures variables { trail.new.variables ≡ trail.old.variables }
-    ensures fault { result ≡ line_fault (B.clauses base.now) lits.now hints.now }
+    ensures fault { IfOk result (λ fault. fault ≡ line_fault (B.clauses base.now) lits.now hints.now) }
+    ensures marked { LineStandsWithin trail.old.variables (B.clauses base.now) lits.now hints.now → IsOk result }
 {
-    if !assume_false(trail, lits) {
-        return Some(0);
+    if !assume_false(trail, lits)? {
+        return Ok(Some(0));
     }
     hint_fault(trail, hints, base)
 }
 
 // Makes all these literals false, unless one stands beside its negation.
-fn assume_false(trail: &mut Trail, lits: &[Lit]) -> bool
-    requires clear { trail.old.trues ≡ [] }
-    requires in_range { StandsWithin trail.old.variables lits.now }
+fn assume_false(trail: &mut Trail, lits: &[Lit]) -> Result<bool, Memory>
+    requires { trail.old.trues ≡ [] }
     ensures variables { trail.new.variables ≡ trail.old.variables }
-    ensures consistent { result ≡ not (is_tautology lits.now) }
-    ensures assumed { result ≡ true → AreSame trail.new.trues (map opposite lits.now) }
+    ensures consistent { IfOk result (λ consistent. consistent ≡ not (is_tautology lits.now)) }
+    ensures assumed { IfOk result (λ consistent. consistent ≡ true → AreSame trail.new.trues (map opposite lits.now)) }
+    ensures marked { StandsWithin trail.old.variables lits.now → IsOk result }
 {
     for l in lits {
         match trail.value(*l) {
             TruthValue::False => {}
-            TruthValue::True => return false,
-            TruthValue::Unassigned => trail.assign(l.not()),
+            TruthValue::True => return Ok(false),
+            TruthValue::Unassigned => trail.assign(l.not())?,
         }
     }
-    true
+    Ok(true)
 }
 
 // The place of the first hint at fault, or one behind the last. The literals that were made true stay so.
-fn hint_fault<B: Base>(trail: &mut Trail, hints: &[u64], base: &B) -> Option<usize>
-    requires { All (λ id. IfSome (B.clauses base.now id) (StandsWithin trail.old.variables)) hints.now }
+fn hint_fault<B: Base>(trail: &mut Trail, hints: &[u64], base: &B) -> Result<Option<usize>, Memory>
     ensures variables { trail.new.variables ≡ trail.old.variables }
-    ensures fault { result ≡ hint_fault (B.clauses base.now) trail.old.trues 1 hints.now }
+    ensures fault { IfOk result (λ fault. fault ≡ hint_fault (B.clauses base.now) trail.old.trues 1 hints.now) }
+    ensures marked { All (λ id. IfSome (B.clauses base.now id) (StandsWithin trail.old.variables)) hints.now → IsOk result }
 {
     for (i, hint) in hints.iter().enumerate() {
         match status_of(base, *hint, trail) {
-            Status::Unit(l) => trail.assign(l),
+            Status::Unit(l) => trail.assign(l)?,
             Status::Falsified => {
-                return if i + 1 < hints.len() {
+                return Ok(if i + 1 < hints.len() {
                     Some(i + 1)
                 } else {
                     None
-                };
+                });
             }
-            Status::Stuck => return Some(i + 1),
+            Status::Stuck => return Ok(Some(i + 1)),
         }
     }
-    Some(hints.len() + 1)
+    Ok(Some(hints.len() + 1))
 }

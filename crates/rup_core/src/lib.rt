@@ -7,9 +7,9 @@
 #![tactic(auto)]
 
 pub use bases::Base;
-pub use derivation::{Derived, derive};
+pub use derivation::{Derived, derive, derive_any};
 pub use marks::Marks;
-pub use steps::{ProofFault, Steps, first_fault};
+pub use steps::{ProofFault, Steps, first_fault, first_fault_any};
 
 mod bases;
 mod derivation;

@@ -1,8 +1,8 @@
-ghost use Rattle.std.specs.Prelude.{◌≡◌, IfSome};
+ghost use Rattle.std.specs.Prelude.{◌≡◌, ℕ, true, IfSome};
 ghost use Rattle.dq_lits.specs.Literal.{same_literal};
-ghost use Rattle.dq_lits.specs.Derivation.{status_of};
+ghost use Rattle.dq_lits.specs.Derivation.{status_of, stuck};
 ghost use Rattle.rup_core.specs.Range.{StandsWithin};
-ghost use Rattle.rup_core.specs.Extension.{seen, with_free, with_literal, UnitIsFree};
+ghost use Rattle.rup_core.specs.Extension.{seen, with_free, with_literal, UnitIsFree, UnitStandsWithin};
 
 use crate::bases::Base;
 use crate::trails::{Trail, TruthValue};
@@ -19,11 +19,12 @@ pub(crate) enum Status {
     Stuck,
 }
 
-/// How the clause with this id stands; where no clause has it, it is of no use.
+/// How the clause with this id stands; where no clause has it, it is of no use. A clause is read as far as that takes: no
+/// further than its second literal that isn't false.
 pub(crate) fn status_of<B: Base>(base: &B, id: u64, trail: &Trail) -> Status
-    requires { IfSome (B.clauses base.now id) (StandsWithin trail.now.variables) }
     ensures status { seen result ≡ status_of trail.now.trues (B.clauses base.now id) }
-    ensures unit { UnitIsFree trail.now (seen result) }
+    ensures free { UnitIsFree trail.now.trues (seen result) }
+    ensures within { (n : ℕ) → IfSome (B.clauses base.now id) (StandsWithin n) → UnitStandsWithin n (seen result) }
 {
     let Some(size) = base.size(id) else {
         return Status::Stuck;
@@ -32,11 +33,21 @@ pub(crate) fn status_of<B: Base>(base: &B, id: u64, trail: &Trail) -> Status
     for i in 0..size {
         let l = base.lit(id, i);
         status = status.with_literal(l, trail.value(l));
+        if status.is_stuck() {
+            return Status::Stuck;
+        }
     }
     status
 }
 
 impl Status {
+    // Whether it stays as it is, whatever further literals there are.
+    fn is_stuck(&self) -> bool
+        ensures { result ≡ true → seen self.now ≡ stuck }
+    {
+        matches!(self, Status::Stuck)
+    }
+
     // With one more literal, of this value.
     fn with_literal(&self, l: Lit, value: TruthValue) -> Status
         ensures { seen result ≡ with_literal (seen self.now) l value }

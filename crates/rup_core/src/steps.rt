@@ -1,6 +1,6 @@
 //! Proofs: lines one after another, each derived from the clauses of a base and the lines before it.
 
-ghost use Rattle.std.specs.Prelude.{◌≡◌, ◌+◌, ◌<◌, ◌≤◌, ◌^◌, ℕ, List, None, length, All, IfSome};
+ghost use Rattle.std.specs.Prelude.{◌≡◌, ◌+◌, ◌<◌, ◌≤◌, ◌^◌, ℕ, List, None, length, All, IfSome, IfOk, IsOk};
 ghost use Rattle.std.specs.List.{slice_get};
 ghost use Rattle.dq_lits.specs.Derivation.{ProofStep, proof_fault};
 ghost use Rattle.rup_core.specs.Range.{LineStandsWithin};
@@ -8,9 +8,9 @@ ghost use Rattle.rup_core.specs.Growth.{AreNumbered, grown};
 ghost use Rattle.rup_core.specs.ProofVerdict.{proof_fault_in};
 
 use crate::bases::Base;
-use crate::derivation::{Derived, derive};
+use crate::derivation::{Derived, derive_any};
 use crate::marks::Marks;
-use dq_lits::Lit;
+use dq_lits::{Lit, Memory};
 
 /// The lines of a proof in order; places are counted from 0.
 pub trait Steps {
@@ -90,6 +90,27 @@ pub fn first_fault<B: Base, S: Steps>(
     ensures same { marks.new ≡ marks.old }
     ensures answer { proof_fault_in result ≡ proof_fault (B.clauses base.now) (S.steps steps.now) }
 {
+    match first_fault_any(marks, base, first, steps) {
+        Ok(fault) => fault,
+        Err(Memory) => unreachable!(),
+    }
+}
+
+/// The same, whichever variables the lines and the clauses that they hint stand on. At each line it takes memory for
+/// the variables beyond the marks that are assigned, and gives it back.
+pub fn first_fault_any<B: Base, S: Steps>(
+    marks: &mut Marks,
+    base: &B,
+    first: u64,
+    steps: &S,
+) -> Result<Option<ProofFault>, Memory>
+    requires behind { (id : ℕ) → first ≤ id → B.clauses base.now id ≡ None }
+    requires numbered { AreNumbered first (S.steps steps.now) }
+    requires few { first + length (S.steps steps.now) ≤ 2 ^ 64 }
+    ensures same { marks.new ≡ marks.old }
+    ensures answer { IfOk result (λ fault. proof_fault_in fault ≡ proof_fault (B.clauses base.now) (S.steps steps.now)) }
+    ensures marked { All (λ step. LineStandsWithin marks.old (B.clauses base.now) step.literals step.hints) (S.steps steps.now) → IsOk result }
+{
     let mut finished = false;
     for k in 0..steps.len() {
         let grown = Grown {
@@ -99,14 +120,14 @@ pub fn first_fault<B: Base, S: Steps>(
             count: k,
         };
         let lits = steps.lits(k);
-        match derive(marks, lits, steps.hints(k), &grown) {
+        match derive_any(marks, lits, steps.hints(k), &grown)? {
             Derived::Yes => finished = lits.is_empty(),
-            Derived::No(_) => return Some(ProofFault::Underived(first + k as u64)),
+            Derived::No(_) => return Ok(Some(ProofFault::Underived(first + k as u64))),
         }
     }
     if finished {
-        None
+        Ok(None)
     } else {
-        Some(ProofFault::Unfinished)
+        Ok(Some(ProofFault::Unfinished))
     }
 }

@@ -1,10 +1,13 @@
-ghost use Rattle.std.specs.Prelude.{◌≡◌, ◌+◌, ◌≤◌, [], ◌∷◌, length, All, IfOk, if◌then◌else◌};
-ghost use Rattle.dq_lits.specs.Literal.{variable_of};
+ghost use Rattle.std.specs.Prelude.{◌≡◌, ◌+◌, ◌<◌, ◌≤◌, [], ◌∷◌, All, IfOk, IsOk, OnOk, OnErr, if◌then◌else◌};
+ghost use Rattle.std.specs.Option.{option_copied};
+ghost use Rattle.dq_lits.specs.Derivation.{holds};
+ghost use Rattle.dq_lits.specs.Literal.{variable_of, positive, negative};
 ghost use Rattle.rup_core.specs.Truth.{literal_value};
-ghost use Rattle.rup_core.specs.Table.{StandsOnlyOn};
+ghost use Rattle.rup_core.specs.Table.{IsTold, StandsOnlyOn, far_value};
 
 use dq_lits::{Lit, Memory};
 use std::alloc::Global;
+use std::collections::BTreeMap;
 use std::marker::Model;
 
 /// What a literal is under a trail.
@@ -15,15 +18,18 @@ pub(crate) enum TruthValue {
     Unassigned,
 }
 
-/// The literals that were made true, in order, over the variables from 1 on.
+/// The literals that were made true, in order.
 ///
 /// Each variable keeps its value, so that a literal's value is one look-up, and the literals made true are kept beside
-/// them, so that undoing takes time for these alone. No variable is assigned twice, so they never outgrow the room that
-/// they were given first.
+/// them, so that undoing takes time for these alone. The first variables have a table, and room for their literals from
+/// the start; those beyond it stand in an ordered map, so that memory and time follow what is made true, whichever
+/// numbers its variables have.
 #[derive(Debug, Drop)]
 pub(crate) struct Trail {
     // The value of variable v at place v - 1.
-    values: Vec<TruthValue>,
+    near: Vec<TruthValue>,
+    // Of the variables beyond the table, which are true and which are false.
+    far: BTreeMap<u64, bool>,
     literals: Vec<Lit>,
 }
 
@@ -40,44 +46,94 @@ impl Model for Trail {
 }
 
 impl Trail {
-    /// No literal is true yet, and all the room is taken.
+    /// No literal is true yet, and the room for these variables is taken.
     pub(crate) fn new(alloc: Global, variables: usize) -> Result<Trail, Memory>
         ensures { IfOk result (λ trail. trail ≡ record { variables = variables; trues = [] }) }
     {
-        let values = vec![in alloc; TruthValue::Unassigned; variables]?;
+        let near = vec![in alloc; TruthValue::Unassigned; variables]?;
         let literals = Vec::with_capacity(alloc, variables)?;
-        Ok(Trail { values, literals })
+        Ok(Trail {
+            near,
+            far: BTreeMap::new(alloc),
+            literals,
+        })
     }
 
     pub(crate) fn value(&self, l: Lit) -> TruthValue
-        requires { variable_of l ≤ self.now.variables }
         ensures { result ≡ literal_value self.now.trues l }
     {
-        match self.values[place_of(l)] {
+        match self.variable_value(l) {
             TruthValue::Unassigned => TruthValue::Unassigned,
             TruthValue::True => truth(!l.is_neg()),
             TruthValue::False => truth(l.is_neg()),
         }
     }
 
-    /// Makes an unassigned literal true.
-    pub(crate) fn assign(&mut self, l: Lit)
+    // The value of a literal's variable.
+    fn variable_value(&self, l: Lit) -> TruthValue
+        ensures { IsTold result (holds self.now.trues (positive (variable_of l))) (holds self.now.trues (negative (variable_of l))) }
+    {
+        let place = place_of(l);
+        if place < self.near.len() {
+            return self.near[place];
+        }
+        far_value(self.far.get(&l.var()))
+    }
+
+    /// Makes an unassigned literal true. It takes no memory for the variables that room was taken for.
+    pub(crate) fn assign(&mut self, l: Lit) -> Result<(), Memory>
+        requires { literal_value self.old.trues l ≡ TruthValue.Unassigned }
+        ensures ok { OnOk result (self.new ≡ record self.old { trues = l ∷ self.old.trues }) }
+        ensures err { OnErr result (self.new ≡ self.old) }
+        ensures near { variable_of l ≤ self.old.variables → IsOk result }
+    {
+        if place_of(l) < self.near.len() {
+            self.assign_near(l);
+            return Ok(());
+        }
+        self.assign_far(l)
+    }
+
+    fn assign_near(&mut self, l: Lit)
         requires in_range { variable_of l ≤ self.old.variables }
         requires unassigned { literal_value self.old.trues l ≡ TruthValue.Unassigned }
         ensures { self.new ≡ record self.old { trues = l ∷ self.old.trues } }
     {
-        self.values[place_of(l)] = truth(!l.is_neg());
+        self.near[place_of(l)] = truth(!l.is_neg());
         if self.literals.push(l).is_err() {
             unreachable!();
         }
+    }
+
+    fn assign_far(&mut self, l: Lit) -> Result<(), Memory>
+        requires far { self.old.variables < variable_of l }
+        requires unassigned { literal_value self.old.trues l ≡ TruthValue.Unassigned }
+        ensures ok { OnOk result (self.new ≡ record self.old { trues = l ∷ self.old.trues }) }
+        ensures err { OnErr result (self.new ≡ self.old) }
+    {
+        self.literals.reserve(self.near.len() + 1)?;
+        self.far.insert(l.var(), !l.is_neg())?;
+        self.literals.push(l).unwrap();
+        Ok(())
     }
 
     /// Takes all back.
     pub(crate) fn clear(&mut self)
         ensures { self.new ≡ record self.old { trues = [] } }
     {
-        unassign(&mut self.values, &self.literals);
+        unassign(&mut self.near, &self.literals);
+        self.far.clear();
         self.literals.clear();
+    }
+}
+
+fn far_value(is_true: Option<&bool>) -> TruthValue
+    ensures { result ≡ far_value (option_copied is_true.entry) }
+{
+    match is_true {
+        None => TruthValue::Unassigned,
+        Some(true) => TruthValue::True,
+        Some(false) => TruthValue::False,
     }
 }
 
@@ -98,13 +154,15 @@ fn truth(is_true: bool) -> TruthValue
     }
 }
 
-// Takes the values of these literals' variables back, which are all that have one.
-fn unassign(values: &mut [TruthValue], literals: &[Lit])
-    requires in_range { All (λ l. variable_of l ≤ length values.old) literals.now }
-    requires assigned { StandsOnlyOn values.old literals.now }
-    ensures { All (λ value. value ≡ TruthValue.Unassigned) values.new }
+// Takes the values of these literals' variables back, which are all of the table that have one.
+fn unassign(near: &mut [TruthValue], literals: &[Lit])
+    requires { StandsOnlyOn near.old literals.now }
+    ensures { All (λ value. value ≡ TruthValue.Unassigned) near.new }
 {
     for l in literals {
-        values[place_of(*l)] = TruthValue::Unassigned;
+        let place = place_of(*l);
+        if place < near.len() {
+            near[place] = TruthValue::Unassigned;
+        }
     }
 }

@@ -15,14 +15,6 @@ use Rattle.skolem_checker.proofs.NumberingLaws.{not_before, known_length, gate_a
 use Rattle.skolem_checker.proofs.TablesLaws.{half-even}
 use Rattle.skolem_checker.proofs.RenamingLaws.{renamed_variable, known_input, known_gate, grounded_known, sides_grounded}
 
--- a set of keys takes a new one behind the others
-pub inserted_new : (keys : List ℕ) (v : ℕ) → (Contains keys v → ⊥) → (if list_any (eqb v) keys then keys else keys ++ v ∷ []) ≡ keys ++ v ∷ []
-inserted_new keys v new =
-    elim (cases_Bool (list_any (eqb v) keys)) [
-      | inl among ↦ absurd (new (contains-has keys v (sym (ap (λ p. list_any p keys) (flip v)) ∙ among)))
-      | inr apart ↦ ap (λ b. if b then keys else keys ++ v ∷ []) apart
-    ]
-
 -- the next gate to be known
 module _ (net : Netlist) (kept : IsNetlist net) (keys : List ℕ) (j : ℕ) (below : j < length net.gates)
     (learnt : keys ≡ take (length net.inputs + j + 1) (known_variables net)) (v : ℕ) (is : v ≡ 2 * (gate_at net j).variable) where

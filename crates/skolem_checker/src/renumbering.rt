@@ -1,82 +1,73 @@
 //! A copy of a circuit whose variables have the least numbers. A file's header may state any largest variable; rows by
 //! variable over the copy are as long as the circuit.
 
-ghost use Rattle.std.specs.Prelude.{◌≡◌, ◌*◌, ◌+◌, ◌<◌, ◌^◌, ◌++◌, [], ◌∷◌, length, take, Contains, IfOk, OnOk};
+ghost use Rattle.std.specs.Prelude.{◌≡◌, ◌*◌, ◌+◌, ◌<◌, ◌^◌, length, take, Contains, IfOk, OnOk};
 ghost use Rattle.circuit_plain.specs.Netlist.{IsNetlist, literal_variable};
 ghost use Rattle.skolem_checker.specs.Renaming.{known_variables, number_in, renamed_literal, renumbered, renumbered_first};
 ghost use Rattle.skolem_checker.specs.SkolemCircuit.{IsComplete};
 
 use circuit_plain::Circuit;
 use dq_lits::Memory;
-use indexmap::IndexSet;
+use number_tables::NumberSet;
 use std::alloc::Global;
 
-// Puts a variable behind the ones that are known.
-fn learn(known: &mut IndexSet<u64>, variable: u64) -> Result<(), Memory>
-    requires { ¬ Contains known.old.keys variable }
-    ensures { OnOk result (known.new.keys ≡ known.old.keys ++ variable ∷ []) }
-{
-    known.insert(variable)?;
-    Ok(())
-}
-
-fn learn_inputs(circuit: &Circuit, known: &mut IndexSet<u64>) -> Result<(), Memory>
-    requires { known.old.keys ≡ take 1 (known_variables circuit.now) }
-    ensures { OnOk result (known.new.keys ≡ take (length circuit.now.inputs + 1) (known_variables circuit.now)) }
+fn learn_inputs(circuit: &Circuit, known: &mut NumberSet) -> Result<(), Memory>
+    requires { known.old ≡ take 1 (known_variables circuit.now) }
+    ensures { OnOk result (known.new ≡ take (length circuit.now.inputs + 1) (known_variables circuit.now)) }
 {
     let _ = circuit.max_var();
     for variable in circuit.inputs() {
-        learn(known, *variable)?;
+        known.push(*variable)?;
     }
     Ok(())
 }
 
-fn learn_gates(circuit: &Circuit, known: &mut IndexSet<u64>) -> Result<(), Memory>
-    requires { known.old.keys ≡ take (length circuit.now.inputs + 1) (known_variables circuit.now) }
-    ensures { OnOk result (known.new.keys ≡ known_variables circuit.now) }
+fn learn_gates(circuit: &Circuit, known: &mut NumberSet) -> Result<(), Memory>
+    requires { known.old ≡ take (length circuit.now.inputs + 1) (known_variables circuit.now) }
+    ensures { OnOk result (known.new ≡ known_variables circuit.now) }
 {
     let _ = circuit.max_var();
     for i in 0..circuit.gates() {
         let (lhs, _, _) = circuit.gate(i);
-        learn(known, lhs / 2)?;
+        known.push(lhs / 2)?;
     }
     Ok(())
 }
 
 // The constant, the inputs and the gates: a variable's place is its new number.
-fn known_variables(alloc: Global, circuit: &Circuit) -> Result<IndexSet<u64>, Memory>
-    ensures { IfOk result (λ known. known.keys ≡ known_variables circuit.now) }
+fn known_variables(alloc: Global, circuit: &Circuit) -> Result<NumberSet, Memory>
+    ensures { IfOk result (λ known. known ≡ known_variables circuit.now) }
 {
-    let mut known = IndexSet::new(alloc);
-    learn(&mut known, 0)?;
+    let mut known = NumberSet::new(alloc);
+    known.push(0)?;
     learn_inputs(circuit, &mut known)?;
     learn_gates(circuit, &mut known)?;
     Ok(known)
 }
 
 // The place of a variable that is known.
-fn number(known: &IndexSet<u64>, variable: u64) -> u64
-    requires { Contains known.now.keys variable }
-    ensures is { result ≡ number_in known.now.keys variable }
+fn number(known: &NumberSet, variable: u64) -> u64
+    requires { Contains known.now variable }
+    ensures is { result ≡ number_in known.now variable }
     ensures small { result < 2 ^ 63 }
 {
     let _ = known.len();
-    match known.get_index_of(&variable) {
+    match known.place(variable) {
         Some(place) => place as u64,
         None => unreachable!(),
     }
 }
 
 // The literal of a known variable's number, with its sign.
-fn renumbered_literal(known: &IndexSet<u64>, literal: u64) -> u64
-    requires { Contains known.now.keys (literal_variable literal) }
-    ensures { result ≡ renamed_literal (number_in known.now.keys) literal }
+fn renumbered_literal(known: &NumberSet, literal: u64) -> u64
+    requires { Contains known.now (literal_variable literal) }
+    ensures { result ≡ renamed_literal (number_in known.now) literal }
 {
     2 * number(known, literal / 2) + literal % 2
 }
 
-fn copy_inputs(circuit: &Circuit, known: &IndexSet<u64>, copy: &mut Circuit) -> Result<(), Memory>
-    requires known { known.now.keys ≡ known_variables circuit.now }
+fn copy_inputs(circuit: &Circuit, known: &NumberSet, copy: &mut Circuit) -> Result<(), Memory>
+    requires known { known.now ≡ known_variables circuit.now }
     requires start { copy.old ≡ renumbered_first circuit.now 0 0 0 }
     ensures { OnOk result (copy.new ≡ renumbered_first circuit.now (length circuit.now.inputs) 0 0) }
 {
@@ -87,9 +78,9 @@ fn copy_inputs(circuit: &Circuit, known: &IndexSet<u64>, copy: &mut Circuit) -> 
     Ok(())
 }
 
-fn copy_gates(circuit: &Circuit, known: &IndexSet<u64>, copy: &mut Circuit) -> Result<(), Memory>
+fn copy_gates(circuit: &Circuit, known: &NumberSet, copy: &mut Circuit) -> Result<(), Memory>
     requires complete { IsComplete circuit.now }
-    requires known { known.now.keys ≡ known_variables circuit.now }
+    requires known { known.now ≡ known_variables circuit.now }
     requires start { copy.old ≡ renumbered_first circuit.now (length circuit.now.inputs) 0 0 }
     ensures { OnOk result (copy.new ≡ renumbered_first circuit.now (length circuit.now.inputs) (length circuit.now.gates) 0) }
 {
@@ -104,9 +95,9 @@ fn copy_gates(circuit: &Circuit, known: &IndexSet<u64>, copy: &mut Circuit) -> R
     Ok(())
 }
 
-fn copy_outputs(circuit: &Circuit, known: &IndexSet<u64>, copy: &mut Circuit) -> Result<(), Memory>
+fn copy_outputs(circuit: &Circuit, known: &NumberSet, copy: &mut Circuit) -> Result<(), Memory>
     requires complete { IsComplete circuit.now }
-    requires known { known.now.keys ≡ known_variables circuit.now }
+    requires known { known.now ≡ known_variables circuit.now }
     requires start { copy.old ≡ renumbered_first circuit.now (length circuit.now.inputs) (length circuit.now.gates) 0 }
     ensures { OnOk result (copy.new ≡ renumbered circuit.now) }
 {

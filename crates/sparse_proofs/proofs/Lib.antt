@@ -1,4 +1,2 @@
 pub mod Renamed
 pub mod Occurring
-pub mod Naming
-pub mod Within

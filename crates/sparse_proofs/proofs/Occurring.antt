@@ -66,8 +66,3 @@ pub numbered_fault : (live : LiveClauses) (steps : List ProofStep)
 numbered_fault live steps =
     proof_fault-renamed (occurring_variables live steps) live steps
     (known_steps live (occurring_variables live steps) steps (with_variables-have (flat_map (step_variables live) steps) []))
-
-pub judged : (live : LiveClauses) (steps : List ProofStep) (names : List ℕ) (fault : Option ProofFault) → names ≡ occurring_variables live steps
-    → fault ≡ proof_fault (renamed_clauses names live) (map (renamed_step names) steps) → fault ≡ proof_fault live steps
-judged live steps names fault names_are is =
-    is ∙ ap (λ ns. proof_fault (renamed_clauses ns live) (map (renamed_step ns) steps)) names_are ∙ numbered_fault live steps

@@ -1,3 +1,2 @@
 pub mod Renaming
 pub mod Occurring
-pub mod Lines

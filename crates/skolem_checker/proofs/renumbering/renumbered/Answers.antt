@@ -6,7 +6,7 @@ pub new-copy-requires : goal.new-copy-requires
 new-copy-requires c =
     omega (
       arith,
-      c.len.ensures.len,
+      c.len.ensures.value,
       ap length c.in_ok-known.ensures,
       known_length c.args.circuit.now,
       few_known c.args.circuit.now c.max_var.ensures.kept,

@@ -1,9 +1,9 @@
 use Rattle.std.proofs.Common.{◌≡◌, ℕ, true}
 use Rattle.std.specs.Prelude.{◌↔◌}
-use Rattle.circuit_plain.specs.Settled.{is_settled}
+use Rattle.number_tables.specs.Numbers.{has_number}
 use Rattle.circuit_plain.proofs.SortingLaws.{IsLeafBefore}
 use Rattle.circuit_plain.proofs.circuits.Circuit.empty_draft.Given as goal
 
 abbrev pub invariant-loop-variable : goal.invariant-loop-variable
 invariant-loop-variable l =
-    (v : ℕ) → (is_settled l.settled v ≡ true) ↔ IsLeafBefore l.self l.variable-index v
+    (v : ℕ) → (has_number l.settled v ≡ true) ↔ IsLeafBefore l.self l.variable-index v

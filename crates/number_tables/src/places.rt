@@ -1,0 +1,87 @@
+ghost use Rattle.std.specs.Prelude.{◌≡◌, ◌+◌, ◌-◌, ◌^◌, ◌<◌, ◌==◌, ℕ, true, None, OnOk, OnErr, slice_index_or, if◌then◌else◌};
+ghost use Rattle.number_tables.specs.Places.{place_in, Puts};
+
+use dq_lits::Memory;
+use std::alloc::Global;
+use std::collections::BTreeMap;
+
+/// A map from numbers to places.
+#[derive(Debug, Drop)]
+pub(crate) struct Places {
+    // By number, the place of a number that was small beside its place, or `NOWHERE`.
+    table: Vec<u32>,
+    // The other numbers. One of them may be within the table, which has grown since.
+    rest: BTreeMap<u64, usize>,
+}
+
+const NOWHERE: u32 = u32::MAX;
+
+impl Places {
+    /// No number has a place. It takes no memory.
+    pub(crate) fn new(alloc: Global) -> Places
+        ensures { (n : ℕ) → place_in result n ≡ None }
+    {
+        Places {
+            table: Vec::new(alloc),
+            rest: BTreeMap::new(alloc),
+        }
+    }
+
+    /// The place of a number, if it has one.
+    pub(crate) fn get(&self, number: u64) -> Option<usize>
+        ensures { result ≡ place_in self.now number }
+    {
+        let place = slot(&self.table, number);
+        if place == NOWHERE {
+            self.rest.get(&number).copied()
+        } else {
+            Some(place as usize)
+        }
+    }
+
+    /// Gives a place to a number that has none.
+    pub(crate) fn put(&mut self, number: u64, place: usize) -> Result<(), Memory>
+        requires { place_in self.old number ≡ None }
+        ensures ok { OnOk result (Puts (place_in self.old) (place_in self.new) number place) }
+        ensures err { OnErr result ((n : ℕ) → place_in self.new n ≡ place_in self.old n) }
+    {
+        if is_small(number, place) {
+            return write(&mut self.table, number as usize, place as u32);
+        }
+        self.rest.insert(number, place)?;
+        Ok(())
+    }
+}
+
+// Whether a number is small beside its place, and the place beside what the table can hold.
+fn is_small(number: u64, place: usize) -> bool
+    ensures { result ≡ true → (number < 2 ^ 34 + 1024) × (place < 2 ^ 32 - 1) }
+{
+    place < NOWHERE as usize && number < 4 * place as u64 + 1024
+}
+
+// What the table says of a number.
+fn slot(table: &[u32], number: u64) -> u32
+    ensures { result ≡ slice_index_or table.now number 4294967295 }
+{
+    let len = table.len() as u64;
+    if number < len {
+        table[number as usize]
+    } else {
+        NOWHERE
+    }
+}
+
+// Writes a place into the table, which grows to hold it.
+fn write(table: &mut Vec<u32>, number: usize, place: u32) -> Result<(), Memory>
+    requires { number < 2 ^ 40 }
+    ensures ok { OnOk result ((n : ℕ) → slice_index_or table.new.items n 4294967295
+        ≡ (if number == n then place else slice_index_or table.old.items n 4294967295)) }
+    ensures err { OnErr result (table.new.items ≡ table.old.items) }
+{
+    if table.len() <= number {
+        table.resize(number + 1, NOWHERE)?;
+    }
+    table[number] = place;
+    Ok(())
+}
