@@ -1,0 +1,8 @@
+mod Found
+mod Implied
+mod Reaching
+mod Refuted
+mod Solved
+mod LeafFunctions
+mod FewRows
+mod Settling
