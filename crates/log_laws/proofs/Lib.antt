@@ -6,3 +6,7 @@ mod Solved
 mod LeafFunctions
 mod FewRows
 mod Settling
+mod Checks
+mod FalseLog
+
+mod Missing

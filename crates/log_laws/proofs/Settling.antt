@@ -1,9 +1,12 @@
 -- A clause that is neither falsified nor unit.
-use Rattle.std.proofs.Common.{◌≡◌, true, false, cond, not, ◌&&◌, inl, inr, List, [], ◌∷◌, Some, refl, sym, ◌∙◌, ap}
+use Rattle.std.proofs.Common.{◌≡◌, ℕ, Bool, true, false, cond, not, ◌&&◌, inl, inr, List, [], ◌∷◌, Some, refl, sym, ◌∙◌, ap}
 use Rattle.std.specs.List.{list_any, list_all, filter}
 use Rattle.std.proofs.lemmas.Bool.{cases_Bool, false≢true, or_left, or_right, or_cases, eqb-true, eq-eqb}
 use Rattle.dq_lits.specs.Literal.{Literal, positive, negative, opposite, same_literal}
 use Rattle.dq_lits.specs.Derivation.{unit, stuck, holds, status_by, status_of}
+use Rattle.hint_log.specs.declared.entries.Entry.{Entry}
+use Rattle.hint_log.specs.Entries.{clause_at}
+use Rattle.hint_log.specs.ProductiveLog.{IsNewByPropagation}
 use Rattle.log_laws.specs.Meaning.{IsSettled}
 
 same-sound : (k l : Literal) → same_literal k l ≡ true → k ≡ l
@@ -81,3 +84,70 @@ settled trues clause h = by (not_false trues clause) (left_among trues clause) h
               let two = among o.0 (later_held x xs o.0 o.1) in
               inr (record { one = x; other = o.0; one_among = one.0; other_among = two.0; different = o.2; one_open = one.1; other_open = two.1 })
         ]
+
+-- one that passes a test
+passing : (p : Literal → Bool) (xs : List Literal) → list_any p xs ≡ true → (l : Literal) × (holds xs l ≡ true) × (p l ≡ true)
+passing p [] h = absurd (false≢true h)
+passing p (x ∷ xs) h =
+    elim (or_cases (p x) (list_any p xs) h) [
+      | inl here ↦ (x, first_held x xs, here)
+      | inr later ↦ let r = passing p xs later in (r.0, later_held x xs r.0 r.1, r.2)
+    ]
+
+passes : (p : Literal → Bool) (xs : List Literal) (l : Literal) → holds xs l ≡ true → p l ≡ true → list_any p xs ≡ true
+passes p [] l h t = absurd (false≢true h)
+passes p (x ∷ xs) l h t =
+    elim (or_cases (same_literal l x) (holds xs l) h) [
+      | inl s ↦ or_left (p x) (list_any p xs) (ap p (sym (same-sound l x s)) ∙ t)
+      | inr later ↦ or_right (p x) (list_any p xs) (passes p xs l later t)
+    ]
+
+opposite-twice : (l : Literal) → opposite (opposite l) ≡ l
+opposite-twice (positive v) = refl
+opposite-twice (negative v) = refl
+
+opposite-other : (k l : Literal) → same_literal k l ≡ true → same_literal (opposite k) l ≡ false
+opposite-other (positive v) (positive w) h = refl
+opposite-other (positive v) (negative w) h = cc
+opposite-other (negative v) (positive w) h = cc
+opposite-other (negative v) (negative w) h = refl
+
+module _ (earlier : List Entry) (clause : List Literal) (new : IsNewByPropagation earlier clause) where
+  not_both : (k : Literal) → holds new.trues k ≡ true → holds new.trues (opposite k) ≡ true → ⊥
+  not_both k h o = false≢true (sym new.consistent ∙ passes (λ l. holds new.trues (opposite l)) new.trues k h o)
+
+  -- each literal but one is false
+  false_or_it : (k : Literal) → holds clause k ≡ true → holds new.trues (opposite k) ≡ false → k ≡ new.literal
+  false_or_it k h open' =
+      elim (cases_Bool (same_literal k new.literal)) [
+        | inl same ↦ same-sound k new.literal same
+        | inr other ↦ absurd (false≢true (sym open' ∙ new.rest_false k h other))
+      ]
+
+  not_known : (known : List Literal) → ((l : Literal) → holds known l ≡ true → holds clause l ≡ true) → IsSettled new.trues known → ⊥
+  not_known known inside (inl some) =
+      let r = passing (holds new.trues) known some in
+      elim (cases_Bool (same_literal r.0 new.literal)) [
+        | inl same ↦ false≢true (sym new.not_true ∙ ap (holds new.trues) (sym (same-sound r.0 new.literal same)) ∙ r.2)
+        | inr other ↦ not_both r.0 r.2 (new.rest_false r.0 (inside r.0 r.1) other)
+      ]
+  not_known known inside (inr two) =
+      let one = false_or_it two.one (inside two.one two.one_among) two.one_open in
+      let other = false_or_it two.other (inside two.other two.other_among) two.other_open in
+      false≢true (sym two.different ∙ ap (λ k. same_literal two.one k) (other ∙ sym one) ∙ same-refl two.one)
+
+  pub beside : (l : Literal) → holds clause l ≡ true → holds clause (opposite l) ≡ true → ⊥
+  beside l h o =
+      elim (cases_Bool (same_literal l new.literal)) [
+        | inl same ↦
+            let f = new.rest_false (opposite l) o (opposite-other l new.literal same) in
+            false≢true (sym new.not_true ∙ ap (holds new.trues) (sym (same-sound l new.literal same)) ∙ ap (holds new.trues) (sym (opposite-twice l)) ∙ f)
+        | inr other ↦ elim (cases_Bool (same_literal (opposite l) new.literal)) [
+          | inl same ↦
+              false≢true (sym new.not_true ∙ ap (holds new.trues) (sym (same-sound (opposite l) new.literal same)) ∙ new.rest_false l h other)
+          | inr too ↦ not_both (opposite l) (new.rest_false l h other) (new.rest_false (opposite l) o too)
+        ]
+      ]
+
+  pub unknown : (id : ℕ) (known : List Literal) → clause_at earlier id ≡ Some known → ((l : Literal) → holds known l ≡ true → holds clause l ≡ true) → ⊥
+  unknown id known is inside = not_known known inside (settled new.trues known (ap (status_of new.trues) (sym is) ∙ new.closed id))

@@ -11,10 +11,10 @@ use Rattle.hint_log.specs.declared.entries.Entry.TheVariants.{Answer}
 use Rattle.hint_log.specs.declared.origins.Leaf.{Leaf}
 use Rattle.hint_log.specs.Conditions.{AreLogged}
 use Rattle.hint_log.specs.Deciding.{DecidesFalse, DecidesTrue, RestsOnCircuit, IsFaultLeaf}
-use Rattle.hint_log.specs.Entries.{rounds_of}
+use Rattle.hint_log.specs.Entries.{clause_at, rounds_of}
 use Rattle.hint_log.specs.Growth.{Each}
 use Rattle.hint_log.specs.Naming.{rows_of}
-use Rattle.hint_log.specs.ProductiveLog.{MatchesOrigin, IsDerivedByHints, RefutesNewRow, IsClosed}
+use Rattle.hint_log.specs.ProductiveLog.{MatchesOrigin, IsDerivedByHints, RefutesNewRow, IsClosed, IsNewByPropagation}
 use Rattle.log_laws.specs.Circuits.{circuit_value, by_bits}
 
 -- what makes answers right: what holds of every log, and the first two points of a productive one
@@ -71,3 +71,11 @@ IsSettled trues clause = (list_any (holds trues) clause ≡ true) ⊎ HasTwoOpen
 -- where propagation has come to its end, every clause has a true literal, or two that aren't false
 abbrev pub ClosedClausesAreSettled : Type 0
 ClosedClausesAreSettled = (live : LiveClauses) (trues : List Literal) → IsClosed live trues → (id : ℕ) (clause : List Literal) → live id ≡ Some clause → IsSettled trues clause
+
+-- a learned clause that is new has no literal beside its negation, and doesn't hold all literals of an earlier clause
+pub record IsNewBeside (earlier : List Entry) (clause : List Literal) : Type 0 where
+  pub consistent : (l : Literal) → holds clause l ≡ true → holds clause (opposite l) ≡ false
+  pub unknown : (id : ℕ) (known : List Literal) → clause_at earlier id ≡ Some known → ((l : Literal) → holds known l ≡ true → holds clause l ≡ true) → ⊥
+
+abbrev pub NewClausesAreUnknown : Type 0
+NewClausesAreUnknown = (earlier : List Entry) (clause : List Literal) → IsNewByPropagation earlier clause → IsNewBeside earlier clause

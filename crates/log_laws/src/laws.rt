@@ -3,7 +3,7 @@
 //! Each law is the contract of a function without parameters: it holds of all formulas and logs, and a caller that needs it calls the
 //! function.
 
-ghost use Rattle.log_laws.specs.Meaning.{InstancesHaveNoModel, DecidedFalseIsFalse, DecidedTrueIsTrue, LeavesSolve, RoundsAreFew, ClosedClausesAreSettled};
+ghost use Rattle.log_laws.specs.Meaning.{InstancesHaveNoModel, DecidedFalseIsFalse, DecidedTrueIsTrue, LeavesSolve, RoundsAreFew, ClosedClausesAreSettled, NewClausesAreUnknown};
 
 use dq_lits::laws::{derived_line_is_implied, expansion_lifts, skolem_functions_show_true};
 
@@ -45,4 +45,9 @@ pub fn rounds_are_few()
 /// Where propagation has come to its end, each clause has a true literal, or two literals that aren't false.
 pub fn closed_clauses_are_settled()
     ensures { ClosedClausesAreSettled }
+{}
+
+/// A learned clause that is new by propagation has no literal beside its negation, and it contains no earlier clause.
+pub fn new_clauses_are_unknown()
+    ensures { NewClausesAreUnknown }
 {}
