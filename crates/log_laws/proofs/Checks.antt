@@ -1,22 +1,23 @@
 -- What tests and tables show of a given log.
-use Rattle.std.proofs.Common.{◌≡◌, ◌≢◌, ℕ, zero, suc, ◌+◌, ◌≤◌, ◌<◌, ◌==◌, Bool, true, false, true≢false, cond, not, ◌||◌, ◌&&◌, inl, inr, List, [], ◌∷◌, ◌++◌, length, map, Option, None, Some, IsSome, refl, sym, ◌∙◌, ap, subst, arith, nat_le}
+use Rattle.std.proofs.Common.{◌≡◌, ◌≢◌, ℕ, zero, suc, ◌+◌, ◌≤◌, ◌<◌, ◌==◌, Bool, true, false, true≢false, cond, ◌||◌, ◌&&◌, inl, inr, List, [], ◌∷◌, ◌++◌, length, map, Option, None, Some, IsSome, refl, sym, ◌∙◌, ap, subst, arith, nat_le}
 use Rattle.std.specs.List.{All, AllPairs, Contains, list_any, list_all, AllByRecursion, IsDistinct}
 use Rattle.std.specs.Option.{option_and_then}
-use Rattle.std.proofs.lemmas.Bool.{and_parts, or_cases, leb-true, eqb-true, false≢true}
+use Rattle.std.proofs.lemmas.Bool.{and_parts, or_cases, leb-true, eqb-true}
 use Rattle.std.proofs.lemmas.Bool.Decides.{Decides-eqb}
 use Rattle.std.proofs.lemmas.List.Elements.{All-from_recursion, All-contains}
 use Rattle.std.proofs.lemmas.Map.Made.{AllPairs-from_IsDistinct}
 use Rattle.std.proofs.lemmas.Map.Views.{Contains-from_any}
 use Rattle.dq_lits.specs.Formula.{Existential, IsWellFormed}
 use Rattle.dq_lits.specs.Literal.{Literal, positive, negative, variable_of, opposite, same_literal}
-use Rattle.dq_lits.specs.Derivation.{LiveClauses, holds, stuck, status_of}
+use Rattle.dq_lits.specs.Derivation.{holds, stuck, status_of}
 use Rattle.hint_log.specs.declared.entries.Entry.{Entry}
 use Rattle.hint_log.specs.declared.entries.Entry.TheVariants.{Named, Given, Learned, Answer, Round}
 use Rattle.hint_log.specs.declared.names.Name.{Name}
+use Rattle.hint_log.specs.declared.names.Name.TheVariants.{Input}
 use Rattle.hint_log.specs.declared.origins.Origin.{Origin}
 use Rattle.hint_log.specs.Conditions.{IsId, AreIds, AreNamed}
-use Rattle.hint_log.specs.Deciding.{ReachesGiven, HoldsSelectors}
-use Rattle.hint_log.specs.Entries.{has_id, last_id, count, numbered, clause_of, clause_at, name_of}
+use Rattle.hint_log.specs.Deciding.{ReachesGiven, HoldsSelectors, ReadsInput, itself, left, right}
+use Rattle.hint_log.specs.Entries.{has_id, last_id, numbered, clause_of, clause_at, name_of}
 use Rattle.hint_log.specs.Growth.{Each}
 use Rattle.hint_log.specs.ProductiveLog.{IsClosed}
 use Rattle.log_laws.proofs.Found.{split_at, each_at}
@@ -112,10 +113,10 @@ holds_group entries clause hints group inside one origin g rest reached =
 -- formulas whose variables are these three
 distinct : IsDistinct (λ x y. x == y) (1 ∷ 2 ∷ 3 ∷ [])
 unfolding IsDistinct
-distinct = ((refl ,( refl , tt)) ,( (refl , tt) ,( tt , tt)))
+distinct = ((refl, (refl, tt)), ((refl, tt), (tt, tt)))
 
 in_range : All (λ v. (1 ≤ v) × (v ≤ 3)) (1 ∷ 2 ∷ 3 ∷ [])
-in_range = All-from_recursion (λ v. (1 ≤ v) × (v ≤ 3)) (1 ∷ 2 ∷ 3 ∷ []) ((omega arith, omega arith) ,( (omega arith, omega arith) ,( (omega arith, omega arith) , tt)))
+in_range = All-from_recursion (λ v. (1 ≤ v) × (v ≤ 3)) (1 ∷ 2 ∷ 3 ∷ []) ((omega arith, omega arith), ((omega arith, omega arith), ((omega arith, omega arith), tt)))
 
 abbrev pub is_among : List ℕ → ℕ → Bool
 is_among xs v = list_any (λ x. v == x) xs
@@ -137,6 +138,30 @@ well_formed_by universals existentials matrix are sees bound = record {
   };
   bound = all_by is_bound (All (λ l. Contains (universals ++ map (λ y. y.variable) existentials) (variable_of l)))
       (λ clause h. subst (λ xs. All (λ l. Contains xs (variable_of l)) clause) (sym are)
-        (all_by (λ l. is_among (1 ∷ 2 ∷ 3 ∷ []) (variable_of l)) (λ l. Contains (1 ∷ 2 ∷ 3 ∷ []) (variable_of l)) (λ l. Contains-from_any eqb-true (variable_of l) (1 ∷ 2 ∷ 3 ∷ [])) clause h))
+      (all_by (λ l. is_among (1 ∷ 2 ∷ 3 ∷ []) (variable_of l)) (λ l. Contains (1 ∷ 2 ∷ 3 ∷ []) (variable_of l)) (λ l. Contains-from_any eqb-true (variable_of l) (1 ∷ 2 ∷ 3 ∷ [])) clause h))
       matrix bound;
 }
+
+-- a fact of each entry is one of an entry of the log
+pub contained_has : (P : Entry → Type 0) (entries : List Entry) (e : Entry) → Each (λ before x. P x) entries → Contains entries e → P e
+contained_has P [] e h (k, below, is) = absurd (omega arith)
+contained_has P (x ∷ es) e h (zero, below, is) = subst P is h.0
+contained_has P (x ∷ es) e h (suc k, below, is) = contained_has P es e h.1 (k, (let b : k < length es = omega arith in b), is)
+
+-- a fact of each name
+pub named_has : (P : Name → Type 0) (entries : List Entry) → Each (λ before e. (w : ℕ) (n : Name) → e ≡ Named w n → P n) entries → (v : ℕ) (n : Name) → name_of entries v ≡ Some n → P n
+named_has P [] h v n is = cc
+named_has P (Named w m ∷ es) h v n is = by_bit (v == w) (named_has P es h.1 v n) is where
+  by_bit : (b : Bool) → (name_of es v ≡ Some n → P n) → cond b (Some m) (name_of es v) ≡ Some n → P n
+  by_bit true later is = let same : m ≡ n = cc in h.0 w n (ap (Named w) same)
+  by_bit false later is = later is
+named_has P (Given _ _ ∷ es) h v n is = named_has P es h.1 v n is
+named_has P (Learned _ _ ∷ es) h v n is = named_has P es h.1 v n is
+named_has P (Answer _ _ ∷ es) h v n is = named_has P es h.1 v n is
+named_has P (Round _ _ _ ∷ es) h v n is = named_has P es h.1 v n is
+
+-- what is read is named an input
+pub read_is_named : (entries : List Entry) (l : Literal) (x : ℕ) → ReadsInput entries l x → (v : ℕ) × (name_of entries v ≡ Some (Input x))
+read_is_named entries _ _ (itself l x is) = (variable_of l, is)
+read_is_named entries _ _ (left l a b x is reads) = read_is_named entries a x reads
+read_is_named entries _ _ (right l a b x is reads) = read_is_named entries b x reads

@@ -8,5 +8,6 @@ mod FewRows
 mod Settling
 mod Checks
 mod FalseLog
-
 mod Missing
+mod TrueLog
+mod MissingTrue

@@ -1,17 +1,11 @@
 -- Logs that miss one point alone.
-use Rattle.std.proofs.Common.{◌≡◌, ◌≢◌, ℕ, zero, suc, ◌+◌, ◌≤◌, ◌<◌, ◌==◌, Bool, true, false, true≢false, ◌||◌, List, [], ◌∷◌, map, length, slice_index_or, Option, None, Some, refl, sym, ◌∙◌, ap, subst, arith}
-use Rattle.std.specs.List.{All, Contains, list_any}
+use Rattle.std.proofs.Common.{◌≡◌, ◌≢◌, ◌==◌, Bool, true, false, true≢false, ◌||◌, List, [], ◌∷◌, slice_index_or, refl, sym, ◌∙◌, ap, subst, arith}
+use Rattle.std.specs.List.{All, list_any}
 use Rattle.std.proofs.lemmas.Bool.{false≢true}
 use Rattle.std.proofs.lemmas.List.Elements.{All-head}
-use Rattle.dq_lits.specs.Literal.{Assignment, Literal, positive, negative, same_literal, clause_true}
+use Rattle.dq_lits.specs.Literal.{Literal, positive, negative, clause_true}
 use Rattle.dq_lits.specs.Expansion.{universal_literal_true, instance_clause, InstanceHolds}
-use Rattle.dq_lits.specs.Derivation.{holds}
-use Rattle.hint_log.specs.declared.entries.Entry.{Entry}
-use Rattle.hint_log.specs.declared.entries.Entry.TheVariants.{Named, Given, Learned, Answer, Round}
 use Rattle.hint_log.specs.declared.origins.Origin.TheVariants.{Instance}
-use Rattle.hint_log.specs.Conditions.{AreLogged}
-use Rattle.hint_log.specs.Deciding.{KeepsSelectors}
-use Rattle.hint_log.specs.Naming.{numbered_from_one}
 use Rattle.hint_log.specs.Origins.{IsInstanceRest}
 use Rattle.hint_log.specs.ProductiveLog.{HasModelWith}
 use Rattle.log_laws.specs.Examples.{Point, matching_origins, derived_lemmas, new_lemmas, new_rows, followed_models, single_givens, Meets, MissesAlone, blind_negation, tried_once, true_clause_given, hint_missing, known_clause_learned, row_tried_again, instances_ignored, instance_given_twice}
@@ -39,23 +33,33 @@ true_clause_others new_lemmas differs = (tt, tried_new)
 true_clause_others new_rows differs = (tt, tried_rows)
 true_clause_others followed_models differs = (tt, tried_models)
 true_clause_others single_givens differs =
-    (first_of tried_once (Instance 1 3) (negative 1 ∷ negative 2 ∷ positive 3 ∷ []) ((λ c h. cc) ,( (λ c h. cc) ,( (λ c h. cc) ,( (λ c h. cc) ,( (λ c h. cc) ,( (λ c h. cc) , tt)))))) refl, tried_single)
+    (first_of tried_once (Instance 1 3) (negative 1 ∷ negative 2 ∷ positive 3 ∷ []) ((λ c h. cc), ((λ c h. cc), ((λ c h. cc), ((λ c h. cc), ((λ c h. cc), ((λ c h. cc), tt)))))) refl, tried_single)
 
 pub true_clause_misses : MissesAlone blind_negation true_clause_given matching_origins
 true_clause_misses = record {
-  missed = true_clause_missed; others = true_clause_others;
-  logged = (named_by tried_once (negative 1 ∷ negative 2 ∷ positive 3 ∷ []) refl, tried_logged); keeps_selectors = (tt, tried_selectors);
+  missed = true_clause_missed;
+  others = true_clause_others;
+  logged = (named_by tried_once (negative 1 ∷ negative 2 ∷ positive 3 ∷ []) refl, tried_logged);
+  keeps_selectors = (tt, tried_selectors);
 }
 
 hint_others : (other : Point) → other ≢ derived_lemmas → Meets blind_negation hint_missing other
 hint_others matching_origins differs = (tt, tried_matches)
 hint_others derived_lemmas differs = absurd (differs refl)
-hint_others new_lemmas differs =
-    (record {
-      literal = positive 2; trues = positive 1 ∷ []; among = refl; no_selector = refl; consistent = refl; not_true = refl; not_false = refl;
-      rest_false = rest_by (positive 1 ∷ []) (positive 2) (negative 1 ∷ positive 2 ∷ []) refl;
-      closed = closed_by (positive 1 ∷ []) tried_once (refl ,( refl ,( refl ,( refl ,( refl ,( refl , tt))))));
-    }, tried_new)
+hint_others new_lemmas differs = (
+  record {
+    literal = positive 2;
+    trues = positive 1 ∷ [];
+    among = refl;
+    no_selector = refl;
+    consistent = refl;
+    not_true = refl;
+    not_false = refl;
+    rest_false = rest_by (positive 1 ∷ []) (positive 2) (negative 1 ∷ positive 2 ∷ []) refl;
+    closed = closed_by (positive 1 ∷ []) tried_once (refl, (refl, (refl, (refl, (refl, (refl, tt))))));
+  },
+  tried_new,
+)
 hint_others new_rows differs = (tt, tried_rows)
 hint_others followed_models differs = (tt, tried_models)
 hint_others single_givens differs = (tt, tried_single)
@@ -65,7 +69,8 @@ hint_missed h = let never = h.0 in cc
 
 pub hint_misses : MissesAlone blind_negation hint_missing derived_lemmas
 hint_misses = record {
-  missed = hint_missed; others = hint_others;
+  missed = hint_missed;
+  others = hint_others;
   logged = ((named_by tried_once (negative 1 ∷ positive 2 ∷ []) refl, ids_by tried_once (1 ∷ []) refl), tried_logged);
   keeps_selectors = (holds_group tried_once (negative 1 ∷ positive 2 ∷ []) (1 ∷ []) 1 refl tried_group, tried_selectors);
 }
@@ -134,6 +139,8 @@ twice_others single_givens differs = absurd (differs refl)
 
 pub twice_misses : MissesAlone blind_negation instance_given_twice single_givens
 twice_misses = record {
-  missed = λ h. h.0.first refl (negative 1 ∷ positive 2 ∷ positive 3 ∷ []) (1, omega arith, refl); others = twice_others;
-  logged = (named_by tried_once (negative 1 ∷ positive 2 ∷ positive 3 ∷ []) refl, tried_logged); keeps_selectors = (tt, tried_selectors);
+  missed = λ h. h.0.first refl (negative 1 ∷ positive 2 ∷ positive 3 ∷ []) (1, omega arith, refl);
+  others = twice_others;
+  logged = (named_by tried_once (negative 1 ∷ positive 2 ∷ positive 3 ∷ []) refl, tried_logged);
+  keeps_selectors = (tt, tried_selectors);
 }

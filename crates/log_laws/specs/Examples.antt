@@ -1,6 +1,6 @@
 -- Logs of two small formulas, newest entry first, to hold the definitions against.
-use Rattle.std.specs.Prelude.{ℕ, ◌≢◌, Bool, true, false, List, [], ◌∷◌}
-use Rattle.dq_lits.specs.Literal.{Literal, positive, negative}
+use Rattle.std.specs.Prelude.{ℕ, ◌≢◌, true, false, List, [], ◌∷◌}
+use Rattle.dq_lits.specs.Literal.{positive, negative}
 use Rattle.dq_lits.specs.Formula.{Existential, Dqbf}
 use Rattle.hint_log.specs.declared.entries.Entry.{Entry}
 use Rattle.hint_log.specs.declared.entries.Entry.TheVariants.{Named, Given, Learned, Answer, Round}
@@ -146,4 +146,16 @@ shown =
     Answer (negative 1 ∷ negative 5 ∷ []) (12 ∷ 13 ∷ 11 ∷ 8 ∷ 9 ∷ 10 ∷ 3 ∷ [])
     ∷ Learned (negative 1 ∷ negative 5 ∷ negative 7 ∷ []) (6 ∷ 7 ∷ 2 ∷ [])
     ∷ Learned (negative 1 ∷ negative 5 ∷ negative 6 ∷ []) (4 ∷ 5 ∷ 1 ∷ [])
+    ∷ faults_given
+
+-- in one group, 3 is the gate and input 2
+abbrev pub second_output : List Entry
+second_output = Given (Fault 3 1 (LeafLiteral (positive 2))) (negative 5 ∷ negative 8 ∷ negative 2 ∷ []) ∷ faults_given
+
+-- faults in a further group, before any candidates failed
+abbrev pub second_turn_at_once : List Entry
+second_turn_at_once =
+    Given (Fault 1 1 (LeafLiteral (positive 4))) (negative 9 ∷ negative 10 ∷ positive 4 ∷ [])
+    ∷ Named 10 (Bad 9 1)
+    ∷ Named 9 (Selector 9)
     ∷ faults_given
