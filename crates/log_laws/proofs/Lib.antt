@@ -11,3 +11,4 @@ mod FalseLog
 mod Missing
 mod TrueLog
 mod MissingTrue
+mod TrueDecided
