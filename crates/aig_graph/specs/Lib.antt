@@ -1,0 +1,3 @@
+pub mod Graph
+pub mod Made
+pub mod Joining
