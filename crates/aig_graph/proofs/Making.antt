@@ -1,17 +1,16 @@
 -- What is made of what was made.
-use Rattle.std.proofs.Common.{◌≡◌, ◌≢◌, ℕ, suc, ◌+◌, ◌≤◌, ◌<◌, ◌==◌, Bool, true, false, cond, not, ◌&&◌, ◌||◌, inl, inr, ◌⊎◌, List, [], ◌∷◌, ◌++◌, length, take, drop, get_or, ◌-◌, length-append, Option, None, Some, refl, sym, ◌∙◌, ap, subst, arith, append_assoc}
+use Rattle.std.proofs.Common.{◌≡◌, ℕ, ◌==◌, Bool, true, false, cond, not, ◌&&◌, ◌||◌, inl, inr, List, [], ◌∷◌, ◌++◌, length, Some, refl, sym, ◌∙◌, ap, subst, arith}
 use Rattle.std.specs.Prelude.{Result, Ok, Err, OnOk, OnErr, IfOk}
-use Rattle.std.specs.List.{All, Contains, list_all}
-use Rattle.std.proofs.Math.Seq.{drop-append_seam}
+use Rattle.std.specs.List.{Contains, list_all}
 use Rattle.std.proofs.lemmas.Bool.{eq-eqb, cond-true}
 use Rattle.std.proofs.lemmas.List.Elements.{Contains-append_left, Contains-push}
 use Rattle.aig_graph.specs.declared.nodes.Node.{Node}
-use Rattle.aig_graph.specs.declared.nodes.Node.TheVariants.{Constant, Input, Gate}
+use Rattle.aig_graph.specs.declared.nodes.Node.TheVariants.{Constant, Gate}
 use Rattle.aig_graph.specs.declared.nodes.Sides.{Sides}
-use Rattle.aig_graph.specs.Graph.{AigGraph, node_value, node_support, IsNode, AreSides, AreGates, IsGraph, gate_at}
+use Rattle.aig_graph.specs.Graph.{AigGraph, node_value, node_support, IsNode, AreSides, IsGraph, gate_at}
 use Rattle.aig_graph.specs.Joining.{AreInner}
-use Rattle.aig_graph.specs.Made.{Extends, HasMore, IsMade, IsChosen, IsReadBy, IsCube, exclusive_or, sides_of, with_gate, cut_to}
-use Rattle.aig_graph.proofs.Staying.{extends, more_more, gate_is_made, made_from, made_swapped}
+use Rattle.aig_graph.specs.Made.{Extends, HasMore, IsMade, IsChosen, IsCube, exclusive_or, sides_of, with_gate}
+use Rattle.aig_graph.proofs.Staying.{extends, gate_is_made, made_from, made_swapped}
 
 -- a gate more, or none
 pub pushed_grown : {E : Type 0} (result : Result Node E) (old new : AigGraph) (s : Sides) → OnOk result (new ≡ with_gate old s) → OnErr result (new ≡ old) → HasMore old new
@@ -91,20 +90,13 @@ xor_made g0 g1 g2 g3 a b na nb l r n e1 e2 e3 is_a is_b va vb left right either 
       is_node = c.is_node;
       value = λ m. c.value m ∙ ap (λ x. cond (node_value g0 m a) x (node_value g0 m b)) (vb.value g0 m) ∙ other (node_value g0 m a) (node_value g0 m b);
       reads = λ i has. elim (c.reads i has) [
-          | inl of_a ↦ inl of_a
-          | inr of_b ↦ elim of_b [ inl negated ↦ inr (subst (λ xs. Contains xs i) (vb.support g0) negated) | inr plain ↦ inr plain ]
-        ];
+        | inl of_a ↦ inl of_a
+        | inr of_b ↦ elim of_b [ inl negated ↦ inr (subst (λ xs. Contains xs i) (vb.support g0) negated) | inr plain ↦ inr plain ]
+      ];
     } where
-  other : (x y : Bool) → cond x (not y) y ≡ exclusive_or x y
-  other true y = refl
-  other false y = refl
-
--- what was there before some gates were added
-pub cut_back : (old mid : AigGraph) → HasMore old mid → cut_to (length old.gates) mid ≡ old
-cut_back old mid h =
-    let count : length mid.gates - length old.gates ≡ length h.more = let long = ap length h.grown ∙ length-append h.more old.gates in omega (arith, long) in
-    let gates : drop (length mid.gates - length old.gates) mid.gates ≡ old.gates = ap (λ k. drop k mid.gates) count ∙ ap (drop (length h.more)) h.grown ∙ drop-append_seam h.more old.gates in
-    ap (λ i. record { inputs = i; gates = drop (length mid.gates - length old.gates) mid.gates }) h.inputs ∙ ap (λ gs. record { inputs = old.inputs; gates = gs }) gates
+      other : (x y : Bool) → cond x (not y) y ≡ exclusive_or x y
+      other true y = refl
+      other false y = refl
 
 -- no node yet
 pub empty_cube : (graph : AigGraph) → IsCube graph graph [] (Constant true)
@@ -116,9 +108,9 @@ longer_cube old mid new nodes made n next e is_n cube more = record {
   is_node = more.is_node;
   value = λ m. more.value m ∙ ap (λ x. x && node_value mid m n) (cube.value m) ∙ ap (λ x. list_all (node_value old m) nodes && x) (e.values n is_n m) ∙ sym (all_more (node_value old m) nodes);
   reads = λ i has. elim (more.reads i has) [
-      | inl before ↦ (let r = cube.reads i before in record { node = r.node; among = Contains-append_left nodes (n ∷ []) r.node r.among; reads = r.reads })
-      | inr here ↦ record { node = n; among = Contains-push nodes n; reads = subst (λ xs. Contains xs i) (e.supports n is_n) here }
-    ];
+    | inl before ↦ (let r = cube.reads i before in record { node = r.node; among = Contains-append_left nodes (n ∷ []) r.node r.among; reads = r.reads })
+    | inr here ↦ record { node = n; among = Contains-push nodes n; reads = subst (λ xs. Contains xs i) (e.supports n is_n) here }
+  ];
 } where
   all_more : (p : Node → Bool) (xs : List Node) → list_all p (xs ++ n ∷ []) ≡ (list_all p xs && p n)
   all_more p [] = and_true (p n) where

@@ -1,14 +1,14 @@
 -- What the nodes of a graph are worth and read, and that this stays as it grows.
-use Rattle.std.proofs.Common.{◌≡◌, ◌≢◌, ℕ, suc, ◌+◌, ◌≤◌, ◌<◌, ◌==◌, Bool, true, false, cond, not, ◌&&◌, ◌||◌, inl, inr, ◌⊎◌, List, [], ◌∷◌, ◌++◌, length, Option, None, Some, refl, sym, ◌∙◌, ap, subst, arith, append_assoc}
+use Rattle.std.proofs.Common.{◌≡◌, ◌≢◌, ℕ, suc, ◌+◌, ◌≤◌, ◌<◌, ◌==◌, Bool, true, false, cond, ◌&&◌, inl, inr, ◌⊎◌, List, [], ◌∷◌, ◌++◌, length, Some, refl, sym, ◌∙◌, ap, subst, arith, append_assoc}
 use Rattle.std.specs.List.{Contains}
 use Rattle.std.proofs.lemmas.Bool.{eqb-true, eq-eqb, ne_eqb, cond-false, false≢true}
 use Rattle.std.proofs.lemmas.List.Elements.{Contains-append_cases}
 use Rattle.aig_graph.specs.declared.nodes.Node.{Node}
 use Rattle.aig_graph.specs.declared.nodes.Node.TheVariants.{Constant, Input, Gate}
 use Rattle.aig_graph.specs.declared.nodes.Sides.{Sides}
-use Rattle.aig_graph.specs.Graph.{AigGraph, with_sign, value_by, gate_value, node_value, support_by, gate_support, node_support, IsEarlierNode, IsNode, AreSides, AreGates, IsGraph, gate_at}
+use Rattle.aig_graph.specs.Graph.{AigGraph, with_sign, value_by, gate_value, node_value, support_by, gate_support, node_support, IsEarlierNode, IsNode, AreGates, IsGraph, gate_at}
 use Rattle.aig_graph.proofs.Numbered.{sides_are}
-use Rattle.aig_graph.specs.Made.{Extends, HasMore, IsMade, sides_of, with_gate}
+use Rattle.aig_graph.specs.Made.{Extends, HasMore, IsMade, sides_of}
 
 later_number : (g count : ℕ) → g < count → (g == count) ≡ false
 later_number g count below = ne_eqb g count (λ is. omega (arith, below, is))
@@ -78,8 +78,10 @@ gate_value_at m inputs [] g s all at = cc
 gate_value_at m inputs (x ∷ gates) g s all at = by_bit (g == length gates) refl (gate_value_at m inputs gates g s all.1) at where
   here : Sides → (ℕ → Bool) → Bool
   here t v = value_by m v t.left && value_by m v t.right
+
   up : (t : Sides) → IsEarlierNode inputs (length gates) t.left → IsEarlierNode inputs (length gates) t.right → here t (gate_value m gates) ≡ here t (gate_value m (x ∷ gates))
   up t l r = ap (λ b. b && value_by m (gate_value m gates) t.right) (sym (value_before m inputs x gates t.left l)) ∙ ap (λ b. value_by m (gate_value m (x ∷ gates)) t.left && b) (sym (value_before m inputs x gates t.right r))
+
   by_bit : (b : Bool) → (g == length gates) ≡ b → (gate_at gates g ≡ Some s → gate_value m gates g ≡ here s (gate_value m gates)) → cond b (Some x) (gate_at gates g) ≡ Some s →
       cond b (here x (gate_value m gates)) (gate_value m gates g) ≡ here s (gate_value m (x ∷ gates))
   by_bit true e later at = let same : x ≡ s = cc in ap (λ t. here t (gate_value m gates)) same ∙ up s (subst (λ t. IsEarlierNode inputs (length gates) t.left) same all.0.left) (subst (λ t. IsEarlierNode inputs (length gates) t.right) same all.0.right)
@@ -95,8 +97,10 @@ gate_support_at inputs [] g s all at = cc
 gate_support_at inputs (x ∷ gates) g s all at = by_bit (g == length gates) refl (gate_support_at inputs gates g s all.1) at where
   here : Sides → (ℕ → List ℕ) → List ℕ
   here t v = support_by v t.left ++ support_by v t.right
+
   up : (t : Sides) → IsEarlierNode inputs (length gates) t.left → IsEarlierNode inputs (length gates) t.right → here t (gate_support gates) ≡ here t (gate_support (x ∷ gates))
   up t l r = ap (λ b. b ++ support_by (gate_support gates) t.right) (sym (support_before inputs x gates t.left l)) ∙ ap (λ b. support_by (gate_support (x ∷ gates)) t.left ++ b) (sym (support_before inputs x gates t.right r))
+
   by_bit : (b : Bool) → (g == length gates) ≡ b → (gate_at gates g ≡ Some s → gate_support gates g ≡ here s (gate_support gates)) → cond b (Some x) (gate_at gates g) ≡ Some s →
       cond b (here x (gate_support gates)) (gate_support gates g) ≡ here s (gate_support (x ∷ gates))
   by_bit true e later at = let same : x ≡ s = cc in ap (λ t. here t (gate_support gates)) same ∙ up s (subst (λ t. IsEarlierNode inputs (length gates) t.left) same all.0.left) (subst (λ t. IsEarlierNode inputs (length gates) t.right) same all.0.right)
@@ -120,9 +124,9 @@ made_from f old new a b n e is_a is_b made = record {
   is_node = made.is_node;
   value = λ m. made.value m ∙ ap (λ x. f x (node_value new m b)) (e.values a is_a m) ∙ ap (f (node_value old m a)) (e.values b is_b m);
   reads = λ i has. elim (made.reads i has) [
-      | inl left ↦ inl (subst (λ xs. Contains xs i) (e.supports a is_a) left)
-      | inr right ↦ inr (subst (λ xs. Contains xs i) (e.supports b is_b) right)
-    ];
+    | inl left ↦ inl (subst (λ xs. Contains xs i) (e.supports a is_a) left)
+    | inr right ↦ inr (subst (λ xs. Contains xs i) (e.supports b is_b) right)
+  ];
 }
 
 -- in either order
@@ -137,3 +141,10 @@ made_swapped old new a b n made = record {
   and_swapped true false = refl
   and_swapped false true = refl
   and_swapped false false = refl
+
+-- below a number and one more
+pub below_or_here : (h g : ℕ) → h < g + 1 → (h < g) ⊎ (h ≡ g)
+below_or_here h g below = by (h == g) refl where
+  by : (b : Bool) → (h == g) ≡ b → (h < g) ⊎ (h ≡ g)
+  by true e = inr (eqb-true h g e)
+  by false e = let differ : h ≢ g = λ is. false≢true (sym e ∙ eq-eqb h g is) in inl (omega (arith, below, differ))

@@ -1,6 +1,6 @@
 -- And-inverter graphs: a node's value and which inputs it reads (A. Kuehlmann, V. Paruthi, F. Krohm, M. Ganai, "Robust Boolean reasoning for
 -- equivalence checking and functional property verification", 2002).
-use Rattle.std.specs.Prelude.{◌≡◌, ◌≢◌, ℕ, ◌+◌, ◌==◌, ◌<◌, ◌≤◌, ◌^◌, Bool, true, false, not, ◌&&◌, List, [], ◌∷◌, ◌++◌, length, Option, None, Some, if◌then◌else◌}
+use Rattle.std.specs.Prelude.{◌≡◌, ◌≢◌, ℕ, ◌+◌, ◌==◌, ◌<◌, ◌^◌, Bool, true, false, not, ◌&&◌, List, [], ◌∷◌, ◌++◌, length, Option, None, Some, if◌then◌else◌}
 use Rattle.aig_graph.specs.declared.nodes.Node.{Node}
 use Rattle.aig_graph.specs.declared.nodes.Node.TheVariants.{Constant, Input, Gate}
 use Rattle.aig_graph.specs.declared.nodes.Look.{Look}
@@ -45,6 +45,12 @@ gate_support (sides ∷ earlier) g =
 -- the inputs in a node's cone
 abbrev pub node_support : AigGraph → Node → List ℕ
 node_support graph node = support_by (gate_support graph.gates) node
+
+-- how many gates there are up to this node
+abbrev pub gate_count : Node → ℕ
+gate_count (Constant b) = 0
+gate_count (Input i negated) = 0
+gate_count (Gate g negated) = g + 1
 
 -- a node over so many inputs and gates
 abbrev pub IsEarlierNode : ℕ → ℕ → Node → Type 0

@@ -1,5 +1,5 @@
 -- What calls make: how a graph grows, and what a new node is.
-use Rattle.std.specs.Prelude.{◌≡◌, ℕ, ◌⊎◌, Bool, true, false, not, ◌&&◌, List, ◌∷◌, ◌++◌, ◌-◌, length, drop, if◌then◌else◌}
+use Rattle.std.specs.Prelude.{◌≡◌, ℕ, ◌⊎◌, Bool, true, false, not, List, ◌∷◌, ◌++◌, ◌-◌, length, drop, if◌then◌else◌}
 use Rattle.std.specs.List.{Contains, list_all}
 use Rattle.aig_graph.specs.declared.nodes.Node.{Node}
 use Rattle.aig_graph.specs.declared.nodes.Sides.{Sides}

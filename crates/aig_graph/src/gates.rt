@@ -96,7 +96,11 @@ impl Graph {
         ensures made { IfOk result (IsMade (λ x y. x && y) self.old self.new a b) }
         ensures err { OnErr result (self.new ≡ self.old) }
     {
-        if goes_first(b, a) { self.gate_in_order(b, a) } else { self.gate_in_order(a, b) }
+        if goes_first(b, a) {
+            self.gate_in_order(b, a)
+        } else {
+            self.gate_in_order(a, b)
+        }
     }
 
     fn gate_in_order(&mut self, a: Node, b: Node) -> Result<Node, Memory>

@@ -1,5 +1,5 @@
 ghost use Rattle.std.specs.Prelude.{◌≡◌, false, ◌<◌, ◌≤◌, ◌^◌, ◌+◌, [], ◌∷◌, ℕ, length, OnOk, OnErr, IfOk, IfSome, Some};
-ghost use Rattle.aig_graph.specs.Graph.{IsGraph, IsNode, AreSides, IsLook, place_of, size_of, gate_at};
+ghost use Rattle.aig_graph.specs.Graph.{IsGraph, IsNode, AreSides, IsLook, place_of, size_of, gate_at, gate_count};
 ghost use Rattle.aig_graph.specs.Joining.{AreInner};
 ghost use Rattle.aig_graph.specs.Made.{sides_of, with_gate, cut_to};
 
@@ -73,7 +73,7 @@ impl Graph {
         match n {
             Node::Constant(_) => None,
             Node::Input(i, _) => Some(i),
-            Node::Gate(g, _) => Some(self.inputs + g),
+            Node::Gate(g, _) => Some(self.gate_place(g)),
         }
     }
 
@@ -101,11 +101,33 @@ impl Graph {
         self.gates[g]
     }
 
+    // The place of a gate.
+    pub(crate) fn gate_place(&self, g: usize) -> usize
+        requires { g < length self.now.gates }
+        ensures { result ≡ self.now.inputs + g }
+    {
+        self.inputs + g
+    }
+
     // How many gates there are.
     pub(crate) fn gates(&self) -> usize
         ensures { result ≡ length self.now.gates }
     {
         self.gates.len()
+    }
+
+    // How many gates there are up to this node.
+    pub(crate) fn gates_up_to(&self, n: Node) -> usize
+        requires { IsNode self.now n }
+        ensures value { result ≡ gate_count n }
+        ensures few { result ≤ length self.now.gates }
+    {
+        let _ = &self.gates;
+        match n {
+            Node::Constant(_) => 0,
+            Node::Input(_, _) => 0,
+            Node::Gate(g, _) => g + 1,
+        }
     }
 
     // A gate over these sides, where there is one.
@@ -125,7 +147,11 @@ impl Graph {
         if g >= self.gates() {
             return None;
         }
-        if self.sides(g).are(left, right) { Some(g) } else { None }
+        if self.sides(g).are(left, right) {
+            Some(g)
+        } else {
+            None
+        }
     }
 
     // Adds a gate.

@@ -7,7 +7,9 @@
 pub use graphs::Graph;
 pub use nodes::{Look, Node};
 
-
 mod gates;
 mod graphs;
+pub mod laws;
 mod nodes;
+mod supports;
+mod values;

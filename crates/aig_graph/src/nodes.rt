@@ -64,8 +64,14 @@ impl Node {
         ensures { IsBeside self other result }
     {
         match (self, other) {
-            (Node::Input(i, negated), Node::Input(j, other_negated)) => by_number_and_sign(i == j, negated == other_negated),
-            (Node::Gate(g, negated), Node::Gate(h, other_negated)) => by_number_and_sign(g == h, negated == other_negated),
+            (Node::Input(i, negated), Node::Input(j, other_negated)) => by_number_and_sign(
+                i == j,
+                negated == other_negated,
+            ),
+            (Node::Gate(g, negated), Node::Gate(h, other_negated)) => by_number_and_sign(
+                g == h,
+                negated == other_negated,
+            ),
             _ => Beside::Apart,
         }
     }

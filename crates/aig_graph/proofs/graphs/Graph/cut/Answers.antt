@@ -1,5 +1,5 @@
 use Rattle.std.proofs.Common.{ap, reverse, sym, ◌∙◌, subst}
-use Rattle.aig_graph.specs.Graph.{AigGraph, IsGraph, AreGates}
+use Rattle.aig_graph.specs.Graph.{AreGates}
 use Rattle.aig_graph.specs.Made.{cut_to}
 use Rattle.aig_graph.proofs.Numbered.{first_gates, first_gates_lawful}
 use Rattle.aig_graph.proofs.graphs.Graph.cut.Goals as goal

@@ -1,5 +1,5 @@
-use Rattle.std.proofs.Common.{subst, ap, arith}
-use Rattle.aig_graph.specs.Graph.{AigGraph, IsGraph}
+use Rattle.std.proofs.Common.{subst}
+use Rattle.aig_graph.specs.Graph.{IsGraph}
 use Rattle.aig_graph.proofs.Numbered.{gate_at_kept, sides_are}
 use Rattle.aig_graph.proofs.graphs.Graph.sides.Goals as goal
 
