@@ -176,7 +176,7 @@ held_at : (es : List Entry) (at : ℕ) (c d : List Literal) (l : Literal) → cl
 held_at es at c d l is also m = ap (λ x. holds x l) (some_same c d (sym is ∙ also)) ∙ m
 
 -- an entry that holds the selectors of what it hints holds those of whatever it reaches
-holds_reached : (es : List Entry) (c : List Literal) (hs : List ℕ) → AreLogged es → Each IsGivenToGroup es → Each KeepsHintedSelectors es → HoldsHintedSelectors es c hs → HoldsSelectors es c hs
+pub holds_reached : (es : List Entry) (c : List Literal) (hs : List ℕ) → AreLogged es → Each IsGivenToGroup es → Each KeepsHintedSelectors es → HoldsHintedSelectors es c hs → HoldsSelectors es c hs
 holds_reached es c hs logged grouped kept here o g rest r =
     let sel = given_to_selectors es logged grouped r.id o g rest r.is_given in
     let start = along es (all_held es logged kept) r.hint r.id r.reached (negative g ∷ rest) (ap (option_and_then clause_of) r.is_given) (negative g) (first_held (negative g) rest) sel in

@@ -6,6 +6,7 @@ use Rattle.hint_log.specs.declared.entries.Entry.{Entry}
 use Rattle.hint_log.specs.declared.entries.Entry.TheVariants.{Learned, Answer}
 use Rattle.hint_log.specs.declared.names.Name.TheVariants.{Selector}
 use Rattle.hint_log.specs.Conditions.{AreLogged}
+use Rattle.hint_log.specs.Deciding.{KeepsSelectors}
 use Rattle.hint_log.specs.Entries.{clause_at, name_of, last_id}
 use Rattle.hint_log.specs.Growth.{Each}
 use Rattle.hint_log.specs.Naming.{is_selector}
@@ -40,4 +41,5 @@ pub record Fit (held : List (List Literal)) (variables : ℕ) (entries : List En
   pub negated : NegatesSelectors entries
   pub derived : Each IsDerivedByHints entries
   pub new : Each IsNewLemma entries
-  pub kept : Each KeepsHintedSelectors entries
+  pub hinted : Each KeepsHintedSelectors entries
+  pub kept : KeepsSelectors entries
