@@ -1,0 +1,6 @@
+mod Numbered
+mod Staying
+mod Making
+mod Valuing
+mod Reading
+mod Supported

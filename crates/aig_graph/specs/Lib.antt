@@ -1,0 +1,5 @@
+pub mod Graph
+pub mod Made
+pub mod Joining
+pub mod Marking
+pub mod Outputs

@@ -1,0 +1,15 @@
+//! And-inverter graphs, structurally hashed: gates over earlier nodes, each node's value, and the inputs that it reads.
+//!
+//! A node is plain data, and belongs to the graph that made it. Equal gates are made once, and gates with equal, opposite or constant
+//! sides are not made at all; no contract speaks of that.
+#![tactic(auto)]
+
+pub use graphs::Graph;
+pub use nodes::{Look, Node};
+
+mod gates;
+mod graphs;
+pub mod laws;
+mod nodes;
+mod supports;
+mod values;

@@ -1,0 +1,14 @@
+pub mod Analyses
+pub mod Backing
+pub mod Extension
+pub mod Growing
+pub mod Lessons
+pub mod Marks
+pub mod Passes
+pub mod Scanning
+pub mod Searching
+pub mod Solver
+pub mod Sound
+pub mod Steps
+pub mod Table
+pub mod TrailInside
