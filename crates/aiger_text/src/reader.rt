@@ -2,6 +2,7 @@
 
 ghost use Rattle.std.specs.Prelude.{◌≡◌, ◌+◌, ◌<◌, ◌^◌, length, OnOk, IfOk, MatchOption};
 ghost use Rattle.std.specs.Option.{option_copied};
+ghost use Rattle.aiger_text.specs.Grammar.{SpellsCircuit};
 ghost use Rattle.aiger_text.specs.Scan.{scan, finish, next_part, AllGrounded, IsAagReading};
 ghost use Rattle.circuit_plain.specs.Ground.{IsFirstUngrounded};
 ghost use Rattle.aiger_text.specs.Steps.{TakesLine, StopsAt, IsSymbolIfLast};
@@ -11,6 +12,7 @@ use crate::body::{Part, Reader, part_of, start_reader, take_gate, take_input, ta
 use crate::faults::{AagFault, AagStop, LineStop};
 use crate::files::{AagFile, Text};
 use crate::headers::read_header;
+use crate::laws::circuit_or_first_fault;
 use crate::symbol_lines::{is_blank, is_comment_mark};
 use crate::symbol_steps::take_symbol;
 use crate::undefined::first_undefined_line;
@@ -23,6 +25,16 @@ use std::alloc::Global;
 /// Reads an ASCII AIGER file whose first line has the number `first`: exactly the circuit file that it
 /// spells within the limits, or its first fault by line and name.
 pub fn read(alloc: Global, bytes: &[u8], first: u64) -> Result<AagFile, AagStop>
+    requires { first + length bytes.now < 2 ^ 62 }
+    ensures exact { IsAagReading first (scan bytes.now first) result }
+    ensures spelled { IfOk result (SpellsCircuit bytes.now) }
+{
+    circuit_or_first_fault();
+    read_file(alloc, bytes, first)
+}
+
+// What the lines of a file give.
+fn read_file(alloc: Global, bytes: &[u8], first: u64) -> Result<AagFile, AagStop>
     requires { first + length bytes.now < 2 ^ 62 }
     ensures { IsAagReading first (scan bytes.now first) result }
 {

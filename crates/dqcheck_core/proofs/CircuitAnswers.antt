@@ -15,17 +15,6 @@ use Rattle.dqcheck_core.specs.Judgement.{line_ends, proof_in, BehindProof, IsCir
 use Rattle.dqcheck_core.specs.Places.{AnswersStop}
 use Rattle.dqcheck_core.specs.declared.answers.Answer.{Answer}
 
-abbrev SpellingIs : List ℕ → Type 0
-SpellingIs text = (first : ℕ) (file : AagFile) → SpellsCircuit text file ↔ ((scan text first ≡ Ok file) × AllGrounded file.circuit)
-
-by_scan_ok : (h : ℕ) (text : List ℕ) (file : AagFile) → SpellingIs text → (r : Result AagFile LineFault) → scan text h ≡ r → IsAagReading h r (Ok file) → SpellsCircuit text file
-by_scan_ok h text file exact (Ok made) is (same, grounded) = (exact h file).1 (is ∙ ap Ok (sym same), subst (λ (f : AagFile). AllGrounded f.circuit) (sym same) grounded)
-by_scan_ok h text file exact (Err fault) is impossible = absurd impossible
-
-pub read_spells : (h : ℕ) (bytes text : List ℕ) (file : AagFile) → bytes ≡ text → SpellingIs text → IsAagReading h (scan bytes h) (Ok file) → SpellsCircuit text file
-read_spells h bytes text file same exact reading =
-    by_scan_ok h text file exact (scan text h) refl (subst (λ t. IsAagReading h (scan t h) (Ok file)) same reading)
-
 by_scan_err : (h : ℕ) (text : List ℕ) (line : ℕ) (name : AagFault) (r : Result AagFile LineFault) → scan text h ≡ r → IsAagReading h r (Err (RefusedText line name))
     → IsFirstFault text h (record { line = line; name = name })
 by_scan_err h text line name (Ok file) is (cyclic, at_line) = inr (record { file = file; scanned = is; cyclic = cyclic; at_line = at_line })

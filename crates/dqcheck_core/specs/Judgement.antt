@@ -80,14 +80,10 @@ answer_of_derivation verdict (Some unfinished) = NoEmptyClause
 
 -- first the number of universals, then the rows
 abbrev pub IsTestedByRows : Dqbf → MappedCircuit → Answer → Type 0
-IsTestedByRows f c (Refused line name) = ⊥
-IsTestedByRows f c (UndeclaredRead y x) = ⊥
-IsTestedByRows f c (UnderivedStep id) = ⊥
-IsTestedByRows f c NoEmptyClause = ⊥
-IsTestedByRows f c ValidFalse = ⊥
 IsTestedByRows f c (Unproved n) = (max_row_universals < n) × (n ≡ length f.universals)
 IsTestedByRows f c (BadRow k) = (length f.universals ≤ max_row_universals) × IsRowsAnswer f c (Err k)
 IsTestedByRows f c ValidTrue = (length f.universals ≤ max_row_universals) × IsRowsAnswer f c (Ok tt)
+IsTestedByRows f c _ = ⊥
 
 -- by its proof, or by its rows where it has none
 abbrev pub IsTestedBy : Option Dqp → Candidate → Answer → Type 0

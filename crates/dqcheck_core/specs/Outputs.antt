@@ -19,12 +19,10 @@ pub record IsOutputDue (before now : FilesState) (command : Option Command) (out
 
 -- which report is due for the certificate's file, once the formula was read
 abbrev pub IsDueBehind : FilesState → FilesState → List ℕ → Dqbf → Report → Type 0
-IsDueBehind before now name f usage = ⊥
 IsDueBehind before now name f source_fault = IsUnreadable before now name × PickedOnce before now
-IsDueBehind before now name f long_formula = ⊥
-IsDueBehind before now name f (refused_formula fault) = ⊥
 IsDueBehind before now name f long_certificate = IsLong max_certificate (before.held name) × (max_certificate < now.given) × PickedOnce before now
 IsDueBehind before now name f (judged g answer) = (g ≡ f) × IsAnswerTo f (before.held name) answer × PickedOnce before now
+IsDueBehind before now name f _ = ⊥
 
 pub record IsOutputBehind (before now : FilesState) (name : List ℕ) (f : Dqbf) (output : Output) : Type 0 where
   pub report : Report

@@ -15,7 +15,6 @@ ghost use Rattle.dqcheck_core.specs.Places.{HasFewLines, AnswersStop};
 ghost use Rattle.dqcheck_core.specs.declared.answers.Answer.TheVariants.{ValidTrue};
 
 use crate::answers::{Answer, CertificateFault, refused};
-use aiger_text::laws::circuit_or_first_fault;
 use aiger_text::{AagFile, AagStop};
 use cert_text::{CertStop, Dqp, read_dqp};
 use circuit_plain::Circuit;
@@ -43,7 +42,6 @@ pub fn judge_circuit(
     requires inside { at ≤ length text.items }
     ensures { IfOk result (λ answer. IsCircuitRefusal first (drop at text.items) answer ⊎ IsCircuitAnswer f.now first (drop at text.items) answer) }
 {
-    circuit_or_first_fault();
     let bytes = bytes_from(&text, at);
     let ends = line_ends(bytes);
     let read = aiger_text::read(alloc, bytes, first);

@@ -104,7 +104,6 @@ fn report_files<F: Files>(alloc: Global, names: FileNames, files: &mut F) -> Res
         Err(ReadStop::Fault) => return source_fault_output(alloc),
         Err(ReadStop::TooLong) => return long_formula_output(alloc),
     };
-    formula_or_first_fault();
     let read = dqdimacs_reader::read(alloc, &text);
     drop(text);
     match read {

@@ -2,6 +2,7 @@
 
 ghost use Rattle.std.specs.Prelude.{◌≡◌, IfOk};
 ghost use Rattle.dq_lits.specs.Formula.{HasLawfulPrefix, IsWellFormed};
+ghost use Rattle.dqdimacs_reader.specs.Grammar.{SpellsFormula};
 ghost use Rattle.dqdimacs_reader.specs.Machine.{reading, on_line, at_end};
 ghost use Rattle.dqdimacs_reader.specs.MachineState.{state_of, IsReady};
 ghost use Rattle.dqdimacs_reader.specs.Reading.{IsReading, HasDistinctClauses, end_fault_of};
@@ -18,6 +19,7 @@ use std::alloc::Global;
 /// Reads a DQDIMACS text: exactly the formula that it spells, or its first fault by line and name.
 pub fn read(alloc: Global, bytes: &[u8]) -> Result<Formula, ReadStop>
     ensures exact { IsReading (reading bytes.now) result }
+    ensures spelled { IfOk result (SpellsFormula bytes.now) }
     ensures well_formed { IfOk result IsWellFormed }
     ensures distinct { IfOk result HasDistinctClauses }
 {

@@ -52,8 +52,7 @@ IsSymbolFault SymbolMissing f symbols kind place = symbol_at symbols kind place 
 IsSymbolFault SymbolNumber f symbols kind place = IsSome (symbol_at symbols kind place) × ((v : ℕ) → ¬ Names f symbols kind place v)
 IsSymbolFault SymbolTwice f symbols kind place =
     (v : ℕ) × Names f symbols kind place v × ((p : ℕ) × (p < place) × Names f symbols kind p v)
-IsSymbolFault InputCount f symbols kind place = ⊥
-IsSymbolFault OutputCount f symbols kind place = ⊥
+IsSymbolFault _ f symbols kind place = ⊥
 
 -- the first of so many places that is at fault
 pub record IsFirstSymbolFault (f : Dqbf) (symbols : SymbolTable) (kind : Kind) (count place : ℕ) (name : MapName) : Type 0 where
@@ -67,9 +66,7 @@ pub record IsFirstSymbolFault (f : Dqbf) (symbols : SymbolTable) (kind : Kind) (
 abbrev pub IsToldFault : MapPlace → MapName → Dqbf → Netlist → SymbolTable → Type 0
 IsToldFault Whole InputCount f net symbols = length net.inputs ≢ length f.universals
 IsToldFault Whole OutputCount f net symbols = (length net.inputs ≡ length f.universals) × (length net.outputs ≢ length f.existentials)
-IsToldFault Whole SymbolMissing f net symbols = ⊥
-IsToldFault Whole SymbolNumber f net symbols = ⊥
-IsToldFault Whole SymbolTwice f net symbols = ⊥
+IsToldFault Whole _ f net symbols = ⊥
 IsToldFault (Input place) name f net symbols =
     DoCountsFit f net × (has_symbols net symbols ≡ true) × IsFirstSymbolFault f symbols Inputs (length net.inputs) place name
 IsToldFault (Output place) name f net symbols =

@@ -20,7 +20,7 @@ returns-in-Ok-read-clause-due g c =
             (λ absent. let failed = c.read_all.ensures.absent absent in let read = c.in-Ok.is in cc);
         short = is_short _ _ _ c.in-Ok.ensures.count (λ long. let told = c.in-Ok.ensures.too_long.1 long in cc);
       };
-      spelled = (c.formula_or_first_fault.ensures.exact c.in-Ok.text.items c.in-Ok-read.formula).1 (rw c.deref.ensures.value at c.in-Ok-read.ensures.exact);
+      spelled = rw c.deref.ensures.value at c.in-Ok-read.ensures.spelled;
       well_formed = c.in-Ok-read.ensures.well_formed;
     })
     c.report_certificate.ensures.due

@@ -4,7 +4,7 @@ use Rattle.aiger_text.specs.ReaderState.{body_of}
 use Rattle.aiger_text.specs.Scan.{scan, read_body}
 use Rattle.aiger_text.specs.Steps.{TakesLine}
 use Rattle.aiger_text.proofs.Reading.{stopped, shorter}
-use Rattle.aiger_text.proofs.reader.read.Goals as goal
+use Rattle.aiger_text.proofs.reader.read_file.Goals as goal
 
 pub returns-in-Err-take_line : goal.returns-in-Err-take_line
 returns-in-Err-take_line c =

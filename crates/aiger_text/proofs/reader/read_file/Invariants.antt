@@ -2,7 +2,7 @@ use Rattle.std.proofs.Common.{◌≡◌, length}
 use Rattle.dq_text.specs.Line.{lines_from}
 use Rattle.aiger_text.specs.ReaderState.{body_of, IsReady}
 use Rattle.aiger_text.specs.Scan.{scan, read_body}
-use Rattle.aiger_text.proofs.reader.read.Given as goal
+use Rattle.aiger_text.proofs.reader.read_file.Given as goal
 
 abbrev pub invariant-loop-line : goal.invariant-loop-line
 invariant-loop-line l = record {
