@@ -14,9 +14,7 @@ use Rattle.cert_text.specs.NegatedMatrix.{negated_clauses, without_constants}
 use Rattle.cert_text.proofs.NegatedClauses.{clauses_counted}
 use Rattle.rup_core.specs.Growth.{AreNumbered}
 use Rattle.skolem_checker.specs.Checks.{Candidate}
-use Rattle.sparse_proofs.specs.Occurring.{AreSmall, HasSmallClause}
 use Rattle.proof_checker.specs.CircuitProof.{circuit_literal, negated_candidate}
-use Rattle.proof_checker.proofs.Bounding.{clause_small}
 
 -- no clause of the negated matrix has the id of a line or a later one
 pub none_behind : (c : Candidate) (first id : ℕ) → first ≡ first_proof_id c.formula c.circuit.netlist → first ≤ id → negated_candidate c id ≡ None
@@ -34,16 +32,3 @@ lines_numbered is_variable [] first all k step at = cc
 lines_numbered is_variable (s ∷ steps) first all zero step at = let same = some_step _ step at in let own = all.0.numbered in omega (arith, same, own)
 lines_numbered is_variable (s ∷ steps) first all (suc k) step at =
     let later = lines_numbered is_variable steps (first + 1) all.1 k step at in omega (arith, later)
-
--- the variables that clauses stand on are small
-some_small : (clause : Option (List Literal)) → IfSome clause (All (λ l. variable_of l ≤ 2 * max_count)) → IfSome clause AreSmall
-some_small None small = tt
-some_small (Some literals) small = λ k d below. let h = small k d below in omega (arith, h)
-
-pub clauses_small : (c m : Candidate) (net : Netlist) (f : Dqbf) → m ≡ c → net ≡ c.circuit.netlist → f ≡ c.formula → IsNetlist net
-    → c.circuit.netlist.max_var ≤ max_count → length f.matrix ≤ max_count → (id : ℕ) → HasSmallClause (negated_candidate m) id
-clauses_small c m net f same net_is f_is kept few_variables few_clauses id =
-    subst (λ (k : Candidate). HasSmallClause (negated_candidate k) id) (sym same)
-    (some_small (negated_candidate c id)
-    (clause_small (2 * max_count) c (subst IsNetlist net_is kept)
-    (let few : length c.formula.matrix ≤ max_count = subst (λ (g : Dqbf). length g.matrix ≤ max_count) f_is few_clauses in omega (arith, few_variables, few)) id))

@@ -4,5 +4,4 @@ pub mod Solving
 pub mod Standing
 pub mod Looking
 pub mod Shortening
-pub mod Bounding
 pub mod Judging

@@ -1,12 +1,12 @@
 //! The literals of a circuit that stand for a formula's variables.
 
-ghost use Rattle.std.specs.Prelude.{◌≡◌, ◌≢◌, ◌≤◌, ◌++◌, ◌∷◌, [], slice_index, AllPairs, Contains, IfOk, OnOk};
+ghost use Rattle.std.specs.Prelude.{◌≡◌, ◌≢◌, ◌≤◌, slice_index, AllPairs, IfOk};
 ghost use Rattle.cert_text.specs.NegatedMatrix.{opposite_of, literal_under};
 ghost use Rattle.proof_checker.specs.CircuitProof.{circuit_literal};
 
 use circuit_plain::Circuit;
 use dq_lits::{Lit, Memory};
-use indexmap::IndexSet;
+use number_tables::NumberSet;
 use skolem_checker::Bench;
 use std::alloc::Global;
 use std::marker::Model;
@@ -16,8 +16,8 @@ use std::marker::Model;
 pub(crate) struct CircuitLiterals<'c> {
     circuit: &'c Circuit,
     // By place, the universal of each input and the existential of each output.
-    inputs: IndexSet<u64>,
-    outputs: IndexSet<u64>,
+    inputs: NumberSet,
+    outputs: NumberSet,
 }
 
 impl<'c> Model for CircuitLiterals<'c> {
@@ -25,25 +25,17 @@ impl<'c> Model for CircuitLiterals<'c> {
 
     ghost Value = { MappedCircuit };
 
-    ghost view = { λ c. record { netlist = c.circuit.now; mapping = record { inputs = c.inputs.keys; outputs = c.outputs.keys } } };
-}
-
-fn learn(known: &mut IndexSet<u64>, variable: u64) -> Result<(), Memory>
-    requires { ¬ Contains known.old.keys variable }
-    ensures { OnOk result (known.new.keys ≡ known.old.keys ++ variable ∷ []) }
-{
-    known.insert(variable)?;
-    Ok(())
+    ghost view = { λ c. record { netlist = c.circuit.now; mapping = record { inputs = c.inputs; outputs = c.outputs } } };
 }
 
 // The variables by place.
-fn places(alloc: Global, variables: &[u64]) -> Result<IndexSet<u64>, Memory>
+fn places(alloc: Global, variables: &[u64]) -> Result<NumberSet, Memory>
     requires { AllPairs (λ v w. v ≢ w) variables.now }
-    ensures { IfOk result (λ known. known.keys ≡ variables.now) }
+    ensures { IfOk result (λ known. known ≡ variables.now) }
 {
-    let mut known = IndexSet::new(alloc);
+    let mut known = NumberSet::new(alloc);
     for variable in variables {
-        learn(&mut known, *variable)?;
+        known.push(*variable)?;
     }
     Ok(known)
 }
@@ -85,9 +77,9 @@ impl<'c> CircuitLiterals<'c> {
         ensures { result ≡ circuit_literal self.now v }
     {
         let _ = self.circuit.max_var();
-        match self.inputs.get_index_of(&v) {
+        match self.inputs.place(v) {
             Some(i) => 2 * element_at(self.circuit.inputs(), i),
-            None => match self.outputs.get_index_of(&v) {
+            None => match self.outputs.place(v) {
                 Some(o) => element_at(self.circuit.outputs(), o),
                 None => element_at(self.circuit.outputs(), self.outputs.len()),
             },

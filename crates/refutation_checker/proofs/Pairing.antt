@@ -8,7 +8,10 @@ use Rattle.std.proofs.lemmas.Nat.{div-mul-add, mod-mul-add}
 use Rattle.std.proofs.lemmas.Option.{slice_get-get_or}
 use Rattle.std.proofs.lemmas.List.{get_or-map, get_or_default, get_or-take, get_or-drop, length-map, length-take, length-drop, take-map, drop-map}
 use Rattle.std.proofs.lemmas.List.Sums.{prefix_len-le-length}
-use Rattle.indexmap.specs.IndexMap.{insert_entry}
+use Rattle.std.specs.BTreeMap.{insert_entry, is_at}
+use Rattle.std.proofs.Common.{Ordering, Less, Equal, Greater}
+use Rattle.std.specs.Ordering.{is_eq, match_ordering, nat_cmp}
+use Rattle.std.proofs.lemmas.Bool.Decides.{nat_tests}
 use Rattle.dq_lits.specs.Expansion.{agree_on, row_assignment, pair_number, pair_literal, universal_literal_true}
 use Rattle.dq_lits.specs.Formula.{Existential, Dqbf, existential_of}
 use Rattle.dq_lits.specs.Literal.{Literal, positive, negative, variable_of, is_negative, literal_true, on_variable}
@@ -19,8 +22,10 @@ use Rattle.dq_formula.proofs.Restrictions.{assignment_of-place}
 use Rattle.cert_text.specs.Header.{max_count}
 use Rattle.cert_text.specs.Pairs.{is_pair_number}
 use Rattle.cert_text.proofs.PairNumbers.{existential_in_range}
+use Rattle.refutation_checker.proofs.Standing.{same_first, stand_in_declared}
+use Rattle.refutation_checker.specs.Alike.{set_of, stand_in, AreAlike}
 use Rattle.refutation_checker.specs.Refutation.{normal_of, normal_number}
-use Rattle.refutation_checker.specs.Pairs.{first_agreeing, first_row, pair_of, blocks, block_firsts, existential_part, AreBlockFirsts}
+use Rattle.refutation_checker.specs.Pairs.{first_agreeing, first_row, pair_of, blocks, block_firsts, existential_part, IsBlock, AreBlockFirsts}
 use Rattle.refutation_checker.specs.PairTable.{instance_in, instance_literals}
 
 -- a first row is one of the rows, or behind the last
@@ -39,29 +44,35 @@ pair_small f first v variables lawful few declared is =
     omega (arith, product, few, y.1, lawful.few_variables)
 
 -- what is kept of first rows
+same_key : (x y : ℕ) → is_eq (nat_cmp x y) ≡ true → x ≡ y
+same_key x y same = grind (arith, nat_tests, same)
+
 pub found_rows : (f : Dqbf) (rows : List (List Bool)) (number : ℕ) (entries : List (ℕ × List ℕ)) (firsts : List ℕ) → AreBlockFirsts f rows entries
-    → Some firsts ≡ lookup (eqb number) entries → firsts ≡ block_firsts f rows number
+    → Some firsts ≡ lookup (is_at (nat_cmp number)) entries → firsts ≡ block_firsts f rows number
 found_rows f rows number [] firsts all found = cc
 found_rows f rows number (e ∷ entries) firsts all found =
-    elim (cases_Bool (eqb number e.0)) [
+    elim (cases_Bool (is_eq (nat_cmp number e.0))) [
       | inl same ↦
-          let at : Some firsts ≡ Some e.1 = found ∙ ap (λ b. cond b (Some e.1) (lookup (eqb number) entries)) same in
-          some_is firsts e.1 at ∙ all.0 ∙ ap (block_firsts f rows) (sym (eqb-true number e.0 same))
-      | inr other ↦ found_rows f rows number entries firsts all.1 (found ∙ ap (λ b. cond b (Some e.1) (lookup (eqb number) entries)) other)
+          let at : Some firsts ≡ Some e.1 = found ∙ ap (λ b. cond b (Some e.1) (lookup (is_at (nat_cmp number)) entries)) same in
+          some_is firsts e.1 at ∙ all.0 ∙ ap (block_firsts f rows) (sym (same_key number e.0 same))
+      | inr other ↦ found_rows f rows number entries firsts all.1 (found ∙ ap (λ b. cond b (Some e.1) (lookup (is_at (nat_cmp number)) entries)) other)
     ]
   where
     some_is : (xs ys : List ℕ) → Some xs ≡ Some ys → xs ≡ ys
     some_is xs ys h = cc
 
 pub kept_rows : (f : Dqbf) (rows : List (List Bool)) (number : ℕ) (entries : List (ℕ × List ℕ)) (firsts : List ℕ) → AreBlockFirsts f rows entries
-    → firsts ≡ block_firsts f rows number → AreBlockFirsts f rows (insert_entry eqb entries number firsts)
+    → firsts ≡ block_firsts f rows number → AreBlockFirsts f rows (insert_entry nat_cmp entries number firsts)
 kept_rows f rows number [] firsts all is = (is, tt)
-kept_rows f rows number (e ∷ entries) firsts all is = by (eqb number e.0) (λ same. is ∙ ap (block_firsts f rows) (eqb-true number e.0 same)) (kept_rows f rows number entries firsts all.1 is) refl
+kept_rows f rows number (e ∷ entries) firsts all is =
+    by (nat_cmp number e.0) (λ same. is ∙ ap (block_firsts f rows) (same_key number e.0 same)) (kept_rows f rows number entries firsts all.1 is) refl
   where
-    by : (b : Bool) → (eqb number e.0 ≡ true → firsts ≡ block_firsts f rows e.0) → AreBlockFirsts f rows (insert_entry eqb entries number firsts) → eqb number e.0 ≡ b
-        → AreBlockFirsts f rows (cond b ((e.0, firsts) ∷ entries) (e ∷ insert_entry eqb entries number firsts))
-    by true here rest same = (here same, all.1)
-    by false here rest same = (all.0, rest)
+    by : (o : Ordering) → (is_eq (nat_cmp number e.0) ≡ true → firsts ≡ block_firsts f rows e.0) → AreBlockFirsts f rows (insert_entry nat_cmp entries number firsts)
+        → nat_cmp number e.0 ≡ o
+        → AreBlockFirsts f rows (match_ordering o ((number, firsts) ∷ e ∷ entries) ((e.0, firsts) ∷ entries) (e ∷ insert_entry nat_cmp entries number firsts))
+    by Less here rest order = (is, all)
+    by Equal here rest order = (here (ap is_eq order), all.1)
+    by Greater here rest order = (all.0, rest)
 
 -- the existential of a variable stands on it
 found_variable : (es : List Existential) (v : ℕ) (e : Existential) → find (λ y. y.variable == v) es ≡ Some e → e.variable ≡ v
@@ -124,7 +135,7 @@ block_parts rows y k lt =
     (div-mul-add y (blocks rows) (k / 16) few, mod-mul-add y (blocks rows) (k / 16) few)
 
 -- its entry at that row
-pub kept_at : (f : Dqbf) (rows : List (List Bool)) (y k number : ℕ) (firsts : List ℕ) (d : ℕ) → k < length rows → number ≡ y * blocks (length rows) + k / 16
+kept_at : (f : Dqbf) (rows : List (List Bool)) (y k number : ℕ) (firsts : List ℕ) (d : ℕ) → k < length rows → number ≡ y * blocks (length rows) + k / 16
     → firsts ≡ block_firsts f rows number → (k % 16 < length firsts) × (get_or firsts (k % 16) d ≡ first_row f rows y (get_or rows k []))
 kept_at f rows y k number firsts d lt number_is is =
     let parts = block_parts (length rows) y k lt in
@@ -144,6 +155,22 @@ kept_at f rows y k number firsts d lt number_is is =
       ap (λ xs. get_or xs (k % 16) d) here ∙ get_or-map (first_row f rows y) block (k % 16) [] d inside
           ∙ ap (first_row f rows y) (get_or-take 16 (drop (k / 16 * 16) rows) (k % 16) [] rest ∙ get_or-drop (k / 16 * 16) rows (k % 16) [] ∙ ap (λ i. get_or rows i []) place),
     )
+
+-- the same, by an existential with the same dependency set
+pub kept_by_stand_in : (f : Dqbf) (rows : List (List Bool)) (alike : List ℕ) (y w k number : ℕ) → AreAlike f alike → w ≡ stand_in alike y
+    → k < length rows → number ≡ w * blocks (length rows) + k / 16
+    → (k % 16 < length (block_firsts f rows number)) × (get_or (block_firsts f rows number) (k % 16) 0 ≡ first_row f rows y (get_or rows k []))
+kept_by_stand_in f rows alike y w k number are is lt number_is =
+    let kept = kept_at f rows w k number (block_firsts f rows number) 0 lt number_is refl in
+    (kept.0, kept.1 ∙ same_first f rows w y (get_or rows k []) (ap (λ v. set_of (existential_of f v)) is ∙ are y))
+
+-- the block of an existential's stand-in
+pub stand_in_block : (f : Dqbf) (alike : List ℕ) (rows y w k number : ℕ) → AreAlike f alike → w ≡ stand_in alike y → IsSome (existential_of f y)
+    → k < rows → number ≡ w * blocks rows + k / 16 → IsBlock f rows number
+stand_in_block f alike rows y w k number are is declared lt number_is =
+    let parts = block_parts rows w k lt in
+    let v : number / blocks rows ≡ w = ap (λ m. m / blocks rows) number_is ∙ parts.0 in
+    subst (λ x. IsSome (existential_of f x)) (sym v) (stand_in_declared f alike y w are is declared)
 
 -- the block that is learnt
 pub learnt_block : (f : Dqbf) (rows : List (List Bool)) (number count y : ℕ) (places items firsts : List ℕ) → count ≡ blocks (length rows)

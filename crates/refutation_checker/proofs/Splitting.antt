@@ -14,7 +14,16 @@ use Rattle.dq_formula.proofs.Restrictions.{assignment_of-place}
 use Rattle.refutation_checker.specs.Labels.{first_places, AreLabels, same_label, row_of, IsSplitAt, agree_over, IsSplit, key_of, HasKeys}
 use Rattle.refutation_checker.specs.Pairs.{first_agreeing}
 use Rattle.refutation_checker.proofs.Numbering.{drop_at}
-use Rattle.sparse_proofs.proofs.Renamed.{same_tests}
+
+same_tests : (a b c d : ℕ) → (a ≡ b → c ≡ d) → (c ≡ d → a ≡ b) → (a == b) ≡ (c == d)
+same_tests a b c d to from =
+    elim (cases_Bool (a == b)) [
+      | inl same ↦ same ∙ sym (eq-eqb c d (to (eqb-true a b same)))
+      | inr apart ↦ elim (cases_Bool (c == d)) [
+        | inl same ↦ let t : true ≡ false = sym (eq-eqb a b (from (eqb-true c d same))) ∙ apart in cc
+        | inr other ↦ apart ∙ sym other
+      ]
+    ]
 
 -- the first place of an element is at most its own
 place_le : (keys : List ℕ) (k d : ℕ) → k < length keys → place keys (get_or keys k d) ≤ k

@@ -1,8 +1,8 @@
 pub mod Refutation
 pub mod Answer
 pub mod Pairs
-pub mod Occurring
 pub mod PairTable
 pub mod Labels
 pub mod FirstRows
 pub mod Lines
+pub mod Alike

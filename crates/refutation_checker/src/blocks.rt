@@ -1,5 +1,9 @@
-//! Which blocks of rows occur in a refutation, with which existentials: those of its lines and of the instances that they
-//! hint.
+//! Which blocks of rows occur in a refutation, with which dependency sets: those of its lines, and of the instances that
+//! they hint, as far as these can be read.
+//!
+//! Before the hint at place i a line has assigned no more than its own literals and one for each earlier hint. So an
+//! instance that is no use has its second literal that isn't false among the next two, and is read no further: what is
+//! kept follows the lines, however long the clauses are.
 
 ghost use Rattle.std.specs.Prelude.{◌≡◌, ◌<◌, true, length, All, IfOk, OnOk, IsSome, map};
 ghost use Rattle.dq_lits.specs.Formula.{existential_of};
@@ -11,7 +15,7 @@ ghost use Rattle.refutation_checker.specs.PairTable.{AreBlocks};
 use crate::pair_tables::PairTable;
 use cert_text::Step;
 use dq_lits::{Clause, Lit, Memory};
-use indexmap::IndexSet;
+use number_tables::NumberSet;
 use std::alloc::Global;
 
 /// Finds and keeps the first rows of all that occurs in some derivation lines and in the instances that they hint.
@@ -40,9 +44,9 @@ fn blocks_of(
     requires pairs { All (λ step. All (λ l. is_pair_number table.now.formula (length table.now.rows) (variable_of l) ≡ true) step.literals) steps.now }
     ensures { IfOk result (λ blocks. AreBlocks table.now blocks.items) }
 {
-    let mut seen = IndexSet::new(alloc);
+    let mut seen = NumberSet::new(alloc);
     see_steps(table, parts, steps, &mut seen)?;
-    let mut blocks = Vec::from_slice(alloc, seen.as_slice())?;
+    let mut blocks = Vec::from_slice(alloc, seen.items())?;
     blocks.sort_unstable();
     Ok(blocks)
 }
@@ -51,76 +55,83 @@ fn see_steps(
     table: &PairTable,
     parts: &[Clause],
     steps: &[Step],
-    seen: &mut IndexSet<u64>,
+    seen: &mut NumberSet,
 ) -> Result<(), Memory>
     requires parts { parts.now ≡ map (existential_part table.now.formula) table.now.formula.matrix }
     requires pairs { All (λ step. All (λ l. is_pair_number table.now.formula (length table.now.rows) (variable_of l) ≡ true) step.literals) steps.now }
-    requires seen { AreBlocks table.now seen.old.keys }
-    ensures { OnOk result (AreBlocks table.now seen.new.keys) }
+    requires seen { AreBlocks table.now seen.old }
+    ensures { OnOk result (AreBlocks table.now seen.new) }
 {
     for step in steps {
-        see_hinted(table, parts, step.hints(), seen)?;
+        see_hinted(table, parts, step.hints(), step.lits().len(), seen)?;
         see_line(table, step.lits(), seen)?;
     }
     Ok(())
 }
 
-// The blocks of the instances with these ids.
+// The blocks of the instances with these ids, for a line of so many literals.
 fn see_hinted(
     table: &PairTable,
     parts: &[Clause],
     hints: &[u64],
-    seen: &mut IndexSet<u64>,
+    line: usize,
+    seen: &mut NumberSet,
 ) -> Result<(), Memory>
     requires parts { parts.now ≡ map (existential_part table.now.formula) table.now.formula.matrix }
-    requires seen { AreBlocks table.now seen.old.keys }
-    ensures { OnOk result (AreBlocks table.now seen.new.keys) }
+    requires seen { AreBlocks table.now seen.old }
+    ensures { OnOk result (AreBlocks table.now seen.new) }
 {
-    for hint in hints {
-        see_instance(table, parts, *hint, seen)?;
+    for (i, hint) in hints.iter().enumerate() {
+        see_instance(table, parts, *hint, line.saturating_add(i).saturating_add(2), seen)?;
     }
     Ok(())
 }
 
+// The blocks of an instance's first literals, so many of them.
 fn see_instance(
     table: &PairTable,
     parts: &[Clause],
     id: u64,
-    seen: &mut IndexSet<u64>,
+    limit: usize,
+    seen: &mut NumberSet,
 ) -> Result<(), Memory>
     requires parts { parts.now ≡ map (existential_part table.now.formula) table.now.formula.matrix }
-    requires seen { AreBlocks table.now seen.old.keys }
-    ensures { OnOk result (AreBlocks table.now seen.new.keys) }
+    requires seen { AreBlocks table.now seen.old }
+    ensures { OnOk result (AreBlocks table.now seen.new) }
 {
     match table.instance(id) {
-        Some((k, j)) => see_part(table, parts[j].lits(), k, seen),
+        Some((k, j)) => see_part(table, parts[j].lits(), limit, k, seen),
         None => Ok(()),
     }
 }
 
-// The blocks of existential literals under the row at `k`.
+// The blocks of the first existential literals under the row at `k`, so many of them.
 fn see_part(
     table: &PairTable,
     part: &[Lit],
+    limit: usize,
     k: usize,
-    seen: &mut IndexSet<u64>,
+    seen: &mut NumberSet,
 ) -> Result<(), Memory>
     requires declared { All (λ l. IsSome (existential_of table.now.formula (variable_of l))) part.now }
     requires row { k < length table.now.rows }
-    requires seen { AreBlocks table.now seen.old.keys }
-    ensures { OnOk result (AreBlocks table.now seen.new.keys) }
+    requires seen { AreBlocks table.now seen.old }
+    ensures { OnOk result (AreBlocks table.now seen.new) }
 {
-    for l in part {
+    for (i, l) in part.iter().enumerate() {
+        if i == limit {
+            break;
+        }
         see(table, l.var(), k, seen)?;
     }
     Ok(())
 }
 
 // The blocks of a derivation line.
-fn see_line(table: &PairTable, lits: &[Lit], seen: &mut IndexSet<u64>) -> Result<(), Memory>
+fn see_line(table: &PairTable, lits: &[Lit], seen: &mut NumberSet) -> Result<(), Memory>
     requires pairs { All (λ l. is_pair_number table.now.formula (length table.now.rows) (variable_of l) ≡ true) lits.now }
-    requires seen { AreBlocks table.now seen.old.keys }
-    ensures { OnOk result (AreBlocks table.now seen.new.keys) }
+    requires seen { AreBlocks table.now seen.old }
+    ensures { OnOk result (AreBlocks table.now seen.new) }
 {
     for l in lits {
         let (k, y) = table.named(l.var());
@@ -130,11 +141,11 @@ fn see_line(table: &PairTable, lits: &[Lit], seen: &mut IndexSet<u64>) -> Result
 }
 
 // The block of an existential and the row at `k`.
-fn see(table: &PairTable, y: u64, k: usize, seen: &mut IndexSet<u64>) -> Result<(), Memory>
+fn see(table: &PairTable, y: u64, k: usize, seen: &mut NumberSet) -> Result<(), Memory>
     requires declared { IsSome (existential_of table.now.formula y) }
     requires row { k < length table.now.rows }
-    requires seen { AreBlocks table.now seen.old.keys }
-    ensures { OnOk result (AreBlocks table.now seen.new.keys) }
+    requires seen { AreBlocks table.now seen.old }
+    ensures { OnOk result (AreBlocks table.now seen.new) }
 {
     seen.insert(table.block(y, k))?;
     Ok(())

@@ -1,4 +1,4 @@
-ghost use Rattle.std.specs.Prelude.{◌≡◌, ◌+◌, ◌≤◌, length, map};
+ghost use Rattle.std.specs.Prelude.{◌≡◌, ◌≤◌, length, map, IfOk};
 ghost use Rattle.dq_lits.specs.Derivation.{proof_fault};
 ghost use Rattle.dq_lits.specs.Expansion.{instance_at};
 ghost use Rattle.dq_lits.specs.Formula.{IsWellFormed};
@@ -8,22 +8,20 @@ ghost use Rattle.cert_text.specs.Pairs.{is_pair_number};
 ghost use Rattle.cert_text.specs.Scan.{first_id};
 ghost use Rattle.rup_core.specs.ProofVerdict.{proof_fault_in};
 ghost use Rattle.refutation_checker.specs.Answer.{IsAnswer};
-ghost use Rattle.refutation_checker.specs.Lines.{line_clauses, placed_steps};
+ghost use Rattle.refutation_checker.specs.Lines.{line_clauses, normal_steps};
 ghost use Rattle.refutation_checker.specs.Pairs.{existential_part};
 ghost use Rattle.refutation_checker.specs.Refutation.{refutation_fault};
-ghost use Rattle.sparse_proofs.specs.Renaming.{renamed_clauses};
 
 use crate::blocks::learn_steps;
 use crate::faults::RefFault;
 use crate::instances::Instances;
 use crate::lines::{Lines, line_clauses};
-use crate::occurring::add_steps;
 use crate::pair_tables::PairTable;
 use crate::parts::existential_parts;
 use cert_text::{Dqr, Step};
 use dq_formula::Formula;
-use dq_lits::Clause;
-use rup_core::{Marks, ProofFault, first_fault};
+use dq_lits::{Clause, Memory};
+use rup_core::{Marks, ProofFault, first_fault_any};
 use std::alloc::Global;
 
 /// Whether a refutation shows that a formula is false: every line is derived, in order, from the instances of the
@@ -37,12 +35,11 @@ pub fn check(alloc: Global, f: &Formula, d: &Dqr) -> Result<(), RefFault>
 {
     let parts = existential_parts(alloc, f)?;
     let steps = d.steps.items();
-    let mut table = PairTable::new(alloc, f, d.rows.items());
+    let mut table = PairTable::new(alloc, f, d.rows.items())?;
     learn_steps(alloc, &mut table, &parts, steps)?;
-    add_steps(&mut table, &parts, steps)?;
     let clauses = line_clauses(alloc, &table, steps)?;
-    let mut marks = Marks::new(alloc, table.len() + 1)?;
-    let fault = placed_fault(&mut marks, &table, &parts, steps, &clauses);
+    let mut marks = Marks::new(alloc, steps.len())?;
+    let fault = lines_fault(&mut marks, &table, &parts, steps, &clauses)?;
     answer(fault)
 }
 
@@ -56,21 +53,19 @@ fn answer(fault: Option<ProofFault>) -> Result<(), RefFault>
     }
 }
 
-// The first fault of some lines, on the places of their pairs.
-fn placed_fault(
+// The first fault of some lines, on their pairs.
+fn lines_fault(
     marks: &mut Marks,
     table: &PairTable,
     parts: &[Clause],
     steps: &[Step],
     clauses: &[Clause],
-) -> Option<ProofFault>
-    requires marks { marks.old ≡ length table.now.pairs + 1 }
+) -> Result<Option<ProofFault>, Memory>
     requires parts { parts.now ≡ map (existential_part table.now.formula) table.now.formula.matrix }
     requires clauses { clauses.now ≡ line_clauses table.now steps.now }
     requires few { length steps.now ≤ max_count }
     requires numbered { AreSteps (is_pair_number table.now.formula (length table.now.rows)) (first_id table.now.formula (length table.now.rows)) steps.now }
-    ensures { proof_fault_in result
-        ≡ proof_fault (renamed_clauses table.now.pairs (instance_at table.now.formula table.now.rows)) (placed_steps table.now steps.now) }
+    ensures { IfOk result (λ fault. proof_fault_in fault ≡ proof_fault (instance_at table.now.formula table.now.rows) (normal_steps table.now steps.now)) }
 {
     let first = table.first_line();
     let instances = Instances { table, parts };
@@ -79,5 +74,5 @@ fn placed_fault(
         steps,
         clauses,
     };
-    first_fault(marks, &instances, first, &lines)
+    first_fault_any(marks, &instances, first, &lines)
 }

@@ -3,13 +3,12 @@
 ghost use Rattle.std.specs.Prelude.{◌≡◌, map};
 ghost use Rattle.dq_lits.specs.Expansion.{instance_at};
 ghost use Rattle.refutation_checker.specs.Pairs.{existential_part};
-ghost use Rattle.sparse_proofs.specs.Renaming.{renamed_clauses};
 
 use crate::pair_tables::PairTable;
 use dq_lits::{Clause, Lit};
 use rup_core::Base;
 
-/// The instances of a formula's clauses under its rows, on the places of their pairs.
+/// The instances of a formula's clauses under its rows, on their pairs.
 #[derive(Drop)]
 pub(crate) struct Instances<'f, 'r, 't, 'p> {
     pub table: &'t PairTable<'f, 'r>,
@@ -19,7 +18,7 @@ pub(crate) struct Instances<'f, 'r, 't, 'p> {
 }
 
 impl<'f, 'r, 't, 'p> Base for Instances<'f, 'r, 't, 'p> {
-    ghost clauses = { λ i. renamed_clauses i.table.now.pairs (instance_at i.table.now.formula i.table.now.rows) };
+    ghost clauses = { λ i. instance_at i.table.now.formula i.table.now.rows };
 
     fn size(&self, id: u64) -> Option<usize> {
         let (_, j) = self.table.instance(id)?;

@@ -3,13 +3,14 @@
 //!
 //! The clauses of the formula are taken under each row of the universals (universal expansion), and each line has to be
 //! derived from these instances and the lines before it by hinted unit propagation. Neither the instances nor the pairs
-//! of rows and existentials are laid out: instances are read from the formula on demand, and pairs are numbered as they
-//! occur.
+//! of rows and existentials are laid out: instances are read from the formula on demand, and a line marks the pairs that
+//! it assigns.
 #![tactic(auto)]
 
 pub use checks::check;
 pub use faults::RefFault;
 
+mod alike;
 mod blocks;
 mod checks;
 mod faults;
@@ -17,6 +18,5 @@ mod first_rows;
 mod instances;
 pub mod laws;
 mod lines;
-mod occurring;
 mod pair_tables;
 mod parts;

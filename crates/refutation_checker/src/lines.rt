@@ -1,9 +1,9 @@
-//! Derivation lines, on the places of their pairs.
+//! Derivation lines, on their pairs.
 
 ghost use Rattle.std.specs.Prelude.{◌≡◌, true, length, All, IfOk};
 ghost use Rattle.dq_lits.specs.Literal.{variable_of};
 ghost use Rattle.cert_text.specs.Pairs.{is_pair_number};
-ghost use Rattle.refutation_checker.specs.Lines.{line_clause, line_clauses, placed_steps};
+ghost use Rattle.refutation_checker.specs.Lines.{line_clause, line_clauses, normal_steps};
 
 use crate::pair_tables::PairTable;
 use cert_text::Step;
@@ -11,7 +11,7 @@ use dq_lits::{Clause, Lit, Memory};
 use rup_core::Steps;
 use std::alloc::Global;
 
-/// The lines of a refutation, with their clauses on the places of their pairs.
+/// The lines of a refutation, with their clauses on their pairs.
 #[derive(Drop)]
 pub(crate) struct Lines<'f, 'r, 't, 's, 'c> {
     pub table: &'t PairTable<'f, 'r>,
@@ -21,7 +21,7 @@ pub(crate) struct Lines<'f, 'r, 't, 's, 'c> {
 }
 
 impl<'f, 'r, 't, 's, 'c> Steps for Lines<'f, 'r, 't, 's, 'c> {
-    ghost steps = { λ l. placed_steps l.table.now l.steps.now };
+    ghost steps = { λ l. normal_steps l.table.now l.steps.now };
 
     fn len(&self) -> usize {
         self.steps.len()
@@ -36,7 +36,7 @@ impl<'f, 'r, 't, 's, 'c> Steps for Lines<'f, 'r, 't, 's, 'c> {
     }
 }
 
-/// The clauses of some lines, on the places of their pairs.
+/// The clauses of some lines, on their pairs.
 pub(crate) fn line_clauses(
     alloc: Global,
     table: &PairTable,

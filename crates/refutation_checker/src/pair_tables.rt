@@ -1,6 +1,6 @@
-//! Pairs of a row and an existential, numbered as they occur.
+//! Pairs of a row and an existential.
 
-ghost use Rattle.std.specs.Prelude.{◌≡◌, ◌+◌, ◌*◌, ◌/◌, ◌≤◌, ◌<◌, ◌^◌, true, [], length, take, drop, All, IfSome, IfOk, OnOk, IsSome};
+ghost use Rattle.std.specs.Prelude.{◌≡◌, ◌+◌, ◌*◌, ◌/◌, ◌%◌, ◌≤◌, ◌<◌, ◌^◌, true, length, take, drop, slice_index, All, IfSome, IfOk, OnOk, IsSome};
 ghost use Rattle.std.specs.List.{list_any};
 ghost use Rattle.std.specs.Option.{option_map, option_and_then};
 ghost use Rattle.dq_lits.specs.Expansion.{instance_at, universal_literal_true};
@@ -12,57 +12,63 @@ ghost use Rattle.cert_text.specs.Scan.{first_id};
 ghost use Rattle.refutation_checker.specs.Refutation.{normal_number};
 ghost use Rattle.refutation_checker.specs.FirstRows.{AreFirstRows};
 ghost use Rattle.refutation_checker.specs.Pairs.{first_row, pair_of, blocks, block_firsts, IsBlock};
-ghost use Rattle.refutation_checker.specs.PairTable.{numbered_in, row_at, occurring, instance_in, instance_literals, AreBlocks};
-ghost use Rattle.sparse_proofs.specs.Renaming.{place_of};
+ghost use Rattle.refutation_checker.specs.PairTable.{expanded, row_at, instance_in, instance_literals, AreBlocks};
 
+use crate::alike::{alike_existentials, stand_in};
 use crate::first_rows::{FirstRows, first_agreeing, first_rows};
 use dq_formula::Formula;
 use dq_lits::{Ids, Lit, Memory, Row};
-use indexmap::{IndexMap, IndexSet};
 use std::alloc::Global;
+use std::collections::BTreeMap;
 use std::marker::Model;
 
 // How many rows a block has. In larger ones a row that occurs alone takes more memory; in smaller ones rows that occur
 // together do.
 const BLOCK_ROWS: usize = 16;
 
-/// The pairs that occur, of a formula's existentials and some rows, numbered from 1 in order of their first occurrence.
+/// A formula's existentials under some rows: which pairs they are.
 ///
-/// For each existential and block of rows that it learnt it keeps the first row that agrees with each row of the block;
-/// others are found anew each time. So its memory is that of the blocks and the pairs that occur, and while it learns
-/// that of the rows once, however many existentials there are.
+/// For each dependency set and block of rows that it learnt it keeps the first row that agrees with each row of the
+/// block; others are found anew each time. So its memory is that of the formula and of the blocks that occur, and while
+/// it learns that of the rows once, however many existentials there are.
 #[derive(Drop)]
 pub(crate) struct PairTable<'f, 'r> {
     formula: &'f Formula,
     rows: &'r [Row],
+    // By variable, an existential with the same dependency set.
+    alike: Vec<u64>,
     // Those of each block that was learnt.
-    first_rows: IndexMap<u64, Ids>,
-    pairs: IndexSet<u64>,
+    first_rows: BTreeMap<u64, Ids>,
 }
 
 impl<'f, 'r> Model for PairTable<'f, 'r> {
-    ghost use Rattle.refutation_checker.specs.PairTable.{Numbered, numbered_in, IsNumbered};
+    ghost use Rattle.refutation_checker.specs.PairTable.{Expanded, expanded, IsPairTable};
 
-    ghost Value = { Numbered };
+    ghost Value = { Expanded };
 
-    ghost view = { λ t. numbered_in t.formula.now t.rows.now t.pairs.keys };
+    ghost view = { λ t. expanded t.formula.now t.rows.now };
 
-    ghost invariant = { λ t. IsNumbered t.formula.now t.rows.now t.first_rows.entries t.pairs.keys };
+    ghost invariant = { λ t. IsPairTable t.formula.now t.rows.now t.alike.items t.first_rows.entries };
 }
 
 impl<'f, 'r> PairTable<'f, 'r> {
-    /// No pair occurs yet. It takes no memory.
-    pub(crate) fn new(alloc: Global, formula: &'f Formula, rows: &'r [Row]) -> PairTable<'f, 'r>
+    /// No first rows are kept yet.
+    pub(crate) fn new(
+        alloc: Global,
+        formula: &'f Formula,
+        rows: &'r [Row],
+    ) -> Result<PairTable<'f, 'r>, Memory>
         requires few { length rows.now ≤ max_count }
         requires whole { All (λ row. length row ≡ length formula.now.universals) rows.now }
-        ensures { result ≡ numbered_in formula.now rows.now [] }
+        ensures { IfOk result (λ table. table ≡ expanded formula.now rows.now) }
     {
-        PairTable {
+        let alike = alike_existentials(alloc, formula)?;
+        Ok(PairTable {
             formula,
             rows,
-            first_rows: IndexMap::new(alloc),
-            pairs: IndexSet::new(alloc),
-        }
+            alike,
+            first_rows: BTreeMap::new(alloc),
+        })
     }
 
     pub(crate) fn formula(&self) -> &Formula
@@ -79,14 +85,6 @@ impl<'f, 'r> PairTable<'f, 'r> {
         self.rows
     }
 
-    /// How many pairs occur.
-    pub(crate) fn len(&self) -> usize
-        ensures value { result ≡ length self.now.pairs }
-        ensures few { result ≤ 2 ^ 61 }
-    {
-        self.pairs.len()
-    }
-
     // How many blocks the rows stand in.
     fn blocks(&self) -> u64
         ensures value { result ≡ blocks (length self.now.rows) }
@@ -96,17 +94,19 @@ impl<'f, 'r> PairTable<'f, 'r> {
         (rows.len() / BLOCK_ROWS + 1) as u64
     }
 
-    /// The number of an existential and the block of the row at `k`. In ascending order those of one existential stand
-    /// side by side.
+    /// The number of an existential's dependency set and the block of the row at `k`. In ascending order those of one
+    /// set stand side by side.
     pub(crate) fn block(&self, y: u64, k: usize) -> u64
         requires declared { IsSome (existential_of self.now.formula y) }
         requires row { k < length self.now.rows }
-        ensures value { result ≡ y * blocks (length self.now.rows) + k / 16 }
         ensures block { IsBlock self.now.formula (length self.now.rows) result }
+        ensures within { k % 16 < length (block_firsts self.now.formula self.now.rows result) }
+        ensures first { slice_index (block_firsts self.now.formula self.now.rows result) (k % 16)
+            ≡ first_row self.now.formula self.now.rows y (row_at self.now k) }
     {
         let _ = self.rows();
         self.formula().every_formula_is_lawful();
-        y * self.blocks() + (k / BLOCK_ROWS) as u64
+        stand_in(&self.alike, y) * self.blocks() + (k / BLOCK_ROWS) as u64
     }
 
     // The first row that agrees with the row at `k` on what an existential sees, if it is kept.
@@ -140,6 +140,7 @@ impl<'f, 'r> PairTable<'f, 'r> {
         requires declared { IsSome (existential_of self.now.formula y) }
         requires row { k < length self.now.rows }
         ensures value { result ≡ pair_of self.now.formula self.now.rows (row_at self.now k) y }
+        ensures from_one { 1 ≤ result }
         ensures small { result < 2 ^ 61 }
     {
         let _ = self.rows();
@@ -150,8 +151,8 @@ impl<'f, 'r> PairTable<'f, 'r> {
 
     /// Finds and keeps the first rows of these blocks.
     ///
-    /// Those of all rows are found for one existential at a time, and anew where the existential changes: for blocks in
-    /// ascending order, once for each existential.
+    /// Those of all rows are found for one dependency set at a time, and anew where the set changes: for blocks in
+    /// ascending order, once for each set.
     pub(crate) fn learn(&mut self, alloc: Global, blocks: &[u64]) -> Result<(), Memory>
         requires { AreBlocks self.old blocks.now }
         ensures { self.new ≡ self.old }
@@ -181,7 +182,6 @@ impl<'f, 'r> PairTable<'f, 'r> {
         requires latest { AreFirstRows self.old.formula self.old.rows latest.old }
         ensures { self.new ≡ self.old }
     {
-        self.first_rows.reserve(blocks.len())?;
         for block in blocks {
             self.learn_one(alloc, latest, *block)?;
         }
@@ -209,41 +209,17 @@ impl<'f, 'r> PairTable<'f, 'r> {
         Ok(())
     }
 
-    /// The pair of an existential and the row at `k` occurs.
-    pub(crate) fn add(&mut self, y: u64, k: usize) -> Result<(), Memory>
-        requires declared { IsSome (existential_of self.old.formula y) }
-        requires row { k < length self.old.rows }
-        ensures { OnOk result (self.new ≡ occurring self.old y k) }
-    {
-        let pair = self.pair(y, k);
-        self.pairs.insert(pair)?;
-        Ok(())
-    }
-
-    /// A literal, on the place of the pair of an existential and the row at `k`, counted from 1; one behind the last
-    /// for a pair that doesn't occur.
+    /// A literal, on the pair of an existential and the row at `k`.
     pub(crate) fn literal(&self, l: Lit, y: u64, k: usize) -> Lit
         requires declared { IsSome (existential_of self.now.formula y) }
         requires row { k < length self.now.rows }
-        ensures { result ≡ on_variable (place_of self.now.pairs (pair_of self.now.formula self.now.rows (row_at self.now k) y)) l }
+        ensures { result ≡ on_variable (pair_of self.now.formula self.now.rows (row_at self.now k) y) l }
     {
-        let place = self.place(self.pair(y, k));
+        let pair = self.pair(y, k);
         if l.is_neg() {
-            Lit::neg(place)
+            Lit::neg(pair)
         } else {
-            Lit::pos(place)
-        }
-    }
-
-    fn place(&self, pair: u64) -> u64
-        ensures value { result ≡ place_of self.now.pairs pair }
-        ensures small { result ≤ 2 ^ 61 + 1 }
-        ensures from_one { 1 ≤ result }
-    {
-        let len = self.len();
-        match self.pairs.get_index_of(&pair) {
-            Some(place) => place as u64 + 1,
-            None => len as u64 + 1,
+            Lit::pos(pair)
         }
     }
 

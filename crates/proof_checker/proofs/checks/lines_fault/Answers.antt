@@ -5,7 +5,7 @@ use Rattle.rup_core.specs.ProofVerdict.{proof_fault_in}
 use Rattle.cert_text.specs.CircuitProof.{is_proof_variable}
 use Rattle.skolem_checker.specs.Checks.{Candidate}
 use Rattle.proof_checker.specs.CircuitProof.{negated_candidate, circuit_proof_fault}
-use Rattle.proof_checker.proofs.Judging.{none_behind, lines_numbered, clauses_small}
+use Rattle.proof_checker.proofs.Judging.{none_behind, lines_numbered}
 use Rattle.proof_checker.proofs.checks.lines_fault.Goals as goal
 
 pub first_fault-requires-clause-behind : goal.first_fault-requires-clause-behind
@@ -15,12 +15,6 @@ first_fault-requires-clause-behind c id le =
 pub first_fault-requires-clause-numbered : goal.first_fault-requires-clause-numbered
 first_fault-requires-clause-numbered c =
     lines_numbered (is_proof_variable c.args.bench.now.formula c.args.bench.now.circuit.netlist) c.args.steps.now c.args.first c.requires.lines
-
-pub first_fault-requires-clause-small_clauses : goal.first_fault-requires-clause-small_clauses
-first_fault-requires-clause-small_clauses c id =
-    let few : length c.formula.result.now.matrix ≤ max_count = omega (arith, c.clauses.ensures.value, c.clauses.ensures.few) in
-    clauses_small c.args.bench.now c.in_ok-matrix.matrix c.circuit.result.now c.formula.result.now c.in_ok-matrix.ensures c.circuit.ensures c.formula.ensures
-    c.max_var.ensures.kept c.requires.few_variables few id
 
 pub returns : goal.returns
 returns c =

@@ -3,9 +3,9 @@ use Rattle.std.proofs.lemmas.List.{get_or_default}
 use Rattle.proof_checker.proofs.Standing.{new_here}
 use Rattle.proof_checker.proofs.circuit_literals.places.Goals as goal
 
-pub learn-requires : goal.learn-requires
-learn-requires c =
+pub push-requires : goal.push-requires
+push-requires c =
     let xs = c.args.variables.now in
     let i = c.loop-variable.variable-index in
-    new_here xs c.loop-variable.known.keys i (get_or xs i 0) c.requires
+    new_here xs c.loop-variable.known i (get_or xs i 0) c.requires
     c.loop-variable-test.true (get_or_default xs i 0 (get_or xs i 0) c.loop-variable-test.true) c.loop-variable.invariant

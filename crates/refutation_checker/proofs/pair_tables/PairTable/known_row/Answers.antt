@@ -1,21 +1,23 @@
-use Rattle.std.proofs.Common.{ap, ◌∙◌}
+use Rattle.std.proofs.Common.{◌≡◌, ◌%◌, ◌<◌, get_or, length, sym, ap, ◌∙◌, subst, List, ℕ}
 use Rattle.refutation_checker.specs.Pairs.{block_firsts}
-use Rattle.refutation_checker.specs.PairTable.{Numbered}
-use Rattle.refutation_checker.proofs.Pairing.{found_rows, kept_at}
+use Rattle.refutation_checker.specs.PairTable.{Expanded}
+use Rattle.refutation_checker.proofs.Pairing.{found_rows}
 use Rattle.refutation_checker.proofs.pair_tables.PairTable.known_row.Goals as goal
 
 pub bounds-items-k : goal.bounds-items-k
 bounds-items-k c =
     let n = c.args.self.now in
     let number = c.block-block.result in
-    (kept_at n.formula n.rows c.args.y c.args.k number c.items.result.now 0 c.requires.row c.block-block.ensures.value
-    (c.items.ensures ∙ found_rows c.self.inside.formula.now c.self.inside.rows.now number c.self.inside.first_rows.entries c.in-Some.firsts.now
-    c.self.invariant.first_rows c.in-Some.ensures.value ∙ ap (λ (m : Numbered). block_firsts m.formula m.rows number) c.self.view_is)).0
+    let kept : c.items.result.now ≡ block_firsts n.formula n.rows number =
+    c.items.ensures ∙ found_rows c.self.inside.formula.now c.self.inside.rows.now number c.self.inside.first_rows.entries c.in-Some.firsts.now
+    c.self.invariant.first_rows c.in-Some.ensures.value ∙ ap (λ (m : Expanded). block_firsts m.formula m.rows number) c.self.view_is in
+    subst (λ (xs : List ℕ). c.args.k % 16 < length xs) (sym kept) c.block-block.ensures.within
 
 pub returns-in-Some : goal.returns-in-Some
 returns-in-Some c =
     let n = c.args.self.now in
     let number = c.block-block.result in
-    (kept_at n.formula n.rows c.args.y c.args.k number c.items.result.now 0 c.requires.row c.block-block.ensures.value
-    (c.items.ensures ∙ found_rows c.self.inside.formula.now c.self.inside.rows.now number c.self.inside.first_rows.entries c.in-Some.firsts.now
-    c.self.invariant.first_rows c.in-Some.ensures.value ∙ ap (λ (m : Numbered). block_firsts m.formula m.rows number) c.self.view_is)).1
+    let kept : c.items.result.now ≡ block_firsts n.formula n.rows number =
+    c.items.ensures ∙ found_rows c.self.inside.formula.now c.self.inside.rows.now number c.self.inside.first_rows.entries c.in-Some.firsts.now
+    c.self.invariant.first_rows c.in-Some.ensures.value ∙ ap (λ (m : Expanded). block_firsts m.formula m.rows number) c.self.view_is in
+    ap (λ (xs : List ℕ). get_or xs (c.args.k % 16) 0) kept ∙ c.block-block.ensures.first

@@ -1,6 +1,6 @@
 use Rattle.std.proofs.Common.{subst}
 use Rattle.refutation_checker.specs.FirstRows.{AreFirstRows}
-use Rattle.refutation_checker.specs.PairTable.{Numbered}
+use Rattle.refutation_checker.specs.PairTable.{Expanded}
 use Rattle.refutation_checker.proofs.Pairing.{learnt_block}
 use Rattle.refutation_checker.proofs.pair_tables.PairTable.learn_one.Goals as goal
 
@@ -9,5 +9,5 @@ keep-requires c =
     let n = c.args.self.now in
     learnt_block n.formula n.rows c.args.block c.blocks-blocks.result c.turn_to.new.self.existential c.turn_to.new.self.places c.items.result.now
     c.in_ok-firsts.firsts c.blocks-blocks.ensures.value
-    (subst (λ (m : Numbered). AreFirstRows m.formula m.rows c.turn_to.new.self) c.self.view_is c.in_ok-turn_to.ensures.first)
+    (subst (λ (m : Expanded). AreFirstRows m.formula m.rows c.turn_to.new.self) c.self.view_is c.in_ok-turn_to.ensures.first)
     c.in_ok-turn_to.ensures.existential c.items.ensures c.in_ok-firsts.ensures
