@@ -172,19 +172,3 @@ impl<R: Print> Sink for RealSink<R> {
         Ok(count)
     }
 }
-
-#[cfg(test)]
-mod tests {
-    use super::*;
-
-    #[test]
-    fn errors_are_counted(rt: HostRuntime) {
-        let mut files = RealFiles::new(&rt);
-        assert_eq!(rt; files.pick("no such folder/no such file"), Err(Failed));
-        assert_eq!(rt; files.faults, 1);
-
-        let mut sink = RealSink::new(&rt);
-        assert!(rt; sink.write(b"written\n").is_ok());
-        assert_eq!(rt; sink.faults, 0);
-    }
-}
