@@ -3,6 +3,9 @@
 input it read in a second, and its peak memory.
 
 Usage: bench/bench.py [NAME..]     all measurements, or those whose names contain a NAME
+
+Where the variable DQCHECK is set, it names the checker that is measured. Behind the measurements of large honest inputs
+stand hostile ones at two sizes, whose time and memory are to follow the text.
 """
 
 import os
@@ -13,7 +16,7 @@ import tempfile
 import time
 
 TOP = os.path.dirname(os.path.dirname(os.path.abspath(__file__)))
-CHECKER = os.path.join(TOP, "crates", "dqcheck", "out", "dqcheck")
+CHECKER = os.environ.get("DQCHECK", os.path.join(TOP, "crates", "dqcheck", "out", "dqcheck"))
 MEGABYTE = 1_000_000
 
 
@@ -349,6 +352,150 @@ def wide_last_clause():
     return proof.texts([gate for gate, _, _ in gates])
 
 
+COLLIDING = r"""
+#include <stdint.h>
+#include <stdio.h>
+#include <stdlib.h>
+/* Numbers from 1 on whose hash has its low bits 0, in the hash that the standard maps take without a seed. */
+int main(int argc, char **argv) {
+    uint64_t count = strtoull(argv[1], 0, 10), mask = (1ULL << strtoull(argv[2], 0, 10)) - 1;
+    for (uint64_t n = 1; count; n++) {
+        __uint128_t product = (__uint128_t)(n ^ 0x243f6a8885a308d3ULL) * (0x9e3779b97f4a7c15ULL ^ 16);
+        uint64_t hash = (uint64_t)product ^ (uint64_t)(product >> 64);
+        if (!((hash ^ hash >> 32) & mask)) { printf("%llu\n", (unsigned long long)n); count--; }
+    }
+}
+"""
+
+
+def colliding_numbers(count):
+    """So many numbers that stand in one place of a hash table for them, or None where no C compiler is there to find
+    them. They are spread over the numbers up to a thousand million."""
+    with tempfile.TemporaryDirectory() as folder:
+        program = os.path.join(folder, "colliding")
+        try:
+            subprocess.run(["cc", "-O2", "-x", "c", "-", "-o", program], input=COLLIDING.encode(), check=True)
+        except (OSError, subprocess.CalledProcessError):
+            return None
+        bits = (count // 9).bit_length() - 1
+        return list(map(int, subprocess.run([program, str(count), str(bits)], stdout=subprocess.PIPE).stdout.split()))
+
+
+def colliding_gates(count):
+    """A circuit whose gates have variables that collide in a hash table with a fixed seed."""
+    numbers = colliding_numbers(count)
+    if numbers is None:
+        return None, None
+    formula = lines("p cnf 2 0", "a 1 0", "e 2 0")
+    taken = next(v for v in range(1, count + 2) if v not in set(numbers[:10]))
+    gates = (f"{2 * v} {2 * taken} {2 * taken}" for v in numbers)
+    return formula, lines(f"aag {numbers[-1]} 1 0 1 {count}", 2 * taken, 2 * numbers[0], *gates)
+
+
+def many_constants(count):
+    """Existentials that see one universal each, with constant outputs, over as many universals and gates."""
+    formula = lines(
+        f"p cnf {2 * count} 0", f"a {numbers(1, count)} 0", *(f"d {count + i} {i} 0" for i in range(1, count + 1))
+    )
+    gates = (f"{2 * (count + i)} {2 * (count + i - 1)} {2 * i}" for i in range(1, count + 1))
+    circuit = lines(f"aag {2 * count} {count} 0 {count} {count}", *range(2, 2 * count + 1, 2), *["0"] * count, *gates)
+    return formula, circuit
+
+
+def planted_functions(count):
+    """Existentials that see five universals each, each with four gates of its own over these."""
+    universals = count // 2
+    seen = [[(7 * i + 11 * j) % universals + 1 for j in range(5)] for i in range(count)]
+    formula = lines(
+        f"p cnf {universals + count} 0",
+        f"a {numbers(1, universals)} 0",
+        *(f"d {universals + 1 + i} {' '.join(map(str, xs))} 0" for i, xs in enumerate(seen)),
+    )
+    gates, outputs, variable = [], [], universals
+    for xs in seen:
+        side = 2 * xs[0]
+        for x in xs[1:]:
+            variable += 1
+            gates.append(f"{2 * variable} {side} {2 * x + variable % 2}")
+            side = 2 * variable
+        outputs.append(side)
+    circuit = lines(
+        f"aag {variable} {universals} 0 {count} {len(gates)}", *range(2, 2 * universals + 1, 2), *outputs, *gates
+    )
+    return formula, circuit
+
+
+def shared_chain(count):
+    """Existentials that see a first universal and one of their own, and all read a chain of gates over the first one."""
+    formula = lines(
+        f"p cnf {2 * count} 0", f"a {numbers(1, count)} 0", *(f"d {count + i} 1 {i} 0" for i in range(1, count + 1))
+    )
+    gates = (f"{2 * (count + i)} {2 * (count + i - 1) if i > 1 else 2} 2" for i in range(1, count + 1))
+    circuit = lines(
+        f"aag {2 * count} {count} 0 {count} {count}", *range(2, 2 * count + 1, 2), *[4 * count] * count, *gates
+    )
+    return formula, circuit
+
+
+def row_text(k, universals):
+    return "u " + " ".join(str(x + 1 if k >> x & 1 else -x - 1) for x in range(universals)) + " 0"
+
+
+def long_instances(count):
+    """Lines that hint the instances of one long clause under many rows; none is derived."""
+    universals, rows = 12, count // 10
+    variables = universals + count
+    formula = lines(
+        f"p cnf {variables} 1",
+        f"a {numbers(1, universals)} 0",
+        f"e {numbers(universals + 1, variables)} 0",
+        f"{numbers(universals + 1, variables)} 0",
+    )
+    steps = (f"{rows + 1 + k} 0 {k + 1} 0" for k in range(rows))
+    return formula, lines(f"p dqr {rows} {rows}", *(row_text(k, universals) for k in range(rows)), *steps)
+
+
+def long_last_clause(count):
+    """A circuit's proof whose lines all hint the clause of as many literals as the formula has clauses; none is derived."""
+    formula = lines(f"p cnf 2 {count}", "a 1 0", "e 2 0", *["2 1 0"] * count)
+    last = 3 + 2 * count + 1
+    steps = (f"{last + 1 + k} 0 {last} 0" for k in range(count))
+    return formula, lines("aag 2 1 0 1 1", 2, 4, "4 2 2", "c", f"dqp {count}", *steps)
+
+
+def one_dependency_set(count):
+    """A refutation with as many rows as existentials, which all have one dependency set; each has a line of its own."""
+    universals = 16
+    variables = universals + count
+    formula = lines(
+        f"p cnf {variables} {count + 1}",
+        f"a {numbers(1, universals)} 0",
+        *(f"d {y} 1 2 3 0" for y in range(universals + 1, variables + 1)),
+        *(f"{y} 0" for y in range(universals + 1, variables + 1)),
+        f"-{universals + 1} 0",
+    )
+    clauses, first = count + 1, count * (count + 1) + 1
+    steps = [f"{first + k} {k * variables + universals + 1 + k} 0 {k * clauses + k + 1} 0" for k in range(count)]
+    steps.append(f"{first + count} 0 1 {count + 1} 0")
+    return formula, lines(f"p dqr {count} {count + 1}", *(row_text(k, universals) for k in range(count)), *steps)
+
+
+def one_long_clause(count):
+    """One clause of so many literals, each variable with both signs, in falling order."""
+    literals = " ".join(f"{v} -{v}" for v in range(count // 2, 0, -1))
+    return lines("p cnf 1000000 1", f"{literals} 0"), None
+
+
+def at(make, size):
+    """A measurement of this size."""
+
+    def made():
+        return make(size)
+
+    made.__name__ = f"{make.__name__}_{size}"
+    return made
+
+
 MEASUREMENTS = [
     rows,
     large_formula,
@@ -366,6 +513,14 @@ MEASUREMENTS = [
     long_proof,
     gates_and_proof,
     wide_last_clause,
+    *(at(colliding_gates, size) for size in (50_000, 100_000)),
+    *(at(many_constants, size) for size in (20_000, 40_000)),
+    *(at(planted_functions, size) for size in (10_000, 20_000)),
+    *(at(shared_chain, size) for size in (10_000, 20_000)),
+    *(at(long_instances, size) for size in (10_000, 20_000)),
+    *(at(long_last_clause, size) for size in (20_000, 40_000)),
+    *(at(one_dependency_set, size) for size in (10_000, 20_000)),
+    *(at(one_long_clause, size) for size in (500_000, 1_000_000)),
 ]
 
 
@@ -395,7 +550,7 @@ def measure(folder, make):
         if os.path.exists(path):
             os.remove(path)
     print(
-        f"{make.__name__:16} {size / MEGABYTE:8.1f} MB {seconds:8.2f} s {size / MEGABYTE / seconds:8.1f} MB/s"
+        f"{make.__name__:24} {size / MEGABYTE:8.1f} MB {seconds:8.2f} s {size / MEGABYTE / seconds:8.1f} MB/s"
         f" {usage.ru_maxrss / 1000:8.0f} MB peak   {run.returncode} {answer[:60]}"
     )
 

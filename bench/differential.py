@@ -1,7 +1,8 @@
 #!/usr/bin/env python3
-"""Makes random formulas, circuits with and without proofs, and refutations, right ones and spoiled ones, and compares
-what the built checker answers on them with a second judge, reference.py. Prints how many of each answer there were, and
-each difference with the texts of both files; where there is one, the exit status is 1.
+"""Makes random formulas, circuits with and without proofs, and refutations, right ones and spoiled ones, some of them on
+numbers that collide in a hash table or have large gaps, and compares what the built checker answers on them with a
+second judge, reference.py. Prints how many of each answer there were, and each difference with the texts of both files;
+where there is one, the exit status is 1.
 
 Usage: bench/differential.py [COUNT [SEED]]     5,000 cases from seed 1, or COUNT cases from SEED
 """
@@ -30,6 +31,18 @@ def either_sign(choose, variable):
     return choose.choice((variable, -variable))
 
 
+def collides(number):
+    """Whether a number stands with 1 in 4096 of all numbers at one place of a hash table that takes no seed."""
+    product = (number ^ 0x243F6A8885A308D3) * (0x9E3779B97F4A7C15 ^ 16)
+    folded = (product ^ product >> 64) & (1 << 64) - 1
+    return (folded ^ folded >> 32) & 4095 == 0
+
+
+COLLIDING = list(filter(collides, range(1, 300_000)))
+GAPS = [1, 2, 3, *range(1020, 1030), 4095, 4096, 4097, *range(65_530, 65_540), *range(999_980, 1_000_000)]
+FAR_GAPS = [*GAPS, *range(2**20 - 5, 2**20 + 5), 10**8, *range(999_999_980, 999_999_998)]
+
+
 def text_of(lines):
     """The text with these lines, each a list of what stands between its spaces."""
     return "".join(" ".join(map(str, line)) + "\n" for line in lines).encode()
@@ -43,7 +56,8 @@ def random_formula(choose):
     universal_count = choose.randrange(22, 26) if chance(choose, 0.04) else choose.randrange(4)
     existential_count = choose.randrange(4)
     declared = universal_count + existential_count
-    variables = choose.sample(range(1, declared + 4), declared + choose.randrange(3))
+    numbers = choose.choice((COLLIDING, GAPS)) if chance(choose, 0.15) else range(1, declared + 4)
+    variables = choose.sample(numbers, declared + choose.randrange(3))
     universals, existentials = variables[:universal_count], variables[universal_count:declared]
     largest = max(variables, default=0) + choose.randrange(2)
     undeclared = variables[declared:] if chance(choose, 0.15) else []
@@ -101,6 +115,9 @@ def random_circuit(choose, formula):
     gate_count = choose.randrange(5)
     largest = len(universals) + gate_count + choose.randrange(4)
     variables = choose.sample(range(1, largest + 1), largest)
+    if chance(choose, 0.2):
+        variables = choose.sample(choose.choice((COLLIDING, FAR_GAPS)), len(variables))
+        largest = max([largest, *variables])
     inputs = variables[: len(universals)]
     gates, reached = random_gates(choose, variables[len(inputs) :][:gate_count], dict(zip(inputs, universals)))
     outputs = [random_output(choose, reached, formula.dependencies[existential]) for existential in existentials]

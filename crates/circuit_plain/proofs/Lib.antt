@@ -4,4 +4,5 @@ pub mod OrderLaws
 pub mod ReachLaws
 pub mod SortingLaws
 pub mod ValueLaws
+pub mod WordsLaws
 pub mod WalkingLaws

@@ -1,7 +1,7 @@
 -- The steps of a walk from marked variables.
 use Rattle.std.proofs.Common.{◌≡◌, ℕ, ◌+◌, ◌<◌, ◌≤◌, ◌⊎◌, inl, inr, Bool, true, false, List, map, length, get_or, set, take, refl, sym, ap, ◌∙◌, subst, arith}
 use Rattle.std.specs.Prelude.{Contains, slice_index}
-use Rattle.std.proofs.lemmas.Bool.{cases_eq}
+use Rattle.std.proofs.lemmas.Bool.{cases_eq, false≢true}
 use Rattle.std.proofs.lemmas.List.{get_or_default, get_or-map, get_or-take, length-map, length-take, get_or-set_same, get_or-set_other, length-set}
 use Rattle.dq_lits.specs.Row.{bit_of}
 use Rattle.circuit_plain.specs.declared.circuits.Gate.{Gate}
@@ -71,54 +71,59 @@ not_settled net order n k kept ordered above k_in settled =
     ]
 
 -- the marks are right as far as the gates from a place of the order on can tell
-pub record SidesMarked (net : Netlist) (order : List ℕ) (old marks : List Bool) (n : ℕ) : Type 0 where
-  pub long : length marks ≡ net.max_var + 1
-  pub kept : (u : ℕ) → bit_of old u ≡ true → bit_of marks u ≡ true
-  pub sound : (v : ℕ) → bit_of marks v ≡ true → (u : ℕ) × (bit_of old u ≡ true) × Reaches net u v
-  pub closed : (k : ℕ) → n ≤ k → k < length order → bit_of marks (gate_at net (slice_index order k)).variable ≡ true
-      → (bit_of marks (literal_variable (gate_at net (slice_index order k)).left) ≡ true)
-      × (bit_of marks (literal_variable (gate_at net (slice_index order k)).right) ≡ true)
+pub record SidesMarked (net : Netlist) (order : List ℕ) (old marks : ℕ → Bool) (n : ℕ) : Type 0 where
+  pub kept : (u : ℕ) → old u ≡ true → marks u ≡ true
+  pub sound : (v : ℕ) → marks v ≡ true → (u : ℕ) × (old u ≡ true) × Reaches net u v
+  pub closed : (k : ℕ) → n ≤ k → k < length order → marks (gate_at net (slice_index order k)).variable ≡ true
+      → (marks (literal_variable (gate_at net (slice_index order k)).left) ≡ true)
+      × (marks (literal_variable (gate_at net (slice_index order k)).right) ≡ true)
 
-pub nothing_marked : (net : Netlist) (order : List ℕ) (old : List Bool) → length old ≡ net.max_var + 1 → SidesMarked net order old old (length order)
-nothing_marked net order old long = record {
-  long = long;
+pub nothing_marked : (net : Netlist) (order : List ℕ) (old : ℕ → Bool) → SidesMarked net order old old (length order)
+nothing_marked net order old = record {
   kept = λ u on. on;
   sound = λ v on. (v, on, itself);
   closed = λ k above below on. absurd (omega arith);
 }
 
+-- two more marks
+pub record Spreads (marks new : ℕ → Bool) (x y : ℕ) : Type 0 where
+  pub keeps : (v : ℕ) → marks v ≡ true → new v ≡ true
+  pub left_on : new x ≡ true
+  pub right_on : new y ≡ true
+  pub only : (v : ℕ) → new v ≡ true → (v ≡ y) ⊎ ((v ≡ x) ⊎ (marks v ≡ true))
+
+pub set_spreads : (marks new : List Bool) (x y : ℕ) → x < length marks → y < length marks → new ≡ set (set marks x true) y true
+    → Spreads (bit_of marks) (bit_of new) x y
+set_spreads marks new x y x_in y_marks after =
+    let y_in : y < length (set marks x true) = rw length-set y_marks in
+    record {
+      keeps = λ v old_on. rw after (set_true_keeps (set marks x true) y v y_in (set_true_keeps marks x v x_in old_on));
+      left_on = rw after (set_true_keeps (set marks x true) y x y_in (get_or-set_same marks x true false x_in));
+      right_on = rw after (get_or-set_same (set marks x true) y true false y_in);
+      only = λ v new_on.
+          elim (set_true_cases (set marks x true) y v (rw after at new_on)) [
+            | inl same ↦ inl same
+            | inr before ↦ inr (set_true_cases marks x v before)
+          ];
+    }
+
 -- one gate, before the gates that were walked
-module _ (net : Netlist) (order : List ℕ) (old marks : List Bool) (n : ℕ) (kept : IsNetlist net) (ordered : IsOrder net order)
+module _ (net : Netlist) (order : List ℕ) (old marks : ℕ → Bool) (n : ℕ) (kept : IsNetlist net) (ordered : IsOrder net order)
     (n_in : n < length order) (so_far : SidesMarked net order old marks (n + 1)) where
-  pub mark_gate : (x y : ℕ) (new : List Bool) → bit_of marks (gate_at net (slice_index order n)).variable ≡ true
-      → x ≡ literal_variable (gate_at net (slice_index order n)).left → y ≡ literal_variable (gate_at net (slice_index order n)).right
-      → new ≡ set (set marks x true) y true → SidesMarked net order old new n
-  mark_gate x y new on x_is y_is after =
+  pub mark_gate : (new : ℕ → Bool) → marks (gate_at net (slice_index order n)).variable ≡ true
+      → Spreads marks new (literal_variable (gate_at net (slice_index order n)).left) (literal_variable (gate_at net (slice_index order n)).right)
+      → SidesMarked net order old new n
+  mark_gate new on spreads =
       let g : Gate = gate_at net (slice_index order n) in
-      let fits = gate_fits net kept g (gate_at_member net (slice_index order n) (ordered.in_range n 0 n_in)) in
       let member : Contains net.gates g = gate_at_member net (slice_index order n) (ordered.in_range n 0 n_in) in
       let ready = ordered.follows n n_in in
-      let x_in : x < length marks = rw x_is (literal_in_row net.max_var g.left (length marks) fits.left so_far.long) in
-      let y_in : y < length (set marks x true) =
-      rw (y_is, length-set) (literal_in_row net.max_var g.right (length marks) fits.right so_far.long) in
-      let keeps : (v : ℕ) → bit_of marks v ≡ true → bit_of new v ≡ true =
-      λ v old_on. rw after (set_true_keeps (set marks x true) y v y_in (set_true_keeps marks x v x_in old_on)) in
-      let x_on : bit_of new x ≡ true =
-      rw after (set_true_keeps (set marks x true) y x y_in (get_or-set_same marks x true false x_in)) in
-      let y_on : bit_of new y ≡ true = rw after (get_or-set_same (set marks x true) y true false y_in) in
-      let cases : (v : ℕ) → bit_of new v ≡ true → (v ≡ y) ⊎ ((v ≡ x) ⊎ (bit_of marks v ≡ true)) = λ v new_on.
-      elim (set_true_cases (set marks x true) y v (rw after at new_on)) [
-        | inl same ↦ inl same
-        | inr before ↦ inr (set_true_cases marks x v before)
-      ] in
       let source = so_far.sound g.variable on in
       record {
-        long = ap length after ∙ (length-set (set marks x true) y true ∙ (length-set marks x true ∙ so_far.long));
-        kept = λ u old_on. keeps u (so_far.kept u old_on);
+        kept = λ u old_on. spreads.keeps u (so_far.kept u old_on);
         sound = λ v new_on.
-            elim (cases v new_on) [
-              | inl same ↦ (source.0, source.1, reach_trans source.2 (right g member (to_itself net _ v (sym (same ∙ y_is)))))
-              | inr (inl same) ↦ (source.0, source.1, reach_trans source.2 (left g member (to_itself net _ v (sym (same ∙ x_is)))))
+            elim (spreads.only v new_on) [
+              | inl same ↦ (source.0, source.1, reach_trans source.2 (right g member (to_itself net _ v (sym same))))
+              | inr (inl same) ↦ (source.0, source.1, reach_trans source.2 (left g member (to_itself net _ v (sym same))))
               | inr (inr before) ↦ so_far.sound v before
             ];
         closed = λ k above k_in new_on.
@@ -126,65 +131,93 @@ module _ (net : Netlist) (order : List ℕ) (old marks : List Bool) (n : ℕ) (k
             elim (cases_eq k n) [
               | inl same ↦
                   let e : gate_at net (slice_index order n) ≡ h = ap (λ (j : ℕ). gate_at net (slice_index order j)) (sym same) in (
-                    subst (λ (z : Gate). bit_of new (literal_variable z.left) ≡ true) e (rw x_is at x_on),
-                    subst (λ (z : Gate). bit_of new (literal_variable z.right) ≡ true) e (rw y_is at y_on),
+                    subst (λ (z : Gate). new (literal_variable z.left) ≡ true) e spreads.left_on,
+                    subst (λ (z : Gate). new (literal_variable z.right) ≡ true) e spreads.right_on,
                   )
               | inr other ↦
-                  elim (cases h.variable new_on) [
+                  elim (spreads.only h.variable new_on) [
                     | inl same ↦ absurd (not_settled net order n k kept ordered above k_in
-                        (subst (λ (z : ℕ). IsSettled net (take n order) z) (sym (same ∙ y_is)) ready.1))
+                        (subst (λ (z : ℕ). IsSettled net (take n order) z) (sym same) ready.1))
                     | inr (inl same) ↦ absurd (not_settled net order n k kept ordered above k_in
-                        (subst (λ (z : ℕ). IsSettled net (take n order) z) (sym (same ∙ x_is)) ready.0))
+                        (subst (λ (z : ℕ). IsSettled net (take n order) z) (sym same) ready.0))
                     | inr (inr before) ↦
                         let sides = so_far.closed k (omega arith) k_in before in
-                        (keeps _ sides.0, keeps _ sides.1)
+                        (spreads.keeps _ sides.0, spreads.keeps _ sides.1)
                   ]
             ];
       }
 
+  -- where it isn't marked, nothing changes
+  pub pass_gate : (new : ℕ → Bool) → marks (gate_at net (slice_index order n)).variable ≡ false → ((v : ℕ) → new v ≡ marks v)
+      → SidesMarked net order old new n
+  pass_gate new off same = record {
+    kept = λ u old_on. same u ∙ so_far.kept u old_on;
+    sound = λ v new_on. so_far.sound v (sym (same v) ∙ new_on);
+    closed = λ k above k_in new_on.
+        elim (cases_eq k n) [
+          | inl here ↦ absurd (false≢true (sym off ∙ ap (λ (j : ℕ). marks (gate_at net (slice_index order j)).variable) (sym here) ∙ sym (same _) ∙ new_on))
+          | inr other ↦
+              let sides = so_far.closed k (omega arith) k_in (sym (same _) ∙ new_on) in
+              (same _ ∙ sides.0, same _ ∙ sides.1)
+        ];
+  }
+
 -- the turn of the walk; g is the gate read
-module _ (net : Netlist) (order places : List ℕ) (gates : List Gate) (old marks : List Bool) (n : ℕ) (g : Gate)
+module _ (net : Netlist) (order places : List ℕ) (gates : List Gate) (n : ℕ) (g : Gate)
     (kept : IsNetlist net) (ordered : IsOrder net order) (same_places : places ≡ order) (same_gates : net.gates ≡ gates)
     (below : n < length places) (read : g ≡ get_or gates (get_or places n 0) g) where
-  walked_gate : (n < length order) × (g ≡ gate_at net (slice_index order n))
+  pub walked_gate : (n < length order) × (g ≡ gate_at net (slice_index order n))
   walked_gate =
       let n_in : n < length order = rw same_places at below in
       let e : get_or places n 0 ≡ slice_index order n = ap (λ (xs : List ℕ). get_or xs n 0) same_places in
       let here : g ≡ get_or gates (slice_index order n) g = rw e at read in
       (n_in, gate_read net gates g (slice_index order n) same_gates (ordered.in_range n 0 n_in) here)
 
-  pub walk_over : (new : List Bool) → SidesMarked net order old marks (n + 1) → bit_of marks g.variable ≡ true
-      → new ≡ set (set marks (literal_variable g.left) true) (literal_variable g.right) true → SidesMarked net order old new n
-  walk_over new so_far on after =
-      mark_gate net order old marks n kept ordered walked_gate.0 so_far _ _ new
-      (subst (λ (z : Gate). bit_of marks z.variable ≡ true) walked_gate.1 on)
-      (ap (λ (z : Gate). literal_variable z.left) walked_gate.1)
-      (ap (λ (z : Gate). literal_variable z.right) walked_gate.1)
-      after
+  -- its sides have places in a row by variable
+  pub sides_within : (m : ℕ) → m ≡ net.max_var + 1 → (literal_variable g.left < m) × (literal_variable g.right < m)
+  sides_within m long =
+      let at = walked_gate in
+      let fits = gate_fits net kept (gate_at net (slice_index order n)) (gate_at_member net (slice_index order n) (ordered.in_range n 0 at.0)) in (
+        subst (λ (z : Gate). literal_variable z.left < m) (sym at.1) (literal_in_row net.max_var _ m fits.left long),
+        subst (λ (z : Gate). literal_variable z.right < m) (sym at.1) (literal_in_row net.max_var _ m fits.right long),
+      )
+
+  pub walk_on : (old marks new : ℕ → Bool) → SidesMarked net order old marks (n + 1) → marks g.variable ≡ true
+      → Spreads marks new (literal_variable g.left) (literal_variable g.right) → SidesMarked net order old new n
+  walk_on old marks new so_far on spreads =
+      mark_gate net order old marks n kept ordered walked_gate.0 so_far new
+      (subst (λ (z : Gate). marks z.variable ≡ true) walked_gate.1 on)
+      (subst (λ (z : Gate). Spreads marks new (literal_variable z.left) (literal_variable z.right)) walked_gate.1 spreads)
+
+  pub walk_past : (old marks new : ℕ → Bool) → SidesMarked net order old marks (n + 1) → marks g.variable ≡ false
+      → ((v : ℕ) → new v ≡ marks v) → SidesMarked net order old new n
+  walk_past old marks new so_far off same =
+      pass_gate net order old marks n kept ordered walked_gate.0 so_far new
+      (subst (λ (z : Gate). marks z.variable ≡ false) walked_gate.1 off) same
 
 -- at the end of the walk
-closed_gate : (net : Netlist) (order : List ℕ) (old marks : List Bool) (g : Gate) → IsOrder net order → SidesMarked net order old marks 0
-    → Contains net.gates g → bit_of marks g.variable ≡ true
-    → (bit_of marks (literal_variable g.left) ≡ true) × (bit_of marks (literal_variable g.right) ≡ true)
+closed_gate : (net : Netlist) (order : List ℕ) (old marks : ℕ → Bool) (g : Gate) → IsOrder net order → SidesMarked net order old marks 0
+    → Contains net.gates g → marks g.variable ≡ true
+    → (marks (literal_variable g.left) ≡ true) × (marks (literal_variable g.right) ≡ true)
 closed_gate net order old marks g ordered done (p, p_in, is) on =
     let found = ordered.whole p p_in in
     let here : slice_index order found.0 ≡ p = get_or_default order found.0 0 p found.1 ∙ found.2 in
     let gate_is : gate_at net (slice_index order found.0) ≡ g =
     ap (gate_at net) here ∙ (get_or_default net.gates p _ g p_in ∙ is) in
-    let sides = done.closed found.0 (omega arith) found.1 (subst (λ (z : Gate). bit_of marks z.variable ≡ true) (sym gate_is) on) in (
-      subst (λ (z : Gate). bit_of marks (literal_variable z.left) ≡ true) gate_is sides.0,
-      subst (λ (z : Gate). bit_of marks (literal_variable z.right) ≡ true) gate_is sides.1,
+    let sides = done.closed found.0 (omega arith) found.1 (subst (λ (z : Gate). marks z.variable ≡ true) (sym gate_is) on) in (
+      subst (λ (z : Gate). marks (literal_variable z.left) ≡ true) gate_is sides.0,
+      subst (λ (z : Gate). marks (literal_variable z.right) ≡ true) gate_is sides.1,
     )
 
-closed_reach : (net : Netlist) (order : List ℕ) (old marks : List Bool) → IsOrder net order → SidesMarked net order old marks 0
-    → {u v : ℕ} → Reaches net u v → bit_of marks u ≡ true → bit_of marks v ≡ true
+closed_reach : (net : Netlist) (order : List ℕ) (old marks : ℕ → Bool) → IsOrder net order → SidesMarked net order old marks 0
+    → {u v : ℕ} → Reaches net u v → marks u ≡ true → marks v ≡ true
 closed_reach net order old marks ordered done itself on = on
 closed_reach net order old marks ordered done (left g g_in r) on =
     closed_reach net order old marks ordered done r (closed_gate net order old marks g ordered done g_in on).0
 closed_reach net order old marks ordered done (right g g_in r) on =
     closed_reach net order old marks ordered done r (closed_gate net order old marks g ordered done g_in on).1
 
-pub marks_reach : (net : Netlist) (order : List ℕ) (old marks : List Bool) → IsOrder net order → SidesMarked net order old marks 0
-    → MarksReach net (bit_of old) (bit_of marks)
+pub marks_reach : (net : Netlist) (order : List ℕ) (old marks : ℕ → Bool) → IsOrder net order → SidesMarked net order old marks 0
+    → MarksReach net old marks
 marks_reach net order old marks ordered done v =
     (done.sound v, λ w. closed_reach net order old marks ordered done w.2 (done.kept w.0 w.1))

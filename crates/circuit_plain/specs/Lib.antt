@@ -4,3 +4,4 @@ pub mod Order
 pub mod Reach
 pub mod Steps
 pub mod Value
+pub mod Words

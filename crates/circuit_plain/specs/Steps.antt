@@ -1,6 +1,6 @@
 -- Words of private contracts: how far an evaluation, a walk and a sort have come. No public contract cites
 -- them.
-use Rattle.std.specs.Prelude.{◌≢◌, ℕ, ◌<◌, ◌⊎◌, ◌↔◌, Bool, List, IsTrue, take, length, slice_index, All, AllPairs}
+use Rattle.std.specs.Prelude.{◌≡◌, ◌≢◌, ℕ, ◌<◌, ◌⊎◌, ◌↔◌, ◌==◌, ◌&&◌, ◌||◌, Bool, List, IsTrue, take, length, slice_index, All, AllPairs}
 use Rattle.circuit_plain.specs.declared.walks.Task.{Task}
 use Rattle.circuit_plain.specs.declared.walks.Task.TheVariants.{Visit, Leave}
 use Rattle.circuit_plain.specs.Netlist.{Netlist, gate_at}
@@ -15,6 +15,10 @@ GivesValues net bits m places = (v : ℕ) → IsSettled net places v → HasValu
 -- the new marks stand at what the marked variables reach
 abbrev pub MarksReach : Netlist → (ℕ → Bool) → (ℕ → Bool) → Type 0
 MarksReach net old new = (v : ℕ) → IsTrue (new v) ↔ ((u : ℕ) × IsTrue (old u) × Reaches net u v)
+
+-- where a variable is marked, so are two others as well; nothing else changes
+abbrev pub IsSpread : (ℕ → Bool) → (ℕ → Bool) → ℕ → ℕ → ℕ → Type 0
+IsSpread old new from left right = (v : ℕ) → new v ≡ (old v || (old from && ((left == v) || (right == v))))
 
 -- the beginning of an order
 pub record IsPartialOrder (net : Netlist) (places : List ℕ) : Type 0 where

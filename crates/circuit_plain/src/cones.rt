@@ -1,6 +1,7 @@
-ghost use Rattle.std.specs.Prelude.{◌≡◌, ◌+◌, ◌<◌, ◌↔◌, ℕ, true, false, length, replicate, slice_index, IsTrue};
+ghost use Rattle.std.specs.Prelude.{◌≡◌, ◌+◌, ◌<◌, ◌↔◌, ℕ, true, false, length, replicate, slice_index, slice_set, bit_or, IsTrue};
 ghost use Rattle.dq_lits.specs.Row.{bit_of};
-ghost use Rattle.circuit_plain.specs.Steps.{MarksReach};
+ghost use Rattle.circuit_plain.specs.Steps.{MarksReach, IsSpread};
+ghost use Rattle.circuit_plain.specs.Words.{marked, WordsReach};
 ghost use Rattle.circuit_plain.specs.Netlist.{literal_variable};
 ghost use Rattle.circuit_plain.specs.Order.{IsOrder};
 ghost use Rattle.circuit_plain.specs.Reach.{Reaches};
@@ -25,6 +26,21 @@ impl Circuit {
         clear(marks);
         marks.set(root, true);
         self.mark_sides(order, marks);
+    }
+
+    /// At each bit of the words, which stand by variable, marks what the variables marked there reach through right
+    /// sides, whatever the values, beside these: 64 walks in one. It takes no memory.
+    pub fn reach_by_words(&self, order: &Order, words: &mut [u64])
+        requires ordered { IsOrder self.now order.now }
+        requires a_word_a_variable { length words.old ≡ self.now.max_var + 1 }
+        ensures same_length { length words.new ≡ length words.old }
+        ensures reached { WordsReach self.now words.old words.new }
+    {
+        let places = order.places();
+        for i in (0..places.len()).rev() {
+            let gate = self.gates[places[i]];
+            spread(words, gate.variable, gate.left / 2, gate.right / 2);
+        }
     }
 
     // Marks what the marked gates read, from the last gate of the order to the first.
@@ -52,4 +68,24 @@ fn clear(row: &mut Row)
     for i in 0..row.len() {
         row.set(i, false);
     }
+}
+
+// Adds the marks of one variable to those of two others.
+fn spread(words: &mut [u64], from: u64, left: u64, right: u64)
+    requires from_in_range { from < length words.old }
+    requires left_in_range { left < length words.old }
+    requires right_in_range { right < length words.old }
+    ensures same_length { length words.new ≡ length words.old }
+    ensures spread { (i : ℕ) → IsSpread (marked words.old i) (marked words.new i) from left right }
+{
+    let word = words[from as usize];
+    add_marks(words, left as usize, word);
+    add_marks(words, right as usize, word);
+}
+
+fn add_marks(words: &mut [u64], at: usize, word: u64)
+    requires { at < length words.old }
+    ensures { words.new ≡ slice_set words.old at (bit_or (slice_index words.old at) word) }
+{
+    words[at] |= word;
 }

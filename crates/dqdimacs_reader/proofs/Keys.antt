@@ -13,24 +13,24 @@ same_test a b c d to from =
       | inr other ↦ ne_eqb a b (λ e. other (from e)) ∙ sym (ne_eqb c d other)
     ]
 
-key_same : (k l : Literal) → (literal_key k == literal_key l) ≡ same_literal k l
-key_same (positive v) (positive w) = same_test (2 * v) (2 * w) v w (λ e. omega arith) (λ e. omega arith)
+key_same : (k l : Literal) → (literal_key k == literal_key l) ≡ same_literal l k
+key_same (positive v) (positive w) = same_test (2 * v) (2 * w) w v (λ e. omega arith) (λ e. omega arith)
 key_same (positive v) (negative w) = ne_eqb (2 * v) (2 * w + 1) (λ e. omega arith)
 key_same (negative v) (positive w) = ne_eqb (2 * v + 1) (2 * w) (λ e. omega arith)
-key_same (negative v) (negative w) = same_test (2 * v + 1) (2 * w + 1) v w (λ e. omega arith) (λ e. omega arith)
+key_same (negative v) (negative w) = same_test (2 * v + 1) (2 * w + 1) w v (λ e. omega arith) (λ e. omega arith)
 
-keys_tell : (l : Literal) (literals : List Literal) → list_any (λ k. literal_key l == k) (map literal_key literals) ≡ list_any (same_literal l) literals
+keys_tell : (l : Literal) (literals : List Literal) → list_any (λ k. k == literal_key l) (map literal_key literals) ≡ list_any (same_literal l) literals
 keys_tell l [] = refl
 keys_tell l (k ∷ literals) =
-    ap (λ b. b || list_any (λ j. literal_key l == j) (map literal_key literals)) (key_same l k)
+    ap (λ b. b || list_any (λ j. j == literal_key l) (map literal_key literals)) (key_same k l)
     ∙ ap (λ b. same_literal l k || b) (keys_tell l literals)
 
 -- where the keys of literals hold a literal's key, and where they don't
 pub adds_new : (l : Literal) (literals : List Literal) (keys : List ℕ) (is_new : Bool) → keys ≡ map literal_key literals →
-    is_new ≡ not (list_any (λ k. literal_key l == k) keys) → add_literal literals l ≡ cond is_new (literals ++ l ∷ []) literals
+    is_new ≡ not (list_any (λ k. k == literal_key l) keys) → add_literal literals l ≡ cond is_new (literals ++ l ∷ []) literals
 adds_new l literals keys is_new are is =
     turned (list_any (same_literal l) literals) is_new
-    (is ∙ ap (λ ks. not (list_any (λ k. literal_key l == k) ks)) are ∙ ap not (keys_tell l literals))
+    (is ∙ ap (λ ks. not (list_any (λ k. k == literal_key l) ks)) are ∙ ap not (keys_tell l literals))
   where
     turned : (b n : Bool) → n ≡ not b → cond b literals (literals ++ l ∷ []) ≡ cond n (literals ++ l ∷ []) literals
     turned true n h = ap (λ c. cond c (literals ++ l ∷ []) literals) (sym h)

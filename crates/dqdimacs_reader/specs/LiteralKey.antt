@@ -12,4 +12,4 @@ literals_inside d = d.literals.items
 
 -- the keys of the literals, in order
 abbrev pub HasKeys : Inside → Type 0
-HasKeys d = d.keys.keys ≡ map literal_key d.literals.items
+HasKeys d = d.keys ≡ map literal_key d.literals.items

@@ -3,7 +3,7 @@ ghost use Rattle.dqdimacs_reader.specs.Building.{add_literal};
 ghost use Rattle.dqdimacs_reader.specs.LiteralKey.{literal_key};
 
 use dq_lits::{Lit, Memory};
-use indexmap::IndexSet;
+use number_tables::NumberSet;
 use std::alloc::Global;
 use std::marker::Model;
 
@@ -12,7 +12,7 @@ use std::marker::Model;
 pub struct DistinctLiterals {
     literals: Vec<Lit>,
     // A literal's key stands here from its first occurrence on, so that a long clause is read in linear time.
-    keys: IndexSet<u64>,
+    keys: NumberSet,
 }
 
 impl Model for DistinctLiterals {
@@ -35,7 +35,7 @@ impl DistinctLiterals {
     {
         DistinctLiterals {
             literals: Vec::new(alloc),
-            keys: IndexSet::new(alloc),
+            keys: NumberSet::new(alloc),
         }
     }
 
@@ -45,7 +45,7 @@ impl DistinctLiterals {
         ensures err { OnErr result (self.new ≡ self.old) }
     {
         self.literals.reserve(1)?;
-        let (_, is_new) = self.keys.insert_full(key_of(literal))?;
+        let is_new = self.keys.insert(key_of(literal))?;
         if is_new {
             self.literals.push(literal).unwrap();
         }

@@ -1,6 +1,7 @@
 pub mod MappingLaws
 pub mod NamingLaws
 pub mod ReadsLaws
+pub mod SightsLaws
 pub mod RowsLaws
 pub mod OntoLaws
 pub mod TablesLaws

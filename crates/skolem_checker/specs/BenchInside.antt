@@ -6,13 +6,15 @@ use Rattle.circuit_plain.specs.Order.{IsOrder}
 use Rattle.skolem_checker.specs.Checks.{Candidate}
 use Rattle.skolem_checker.specs.Mapping.{Mapping}
 use Rattle.skolem_checker.specs.MappingReading.{mapping_in}
+use Rattle.skolem_checker.specs.Reads.{HasWords}
 use Rattle.skolem_checker.specs.Renaming.{renumbered}
 use Rattle.skolem_checker.specs.SkolemCircuit.{IsComplete}
 use Rattle.skolem_checker.specs.Tables.{IsMapping, AreTables, universal_places}
+use Rattle.skolem_checker.specs.declared.reads.ReadWords.{ReadWords}
 use Rattle.skolem_checker.specs.declared.bench.Bench.TheInside.{Inside}
 
 -- the circuit is complete and mapped; order, tables and buffers are those of its renumbered copy
-pub record IsReady (f : Dqbf) (net copy : Netlist) (mapping : Mapping) (order literals places by_input : List ℕ) (marks bits values : List Bool) : Type 0 where
+pub record IsReady (f : Dqbf) (net copy : Netlist) (mapping : Mapping) (order literals places by_input : List ℕ) (words : ReadWords) (bits values : List Bool) : Type 0 where
   pub formed : IsWellFormed f
   pub complete : IsComplete net
   pub kept : IsNetlist net
@@ -22,7 +24,7 @@ pub record IsReady (f : Dqbf) (net copy : Netlist) (mapping : Mapping) (order li
   pub ordered : IsOrder copy order
   pub tables : AreTables f copy mapping literals places
   pub by_input_is : by_input ≡ universal_places f mapping
-  pub a_mark_a_variable : length marks ≡ copy.max_var + 1
+  pub has_words : HasWords copy f words
   pub a_bit_an_input : length bits ≡ length copy.inputs
   pub a_value_a_variable : length values ≡ copy.max_var + 1
 
@@ -35,4 +37,4 @@ candidate_in b = record {
 abbrev pub is_ready : Inside → Type 0
 is_ready b =
     IsReady b.formula.now b.circuit.now b.copy (mapping_in b.mapped) b.order b.literals.items b.places.items b.universal_places.items
-    b.marks b.bits b.values
+    b.words b.bits b.values

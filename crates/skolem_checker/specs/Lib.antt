@@ -4,5 +4,6 @@ pub mod Naming
 pub mod Checks
 pub mod SkolemCircuit
 pub mod Tables
+pub mod Reads
 pub mod Renaming
 pub mod BenchInside

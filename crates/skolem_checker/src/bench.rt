@@ -6,7 +6,7 @@ ghost use Rattle.skolem_checker.specs.MappingReading.{Answers};
 ghost use Rattle.skolem_checker.specs.SkolemCircuit.{IsComplete, ReadsUniversal};
 
 use crate::mapping::{BenchStop, Mapped, read_mapping};
-use crate::reads::undeclared_read;
+use crate::reads::{ReadWords, undeclared_read};
 use crate::renumbering::renumbered;
 use crate::rows::first_bad_row;
 use crate::tables::{literal_table, place_table, universal_places};
@@ -33,7 +33,7 @@ pub struct Bench<'a> {
     places: Vec<u64>,
     // By input, the place of its universal.
     universal_places: Vec<usize>,
-    marks: Row,
+    words: ReadWords,
     bits: Row,
     values: Row,
 }
@@ -78,7 +78,7 @@ impl<'a> Bench<'a> {
         let literals = literal_table(alloc, f, &copy, &mapped)?;
         let places = place_table(alloc, f, &copy, &mapped)?;
         let universal_places = universal_places(alloc, f, &mapped.inputs)?;
-        let marks = Row::new(alloc, copy.max_var() as usize + 1)?;
+        let words = ReadWords::new(alloc, f, &copy)?;
         let values = Row::new(alloc, copy.max_var() as usize + 1)?;
         let bits = Row::new(alloc, copy.inputs().len())?;
         Ok(Bench {
@@ -90,7 +90,7 @@ impl<'a> Bench<'a> {
             literals,
             places,
             universal_places,
-            marks,
+            words,
             bits,
             values,
         })
@@ -139,7 +139,7 @@ impl<'a> Bench<'a> {
             &self.order,
             &self.literals,
             &self.places,
-            &mut self.marks,
+            &mut self.words,
         )
     }
 

@@ -14,4 +14,6 @@ mod mapping;
 mod reads;
 mod renumbering;
 mod rows;
+mod sights;
 mod tables;
+mod words;

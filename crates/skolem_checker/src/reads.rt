@@ -1,32 +1,174 @@
-//! What the outputs read.
+//! What the outputs read. 64 outputs are walked at a time, with a bit for each; a test of whole words tells where none of
+//! them reads what its existential may not see, and only where that fails are they looked at one by one.
 
-ghost use Rattle.std.specs.Prelude.{◌≡◌, ◌+◌, ◌<◌, Some, length, slice_index, All, IsSome, MatchOption};
+ghost use Rattle.std.specs.Prelude.{◌≡◌, ◌+◌, ◌*◌, ◌<◌, ◌≤◌, ℕ, Some, length, slice_index, All, IsSome, MatchOption, IfOk};
 ghost use Rattle.dq_lits.specs.Formula.{Existential, existential_of};
-ghost use Rattle.dq_lits.specs.Row.{bit_of};
 ghost use Rattle.dq_formula.specs.Prefix.{existential_variables};
 ghost use Rattle.circuit_plain.specs.Order.{IsOrder};
-ghost use Rattle.skolem_checker.specs.Checks.{ReadsDeclaredBefore, IsFirstRead, IsReadsAnswer};
+ghost use Rattle.circuit_plain.specs.Words.{marked};
+ghost use Rattle.skolem_checker.specs.Checks.{IsFirstRead, IsReadsAnswer};
+ghost use Rattle.skolem_checker.specs.Reads.{HasWords, AreRoots, AreReached, IsDeclared, AreDeclared, IsFirstIn, IsBatchAnswer};
 ghost use Rattle.skolem_checker.specs.Tables.{ReadsByTables, ReadsByMarks, HasLiteral};
 
+use crate::sights::{all_see_all, are_declared};
+use crate::tables::zeros;
+use crate::words::{bit, clear, set_bit};
 use circuit_plain::{Circuit, Order};
 use dq_formula::Formula;
-use dq_lits::Row;
+use dq_lits::Memory;
+use std::alloc::Global;
 
-// The first universal that is marked and that an existential may not see.
-fn first_undeclared(f: &Formula, literals: &[u64], marks: &Row, y: u64) -> Option<u64>
+/// Room for 64 outputs at a time, a bit for each in every word.
+#[derive(Debug, Drop)]
+pub(crate) struct ReadWords {
+    /// By variable of the circuit: which outputs reach it.
+    pub reached: Vec<u64>,
+    /// By place of a universal: which dependency sets list it.
+    pub listed: Vec<u64>,
+    /// By number of universals: which dependency sets are the first so many of them.
+    pub stops: Vec<u64>,
+}
+
+impl ReadWords {
+    /// Takes the room.
+    pub(crate) fn new(alloc: Global, f: &Formula, circuit: &Circuit) -> Result<ReadWords, Memory>
+        ensures { IfOk result (HasWords circuit.now f.now) }
+    {
+        let _ = circuit.max_var();
+        let universals = f.universals().len();
+        Ok(ReadWords {
+            reached: zeros(alloc, circuit.max_var() as usize + 1)?,
+            listed: zeros(alloc, universals)?,
+            stops: zeros(alloc, universals + 1)?,
+        })
+    }
+}
+
+// The first universal that is marked at a bit and that an existential may not see.
+fn first_undeclared(
+    f: &Formula,
+    literals: &[u64],
+    words: &[u64],
+    i: usize,
+    y: u64,
+) -> Option<u64>
     requires declared { IsSome (existential_of f.now y) }
-    requires fit { All (HasLiteral literals.now (length marks.now)) f.now.universals }
-    ensures { (e : Existential) → existential_of f.now y ≡ Some e → e.variable ≡ y
-        → MatchOption result (ReadsDeclaredBefore (ReadsByMarks (bit_of marks.now) literals.now) f.now e (length f.now.universals))
-        (IsFirstRead (ReadsByMarks (bit_of marks.now) literals.now) f.now e) }
+    requires bit { i < 64 }
+    requires fit { All (HasLiteral literals.now (length words.now)) f.now.universals }
+    ensures { (e : Existential) → existential_of f.now y ≡ Some e
+        → MatchOption result (IsDeclared f.now literals.now words.now i e)
+        (IsFirstRead (ReadsByMarks (marked words.now i) literals.now) f.now e) }
 {
     for x in f.universals() {
         let variable = literals[*x as usize] / 2;
-        if marks.get(variable as usize) && !f.sees(y, *x) {
+        if bit(words, variable as usize, i) && !f.sees(y, *x) {
             return Some(*x);
         }
     }
     None
+}
+
+// The first of these existentials that reads an undeclared universal by its marks, and the first such universal.
+fn first_read_one_by_one(
+    f: &Formula,
+    literals: &[u64],
+    ys: &[u64],
+    words: &[u64],
+) -> Option<(usize, u64)>
+    requires declared { All (λ y. IsSome (existential_of f.now y)) ys.now }
+    requires few { length ys.now ≤ 64 }
+    requires fit { All (HasLiteral literals.now (length words.now)) f.now.universals }
+    ensures { MatchOption result (AreDeclared f.now literals.now ys.now words.now) (λ read. IsFirstIn f.now literals.now ys.now words.now read.0 read.1) }
+{
+    for (i, y) in ys.iter().enumerate() {
+        if let Some(x) = first_undeclared(f, literals, words, i, *y) {
+            return Some((i, x));
+        }
+    }
+    None
+}
+
+// The same, where whole words are looked at first.
+fn first_read(
+    f: &Formula,
+    literals: &[u64],
+    ys: &[u64],
+    words: &mut ReadWords,
+) -> Option<(usize, u64)>
+    requires declared { All (λ y. IsSome (existential_of f.now y)) ys.now }
+    requires few { length ys.now ≤ 64 }
+    requires fit { All (HasLiteral literals.now (length words.old.reached.items)) f.now.universals }
+    requires listed_words { length words.old.listed.items ≡ length f.now.universals }
+    requires stops_words { length words.old.stops.items ≡ length f.now.universals + 1 }
+    ensures reached { length words.new.reached.items ≡ length words.old.reached.items }
+    ensures listed { length words.new.listed.items ≡ length words.old.listed.items }
+    ensures stops { length words.new.stops.items ≡ length words.old.stops.items }
+    ensures answer { MatchOption result (AreDeclared f.now literals.now ys.now words.old.reached.items)
+        (λ read. IsFirstIn f.now literals.now ys.now words.old.reached.items read.0 read.1) }
+{
+    if are_declared(f, literals, ys, &words.reached, &mut words.listed, &mut words.stops) {
+        return None;
+    }
+    first_read_one_by_one(f, literals, ys, &words.reached)
+}
+
+// Marks the roots of these existentials' outputs, each at its bit.
+fn mark_roots(circuit: &Circuit, places: &[u64], ys: &[u64], words: &mut [u64])
+    requires few { length ys.now ≤ 64 }
+    requires a_word_a_variable { length words.old ≡ circuit.now.max_var + 1 }
+    requires places_fit { All (λ y. y < length places.now) ys.now }
+    requires outputs_fit { All (λ y. slice_index places.now y < length circuit.now.outputs) ys.now }
+    ensures same_length { length words.new ≡ length words.old }
+    ensures roots { AreRoots circuit.now places.now ys.now (length ys.now) words.new }
+{
+    let _ = circuit.max_var();
+    clear(words);
+    for (i, y) in ys.iter().enumerate() {
+        let out = places[*y as usize] as usize;
+        set_bit(words, (circuit.outputs()[out] / 2) as usize, i);
+    }
+}
+
+// Marks what these existentials' outputs reach, each at its bit.
+fn mark_reached(circuit: &Circuit, order: &Order, places: &[u64], ys: &[u64], words: &mut [u64])
+    requires ordered { IsOrder circuit.now order.now }
+    requires few { length ys.now ≤ 64 }
+    requires a_word_a_variable { length words.old ≡ circuit.now.max_var + 1 }
+    requires places_fit { All (λ y. y < length places.now) ys.now }
+    requires outputs_fit { All (λ y. slice_index places.now y < length circuit.now.outputs) ys.now }
+    ensures same_length { length words.new ≡ length words.old }
+    ensures reached { AreReached circuit.now places.now ys.now words.new }
+{
+    mark_roots(circuit, places, ys, words);
+    circuit.reach_by_words(order, words);
+}
+
+// The first of a batch of existentials whose output reaches an input for a universal that it may not see, and the first
+// such universal.
+fn undeclared_in_batch(
+    f: &Formula,
+    circuit: &Circuit,
+    order: &Order,
+    literals: &[u64],
+    places: &[u64],
+    ys: &[u64],
+    words: &mut ReadWords,
+) -> Option<(usize, u64)>
+    requires ordered { IsOrder circuit.now order.now }
+    requires declared { All (λ y. IsSome (existential_of f.now y)) ys.now }
+    requires few { length ys.now ≤ 64 }
+    requires words { HasWords circuit.now f.now words.old }
+    requires universals_fit { All (HasLiteral literals.now (circuit.now.max_var + 1)) f.now.universals }
+    requires places_fit { All (λ y. y < length places.now) ys.now }
+    requires outputs_fit { All (λ y. slice_index places.now y < length circuit.now.outputs) ys.now }
+    ensures words { HasWords circuit.now f.now words.new }
+    ensures answer { IsBatchAnswer (ReadsByTables circuit.now literals.now places.now) f.now ys.now result }
+{
+    if all_see_all(f, ys) {
+        return None;
+    }
+    mark_reached(circuit, order, places, ys, &mut words.reached);
+    first_read(f, literals, ys, words)
 }
 
 /// The first existential whose output reaches an input for a universal that it may not see, and the first such
@@ -37,22 +179,24 @@ pub(crate) fn undeclared_read(
     order: &Order,
     literals: &[u64],
     places: &[u64],
-    marks: &mut Row,
+    words: &mut ReadWords,
 ) -> Result<(), (u64, u64)>
     requires ordered { IsOrder circuit.now order.now }
-    requires a_mark_a_variable { length marks.old ≡ circuit.now.max_var + 1 }
+    requires words { HasWords circuit.now f.now words.old }
     requires universals_fit { All (HasLiteral literals.now (circuit.now.max_var + 1)) f.now.universals }
     requires places_fit { All (λ y. y < length places.now) (existential_variables f.now) }
     requires outputs_fit { All (λ y. slice_index places.now y < length circuit.now.outputs) (existential_variables f.now) }
-    ensures same_length { length marks.new ≡ length marks.old }
+    ensures words { HasWords circuit.now f.now words.new }
     ensures answer { IsReadsAnswer (ReadsByTables circuit.now literals.now places.now) f.now result }
 {
     f.every_formula_is_lawful();
-    for y in f.existentials() {
-        let out = places[*y as usize] as usize;
-        circuit.reads(order, out, marks);
-        if let Some(x) = first_undeclared(f, literals, marks, *y) {
-            return Err((*y, x));
+    let ys = f.existentials();
+    for batch in 0..ys.len().div_ceil(64) {
+        let start = batch * 64;
+        let end = start + (ys.len() - start).min(64);
+        let read = undeclared_in_batch(f, circuit, order, literals, places, &ys[start..end], words);
+        if let Some((i, x)) = read {
+            return Err((ys[start + i], x));
         }
     }
     Ok(())

@@ -74,7 +74,8 @@ fn universal_place(f: &Formula, x: u64) -> usize
     }
 }
 
-fn zeros(alloc: Global, n: usize) -> Result<Vec<u64>, Memory>
+/// So many zeros.
+pub(crate) fn zeros(alloc: Global, n: usize) -> Result<Vec<u64>, Memory>
     ensures { IfOk result (λ zeros. length zeros.items ≡ n) }
 {
     Ok(vec![in alloc; 0u64; n]?)

@@ -1,47 +1,27 @@
-use Rattle.std.proofs.Common.{◌≡◌, ◌<◌, ℕ, length, refl, sym, ◌∙◌}
-use Rattle.std.specs.Prelude.{slice_index_or}
-use Rattle.dq_lits.specs.Row.{bit_of}
-use Rattle.skolem_checker.specs.Checks.{existential_at}
+use Rattle.std.proofs.Common.{◌≡◌, ◌*◌, ◌+◌, ◌-◌, ℕ, length, ap, ◌∙◌, arith}
+use Rattle.std.proofs.lemmas.List.{length-map}
+use Rattle.dq_lits.specs.Formula.{Existential}
 use Rattle.skolem_checker.specs.Tables.{ReadsByTables}
-use Rattle.skolem_checker.proofs.ReadsLaws.{variable_at, places-below, named_at, before-from_marks, first-from_marks, before-more}
+use Rattle.skolem_checker.proofs.SightsLaws.{batch_declared, batch_passes, batch_fails}
 use Rattle.skolem_checker.proofs.reads.undeclared_read.Goals as goal
 
-pub first_undeclared-requires-clause-declared : goal.first_undeclared-requires-clause-declared
-first_undeclared-requires-clause-declared c =
-    let f = c.args.f.now in
-    let p : ℕ = c.loop-y.y-index in
-    let ys = c.existentials-y-items.result.now in
-    rw (variable_at f ys p c.existentials-y-items.ensures c.loop-y-test.true)
-    (rw (named_at f p c.every_formula_is_lawful.ensures.named (places-below f ys p c.existentials-y-items.ensures c.loop-y-test.true)) refl)
+pub undeclared_in_batch-read-requires-clause-declared : goal.undeclared_in_batch-read-requires-clause-declared
+undeclared_in_batch-read-requires-clause-declared c =
+    batch_declared c.args.f.now c.existentials-ys.result.now (c.loop-batch.batch * 64) (c.loop-batch.batch * 64 + c.min.result - c.loop-batch.batch * 64)
+    c.existentials-ys.ensures c.every_formula_is_lawful.ensures.named
 
 pub returns-in-Some-clause-answer : goal.returns-in-Some-clause-answer
 returns-in-Some-clause-answer c =
-    let f = c.args.f.now in
-    let p : ℕ = c.loop-y.y-index in
-    let ys = c.existentials-y-items.result.now in
-    let below : p < length f.existentials = places-below f ys p c.existentials-y-items.ensures c.loop-y-test.true in
-    let is : slice_index_or ys p 0 ≡ (existential_at f p).variable = variable_at f ys p c.existentials-y-items.ensures c.loop-y-test.true in
-    record {
-      place = p;
-      in_range = below;
-      is = sym is;
-      read = first-from_marks f c.args.circuit.now c.args.literals.now c.args.places.now (bit_of c.reads.new.marks) (existential_at f p) c.in-Some.x
-          (rw (sym is) c.reads.ensures.reached)
-          (c.in-Some.ensures (existential_at f p) (rw is (named_at f p c.every_formula_is_lawful.ensures.named below)) (sym is));
-      first = c.loop-y.invariant.first;
-    }
+    batch_fails c.args.f.now c.existentials-ys.result.now (c.loop-batch.batch * 64) (c.loop-batch.batch * 64 + c.min.result - c.loop-batch.batch * 64)
+    c.existentials-ys.ensures c.every_formula_is_lawful.ensures.named (ReadsByTables c.args.circuit.now c.args.literals.now c.args.places.now)
+    c.loop-batch.invariant.first c.in-Some.i c.in-Some.x c.in-Some.ensures.answer
 
-pub loop-y-preserved : goal.loop-y-preserved
-loop-y-preserved c =
-    let f = c.args.f.now in
-    let p : ℕ = c.loop-y.y-index in
-    let ys = c.existentials-y-items.result.now in
-    let below : p < length f.existentials = places-below f ys p c.existentials-y-items.ensures c.loop-y-test.true in
-    let is : slice_index_or ys p 0 ≡ (existential_at f p).variable = variable_at f ys p c.existentials-y-items.ensures c.loop-y-test.true in
-    record {
-      same_length = c.reads.ensures.same_length ∙ c.loop-y.invariant.same_length;
-      first = before-more (ReadsByTables c.args.circuit.now c.args.literals.now c.args.places.now) f (length f.universals) p c.loop-y.invariant.first
-          (before-from_marks f c.args.circuit.now c.args.literals.now c.args.places.now (bit_of c.reads.new.marks) (existential_at f p) (length f.universals)
-          (rw (sym is) c.reads.ensures.reached)
-          (c.in_default.ensures (existential_at f p) (rw is (named_at f p c.every_formula_is_lawful.ensures.named below)) (sym is)));
-    }
+pub loop-batch-preserved : goal.loop-batch-preserved
+loop-batch-preserved c =
+  let lengths : length c.existentials-ys.result.now ≡ length c.args.f.now.existentials =
+  ap length c.existentials-ys.ensures ∙ length-map c.args.f.now.existentials (λ (y : Existential). y.variable) in record {
+  words = c.undeclared_in_batch-read.ensures.words;
+  first = batch_passes c.args.f.now c.existentials-ys.result.now (c.loop-batch.batch * 64) (c.loop-batch.batch * 64 + c.min.result - c.loop-batch.batch * 64)
+      c.existentials-ys.ensures c.every_formula_is_lawful.ensures.named (ReadsByTables c.args.circuit.now c.args.literals.now c.args.places.now)
+      c.loop-batch.invariant.first ((c.loop-batch.batch + 1) * 64) c.in_default.ensures.answer (λ p lt below. omega (arith, lt, below, lengths, c.min.ensures));
+}

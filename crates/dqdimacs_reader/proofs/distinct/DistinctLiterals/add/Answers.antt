@@ -7,7 +7,7 @@ use Rattle.dqdimacs_reader.proofs.distinct.DistinctLiterals.add.Goals as goal
 pub returns-then-is_new-clause-ok : goal.returns-then-is_new-clause-ok
 returns-then-is_new-clause-ok c =
     let literals = c.self.inside.literals.items in
-    let keys = c.self.inside.keys.keys in
+    let keys = c.self.inside.keys in
     let l = c.args.literal in
     let grown = c.reserve.new.self.items in
     c.push.ensures.items
@@ -15,16 +15,16 @@ returns-then-is_new-clause-ok c =
     ∙ ap (λ ls. ls ++ l ∷ []) c.in_ok-reserve.ensures.items
     ∙ ap (λ b. cond b (literals ++ l ∷ []) literals) (sym c.if-is_new.true)
     ∙ sym (adds_new l literals keys c.in_ok-is_new.is_new c.self.invariant
-    (c.in_ok-is_new.ensures.added ∙ ap (λ key. not (list_any (λ k. key == k) keys)) c.key_of.ensures))
+    (c.in_ok-is_new.ensures.added ∙ ap (λ key. not (list_any (λ k. k == key) keys)) c.key_of.ensures))
     ∙ ap (λ ls. add_literal ls l) c.self.view_is
 
 pub returns-else-is_new-clause-ok : goal.returns-else-is_new-clause-ok
 returns-else-is_new-clause-ok c =
     let literals = c.self.inside.literals.items in
-    let keys = c.self.inside.keys.keys in
+    let keys = c.self.inside.keys in
     let l = c.args.literal in
     c.in_ok-reserve.ensures.items
     ∙ ap (λ b. cond b (literals ++ l ∷ []) literals) (sym c.if-is_new.false)
     ∙ sym (adds_new l literals keys c.in_ok-is_new.is_new c.self.invariant
-    (c.in_ok-is_new.ensures.added ∙ ap (λ key. not (list_any (λ k. key == k) keys)) c.key_of.ensures))
+    (c.in_ok-is_new.ensures.added ∙ ap (λ key. not (list_any (λ k. k == key) keys)) c.key_of.ensures))
     ∙ ap (λ ls. add_literal ls l) c.self.view_is

@@ -40,7 +40,7 @@ invariant_of-result c =
         by_place = c.in_ok-places.ensures;
       };
       by_input_is = rw c.deref.ensures.value at c.in_ok-universal_places.ensures;
-      a_mark_a_variable = ap length c.in_ok-marks.ensures ∙ length-replicate _ _ ∙ ap (λ n. n + 1) c.max_var.ensures.value;
+      has_words = c.in_ok-words.ensures;
       a_bit_an_input = ap length c.in_ok-bits.ensures ∙ length-replicate _ _ ∙ ap length c.inputs.ensures;
-      a_value_a_variable = ap length c.in_ok-values.ensures ∙ length-replicate _ _ ∙ ap (λ n. n + 1) c.max_var-2.ensures.value;
+      a_value_a_variable = ap length c.in_ok-values.ensures ∙ length-replicate _ _ ∙ ap (λ n. n + 1) c.max_var.ensures.value;
     }
