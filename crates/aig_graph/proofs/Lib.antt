@@ -1,5 +1,5 @@
 mod Numbered
-mod Staying
+pub mod Staying
 mod Making
 mod Valuing
 mod Reading

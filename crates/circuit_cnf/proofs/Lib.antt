@@ -1,0 +1,2 @@
+mod LeafNodes
+mod Showing

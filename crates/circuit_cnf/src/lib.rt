@@ -1,0 +1,4 @@
+//! Circuits against the matrix, as clauses of a shared solver: an answer that rests on them shows that the outputs are right.
+#![tactic(auto)]
+
+pub mod laws;
