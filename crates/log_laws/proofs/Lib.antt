@@ -12,3 +12,4 @@ mod Missing
 mod TrueLog
 mod MissingTrue
 mod TrueDecided
+pub mod Growing

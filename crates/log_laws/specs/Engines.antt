@@ -1,5 +1,5 @@
 -- What the engines that share an oracle and its log add to the log, and leave alone.
-use Rattle.std.specs.Prelude.{◌≡◌, ℕ, Bool, true, false, List, ◌∷◌, Option, None, Some, ◌⊎◌}
+use Rattle.std.specs.Prelude.{◌≡◌, ◌≢◌, ℕ, Bool, true, false, List, ◌∷◌, Option, None, Some, ◌⊎◌}
 use Rattle.std.specs.List.{filter, Contains}
 use Rattle.dq_lits.specs.Literal.{Literal, negative}
 use Rattle.dq_lits.specs.Formula.{Dqbf}
@@ -10,8 +10,10 @@ use Rattle.hint_log.specs.declared.names.Name.TheVariants.{Selector, Pair, Copy 
 use Rattle.hint_log.specs.declared.origins.Origin.{Origin}
 use Rattle.hint_log.specs.declared.origins.Origin.TheVariants.{Instance, Copy, Link}
 use Rattle.hint_log.specs.Deciding.{DecidesNothing}
-use Rattle.hint_log.specs.Entries.{name_of}
-use Rattle.hint_log.specs.ProductiveLog.{IsRightlyNamed, MatchesOrigin, IsNotRepeated}
+use Rattle.hint_log.specs.Entries.{ProofLog, name_of, rounds_of}
+use Rattle.hint_log.specs.Growth.{Each, Grew}
+use Rattle.hint_log.specs.Naming.{rows_of}
+use Rattle.hint_log.specs.ProductiveLog.{IsRightlyNamed, MatchesOrigin, RefutesNewRow, FollowsModel, IsNotRepeated, fault_groups}
 
 -- who checks circuits, who holds the instances of the rows, and who compares two copies of the matrix
 pub data Engine : Type 0 where
@@ -89,3 +91,23 @@ IsOwnGiven f engine group earlier _ = Unit {0}
 -- no name and no given clause of the engine yet
 abbrev pub HasNone : Engine → List Entry → Type 0
 HasNone engine entries = (e : Entry) → is_own engine e ≡ true → Contains entries e → ⊥
+
+-- What such a call leaves: the points of a productive log that engines and loop keep between them, rows, names, the other engines' parts, and
+-- the groups that are not its own.
+pub record LeavesRest (f : Dqbf) (engine : Engine) (group : ℕ) (silent : Bool) (old new : List Entry) : Type 0 where
+  pub origins : Each (MatchesOrigin f) old → Each (MatchesOrigin f) new
+  pub new_rows : Each (RefutesNewRow f) old → Each (RefutesNewRow f) new
+  pub models : Each (FollowsModel f) old → Each (FollowsModel f) new
+  pub givens : Each IsNotRepeated old → Each IsNotRepeated new
+  pub decisions : silent ≡ true → Each (DecidesNothing f) old → Each (DecidesNothing f) new
+  pub rows : rows_of new ≡ rows_of old
+  pub rounds : rounds_of new ≡ rounds_of old
+  pub names : (v : ℕ) (name : Name) → name_of old v ≡ Some name → name_of new v ≡ Some name
+  pub others : (other : Engine) → same_engine other engine ≡ false → part other new ≡ part other old
+  pub groups : (other : Engine) (mine : ℕ) (name : Name) → mine ≢ group → name_of old mine ≡ Some name → Each (IsOwnGiven f other mine) old
+      → Each (IsOwnGiven f other mine) new
+  pub faults : same_engine engine circuits ≡ false → fault_groups new ≡ fault_groups old
+
+abbrev pub EnginesLeaveRest : Type 0
+EnginesLeaveRest = (f : Dqbf) (engine : Engine) (group : ℕ) (silent : Bool) (old new : ProofLog) → Grew (IsAddedBy f engine group silent old.entries) old new
+    → LeavesRest f engine group silent old.entries new.entries
