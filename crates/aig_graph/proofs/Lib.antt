@@ -4,3 +4,4 @@ mod Making
 mod Valuing
 mod Reading
 mod Supported
+mod Coning
