@@ -1,2 +1,4 @@
 mod LeafNodes
 mod Showing
+mod Giving
+mod Knowing

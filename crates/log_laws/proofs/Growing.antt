@@ -1,15 +1,15 @@
 -- What stays as a log grows.
-use Rattle.std.proofs.Common.{◌≡◌, ◌≢◌, ℕ, ◌+◌, ◌≤◌, ◌==◌, Bool, true, false, cond, ◌⊎◌, inl, inr, List, [], ◌∷◌, ◌++◌, Option, Some, None, refl, sym, ◌∙◌, ap, subst, arith, filter}
+use Rattle.std.proofs.Common.{◌≡◌, ◌≢◌, ℕ, ◌+◌, ◌≤◌, ◌==◌, Bool, true, false, cond, ◌⊎◌, inl, inr, List, [], ◌∷◌, ◌++◌, Option, Some, None, refl, sym, ◌∙◌, ap, subst, arith, filter, append_assoc}
 use Rattle.std.proofs.lemmas.Bool.{false≢true, eqb-true}
 use Rattle.dq_lits.specs.Literal.{Literal, negative}
 use Rattle.dq_lits.specs.Formula.{Dqbf}
-use Rattle.hint_log.specs.Entries.{is_round, count, name_of}
+use Rattle.hint_log.specs.Entries.{ProofLog, with_entry, is_round, count, name_of}
 use Rattle.hint_log.specs.declared.entries.Entry.{Entry}
 use Rattle.hint_log.specs.declared.entries.Entry.TheVariants.{Named, Given, Learned, Answer, Round}
 use Rattle.hint_log.specs.declared.names.Name.{Name}
 use Rattle.hint_log.specs.declared.origins.Origin.{Origin}
 use Rattle.hint_log.specs.declared.origins.Origin.TheVariants.{Instance, Gate, Fault, Copy, Link}
-use Rattle.hint_log.specs.Growth.{Each, EachOf}
+use Rattle.hint_log.specs.Growth.{Each, EachOf, Grew}
 use Rattle.hint_log.specs.Naming.{rows_of}
 use Rattle.hint_log.specs.Deciding.{DecidesNothing}
 use Rattle.hint_log.specs.ProductiveLog.{MatchesOrigin, RefutesNewRow, FollowsModel, IsNotRepeated, is_fault, fault_groups}
@@ -168,3 +168,22 @@ leaves_rest f engine group silent old new grew =
       faults = λ other. faults_kept f engine other group silent old.entries old.entries grew.more grew.each;
     } in
     subst (LeavesRest f engine group silent old.entries) (sym grew.grown) kept
+
+-- how logs grow, whatever the entries' fact
+pub grown_by : (P : List Entry → Entry → Type 0) (old new : ProofLog) (e : Entry) → new ≡ with_entry old e → P old.entries e → Grew P old new
+grown_by P old new e is fact = record { more = e ∷ []; grown = ap (λ (l : ProofLog). l.entries) is; each = (fact, tt); limit = ap (λ (l : ProofLog). l.limit) is }
+
+pub grown_by_none : (P : List Entry → Entry → Type 0) (old new : ProofLog) → new ≡ old → Grew P old new
+grown_by_none P old new is = record { more = []; grown = ap (λ (l : ProofLog). l.entries) is; each = tt; limit = ap (λ (l : ProofLog). l.limit) is }
+
+each_of_append : (P : List Entry → Entry → Type 0) (later more old : List Entry) → EachOf P later (more ++ old) → EachOf P more old → EachOf P (later ++ more) old
+each_of_append P [] more old h k = k
+each_of_append P (e ∷ later) more old h k = (subst (λ es. P es e) (sym (append_assoc later more old)) h.0, each_of_append P later more old h.1 k)
+
+pub grown_then : (P : List Entry → Entry → Type 0) (a b c : ProofLog) → Grew P a b → Grew P b c → Grew P a c
+grown_then P a b c first second = record {
+  more = second.more ++ first.more;
+  grown = second.grown ∙ ap (λ es. second.more ++ es) first.grown ∙ sym (append_assoc second.more first.more a.entries);
+  each = each_of_append P second.more first.more a.entries (subst (EachOf P second.more) first.grown second.each) first.each;
+  limit = second.limit ∙ first.limit;
+}
