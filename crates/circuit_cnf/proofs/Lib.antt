@@ -2,3 +2,4 @@ mod LeafNodes
 mod Showing
 mod Giving
 mod Knowing
+mod Inputting

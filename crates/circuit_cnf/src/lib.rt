@@ -1,5 +1,9 @@
 //! Circuits against the matrix, as clauses of a shared solver: an answer that rests on them shows that the outputs are right.
 #![tactic(auto)]
 
+pub use checkers::Checker;
+pub use gates::Gates;
+
+mod checkers;
 mod gates;
 pub mod laws;
