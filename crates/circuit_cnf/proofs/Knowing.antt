@@ -1,5 +1,5 @@
 -- What is known of gates, with one gate more.
-use Rattle.std.proofs.Common.{◌≡◌, ◌≢◌, ℕ, suc, ◌<◌, ◌==◌, Bool, true, false, cond, inl, inr, ◌⊎◌, List, [], ◌∷◌, ◌++◌, Option, Some, None, IsSome, refl, sym, ◌∙◌, ap, subst, arith, nat_lt}
+use Rattle.std.proofs.Common.{◌≡◌, ◌≢◌, ◌≤◌, ℕ, suc, ◌<◌, ◌==◌, Bool, true, false, cond, inl, inr, ◌⊎◌, List, [], ◌∷◌, ◌++◌, Option, Some, None, IsSome, refl, sym, ◌∙◌, ap, subst, arith, nat_lt}
 use Rattle.std.specs.List.{Contains}
 use Rattle.std.specs.BTreeMap.{get}
 use Rattle.std.specs.Ordering.{nat_cmp, ordering_then, is_eq}
@@ -8,10 +8,11 @@ use Rattle.std.specs.declared.cmp.Ordering.TheVariants.{Less, Equal, Greater}
 use Rattle.std.proofs.lemmas.Bool.{eqb-true, eq-eqb, false≢true, cond-true, cond-false, ne_eqb, leb-true}
 use Rattle.dq_lits.specs.Literal.{Literal, positive, negative, variable_of, opposite}
 use Rattle.hint_log.specs.declared.entries.Entry.{Entry}
-use Rattle.hint_log.specs.declared.entries.Entry.TheVariants.{Named, Given}
+use Rattle.hint_log.specs.declared.entries.Entry.TheVariants.{Named, Given, Learned, Answer, Round}
 use Rattle.hint_log.specs.declared.names.Name.{Name}
 use Rattle.hint_log.specs.declared.names.Name.TheVariants.{Selector, And}
 use Rattle.hint_log.specs.declared.origins.Origin.TheVariants.{Gate}
+use Rattle.hint_log.specs.Conditions.{AreLogged}
 use Rattle.hint_log.specs.Entries.{name_of}
 use Rattle.oracle.specs.Calls.{IsMade}
 use Rattle.oracle.specs.declared.groups.Group.{Group}
@@ -185,3 +186,15 @@ none_given es v i a b c of_gates unnamed inside = elim (contains_cases (Named v 
   | inl is ↦ cc
   | inr old ↦ not_some (name_of es v) unnamed (of_gates v i c old)
 ]
+
+-- named variables are in range
+pub name_in_range : (es : List Entry) (v : ℕ) (n : Name) → AreLogged es → name_of es v ≡ Some n → (1 ≤ v) × (v < 4611686018427387904)
+name_in_range [] v n logged is = cc
+name_in_range (Named w m ∷ es) v n logged is = by (v == w) refl (name_in_range es v n logged.1) is where
+  by : (b : Bool) → (v == w) ≡ b → (name_of es v ≡ Some n → (1 ≤ v) × (v < 4611686018427387904)) → cond b (Some m) (name_of es v) ≡ Some n → (1 ≤ v) × (v < 4611686018427387904)
+  by true e later is = subst (λ x. (1 ≤ x) × (x < 4611686018427387904)) (sym (eqb-true v w e)) (logged.0.from_one, logged.0.in_range)
+  by false e later is = later is
+name_in_range (Given o c ∷ es) v n logged is = name_in_range es v n logged.1 is
+name_in_range (Learned c h ∷ es) v n logged is = name_in_range es v n logged.1 is
+name_in_range (Answer c h ∷ es) v n logged is = name_in_range es v n logged.1 is
+name_in_range (Round r b j ∷ es) v n logged is = name_in_range es v n logged.1 is

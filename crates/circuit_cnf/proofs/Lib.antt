@@ -3,3 +3,4 @@ mod Showing
 mod Giving
 mod Knowing
 mod Inputting
+mod SideLeaves

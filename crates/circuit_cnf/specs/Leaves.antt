@@ -1,12 +1,13 @@
 -- Which leaf a log has for a node of a graph.
-use Rattle.std.specs.Prelude.{◌≡◌, ℕ, Bool, List, Some, slice_get}
+use Rattle.std.specs.Prelude.{◌≡◌, ◌+◌, ◌<◌, ◌⊎◌, ℕ, Bool, true, false, List, length, Some, slice_get, slice_index_or}
 use Rattle.std.specs.List.{Contains}
 use Rattle.dq_lits.specs.Literal.{Assignment, Literal, positive}
 use Rattle.dq_lits.specs.Formula.{Dqbf}
+use Rattle.dq_lits.specs.Row.{bit_of}
 use Rattle.aig_graph.specs.declared.nodes.Node.{Node}
 use Rattle.aig_graph.specs.declared.nodes.Node.TheVariants.{Constant, Input, Gate}
 use Rattle.aig_graph.specs.declared.nodes.Sides.{Sides}
-use Rattle.aig_graph.specs.Graph.{AigGraph, AreSides, gate_at}
+use Rattle.aig_graph.specs.Graph.{AigGraph, AreSides, gate_at, place_of}
 use Rattle.aig_graph.specs.Outputs.{node_output}
 use Rattle.hint_log.specs.declared.entries.Entry.{Entry}
 use Rattle.hint_log.specs.declared.names.Name.TheVariants.{Input as InputName, And}
@@ -36,3 +37,23 @@ LeavesHaveNodesValues = (f : Dqbf) (graph : AigGraph) (entries : List Entry) (no
 abbrev pub LeavesReadNodesCones : Type 0
 LeavesReadNodesCones = (f : Dqbf) (graph : AigGraph) (entries : List Entry) (node : Node) (leaf : Leaf) →
     HasLeaf f graph entries node leaf → (x : ℕ) → LeafReads entries leaf x → Contains (node_output f graph node).support x
+
+-- a node's leaf, by the literals of the inputs and the gates
+abbrev pub leaf_by : List Literal → List Literal → Node → Leaf
+leaf_by inputs gates (Constant b) = LeafConstant b
+leaf_by inputs gates (Input i negated) = leaf_with_sign negated (LeafLiteral (slice_index_or inputs i (positive 0)))
+leaf_by inputs gates (Gate g negated) = leaf_with_sign negated (LeafLiteral (slice_index_or gates g (positive 0)))
+
+abbrev pub IsInnerNode : Node → Type 0
+IsInnerNode (Constant b) = ⊥
+IsInnerNode _ = Unit {0}
+
+-- the sides of each marked gate are marked
+abbrev pub AreClosed : AigGraph → List Bool → Type 0
+AreClosed graph marks = (g p : ℕ) (sides : Sides) → bit_of marks (graph.inputs + g) ≡ true → gate_at graph.gates g ≡ Some sides
+    → (place_of graph.inputs sides.left ≡ Some p) ⊎ (place_of graph.inputs sides.right ≡ Some p) → bit_of marks p ≡ true
+
+-- the marked gates among the first ones have these literals as their leaves
+abbrev pub HaveLeaves : Dqbf → AigGraph → List Bool → List Literal → List Entry → Type 0
+HaveLeaves f graph marks literals entries = (g : ℕ) → g < length literals → bit_of marks (graph.inputs + g) ≡ true
+    → HasLeaf f graph entries (Gate g false) (LeafLiteral (slice_index_or literals g (positive 0)))

@@ -44,6 +44,7 @@ impl Gates {
         ensures faults { fault_groups log.new.entries ≡ fault_groups log.old.entries }
         ensures known { OnOk result (AreKnown self.new log.new.entries) }
         ensures named { IfOk result (λ v. name_of log.new.entries v ≡ Some (And a b)) }
+        ensures in_range { IfOk result (λ v. (1 ≤ v) × (v < 2 ^ 62)) }
     {
         let key = (code(&a), code(&b));
         if let Some(v) = self.variables.get(&key) {

@@ -7,3 +7,4 @@ pub use gates::Gates;
 mod checkers;
 mod gates;
 pub mod laws;
+mod leaves;

@@ -11,7 +11,7 @@ use Rattle.hint_log.specs.Entries.{ProofLog}
 use Rattle.log_laws.specs.Engines.{circuits, IsAddedBy, IsNamedBy}
 use Rattle.log_laws.proofs.Growing.{grown_by, grown_then}
 use Rattle.circuit_cnf.specs.Gates.{literal_code, pair_cmp, gate_entries, AreKnown}
-use Rattle.circuit_cnf.proofs.Knowing.{pair_is, none_given, known_more}
+use Rattle.circuit_cnf.proofs.Knowing.{pair_is, none_given, known_more, name_in_range}
 use Rattle.circuit_cnf.proofs.gates.Gates.variable.Goals as goal
 
 pub returns-in-Some-clause-named : goal.returns-in-Some-clause-named
@@ -58,3 +58,7 @@ returns-clause-known g c =
     let whole = known_more c.args.self.now (record { group = c.args.self.now.group; variables = c.insert.new.self }) c.args.log.now.entries c.args.a c.args.b v refl c.requires.known c.in_ok-v.ensures.unnamed none updates in
     let entries = c.in_ok-give.ensures.ok ∙ ap (λ (l : ProofLog). gate_entries (variable_of c.args.self.now.group.selector) v c.args.a c.args.b ++ l.entries) c.in_ok-v.ensures.ok in
     subst (AreKnown (record { group = c.args.self.now.group; variables = c.insert.new.self })) (sym entries) whole
+
+pub returns-in-Some-clause-in_range : goal.returns-in-Some-clause-in_range
+returns-in-Some-clause-in_range g c =
+    name_in_range c.args.log.now.entries c.in-Some.v.now (And c.args.a c.args.b) (g.met.O.Oracle.searched c.args.oracle.now c.args.log.now c.requires.fit).logged (returns-in-Some-clause-named g c)
