@@ -1,6 +1,6 @@
 -- Inputs that are named one after the other.
 use Rattle.std.proofs.Common.{◌≡◌, ◌≢◌, ℕ, zero, suc, ◌+◌, ◌≤◌, ◌<◌, ◌==◌, Bool, true, false, cond, inl, inr, ◌⊎◌, List, [], ◌∷◌, ◌++◌, map, length, take, get_or, Option, Some, None, refl, sym, ◌∙◌, ap, subst, arith}
-use Rattle.std.specs.List.{Contains, AllPairs}
+use Rattle.std.specs.List.{Contains}
 use Rattle.std.specs.BTreeMap.{get, is_at}
 use Rattle.std.specs.Map.{lookup}
 use Rattle.std.specs.Option.{option_map}
@@ -17,7 +17,7 @@ use Rattle.hint_log.specs.declared.origins.Origin.TheVariants.{Gate}
 use Rattle.hint_log.specs.Entries.{ProofLog, with_entry, name_of}
 use Rattle.hint_log.specs.Growth.{Grew}
 use Rattle.hint_log.specs.Naming.{NamedLiteral, named_literal, name_literal, AreNamedAs}
-use Rattle.log_laws.specs.Engines.{circuits, IsAddedBy, IsNamedBy, HasNone}
+use Rattle.log_laws.specs.Engines.{circuits, IsAddedBy, HasNone}
 use Rattle.log_laws.proofs.Growing.{grown_by, grown_by_none, grown_then}
 use Rattle.oracle.specs.Calls.{IsMade}
 use Rattle.circuit_cnf.specs.declared.checkers.Checker.{Checker}
@@ -113,28 +113,33 @@ input_more f old log new inputs i v before below unnamed is = subst (λ l. Input
   inputs_are = subst (λ xs. AreInputs xs (inputs ++ positive v ∷ []) more.entries) (sym taken) whole;
   names = λ w y named. subst (λ xs. Contains xs y) (sym taken) (by_name w y (name_cases log.entries v w (Input x) (Input y) named));
   none = record {
-    unnamed = λ w a b named. elim (name_cases log.entries v w (Input x) (And a b) named) [ | inl same ↦ (let clash = same.1 in cc) | inr old' ↦ before.none.unnamed w a b old' ];
-    not_given = λ w k c inside. elim (contains_cases (Named v (Input x)) (Given (Gate w k) c) log.entries inside) [ | inl same ↦ cc | inr old' ↦ before.none.not_given w k c old' ];
+    unnamed = λ w a b named. elim (name_cases log.entries v w (Input x) (And a b) named) [ inl same ↦ (let clash = same.1 in cc) | inr old' ↦ before.none.unnamed w a b old' ];
+    not_given = λ w k c inside. elim (contains_cases (Named v (Input x)) (Given (Gate w k) c) log.entries inside) [ inl same ↦ cc | inr old' ↦ before.none.not_given w k c old' ];
   };
 }) where
   us : List ℕ
   us = f.universals
+
   x : ℕ
   x = get_or f.universals i 0
+
   more : ProofLog
   more = with_entry log (Named v (Input (get_or f.universals i 0)))
+
   taken : take (i + 1) f.universals ≡ take i f.universals ++ get_or f.universals i 0 ∷ []
   taken = take_more f.universals i 0 below
+
   whole : AreInputs (take i f.universals ++ get_or f.universals i 0 ∷ []) (inputs ++ positive v ∷ []) (with_entry log (Named v (Input (get_or f.universals i 0)))).entries
   whole =
       let es = Named v (Input (get_or f.universals i 0)) ∷ log.entries in
       let g : ℕ → NamedLiteral = λ y. named_literal (Input y) false in
       let old' = named_as_stays log.entries es (name_stays_by log.entries v (Input (get_or f.universals i 0)) unnamed) inputs (map g (take i f.universals)) before.inputs_are in
       let here : name_literal es (positive v) ≡ Some (g (get_or f.universals i 0)) =
-          ap (option_map (λ k. named_literal k false)) (cond-true (v == v) (Some (Input (get_or f.universals i 0))) (name_of log.entries v) (eq-eqb v v refl)) in
+      ap (option_map (λ k. named_literal k false)) (cond-true (v == v) (Some (Input (get_or f.universals i 0))) (name_of log.entries v) (eq-eqb v v refl)) in
       map-append (name_literal es) inputs (positive v ∷ [])
       ∙ ap (λ xs. xs ++ name_literal es (positive v) ∷ []) old' ∙ ap (λ o. map Some (map g (take i f.universals)) ++ o ∷ []) here
       ∙ sym (map-append Some (map g (take i f.universals)) (g (get_or f.universals i 0) ∷ [])) ∙ ap (map Some) (sym (map-append g (take i f.universals) (get_or f.universals i 0 ∷ [])))
+
   by_name : (w y : ℕ) → ((w ≡ v) × (Input (get_or f.universals i 0) ≡ Input y)) ⊎ (name_of log.entries w ≡ Some (Input y)) → Contains (take i f.universals ++ get_or f.universals i 0 ∷ []) y
   by_name w y (inl same) = let clash = same.1 in let is' : get_or f.universals i 0 ≡ y = cc in subst (Contains (take i f.universals ++ get_or f.universals i 0 ∷ [])) is' (Contains-push (take i f.universals) (get_or f.universals i 0))
   by_name w y (inr old') = Contains-append_left (take i f.universals) (get_or f.universals i 0 ∷ []) y (before.names w y old')
@@ -157,14 +162,17 @@ pub new_checker : (f : Dqbf) (log new : ProofLog) (checker : Checker) → HasNoG
 new_checker f log new checker none inputs made unnamed is empty = record { gates = gates; inputs = kept } where
   entries_are : new.entries ≡ Named (variable_of checker.gates.group.selector) (Selector (variable_of checker.gates.group.selector)) ∷ log.entries
   entries_are = ap (λ (l : ProofLog). l.entries) is
+
   no_name : (v : ℕ) (a b : Literal) → name_of new.entries v ≡ Some (And a b) → ⊥
   no_name v a b named =
       elim (name_cases log.entries (variable_of checker.gates.group.selector) v (Selector (variable_of checker.gates.group.selector)) (And a b) (ap (λ es. name_of es v) (sym entries_are) ∙ named)) [
         | inl same ↦ (let clash = same.1 in cc)
         | inr old' ↦ none.unnamed v a b old'
       ]
+
   not_found : (p : ℕ × ℕ) (v : ℕ) → get pair_cmp checker.gates.variables p ≡ Some v → ⊥
   not_found p v found = let nothing : None ≡ Some v = ap (lookup (is_at (pair_cmp p))) (sym empty) ∙ found in cc
+
   gates : AreKnown checker.gates new.entries
   gates = record {
     made = made;
@@ -172,10 +180,11 @@ new_checker f log new checker none inputs made unnamed is empty = record { gates
     sound = λ a b v found. absurd (not_found (literal_code a, literal_code b) v found);
     clauses = λ a b v named. absurd (no_name v a b named);
     origins = λ v i c inside. elim (contains_cases (Named (variable_of checker.gates.group.selector) (Selector (variable_of checker.gates.group.selector))) (Given (Gate v i) c) log.entries (subst (λ es. Contains es (Given (Gate v i) c)) entries_are inside)) [
-        | inl same ↦ cc
-        | inr old' ↦ absurd (none.not_given v i c old')
-      ];
+      | inl same ↦ cc
+      | inr old' ↦ absurd (none.not_given v i c old')
+    ];
   }
+
   kept : AreInputs f.universals checker.inputs.items new.entries
   kept = subst (AreInputs f.universals checker.inputs.items) (sym entries_are)
       (named_as_stays log.entries (Named (variable_of checker.gates.group.selector) (Selector (variable_of checker.gates.group.selector)) ∷ log.entries) (name_stays_by log.entries (variable_of checker.gates.group.selector) (Selector (variable_of checker.gates.group.selector)) unnamed) checker.inputs.items (map (λ x. named_literal (Input x) false) f.universals) inputs)

@@ -4,3 +4,4 @@ mod Giving
 mod Knowing
 mod Inputting
 mod SideLeaves
+mod ConeLiterals

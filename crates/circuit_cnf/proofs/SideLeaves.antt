@@ -1,8 +1,6 @@
 -- Leaves of a gate's sides.
-use Rattle.std.proofs.Common.{◌≡◌, ◌≢◌, ℕ, zero, suc, ◌+◌, ◌≤◌, ◌<◌, Bool, true, false, cond, inl, inr, ◌⊎◌, List, [], ◌∷◌, map, length, get_or, slice_get, Option, Some, None, refl, sym, ◌∙◌, ap, subst, arith}
-use Rattle.std.specs.Option.{option_map}
-use Rattle.std.proofs.lemmas.Bool.{false≢true}
-use Rattle.dq_lits.specs.Literal.{Literal, positive, negative, variable_of, is_negative, opposite}
+use Rattle.std.proofs.Common.{◌≡◌, ℕ, zero, suc, ◌+◌, ◌<◌, Bool, true, false, inl, inr, List, [], ◌∷◌, length, get_or, Some, refl, sym, ◌∙◌, ap, subst, arith}
+use Rattle.dq_lits.specs.Literal.{Literal, positive, negative, variable_of, is_negative}
 use Rattle.dq_lits.specs.Formula.{Dqbf}
 use Rattle.dq_lits.specs.Row.{bit_of}
 use Rattle.aig_graph.specs.declared.nodes.Node.{Node}
@@ -11,13 +9,12 @@ use Rattle.aig_graph.specs.declared.nodes.Sides.{Sides}
 use Rattle.aig_graph.specs.declared.nodes.Look.TheVariants.{Gate as LookGate}
 use Rattle.aig_graph.specs.Graph.{AigGraph, IsEarlierNode, AreSides, IsGateLook, gate_at, place_of}
 use Rattle.hint_log.specs.declared.entries.Entry.{Entry}
-use Rattle.hint_log.specs.declared.names.Name.{Name}
 use Rattle.hint_log.specs.declared.names.Name.TheVariants.{Input as InputName, And}
 use Rattle.hint_log.specs.declared.origins.Leaf.{Leaf}
-use Rattle.hint_log.specs.declared.origins.Leaf.TheVariants.{Constant as LeafConstant, Literal as LeafLiteral}
+use Rattle.hint_log.specs.declared.origins.Leaf.TheVariants.{Literal as LeafLiteral}
 use Rattle.hint_log.specs.Conditions.{is_circuit_name}
 use Rattle.hint_log.specs.Entries.{name_of}
-use Rattle.hint_log.specs.Naming.{NamedLiteral, named_literal, name_literal, AreNamedAs}
+use Rattle.hint_log.specs.Naming.{named_literal, name_literal}
 use Rattle.hint_log.specs.Origins.{leaf_with_sign}
 use Rattle.log_laws.proofs.Found.{named_variable, slice_get_at}
 use Rattle.circuit_cnf.specs.Checking.{AreInputs}
@@ -60,8 +57,8 @@ gate_sign f graph es _ _ (gate h v sides s a b at are on_left on_right named) g 
     let literal : positive v ≡ l = some_leaf (positive v) l (ap (λ t. leaf_with_sign t (LeafLiteral (positive v))) (sym plain) ∙ leaf_is) in
     subst (λ k. HasLeaf f graph es (Gate k negated) (leaf_with_sign negated (LeafLiteral l))) number
     (subst (λ k. HasLeaf f graph es (Gate h negated) (leaf_with_sign negated (LeafLiteral k))) literal (gate h v sides negated a b at are on_left on_right named)) where
-  some_leaf : (x y : Literal) → LeafLiteral x ≡ LeafLiteral y → x ≡ y
-  some_leaf x y e = cc
+      some_leaf : (x y : Literal) → LeafLiteral x ≡ LeafLiteral y → x ≡ y
+      some_leaf x y e = cc
 
 -- a leaf that isn't constant stands on an input or a gate
 signed_variable : (s : Bool) (v : ℕ) (l : Literal) → leaf_with_sign s (LeafLiteral (positive v)) ≡ LeafLiteral l → v ≡ variable_of l
@@ -102,7 +99,9 @@ side_leaves f graph es inputs literals marks long are have closed marked m n neg
     let left = side_has_leaf f graph es inputs literals marks long are have look.sides.left look.are_sides.left (λ p at. closed (length literals) p look.sides marked look.at (inl at)) in
     let right = side_has_leaf f graph es inputs literals marks long are have look.sides.right look.are_sides.right (λ p at. closed (length literals) p look.sides marked look.at (inr at)) in
     record {
-      sides = look.sides; at = look.at; are_sides = look.are_sides;
+      sides = look.sides;
+      at = look.at;
+      are_sides = look.are_sides;
       left = subst (HasLeaf f graph es look.sides.left) (sym (a_is ∙ ap (leaf_by inputs literals) left_is)) left;
       right = subst (HasLeaf f graph es look.sides.right) (sym (b_is ∙ ap (leaf_by inputs literals) right_is)) right;
     }

@@ -1,7 +1,7 @@
 -- Inputs that were named, and nothing else of a circuit, for private contracts.
-use Rattle.std.specs.Prelude.{◌≡◌, ℕ, List, Some, slice_get, take}
+use Rattle.std.specs.Prelude.{◌≡◌, ℕ, List, Some}
 use Rattle.std.specs.List.{Contains}
-use Rattle.dq_lits.specs.Literal.{Literal, positive}
+use Rattle.dq_lits.specs.Literal.{Literal}
 use Rattle.hint_log.specs.declared.entries.Entry.{Entry}
 use Rattle.hint_log.specs.declared.entries.Entry.TheVariants.{Given}
 use Rattle.hint_log.specs.declared.names.Name.TheVariants.{Input, And}

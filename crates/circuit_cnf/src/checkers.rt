@@ -22,7 +22,12 @@ pub struct Checker {
 
 impl Checker {
     /// A checker that was given no gate yet. It names an input for each universal.
-    pub fn new<O: Oracle>(alloc: Global, oracle: &mut O, f: &Formula, log: &mut Log) -> Result<Checker, Memory>
+    pub fn new<O: Oracle>(
+        alloc: Global,
+        oracle: &mut O,
+        f: &Formula,
+        log: &mut Log,
+    ) -> Result<Checker, Memory>
         requires fit { O.Fits oracle.old log.old }
         requires none { HasNone circuits log.old.entries }
         ensures fit { O.Fits oracle.new log.new }
@@ -36,12 +41,21 @@ impl Checker {
             group,
             variables: BTreeMap::new(alloc),
         };
-        Ok(Checker { tenant, gates, inputs })
+        Ok(Checker {
+            tenant,
+            gates,
+            inputs,
+        })
     }
 }
 
 // Names an input for each universal.
-fn name_inputs<O: Oracle>(alloc: Global, oracle: &mut O, f: &Formula, log: &mut Log) -> Result<Vec<Lit>, Memory>
+fn name_inputs<O: Oracle>(
+    alloc: Global,
+    oracle: &mut O,
+    f: &Formula,
+    log: &mut Log,
+) -> Result<Vec<Lit>, Memory>
     requires fit { O.Fits oracle.old log.old }
     requires none { HasNone circuits log.old.entries }
     ensures fit { O.Fits oracle.new log.new }

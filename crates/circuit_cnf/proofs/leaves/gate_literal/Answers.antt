@@ -11,14 +11,15 @@ pub variable-requires-clause-sides : goal.variable-requires-clause-sides
 variable-requires-clause-sides g c =
     let es = c.args.log.now.entries in
     let s = side_leaves c.args.f.now c.args.graph.now es c.args.inputs.now c.args.literals.now c.args.marks.now c.requires.universals c.requires.inputs c.requires.leaves c.requires.closed c.requires.marked
-        c.in-Gate.a c.in-Gate.b c.in-Gate.field-2 c.side_literal-a.result c.side_literal-b.result c.in-Gate.ensures c.side_literal-a.ensures c.side_literal-b.ensures in
-    (leaf_is_circuit c.args.f.now c.args.graph.now es s.sides.left (LeafLiteral c.side_literal-a.result) s.left c.side_literal-a.result refl,
-    leaf_is_circuit c.args.f.now c.args.graph.now es s.sides.right (LeafLiteral c.side_literal-b.result) s.right c.side_literal-b.result refl)
+    c.in-Gate.a c.in-Gate.b c.in-Gate.field-2 c.side_literal-a.result c.side_literal-b.result c.in-Gate.ensures c.side_literal-a.ensures c.side_literal-b.ensures in (
+      leaf_is_circuit c.args.f.now c.args.graph.now es s.sides.left (LeafLiteral c.side_literal-a.result) s.left c.side_literal-a.result refl,
+      leaf_is_circuit c.args.f.now c.args.graph.now es s.sides.right (LeafLiteral c.side_literal-b.result) s.right c.side_literal-b.result refl,
+    )
 
 pub returns-clause-leaf : goal.returns-clause-leaf
 returns-clause-leaf g c =
     let es = c.args.log.now.entries in
     let s = side_leaves c.args.f.now c.args.graph.now es c.args.inputs.now c.args.literals.now c.args.marks.now c.requires.universals c.requires.inputs c.requires.leaves c.requires.closed c.requires.marked
-        c.in-Gate.a c.in-Gate.b c.in-Gate.field-2 c.side_literal-a.result c.side_literal-b.result c.in-Gate.ensures c.side_literal-a.ensures c.side_literal-b.ensures in
+    c.in-Gate.a c.in-Gate.b c.in-Gate.field-2 c.side_literal-a.result c.side_literal-b.result c.in-Gate.ensures c.side_literal-a.ensures c.side_literal-b.ensures in
     let stay = (leaves_rest c.args.f.now circuits (variable_of c.args.gates.now.group.selector) true c.args.log.now c.variable.new.log (c.variable.ensures.grew c.args.f.now es)).names in
     gate_leaf c.args.f.now c.args.graph.now es c.variable.new.log.entries (length c.args.literals.now) c.in_ok-v-in-Gate.v c.side_literal-a.result c.side_literal-b.result c.pos.result stay s c.in_ok-v-in-Gate.ensures.named c.pos.ensures
