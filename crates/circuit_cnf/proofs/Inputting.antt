@@ -66,7 +66,7 @@ name_stays_by es v m unnamed w n is =
     let differ : w ≢ v = λ same. (let both : None ≡ Some n = sym unnamed ∙ ap (name_of es) (sym same) ∙ is in cc) in
     cond-false (w == v) (Some m) (name_of es w) (ne_eqb w v differ) ∙ is
 
-name_cases : (es : List Entry) (v w : ℕ) (m n : Name) → name_of (Named v m ∷ es) w ≡ Some n → ((w ≡ v) × (m ≡ n)) ⊎ (name_of es w ≡ Some n)
+pub name_cases : (es : List Entry) (v w : ℕ) (m n : Name) → name_of (Named v m ∷ es) w ≡ Some n → ((w ≡ v) × (m ≡ n)) ⊎ (name_of es w ≡ Some n)
 name_cases es v w m n is = by (w == v) refl is where
   by : (b : Bool) → (w == v) ≡ b → cond b (Some m) (name_of es w) ≡ Some n → ((w ≡ v) × (m ≡ n)) ⊎ (name_of es w ≡ Some n)
   by true e is = inl (eqb-true w v e, cc)

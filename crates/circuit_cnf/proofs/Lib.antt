@@ -5,3 +5,4 @@ mod Knowing
 mod Inputting
 mod SideLeaves
 mod ConeLiterals
+mod Badding

@@ -5,6 +5,7 @@ pub use checkers::Checker;
 pub use gates::Gates;
 
 mod checkers;
+mod faults;
 mod gates;
 pub mod laws;
 mod leaves;
