@@ -5,3 +5,4 @@ mod Valuing
 mod Reading
 mod Supported
 mod Coning
+mod Sides

@@ -15,9 +15,9 @@ use std::collections::BTreeMap;
 /// Checks circuits against the matrix: what was given to the oracle once.
 #[derive(Debug, Drop)]
 pub struct Checker {
-    pub tenant: Tenant,
-    pub gates: Gates,
-    pub inputs: Vec<Lit>,
+    pub(crate) tenant: Tenant,
+    pub(crate) gates: Gates,
+    pub(crate) inputs: Vec<Lit>,
 }
 
 impl Checker {

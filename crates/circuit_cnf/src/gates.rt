@@ -21,8 +21,8 @@ use std::collections::BTreeMap;
 /// The gates that were given to the oracle, by their sides.
 #[derive(Debug, Drop)]
 pub struct Gates {
-    pub group: Group,
-    pub variables: BTreeMap<(u64, u64), u64>,
+    pub(crate) group: Group,
+    pub(crate) variables: BTreeMap<(u64, u64), u64>,
 }
 
 impl Gates {
