@@ -1,6 +1,8 @@
 mod Numbered
-mod Staying
+pub mod Staying
 mod Making
 mod Valuing
 mod Reading
 mod Supported
+mod Coning
+mod Sides

@@ -57,3 +57,10 @@ pub first_gates_lawful : (inputs : ℕ) (kept : List Sides) (count : ℕ) → Ar
 first_gates_lawful inputs kept count all =
     let whole = ap reverse (sym (take-append-drop count kept)) ∙ reverse-append (take count kept) (drop count kept) in
     gates_behind inputs (reverse (drop count kept)) (reverse (take count kept)) (subst (AreGates inputs) whole all)
+
+pub gate_there : (gates : List Sides) (g : ℕ) → g < length gates → (s : Sides) × (gate_at gates g ≡ Some s)
+gate_there [] g below = absurd (omega arith)
+gate_there (x ∷ gates) g below = by_bit (g == length gates) refl (gate_there gates g) where
+  by_bit : (b : Bool) → (g == length gates) ≡ b → (g < length gates → (s : Sides) × (gate_at gates g ≡ Some s)) → (s : Sides) × (cond b (Some x) (gate_at gates g) ≡ Some s)
+  by_bit true e later = (x, refl)
+  by_bit false e later = let differ : g ≢ length gates = λ is. false≢true (sym e ∙ eq-eqb g (length gates) is) in later (omega (arith, below, differ))

@@ -6,7 +6,7 @@ use Rattle.std.proofs.lemmas.List.Elements.{Contains-append_cases}
 use Rattle.aig_graph.specs.declared.nodes.Node.{Node}
 use Rattle.aig_graph.specs.declared.nodes.Node.TheVariants.{Constant, Input, Gate}
 use Rattle.aig_graph.specs.declared.nodes.Sides.{Sides}
-use Rattle.aig_graph.specs.Graph.{AigGraph, with_sign, value_by, gate_value, node_value, support_by, gate_support, node_support, IsEarlierNode, IsNode, AreGates, IsGraph, gate_at}
+use Rattle.aig_graph.specs.Graph.{AigGraph, with_sign, value_by, gate_value, node_value, support_by, gate_support, node_support, IsEarlierNode, IsNode, AreSides, AreGates, IsGraph, AreSides, gate_at}
 use Rattle.aig_graph.proofs.Numbered.{sides_are}
 use Rattle.aig_graph.specs.Made.{Extends, HasMore, IsMade, sides_of}
 
@@ -72,43 +72,47 @@ number_of (x ∷ gates) g s at = by_bit (g == length gates) refl (number_of gate
   by_bit true e later at = let is = eqb-true g (length gates) e in omega (arith, is)
   by_bit false e later at = let below = later at in omega (arith, below)
 
-pub gate_value_at : (m : ℕ → Bool) (inputs : ℕ) (gates : List Sides) (g : ℕ) (s : Sides) → AreGates inputs gates → gate_at gates g ≡ Some s →
+pub gate_value_in : (m : ℕ → Bool) (inputs : ℕ) (gates : List Sides) (g : ℕ) (s : Sides) → AreSides inputs g s → gate_at gates g ≡ Some s →
     gate_value m gates g ≡ (value_by m (gate_value m gates) s.left && value_by m (gate_value m gates) s.right)
-gate_value_at m inputs [] g s all at = cc
-gate_value_at m inputs (x ∷ gates) g s all at = by_bit (g == length gates) refl (gate_value_at m inputs gates g s all.1) at where
+gate_value_in m inputs [] g s sides at = cc
+gate_value_in m inputs (x ∷ gates) g s sides at = by_bit (g == length gates) refl (gate_value_in m inputs gates g s sides) at where
   here : Sides → (ℕ → Bool) → Bool
   here t v = value_by m v t.left && value_by m v t.right
 
-  up : (t : Sides) → IsEarlierNode inputs (length gates) t.left → IsEarlierNode inputs (length gates) t.right → here t (gate_value m gates) ≡ here t (gate_value m (x ∷ gates))
-  up t l r = ap (λ b. b && value_by m (gate_value m gates) t.right) (sym (value_before m inputs x gates t.left l)) ∙ ap (λ b. value_by m (gate_value m (x ∷ gates)) t.left && b) (sym (value_before m inputs x gates t.right r))
+  up : g ≤ length gates → here s (gate_value m gates) ≡ here s (gate_value m (x ∷ gates))
+  up most =
+      ap (λ b. b && value_by m (gate_value m gates) s.right) (sym (value_before m inputs x gates s.left (more_earlier inputs g (length gates) most s.left sides.left)))
+      ∙ ap (λ b. value_by m (gate_value m (x ∷ gates)) s.left && b) (sym (value_before m inputs x gates s.right (more_earlier inputs g (length gates) most s.right sides.right)))
 
   by_bit : (b : Bool) → (g == length gates) ≡ b → (gate_at gates g ≡ Some s → gate_value m gates g ≡ here s (gate_value m gates)) → cond b (Some x) (gate_at gates g) ≡ Some s →
       cond b (here x (gate_value m gates)) (gate_value m gates g) ≡ here s (gate_value m (x ∷ gates))
-  by_bit true e later at = let same : x ≡ s = cc in ap (λ t. here t (gate_value m gates)) same ∙ up s (subst (λ t. IsEarlierNode inputs (length gates) t.left) same all.0.left) (subst (λ t. IsEarlierNode inputs (length gates) t.right) same all.0.right)
-  by_bit false e later at =
-      let sides = sides_are inputs gates g s all.1 at in
-      let below = number_of gates g s at in
-      let most : g ≤ length gates = omega (arith, below) in
-      later at ∙ up s (more_earlier inputs g (length gates) most s.left sides.left) (more_earlier inputs g (length gates) most s.right sides.right)
+  by_bit true e later at = let same : x ≡ s = cc in let is = eqb-true g (length gates) e in ap (λ t. here t (gate_value m gates)) same ∙ up (omega (arith, is))
+  by_bit false e later at = let below = number_of gates g s at in later at ∙ up (omega (arith, below))
 
-pub gate_support_at : (inputs : ℕ) (gates : List Sides) (g : ℕ) (s : Sides) → AreGates inputs gates → gate_at gates g ≡ Some s →
+pub gate_support_in : (inputs : ℕ) (gates : List Sides) (g : ℕ) (s : Sides) → AreSides inputs g s → gate_at gates g ≡ Some s →
     gate_support gates g ≡ support_by (gate_support gates) s.left ++ support_by (gate_support gates) s.right
-gate_support_at inputs [] g s all at = cc
-gate_support_at inputs (x ∷ gates) g s all at = by_bit (g == length gates) refl (gate_support_at inputs gates g s all.1) at where
+gate_support_in inputs [] g s sides at = cc
+gate_support_in inputs (x ∷ gates) g s sides at = by_bit (g == length gates) refl (gate_support_in inputs gates g s sides) at where
   here : Sides → (ℕ → List ℕ) → List ℕ
   here t v = support_by v t.left ++ support_by v t.right
 
-  up : (t : Sides) → IsEarlierNode inputs (length gates) t.left → IsEarlierNode inputs (length gates) t.right → here t (gate_support gates) ≡ here t (gate_support (x ∷ gates))
-  up t l r = ap (λ b. b ++ support_by (gate_support gates) t.right) (sym (support_before inputs x gates t.left l)) ∙ ap (λ b. support_by (gate_support (x ∷ gates)) t.left ++ b) (sym (support_before inputs x gates t.right r))
+  up : g ≤ length gates → here s (gate_support gates) ≡ here s (gate_support (x ∷ gates))
+  up most =
+      ap (λ xs. xs ++ support_by (gate_support gates) s.right) (sym (support_before inputs x gates s.left (more_earlier inputs g (length gates) most s.left sides.left)))
+      ∙ ap (λ xs. support_by (gate_support (x ∷ gates)) s.left ++ xs) (sym (support_before inputs x gates s.right (more_earlier inputs g (length gates) most s.right sides.right)))
 
   by_bit : (b : Bool) → (g == length gates) ≡ b → (gate_at gates g ≡ Some s → gate_support gates g ≡ here s (gate_support gates)) → cond b (Some x) (gate_at gates g) ≡ Some s →
       cond b (here x (gate_support gates)) (gate_support gates g) ≡ here s (gate_support (x ∷ gates))
-  by_bit true e later at = let same : x ≡ s = cc in ap (λ t. here t (gate_support gates)) same ∙ up s (subst (λ t. IsEarlierNode inputs (length gates) t.left) same all.0.left) (subst (λ t. IsEarlierNode inputs (length gates) t.right) same all.0.right)
-  by_bit false e later at =
-      let sides = sides_are inputs gates g s all.1 at in
-      let below = number_of gates g s at in
-      let most : g ≤ length gates = omega (arith, below) in
-      later at ∙ up s (more_earlier inputs g (length gates) most s.left sides.left) (more_earlier inputs g (length gates) most s.right sides.right)
+  by_bit true e later at = let same : x ≡ s = cc in let is = eqb-true g (length gates) e in ap (λ t. here t (gate_support gates)) same ∙ up (omega (arith, is))
+  by_bit false e later at = let below = number_of gates g s at in later at ∙ up (omega (arith, below))
+
+pub gate_value_at : (m : ℕ → Bool) (inputs : ℕ) (gates : List Sides) (g : ℕ) (s : Sides) → AreGates inputs gates → gate_at gates g ≡ Some s →
+    gate_value m gates g ≡ (value_by m (gate_value m gates) s.left && value_by m (gate_value m gates) s.right)
+gate_value_at m inputs gates g s all at = gate_value_in m inputs gates g s (sides_are inputs gates g s all at) at
+
+pub gate_support_at : (inputs : ℕ) (gates : List Sides) (g : ℕ) (s : Sides) → AreGates inputs gates → gate_at gates g ≡ Some s →
+    gate_support gates g ≡ support_by (gate_support gates) s.left ++ support_by (gate_support gates) s.right
+gate_support_at inputs gates g s all at = gate_support_in inputs gates g s (sides_are inputs gates g s all at) at
 
 -- a gate is true where its sides are
 pub gate_is_made : (graph : AigGraph) → IsGraph graph → (g : ℕ) (a b : Node) → gate_at graph.gates g ≡ Some (sides_of a b) → IsMade (λ x y. x && y) graph graph a b (Gate g false)

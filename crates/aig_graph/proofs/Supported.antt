@@ -1,10 +1,9 @@
 -- A node's value depends on its support alone.
-use Rattle.std.proofs.Common.{◌≡◌, ℕ, ◌==◌, Bool, true, false, cond, ◌&&◌, List, [], ◌∷◌, ◌++◌, map, length, refl, sym, ◌∙◌, ap, slice_index}
+use Rattle.std.proofs.Common.{◌≡◌, ℕ, ◌==◌, Bool, true, false, cond, ◌&&◌, List, [], ◌∷◌, ◌++◌, map, length, refl, ◌∙◌, ap, slice_index}
 use Rattle.std.specs.List.{All}
 use Rattle.std.proofs.lemmas.List.Elements.{All-head, All-tail, All-cons, All-nil}
-use Rattle.dq_lits.specs.Literal.{Assignment}
 use Rattle.dq_lits.specs.Formula.{Dqbf}
-use Rattle.dq_lits.specs.Skolem.{OutputFunction, IsSupported}
+use Rattle.dq_lits.specs.Skolem.{IsSupported}
 use Rattle.aig_graph.specs.declared.nodes.Node.{Node}
 use Rattle.aig_graph.specs.declared.nodes.Node.TheVariants.{Constant, Input, Gate}
 use Rattle.aig_graph.specs.declared.nodes.Sides.{Sides}
@@ -41,9 +40,9 @@ module _ (m n : ℕ → Bool) where
         ≡ cond b (value_by n (gate_value n earlier) gate.left && value_by n (gate_value n earlier) gate.right) (gate_value n earlier k)
     by_bit before true h =
         let left = value_same (gate_value m earlier) (gate_value n earlier) (gate_support earlier) before gate.left
-            (all_left Same (support_by (gate_support earlier) gate.left) (support_by (gate_support earlier) gate.right) h) in
+        (all_left Same (support_by (gate_support earlier) gate.left) (support_by (gate_support earlier) gate.right) h) in
         let right = value_same (gate_value m earlier) (gate_value n earlier) (gate_support earlier) before gate.right
-            (all_right Same (support_by (gate_support earlier) gate.left) (support_by (gate_support earlier) gate.right) h) in
+        (all_right Same (support_by (gate_support earlier) gate.left) (support_by (gate_support earlier) gate.right) h) in
         ap (λ b. b && value_by m (gate_value m earlier) gate.right) left ∙ ap (λ b. value_by n (gate_value n earlier) gate.left && b) right
     by_bit before false h = before k h
 

@@ -1,5 +1,5 @@
 -- How two nodes stand to each other, for private contracts.
-use Rattle.std.specs.Prelude.{◌≡◌, ◌≢◌, ℕ, Bool, true, false, not, ◌&&◌, None}
+use Rattle.std.specs.Prelude.{◌≡◌, ◌≢◌, ℕ, Bool, true, false, not, ◌&&◌, Option, None, Some}
 use Rattle.aig_graph.specs.declared.nodes.Node.{Node}
 use Rattle.aig_graph.specs.declared.nodes.Node.TheVariants.{Constant, Input, Gate}
 use Rattle.aig_graph.specs.declared.nodes.Beside.{Beside}
@@ -39,3 +39,10 @@ beside_by false _ = Apart
 -- in every graph that has both, the node is true where both are
 abbrev pub IsJoined : Node → Node → Node → Type 0
 IsJoined a b n = (graph : AigGraph) → IsNode graph a → IsNode graph b → IsMade (λ x y. x && y) graph graph a b n
+
+-- a gate's node and another one, by how a side of the gate stands to that other one
+abbrev pub node_by_side : Node → Bool → Beside → Node → Option Node
+node_by_side gate false Same other = Some gate
+node_by_side gate false Opposite other = Some (Constant false)
+node_by_side gate true Opposite other = Some other
+node_by_side gate _ _ other = None

@@ -1,6 +1,6 @@
 -- Nodes as functions of variables.
-use Rattle.std.specs.Prelude.{◌≡◌, ℕ, ◌==◌, Bool, false, List, map, slice_index, slice_index_or}
-use Rattle.std.specs.List.{All, position_or_len}
+use Rattle.std.specs.Prelude.{◌==◌, false, List, map, slice_index, slice_index_or}
+use Rattle.std.specs.List.{position_or_len}
 use Rattle.dq_lits.specs.Formula.{Existential, Dqbf}
 use Rattle.dq_lits.specs.Skolem.{OutputFunction, IsSupported}
 use Rattle.aig_graph.specs.declared.nodes.Node.{Node}

@@ -1,10 +1,10 @@
-ghost use Rattle.std.specs.Prelude.{◌≡◌, ◌&&◌, ◌||◌, All, OnErr, IfOk};
+ghost use Rattle.std.specs.Prelude.{◌≡◌, ◌&&◌, ◌||◌, All, OnErr, IfOk, IfSome};
 ghost use Rattle.aig_graph.specs.Graph.{IsNode};
 ghost use Rattle.aig_graph.specs.Joining.{AreInner};
 ghost use Rattle.aig_graph.specs.Made.{Extends, HasMore, IsMade, IsChosen, IsCube, exclusive_or};
 
 use crate::graphs::Graph;
-use crate::nodes::{Node, joined};
+use crate::nodes::{Node, by_side, joined};
 use dq_lits::Memory;
 
 impl Graph {
@@ -89,6 +89,50 @@ impl Graph {
 
     // A gate, where none of the two is a constant or on the other's place.
     fn gate(&mut self, a: Node, b: Node) -> Result<Node, Memory>
+        requires a { IsNode self.old a }
+        requires b { IsNode self.old b }
+        requires inner { AreInner self.old.inputs a b }
+        ensures grown { HasMore self.old self.new }
+        ensures made { IfOk result (IsMade (λ x y. x && y) self.old self.new a b) }
+        ensures err { OnErr result (self.new ≡ self.old) }
+    {
+        match self.by_sides(a, b) {
+            Some(n) => Ok(n),
+            None => self.gate_of_two(a, b),
+        }
+    }
+
+    // One of them, or a constant, where a side of one of them is the other node or its negation.
+    fn by_sides(&self, a: Node, b: Node) -> Option<Node>
+        requires a { IsNode self.now a }
+        requires b { IsNode self.now b }
+        ensures { IfSome result (IsMade (λ x y. x && y) self.now self.now a b) }
+    {
+        match self.by_sides_of(a, b) {
+            Some(n) => Some(n),
+            None => self.by_sides_of(b, a),
+        }
+    }
+
+    fn by_sides_of(&self, a: Node, b: Node) -> Option<Node>
+        requires a { IsNode self.now a }
+        requires b { IsNode self.now b }
+        ensures { IfSome result (IsMade (λ x y. x && y) self.now self.now a b) }
+    {
+        self.every_graph_is_lawful();
+        match a {
+            Node::Gate(g, negated) => {
+                let sides = self.sides(g);
+                match by_side(a, negated, sides.left.beside(b), b) {
+                    Some(n) => Some(n),
+                    None => by_side(a, negated, sides.right.beside(b), b),
+                }
+            }
+            _ => None,
+        }
+    }
+
+    fn gate_of_two(&mut self, a: Node, b: Node) -> Result<Node, Memory>
         requires a { IsNode self.old a }
         requires b { IsNode self.old b }
         requires inner { AreInner self.old.inputs a b }

@@ -1,7 +1,7 @@
 ghost use Rattle.std.specs.Prelude.{◌≡◌, not, ℕ, Bool, false, MatchOption, IsTrue, if◌then◌else◌};
 ghost use Rattle.aig_graph.specs.Graph.{AigGraph, IsNode, node_value, node_support, place_of};
 ghost use Rattle.aig_graph.specs.Made.{sides_of};
-ghost use Rattle.aig_graph.specs.Joining.{IsBeside, beside_by, IsInner, AreApart, IsJoined};
+ghost use Rattle.aig_graph.specs.Joining.{IsBeside, node_by_side, beside_by, IsInner, AreApart, IsJoined};
 
 /// A node of a graph: a constant, or an input or a gate by its number, negated or not.
 #[derive(Clone, Copy, Debug, PartialEq, Eq, PartialOrd, Ord)]
@@ -60,7 +60,7 @@ impl Node {
     }
 
     // How two nodes stand to each other.
-    fn beside(self, other: Node) -> Beside
+    pub(crate) fn beside(self, other: Node) -> Beside
         ensures { IsBeside self other result }
     {
         match (self, other) {
@@ -112,6 +112,19 @@ pub(crate) fn joined(a: Node, b: Node) -> Option<Node>
         (Node::Constant(x), _) => Some(guarded(x, b)),
         (_, Node::Constant(y)) => Some(guarded(y, a)),
         _ => joined_inner(a, b),
+    }
+}
+
+// A node that is true where a gate's node and another one are, by how a side of the gate stands to that other one: a gate is never true
+// where a side is false, and true only where it is true.
+pub(crate) fn by_side(gate: Node, negated: bool, side: Beside, other: Node) -> Option<Node>
+    ensures { result ≡ node_by_side gate negated side other }
+{
+    match (negated, side) {
+        (false, Beside::Same) => Some(gate),
+        (false, Beside::Opposite) => Some(Node::Constant(false)),
+        (true, Beside::Opposite) => Some(other),
+        _ => None,
     }
 }
 

@@ -9,6 +9,11 @@ use Rattle.dq_lits.specs.Henkin.{same_bits}
 use Rattle.hint_log.specs.Entries.{Entry}
 use Rattle.hint_log.specs.declared.names.Name.{Name}
 use Rattle.hint_log.specs.Entries.{has_id, count, numbered, name_of}
+use Rattle.hint_log.specs.Entries.{Given, Answer}
+use Rattle.dq_lits.specs.Formula.{Dqbf}
+use Rattle.hint_log.specs.Conditions.{MayFollow}
+use Rattle.hint_log.specs.ProductiveLog.{MatchesOrigin, IsDerivedByHints}
+use Rattle.log_laws.specs.Meaning.{IsSoundLog, IsSoundAnswer}
 use Rattle.hint_log.specs.Growth.{Each}
 use Rattle.hint_log.specs.Naming.{numbered_from_one, NamedLiteral, named_literal}
 
@@ -89,6 +94,19 @@ each_before P (x ∷ more) es h = each_before P more es h.1
 -- of an entry and those before it
 pub each_from : (P : List Entry → Entry → Type 0) (all more es : List Entry) (e : Entry) → all ≡ more ++ e ∷ es → Each P all → P es e × Each P es
 each_from P all more es e is h = each_before P more (e ∷ es) (subst (Each P) is h)
+
+-- what makes a log's answers right makes each one right
+pub sound_answer : (f : Dqbf) (entries later earlier : List Entry) (clause : List Literal) (hints : List ℕ) → IsSoundLog f entries → entries ≡ later ++ Answer clause hints ∷ earlier → IsSoundAnswer f earlier clause hints
+sound_answer f entries later earlier clause hints sound is =
+    let e = Answer clause hints in
+    let derived = each_from IsDerivedByHints entries later earlier e is sound.lemmas_are_derived in
+    let given = (each_from (MatchesOrigin f) entries later earlier e is sound.givens_match_origins).1 in
+    record {
+      logged = (each_from MayFollow entries later earlier e is sound.logged).1;
+      lemmas_are_derived = derived.1;
+      derived = derived.0;
+      givens_match_origins = λ more before origin c at reached. each_at (MatchesOrigin f) more before (Given origin c) (subst (Each (MatchesOrigin f)) at given);
+    }
 
 -- the place of a numbered entry
 pub split_at : (es : List Entry) (id : ℕ) (e : Entry) → numbered has_id es id ≡ Some e → (more : List Entry) × (earlier : List Entry) × (es ≡ more ++ e ∷ earlier)

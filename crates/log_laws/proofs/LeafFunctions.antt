@@ -204,14 +204,14 @@ leaf_stays : (f : Dqbf) (es more : List Entry) → Each MayFollow (more ++ es) �
 leaf_stays f es more lawful v (Constant b) h = tt
 leaf_stays f es more lawful v (LeafLiteral l) h = circuit_stays es more lawful (variable_of l) (name_of es (variable_of l)) refl h.1
 
-clause_same : (f : Dqbf) (m n : Assignment) → ((v : ℕ) → Contains (declared f) v → m v ≡ n v) → (c : List Literal) → All (λ l. Contains (declared f) (variable_of l)) c → clause_true m c ≡ clause_true n c
+pub clause_same : (f : Dqbf) (m n : Assignment) → ((v : ℕ) → Contains (declared f) v → m v ≡ n v) → (c : List Literal) → All (λ l. Contains (declared f) (variable_of l)) c → clause_true m c ≡ clause_true n c
 clause_same f m n same [] h = refl
 clause_same f m n same (l ∷ ls) h =
     let here = same (variable_of l) (All-head (λ k. Contains (declared f) (variable_of k)) l ls h) in
     ap (λ b. b || clause_true m ls) (literal_same m n l here) ∙ ap (λ b. literal_true n l || b) (clause_same f m n same ls (All-tail (λ k. Contains (declared f) (variable_of k)) l ls h))
 
 -- a declared variable has its bit
-declared_bit : (f : Dqbf) (m : Assignment) (bit : Existential → Bool) → All (λ y. m y.variable ≡ bit y) f.existentials → (v : ℕ) → Contains (declared f) v → m v ≡ by_bits f m bit v
+pub declared_bit : (f : Dqbf) (m : Assignment) (bit : Existential → Bool) → All (λ y. m y.variable ≡ bit y) f.existentials → (v : ℕ) → Contains (declared f) v → m v ≡ by_bits f m bit v
 declared_bit f m bit follows v inside = by_bit (is_universal f v) refl where
   by_option : is_universal f v ≡ false → (o : Option Existential) → existential_of f v ≡ o → m v ≡ existential_bit bit o
   by_option other None none = absurd (elim (Contains-append_cases f.universals (map variable f.existentials) v inside) [

@@ -1,9 +1,9 @@
-mod Found
+pub mod Found
 mod Implied
-mod Reaching
+pub mod Reaching
 mod Refuted
-mod Solved
-mod LeafFunctions
+pub mod Solved
+pub mod LeafFunctions
 mod FewRows
 mod Settling
 mod Checks
@@ -12,3 +12,4 @@ mod Missing
 mod TrueLog
 mod MissingTrue
 mod TrueDecided
+pub mod Growing

@@ -6,10 +6,9 @@ use Rattle.std.proofs.lemmas.Bool.{false≢true}
 use Rattle.std.proofs.lemmas.List.Elements.{All-contains, All-head, All-tail, Contains-push, Contains-append_left}
 use Rattle.dq_lits.specs.Literal.{Assignment, Literal, positive, negative, variable_of, is_negative, on_variable, literal_true, clause_true}
 use Rattle.dq_lits.specs.Formula.{Existential, Dqbf, existential_of}
-use Rattle.dq_lits.specs.Expansion.{row_assignment, agree_on, pair_number, pair_literal, instance_clause, InstanceHolds, IsExpansionModel, IsExpansionUnsatisfiable}
+use Rattle.dq_lits.specs.Expansion.{row_assignment, agree_on, pair_number, pair_literal, instance_clause, InstanceHolds, IsExpansionModel}
 use Rattle.dq_lits.specs.Henkin.{restriction}
-use Rattle.dq_lits.specs.Derivation.{IsDerived}
-use Rattle.hint_log.specs.Entries.{name_of, clause_at, row_at, numbered, is_round, row_of, count}
+use Rattle.hint_log.specs.Entries.{name_of, row_at, numbered, is_round, row_of, count}
 use Rattle.hint_log.specs.Entries.{Entry}
 use Rattle.hint_log.specs.Entries.{Named, Given, Learned, Answer, Round}
 use Rattle.hint_log.specs.declared.names.Name.{Name}
@@ -20,11 +19,11 @@ use Rattle.hint_log.specs.Growth.{Each}
 use Rattle.hint_log.specs.Naming.{named_literal, name_literal, rows_of, arbiter, on_arbiter}
 use Rattle.hint_log.specs.Origins.{IsInstanceRest, IsOriginsClause}
 use Rattle.hint_log.specs.Conditions.{MayFollow}
-use Rattle.hint_log.specs.ProductiveLog.{MatchesOrigin, IsDerivedByHints}
-use Rattle.hint_log.specs.Deciding.{IsInstance, AreNegatedSelectors, DecidesFalse}
+use Rattle.hint_log.specs.Deciding.{IsInstance, AreNegatedSelectors}
 use Rattle.log_laws.proofs.Implied.{LinesAreImplied}
 use Rattle.log_laws.proofs.Reaching.{name_stays, answer_true}
-use Rattle.log_laws.proofs.Found.{numbered_among, position_small, position_append, same_bits-refl, named_variable, each_at}
+use Rattle.log_laws.specs.Meaning.{InstancesHaveNoModel}
+use Rattle.log_laws.proofs.Found.{numbered_among, position_small, position_append, same_bits-refl, named_variable}
 
 -- selectors are true, and arbiters have their pairs' bits
 abbrev pub value_by_name : ℕ → Assignment → Option Name → Bool
@@ -136,10 +135,10 @@ module _ (f : Dqbf) (all : List Entry) (lawful : Each MayFollow all) (m : Assign
         let is : literal_true value l ≡ false = ap (literal_true value) here.0 ∙ ap (λ o. not (value_by_name f.variables m o)) here.1 in
         ap (λ b. b || clause_true value ls) is ∙ selectors_false ls (All-tail P l ls h)
 
-pub refuted : LinesAreImplied → (f : Dqbf) (earlier : List Entry) (clause : List Literal) (hints : List ℕ) → Each MayFollow earlier → Each (MatchesOrigin f) earlier →
-    Each IsDerivedByHints earlier → IsDerived (clause_at earlier) clause hints → DecidesFalse earlier clause hints → IsExpansionUnsatisfiable f (rows_of earlier)
-refuted implied f earlier clause hints lawful given derived here decides m model =
-    let truth = answer_true implied earlier hints (value f earlier lawful m)
-    (λ es more origin c is reached. instance_true f earlier lawful m model es more origin c is (decides.instances origin c reached)
-    (each_at (MatchesOrigin f) more es (Given origin c) (subst (Each (MatchesOrigin f)) is given))) clause derived here in
-    false≢true (sym (selectors_false f earlier lawful m model clause decides.selectors) ∙ truth)
+pub refuted : LinesAreImplied → InstancesHaveNoModel
+refuted implied f earlier clause hints sound decides m model =
+    let truth = answer_true implied earlier hints (value f earlier sound.logged m)
+    (λ es more origin c is reached.
+    instance_true f earlier sound.logged m model es more origin c is (decides.instances origin c reached) (sound.givens_match_origins more es origin c is reached))
+    clause sound.lemmas_are_derived sound.derived in
+    false≢true (sym (selectors_false f earlier sound.logged m model clause decides.selectors) ∙ truth)

@@ -8,10 +8,8 @@ use Rattle.std.proofs.lemmas.List.Elements.{All-contains, All-head, All-tail, Co
 use Rattle.std.proofs.lemmas.List.Folds.{list_any_at}
 use Rattle.dq_lits.specs.Literal.{Assignment, Literal, positive, negative, variable_of, is_negative, opposite, literal_true, clause_true}
 use Rattle.dq_lits.specs.Formula.{Existential, Dqbf, declared, is_universal, existential_of, IsWellFormed}
-use Rattle.dq_lits.specs.Henkin.{MatrixHolds}
-use Rattle.dq_lits.specs.Derivation.{IsDerived}
 use Rattle.hint_log.specs.Conditions.{is_circuit_name, HasSides}
-use Rattle.hint_log.specs.Entries.{name_of, clause_at}
+use Rattle.hint_log.specs.Entries.{name_of}
 use Rattle.hint_log.specs.Entries.{Entry}
 use Rattle.hint_log.specs.Entries.{Named, Given, Learned, Answer, Round}
 use Rattle.hint_log.specs.declared.names.Name.{Name}
@@ -24,12 +22,12 @@ use Rattle.hint_log.specs.Growth.{Each}
 use Rattle.hint_log.specs.Naming.{numbered_from_one, named_literal, name_literal, by_universality}
 use Rattle.hint_log.specs.Origins.{leaf_with_sign, leaf_clause, matrix_literal, gate_rest, IsGateRest, IsLeafOf, IsFaultRest, IsOriginsClause}
 use Rattle.hint_log.specs.Conditions.{MayFollow}
-use Rattle.hint_log.specs.ProductiveLog.{MatchesOrigin, IsDerivedByHints}
 use Rattle.hint_log.specs.Deciding.{ReachesGiven, AreNegatedSelectors, RestsOnCircuit, IsCircuitGiven, IsFaultLeaf}
-use Rattle.log_laws.specs.Circuits.{name_value, value_in, leaf_value, circuit_value, existential_bit, by_bits}
+use Rattle.log_laws.specs.Meaning.{IsSoundAnswer, LeavesSolve}
+use Rattle.log_laws.specs.Circuits.{name_value, value_in, leaf_value, existential_bit, by_bits}
 use Rattle.log_laws.proofs.Implied.{LinesAreImplied}
 use Rattle.log_laws.proofs.Reaching.{name_stays, answer_true}
-use Rattle.log_laws.proofs.Found.{variable, find_sound, find_there, numbered_among, slice_get_at, named_variable, each_at}
+use Rattle.log_laws.proofs.Found.{variable, find_sound, find_there, numbered_among, slice_get_at, named_variable}
 
 not_new : (es : List Entry) (u w : ℕ) → is_circuit_name (name_of es u) ≡ true → name_of es w ≡ None → (u == w) ≡ false
 not_new es u w h none = ne_eqb u w (λ e. let is : name_of es u ≡ None = ap (name_of es) e ∙ none in false≢true (sym (ap is_circuit_name is) ∙ h))
@@ -304,20 +302,18 @@ module _ (implied : LinesAreImplied) (f : Dqbf) (well : IsWellFormed f) (all : L
         let is : literal_true a l ≡ false = ap (literal_true a) here.0 ∙ ap not (value_is m bad all (variable_of l) (Selector (variable_of l)) true here.1 refl) in
         ap (λ b. b || clause_true a ls) is ∙ selectors_false ls (All-tail P l ls h)
 
-    no_clause_false : (clause : List Literal) → Each (MatchesOrigin f) all → Each IsDerivedByHints all → IsDerived (clause_at all) clause first → RestsOnCircuit all clause first → ⊥
-    no_clause_false clause given derived here rests =
+    no_clause_false : (clause : List Literal) → IsSoundAnswer f all clause first → RestsOnCircuit all clause first → ⊥
+    no_clause_false clause sound rests =
         let truth = answer_true implied all first a
-        (λ es more origin c is reached. given_true es more rests.group origin c is (each_at (MatchesOrigin f) more es (Given origin c) (subst (Each (MatchesOrigin f)) is given)) (rests.circuit origin c reached) reached)
-        clause derived here in
+        (λ es more origin c is reached. given_true es more rests.group origin c is (sound.givens_match_origins more es origin c is reached) (rests.circuit origin c reached) reached)
+        clause sound.lemmas_are_derived sound.derived in
         false≢true (sym (selectors_false clause rests.selectors) ∙ truth)
 
 -- with these bits every clause is true, whatever the universals are
-pub bits_hold : LinesAreImplied → (f : Dqbf) → IsWellFormed f → (earlier : List Entry) (clause : List Literal) (hints : List ℕ) → Each MayFollow earlier → Each (MatchesOrigin f) earlier →
-    Each IsDerivedByHints earlier → IsDerived (clause_at earlier) clause hints → RestsOnCircuit earlier clause hints → (m : Assignment) (bit : Existential → Bool) →
-    All (λ y. (out : Leaf) → IsFaultLeaf f earlier hints y out → circuit_value earlier m out ≡ bit y) f.existentials → MatrixHolds f (by_bits f m bit)
-bits_hold implied f well earlier clause hints lawful given derived here rests m bit outs k d below =
+pub bits_hold : LinesAreImplied → LeavesSolve
+bits_hold implied f earlier clause hints well sound rests m bit outs k d below =
     let same : get_or f.matrix k d ≡ get_or f.matrix k [] = get_or_default f.matrix k d [] below in
     elim (cases_Bool (clause_true (by_bits f m bit) (get_or f.matrix k []))) [
       | inl t ↦ ap (clause_true (by_bits f m bit)) same ∙ t
-      | inr e ↦ absurd (no_clause_false implied f well earlier lawful hints m bit outs k below e clause given derived here rests)
+      | inr e ↦ absurd (no_clause_false implied f well earlier sound.logged hints m bit outs k below e clause sound rests)
     ]

@@ -1,3 +1,4 @@
 pub mod Circuits
 pub mod Meaning
 pub mod Examples
+pub mod Engines

@@ -5,15 +5,17 @@ use Rattle.dq_lits.specs.Literal.{Assignment, Literal, opposite, same_literal}
 use Rattle.dq_lits.specs.Formula.{Dqbf, Existential, IsWellFormed}
 use Rattle.dq_lits.specs.Henkin.{MatrixHolds, IsTrueFormula, IsFalseFormula}
 use Rattle.dq_lits.specs.Expansion.{IsExpansionUnsatisfiable}
-use Rattle.dq_lits.specs.Derivation.{LiveClauses, holds}
+use Rattle.dq_lits.specs.Derivation.{LiveClauses, IsDerived, holds}
 use Rattle.hint_log.specs.Entries.{Entry}
-use Rattle.hint_log.specs.Entries.{Answer}
+use Rattle.hint_log.specs.Entries.{Given, Answer}
+use Rattle.hint_log.specs.declared.origins.Origin.{Origin}
 use Rattle.hint_log.specs.declared.origins.Leaf.{Leaf}
 use Rattle.hint_log.specs.Conditions.{AreLogged}
-use Rattle.hint_log.specs.Deciding.{DecidesFalse, DecidesTrue, RestsOnCircuit, IsFaultLeaf}
+use Rattle.hint_log.specs.Deciding.{ReachesGiven, DecidesFalse, DecidesTrue, RestsOnCircuit, IsFaultLeaf}
 use Rattle.hint_log.specs.Entries.{clause_at, rounds_of}
 use Rattle.hint_log.specs.Growth.{Each}
 use Rattle.hint_log.specs.Naming.{rows_of}
+use Rattle.hint_log.specs.Origins.{IsOriginsClause}
 use Rattle.hint_log.specs.ProductiveLog.{MatchesOrigin, IsDerivedByHints, RefutesNewRow, IsClosed, IsNewByPropagation}
 use Rattle.log_laws.specs.Circuits.{circuit_value, by_bits}
 
@@ -32,24 +34,32 @@ pub record HasAnswer (Decides : List Entry → List Literal → List ℕ → Typ
   pub is_there : entries ≡ later ++ Answer clause hints ∷ earlier
   pub decides : Decides earlier clause hints
 
+-- what makes one answer right: the same, with the given clauses that it rests on alone
+pub record IsSoundAnswer (f : Dqbf) (earlier : List Entry) (clause : List Literal) (hints : List ℕ) : Type 0 where
+  pub logged : AreLogged earlier
+  pub lemmas_are_derived : Each IsDerivedByHints earlier
+  pub derived : IsDerived (clause_at earlier) clause hints
+  pub givens_match_origins : (more before : List Entry) (origin : Origin) (c : List Literal) → earlier ≡ more ++ Given origin c ∷ before
+      → ReachesGiven earlier hints origin c → IsOriginsClause f before origin c
+
 -- an answer that rests on instances alone shows that those of the rows before it can't all be true
 abbrev pub InstancesHaveNoModel : Type 0
-InstancesHaveNoModel = (f : Dqbf) (entries : List Entry) → IsSoundLog f entries → (answer : HasAnswer DecidesFalse entries)
-    → IsExpansionUnsatisfiable f (rows_of answer.earlier)
+InstancesHaveNoModel = (f : Dqbf) (earlier : List Entry) (clause : List Literal) (hints : List ℕ) → IsSoundAnswer f earlier clause hints
+    → DecidesFalse earlier clause hints → IsExpansionUnsatisfiable f (rows_of earlier)
 
 -- and so that the formula is false
 abbrev pub DecidedFalseIsFalse : Type 0
 DecidedFalseIsFalse = (f : Dqbf) (entries : List Entry) → IsWellFormed f → IsSoundLog f entries → HasAnswer DecidesFalse entries → IsFalseFormula f
 
-abbrev pub DecidedTrueIsTrue : Type 0
-DecidedTrueIsTrue = (f : Dqbf) (entries : List Entry) → IsWellFormed f → IsSoundLog f entries → HasAnswer (DecidesTrue f) entries → IsTrueFormula f
-
 -- where each leaf that the answer's hints reach has its existential's bit, every clause is true
 abbrev pub LeavesSolve : Type 0
-LeavesSolve = (f : Dqbf) (entries : List Entry) → IsWellFormed f → IsSoundLog f entries → (answer : HasAnswer RestsOnCircuit entries) (m : Assignment)
-    (bit : Existential → Bool)
-    → All (λ y. (leaf : Leaf) → IsFaultLeaf f answer.earlier answer.hints y leaf → circuit_value answer.earlier m leaf ≡ bit y) f.existentials
+LeavesSolve = (f : Dqbf) (earlier : List Entry) (clause : List Literal) (hints : List ℕ) → IsWellFormed f → IsSoundAnswer f earlier clause hints
+    → RestsOnCircuit earlier clause hints → (m : Assignment) (bit : Existential → Bool)
+    → All (λ y. (leaf : Leaf) → IsFaultLeaf f earlier hints y leaf → circuit_value earlier m leaf ≡ bit y) f.existentials
     → MatrixHolds f (by_bits f m bit)
+
+abbrev pub DecidedTrueIsTrue : Type 0
+DecidedTrueIsTrue = (f : Dqbf) (entries : List Entry) → IsWellFormed f → IsSoundLog f entries → HasAnswer (DecidesTrue f) entries → IsTrueFormula f
 
 -- there are at most as many rounds as rows of the universals
 abbrev pub RoundsAreFew : Type 0

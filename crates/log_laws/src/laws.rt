@@ -3,6 +3,7 @@
 //! Each law is the contract of a function without parameters: it holds of all formulas and logs, and a caller that needs it calls the
 //! function.
 
+ghost use Rattle.log_laws.specs.Engines.{EnginesLeaveRest};
 ghost use Rattle.log_laws.specs.Meaning.{InstancesHaveNoModel, DecidedFalseIsFalse, DecidedTrueIsTrue, LeavesSolve, RoundsAreFew, ClosedClausesAreSettled, NewClausesAreUnknown};
 
 use dq_lits::laws::{derived_line_is_implied, expansion_lifts, skolem_functions_show_true};
@@ -50,4 +51,9 @@ pub fn closed_clauses_are_settled()
 /// A learned clause that is new by propagation has no literal beside its negation, and it contains no earlier clause.
 pub fn new_clauses_are_unknown()
     ensures { NewClausesAreUnknown }
+{}
+
+/// What an engine's call adds to a log leaves the rest: the points that engines keep, rows, names, and the other engines' parts and groups.
+pub fn engines_leave_the_rest()
+    ensures { EnginesLeaveRest }
 {}

@@ -1,0 +1,22 @@
+use Rattle.std.proofs.Common.{true, inl, refl}
+use Rattle.dq_lits.specs.Literal.{variable_of}
+use Rattle.hint_log.specs.Entries.{Named}
+use Rattle.hint_log.specs.declared.names.Name.TheVariants.{Selector}
+use Rattle.log_laws.specs.Engines.{circuits, IsAddedBy, IsNamedBy}
+use Rattle.log_laws.proofs.Growing.{grown_by, grown_then}
+use Rattle.circuit_cnf.proofs.Inputting.{new_checker}
+use Rattle.circuit_cnf.proofs.checkers.Checker.new.Goals as goal
+
+pub returns-clause-grew : goal.returns-clause-grew
+returns-clause-grew g c group =
+    let P = IsAddedBy c.args.f.now circuits group true c.args.log.now.entries in
+    let v = variable_of c.in_ok-group.group.selector in
+    let named : IsNamedBy c.args.f.now circuits c.name_inputs.new.log.entries v (Selector v) = record { unnamed = c.in_ok-group.ensures.unnamed; own = inl refl; rightly = tt } in
+    grown_then P c.args.log.now c.name_inputs.new.log c.group.new.log (c.name_inputs.ensures.grew group)
+    (grown_by P c.name_inputs.new.log c.group.new.log (Named v (Selector v)) c.in_ok-group.ensures.ok named)
+
+pub returns-clause-made : goal.returns-clause-made
+returns-clause-made g c =
+    new_checker c.args.f.now c.name_inputs.new.log c.group.new.log
+    (record { tenant = c.in_ok-tenant.tenant; gates = record { group = c.in_ok-group.group; variables = c.new.result }; inputs = c.in_ok-inputs.inputs })
+    c.in_ok-inputs.ensures.none c.in_ok-inputs.ensures.inputs c.in_ok-group.ensures.made c.in_ok-group.ensures.unnamed c.in_ok-group.ensures.ok c.new.ensures.empty

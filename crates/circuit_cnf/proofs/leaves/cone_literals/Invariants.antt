@@ -1,0 +1,5 @@
+use Rattle.circuit_cnf.proofs.ConeLiterals.{LiteralsSoFar}
+use Rattle.circuit_cnf.proofs.leaves.cone_literals.Given as goal
+
+abbrev pub invariant-loop : goal.invariant-loop
+invariant-loop g l = (g.O.Oracle.Fits l.oracle l.log) × LiteralsSoFar l.f l.graph l.inputs l.marks l.fn.gates l.fn.log l.gates l.log l.literals.items l.counter

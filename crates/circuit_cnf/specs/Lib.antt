@@ -1,0 +1,5 @@
+pub mod Leaves
+pub mod Shown
+pub mod Gates
+pub mod Inputs
+pub mod Checking

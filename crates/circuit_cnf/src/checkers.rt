@@ -1,0 +1,73 @@
+ghost use Rattle.std.specs.Prelude.{◌≡◌, ℕ, true, IfOk};
+ghost use Rattle.hint_log.specs.Growth.{Grew};
+ghost use Rattle.log_laws.specs.Engines.{circuits, IsAddedBy, HasNone};
+ghost use Rattle.circuit_cnf.specs.Checking.{AreInputs, IsChecker};
+ghost use Rattle.circuit_cnf.specs.Inputs.{HasNoGates};
+
+use crate::gates::Gates;
+use dq_formula::Formula;
+use dq_lits::{Lit, Memory};
+use hint_log::{Log, Name};
+use oracle::{Oracle, Tenant};
+use std::alloc::Global;
+use std::collections::BTreeMap;
+
+/// Checks circuits against the matrix: what was given to the oracle once.
+#[derive(Debug, Drop)]
+pub struct Checker {
+    pub(crate) tenant: Tenant,
+    pub(crate) gates: Gates,
+    pub(crate) inputs: Vec<Lit>,
+}
+
+impl Checker {
+    /// A checker that was given no gate yet. It names an input for each universal.
+    pub fn new<O: Oracle>(
+        alloc: Global,
+        oracle: &mut O,
+        f: &Formula,
+        log: &mut Log,
+    ) -> Result<Checker, Memory>
+        requires fit { O.Fits oracle.old log.old }
+        requires none { HasNone circuits log.old.entries }
+        ensures fit { O.Fits oracle.new log.new }
+        ensures grew { (group : ℕ) → Grew (IsAddedBy f.now circuits group true log.old.entries) log.old log.new }
+        ensures made { IfOk result (λ c. IsChecker f.now c log.new.entries) }
+    {
+        let inputs = name_inputs(alloc, oracle, f, log)?;
+        let tenant = oracle.tenant()?;
+        let group = oracle.group(&tenant, log)?;
+        let gates = Gates {
+            group,
+            variables: BTreeMap::new(alloc),
+        };
+        Ok(Checker {
+            tenant,
+            gates,
+            inputs,
+        })
+    }
+}
+
+// Names an input for each universal.
+fn name_inputs<O: Oracle>(
+    alloc: Global,
+    oracle: &mut O,
+    f: &Formula,
+    log: &mut Log,
+) -> Result<Vec<Lit>, Memory>
+    requires fit { O.Fits oracle.old log.old }
+    requires none { HasNone circuits log.old.entries }
+    ensures fit { O.Fits oracle.new log.new }
+    ensures grew { (group : ℕ) → Grew (IsAddedBy f.now circuits group true log.old.entries) log.old log.new }
+    ensures inputs { IfOk result (λ inputs. AreInputs f.now.universals inputs.items log.new.entries) }
+    ensures none { HasNoGates log.new.entries }
+{
+    f.every_formula_is_lawful();
+    let mut inputs = Vec::new(alloc);
+    for x in f.universals() {
+        let v = oracle.new_var(Name::Input { universal: *x }, log)?;
+        inputs.push(Lit::pos(v))?;
+    }
+    Ok(inputs)
+}

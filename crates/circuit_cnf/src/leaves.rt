@@ -1,0 +1,153 @@
+ghost use Rattle.std.specs.Prelude.{◌≡◌, ◌≤◌, ◌<◌, ◌+◌, false, true, List, length, OnOk, IfOk};
+ghost use Rattle.dq_lits.specs.Formula.{Dqbf};
+ghost use Rattle.dq_lits.specs.Literal.{variable_of};
+ghost use Rattle.dq_lits.specs.Row.{bit_of};
+ghost use Rattle.hint_log.specs.Entries.{Entry};
+ghost use Rattle.hint_log.specs.declared.origins.Leaf.TheVariants.{Literal as LeafLiteral};
+ghost use Rattle.hint_log.specs.Entries.{rounds_of};
+ghost use Rattle.hint_log.specs.Growth.{Grew};
+ghost use Rattle.hint_log.specs.Origins.{leaf_with_sign};
+ghost use Rattle.hint_log.specs.ProductiveLog.{fault_groups};
+ghost use Rattle.log_laws.specs.Engines.{circuits, IsAddedBy};
+ghost use Rattle.aig_graph.specs.Graph.{IsEarlierNode, size_of};
+ghost use Rattle.circuit_cnf.specs.Checking.{AreInputs};
+ghost use Rattle.circuit_cnf.specs.Gates.{AreKnown};
+ghost use Rattle.circuit_cnf.specs.Leaves.{HasLeaf, HaveLeaves, AreClosed, IsInnerNode, leaf_by};
+
+use crate::gates::Gates;
+use aig_graph::{Graph, Look, Node};
+use dq_formula::Formula;
+use dq_lits::{Lit, Memory, Row};
+use hint_log::Log;
+use oracle::Oracle;
+use std::alloc::Global;
+
+// Names the marked gates, and gives their clauses where they weren't given: a literal for each gate of the graph, in order. Those of gates
+// without a mark are never looked at.
+pub(crate) fn cone_literals<O: Oracle>(
+    alloc: Global,
+    gates: &mut Gates,
+    oracle: &mut O,
+    graph: &Graph,
+    f: &Formula,
+    inputs: &[Lit],
+    marks: &Row,
+    log: &mut Log,
+) -> Result<Vec<Lit>, Memory>
+    requires fit { O.Fits oracle.old log.old }
+    requires known { AreKnown gates.old log.old.entries }
+    requires few { length (fault_groups log.old.entries) ≤ rounds_of log.old.entries + 1 }
+    requires universals { graph.now.inputs ≡ length f.now.universals }
+    requires inputs { AreInputs f.now.universals inputs.now log.old.entries }
+    requires input_count { length inputs.now ≡ graph.now.inputs }
+    requires a_place_a_node { length marks.now ≡ size_of graph.now }
+    requires closed { AreClosed graph.now marks.now }
+    ensures fit { O.Fits oracle.new log.new }
+    ensures grew { (h : Dqbf) (old : List Entry) → Grew (IsAddedBy h circuits (variable_of gates.old.group.selector) true old) log.old log.new }
+    ensures group { gates.new.group ≡ gates.old.group }
+    ensures faults { fault_groups log.new.entries ≡ fault_groups log.old.entries }
+    ensures known { OnOk result (AreKnown gates.new log.new.entries) }
+    ensures count { IfOk result (λ literals. length literals.items ≡ length graph.now.gates) }
+    ensures leaves { IfOk result (λ literals. HaveLeaves f.now graph.now marks.now literals.items log.new.entries) }
+{
+    graph.every_graph_is_lawful();
+    let count = graph.len() - inputs.len();
+    let mut literals = Vec::new(alloc);
+    for _ in 0..count {
+        let l = next_literal(gates, oracle, graph, f, inputs, &literals, marks, log)?;
+        literals.push(l)?;
+    }
+    Ok(literals)
+}
+
+// The literal of the next gate, where it is marked.
+fn next_literal<O: Oracle>(
+    gates: &mut Gates,
+    oracle: &mut O,
+    graph: &Graph,
+    f: &Formula,
+    inputs: &[Lit],
+    literals: &[Lit],
+    marks: &Row,
+    log: &mut Log,
+) -> Result<Lit, Memory>
+    requires fit { O.Fits oracle.old log.old }
+    requires known { AreKnown gates.old log.old.entries }
+    requires few { length (fault_groups log.old.entries) ≤ rounds_of log.old.entries + 1 }
+    requires universals { graph.now.inputs ≡ length f.now.universals }
+    requires inputs { AreInputs f.now.universals inputs.now log.old.entries }
+    requires input_count { length inputs.now ≡ graph.now.inputs }
+    requires a_place_a_node { length marks.now ≡ size_of graph.now }
+    requires closed { AreClosed graph.now marks.now }
+    requires leaves { HaveLeaves f.now graph.now marks.now literals.now log.old.entries }
+    requires gate { length literals.now < length graph.now.gates }
+    ensures fit { O.Fits oracle.new log.new }
+    ensures grew { (h : Dqbf) (old : List Entry) → Grew (IsAddedBy h circuits (variable_of gates.old.group.selector) true old) log.old log.new }
+    ensures group { gates.new.group ≡ gates.old.group }
+    ensures faults { fault_groups log.new.entries ≡ fault_groups log.old.entries }
+    ensures known { OnOk result (AreKnown gates.new log.new.entries) }
+    ensures leaf { IfOk result (λ l. bit_of marks.now (graph.now.inputs + length literals.now) ≡ true
+        → HasLeaf f.now graph.now log.new.entries (Node.Gate (length literals.now) false) (LeafLiteral l)) }
+{
+    if !marks.get(inputs.len() + literals.len()) {
+        return Ok(gates.group.selector);
+    }
+    gate_literal(gates, oracle, graph, f, inputs, literals, marks, log)
+}
+
+// The literal of a marked gate, whose earlier ones are known.
+pub(crate) fn gate_literal<O: Oracle>(
+    gates: &mut Gates,
+    oracle: &mut O,
+    graph: &Graph,
+    f: &Formula,
+    inputs: &[Lit],
+    literals: &[Lit],
+    marks: &Row,
+    log: &mut Log,
+) -> Result<Lit, Memory>
+    requires fit { O.Fits oracle.old log.old }
+    requires known { AreKnown gates.old log.old.entries }
+    requires few { length (fault_groups log.old.entries) ≤ rounds_of log.old.entries + 1 }
+    requires universals { graph.now.inputs ≡ length f.now.universals }
+    requires inputs { AreInputs f.now.universals inputs.now log.old.entries }
+    requires closed { AreClosed graph.now marks.now }
+    requires leaves { HaveLeaves f.now graph.now marks.now literals.now log.old.entries }
+    requires gate { length literals.now < length graph.now.gates }
+    requires marked { bit_of marks.now (graph.now.inputs + length literals.now) ≡ true }
+    ensures fit { O.Fits oracle.new log.new }
+    ensures grew { (h : Dqbf) (old : List Entry) → Grew (IsAddedBy h circuits (variable_of gates.old.group.selector) true old) log.old log.new }
+    ensures group { gates.new.group ≡ gates.old.group }
+    ensures faults { fault_groups log.new.entries ≡ fault_groups log.old.entries }
+    ensures known { OnOk result (AreKnown gates.new log.new.entries) }
+    ensures leaf { IfOk result (λ l. HasLeaf f.now graph.now log.new.entries (Node.Gate (length literals.now) false) (LeafLiteral l)) }
+{
+    match graph.look(Node::Gate(literals.len(), false)) {
+        Look::Gate(a, b, _) => {
+            let a = side_literal(inputs, literals, a);
+            let b = side_literal(inputs, literals, b);
+            let v = gates.variable(oracle, a, b, log)?;
+            Ok(Lit::pos(v))
+        }
+        _ => unreachable!(),
+    }
+}
+
+// The literal of a node that isn't constant.
+fn side_literal(inputs: &[Lit], gates: &[Lit], n: Node) -> Lit
+    requires earlier { IsEarlierNode (length inputs.now) (length gates.now) n }
+    requires inner { IsInnerNode n }
+    ensures { LeafLiteral result ≡ leaf_by inputs.now gates.now n }
+{
+    match n {
+        Node::Input(i, negated) => signed(inputs[i], negated),
+        Node::Gate(g, negated) => signed(gates[g], negated),
+        Node::Constant(_) => unreachable!(),
+    }
+}
+
+fn signed(l: Lit, negated: bool) -> Lit
+    ensures { LeafLiteral result ≡ leaf_with_sign negated (LeafLiteral l) }
+{
+    if negated { l.not() } else { l }
+}

@@ -1,0 +1,11 @@
+//! Circuits against the matrix, as clauses of a shared solver: an answer that rests on them shows that the outputs are right.
+#![tactic(auto)]
+
+pub use checkers::Checker;
+pub use gates::Gates;
+
+mod checkers;
+mod faults;
+mod gates;
+pub mod laws;
+mod leaves;

@@ -1,0 +1,5 @@
+use Rattle.log_laws.proofs.Growing.{leaves_rest}
+use Rattle.log_laws.proofs.laws.engines_leave_the_rest.Goals as goal
+
+pub returns : goal.returns
+returns c = leaves_rest
