@@ -82,7 +82,13 @@ fn see_hinted(
     ensures { OnOk result (AreBlocks table.now seen.new) }
 {
     for (i, hint) in hints.iter().enumerate() {
-        see_instance(table, parts, *hint, line.saturating_add(i).saturating_add(2), seen)?;
+        see_instance(
+            table,
+            parts,
+            *hint,
+            line.saturating_add(i).saturating_add(2),
+            seen,
+        )?;
     }
     Ok(())
 }
