@@ -1,13 +1,8 @@
 -- What the judgement of a circuit's proof asks of its base and its lines.
-use Rattle.std.proofs.Common.{◌≡◌, ℕ, zero, suc, ◌+◌, ◌*◌, ◌≤◌, Bool, List, [], ◌∷◌, length, Option, None, Some, IfSome, sym, ap, subst, arith}
-use Rattle.std.specs.List.{All}
+use Rattle.std.proofs.Common.{◌≡◌, ℕ, zero, suc, ◌+◌, ◌≤◌, Bool, List, [], ◌∷◌, None, Some, ap, arith}
 use Rattle.std.specs.Option.{option_and_then}
 use Rattle.std.proofs.lemmas.Option.{slice_get_past}
 use Rattle.dq_lits.specs.Derivation.{ProofStep}
-use Rattle.dq_lits.specs.Formula.{Dqbf}
-use Rattle.dq_lits.specs.Literal.{Literal, variable_of}
-use Rattle.circuit_plain.specs.Netlist.{Netlist, IsNetlist}
-use Rattle.aiger_text.specs.Lines.{max_count}
 use Rattle.cert_text.specs.CircuitProof.{first_proof_id}
 use Rattle.cert_text.specs.Grammar.{AreSteps}
 use Rattle.cert_text.specs.NegatedMatrix.{negated_clauses, without_constants}

@@ -1,11 +1,11 @@
 -- Literals of instances, on their pairs.
-use Rattle.std.proofs.Common.{◌≡◌, ℕ, zero, suc, inl, inr, ◌<◌, List, [], ◌∷◌, map, length, get_or, slice_get, Option, None, Some, IsSome, refl, sym, ◌∙◌, ap, subst, arith}
+use Rattle.std.proofs.Common.{◌≡◌, ℕ, zero, suc, inl, inr, ◌<◌, List, [], ◌∷◌, length, get_or, slice_get, Option, None, Some, IsSome, sym, ◌∙◌, ap, subst, arith}
 use Rattle.std.specs.List.{list_any}
 use Rattle.std.proofs.lemmas.Bool.{cases_Bool}
 use Rattle.std.proofs.lemmas.List.{get_or-map, length-map}
 use Rattle.std.proofs.lemmas.Option.{slice_get-get_or}
 use Rattle.dq_lits.specs.Expansion.{universal_literal_true}
-use Rattle.dq_lits.specs.Literal.{Literal, positive, negative, variable_of, on_variable}
+use Rattle.dq_lits.specs.Literal.{Literal, variable_of, on_variable}
 use Rattle.rup_core.specs.Reading.{literal_at}
 use Rattle.refutation_checker.specs.Pairs.{pair_of, existential_part}
 use Rattle.refutation_checker.specs.PairTable.{Expanded, row_at, instance_in, instance_literals}

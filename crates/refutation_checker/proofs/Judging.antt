@@ -1,7 +1,7 @@
 -- What `first_fault` asks of the instances and the lines.
-use Rattle.std.proofs.Common.{◌≡◌, ℕ, zero, suc, ◌+◌, ◌*◌, ◌/◌, ◌%◌, ◌<◌, ◌≤◌, Bool, true, List, [], ◌∷◌, map, length, slice_get, Option, None, Some, refl, sym, ◌∙◌, ap, subst, arith}
+use Rattle.std.proofs.Common.{◌≡◌, ℕ, zero, suc, ◌+◌, ◌*◌, ◌/◌, ◌%◌, ◌<◌, ◌≤◌, Bool, true, List, [], ◌∷◌, length, slice_get, Option, None, Some, refl, sym, ◌∙◌, ap, subst, arith}
 use Rattle.std.specs.List.{All, AllByRecursion}
-use Rattle.std.specs.Option.{option_map, option_and_then}
+use Rattle.std.specs.Option.{option_and_then}
 use Rattle.std.proofs.Math.Nat.{le-div_iff_mul-le}
 use Rattle.std.proofs.lemmas.List.{length-map}
 use Rattle.std.proofs.lemmas.List.Elements.{All-from_recursion}
@@ -17,7 +17,7 @@ use Rattle.cert_text.specs.declared.refutations.Dqr.{Dqr}
 use Rattle.rup_core.specs.Growth.{AreNumbered}
 use Rattle.refutation_checker.specs.Lines.{normal_steps}
 use Rattle.refutation_checker.specs.PairTable.{Expanded, expanded}
-use Rattle.refutation_checker.specs.Refutation.{normal_step, refutation_fault}
+use Rattle.refutation_checker.specs.Refutation.{refutation_fault}
 
 -- no instance has the id of a line or a later one
 pub no_row : (f : Dqbf) (rows : List (List Bool)) (clauses i : ℕ) → clauses ≡ length f.matrix → length rows * clauses ≤ i → instance_at f rows (suc i) ≡ None

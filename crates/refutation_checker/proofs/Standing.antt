@@ -1,11 +1,10 @@
 -- Existentials with one dependency set.
-use Rattle.std.proofs.Common.{◌≡◌, ℕ, ◌==◌, ◌<◌, ◌≤◌, inl, inr, Bool, true, false, List, [], set, length, get_or, replicate, map, Option, None, Some, IsSome, IfSome, is_some, cond, refl, sym, ◌∙◌, ap, subst, arith, get_or-set_other, get_or-set_same}
+use Rattle.std.proofs.Common.{◌≡◌, ℕ, ◌==◌, ◌<◌, inl, inr, Bool, true, false, List, [], set, length, get_or, replicate, map, Option, None, Some, IsSome, IfSome, cond, refl, sym, ◌∙◌, ap, subst, arith, get_or-set_other, get_or-set_same}
 use Rattle.std.specs.List.{All, position_or_len}
-use Rattle.std.specs.Option.{option_map}
-use Rattle.std.proofs.lemmas.Bool.{cases_eq, cases_lt, cases_Bool}
+use Rattle.std.proofs.lemmas.Bool.{cases_eq, cases_lt}
 use Rattle.std.proofs.lemmas.Grind.{common_steps}
-use Rattle.std.proofs.lemmas.List.{length-set, length-map, length-replicate, get_or-map, get_or-replicate, get_or_past}
-use Rattle.dq_lits.specs.Expansion.{agree_on, row_assignment}
+use Rattle.std.proofs.lemmas.List.{length-set, length-map, length-replicate, get_or-map, get_or_past}
+use Rattle.dq_lits.specs.Expansion.{row_assignment}
 use Rattle.dq_lits.specs.Formula.{Existential, Dqbf, existential_of}
 use Rattle.dq_lits.specs.Henkin.{same_bits}
 use Rattle.dq_formula.specs.Prefix.{existential_variables}

@@ -12,7 +12,7 @@ ghost use Rattle.cert_text.specs.Pairs.{is_pair_number};
 ghost use Rattle.refutation_checker.specs.Pairs.{existential_part};
 ghost use Rattle.refutation_checker.specs.PairTable.{AreBlocks};
 
-use crate::pair_tables::{BLOCK_ROWS, PairTable};
+use crate::pair_tables::PairTable;
 use cert_text::Step;
 use dq_lits::{Clause, Lit, Memory};
 use number_tables::NumberSet;
@@ -69,16 +69,7 @@ fn see_steps(
     Ok(())
 }
 
-// How far a clause was seen under the rows of a block.
-#[derive(Clone, Copy)]
-struct SeenPart {
-    block: usize,
-    clause: usize,
-    literals: usize,
-}
-
-// The blocks of the instances with these ids, for a line of so many literals. Where an instance has the clause and the
-// block of rows of the one before it, only further literals are seen.
+// The blocks of the instances with these ids, for a line of so many literals.
 fn see_hinted(
     table: &PairTable,
     parts: &[Clause],
@@ -90,50 +81,40 @@ fn see_hinted(
     requires seen { AreBlocks table.now seen.old }
     ensures { OnOk result (AreBlocks table.now seen.new) }
 {
-    let mut before = SeenPart {
-        block: 0,
-        clause: 0,
-        literals: 0,
-    };
     for (i, hint) in hints.iter().enumerate() {
-        let limit = line.saturating_add(i).saturating_add(2);
-        before = see_instance(table, parts, *hint, limit, before, seen)?;
+        see_instance(
+            table,
+            parts,
+            *hint,
+            line.saturating_add(i).saturating_add(2),
+            seen,
+        )?;
     }
     Ok(())
 }
 
-// The blocks of an instance's first literals, so many of them, behind those that were seen.
+// The blocks of an instance's first literals, so many of them.
 fn see_instance(
     table: &PairTable,
     parts: &[Clause],
     id: u64,
     limit: usize,
-    before: SeenPart,
     seen: &mut NumberSet,
-) -> Result<SeenPart, Memory>
+) -> Result<(), Memory>
     requires parts { parts.now ≡ map (existential_part table.now.formula) table.now.formula.matrix }
     requires seen { AreBlocks table.now seen.old }
     ensures { OnOk result (AreBlocks table.now seen.new) }
 {
-    let Some((k, j)) = table.instance(id) else {
-        return Ok(before);
-    };
-    let block = k / BLOCK_ROWS;
-    let is_same = block == before.block && j == before.clause;
-    let from = if is_same { before.literals } else { 0 };
-    see_part(table, parts[j].lits(), from, limit, k, seen)?;
-    Ok(SeenPart {
-        block,
-        clause: j,
-        literals: limit,
-    })
+    match table.instance(id) {
+        Some((k, j)) => see_part(table, parts[j].lits(), limit, k, seen),
+        None => Ok(()),
+    }
 }
 
-// The blocks of existential literals under the row at `k`, from one place on up to another one.
+// The blocks of the first existential literals under the row at `k`, so many of them.
 fn see_part(
     table: &PairTable,
     part: &[Lit],
-    from: usize,
     limit: usize,
     k: usize,
     seen: &mut NumberSet,
@@ -143,8 +124,11 @@ fn see_part(
     requires seen { AreBlocks table.now seen.old }
     ensures { OnOk result (AreBlocks table.now seen.new) }
 {
-    for i in from..limit.min(part.len()) {
-        see(table, part[i].var(), k, seen)?;
+    for (i, l) in part.iter().enumerate() {
+        if i == limit {
+            break;
+        }
+        see(table, l.var(), k, seen)?;
     }
     Ok(())
 }

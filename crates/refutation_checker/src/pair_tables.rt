@@ -24,7 +24,7 @@ use std::marker::Model;
 
 // How many rows a block has. In larger ones a row that occurs alone takes more memory; in smaller ones rows that occur
 // together do.
-pub(crate) const BLOCK_ROWS: usize = 16;
+const BLOCK_ROWS: usize = 16;
 
 /// A formula's existentials under some rows: which pairs they are.
 ///

@@ -1,11 +1,8 @@
 -- The steps by which a circuit is copied.
-use Rattle.std.proofs.Common.{◌≡◌, ℕ, ◌+◌, ◌*◌, ◌/◌, ◌<◌, eqb, List, [], ◌∷◌, ◌++◌, map, take, length, get_or, if◌then◌else◌, inl, inr, sym, ap, ◌∙◌, subst, arith}
+use Rattle.std.proofs.Common.{◌≡◌, ℕ, ◌+◌, ◌*◌, ◌/◌, ◌<◌, List, [], ◌∷◌, ◌++◌, map, take, length, get_or, sym, ap, ◌∙◌, subst, arith}
 use Rattle.std.specs.Prelude.{Contains, slice_index}
-use Rattle.std.specs.List.{list_any}
-use Rattle.std.proofs.lemmas.Bool.{cases_Bool}
 use Rattle.std.proofs.lemmas.List.{take_more, map_more}
 use Rattle.std.proofs.lemmas.List.Elements.{Contains-get_or}
-use Rattle.dq_formula.proofs.Places.{flip, contains-has}
 use Rattle.circuit_plain.specs.declared.circuits.Gate.{Gate}
 use Rattle.circuit_plain.specs.Netlist.{Netlist, IsNetlist, IsDefined, IsVariable, IsLiteral, literal_variable, gate_at}
 use Rattle.circuit_plain.proofs.NetlistLaws.{gate_at_member}

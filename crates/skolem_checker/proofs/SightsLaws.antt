@@ -3,8 +3,8 @@ use Rattle.std.proofs.Common.{◌≡◌, ◌≢◌, ℕ, ◌+◌, ◌*◌, ◌%�
 use Rattle.std.specs.Prelude.{slice_index, Contains, IsTrue, ◌↔◌, MatchOption, IsSome, slice_index_or}
 use Rattle.std.specs.Int.{bit_at, bit_not}
 use Rattle.std.specs.List.{All, position}
-use Rattle.std.proofs.Math.Bool.{or-false, or-true}
-use Rattle.std.proofs.lemmas.Bool.{cases_eq, cases_lt, cases_Bool, ne_eqb, or_left, or_right, or_cases, and_parts, and_from, eqb-true, lt-ltb, le-ltb, false≢true, true≢false}
+use Rattle.std.proofs.Math.Bool.{or-false}
+use Rattle.std.proofs.lemmas.Bool.{cases_eq, cases_lt, ne_eqb, or_right, or_cases, and_parts, and_from, eqb-true, lt-ltb, le-ltb, false≢true}
 use Rattle.std.proofs.lemmas.Bool.Decides.{nat_tests}
 use Rattle.std.proofs.lemmas.List.{get_or-set_same, get_or-set_other, get_or_past, take_all, get_or-take, get_or_default, length-take, length-drop, length-map, get_or-drop, drop_all, append-nil}
 use Rattle.std.proofs.lemmas.List.Quantifiers.{position-Some}
@@ -14,13 +14,12 @@ use Rattle.dq_lits.specs.Formula.{Existential, Dqbf, existential_of}
 use Rattle.dq_formula.specs.Dependencies.{dependencies}
 use Rattle.dq_formula.specs.Prefix.{existential_variables}
 use Rattle.dq_formula.specs.declared.dependencies.Deps.{Deps}
-use Rattle.dq_formula.specs.declared.dependencies.Deps.TheVariants.{FirstOf}
-use Rattle.circuit_plain.specs.Netlist.{Netlist, literal_variable}
+use Rattle.circuit_plain.specs.Netlist.{Netlist}
 use Rattle.circuit_plain.specs.Reach.{Reaches}
 use Rattle.circuit_plain.specs.Words.{marked, WordsReach}
 use Rattle.skolem_checker.specs.Checks.{ReadsDeclaredBefore, existential_at, IsFirstUndeclared}
-use Rattle.skolem_checker.specs.Reads.{has_bit, root_of, AreRoots, AreReached, IsAt, AreDeclared, IsSetNoted, IsNoted, IsAllowed, IsUnnoted, AreSameAt, IsFirstIn, IsBatchAnswer}
-use Rattle.skolem_checker.specs.Tables.{ReadsByMarks, ReadsByTables}
+use Rattle.skolem_checker.specs.Reads.{has_bit, root_of, AreRoots, AreReached, IsAt, AreDeclared, IsSetNoted, IsNoted, IsAllowed, AreSameAt, IsFirstIn, IsBatchAnswer}
+use Rattle.skolem_checker.specs.Tables.{ReadsByTables}
 use Rattle.skolem_checker.proofs.ReadsLaws.{variable_at, places-below, named_at, before-from_marks, first-from_marks}
 
 -- words that are all 0 mark nothing

@@ -1,5 +1,5 @@
 -- Words of private contracts: up to 64 existentials at a time, with a bit for each in every word.
-use Rattle.std.specs.Prelude.{◌≡◌, ℕ, ◌<◌, ◌≤◌, ◌+◌, ◌==◌, ◌⊎◌, nat_lt, Bool, true, false, ◌&&◌, List, length, slice_index, Option, None, Some, IsSome, IsTrue, ◌↔◌, All, Contains}
+use Rattle.std.specs.Prelude.{◌≡◌, ℕ, ◌<◌, ◌≤◌, ◌+◌, ◌==◌, ◌⊎◌, nat_lt, Bool, true, false, ◌&&◌, List, length, slice_index, Option, None, Some, IsTrue, ◌↔◌, Contains}
 use Rattle.std.specs.Int.{bit_at}
 use Rattle.dq_lits.specs.Formula.{Existential, Dqbf, existential_of}
 use Rattle.circuit_plain.specs.Netlist.{Netlist, literal_variable}

@@ -45,13 +45,7 @@ impl ReadWords {
 }
 
 // The first universal that is marked at a bit and that an existential may not see.
-fn first_undeclared(
-    f: &Formula,
-    literals: &[u64],
-    words: &[u64],
-    i: usize,
-    y: u64,
-) -> Option<u64>
+fn first_undeclared(f: &Formula, literals: &[u64], words: &[u64], i: usize, y: u64) -> Option<u64>
     requires declared { IsSome (existential_of f.now y) }
     requires bit { i < 64 }
     requires fit { All (HasLiteral literals.now (length words.now)) f.now.universals }
@@ -106,7 +100,14 @@ fn first_read(
     ensures answer { MatchOption result (AreDeclared f.now literals.now ys.now words.old.reached.items)
         (λ read. IsFirstIn f.now literals.now ys.now words.old.reached.items read.0 read.1) }
 {
-    if are_declared(f, literals, ys, &words.reached, &mut words.listed, &mut words.stops) {
+    if are_declared(
+        f,
+        literals,
+        ys,
+        &words.reached,
+        &mut words.listed,
+        &mut words.stops,
+    ) {
         return None;
     }
     first_read_one_by_one(f, literals, ys, &words.reached)

@@ -123,7 +123,13 @@ fn list_one(f: &Formula, x: u64, i: usize, listed: &mut [u64])
 }
 
 // Whether each universal that is marked at a bit is allowed there.
-fn are_allowed(f: &Formula, literals: &[u64], reached: &[u64], listed: &[u64], stops: &[u64]) -> bool
+fn are_allowed(
+    f: &Formula,
+    literals: &[u64],
+    reached: &[u64],
+    listed: &[u64],
+    stops: &[u64],
+) -> bool
     requires fit { All (HasLiteral literals.now (length reached.now)) f.now.universals }
     requires listed_words { length listed.now ≡ length f.now.universals }
     requires stops_words { length stops.now ≡ length f.now.universals + 1 }

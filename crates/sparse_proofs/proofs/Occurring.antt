@@ -1,8 +1,8 @@
 -- Every variable that a proof needs is among those that occur.
-use Rattle.std.proofs.Common.{◌≡◌, ℕ, ◌==◌, Bool, true, false, cond, List, [], ◌∷◌, ◌++◌, map, Option, None, Some, Contains, refl, ap, ◌∙◌}
+use Rattle.std.proofs.Common.{◌≡◌, ℕ, ◌==◌, Bool, true, false, cond, List, [], ◌∷◌, ◌++◌, map, Option, None, Some, Contains, refl}
 use Rattle.std.specs.List.{AllByRecursion, list_any, flat_map}
 use Rattle.std.proofs.lemmas.List.Elements.{Contains-append_left, Contains-push}
-use Rattle.dq_lits.specs.Derivation.{LiveClauses, ProofStep, ProofFault, proof_fault}
+use Rattle.dq_lits.specs.Derivation.{LiveClauses, ProofStep, proof_fault}
 use Rattle.dq_lits.specs.Literal.{Literal, variable_of}
 use Rattle.dq_formula.proofs.Places.{contains-has}
 use Rattle.sparse_proofs.specs.Occurring.{clause_variables, hinted_variables, step_variables, occurring_variables}

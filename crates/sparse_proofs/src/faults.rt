@@ -10,8 +10,8 @@ use rup_core::{Base, Marks, ProofFault, first_fault_any};
 use std::alloc::Global;
 
 /// The first fault of a proof whose lines have the ids from `first` on, behind those of the base; none where every line
-/// is derived and the last one is the empty clause. It takes memory for marks, no more than a line has bytes each, and
-/// for the variables that a line assigns, which it gives back: nothing is kept of the clauses that lines hint.
+/// is derived and the last one is the empty clause. It takes memory as there are lines, and at each line for the
+/// variables that it assigns, which it gives back: nothing is kept of the clauses that lines hint.
 pub fn first_fault<B: Base>(
     alloc: Global,
     base: &B,

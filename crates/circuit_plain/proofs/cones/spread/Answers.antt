@@ -1,4 +1,3 @@
-use Rattle.std.proofs.Common.{◌<◌, length}
 use Rattle.std.proofs.lemmas.List.{length-set}
 use Rattle.circuit_plain.proofs.WordsLaws.{words_spread}
 use Rattle.circuit_plain.proofs.cones.spread.Goals as goal

@@ -1,6 +1,5 @@
-use Rattle.std.proofs.Common.{◌≡◌, ◌≤◌, length, ap, subst, ◌∙◌, arith}
+use Rattle.std.proofs.Common.{◌≡◌, ap, subst, ◌∙◌}
 use Rattle.std.specs.Prelude.{IfOk}
-use Rattle.aiger_text.specs.Lines.{max_count}
 use Rattle.rup_core.specs.ProofVerdict.{proof_fault_in}
 use Rattle.cert_text.specs.CircuitProof.{is_proof_variable}
 use Rattle.skolem_checker.specs.Checks.{Candidate}

@@ -1,4 +1,4 @@
-use Rattle.std.proofs.Common.{◌≡◌, ℕ, set, get_or, sym, ap, ◌∙◌, subst}
+use Rattle.std.proofs.Common.{◌≡◌, ℕ, set, get_or, sym, subst}
 use Rattle.refutation_checker.specs.Alike.{AreAlike}
 use Rattle.refutation_checker.proofs.Standing.{declared_there, one_more_stands}
 use Rattle.refutation_checker.proofs.alike.alike_existentials.Goals as goal
@@ -17,7 +17,7 @@ have_one_set-requires c =
 pub loop-y-preserved : goal.loop-y-preserved
 loop-y-preserved c =
     elim c.if-have_one_set.branch [
-      | then-have_one_set w ↦ 
+      | then-have_one_set w ↦
           let first : ℕ = c.in_ok-first.first in
           let y : ℕ = get_or c.existentials-y-items.result.now c.loop-y.y-index 0 in
           let table : w.put.new.table.items ≡ set c.loop-y.alike.items y first = w.put.ensures in

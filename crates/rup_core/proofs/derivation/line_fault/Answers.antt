@@ -1,4 +1,3 @@
-use Rattle.std.proofs.Common.{◌≡◌, true}
 use Rattle.rup_core.proofs.Assuming.{hints_go_on}
 use Rattle.rup_core.proofs.derivation.line_fault.Goals as goal
 

@@ -1,4 +1,4 @@
-use Rattle.std.proofs.Common.{◌≡◌, ◌*◌, ◌+◌, ◌-◌, ℕ, length, ap, ◌∙◌, arith}
+use Rattle.std.proofs.Common.{◌≡◌, ◌*◌, ◌+◌, ◌-◌, length, ap, ◌∙◌, arith}
 use Rattle.std.proofs.lemmas.List.{length-map}
 use Rattle.dq_lits.specs.Formula.{Existential}
 use Rattle.skolem_checker.specs.Tables.{ReadsByTables}
@@ -18,10 +18,10 @@ returns-in-Some-clause-answer c =
 
 pub loop-batch-preserved : goal.loop-batch-preserved
 loop-batch-preserved c =
-  let lengths : length c.existentials-ys.result.now ≡ length c.args.f.now.existentials =
-  ap length c.existentials-ys.ensures ∙ length-map c.args.f.now.existentials (λ (y : Existential). y.variable) in record {
-  words = c.undeclared_in_batch-read.ensures.words;
-  first = batch_passes c.args.f.now c.existentials-ys.result.now (c.loop-batch.batch * 64) (c.loop-batch.batch * 64 + c.min.result - c.loop-batch.batch * 64)
-      c.existentials-ys.ensures c.every_formula_is_lawful.ensures.named (ReadsByTables c.args.circuit.now c.args.literals.now c.args.places.now)
-      c.loop-batch.invariant.first ((c.loop-batch.batch + 1) * 64) c.in_default.ensures.answer (λ p lt below. omega (arith, lt, below, lengths, c.min.ensures));
-}
+    let lengths : length c.existentials-ys.result.now ≡ length c.args.f.now.existentials =
+    ap length c.existentials-ys.ensures ∙ length-map c.args.f.now.existentials (λ (y : Existential). y.variable) in record {
+      words = c.undeclared_in_batch-read.ensures.words;
+      first = batch_passes c.args.f.now c.existentials-ys.result.now (c.loop-batch.batch * 64) (c.loop-batch.batch * 64 + c.min.result - c.loop-batch.batch * 64)
+          c.existentials-ys.ensures c.every_formula_is_lawful.ensures.named (ReadsByTables c.args.circuit.now c.args.literals.now c.args.places.now)
+          c.loop-batch.invariant.first ((c.loop-batch.batch + 1) * 64) c.in_default.ensures.answer (λ p lt below. omega (arith, lt, below, lengths, c.min.ensures));
+    }

@@ -1,4 +1,4 @@
-use Rattle.std.proofs.Common.{sym, ap, ◌∙◌, subst}
+use Rattle.std.proofs.Common.{sym, subst}
 use Rattle.dq_formula.specs.Dependencies.{dependencies}
 use Rattle.skolem_checker.specs.Reads.{IsSetNoted}
 use Rattle.skolem_checker.proofs.SightsLaws.{prefix_noted, list_noted}

@@ -1,6 +1,5 @@
-use Rattle.std.proofs.Common.{◌≡◌, ◌+◌, ◌≤◌, inl, inr, sym, ◌∙◌, subst, refl, arith}
+use Rattle.std.proofs.Common.{inl, inr, sym, ◌∙◌, subst, refl, arith}
 use Rattle.std.proofs.lemmas.Bool.{cases_eq}
-use Rattle.dq_formula.specs.Dependencies.{dependencies}
 use Rattle.skolem_checker.specs.Reads.{IsSetNoted, IsNoted}
 use Rattle.skolem_checker.proofs.SightsLaws.{told_at, set_told, noted_along}
 use Rattle.skolem_checker.proofs.sights.note_sets.Goals as goal

@@ -1,4 +1,4 @@
-use Rattle.std.proofs.Common.{◌≡◌, ℕ, ◌<◌, length, get_or}
+use Rattle.std.proofs.Common.{◌≡◌, ℕ, ◌<◌, get_or}
 use Rattle.skolem_checker.proofs.words.clear.Given as goal
 
 abbrev pub invariant-loop-word : goal.invariant-loop-word

@@ -1,8 +1,7 @@
-use Rattle.std.proofs.Common.{◌≡◌, ◌<◌, ◌+◌, ◌-◌, ℕ, true, Bool, List, set, length, sym, ap, ◌∙◌, arith}
+use Rattle.std.proofs.Common.{◌≡◌, ◌+◌, ◌-◌, ℕ, true, Bool, List, set, length, sym, ap, ◌∙◌, arith}
 use Rattle.std.proofs.lemmas.List.{length-set}
-use Rattle.dq_lits.specs.Row.{bit_of}
 use Rattle.circuit_plain.specs.Netlist.{Netlist, literal_variable}
-use Rattle.circuit_plain.proofs.ReachLaws.{nothing_marked, set_spreads, sides_within, walk_on, walk_past, marks_reach}
+use Rattle.circuit_plain.proofs.ReachLaws.{nothing_marked, set_spreads, sides_within, walk_on, marks_reach}
 use Rattle.circuit_plain.proofs.circuits.Circuit.mark_sides.Goals as goal
 
 pub loop-i-init : goal.loop-i-init

@@ -1,8 +1,8 @@
-use Rattle.std.proofs.Common.{◌≡◌, ◌+◌, ◌-◌, ℕ, length, inl, inr, sym, ap, ◌∙◌, arith}
+use Rattle.std.proofs.Common.{◌≡◌, ◌+◌, ◌-◌, ℕ, inl, inr, sym, ap, ◌∙◌, arith}
 use Rattle.std.proofs.lemmas.Bool.{cases_Bool}
 use Rattle.circuit_plain.specs.Netlist.{Netlist}
 use Rattle.circuit_plain.specs.Words.{marked}
-use Rattle.circuit_plain.proofs.ReachLaws.{nothing_marked, sides_within, walk_on, walk_past, marks_reach}
+use Rattle.circuit_plain.proofs.ReachLaws.{nothing_marked, walk_on, walk_past, marks_reach}
 use Rattle.circuit_plain.proofs.WordsLaws.{spread_on, spread_off}
 use Rattle.circuit_plain.proofs.circuits.Circuit.reach_by_words.Goals as goal
 

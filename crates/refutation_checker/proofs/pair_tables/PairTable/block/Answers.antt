@@ -1,4 +1,4 @@
-use Rattle.std.proofs.Common.{◌≡◌, ◌+◌, ◌*◌, ◌/◌, length, ap, sym, ◌∙◌, subst, arith}
+use Rattle.std.proofs.Common.{◌≡◌, ◌+◌, ◌*◌, ◌/◌, length, ap, ◌∙◌, subst, arith}
 use Rattle.dq_lits.specs.Formula.{Dqbf}
 use Rattle.refutation_checker.specs.Alike.{stand_in, AreAlike}
 use Rattle.refutation_checker.specs.PairTable.{Expanded}
