@@ -171,6 +171,17 @@ analysis_kept entries live marks rest kept more q hints free more_is old =
       plain = λ t on m sel. old.plain t (holds_later q rest t on) m sel;
     }
 
+-- what is kept matters as a set
+pub analysis_same : (entries : List Entry) (live : LiveClauses) (marks : List Bool) (trail kept other : List Literal) (hints : List ℕ) → ((t : Literal) → holds other t ≡ holds kept t)
+    → IsAnalysis entries live trail kept marks hints → IsAnalysis entries live trail other marks hints
+analysis_same entries live marks trail kept other hints same old = record {
+  leads = λ trues place keeps covers only. old.leads trues place (λ t k. keeps t (same t ∙ k)) covers (λ t m. elim (only t m) [ inl k ↦ inl (sym (same t) ∙ k) | inr r ↦ inr r ]);
+  tied = λ h d l has at m sel. elim (old.tied h d l has at m sel) [ inl k ↦ inl (same (opposite l) ∙ k) | inr t ↦ inr t ];
+  ids = old.ids;
+  gone = λ l k. let g = old.gone l (sym (same l) ∙ k) in (g.0, same (opposite l) ∙ g.1);
+  plain = old.plain;
+}
+
 -- an analysis begins at a falsified clause
 pub analysis_first : (entries : List Entry) (live : LiveClauses) (marks : List Bool) (trail clause : List Literal) (id : ℕ) → live id ≡ Some clause
     → status_of trail (Some clause) ≡ falsified → ((l : Literal) → holds clause l ≡ true → Stands entries l) → AreConsistent trail

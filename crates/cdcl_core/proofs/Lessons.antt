@@ -1,11 +1,11 @@
 -- What a conflict teaches is derived, new, and keeps its selectors; where the trail is taken back, it is unit.
-use Rattle.std.proofs.Common.{◌≡◌, ◌≢◌, ℕ, zero, suc, ◌+◌, ◌<◌, ◌≤◌, Bool, true, false, cond, not, ◌⊎◌, inl, inr, List, [], ◌∷◌, ◌++◌, map, length, slice_get, get_or, Option, Some, None, IsSome, is_some, refl, sym, ◌∙◌, ap, subst, arith, length-append}
+use Rattle.std.proofs.Common.{◌≡◌, ◌≢◌, ℕ, zero, suc, ◌<◌, ◌≤◌, Bool, true, false, cond, not, ◌⊎◌, inl, inr, List, [], ◌∷◌, ◌++◌, map, length, slice_get, get_or, Option, Some, None, IsSome, is_some, refl, sym, ◌∙◌, ap, subst, arith, length-append}
 use Rattle.std.proofs.lemmas.Bool.{cases_Bool, cases_eq, cases_lt, false≢true, or_cases, or_parts, false_from_ne_true}
 use Rattle.std.proofs.lemmas.List.{get_or_append_left}
 use Rattle.std.proofs.Math.Seq.{get_or-append_seam}
 use Rattle.std.proofs.lemmas.Option.{slice_get-get_or, slice_get_within}
 use Rattle.dq_lits.specs.Literal.{Literal, variable_of, is_negative, opposite, same_literal}
-use Rattle.dq_lits.specs.Derivation.{LiveClauses, Status, falsified, unit, stuck, holds, status_of, fault_by, hint_fault, is_tautology, IsDerived}
+use Rattle.dq_lits.specs.Derivation.{LiveClauses, unit, stuck, holds, status_of, IsDerived}
 use Rattle.hint_log.specs.Entries.{Entry}
 use Rattle.hint_log.specs.Entries.{clause_at, name_of}
 use Rattle.hint_log.specs.Naming.{is_selector}
@@ -21,27 +21,9 @@ use Rattle.cdcl_core.specs.Analyses.{IsAnalysis, AllStand}
 use Rattle.cdcl_core.specs.Lessons.{IsLesson, IsJump}
 use Rattle.cdcl_core.proofs.Holding.{same_literal-refl, opposite-opposite, opposite-variable, opposite-negative, holds_first, holds_later, holds_cases, free_variable, no_tautology}
 use Rattle.cdcl_core.proofs.Standing.{is_unit, stuck_from_two}
-use Rattle.cdcl_core.proofs.Leading.{leads_line}
+use Rattle.cdcl_core.proofs.Concluding.{concluded_derived, concluded_tied}
 use Rattle.cdcl_core.proofs.Analysing.{AreConsistent, sound_consistent, free_later}
 use Rattle.cdcl_core.proofs.Backing.{reason_of}
-
--- propagation depends on what the ids stand for alone
-fault_by-same : (s : Status) (place : ℕ) (hints : List ℕ) (f g : Literal → Option ℕ) → ((l : Literal) → f l ≡ g l) → fault_by s place hints f ≡ fault_by s place hints g
-fault_by-same falsified place [] f g same = refl
-fault_by-same falsified place (_ ∷ _) f g same = refl
-fault_by-same (unit l) place hints f g same = same l
-fault_by-same stuck place hints f g same = refl
-
-hint_fault-live : (live other : LiveClauses) → ((id : ℕ) → live id ≡ other id) → (hints : List ℕ) (trues : List Literal) (place : ℕ) → hint_fault live trues place hints ≡ hint_fault other trues place hints
-hint_fault-live live other same [] trues place = refl
-hint_fault-live live other same (h ∷ hints) trues place =
-    ap (λ c. fault_by (status_of trues c) place hints (λ l. hint_fault live (l ∷ trues) (place + 1) hints)) (same h)
-    ∙ fault_by-same (status_of trues (other h)) place hints (λ l. hint_fault live (l ∷ trues) (place + 1) hints) (λ l. hint_fault other (l ∷ trues) (place + 1) hints)
-    (λ l. hint_fault-live live other same hints (l ∷ trues) (place + 1))
-
-pub derived-live : (live other : LiveClauses) → ((id : ℕ) → live id ≡ other id) → (clause : List Literal) (hints : List ℕ) → IsDerived live clause hints → IsDerived other clause hints
-derived-live live other same clause hints derived =
-    ap (λ x. cond (is_tautology clause) (Some 0) x) (sym (hint_fault-live live other same hints (map opposite clause) 1)) ∙ derived
 
 -- suffixes
 pub sound_later : (live : LiveClauses) (popped steps : List Step) → IsSound live (popped ++ steps) → IsSound live steps
@@ -139,57 +121,36 @@ module _ (entries : List Entry) (assumptions : List Literal) (clauses : List (Li
   pub lesson_guided : IsGuided entries assumptions (step ∷ new.steps)
   lesson_guided = guided_later entries assumptions lesson.shrunk.popped (step ∷ new.steps) (subst (IsGuided entries assumptions) lesson.shrunk.is guided)
 
-  analysis : IsAnalysis entries (live_in clauses) (literals_of (step ∷ new.steps)) [] marks hints
+  analysis : IsAnalysis entries (live_in clauses) [] (map opposite clause) marks hints
   analysis = lesson.analysis entries stand
 
   consistent : AreConsistent (literals_of (step ∷ new.steps))
   consistent = sound_consistent (live_in clauses) (step ∷ new.steps) lesson_sound
 
-  -- the literals of the clause are negations of marked ones on the trail
-  on_trail : (l : Literal) → holds clause l ≡ true → (holds (literals_of (step ∷ new.steps)) (opposite l) ≡ true) × (marked marks (variable_of l) ≡ true)
+  -- the literals of the clause are negations of literals on the trail
+  on_trail : (l : Literal) → holds clause l ≡ true → holds (literals_of (step ∷ new.steps)) (opposite l) ≡ true
   on_trail l h = elim (lesson.only l h) [
-    | inl e ↦ (
-      ap (λ x. holds (literals_of (step ∷ new.steps)) (opposite x)) e ∙ ap (holds (literals_of (step ∷ new.steps))) (opposite-opposite step.literal) ∙ holds_first step.literal (literals_of new.steps),
-      ap (λ x. marked marks (variable_of x)) e ∙ ap (marked marks) (opposite-variable step.literal) ∙ lesson.mark,
-    )
-    | inr r ↦ (holds_later step.literal (literals_of new.steps) (opposite l) r.0, r.1)
+    | inl e ↦ ap (λ x. holds (literals_of (step ∷ new.steps)) (opposite x)) e ∙ ap (holds (literals_of (step ∷ new.steps))) (opposite-opposite step.literal)
+        ∙ holds_first step.literal (literals_of new.steps)
+    | inr r ↦ holds_later step.literal (literals_of new.steps) (opposite l) r.0
   ]
-
-  in_clause : (t : Literal) → holds (literals_of (step ∷ new.steps)) t ≡ true → marked marks (variable_of t) ≡ true → holds clause (opposite t) ≡ true
-  in_clause t h m = elim (holds_cases step.literal (literals_of new.steps) t h) [
-    | inl e ↦ ap (λ x. holds clause (opposite x)) e ∙ lesson.has_first
-    | inr r ↦ lesson.has_rest t r m
-  ]
-
-  plain_clause : is_tautology clause ≡ false
-  plain_clause = no_tautology clause (λ l h o. consistent (opposite l) (on_trail l h).0 (on_trail (opposite l) o).0)
 
   pub lesson_derived : IsDerived (clause_at entries) clause hints
-  lesson_derived = derived-live (live_in clauses) (clause_at entries) fit.same clause hints
-      (leads_line (live_in clauses) marks (literals_of (step ∷ new.steps)) [] clause hints analysis.leads (λ t k. absurd (false≢true k)) in_clause (λ l h. inr (on_trail l h).0) plain_clause)
+  lesson_derived = concluded_derived clauses variables entries clause marks hints fit analysis
 
   pub lesson_tied : HoldsHintedSelectors entries clause hints
-  lesson_tied h has c at l m sel = elim (analysis.tied h c l has (fit.same h ∙ at) m sel) [
-    | inl k ↦ absurd (false≢true k)
-    | inr t ↦ ap (holds clause) (sym (opposite-opposite l)) ∙ in_clause (opposite l) t.0 (ap (marked marks) (opposite-variable l) ∙ t.1)
-  ]
+  lesson_tied = concluded_tied clauses variables entries clause marks hints fit analysis
 
   pub lesson_stands : (l : Literal) → holds clause l ≡ true → Stands entries l
   lesson_stands l h = record {
-    named = ap (λ v. is_some (name_of entries v)) (sym (opposite-variable l)) ∙ trail_named entries assumptions clauses (step ∷ new.steps) stand lesson_sound lesson_guided (opposite l) (on_trail l h).0;
-    negated = λ sel.
-        let t = on_trail l h in
-        let n : is_negative (opposite l) ≡ false = analysis.plain (opposite l) t.0 (ap (marked marks) (opposite-variable l) ∙ t.1) (ap (is_selector entries) (opposite-variable l) ∙ sel) in
-        negated_back (is_negative l) (sym (opposite-negative l) ∙ n);
+    named = ap (λ v. is_some (name_of entries v)) (sym (opposite-variable l)) ∙ trail_named entries assumptions clauses (step ∷ new.steps) stand lesson_sound lesson_guided (opposite l) (on_trail l h);
+    negated = lesson.negated entries stand l h;
   }
-    where
-      negated_back : (b : Bool) → not b ≡ false → b ≡ true
-      negated_back true e = refl
-      negated_back false e = absurd (false≢true (sym e))
 
   pub lesson_no_selector : is_selector entries (variable_of step.literal) ≡ false
   lesson_no_selector = false_from_ne_true (is_selector entries (variable_of step.literal)) (λ sel.
-      let positive' = analysis.plain step.literal (holds_first step.literal (literals_of new.steps)) lesson.mark sel in
+      let negative' = lesson.negated entries stand (opposite step.literal) lesson.has_first (ap (is_selector entries) (opposite-variable step.literal) ∙ sel) in
+      let positive' = turned (is_negative step.literal) (sym (opposite-negative step.literal) ∙ negative') in
       elim (cases_Bool (is_decision step)) [
         | inl was ↦
             let e = newest_decision step new.steps d was (lesson.level ∙ decided) in
@@ -199,6 +160,10 @@ module _ (entries : List Entry) (assumptions : List Literal) (clauses : List (Li
             ]
         | inr other ↦ false≢true (sym positive' ∙ implied_negative entries clauses new.steps step stand lesson_sound other sel)
       ])
+    where
+      turned : (b : Bool) → not b ≡ true → b ≡ false
+      turned true e = absurd (false≢true e)
+      turned false e = refl
 
   abbrev pub below : List Step
   below = cond (is_decision step) new.steps (under_level new.steps)
@@ -358,7 +323,7 @@ module _ (clauses : List (List Literal)) (clause : List Literal) where
             )
       ]
 
-free_suffix : (popped steps : List Step) (l : Literal) → IsFree (literals_of (popped ++ steps)) l → IsFree (literals_of steps) l
+pub free_suffix : (popped steps : List Step) (l : Literal) → IsFree (literals_of (popped ++ steps)) l → IsFree (literals_of steps) l
 free_suffix [] steps l free = free
 free_suffix (s ∷ popped) steps l free = free_suffix popped steps l (free_later s.literal (literals_of (popped ++ steps)) l free)
 

@@ -114,13 +114,13 @@ literal_kept model trues kept consistent (negative (suc i)) h low high =
     consistent (negative (suc i)) h (value_true trues (positive (suc i)) ((kept i lt).0 on))) in
     ap (λ n. not (slice_index_or model n false)) at ∙ ap not off
 
-pub found_model : (assumptions : List Literal) (s : Searcher) (model : List Bool) (old new : ProofLog) → Fit s.clauses.items s.variables new.entries → HasLearned old new → AreAssumptions old assumptions
+pub found_model : (assumptions : List Literal) (s : Searcher) (model : List Bool) (old new : ProofLog) → Fit s.clauses.clauses s.variables new.entries → HasLearned old new → AreAssumptions old assumptions
     → IsSatisfied assumptions s → length model ≡ s.variables → AreKept model (literals_of s.trail.steps)
     → IsModelUnder (λ v. slice_index_or model (v - 1) false) (clause_at new.entries) assumptions
 found_model assumptions s model old new fit learned are satisfied long kept =
     let trues = literals_of s.trail.steps in
     let values : Assignment = λ v. slice_index_or model (v - 1) false in
-    let consistent = sound_consistent (live_in s.clauses.items) s.trail.steps satisfied.sound in
+    let consistent = sound_consistent (live_in s.clauses.clauses) s.trail.steps satisfied.sound in
     let one : (l : Literal) → IsSome (name_of new.entries (variable_of l)) → holds trues l ≡ true → literal_true values l ≡ true = λ l named h.
     let r = fit.in_range (variable_of l) named in
     let low = r.0 in
@@ -129,7 +129,7 @@ found_model assumptions s model old new fit learned are satisfied long kept =
     let later = assumptions_same old new assumptions learned are in
     record {
       clauses = λ id c at.
-          let some = clause_of_all (λ d. list_any (holds trues) d ≡ true) s.clauses.items satisfied.clauses id c (fit.same id ∙ at) in
+          let some = clause_of_all (λ d. list_any (holds trues) d ≡ true) s.clauses.clauses satisfied.clauses id c (fit.same id ∙ at) in
           let r = any_gives (holds trues) c some in
           any_one (literal_true values) c r.0 r.1 (one r.0 (fit.negated id c r.0 at r.1).named r.2);
       assumptions_true = all_of (λ l. literal_true values l ≡ true) assumptions (λ l h. one l (later.named l h) (satisfied.assumed l h));

@@ -4,11 +4,15 @@ pub mod Extension
 pub mod Growing
 pub mod Lessons
 pub mod Marks
+pub mod Noting
 pub mod Passes
+pub mod Pieces
+pub mod Runs
 pub mod Scanning
 pub mod Searching
 pub mod Solver
 pub mod Sound
 pub mod Steps
+pub mod Storage
 pub mod Table
 pub mod TrailInside

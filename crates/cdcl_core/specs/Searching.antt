@@ -16,11 +16,11 @@ use Rattle.cdcl_core.specs.Sound.{IsSound, IsGuided, AreTrue}
 
 -- the searcher goes with the log, and its trail is one
 pub record IsSearching (assumptions : List Literal) (s : Searcher) (log : ProofLog) : Type 0 where
-  pub fit : Fit s.clauses.items s.variables log.entries
-  pub sound : IsSound (live_in s.clauses.items) s.trail.steps
+  pub fit : Fit s.clauses.clauses s.variables log.entries
+  pub sound : IsSound (live_in s.clauses.clauses) s.trail.steps
   pub guided : IsGuided log.entries assumptions s.trail.steps
   pub room : s.variables ≤ s.trail.room
-  pub marks : s.trail.room < length s.marks.items
+  pub marks : s.trail.room < length s.notes.marks
 
 -- assumptions stand on variables that have names, and not beside their negations
 pub record AreAssumptions (log : ProofLog) (assumptions : List Literal) : Type 0 where
@@ -31,6 +31,12 @@ pub record AreAssumptions (log : ProofLog) (assumptions : List Literal) : Type 0
 -- how far a search is from its end
 abbrev pub left_of : Searcher → ProofLog → ℕ
 left_of s log = (log.limit - steps_of log.entries) * (s.trail.room + 1) + (s.trail.room - length s.trail.steps)
+
+-- the variables, and the places for them
+pub record KeepsPlaces (s t : Searcher) : Type 0 where
+  pub variables : t.variables ≡ s.variables
+  pub room : t.trail.room ≡ s.trail.room
+  pub marks : length t.notes.marks ≡ length s.notes.marks
 
 -- what a turn that doesn't end the search comes to
 pub record HasTurned (assumptions : List Literal) (s t : Searcher) (old new : ProofLog) : Type 0 where
@@ -47,9 +53,9 @@ pub record IsTurn (assumptions : List Literal) (s t : Searcher) (old new : Proof
 
 -- the trail makes every assumption and every clause true
 pub record IsSatisfied (assumptions : List Literal) (s : Searcher) : Type 0 where
-  pub sound : IsSound (live_in s.clauses.items) s.trail.steps
+  pub sound : IsSound (live_in s.clauses.clauses) s.trail.steps
   pub assumed : AreTrue assumptions (literals_of s.trail.steps)
-  pub clauses : All (λ c. list_any (holds (literals_of s.trail.steps)) c ≡ true) s.clauses.items
+  pub clauses : All (λ c. list_any (holds (literals_of s.trail.steps)) c ≡ true) s.clauses.clauses
 
 abbrev pub IsFound : List Literal → Searcher → ProofLog → ProofLog → Found → Type 0
 IsFound assumptions s old new Sat = HasLearned old new × IsSatisfied assumptions s
@@ -57,13 +63,11 @@ IsFound assumptions s old new (Unsat id) = IsRefutedUnder old new assumptions id
 
 -- marks have a place for each variable that there is room for
 abbrev pub HasRoom : Searcher → Type 0
-HasRoom s = (s.trail.room ≡ 0) ⊎ (s.trail.room < length s.marks.items)
+HasRoom s = (s.trail.room ≡ 0) ⊎ (s.trail.room < length s.notes.marks)
 
 -- how far a search has come
 pub record IsRunning (assumptions : List Literal) (s t : Searcher) (old new : ProofLog) : Type 0 where
   pub searching : IsSearching assumptions t new
   pub few : length t.trail.steps ≤ t.trail.room
   pub learned : HasLearned old new
-  pub variables : t.variables ≡ s.variables
-  pub room : t.trail.room ≡ s.trail.room
-  pub marks : length t.marks.items ≡ length s.marks.items
+  pub places : KeepsPlaces s t

@@ -1,6 +1,10 @@
 ghost use Rattle.std.specs.Prelude.{◌≡◌, ◌≤◌, ◌<◌, ◌-◌, ◌^◌, false};
 
-use crate::finding::{find, group_clause, grow, keep_given};
+use crate::activities::Activities;
+use crate::calls::{find, group_clause, grow, keep_given};
+use crate::clauses::ClauseStore;
+use crate::notes::Notes;
+use crate::restarts::Restarts;
 use crate::searchers::Searcher;
 use crate::trails::Trail;
 use dq_lits::{Lit, Memory};
@@ -41,9 +45,11 @@ impl Cdcl {
             searcher: Searcher {
                 alloc,
                 variables: 0,
-                clauses: Vec::new(alloc),
+                clauses: ClauseStore::new(alloc),
                 trail: Trail::new(alloc),
-                marks: Vec::new(alloc),
+                notes: Notes::new(alloc),
+                activities: Activities::new(alloc),
+                restarts: Restarts::new(),
             },
             tenants: 0,
             model: Vec::new(alloc),
@@ -102,7 +108,7 @@ impl Oracle for Cdcl {
         log: &mut Log,
     ) -> Result<u64, Memory> {
         let clause = group_clause(self.searcher.alloc, g.selector, lits)?;
-        let id = keep_given(&mut self.searcher.clauses, clause, origin, log)?;
+        let id = keep_given(&mut self.searcher.clauses, &clause, origin, log)?;
         self.is_told = false;
         Ok(id)
     }

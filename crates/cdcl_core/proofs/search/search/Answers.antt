@@ -27,9 +27,11 @@ turns-preserved c =
       searching = turned.searching;
       few = turned.few;
       learned = learned_both c.args.log.now c.turns.log c.turn.new.log inv.learned turned.learned;
-      variables = c.turn.ensures.variables ∙ inv.variables;
-      room = c.turn.ensures.room ∙ inv.room;
-      marks = c.turn.ensures.marks ∙ inv.marks;
+      places = record {
+        variables = c.turn.ensures.places.variables ∙ inv.places.variables;
+        room = c.turn.ensures.places.room ∙ inv.places.room;
+        marks = c.turn.ensures.places.marks ∙ inv.places.marks;
+      };
     }
 
 pub returns-in-Some-clause-ok : goal.returns-in-Some-clause-ok
