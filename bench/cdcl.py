@@ -1,0 +1,184 @@
+#!/usr/bin/env python3
+"""Makes formulas, solves each by the built solver and by minisat, compares the answers, checks each model and each refutation, and
+prints how many conflicts either had.
+
+Usage: bench/cdcl.py [--callgrind] [NAME..]     all formulas, or those whose names begin with a NAME
+
+The program is crates/cdcl_cases/out/cdcl_cases, which `rt run` in crates/cdcl_cases builds; minisat and valgrind are Debian's.
+"""
+
+import itertools
+import math
+import os
+import random
+import re
+import subprocess
+import sys
+import tempfile
+import time
+
+TOP = os.path.dirname(os.path.dirname(os.path.abspath(__file__)))
+SOLVER = os.path.join(TOP, "crates", "cdcl_cases", "out", "cdcl_cases")
+SECONDS = 100
+
+
+def random_formula(variables, seed):
+    """Random clauses of three literals, 4.26 for each variable."""
+    rng = random.Random(f"{variables} {seed}")
+    clauses = []
+    for _ in range(round(4.26 * variables)):
+        chosen = rng.sample(range(1, variables + 1), 3)
+        clauses.append([v if rng.random() < 0.5 else -v for v in chosen])
+    return variables, clauses
+
+
+def pigeons(holes):
+    """One pigeon more than holes."""
+    def at(pigeon, hole):
+        return pigeon * holes + hole + 1
+
+    clauses = [[at(p, h) for h in range(holes)] for p in range(holes + 1)]
+    for h in range(holes):
+        for p, q in itertools.combinations(range(holes + 1), 2):
+            clauses.append([-at(p, h), -at(q, h)])
+    return holes * (holes + 1), clauses
+
+
+def parity_chain(length, seed):
+    """Two chains that sum the same bits in different orders, and differ."""
+    rng = random.Random(f"parity {length} {seed}")
+    variables, clauses = length, []
+
+    def chain(order):
+        nonlocal variables
+        total = order[0]
+        for bit in order[1:]:
+            variables += 1
+            a, b, c = total, bit, variables
+            clauses.extend([[-a, -b, -c], [a, b, -c], [a, -b, c], [-a, b, c]])
+            total = variables
+        return total
+
+    order = list(range(1, length + 1))
+    first = chain(order)
+    rng.shuffle(order)
+    second = chain(order)
+    clauses.extend([[first, second], [-first, -second]])
+    return variables, clauses
+
+
+def formulas():
+    for variables in (100, 120, 140):
+        for seed in range(10):
+            yield f"random-{variables}-{seed}", random_formula(variables, seed)
+    for holes in (6, 7):
+        yield f"pigeons-{holes}", pigeons(holes)
+    for seed in range(10):
+        yield f"parity-10-{seed}", parity_chain(10, seed)
+
+
+def text_of(variables, clauses):
+    lines = [f"p cnf {variables} {len(clauses)}"]
+    lines.extend(" ".join(map(str, clause + [0])) for clause in clauses)
+    return "\n".join(lines) + "\n"
+
+
+def is_model(clauses, literals):
+    true = set(literals)
+    return all(any(l in true for l in clause) for clause in clauses)
+
+
+def is_refutation(clauses, lines):
+    """Each hint but a line's last is unit in its turn, and the last one is falsified; the last line is empty."""
+    live = {i + 1: clause for i, clause in enumerate(clauses)}
+    last = None
+    for number, literals, hints in lines:
+        true = {-l for l in literals}
+        for place, hint in enumerate(hints):
+            left = {l for l in live[hint] if -l not in true}
+            if not left:
+                if place + 1 < len(hints):
+                    return False
+                break
+            if len(left) > 1 or left & true:
+                return False
+            true |= left
+        else:
+            return False
+        live[number] = literals
+        last = literals
+    return last == []
+
+
+def solve(path, clauses):
+    """The answer, how many clauses were learned, and the seconds."""
+    began = time.monotonic()
+    try:
+        run = subprocess.run([SOLVER, path], capture_output=True, text=True, timeout=SECONDS)
+    except subprocess.TimeoutExpired:
+        return "timeout", None, SECONDS
+    seconds = time.monotonic() - began
+    lines = run.stdout.split("\n")
+    learned = int(re.search(r"^c (\d+) learned$", run.stdout, re.M).group(1))
+    if lines[0] == "s SATISFIABLE":
+        literals = [int(word) for word in lines[1].split()[1:-1]]
+        return ("true" if is_model(clauses, literals) else "WRONG MODEL"), learned, seconds
+    steps = []
+    for line in lines[1:]:
+        if line and line[0].isdigit():
+            numbers = [int(word) for word in line.split()]
+            zero = numbers.index(0)
+            steps.append((numbers[0], numbers[1:zero], numbers[zero + 1 : -1]))
+    return ("false" if is_refutation(clauses, steps) else "WRONG REFUTATION"), learned, seconds
+
+
+def minisat(path):
+    run = subprocess.run(["minisat", path], capture_output=True, text=True)
+    conflicts = int(re.search(r"conflicts\s*:\s*(\d+)", run.stdout).group(1))
+    return {10: "true", 20: "false"}[run.returncode], conflicts
+
+
+def instructions(command):
+    with tempfile.TemporaryDirectory() as folder:
+        run = subprocess.run(
+            ["valgrind", "--tool=callgrind", f"--callgrind-out-file={folder}/out", *command], capture_output=True, text=True
+        )
+    found = re.search(r"Collected : (\d+)", run.stderr)
+    return int(found.group(1)) if found else None
+
+
+def mean(numbers):
+    return math.exp(sum(math.log(n) for n in numbers) / len(numbers)) if numbers else float("nan")
+
+
+def main():
+    names = [word for word in sys.argv[1:] if not word.startswith("--")]
+    counted = "--callgrind" in sys.argv
+    ratios, kinds, wrong = [], {}, 0
+    with tempfile.TemporaryDirectory() as folder:
+        for name, (variables, clauses) in formulas():
+            if names and not any(name.startswith(n) for n in names):
+                continue
+            path = os.path.join(folder, "formula.cnf")
+            with open(path, "w") as file:
+                file.write(text_of(variables, clauses))
+            answer, learned, seconds = solve(path, clauses)
+            other, conflicts = minisat(path)
+            agrees = answer == other or answer == "timeout"
+            wrong += not agrees
+            print(f"{name:16} {answer:8} {learned!s:>8} {conflicts:>8} {seconds:8.2f} s" + ("" if agrees else f"  minisat says {other}"), end="")
+            if counted:
+                print(f" {instructions([SOLVER, path]):>14} {instructions(['minisat', path]):>14}", end="")
+            print(flush=True)
+            if learned is not None:
+                ratio = (learned + 1) / (conflicts + 1)
+                ratios.append(ratio)
+                kinds.setdefault(name.rsplit("-", 1)[0], []).append((ratio, learned + 1, conflicts + 1, seconds))
+    for kind, rows in kinds.items():
+        print(f"{kind:12} {len(rows):3} formulas: {mean([r[1] for r in rows]):9.0f} learned, {mean([r[2] for r in rows]):9.0f} conflicts of minisat, ratio {mean([r[0] for r in rows]):.2f}, {sum(r[3] for r in rows):.1f} s")
+    print(f"geometric mean of the ratios: {mean(ratios):.2f}; wrong answers: {wrong}")
+    return 1 if wrong else 0
+
+
+if __name__ == "__main__":
+    sys.exit(main())
