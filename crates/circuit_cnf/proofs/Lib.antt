@@ -6,3 +6,4 @@ mod Inputting
 mod SideLeaves
 mod ConeLiterals
 mod Badding
+mod Faulting

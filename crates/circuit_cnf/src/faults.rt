@@ -1,18 +1,25 @@
-ghost use Rattle.std.specs.Prelude.{◌≡◌, ℕ, true, false, List, length, map, IfOk, Some};
+ghost use Rattle.std.specs.Prelude.{◌≡◌, ◌≤◌, ◌+◌, ◌∷◌, ◌⊎◌, ℕ, true, false, List, length, map, Contains, IfOk, OnOk, Some, None};
 ghost use Rattle.std.specs.List.{range_with_len};
 ghost use Rattle.dq_lits.specs.Formula.{Dqbf};
-ghost use Rattle.dq_lits.specs.Literal.{variable_of};
+ghost use Rattle.std.specs.Option.{option_map};
+ghost use Rattle.dq_lits.specs.Literal.{Literal, negative, is_negative, variable_of};
 ghost use Rattle.hint_log.specs.declared.entries.Entry.{Entry};
+ghost use Rattle.hint_log.specs.declared.entries.Entry.TheVariants.{Given};
 ghost use Rattle.hint_log.specs.declared.names.Name.TheVariants.{Bad};
-ghost use Rattle.hint_log.specs.Entries.{name_of};
+ghost use Rattle.hint_log.specs.declared.origins.Leaf.{Leaf as OriginLeaf};
+ghost use Rattle.hint_log.specs.declared.origins.Origin.TheVariants.{Fault};
+ghost use Rattle.hint_log.specs.Entries.{name_of, rounds_of, with_entry};
 ghost use Rattle.hint_log.specs.Growth.{Grew};
 ghost use Rattle.hint_log.specs.Naming.{named_literal, AreNamedAs};
+ghost use Rattle.hint_log.specs.Origins.{leaf_with_sign, matrix_literal, IsLeafOf};
 ghost use Rattle.hint_log.specs.ProductiveLog.{fault_groups};
 ghost use Rattle.log_laws.specs.Engines.{circuits, IsAddedBy};
+ghost use Rattle.oracle.specs.Calls.{IsMade};
+ghost use Rattle.circuit_cnf.specs.Faults.{HasFault};
 
 use dq_formula::Formula;
 use dq_lits::{Lit, Memory};
-use hint_log::{Log, Name};
+use hint_log::{Leaf, Log, Name, Origin};
 use oracle::{Group, Oracle};
 use std::alloc::Global;
 
@@ -42,4 +49,63 @@ pub(crate) fn name_bads<O: Oracle>(
         bads.push(Lit::pos(v))?;
     }
     Ok(bads)
+}
+
+// Gives the fault of a literal of a clause, unless it is true anyway.
+pub(crate) fn give_fault<O: Oracle>(
+    oracle: &mut O,
+    group: &Group,
+    f: &Formula,
+    bad: Lit,
+    literal: Lit,
+    output: &Leaf,
+    clause: u64,
+    place: u64,
+    log: &mut Log,
+) -> Result<(), Memory>
+    requires fit { O.Fits oracle.old log.old }
+    requires made { IsMade log.old.entries group.now }
+    requires clause_from_one { 1 ≤ clause }
+    requires literal { matrix_literal f.now clause place ≡ Some literal }
+    requires leaf { IsLeafOf f.now log.old.entries (variable_of literal) output.now }
+    requires bad { name_of log.old.entries (variable_of bad) ≡ Some (Bad (variable_of group.now.selector) clause) }
+    requires positive { is_negative bad ≡ false }
+    requires few { (rest : List Literal) → length (fault_groups (Given (Fault clause place output.now) (negative (variable_of group.now.selector) ∷ rest) ∷ log.old.entries)) ≤ rounds_of log.old.entries + 1 }
+    requires one_leaf { (j i v : ℕ) (out : OriginLeaf) (rest : List Literal) → Contains log.old.entries (Given (Fault j i out) (negative (variable_of group.now.selector) ∷ rest))
+        → option_map variable_of (matrix_literal f.now j i) ≡ Some v → v ≡ variable_of literal → out ≡ output.now }
+    ensures fit { O.Fits oracle.new log.new }
+    ensures grew { (standing : ℕ) (start : List Entry) → name_of start (variable_of group.now.selector) ≡ None → Grew (IsAddedBy f.now circuits standing true start) log.old log.new }
+    ensures given { OnOk result (HasFault (variable_of group.now.selector) (variable_of bad) clause place literal output.now log.new.entries) }
+    ensures at_most { (log.new ≡ log.old) ⊎ ((rest : List Literal) × (log.new ≡ with_entry log.old (Given (Fault clause place output.now) (negative (variable_of group.now.selector) ∷ rest)))) }
+{
+    match signed_leaf(output, !literal.is_neg()) {
+        Leaf::Constant(true) => Ok(()),
+        Leaf::Constant(false) => {
+            oracle.add(group, &[bad.not()], fault(clause, place, output), log)?;
+            Ok(())
+        }
+        Leaf::Literal(l) => {
+            oracle.add(group, &[bad.not(), l], fault(clause, place, output), log)?;
+            Ok(())
+        }
+    }
+}
+
+fn fault(clause: u64, place: u64, output: &Leaf) -> Origin
+    ensures { result ≡ Fault clause place output.now }
+{
+    Origin::Fault {
+        clause,
+        place,
+        output: *output,
+    }
+}
+
+fn signed_leaf(leaf: &Leaf, negated: bool) -> Leaf
+    ensures { result ≡ leaf_with_sign negated leaf.now }
+{
+    match *leaf {
+        Leaf::Constant(b) => Leaf::Constant(b != negated),
+        Leaf::Literal(l) => Leaf::Literal(if negated { l.not() } else { l }),
+    }
 }
