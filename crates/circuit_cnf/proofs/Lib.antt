@@ -7,3 +7,4 @@ mod SideLeaves
 mod ConeLiterals
 mod Badding
 mod Faulting
+mod ClauseFaults

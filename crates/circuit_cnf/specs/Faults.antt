@@ -1,13 +1,16 @@
 -- Faults that are given to a group.
-use Rattle.std.specs.Prelude.{◌≡◌, ◌⊎◌, ℕ, not, List, ◌∷◌, Some, None}
+use Rattle.std.specs.Prelude.{◌≡◌, ◌⊎◌, ◌+◌, ◌≤◌, ◌<◌, ◌==◌, ℕ, false, not, List, ◌∷◌, map, length, Option, Some, None, position, slice_get, slice_index_or}
 use Rattle.std.specs.List.{Contains}
 use Rattle.std.specs.Option.{option_map}
-use Rattle.dq_lits.specs.Literal.{Literal, negative, variable_of, is_negative}
+use Rattle.dq_lits.specs.Literal.{Literal, positive, negative, variable_of, is_negative}
 use Rattle.dq_lits.specs.Formula.{Dqbf}
 use Rattle.hint_log.specs.declared.entries.Entry.{Entry}
 use Rattle.hint_log.specs.declared.entries.Entry.TheVariants.{Given}
 use Rattle.hint_log.specs.declared.origins.Leaf.{Leaf}
+use Rattle.hint_log.specs.declared.origins.Leaf.TheVariants.{Constant, Literal as LeafLiteral}
 use Rattle.hint_log.specs.declared.origins.Origin.TheVariants.{Fault}
+use Rattle.hint_log.specs.Entries.{rounds_of}
+use Rattle.hint_log.specs.ProductiveLog.{fault_groups}
 use Rattle.hint_log.specs.Origins.{leaf_with_sign, leaf_clause, matrix_literal}
 
 -- the faults in the group have these leaves
@@ -21,3 +24,20 @@ HasFault group bad j i literal leaf entries =
     (leaf_clause (leaf_with_sign (not (is_negative literal)) leaf) ≡ None)
     ⊎ ((tail : List Literal) × (leaf_clause (leaf_with_sign (not (is_negative literal)) leaf) ≡ Some tail)
     × Contains entries (Given (Fault j i leaf) (negative group ∷ negative bad ∷ tail)))
+
+-- the leaf of a variable: a universal's input, or its existential's output
+abbrev pub leaf_by_place : List Literal → List Leaf → Option ℕ → Option ℕ → Leaf
+leaf_by_place inputs outputs (Some i) _ = LeafLiteral (slice_index_or inputs i (positive 0))
+leaf_by_place inputs outputs None (Some k) = slice_index_or outputs k (Constant false)
+leaf_by_place inputs outputs None None = Constant false
+
+abbrev pub leaf_of : Dqbf → List Literal → List Leaf → ℕ → Leaf
+leaf_of f inputs outputs v = leaf_by_place inputs outputs (position (λ u. u == v) f.universals) (position (λ y. y == v) (map (λ y. y.variable) f.existentials))
+
+-- a fault more in the group leaves the groups that were given faults few
+abbrev pub AreFewWith : ℕ → List Entry → Type 0
+AreFewWith group entries = (j i : ℕ) (out : Leaf) (rest : List Literal) → length (fault_groups (Given (Fault j i out) (negative group ∷ rest) ∷ entries)) ≤ rounds_of entries + 1
+
+-- each of the first literals of a clause has its fault
+abbrev pub HaveFaults : Dqbf → ℕ → ℕ → ℕ → (ℕ → Leaf) → List Literal → ℕ → List Entry → Type 0
+HaveFaults f group bad j leaf clause count entries = (i : ℕ) (l : Literal) → i < count → slice_get clause i ≡ Some l → HasFault group bad j (i + 1) l (leaf (variable_of l)) entries

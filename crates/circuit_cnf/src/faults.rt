@@ -1,6 +1,6 @@
-ghost use Rattle.std.specs.Prelude.{◌≡◌, ◌≤◌, ◌+◌, ◌∷◌, ◌⊎◌, ℕ, true, false, List, length, map, Contains, IfOk, OnOk, Some, None};
+ghost use Rattle.std.specs.Prelude.{◌≡◌, ◌≤◌, ◌<◌, ◌+◌, ◌∷◌, ◌⊎◌, ℕ, true, false, List, length, map, Contains, All, slice_index_or, [], IfOk, OnOk, Some, None};
 ghost use Rattle.std.specs.List.{range_with_len};
-ghost use Rattle.dq_lits.specs.Formula.{Dqbf};
+ghost use Rattle.dq_lits.specs.Formula.{Dqbf, declared};
 ghost use Rattle.std.specs.Option.{option_map};
 ghost use Rattle.dq_lits.specs.Literal.{Literal, negative, is_negative, variable_of};
 ghost use Rattle.hint_log.specs.declared.entries.Entry.{Entry};
@@ -15,7 +15,7 @@ ghost use Rattle.hint_log.specs.Origins.{leaf_with_sign, matrix_literal, IsLeafO
 ghost use Rattle.hint_log.specs.ProductiveLog.{fault_groups};
 ghost use Rattle.log_laws.specs.Engines.{circuits, IsAddedBy};
 ghost use Rattle.oracle.specs.Calls.{IsMade};
-ghost use Rattle.circuit_cnf.specs.Faults.{HasFault};
+ghost use Rattle.circuit_cnf.specs.Faults.{HasFault, HaveFaults, HaveOneLeaf, AreFewWith, leaf_of};
 
 use dq_formula::Formula;
 use dq_lits::{Lit, Memory};
@@ -107,5 +107,67 @@ fn signed_leaf(leaf: &Leaf, negated: bool) -> Leaf
     match *leaf {
         Leaf::Constant(b) => Leaf::Constant(b != negated),
         Leaf::Literal(l) => Leaf::Literal(if negated { l.not() } else { l }),
+    }
+}
+
+// Gives the faults of a clause, by its number from 0 on.
+pub(crate) fn clause_faults<O: Oracle>(
+    oracle: &mut O,
+    group: &Group,
+    f: &Formula,
+    inputs: &[Lit],
+    outputs: &[Leaf],
+    bad: Lit,
+    j: usize,
+    log: &mut Log,
+) -> Result<(), Memory>
+    requires fit { O.Fits oracle.old log.old }
+    requires made { IsMade log.old.entries group.now }
+    requires clause { j < length f.now.matrix }
+    requires input_count { length inputs.now ≡ length f.now.universals }
+    requires output_count { length outputs.now ≡ length f.now.existentials }
+    requires leaves { (v : ℕ) → Contains (declared f.now) v → IsLeafOf f.now log.old.entries v (leaf_of f.now inputs.now outputs.now v) }
+    requires bound { All (All (λ l. Contains (declared f.now) (variable_of l))) f.now.matrix }
+    requires bad { name_of log.old.entries (variable_of bad) ≡ Some (Bad (variable_of group.now.selector) (j + 1)) }
+    requires positive { is_negative bad ≡ false }
+    requires few { AreFewWith (variable_of group.now.selector) log.old.entries }
+    requires one_leaf { HaveOneLeaf f.now (variable_of group.now.selector) (leaf_of f.now inputs.now outputs.now) log.old.entries }
+    ensures fit { O.Fits oracle.new log.new }
+    ensures grew { (standing : ℕ) (start : List Entry) → name_of start (variable_of group.now.selector) ≡ None → Grew (IsAddedBy f.now circuits standing true start) log.old log.new }
+    ensures names { (v : ℕ) → name_of log.new.entries v ≡ name_of log.old.entries v }
+    ensures few { AreFewWith (variable_of group.now.selector) log.new.entries }
+    ensures one_leaf { HaveOneLeaf f.now (variable_of group.now.selector) (leaf_of f.now inputs.now outputs.now) log.new.entries }
+    ensures given { OnOk result (HaveFaults f.now (variable_of group.now.selector) (variable_of bad) (j + 1) (leaf_of f.now inputs.now outputs.now) (slice_index_or f.now.matrix j [])
+        (length (slice_index_or f.now.matrix j [])) log.new.entries) }
+{
+    f.every_formula_is_lawful();
+    let clause = f.clause(j);
+    for i in 0..clause.len() {
+        let output = variable_leaf(f, inputs, outputs, clause[i].var());
+        give_fault(
+            oracle,
+            group,
+            f,
+            bad,
+            clause[i],
+            &output,
+            j as u64 + 1,
+            i as u64 + 1,
+            log,
+        )?;
+    }
+    Ok(())
+}
+
+// The leaf of a variable that is declared.
+fn variable_leaf(f: &Formula, inputs: &[Lit], outputs: &[Leaf], v: u64) -> Leaf
+    requires input_count { length inputs.now ≡ length f.now.universals }
+    requires output_count { length outputs.now ≡ length f.now.existentials }
+    ensures { result ≡ leaf_of f.now inputs.now outputs.now v }
+{
+    match (f.universal_place(v), f.existential_place(v)) {
+        (Some(i), _) => Leaf::Literal(inputs[i]),
+        (None, Some(k)) => outputs[k],
+        (None, None) => Leaf::Constant(false),
     }
 }
