@@ -8,3 +8,4 @@ mod ConeLiterals
 mod Badding
 mod Faulting
 mod ClauseFaults
+mod AllFaults

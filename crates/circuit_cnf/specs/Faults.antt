@@ -1,5 +1,5 @@
 -- Faults that are given to a group.
-use Rattle.std.specs.Prelude.{◌≡◌, ◌⊎◌, ◌+◌, ◌≤◌, ◌<◌, ◌==◌, ℕ, false, not, List, ◌∷◌, map, length, Option, Some, None, position, slice_get, slice_index_or}
+use Rattle.std.specs.Prelude.{◌≡◌, ◌⊎◌, ◌+◌, ◌≤◌, ◌<◌, ◌==◌, ℕ, false, not, List, [], ◌∷◌, map, length, Option, Some, None, position, slice_get, slice_index_or}
 use Rattle.std.specs.List.{Contains}
 use Rattle.std.specs.Option.{option_map}
 use Rattle.dq_lits.specs.Literal.{Literal, positive, negative, variable_of, is_negative}
@@ -9,7 +9,8 @@ use Rattle.hint_log.specs.declared.entries.Entry.TheVariants.{Given}
 use Rattle.hint_log.specs.declared.origins.Leaf.{Leaf}
 use Rattle.hint_log.specs.declared.origins.Leaf.TheVariants.{Constant, Literal as LeafLiteral}
 use Rattle.hint_log.specs.declared.origins.Origin.TheVariants.{Fault}
-use Rattle.hint_log.specs.Entries.{rounds_of}
+use Rattle.hint_log.specs.declared.names.Name.TheVariants.{Bad}
+use Rattle.hint_log.specs.Entries.{name_of, rounds_of}
 use Rattle.hint_log.specs.ProductiveLog.{fault_groups}
 use Rattle.hint_log.specs.Origins.{leaf_with_sign, leaf_clause, matrix_literal}
 
@@ -41,3 +42,13 @@ AreFewWith group entries = (j i : ℕ) (out : Leaf) (rest : List Literal) → le
 -- each of the first literals of a clause has its fault
 abbrev pub HaveFaults : Dqbf → ℕ → ℕ → ℕ → (ℕ → Leaf) → List Literal → ℕ → List Entry → Type 0
 HaveFaults f group bad j leaf clause count entries = (i : ℕ) (l : Literal) → i < count → slice_get clause i ≡ Some l → HasFault group bad j (i + 1) l (leaf (variable_of l)) entries
+
+-- the literal at a place says that this clause is false in the group
+pub record IsBadAt (group j : ℕ) (bads : List Literal) (entries : List Entry) : Type 0 where
+  pub named : name_of entries (variable_of (slice_index_or bads j (positive 0))) ≡ Some (Bad group (j + 1))
+  pub positive_literal : is_negative (slice_index_or bads j (positive 0)) ≡ false
+
+-- each literal of each of the first clauses has its fault
+abbrev pub HaveAllFaults : Dqbf → ℕ → List Literal → (ℕ → Leaf) → ℕ → List Entry → Type 0
+HaveAllFaults f group bads leaf count entries = (j : ℕ) → j < count
+    → HaveFaults f group (variable_of (slice_index_or bads j (positive 0))) (j + 1) leaf (slice_index_or f.matrix j []) (length (slice_index_or f.matrix j [])) entries

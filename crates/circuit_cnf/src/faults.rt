@@ -15,7 +15,7 @@ ghost use Rattle.hint_log.specs.Origins.{leaf_with_sign, matrix_literal, IsLeafO
 ghost use Rattle.hint_log.specs.ProductiveLog.{fault_groups};
 ghost use Rattle.log_laws.specs.Engines.{circuits, IsAddedBy};
 ghost use Rattle.oracle.specs.Calls.{IsMade};
-ghost use Rattle.circuit_cnf.specs.Faults.{HasFault, HaveFaults, HaveOneLeaf, AreFewWith, leaf_of};
+ghost use Rattle.circuit_cnf.specs.Faults.{HasFault, HaveFaults, HaveOneLeaf, AreFewWith, leaf_of, IsBadAt, HaveAllFaults};
 
 use dq_formula::Formula;
 use dq_lits::{Lit, Memory};
@@ -170,4 +170,37 @@ fn variable_leaf(f: &Formula, inputs: &[Lit], outputs: &[Leaf], v: u64) -> Leaf
         (None, Some(k)) => outputs[k],
         (None, None) => Leaf::Constant(false),
     }
+}
+
+// Gives the faults of all clauses.
+pub(crate) fn all_faults<O: Oracle>(
+    oracle: &mut O,
+    group: &Group,
+    f: &Formula,
+    inputs: &[Lit],
+    outputs: &[Leaf],
+    bads: &[Lit],
+    log: &mut Log,
+) -> Result<(), Memory>
+    requires fit { O.Fits oracle.old log.old }
+    requires made { IsMade log.old.entries group.now }
+    requires input_count { length inputs.now ≡ length f.now.universals }
+    requires output_count { length outputs.now ≡ length f.now.existentials }
+    requires leaves { (v : ℕ) → Contains (declared f.now) v → IsLeafOf f.now log.old.entries v (leaf_of f.now inputs.now outputs.now v) }
+    requires bound { All (All (λ l. Contains (declared f.now) (variable_of l))) f.now.matrix }
+    requires bad_count { length bads.now ≡ length f.now.matrix }
+    requires bads { (j : ℕ) → j < length f.now.matrix → IsBadAt (variable_of group.now.selector) j bads.now log.old.entries }
+    requires few { AreFewWith (variable_of group.now.selector) log.old.entries }
+    requires one_leaf { HaveOneLeaf f.now (variable_of group.now.selector) (leaf_of f.now inputs.now outputs.now) log.old.entries }
+    ensures fit { O.Fits oracle.new log.new }
+    ensures grew { (standing : ℕ) (start : List Entry) → name_of start (variable_of group.now.selector) ≡ None → Grew (IsAddedBy f.now circuits standing true start) log.old log.new }
+    ensures names { (v : ℕ) → name_of log.new.entries v ≡ name_of log.old.entries v }
+    ensures few { AreFewWith (variable_of group.now.selector) log.new.entries }
+    ensures one_leaf { HaveOneLeaf f.now (variable_of group.now.selector) (leaf_of f.now inputs.now outputs.now) log.new.entries }
+    ensures given { OnOk result (HaveAllFaults f.now (variable_of group.now.selector) bads.now (leaf_of f.now inputs.now outputs.now) (length f.now.matrix) log.new.entries) }
+{
+    for j in 0..f.clauses() {
+        clause_faults(oracle, group, f, inputs, outputs, bads[j], j, log)?;
+    }
+    Ok(())
 }
