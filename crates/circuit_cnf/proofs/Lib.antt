@@ -9,3 +9,4 @@ mod Badding
 mod Faulting
 mod ClauseFaults
 mod AllFaults
+mod SomeFault

@@ -1,4 +1,4 @@
-ghost use Rattle.std.specs.Prelude.{◌≡◌, ◌≤◌, ◌<◌, ◌+◌, ◌∷◌, ◌⊎◌, ℕ, true, false, List, length, map, Contains, All, slice_index_or, [], IfOk, OnOk, Some, None};
+ghost use Rattle.std.specs.Prelude.{◌≡◌, ◌≤◌, ◌<◌, ◌+◌, ◌∷◌, ◌⊎◌, ℕ, true, false, List, length, map, Contains, All, slice_index_or, [], IfOk, OnOk, OnErr, Some, None};
 ghost use Rattle.std.specs.List.{range_with_len};
 ghost use Rattle.dq_lits.specs.Formula.{Dqbf, declared};
 ghost use Rattle.std.specs.Option.{option_map};
@@ -202,5 +202,28 @@ pub(crate) fn all_faults<O: Oracle>(
     for j in 0..f.clauses() {
         clause_faults(oracle, group, f, inputs, outputs, bads[j], j, log)?;
     }
+    Ok(())
+}
+
+// Gives the clause that some clause is false.
+pub(crate) fn some_fault<O: Oracle>(
+    oracle: &mut O,
+    group: &Group,
+    f: &Formula,
+    bads: &[Lit],
+    log: &mut Log,
+) -> Result<(), Memory>
+    requires fit { O.Fits oracle.old log.old }
+    requires made { IsMade log.old.entries group.now }
+    requires bads { AreNamedAs log.old.entries bads.now (map (λ j. named_literal (Bad (variable_of group.now.selector) j) false) (range_with_len 1 (length f.now.matrix))) }
+    requires few { AreFewWith (variable_of group.now.selector) log.old.entries }
+    ensures fit { O.Fits oracle.new log.new }
+    ensures grew { (standing : ℕ) (start : List Entry) → name_of start (variable_of group.now.selector) ≡ None → Grew (IsAddedBy f.now circuits standing true start) log.old log.new }
+    ensures ok { OnOk result (log.new ≡ with_entry log.old (Given (Fault 0 0 (OriginLeaf.Constant false)) (negative (variable_of group.now.selector) ∷ bads.now))) }
+    ensures err { OnErr result (log.new ≡ log.old) }
+{
+    let _ = f.clauses();
+    let output = Leaf::Constant(false);
+    oracle.add(group, bads, fault(0, 0, &output), log)?;
     Ok(())
 }
