@@ -58,7 +58,7 @@ ready_next group v a b part c es ready = record {
   ];
 }
 
-selector_is : (g : Literal) → is_negative g ≡ false → opposite g ≡ negative (variable_of g)
+pub selector_is : (g : Literal) → is_negative g ≡ false → opposite g ≡ negative (variable_of g)
 selector_is (positive v) h = refl
 selector_is (negative v) h = cc
 

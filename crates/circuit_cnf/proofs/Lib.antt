@@ -6,3 +6,7 @@ mod Inputting
 mod SideLeaves
 mod ConeLiterals
 mod Badding
+mod Faulting
+mod ClauseFaults
+mod AllFaults
+mod SomeFault

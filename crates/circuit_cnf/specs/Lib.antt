@@ -3,3 +3,4 @@ pub mod Shown
 pub mod Gates
 pub mod Inputs
 pub mod Checking
+pub mod Faults

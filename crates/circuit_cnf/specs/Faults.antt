@@ -1,0 +1,54 @@
+-- Faults that are given to a group.
+use Rattle.std.specs.Prelude.{◌≡◌, ◌⊎◌, ◌+◌, ◌≤◌, ◌<◌, ◌==◌, ℕ, false, not, List, [], ◌∷◌, map, length, Option, Some, None, position, slice_get, slice_index_or}
+use Rattle.std.specs.List.{Contains}
+use Rattle.std.specs.Option.{option_map}
+use Rattle.dq_lits.specs.Literal.{Literal, positive, negative, variable_of, is_negative}
+use Rattle.dq_lits.specs.Formula.{Dqbf}
+use Rattle.hint_log.specs.Entries.{Entry}
+use Rattle.hint_log.specs.Entries.{Given}
+use Rattle.hint_log.specs.declared.origins.Leaf.{Leaf}
+use Rattle.hint_log.specs.declared.origins.Leaf.TheVariants.{Constant, Literal as LeafLiteral}
+use Rattle.hint_log.specs.declared.origins.Origin.TheVariants.{Fault}
+use Rattle.hint_log.specs.declared.names.Name.TheVariants.{Bad}
+use Rattle.hint_log.specs.Entries.{name_of, rounds_of}
+use Rattle.hint_log.specs.ProductiveLog.{fault_groups}
+use Rattle.hint_log.specs.Origins.{leaf_with_sign, leaf_clause, matrix_literal}
+
+-- the faults in the group have these leaves
+abbrev pub HaveOneLeaf : Dqbf → ℕ → (ℕ → Leaf) → List Entry → Type 0
+HaveOneLeaf f group leaf entries = (j i v : ℕ) (out : Leaf) (rest : List Literal) → Contains entries (Given (Fault j i out) (negative group ∷ rest))
+    → option_map variable_of (matrix_literal f j i) ≡ Some v → out ≡ leaf v
+
+-- where the clause is false, so is its literal under the leaf: given, unless that is true anyway
+abbrev pub HasFault : ℕ → ℕ → ℕ → ℕ → Literal → Leaf → List Entry → Type 0
+HasFault group bad j i literal leaf entries =
+    (leaf_clause (leaf_with_sign (not (is_negative literal)) leaf) ≡ None)
+    ⊎ ((tail : List Literal) × (leaf_clause (leaf_with_sign (not (is_negative literal)) leaf) ≡ Some tail)
+    × Contains entries (Given (Fault j i leaf) (negative group ∷ negative bad ∷ tail)))
+
+-- the leaf of a variable: a universal's input, or its existential's output
+abbrev pub leaf_by_place : List Literal → List Leaf → Option ℕ → Option ℕ → Leaf
+leaf_by_place inputs outputs (Some i) _ = LeafLiteral (slice_index_or inputs i (positive 0))
+leaf_by_place inputs outputs None (Some k) = slice_index_or outputs k (Constant false)
+leaf_by_place inputs outputs None None = Constant false
+
+abbrev pub leaf_of : Dqbf → List Literal → List Leaf → ℕ → Leaf
+leaf_of f inputs outputs v = leaf_by_place inputs outputs (position (λ u. u == v) f.universals) (position (λ y. y == v) (map (λ y. y.variable) f.existentials))
+
+-- a fault more in the group leaves the groups that were given faults few
+abbrev pub AreFewWith : ℕ → List Entry → Type 0
+AreFewWith group entries = (j i : ℕ) (out : Leaf) (rest : List Literal) → length (fault_groups (Given (Fault j i out) (negative group ∷ rest) ∷ entries)) ≤ rounds_of entries + 1
+
+-- each of the first literals of a clause has its fault
+abbrev pub HaveFaults : Dqbf → ℕ → ℕ → ℕ → (ℕ → Leaf) → List Literal → ℕ → List Entry → Type 0
+HaveFaults f group bad j leaf clause count entries = (i : ℕ) (l : Literal) → i < count → slice_get clause i ≡ Some l → HasFault group bad j (i + 1) l (leaf (variable_of l)) entries
+
+-- the literal at a place says that this clause is false in the group
+pub record IsBadAt (group j : ℕ) (bads : List Literal) (entries : List Entry) : Type 0 where
+  pub named : name_of entries (variable_of (slice_index_or bads j (positive 0))) ≡ Some (Bad group (j + 1))
+  pub positive_literal : is_negative (slice_index_or bads j (positive 0)) ≡ false
+
+-- each literal of each of the first clauses has its fault
+abbrev pub HaveAllFaults : Dqbf → ℕ → List Literal → (ℕ → Leaf) → ℕ → List Entry → Type 0
+HaveAllFaults f group bads leaf count entries = (j : ℕ) → j < count
+    → HaveFaults f group (variable_of (slice_index_or bads j (positive 0))) (j + 1) leaf (slice_index_or f.matrix j []) (length (slice_index_or f.matrix j [])) entries
