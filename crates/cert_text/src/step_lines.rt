@@ -156,9 +156,6 @@ fn literal(number: i64) -> Lit
 fn kept_hints(alloc: Global, numbers: &[i64]) -> Result<Ids, Memory>
     ensures { IfOk result (λ hints. hints ≡ map nat_abs numbers.now) }
 {
-    let hints = numbers
-        .iter()
-        .map(|n| n.unsigned_abs())
-        .collect(alloc)?;
+    let hints = numbers.iter().map(|n| n.unsigned_abs()).collect(alloc)?;
     Ok(Ids::from_vec(hints))
 }

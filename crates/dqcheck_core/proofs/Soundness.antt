@@ -90,9 +90,11 @@ true_is_no_refutation f (Err refusal) same = true_is_no_refusal refusal.line (Te
 circuit_by_kind : TestsLaw → (kind : Result Kind CertRefusal) (f : Dqbf) (text : List ℕ) → IsWellFormed f → IsJudgementOf f text kind ValidTrue → HoldsSkolemCircuit f text
 circuit_by_kind law (Ok (CircuitText at h)) f text formed (inl r) = absurd (true_is_no_refusal r.fault.line (Circuit r.fault.name) r.is)
 circuit_by_kind law (Ok (CircuitText at h)) f text formed (inr r) = record {
-    at = at; file = r.file; spelled = r.spelled;
-    skolem = true_by_proof law f r.file.circuit r.file.symbols formed r.spelled.lawful (spelled_complete (drop at text) r.file r.spelled) h
-    (proof_in f h (line_ends (drop at text)) r.file.circuit r.file.comment) r.is;
+  at = at;
+  file = r.file;
+  spelled = r.spelled;
+  skolem = true_by_proof law f r.file.circuit r.file.symbols formed r.spelled.lawful (spelled_complete (drop at text) r.file r.spelled) h
+      (proof_in f h (line_ends (drop at text)) r.file.circuit r.file.comment) r.is;
 }
 circuit_by_kind law (Ok (Refutation at h)) f text formed r = absurd (true_is_no_refutation f (refutation_of f (drop at text) h) r)
 circuit_by_kind law (Err refusal) f text formed r = absurd (true_is_no_refusal refusal.line (Text refusal.name) r)
