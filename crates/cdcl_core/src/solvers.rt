@@ -17,7 +17,6 @@ use std::marker::Model;
 #[derive(Debug, Drop)]
 pub struct Cdcl {
     searcher: Searcher,
-    tenants: u64,
     // The value of variable v at place v - 1.
     model: Vec<bool>,
     is_told: bool,
@@ -51,7 +50,6 @@ impl Cdcl {
                 activities: Activities::new(alloc),
                 restarts: Restarts::new(),
             },
-            tenants: 0,
             model: Vec::new(alloc),
             is_told: false,
         }
@@ -71,13 +69,7 @@ impl Oracle for Cdcl {
     ghost values = { λ s v. slice_index_or s.model (v - 1) false };
 
     fn tenant(&mut self) -> Result<Tenant, Memory> {
-        if self.tenants == u64::MAX {
-            return Err(Memory);
-        }
-        self.tenants += 1;
-        Ok(Tenant {
-            number: self.tenants,
-        })
+        Ok(Tenant)
     }
 
     fn new_var(&mut self, name: Name, log: &mut Log) -> Result<u64, Memory> {

@@ -1,4 +1,3 @@
 pub mod Calls
 pub mod Searched
 pub mod Fit
-pub mod Settled

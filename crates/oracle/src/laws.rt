@@ -3,7 +3,6 @@
 ghost use Rattle.std.specs.Prelude.{◌≡◌, ℕ, true, List, Some};
 ghost use Rattle.std.specs.List.{All};
 ghost use Rattle.dq_lits.specs.Literal.{Assignment, Literal, literal_true};
-ghost use Rattle.dq_lits.specs.Derivation.{status_of, stuck};
 ghost use Rattle.hint_log.specs.Conditions.{AreLogged};
 ghost use Rattle.hint_log.specs.Deciding.{KeepsSelectors};
 ghost use Rattle.hint_log.specs.Entries.{ProofLog};
@@ -12,7 +11,6 @@ ghost use Rattle.hint_log.specs.Entries.{Entry};
 ghost use Rattle.oracle.specs.Calls.{IsRefutedUnder};
 ghost use Rattle.oracle.specs.Fit.{KeepsHintedSelectors};
 ghost use Rattle.oracle.specs.Searched.{IsSearched, IsGivenToGroup, MakesActiveTrue};
-ghost use Rattle.oracle.specs.Settled.{IsSettled};
 
 use dq_lits::laws::derived_line_is_implied;
 
@@ -27,9 +25,4 @@ pub fn unsat_excludes_every_assignment()
 /// Clauses that hold the selectors of the clauses that they hint hold the selectors of all that they reach by hints.
 pub fn selectors_are_kept_along_hints()
     ensures { (entries : List Entry) → AreLogged entries → Each IsGivenToGroup entries → Each KeepsHintedSelectors entries → KeepsSelectors entries }
-{}
-
-/// Where propagation came to its end, a clause has a true literal, or two that aren't false.
-pub fn closed_clauses_are_settled()
-    ensures { (trues clause : List Literal) → status_of trues (Some clause) ≡ stuck → IsSettled trues clause }
 {}
