@@ -1,6 +1,6 @@
 -- Nodes as functions of variables.
 use Rattle.std.specs.Prelude.{◌==◌, false, List, map, slice_index, slice_index_or}
-use Rattle.std.specs.List.{position_or_len}
+use Rattle.std.specs.List.{All, Contains, position_or_len}
 use Rattle.dq_lits.specs.Formula.{Existential, Dqbf}
 use Rattle.dq_lits.specs.Skolem.{OutputFunction, IsSupported}
 use Rattle.aig_graph.specs.declared.nodes.Node.{Node}
@@ -20,6 +20,10 @@ output_node f nodes y = slice_index_or nodes (position_or_len (λ z. z.variable 
 
 abbrev pub outputs_of : Dqbf → AigGraph → List Node → Existential → OutputFunction
 outputs_of f graph nodes y = node_output f graph (output_node f nodes y)
+
+-- each output reads what its existential sees alone
+abbrev pub ReadDeclared : Dqbf → (Existential → OutputFunction) → Type 0
+ReadDeclared f output = All (λ y. All (Contains y.sees) (output y).support) f.existentials
 
 -- a node's value depends on the inputs that it reads alone
 abbrev pub OutputsAreSupported : Type 0

@@ -7,7 +7,7 @@ use Rattle.dq_lits.specs.Henkin.{MatrixHolds}
 use Rattle.dq_lits.specs.Skolem.{OutputFunction}
 use Rattle.aig_graph.specs.declared.nodes.Node.{Node}
 use Rattle.aig_graph.specs.Graph.{AigGraph}
-use Rattle.aig_graph.specs.Outputs.{output_node, outputs_of}
+use Rattle.aig_graph.specs.Outputs.{output_node, outputs_of, ReadDeclared}
 use Rattle.hint_log.specs.Entries.{Entry}
 use Rattle.hint_log.specs.Entries.{Answer}
 use Rattle.hint_log.specs.declared.origins.Leaf.{Leaf}
@@ -19,10 +19,6 @@ use Rattle.circuit_cnf.specs.Leaves.{HasLeaf}
 -- every clause is true wherever each existential has its output's value
 abbrev pub HoldEverywhere : Dqbf → (Existential → OutputFunction) → Type 0
 HoldEverywhere f output = (m : Assignment) → All (λ y. m y.variable ≡ (output y).value m) f.existentials → MatrixHolds f m
-
--- each output reads what its existential sees alone
-abbrev pub ReadDeclared : Dqbf → (Existential → OutputFunction) → Type 0
-ReadDeclared f output = All (λ y. All (Contains y.sees) (output y).support) f.existentials
 
 -- the answer rests on gates and on the faults of one group, in which the existentials have these nodes' leaves
 pub record ShowsOutputs (f : Dqbf) (graph : AigGraph) (nodes : List Node) (earlier : List Entry) (clause : List Literal) (hints : List ℕ) : Type 0 where
