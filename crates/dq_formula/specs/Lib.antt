@@ -1,3 +1,4 @@
 pub mod Dependencies
 pub mod Layout
 pub mod Prefix
+pub mod Rules

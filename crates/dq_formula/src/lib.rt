@@ -6,6 +6,8 @@
 
 pub use dependencies::{Deps, Vars};
 pub use formula::{Formula, MAX_CLAUSES, MAX_VARIABLES};
+pub use rules::Rule;
 
 mod dependencies;
 mod formula;
+mod rules;
