@@ -3,3 +3,4 @@ pub mod Made
 pub mod Joining
 pub mod Marking
 pub mod Outputs
+pub mod Definitions

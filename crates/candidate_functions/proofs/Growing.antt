@@ -1,0 +1,97 @@
+-- What stays as a graph grows.
+use Rattle.std.proofs.Common.{ℕ, Bool, List, Option, map, length, refl, sym, ◌∙◌, subst, slice_index, get_or}
+use Rattle.std.specs.List.{All, Contains}
+use Rattle.std.proofs.lemmas.List.Elements.{All-weaker}
+use Rattle.dq_lits.specs.Formula.{Existential, Dqbf}
+use Rattle.dq_formula.specs.declared.rules.Rule.{Rule}
+use Rattle.aig_graph.specs.Graph.{AigGraph, IsNode}
+use Rattle.aig_graph.specs.Made.{Extends}
+use Rattle.aig_graph.specs.Definitions.{IsDefinition}
+use Rattle.aig_graph.specs.Outputs.{node_output}
+use Rattle.aig_graph.specs.declared.nodes.Node.{Node}
+use Rattle.expansion.specs.Table.{PointBits}
+use Rattle.candidate_functions.specs.Candidates.{AreDefinitions}
+use Rattle.candidate_functions.specs.Pairs.{IsRowCube, IsPair, ArePairs, universal_places, IsClass, IsByRules, AreByRules, IsCandidate}
+use Rattle.candidate_functions.specs.declared.classes.Class.{Class}
+use Rattle.candidate_functions.specs.declared.cubes.Pair.{Pair}
+
+pub extends-refl : (g : AigGraph) → Extends g g
+extends-refl g = record {
+  inputs = refl;
+  nodes = λ n h. h;
+  values = λ n h m. refl;
+  supports = λ n h. refl;
+}
+
+pub extends-trans : (a b c : AigGraph) → Extends a b → Extends b c → Extends a c
+extends-trans a b c h k = record {
+  inputs = k.inputs ∙ h.inputs;
+  nodes = λ n is. k.nodes n (h.nodes n is);
+  values = λ n is m. k.values n (h.nodes n is) m ∙ h.values n is m;
+  supports = λ n is. k.supports n (h.nodes n is) ∙ h.supports n is;
+}
+
+module _ (old new : AigGraph) (h : Extends old new) where
+  pub cube_stays : (places : List ℕ) (row : List Bool) (n : Node) → IsRowCube old places row n → IsRowCube new places row n
+  cube_stays places row n cube = record {
+    is_node = h.nodes n cube.is_node;
+    value = λ inputs. h.values n cube.is_node inputs ∙ cube.value inputs;
+    reads = λ i has. cube.reads i (subst (λ s. Contains s i) (h.supports n cube.is_node) has);
+  }
+
+  pair_stays : (rows : List (List Bool)) (places : List ℕ) (p : Pair) → IsPair rows old places p → IsPair rows new places p
+  pair_stays rows places p pair = record {
+    place = pair.place;
+    row = pair.row;
+    round = pair.round;
+    at = pair.at;
+    cube = cube_stays places pair.row p.cube pair.cube;
+  }
+
+  pub pairs_stay : (rows : List (List Bool)) (places : List ℕ) (count : ℕ) (pairs : List Pair) → ArePairs rows old places count pairs → ArePairs rows new places count pairs
+  pairs_stay rows places count pairs are = record {
+    each = All-weaker (IsPair rows old places) (IsPair rows new places) (pair_stays rows places) pairs are.each;
+    complete = are.complete;
+  }
+
+  pub class_stays : (f : Dqbf) (rows : List (List Bool)) (c : Class) → IsClass f rows old c → IsClass f rows new c
+  class_stays f rows c is y known = pairs_stay rows (universal_places f y.sees) (length rows) c.pairs.items (is y known)
+
+  support_stays : (f : Dqbf) (n : Node) → IsNode old n → (P : ℕ → Type 0) → All P (node_output f old n).support → All P (node_output f new n).support
+  support_stays f n is P all = subst (λ s. All P (map (slice_index f.universals) s)) (sym (h.supports n is)) all
+
+  pub rule_node_stays : (f : Dqbf) (rules : List Rule) (y : Existential) (n : Node) → IsByRules f old rules y n → IsByRules f new rules y n
+  rule_node_stays f rules y n by = record {
+    is_node = h.nodes n by.is_node;
+    value = λ m. h.values n by.is_node (λ i. m (slice_index f.universals i)) ∙ by.value m;
+    reads = support_stays f n by.is_node (Contains y.sees) by.reads;
+  }
+
+  pub rule_nodes_stay : (f : Dqbf) (rules : List Rule) (nodes : List Node) → AreByRules f old rules nodes → AreByRules f new rules nodes
+  rule_nodes_stay f rules nodes are = record {
+    one_each = are.one_each;
+    each = λ p y at. rule_node_stays f rules y _ (are.each p y at);
+  }
+
+  pub definition_stays : (f : Dqbf) (y : Existential) (n : Node) → IsDefinition f old y n → IsDefinition f new y n
+  definition_stays f y n is = record {
+    is_node = h.nodes n is.is_node;
+    reads = support_stays f n is.is_node (Contains y.sees) is.reads;
+    defines = λ m holds. is.defines m holds ∙ sym (h.values n is.is_node (λ i. m (slice_index f.universals i)));
+  }
+
+  pub candidate_stays : (f : Dqbf) (rows : List (List Bool)) (points : PointBits) (rules : List Rule) (y : Existential) (definition : Option Node) (n : Node)
+      → IsCandidate f rows points rules old y definition n → IsCandidate f rows points rules new y definition n
+  candidate_stays f rows points rules y definition n is = record {
+    is_node = h.nodes n is.is_node;
+    reads = support_stays f n is.is_node (Contains y.sees) is.reads;
+    at_pairs = λ k row m at sees. h.values n is.is_node (λ i. m (slice_index f.universals i)) ∙ is.at_pairs k row m at sees;
+    by_rules = λ none m away. h.values n is.is_node (λ i. m (slice_index f.universals i)) ∙ is.by_rules none m away;
+    defined = is.defined;
+  }
+
+  pub classes_stay : (f : Dqbf) (rows : List (List Bool)) (cs : List Class) → All (IsClass f rows old) cs → All (IsClass f rows new) cs
+  classes_stay f rows cs all = All-weaker (IsClass f rows old) (IsClass f rows new) (class_stays f rows) cs all
+
+  pub definitions_stay : (f : Dqbf) (definitions : List (Option Node)) → AreDefinitions f old definitions → AreDefinitions f new definitions
+  definitions_stay f definitions are k d lt node is = definition_stays f (get_or f.existentials k d) node (are k d lt node is)

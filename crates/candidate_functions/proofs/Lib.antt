@@ -1,0 +1,10 @@
+pub mod Growing
+pub mod Cubing
+pub mod Patching
+pub mod Declaring
+pub mod Ruling
+pub mod Classing
+pub mod Agreeing
+pub mod Outputting
+pub mod Defining
+pub mod Collecting

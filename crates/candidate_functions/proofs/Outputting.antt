@@ -1,0 +1,69 @@
+-- The output of an existential without a definition.
+use Rattle.std.proofs.Common.{◌≡◌, ℕ, Bool, List, length, get_or, slice_get, None, Some, IsSome, Result, Ok, Err, OnOk, sym, ◌∙◌, ap, subst}
+use Rattle.std.specs.List.{All, Contains}
+use Rattle.std.proofs.lemmas.List.{length-map, get_or-map}
+use Rattle.std.proofs.lemmas.List.Elements.{All-weaker}
+use Rattle.std.proofs.lemmas.Option.{get_or_from_slice_get, slice_get-get_or}
+use Rattle.dq_lits.specs.Formula.{Existential, Dqbf, existential_of}
+use Rattle.dq_formula.specs.Prefix.{IsLawful, existential_variables}
+use Rattle.dq_formula.specs.declared.rules.Rule.{Rule}
+use Rattle.aig_graph.specs.Graph.{AigGraph, IsNode}
+use Rattle.aig_graph.specs.Made.{Extends}
+use Rattle.aig_graph.specs.declared.nodes.Node.{Node}
+use Rattle.expansion.specs.Table.{PointBits, ArePoints}
+use Rattle.candidate_functions.specs.Pairs.{universal_places, AreRounds, IsPair, AreSeenPairs, HasClass, IsPatched, IsByRules, IsCandidate}
+use Rattle.candidate_functions.specs.declared.classes.Class.{Class}
+use Rattle.candidate_functions.specs.declared.cubes.Pair.{Pair}
+use Rattle.candidate_functions.proofs.Agreeing.{AtExistential, same_point, patched_is_candidate}
+use Rattle.candidate_functions.proofs.Classing.{find_sound, sees_universals, some_existential}
+use Rattle.candidate_functions.proofs.Cubing.{rounds_within}
+use Rattle.candidate_functions.proofs.Declaring.{variable}
+use Rattle.candidate_functions.proofs.Growing.{rule_node_stays}
+
+at_contained : (ys : List Existential) (y : Existential) → Contains ys y → (p : ℕ) × (slice_get ys p ≡ Some y)
+at_contained ys y (k, below, is) = (k, slice_get-get_or ys k y below ∙ ap Some is)
+
+pub is_variable : (f : Dqbf) (v : ℕ) → IsSome (existential_of f v) → Contains (existential_variables f) v
+is_variable f v is = some_existential f v (Contains (existential_variables f) v) is (λ y found.
+    let sound = find_sound v f.existentials y found in
+    let (k, below, at) = sound.0 in
+    (k, rw (length-map f.existentials variable) below, get_or-map variable f.existentials k y v below ∙ ap variable at ∙ sound.1))
+
+at_existential : (f : Dqbf) → IsLawful f → (rows : List (List Bool)) (points : PointBits) → All (λ row. length row ≡ length f.universals) rows → ArePoints f rows points
+    → (v : ℕ) (y : Existential) → existential_of f v ≡ Some y → AtExistential f rows points y
+at_existential f lawful rows points whole are v y found =
+    let own = at_contained f.existentials y (find_sound v f.existentials y found).0 in
+    record {
+      among = sees_universals f lawful v y found;
+      whole = whole;
+      same = same_point f rows points are own.0 y own.1;
+    }
+
+pub undefined_is_candidate : (f : Dqbf) → IsLawful f → (rows : List (List Bool)) (points : PointBits) → All (λ row. length row ≡ length f.universals) rows → ArePoints f rows points
+    → (rules : List Rule) (v : ℕ) (y : Existential) → existential_of f v ≡ Some y → (old mid new : AigGraph) → Extends old mid
+    → (pairs : List Pair) → AreSeenPairs f rows mid y.sees pairs → (other node : Node) → IsByRules f old rules y other
+    → IsPatched mid new points v pairs other node → IsCandidate f rows points rules new y None node
+undefined_is_candidate f lawful rows points whole are rules v y found old mid new grown pairs seen other node by patched =
+    let own = (find_sound v f.existentials y found).1 in
+    patched_is_candidate f rows points rules y mid new pairs other node (at_existential f lawful rows points whole are v y found) seen
+    (rule_node_stays old mid grown f rules y other by) (subst (λ w. IsPatched mid new points w pairs other node) (sym own) patched)
+
+-- the pairs that stand at a class's place
+pub pairs_there : (f : Dqbf) (rows : List (List Bool)) (g : AigGraph) (cs : List Class) (place v : ℕ) (c : Class) (pairs : List Pair)
+    → HasClass f rows g cs place v → c ≡ get_or cs place c → pairs ≡ c.pairs.items → (y : Existential) → existential_of f v ≡ Some y → AreSeenPairs f rows g y.sees pairs
+pairs_there f rows g cs place v c pairs has at is y found =
+    let same : c ≡ has.class = at ∙ get_or_from_slice_get cs place has.class c has.at in
+    subst (AreSeenPairs f rows g y.sees) (sym (is ∙ ap (λ (d : Class). d.pairs.items) same)) (has.are_pairs y found)
+
+pub rounds_there : (f : Dqbf) (rows : List (List Bool)) (g : AigGraph) (v n : ℕ) (pairs : List Pair) → n ≡ length rows → IsSome (existential_of f v)
+    → ((y : Existential) → existential_of f v ≡ Some y → AreSeenPairs f rows g y.sees pairs) → AreRounds n pairs × All (λ p. IsNode g p.cube) pairs
+rounds_there f rows g v n pairs size is each = some_existential f v (AreRounds n pairs × All (λ p. IsNode g p.cube) pairs) is (λ y found.
+    let all = (each y found).each in
+    let places = universal_places f y.sees in (
+      subst (λ k. AreRounds k pairs) (sym size) (rounds_within rows g places pairs all),
+      All-weaker (IsPair rows g places) (λ p. IsNode g p.cube) (λ p pair. pair.cube.is_node) pairs all,
+    ))
+
+pub on_ok : {T E : Type 0} (r : Result T E) (P : Type 0) → P → OnOk r P
+on_ok (Ok x) P p = p
+on_ok (Err e) P p = tt

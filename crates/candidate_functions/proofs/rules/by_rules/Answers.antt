@@ -1,0 +1,19 @@
+use Rattle.std.proofs.Common.{◌≡◌, drop, subst, arith}
+use Rattle.candidate_functions.specs.Pairs.{AreByRules}
+use Rattle.candidate_functions.proofs.Growing.{extends-trans}
+use Rattle.candidate_functions.proofs.rules.by_rules.Goals as goal
+
+pub loop-at-preserved : goal.loop-at-preserved
+loop-at-preserved c = record {
+  grown = extends-trans c.args.graph.now c.loop-at.graph c.put_rule.new.graph c.loop-at.invariant.grown c.put_rule.ensures.extends;
+  within = omega arith;
+  nodes = c.in_ok-put_rule.ensures.nodes;
+}
+
+pub returns-in_err-put_rule-clause-extends : goal.returns-in_err-put_rule-clause-extends
+returns-in_err-put_rule-clause-extends c = extends-trans c.args.graph.now c.loop-at.graph c.put_rule.new.graph c.loop-at.invariant.grown c.put_rule.ensures.extends
+
+pub returns-clause-nodes : goal.returns-clause-nodes
+returns-clause-nodes c =
+    let none : c.loop-at.at ≡ 0 = omega arith in
+    subst (λ n. AreByRules c.args.f.now c.loop-at.graph (drop n c.args.rules.now) c.loop-at.nodes.items) none c.loop-at.invariant.nodes

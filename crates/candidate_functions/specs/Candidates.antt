@@ -1,0 +1,47 @@
+-- Candidates: functions for the existentials that agree with a model of the expansion at the pairs of its rows.
+use Rattle.std.specs.Prelude.{◌≡◌, ℕ, ◌+◌, ◌==◌, Bool, List, slice_get, slice_index_or, Option, None, Some}
+use Rattle.std.specs.List.{All, position_or_len}
+use Rattle.dq_lits.specs.Literal.{Assignment}
+use Rattle.dq_lits.specs.Formula.{Existential, Dqbf}
+use Rattle.dq_lits.specs.Henkin.{restriction}
+use Rattle.dq_lits.specs.Expansion.{row_assignment}
+use Rattle.dq_lits.specs.Skolem.{OutputFunction}
+use Rattle.dq_formula.specs.Rules.{rule_bit}
+use Rattle.dq_formula.specs.declared.rules.Rule.{Rule}
+use Rattle.aig_graph.specs.declared.nodes.Node.{Node}
+use Rattle.aig_graph.specs.Definitions.{IsDefinition}
+use Rattle.aig_graph.specs.Graph.{AigGraph}
+use Rattle.aig_graph.specs.Outputs.{output_node}
+use Rattle.expansion.specs.Table.{PointBits}
+
+-- the definition that was handed in for an existential: they are in the order of the existentials, and those that are missing are none
+abbrev pub definition_of : Dqbf → List (Option Node) → Existential → Option Node
+definition_of f definitions y = slice_index_or definitions (position_or_len (λ z. z.variable == y.variable) f.existentials) None
+
+abbrev pub AreDefinitions : Dqbf → AigGraph → List (Option Node) → Type 0
+AreDefinitions f graph definitions = All (λ y. (node : Node) → definition_of f definitions y ≡ Some node → IsDefinition f graph y node) f.existentials
+
+-- the existential sees the bits that the row gives it
+abbrev pub SeesRow : Dqbf → Existential → List Bool → Assignment → Type 0
+SeesRow f y row m = restriction y m ≡ restriction y (row_assignment f row)
+
+-- at each pair of the rows the output has the point's bit
+abbrev pub AgreesAtPairs : Dqbf → List (List Bool) → PointBits → Existential → OutputFunction → Type 0
+AgreesAtPairs f rows points y output =
+    (k : ℕ) (row : List Bool) (m : Assignment) → slice_get rows k ≡ Some row → SeesRow f y row m → output.value m ≡ points (k + 1) y.variable
+
+-- away from the pairs of the rows it has the bit of the first rule whose cube is true, else false
+abbrev pub FollowsRules : Dqbf → List (List Bool) → List Rule → Existential → OutputFunction → Type 0
+FollowsRules f rows rules y output =
+    (m : Assignment) → All (λ row. SeesRow f y row m → ⊥) rows → output.value m ≡ rule_bit rules y.variable m
+
+abbrev pub AgreeAtPairs : Dqbf → List (List Bool) → PointBits → (Existential → OutputFunction) → Type 0
+AgreeAtPairs f rows points output = All (λ y. AgreesAtPairs f rows points y (output y)) f.existentials
+
+-- the existentials without a definition follow the rules
+abbrev pub FollowRules : Dqbf → List (List Bool) → List Rule → List (Option Node) → (Existential → OutputFunction) → Type 0
+FollowRules f rows rules definitions output = All (λ y. definition_of f definitions y ≡ None → FollowsRules f rows rules y (output y)) f.existentials
+
+-- the others have their definition's node
+abbrev pub AreDefined : Dqbf → List (Option Node) → List Node → Type 0
+AreDefined f definitions nodes = All (λ y. (node : Node) → definition_of f definitions y ≡ Some node → output_node f nodes y ≡ node) f.existentials

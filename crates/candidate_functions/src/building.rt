@@ -1,0 +1,77 @@
+ghost use Rattle.std.specs.Prelude.{◌≡◌, length, All, IfOk};
+ghost use Rattle.dq_formula.specs.Prefix.{existential_variables};
+ghost use Rattle.dq_formula.specs.Rules.{IsRule};
+ghost use Rattle.aig_graph.specs.Graph.{IsNode};
+ghost use Rattle.aig_graph.specs.Made.{Extends};
+ghost use Rattle.aig_graph.specs.Outputs.{outputs_of, ReadDeclared};
+ghost use Rattle.expansion.specs.Table.{ArePoints, point_bits};
+ghost use Rattle.candidate_functions.specs.Candidates.{AreDefinitions, AgreeAtPairs, FollowRules, AreDefined};
+
+use crate::outputs::all_outputs;
+use crate::rules::by_rules;
+use aig_graph::{Graph, Node};
+use dq_formula::{Formula, Rule};
+use dq_lits::Memory;
+use expansion::{Points, Table};
+use std::alloc::Global;
+use std::marker::Model;
+
+/// A node for each existential, in order of declaration.
+#[derive(Debug, Drop)]
+pub struct Outputs {
+    nodes: Vec<Node>,
+}
+
+impl Model for Outputs {
+    ghost use Rattle.std.specs.Prelude.{List};
+    ghost use Rattle.aig_graph.specs.declared.nodes.Node.{Node};
+
+    ghost Value = { List Node };
+
+    ghost view = { λ o. o.nodes.items };
+}
+
+impl Outputs {
+    /// The nodes in order.
+    pub fn items(&self) -> &[Node]
+        ensures { result.now ≡ self.now }
+    {
+        &self.nodes
+    }
+}
+
+/// Candidates for the existentials' functions, which read what they may. One that has a definition gets its node; any other has its
+/// point's bit at each pair of the table, and elsewhere the bit of its first rule whose cube is true, else false. Definitions are in the
+/// order of the existentials; those that are missing are none.
+///
+/// The points are those of a model of all instances under the table's rows. Work and memory follow the pairs, which existentials with one
+/// dependency set share, and the gates.
+pub fn build(
+    alloc: Global,
+    f: &Formula,
+    table: &Table,
+    points: &Points,
+    rules: &[Rule],
+    definitions: &[Option<Node>],
+    graph: &mut Graph,
+) -> Result<Outputs, Memory>
+    requires inputs { graph.old.inputs ≡ length f.now.universals }
+    requires whole { All (λ row. length row ≡ length f.now.universals) table.now.rows }
+    requires variables { points.now.variables ≡ existential_variables f.now }
+    requires as_many { length points.now.rows ≡ length table.now.rows }
+    requires points { ArePoints f.now table.now.rows (point_bits points.now) }
+    requires rules { All (IsRule f.now) rules.now }
+    requires definitions { AreDefinitions f.now graph.old definitions.now }
+    ensures extends { Extends graph.old graph.new }
+    ensures one_each { IfOk result (λ nodes. length nodes ≡ length f.now.existentials) }
+    ensures nodes { IfOk result (λ nodes. All (IsNode graph.new) nodes) }
+    ensures reads { IfOk result (λ nodes. ReadDeclared f.now (outputs_of f.now graph.new nodes)) }
+    ensures at_pairs { IfOk result (λ nodes. AgreeAtPairs f.now table.now.rows (point_bits points.now) (outputs_of f.now graph.new nodes)) }
+    ensures by_rules { IfOk result (λ nodes. FollowRules f.now table.now.rows rules.now definitions.now (outputs_of f.now graph.new nodes)) }
+    ensures defined { IfOk result (λ nodes. AreDefined f.now definitions.now nodes) }
+{
+    f.every_formula_is_lawful();
+    let others = by_rules(alloc, f, rules, graph)?;
+    let nodes = all_outputs(alloc, f, table, points, definitions, &others, graph)?;
+    Ok(Outputs { nodes })
+}

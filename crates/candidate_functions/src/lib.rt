@@ -1,0 +1,12 @@
+//! Candidates for the functions of a formula's existentials: circuits that agree with a model of its expansion at the pairs of the table.
+#![tactic(auto)]
+
+pub use building::{Outputs, build};
+
+mod building;
+mod classes;
+mod cubes;
+mod outputs;
+mod patches;
+mod places;
+mod rules;

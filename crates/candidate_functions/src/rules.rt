@@ -1,0 +1,94 @@
+//! What the rules say of each existential, as nodes.
+
+ghost use Rattle.std.specs.Prelude.{◌≡◌, ◌<◌, ◌+◌, false, length, map, drop, replicate, All, Contains, IfOk, OnOk};
+ghost use Rattle.dq_lits.specs.Literal.{variable_of};
+ghost use Rattle.dq_formula.specs.Rules.{IsRule};
+ghost use Rattle.aig_graph.specs.Made.{Extends};
+ghost use Rattle.candidate_functions.specs.Pairs.{input_literal, IsCubeNode, AreByRules};
+
+use crate::places::universal_place;
+use aig_graph::{Graph, Node};
+use dq_formula::{Formula, Rule};
+use dq_lits::{Lit, Memory};
+use std::alloc::Global;
+
+// For each existential a node with the bit of its first rule whose cube is true, else false.
+pub(crate) fn by_rules(
+    alloc: Global,
+    f: &Formula,
+    rules: &[Rule],
+    graph: &mut Graph,
+) -> Result<Vec<Node>, Memory>
+    requires inputs { graph.old.inputs ≡ length f.now.universals }
+    requires rules { All (IsRule f.now) rules.now }
+    ensures extends { Extends graph.old graph.new }
+    ensures nodes { IfOk result (λ nodes. AreByRules f.now graph.new rules.now nodes.items) }
+{
+    let mut nodes = all_false(alloc, f.existentials().len())?;
+    let mut at = rules.len();
+    while at > 0 {
+        at -= 1;
+        put_rule(alloc, f, rules, at, &mut nodes, graph)?;
+    }
+    Ok(nodes)
+}
+
+fn all_false(alloc: Global, n: usize) -> Result<Vec<Node>, Memory>
+    ensures { IfOk result (λ nodes. nodes.items ≡ replicate n (Node.Constant false)) }
+{
+    Ok(vec![in alloc; Node::Constant(false); n]?)
+}
+
+// Puts a rule before the later ones.
+fn put_rule(
+    alloc: Global,
+    f: &Formula,
+    rules: &[Rule],
+    at: usize,
+    nodes: &mut Vec<Node>,
+    graph: &mut Graph,
+) -> Result<(), Memory>
+    requires inputs { graph.old.inputs ≡ length f.now.universals }
+    requires rules { All (IsRule f.now) rules.now }
+    requires at { at < length rules.now }
+    requires nodes { AreByRules f.now graph.old (drop (at + 1) rules.now) nodes.old.items }
+    ensures extends { Extends graph.old graph.new }
+    ensures nodes { OnOk result (AreByRules f.now graph.new (drop at rules.now) nodes.new.items) }
+{
+    f.every_formula_is_lawful();
+    let rule = &rules[at];
+    if let Some(place) = f.existential_place(rule.y) {
+        let cube = cube_node(alloc, f, rule.cube.lits(), graph)?;
+        nodes[place] = graph.mux(cube, Node::constant(rule.bit), nodes[place])?;
+    }
+    Ok(())
+}
+
+// A node that is true where all of these literals are.
+fn cube_node(alloc: Global, f: &Formula, cube: &[Lit], graph: &mut Graph) -> Result<Node, Memory>
+    requires inputs { graph.old.inputs ≡ length f.now.universals }
+    requires universals { All (λ l. Contains f.now.universals (variable_of l)) cube.now }
+    ensures extends { Extends graph.old graph.new }
+    ensures node { IfOk result (IsCubeNode f.now graph.new cube.now) }
+{
+    let literals = input_literals(alloc, f, cube)?;
+    graph.cube(&literals)
+}
+
+fn input_literals(alloc: Global, f: &Formula, cube: &[Lit]) -> Result<Vec<Node>, Memory>
+    requires universals { All (λ l. Contains f.now.universals (variable_of l)) cube.now }
+    ensures { IfOk result (λ nodes. nodes.items ≡ map (input_literal f.now) cube.now) }
+{
+    let mut literals = Vec::new(alloc);
+    for l in cube {
+        literals.push(input_literal(f, *l))?;
+    }
+    Ok(literals)
+}
+
+fn input_literal(f: &Formula, l: Lit) -> Node
+    requires universal { Contains f.now.universals (variable_of l) }
+    ensures { result ≡ input_literal f.now l }
+{
+    Node::Input(universal_place(f, l.var()), l.is_neg())
+}
