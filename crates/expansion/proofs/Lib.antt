@@ -1,0 +1,15 @@
+mod Looking
+mod Beginning
+mod Refuting
+mod Modelling
+mod Pointing
+mod Writing
+mod Told
+mod Firsts
+mod Adding
+mod TrueUniversals
+mod Arbiting
+mod Instancing
+mod GivingInstances
+mod AddingRows
+mod Standing

@@ -1,0 +1,4 @@
+pub mod Table
+pub mod Silence
+pub mod Adding
+pub mod Standing
