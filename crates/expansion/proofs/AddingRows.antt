@@ -11,8 +11,10 @@ use Rattle.hint_log.specs.Entries.{Entry, rounds_of}
 use Rattle.hint_log.specs.Naming.{AreNamedAs, arbiter, rows_of}
 use Rattle.hint_log.specs.ProductiveLog.{fault_groups}
 use Rattle.log_laws.specs.Engines.{instances, part}
+use Rattle.expansion.specs.FirstRows.{RowIndex, IsRowIndex}
 use Rattle.expansion.specs.Table.{TableState, AreArbiters, HasInstance, IsTable, IsFullTable}
 use Rattle.expansion.specs.Adding.{with_row, IsAdding, AreNewArbiters}
+use Rattle.expansion.proofs.RowOrders.{index_kept}
 use Rattle.expansion.proofs.Firsts.{same_arbiter, names_same, instance_same}
 
 -- rows that stand before have the same arbiters behind a further row
@@ -58,12 +60,13 @@ old_or_last (z ∷ xs) x y (suc k) is = by (old_or_last xs x y k is)
     by (inr (place, same)) = inr (ap suc place, same)
 
 module _ (f : Dqbf) (t : TableState) (row : List Bool) (vs : List ℕ) (es : List Entry) (adding : IsAdding f t row (length f.existentials) (length f.matrix) es)
+    (first_rows : IsRowIndex f t.rows t.first_rows)
     (variables : AreNewArbiters f t row es vs) where
   abbrev own : List Entry
   own = part instances es
 
   abbrev more : TableState
-  more = record { group = t.group; existentials = t.existentials; rows = with_row t row; pairs = t.pairs ++ vs ∷ [] }
+  more = record { group = t.group; existentials = t.existentials; rows = with_row t row; pairs = t.pairs ++ vs ∷ []; first_rows = t.first_rows }
 
   longer : length (with_row t row) ≡ length t.rows + 1
   longer = length-append t.rows (row ∷ [])
@@ -101,20 +104,41 @@ module _ (f : Dqbf) (t : TableState) (row : List Bool) (vs : List ℕ) (es : Lis
       arbiters = λ k r us row_is us_are. arbiters_at k r us (old_or_last t.rows row r k row_is) (old_or_last t.pairs vs us k us_are);
       complete = λ k j r clause row_is clause_is live. instance_there k j r clause (old_or_last t.rows row r k row_is) clause_is live;
     };
+    first_rows = index_kept f t.rows (row ∷ []) t.first_rows first_rows;
   }
 
   pub finish_full : IsWellFormed f → IsFullTable f more es
   finish_full formula = record { formula = formula; table = finish; rows = adding.rows }
 
   -- the same of a table that has these parts
-  pub finish_as : (new : TableState) → IsWellFormed f → new.group ≡ t.group → new.existentials ≡ t.existentials → new.rows ≡ with_row t row → new.pairs ≡ t.pairs ++ vs ∷ [] → IsFullTable f new es
-  finish_as new formula group existentials rows pairs =
-      let build : ℕ → List ℕ → List (List Bool) → List (List ℕ) → TableState = λ g ys rs ps. record { group = g; existentials = ys; rows = rs; pairs = ps } in
-      subst (λ g. IsFullTable f (build g new.existentials new.rows new.pairs) es) (sym group)
-      (subst (λ ys. IsFullTable f (build t.group ys new.rows new.pairs) es) (sym existentials)
-      (subst (λ rs. IsFullTable f (build t.group t.existentials rs new.pairs) es) (sym rows)
-      (subst (λ ps. IsFullTable f (build t.group t.existentials (with_row t row) ps) es) (sym pairs) (finish_full formula))))
+  pub finish_as : (new : TableState) → IsWellFormed f → new.group ≡ t.group → new.existentials ≡ t.existentials → new.rows ≡ with_row t row → new.pairs ≡ t.pairs ++ vs ∷ [] → new.first_rows ≡ t.first_rows → IsFullTable f new es
+  finish_as new formula group existentials rows pairs index =
+      let build : ℕ → List ℕ → List (List Bool) → List (List ℕ) → RowIndex → TableState = λ g ys rs ps is. record { group = g; existentials = ys; rows = rs; pairs = ps; first_rows = is } in
+      subst (λ g. IsFullTable f (build g new.existentials new.rows new.pairs new.first_rows) es) (sym group)
+      (subst (λ ys. IsFullTable f (build t.group ys new.rows new.pairs new.first_rows) es) (sym existentials)
+      (subst (λ rs. IsFullTable f (build t.group t.existentials rs new.pairs new.first_rows) es) (sym rows)
+      (subst (λ ps. IsFullTable f (build t.group t.existentials (with_row t row) ps new.first_rows) es) (sym pairs)
+      (subst (λ is. IsFullTable f (build t.group t.existentials (with_row t row) (t.pairs ++ vs ∷ []) is) es) (sym index) (finish_full formula)))))
 
 pub on_both : {X E : Type 0} (A B C : Type 0) (r : Result X E) → (A → B → C) → OnOk r A → OnOk r B → OnOk r C
 on_both A B C (Ok x) both a b = both a b
 on_both A B C (Err e) both a b = tt
+
+-- a table that looked at more of its rows
+pub looked : (f : Dqbf) (t new : TableState) (es : List Entry) → new ≡ record t { first_rows = new.first_rows } → IsTable f t es → IsRowIndex f new.rows new.first_rows → IsTable f new es
+looked f t new es same table index =
+    let rows : new.rows ≡ t.rows = ap (λ (s : TableState). s.rows) same in
+    subst (λ s. IsTable f s es) (sym same) (record {
+      group = table.group;
+      existentials = table.existentials;
+      own_group = table.own_group;
+      own = record {
+        whole = table.own.whole;
+        pairs_long = table.own.pairs_long;
+        names = table.own.names;
+        given = table.own.given;
+        arbiters = table.own.arbiters;
+        complete = table.own.complete;
+      };
+      first_rows = subst (λ rs. IsRowIndex f rs new.first_rows) rows index;
+    })

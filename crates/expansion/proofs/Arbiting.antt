@@ -2,9 +2,9 @@
 use Rattle.std.proofs.Common.{◌≡◌, ◌≢◌, ℕ, zero, suc, ◌+◌, ◌<◌, ◌≤◌, ◌⊎◌, inl, inr, Bool, true, cond, List, [], ◌∷◌, ◌++◌, map, take, length, get_or, slice_get, Option, Some, None, Result, Ok, Err, IfOk, refl, sym, ◌∙◌, ap, subst, arith}
 use Rattle.std.specs.List.{AllPairs, position_or_len}
 use Rattle.std.proofs.lemmas.Bool.{eq-eqb}
-use Rattle.std.proofs.lemmas.List.{length-map, get_or-map, get_or_default, map-append, take_all, take_more}
+use Rattle.std.proofs.lemmas.List.{length-map, get_or-map, get_or_default, map-append, take_more}
 use Rattle.std.proofs.lemmas.Option.{slice_get-get_or, slice_get_within, get_or_from_slice_get}
-use Rattle.dq_lits.specs.Formula.{Dqbf, Existential, existential_of, IsWellFormed}
+use Rattle.dq_lits.specs.Formula.{Dqbf, Existential, IsWellFormed}
 use Rattle.dq_lits.specs.Expansion.{agree_on}
 use Rattle.hint_log.specs.Conditions.{AreLogged}
 use Rattle.hint_log.specs.Entries.{Entry, Named, ProofLog, with_entry, name_of}
@@ -15,10 +15,11 @@ use Rattle.hint_log.specs.declared.names.Name.TheVariants.{Selector, Pair}
 use Rattle.log_laws.specs.Engines.{instances, part, IsAddedBy}
 use Rattle.log_laws.proofs.Growing.{grown_by, grown_by_none, grown_then}
 use Rattle.expansion.specs.Table.{TableState, AreArbiters}
-use Rattle.expansion.specs.Adding.{with_row, IsAmongFirst, AreFirstArbiters, IsAddingPart, IsAdding, IsFirstRow, IsNamedNext, AreNewArbiters}
+use Rattle.expansion.specs.FirstRows.{IsFirstRow}
+use Rattle.expansion.specs.Adding.{with_row, IsAmongFirst, AreFirstArbiters, IsAddingPart, IsAdding, IsNamedNext}
 use Rattle.expansion.proofs.Adding.{pair_own, unnamed_own, named_keeps, names_kept, KeepsNames, one_more_named, new_named}
 use Rattle.expansion.proofs.Firsts.{arbiter_of_first, arbiter_of_new, passes_there, position_within}
-use Rattle.expansion.proofs.Pointing.{find_own, existentials_once}
+use Rattle.expansion.proofs.Pointing.{existentials_once}
 
 abbrev pub nobody : Existential
 nobody = record { variable = 0; sees = [] }
@@ -26,13 +27,6 @@ nobody = record { variable = 0; sees = [] }
 -- what an index reads
 pub found_at : (items xs : List ℕ) (k x : ℕ) → items ≡ xs → k < length xs → x ≡ get_or items k x → x ≡ get_or xs k 0
 found_at items xs k x same below is = is ∙ ap (λ ys. get_or ys k x) same ∙ get_or_default xs k x 0 below
-
--- a loop over the places of a list
-pub below_at : (items xs : List ℕ) (len end k : ℕ) → items ≡ xs → len ≡ length items → end ≡ len → k < end → k < length xs
-below_at items xs len end k same is end_is below = let many = ap length same in omega (arith, many, is, end_is, below)
-
-pub end_at : (items xs : List ℕ) (len end k : ℕ) → items ≡ xs → len ≡ length items → end ≡ len → end ≤ k → k ≤ length xs → k ≡ length xs
-end_at items xs len end k same is end_is past within = let many = ap length same in omega (arith, many, is, end_is, past, within)
 
 pub both_ok : {X E : Type 0} (P Q R : X → Type 0) (r : Result X E) → ((x : X) → P x → Q x → R x) → IfOk r P → IfOk r Q → IfOk r R
 both_ok P Q R (Ok x) both p q = both x p q
@@ -55,11 +49,6 @@ named_at own g (v ∷ vs) (z ∷ ys) zero d y names is =
 named_at own g (v ∷ vs) (z ∷ ys) (suc p) d y names is =
     let behind : map (name_of own) vs ≡ map (λ x. Some (g x)) ys = cc in
     named_at own g vs ys p d y behind is
-
--- the existential at a place
-pub existential_at : (f : Dqbf) (p : ℕ) (d : Existential) → IsWellFormed f → p < length f.existentials
-    → existential_of f (get_or f.existentials p d).variable ≡ Some (get_or f.existentials p d)
-existential_at f p d formula below = find_own f.existentials p d below (existentials_once f.universals f.existentials formula.prefix.declared_once)
 
 module _ (f : Dqbf) (t : TableState) (row : List Bool) (place : ℕ) (es : List Entry) (adding : IsAdding f t row place 0 es) where
   abbrev own : List Entry
@@ -174,9 +163,6 @@ pub record ArePairsSoFar (f : Dqbf) (t : TableState) (row : List Bool) (place : 
   pub adding : IsAdding f t row place 0 new.entries
   pub variables : AreFirstArbiters f t row (part instances new.entries) place vs
 
-pub no_pairs : (f : Dqbf) (t : TableState) (row : List Bool) (log : ProofLog) → IsAdding f t row 0 0 log.entries → ArePairsSoFar f t row 0 [] log log
-no_pairs f t row log adding = record { grew = λ start. grown_by_none (IsAddedBy f instances t.group true start) log log refl; adding = adding; variables = refl }
-
 pub pair_more : (f : Dqbf) (t : TableState) (row : List Bool) (place v : ℕ) (vs : List ℕ) (old log new : ProofLog) → ArePairsSoFar f t row place vs old log → IsNamedNext f t row place v log new
     → ArePairsSoFar f t row (place + 1) (vs ++ v ∷ []) old new
 pair_more f t row place v vs old log new before next = record {
@@ -184,23 +170,3 @@ pair_more f t row place v vs old log new before next = record {
   adding = next.adding;
   variables = next.variables vs before.variables;
 }
-
-pub all_pairs : (f : Dqbf) (t : TableState) (row : List Bool) (place : ℕ) (vs : List ℕ) (old new : ProofLog) → ArePairsSoFar f t row place vs old new → place ≡ length f.existentials
-    → AreNewArbiters f t row new.entries vs
-all_pairs f t row place vs old new so_far all = so_far.variables ∙ ap (λ n. map (λ y. Some (arbiter f (with_row t row) row y)) (take n f.existentials)) all ∙ ap (map (λ y. Some (arbiter f (with_row t row) row y))) (take_all (length f.existentials) f.existentials (omega arith))
-
--- the existential whose pair is next
-pub next_declared : (f : Dqbf) (t : TableState) (row : List Bool) (place y : ℕ) (log : ProofLog) → IsWellFormed f → IsAdding f t row place 0 log.entries → place < length t.existentials
-    → y ≡ get_or t.existentials place 0 → existential_of f y ≡ Some (get_or f.existentials place nobody)
-next_declared f t row place y log formula adding below y_is =
-    let many = as_many_existentials f t row place log.entries adding in
-    let inside : place < length f.existentials = omega (arith, many, below) in
-    let is : y ≡ (get_or f.existentials place nobody).variable =
-    y_is ∙ ap (λ xs. get_or xs place 0) adding.existentials ∙ get_or-map (λ z. z.variable) f.existentials place nobody 0 inside in
-    ap (existential_of f) is ∙ existential_at f place nobody formula inside
-
-pub first_row_is : (f : Dqbf) (t : TableState) (row : List Bool) (place y first : ℕ) (log : ProofLog) → IsWellFormed f → IsAdding f t row place 0 log.entries → place < length t.existentials
-    → y ≡ get_or t.existentials place 0 → ((e : Existential) → existential_of f y ≡ Some e → first ≡ position_or_len (agree_on f e row) t.rows) → IsFirstRow f t.rows row place first
-first_row_is f t row place y first log formula adding below y_is is e e_is =
-    let same : get_or f.existentials place nobody ≡ e = get_or_from_slice_get f.existentials place e nobody e_is in
-    is e (next_declared f t row place y log formula adding below y_is ∙ ap Some same)

@@ -11,6 +11,7 @@ use Rattle.hint_log.specs.declared.names.Name.{Name}
 use Rattle.hint_log.specs.declared.names.Name.TheVariants.{Selector}
 use Rattle.hint_log.specs.Growth.{Each, Grew}
 use Rattle.log_laws.specs.Engines.{Engine, instances, IsOwnGiven, IsAddedBy, HasNone, is_own, part}
+use Rattle.expansion.specs.FirstRows.{RowIndex, IsRowIndex}
 use Rattle.expansion.specs.Table.{TableState, IsTablePart, IsTable}
 
 none_below : (b : Bool) (n : Name) (o : Option Name) → cond b (Some n) o ≡ None → o ≡ None
@@ -56,11 +57,11 @@ no_part engine (e ∷ es) none =
     later : (x : Entry) → Contains es x → Contains (e ∷ es) x
     later x (k, lt, at) = (suc k, omega (arith, lt), at)
 
-pub no_rows : (f : Dqbf) (g : ℕ) (variables : List ℕ) (old new : ProofLog) → AreLogged old.entries → HasNone instances old.entries → name_of old.entries g ≡ None →
-    new ≡ with_entry old (Named g (Selector g)) → variables ≡ map (λ y. y.variable) f.existentials
-    → IsTable f (record { group = g; existentials = variables; rows = []; pairs = [] }) new.entries
-no_rows f g variables old new lawful none unnamed is variables_are =
-    let t : TableState = record { group = g; existentials = variables; rows = []; pairs = [] } in
+pub no_rows : (f : Dqbf) (g : ℕ) (variables : List ℕ) (index : RowIndex) (old new : ProofLog) → AreLogged old.entries → HasNone instances old.entries → name_of old.entries g ≡ None →
+    new ≡ with_entry old (Named g (Selector g)) → variables ≡ map (λ y. y.variable) f.existentials → IsRowIndex f [] index
+    → IsTable f (record { group = g; existentials = variables; rows = []; pairs = []; first_rows = index }) new.entries
+no_rows f g variables index old new lawful none unnamed is variables_are first_rows =
+    let t : TableState = record { group = g; existentials = variables; rows = []; pairs = []; first_rows = index } in
     let empty : IsTablePart f t [] = record {
       whole = λ k d lt. absurd (omega (arith, lt));
       pairs_long = refl;
@@ -74,6 +75,7 @@ no_rows f g variables old new lawful none unnamed is variables_are =
       existentials = variables_are;
       own_group = (tt, not_given f instances g old.entries lawful unnamed);
       own = subst (IsTablePart f t) (sym (no_part instances old.entries none)) empty;
+      first_rows = first_rows;
     })
   where
     nothing : {x : Entry} → Contains {X = Entry} [] x → ⊥

@@ -3,7 +3,6 @@ use Rattle.std.proofs.Common.{◌≡◌, ℕ, zero, suc, not, ◌+◌, ◌<◌, 
 use Rattle.std.specs.List.{position_or_len, filter_map, cons_option}
 use Rattle.std.specs.Option.{option_map}
 use Rattle.std.proofs.lemmas.List.Folds.{position_or_len_push}
-use Rattle.std.proofs.lemmas.List.{get_or_default}
 use Rattle.std.proofs.lemmas.List.Sums.{position_or_len_is}
 use Rattle.std.proofs.lemmas.Bool.{eq-eqb}
 use Rattle.std.proofs.lemmas.Option.{slice_get_within, get_or_from_slice_get}
@@ -26,7 +25,7 @@ below_or_here (suc j) (suc n) lt = further (below_or_here j n (omega (arith, lt)
     further (inl below) = inl (omega (arith, below))
     further (inr here) = inr (ap suc here)
 
-same_bits-sound : (xs ys : List Bool) → same_bits xs ys ≡ true → xs ≡ ys
+pub same_bits-sound : (xs ys : List Bool) → same_bits xs ys ≡ true → xs ≡ ys
 same_bits-sound [] [] h = refl
 same_bits-sound [] (y ∷ ys) h = cc
 same_bits-sound (x ∷ xs) [] h = cc
@@ -97,19 +96,6 @@ instance_same f g h same (l ∷ clause) = step (existential_of f (variable_of l)
     step : (o : Option Existential) → {ns ms : List NamedLiteral} → ns ≡ ms → cons_option (option_map (λ y. named_literal (g y) (is_negative l)) o) ns ≡ cons_option (option_map (λ y. named_literal (h y) (is_negative l)) o) ms
     step None rest = rest
     step (Some y) rest = let e : named_literal (g y) (is_negative l) ≡ named_literal (h y) (is_negative l) = ap (λ n. named_literal n (is_negative l)) (same y) in cc
-
--- what a test says of the row at a place
-pub agrees_at : (p : List Bool → Bool) (items rows : List (List Bool)) (i : ℕ) (r : List Bool) (b : Bool) → items ≡ rows → i < length items → r ≡ get_or items i r → b ≡ p r
-    → b ≡ p (get_or rows i [])
-agrees_at p items rows i r b same lt r_is b_is = b_is ∙ ap p (r_is ∙ get_or_default items i r [] lt ∙ ap (λ xs. get_or xs i []) same)
-
-pub differs_below : (p : List Bool → Bool) (rows : List (List Bool)) (i : ℕ) → ((k : ℕ) → k < i → p (get_or rows k []) ≡ false) → p (get_or rows i []) ≡ false
-    → (k : ℕ) → k < i + 1 → p (get_or rows k []) ≡ false
-differs_below p rows i before here k lt = by_place (below_or_here k i lt)
-  where
-    by_place : (k < i) ⊎ (k ≡ i) → p (get_or rows k []) ≡ false
-    by_place (inl below) = before k below
-    by_place (inr same) = ap (λ n. p (get_or rows n [])) same ∙ here
 
 pub first_is : (p : List Bool → Bool) (rows : List (List Bool)) (i : ℕ) → i < length rows → ((k : ℕ) → k < i → p (get_or rows k []) ≡ false) → p (get_or rows i []) ≡ true
     → i ≡ position_or_len p rows

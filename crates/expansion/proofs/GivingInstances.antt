@@ -254,10 +254,6 @@ pub record AreGivenSoFar (f : Dqbf) (t : TableState) (row : List Bool) (vs : Lis
   pub adding : IsAdding f t row (length f.existentials) j new.entries
   pub variables : AreNewArbiters f t row new.entries vs
 
-pub none_given : (f : Dqbf) (t : TableState) (row : List Bool) (vs : List ℕ) (log : ProofLog) → IsAdding f t row (length f.existentials) 0 log.entries → AreNewArbiters f t row log.entries vs
-    → AreGivenSoFar f t row vs 0 log log
-none_given f t row vs log adding variables = record { grew = λ start. grown_by_none (IsAddedBy f instances t.group true start) log log refl; adding = adding; variables = variables }
-
 pub given_so_far : (f : Dqbf) (t : TableState) (row : List Bool) (vs : List ℕ) (j : ℕ) (old log new : ProofLog) → AreGivenSoFar f t row vs j old log → IsGivenNext f t row j log new
     → AreGivenSoFar f t row vs (j + 1) old new
 given_so_far f t row vs j old log new before next = record {

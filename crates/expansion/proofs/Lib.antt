@@ -13,3 +13,6 @@ mod Instancing
 mod GivingInstances
 mod AddingRows
 mod Standing
+mod Comparing
+mod RowOrders
+mod Leading

@@ -93,12 +93,13 @@ table_searched f t old new g table = subst (IsTable f t) (sym g.grown) (record {
   existentials = table.existentials;
   own_group = each_grown IsLearnedEntry (IsOwnGiven f instances t.group) (learned_own_given f instances t.group) g.more old.entries g.each table.own_group;
   own = rw (filter_grown IsLearnedEntry (is_own instances) (learned_not_own instances) g.more old.entries g.each) table.own;
+  first_rows = table.first_rows;
 })
 
 pub table_answered : (f : Dqbf) (t : TableState) (assumptions : List Literal) (old new : ProofLog) (id : ℕ) → IsRefutedUnder old new assumptions id → IsTable f t old.entries → IsTable f t new.entries
 table_answered f t assumptions old new id r table =
     let before = table_searched f t old r.before r.learned table in
-    subst (λ (l : ProofLog). IsTable f t l.entries) (sym r.answered) (record { group = before.group; existentials = before.existentials; own_group = (tt, before.own_group); own = before.own })
+    subst (λ (l : ProofLog). IsTable f t l.entries) (sym r.answered) (record { group = before.group; existentials = before.existentials; own_group = (tt, before.own_group); own = before.own; first_rows = before.first_rows })
 
 -- a literal among the negated selectors of one group
 only_selector : (g : ℕ) (l : Literal) → holds (positive g ∷ []) (opposite l) ≡ true → l ≡ negative g

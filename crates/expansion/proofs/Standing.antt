@@ -25,6 +25,7 @@ table_left f t engine group silent old new rest other apart table = record {
   existentials = table.existentials;
   own_group = rest.groups instances t.group (Selector t.group) apart table.group table.own_group;
   own = subst (IsTablePart f t) (sym (rest.others instances (other_engine engine instances other))) table.own;
+  first_rows = table.first_rows;
 }
 
 pub tables_left : EnginesLeaveRest → EnginesLeaveTables
@@ -35,6 +36,6 @@ tables_left law f t engine group silent old new grew other apart =
 
 pub round_left : RoundsLeaveTables
 round_left f t row values j earlier full = (
-  record { group = full.table.group; existentials = full.table.existentials; own_group = (tt, full.table.own_group); own = full.table.own },
+  record { group = full.table.group; existentials = full.table.existentials; own_group = (tt, full.table.own_group); own = full.table.own; first_rows = full.table.first_rows },
   ap (λ rs. rs ++ row ∷ []) full.rows,
 )

@@ -1,9 +1,9 @@
 -- A table to which a row is added: its existentials get their pairs' variables one by one, and then its instances are given in order.
 use Rattle.std.specs.Prelude.{◌≡◌, ℕ, ◌+◌, ◌^◌, ◌<◌, ◌≤◌, ◌⊎◌, Bool, true, false, List, [], ◌∷◌, ◌++◌, map, take, length, Some, slice_get}
-use Rattle.std.specs.List.{All, Contains, list_any, position_or_len}
+use Rattle.std.specs.List.{All, Contains, list_any}
 use Rattle.dq_lits.specs.Literal.{Literal, positive, negative}
-use Rattle.dq_lits.specs.Formula.{Dqbf, Existential}
-use Rattle.dq_lits.specs.Expansion.{universal_literal_true, agree_on}
+use Rattle.dq_lits.specs.Formula.{Dqbf}
+use Rattle.dq_lits.specs.Expansion.{universal_literal_true}
 use Rattle.hint_log.specs.Entries.{Entry, Given, ProofLog, name_of, rounds_of}
 use Rattle.hint_log.specs.Growth.{Each, Grew}
 use Rattle.hint_log.specs.Naming.{arbiter, rows_of}
@@ -43,10 +43,6 @@ pub record IsAdding (f : Dqbf) (t : TableState) (row : List Bool) (named given :
   pub rows : rows_of entries ≡ with_row t row
   pub faults : length (fault_groups entries) ≤ rounds_of entries + 1
   pub own : IsAddingPart f t row named given (part instances entries)
-
--- the place of the first row that agrees with this one on what the existential at a place sees; the number of rows where none does
-abbrev pub IsFirstRow : Dqbf → List (List Bool) → List Bool → ℕ → ℕ → Type 0
-IsFirstRow f rows row place first = (y : Existential) → slice_get f.existentials place ≡ Some y → first ≡ position_or_len (agree_on f y row) rows
 
 -- the variable of the new row's pair of the existential at a place was found or named
 pub record IsNamedNext (f : Dqbf) (t : TableState) (row : List Bool) (place v : ℕ) (old new : ProofLog) : Type 0 where

@@ -12,13 +12,15 @@ use Rattle.hint_log.specs.Naming.{AreNamedAs, arbiter, on_arbiter, rows_of}
 use Rattle.hint_log.specs.declared.names.Name.TheVariants.{Selector, Pair}
 use Rattle.hint_log.specs.declared.origins.Origin.TheVariants.{Instance}
 use Rattle.log_laws.specs.Engines.{instances, part, IsOwnGiven}
+use Rattle.expansion.specs.FirstRows.{RowIndex, IsRowIndex}
 
--- the group of the instances; and for each row the variables of its pairs, in order of the existentials
+-- the group of the instances; for each row the variables of its pairs, in order of the existentials; and where first rows are found
 pub record TableState : Type 0 where
   pub group : ℕ
   pub existentials : List ℕ
   pub rows : List (List Bool)
   pub pairs : List (List ℕ)
+  pub first_rows : RowIndex
 
 -- the variables are named as the arbiters of a row
 abbrev pub AreArbiters : Dqbf → List Entry → List (List Bool) → List Bool → List ℕ → Type 0
@@ -46,6 +48,7 @@ pub record IsTable (f : Dqbf) (t : TableState) (entries : List Entry) : Type 0 w
   pub existentials : t.existentials ≡ map (λ y. y.variable) f.existentials
   pub own_group : Each (IsOwnGiven f instances t.group) entries
   pub own : IsTablePart f t (part instances entries)
+  pub first_rows : IsRowIndex f t.rows t.first_rows
 
 -- a table of a well-formed formula whose rows are those of all rounds
 pub record IsFullTable (f : Dqbf) (t : TableState) (entries : List Entry) : Type 0 where

@@ -7,7 +7,8 @@ ghost use Rattle.dq_lits.specs.Expansion.{agree_on};
 ghost use Rattle.hint_log.specs.Entries.{Entry, name_of};
 ghost use Rattle.hint_log.specs.Growth.{Grew};
 ghost use Rattle.log_laws.specs.Engines.{instances, part, IsAddedBy};
-ghost use Rattle.expansion.specs.Adding.{IsAdding, AreNewArbiters, IsFirstRow, IsNamedNext};
+ghost use Rattle.expansion.specs.Adding.{IsAdding, AreNewArbiters, IsNamedNext};
+ghost use Rattle.expansion.specs.FirstRows.{IsFirstRow, AreFirstRows};
 
 use crate::tables::Table;
 use dq_formula::Formula;
@@ -16,26 +17,27 @@ use hint_log::{Log, Name};
 use oracle::Oracle;
 
 impl Table {
-    // The variables of a new row's pairs, in order of the existentials.
+    // The variables of a new row's pairs, in order of the existentials, where these are the first rows that agree with it.
     pub(crate) fn row_pairs<O: Oracle>(
         &self,
         oracle: &mut O,
         f: &Formula,
         row: &Row,
+        firsts: &[usize],
         log: &mut Log,
     ) -> Result<Vec<u64>, Memory>
         requires fit { O.Fits oracle.old log.old }
         requires adding { IsAdding f.now self.now row.now 0 0 log.old.entries }
         requires formula { IsWellFormed f.now }
+        requires firsts { AreFirstRows f.now self.now.rows row.now (length f.now.existentials) firsts.now }
         ensures fit { O.Fits oracle.new log.new }
         ensures grew { (first : List Entry) → Grew (IsAddedBy f.now instances self.now.group true first) log.old log.new }
         ensures adding { OnOk result (IsAdding f.now self.now row.now (length f.now.existentials) 0 log.new.entries) }
         ensures variables { IfOk result (λ vs. AreNewArbiters f.now self.now row.now log.new.entries vs.items) }
     {
         let mut variables = Vec::new(self.alloc);
-        for place in 0..self.existentials.len() {
-            let first = self.first_row(f, row, self.existentials[place]);
-            let v = self.arbiter(oracle, row, place, first, log)?;
+        for place in 0..f.existentials().len() {
+            let v = self.arbiter(oracle, row, place, firsts[place], log)?;
             variables.push(v)?;
         }
         Ok(variables)
@@ -74,20 +76,5 @@ impl Table {
         ensures { result ≡ length self.now.rows + 1 }
     {
         self.rows.items().len() as u64 + 1
-    }
-
-    // The place of the first row that agrees with this one on what an existential sees; the number of rows where none does.
-    fn first_row(&self, f: &Formula, row: &Row, y: u64) -> usize
-        requires whole { All (λ r. length r ≡ length f.now.universals) self.now.rows }
-        requires row_length { length row.now ≡ length f.now.universals }
-        requires declared { IsSome (existential_of f.now y) }
-        ensures { (e : Existential) → existential_of f.now y ≡ Some e → result ≡ position_or_len (agree_on f.now e row.now) self.now.rows }
-    {
-        for (place, r) in self.rows.items().iter().enumerate() {
-            if f.same_on(y, row, r) {
-                return place;
-            }
-        }
-        self.rows.items().len()
     }
 }

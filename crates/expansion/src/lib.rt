@@ -6,8 +6,11 @@ pub use points::Points;
 pub use tables::{Exp, Table};
 
 mod arbiters;
+mod first_rows;
 mod instances;
 pub mod laws;
+mod leaders;
+mod orders;
 mod points;
 mod tables;
 mod universals;

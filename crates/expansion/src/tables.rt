@@ -7,8 +7,10 @@ ghost use Rattle.hint_log.specs.Naming.{rows_of};
 ghost use Rattle.hint_log.specs.ProductiveLog.{fault_groups};
 ghost use Rattle.log_laws.specs.Engines.{instances, IsAddedBy, HasNone};
 ghost use Rattle.expansion.specs.Table.{IsTable, IsFullTable, ArePoints, point_bits, IsRefutedBy};
+ghost use Rattle.expansion.specs.FirstRows.{IsRowIndex, AreFirstRows};
 ghost use Rattle.expansion.specs.Silence.{is_silent};
 
+use crate::first_rows::FirstRows;
 use crate::points::Points;
 use dq_formula::Formula;
 use dq_lits::{Memory, Row, RowList};
@@ -37,6 +39,7 @@ pub struct Table {
     pub(crate) rows: RowList,
     // For each row the variables of its pairs, in order of the existentials.
     pub(crate) pairs: FlatLists<u64>,
+    pub(crate) first_rows: FirstRows,
 }
 
 impl Model for Table {
@@ -46,7 +49,7 @@ impl Model for Table {
 
     ghost Value = { TableState };
 
-    ghost view = { λ t. record { group = variable_of t.group.selector; existentials = t.existentials.items; rows = t.rows; pairs = t.pairs } };
+    ghost view = { λ t. record { group = variable_of t.group.selector; existentials = t.existentials.items; rows = t.rows; pairs = t.pairs; first_rows = t.first_rows } };
 
     ghost invariant = { λ t. is_negative t.group.selector ≡ false };
 }
@@ -68,6 +71,7 @@ impl Table {
         ensures rows { IfOk result (λ t. t.rows ≡ []) }
     {
         let existentials = Vec::from_slice(alloc, f.existentials())?;
+        let first_rows = FirstRows::new(alloc, f)?;
         let who = oracle.tenant()?;
         let group = oracle.group(&who, log)?;
         Ok(Table {
@@ -76,6 +80,7 @@ impl Table {
             existentials,
             rows: RowList::new(alloc),
             pairs: FlatLists::new(alloc),
+            first_rows,
         })
     }
 
@@ -95,8 +100,8 @@ impl Table {
         &self.rows.items()[k as usize - 1]
     }
 
-    /// Adds the row of the newest round, and gives the oracle the instances of the matrix under it, each once. The table stays as it was
-    /// where memory is wanting.
+    /// Adds the row of the newest round, and gives the oracle the instances of the matrix under it, each once. Where memory is wanting the
+    /// table stays as it was, but for what it knows of the order of its rows.
     pub fn add_row<O: Oracle>(
         &mut self,
         oracle: &mut O,
@@ -115,18 +120,59 @@ impl Table {
         ensures group { self.new.group ≡ self.old.group }
         ensures table { OnOk result (IsFullTable f.now self.new log.new.entries) }
         ensures rows { OnOk result (self.new.rows ≡ self.old.rows ++ row.now ∷ []) }
+        ensures err { OnErr result (self.new ≡ record self.old { first_rows = self.new.first_rows }) }
+    {
+        let firsts = self.find_rows(f, row)?;
+        self.add_found(oracle, f, row, &firsts, log)
+    }
+
+    // The same, where the first rows that agree with it are found.
+    fn add_found<O: Oracle>(
+        &mut self,
+        oracle: &mut O,
+        f: &Formula,
+        row: &Row,
+        firsts: &[usize],
+        log: &mut Log,
+    ) -> Result<(), Memory>
+        requires fit { O.Fits oracle.old log.old }
+        requires formula { IsWellFormed f.now }
+        requires table { IsTable f.now self.old log.old.entries }
+        requires rows { rows_of log.old.entries ≡ self.old.rows ++ row.now ∷ [] }
+        requires row_length { length row.now ≡ length f.now.universals }
+        requires few { length (fault_groups log.old.entries) ≤ rounds_of log.old.entries + 1 }
+        requires firsts { AreFirstRows f.now self.old.rows row.now (length f.now.existentials) firsts.now }
+        ensures fit { O.Fits oracle.new log.new }
+        ensures grew { (first : List Entry) → Grew (IsAddedBy f.now instances self.old.group true first) log.old log.new }
+        ensures group { self.new.group ≡ self.old.group }
+        ensures table { OnOk result (IsFullTable f.now self.new log.new.entries) }
+        ensures rows { OnOk result (self.new.rows ≡ self.old.rows ++ row.now ∷ []) }
         ensures err { OnErr result (self.new ≡ self.old) }
     {
         let copy = row.copy()?;
-        let variables = self.row_pairs(oracle, f, row, log)?;
+        let variables = self.row_pairs(oracle, f, row, firsts, log)?;
         self.give_instances(oracle, f, row, &variables, log)?;
         self.push(copy, &variables)
+    }
+
+    // For each existential, the place of the first row that agrees with this one on what it sees.
+    fn find_rows(&mut self, f: &Formula, row: &Row) -> Result<Vec<usize>, Memory>
+        requires whole { All (λ r. length r ≡ length f.now.universals) self.old.rows }
+        requires row_length { length row.now ≡ length f.now.universals }
+        requires index { IsRowIndex f.now self.old.rows self.old.first_rows }
+        ensures same { self.new ≡ record self.old { first_rows = self.new.first_rows } }
+        ensures index { IsRowIndex f.now self.new.rows self.new.first_rows }
+        ensures firsts { IfOk result (λ firsts. AreFirstRows f.now self.new.rows row.now (length f.now.existentials) firsts.items) }
+    {
+        self.first_rows
+            .find_all(self.alloc, f, self.rows.items(), row)
     }
 
     // Adds a row with the variables of its pairs.
     fn push(&mut self, row: Row, variables: &[u64]) -> Result<(), Memory>
         ensures group { self.new.group ≡ self.old.group }
         ensures existentials { self.new.existentials ≡ self.old.existentials }
+        ensures first_rows { self.new.first_rows ≡ self.old.first_rows }
         ensures rows { OnOk result (self.new.rows ≡ self.old.rows ++ row ∷ []) }
         ensures pairs { OnOk result (self.new.pairs ≡ self.old.pairs ++ variables.now ∷ []) }
         ensures err { OnErr result (self.new ≡ self.old) }
