@@ -1,6 +1,7 @@
 -- The bit of a variable in a row of bits.
-use Rattle.std.proofs.Common.{◌≡◌, ℕ, zero, suc, ◌+◌, ◌<◌, ◌==◌, Bool, true, false, cond, List, [], ◌∷◌, length, drop, get_or, inl, inr, refl, sym, ap, ◌∙◌, arith}
-use Rattle.std.proofs.lemmas.Bool.{cases_Bool, eqb-true}
+use Rattle.std.proofs.Common.{◌≡◌, ◌≢◌, ℕ, zero, suc, ◌+◌, ◌<◌, ◌==◌, Bool, true, false, cond, List, [], ◌∷◌, length, drop, get_or, inl, inr, refl, sym, ap, ◌∙◌, arith}
+use Rattle.std.proofs.lemmas.Bool.{cases_Bool, eqb-true, eq-eqb}
+use Rattle.std.specs.List.{AllPairs}
 use Rattle.dq_lits.specs.Row.{bit_of, assignment_of}
 
 -- a place more, where another variable stands
@@ -39,3 +40,12 @@ looked_here (z ∷ xs) (b ∷ row) y (suc i) x lt is here = looked_here xs row y
 
 pub differs : (x y : ℕ) → (x ≡ y → ⊥) → (x == y) ≡ false
 differs x y not = elim (cases_Bool (x == y)) [ inl same ↦ absurd (not (eqb-true x y same)) | inr other ↦ other ]
+
+-- the bit at a place, where the variables are distinct
+pub bit_at_place : (xs : List ℕ) (row : List Bool) (y p : ℕ) → AllPairs (λ v w. v ≢ w) xs → p < length xs → get_or xs p 0 ≡ y → assignment_of xs row y ≡ bit_of row p
+bit_at_place [] row y p once below is = absurd (omega (arith, below))
+bit_at_place (x ∷ xs) [] y p once below is = refl
+bit_at_place (x ∷ xs) (b ∷ row) y zero once below is = ap (λ t. cond t b (assignment_of xs row y)) (eq-eqb x y is)
+bit_at_place (x ∷ xs) (b ∷ row) y (suc p) once below is =
+    ap (λ t. cond t b (assignment_of xs row y)) (differs x y (λ e. once 0 (suc p) 0 (omega arith) (omega (arith, below)) (e ∙ sym is)))
+    ∙ bit_at_place xs row y p (λ i j d order inside. once (suc i) (suc j) d (omega (arith, order)) (omega (arith, inside))) (omega (arith, below)) is

@@ -1,4 +1,5 @@
-ghost use Rattle.std.specs.Prelude.{◌≡◌, All, map, ◌≤◌, ◌+◌, ◌-◌, ◌++◌, ◌∷◌, [], ℕ, List, length, true, false, OnOk, OnErr, IfOk, IsErrOf, Some, None, Ok, slice_get};
+ghost use Rattle.std.specs.Prelude.{◌≡◌, ◌≢◌, All, map, ◌≤◌, ◌+◌, ◌-◌, ◌++◌, ◌∷◌, [], ℕ, List, length, true, false, OnOk, OnErr, IfOk, IsErrOf, Some, None, Ok, slice_get};
+ghost use Rattle.std.specs.List.{AllPairs};
 ghost use Rattle.dq_lits.specs.Formula.{Dqbf, IsWellFormed};
 ghost use Rattle.dq_lits.specs.Expansion.{IsExpansionUnsatisfiable};
 ghost use Rattle.hint_log.specs.Entries.{Entry, ProofLog, name_of, steps_of, rounds_of};
@@ -11,7 +12,7 @@ ghost use Rattle.expansion.specs.FirstRows.{IsRowIndex, AreFirstRows};
 ghost use Rattle.expansion.specs.Silence.{is_silent};
 
 use crate::first_rows::FirstRows;
-use crate::points::Points;
+use crate::points::{Points, places_in_order};
 use dq_formula::Formula;
 use dq_lits::{Memory, Row, RowList};
 use flat_lists::FlatLists;
@@ -36,6 +37,8 @@ pub struct Table {
     pub(crate) alloc: Global,
     pub(crate) group: Group,
     pub(crate) existentials: Vec<u64>,
+    // Their places, in order of the variables.
+    pub(crate) order: Vec<usize>,
     pub(crate) rows: RowList,
     // For each row the variables of its pairs, in order of the existentials.
     pub(crate) pairs: FlatLists<u64>,
@@ -71,6 +74,7 @@ impl Table {
         ensures rows { IfOk result (λ t. t.rows ≡ []) }
     {
         let existentials = Vec::from_slice(alloc, f.existentials())?;
+        let order = places_in_order(alloc, &existentials)?;
         let first_rows = FirstRows::new(alloc, f)?;
         let who = oracle.tenant()?;
         let group = oracle.group(&who, log)?;
@@ -78,6 +82,7 @@ impl Table {
             alloc,
             group,
             existentials,
+            order,
             rows: RowList::new(alloc),
             pairs: FlatLists::new(alloc),
             first_rows,
@@ -210,15 +215,21 @@ impl Table {
     fn points<O: Oracle>(&self, oracle: &O) -> Result<Points, Memory>
         requires told { O.is_told oracle.now ≡ true }
         requires made { All (All (O.HasVariable oracle.now)) self.now.pairs }
+        requires distinct { AllPairs (λ v w. v ≢ w) self.now.existentials }
         ensures variables { IfOk result (λ points. points.variables ≡ self.now.existentials) }
         ensures bits { IfOk result (λ points. points.rows ≡ map (map (O.values oracle.now)) self.now.pairs) }
     {
         let existentials = Vec::from_slice(self.alloc, &self.existentials)?;
+        let order = Vec::from_slice(self.alloc, &self.order)?;
         let mut bits = RowList::new(self.alloc);
         for place in 0..self.pairs.len() {
             bits.push(row_of_values(self.alloc, oracle, self.pairs.get(place))?)?;
         }
-        Ok(Points { existentials, bits })
+        Ok(Points {
+            existentials,
+            order,
+            bits,
+        })
     }
 }
 

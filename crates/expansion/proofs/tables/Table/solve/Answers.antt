@@ -1,13 +1,20 @@
-use Rattle.std.proofs.Common.{◌≡◌, ◌∙◌, ap, subst, Ok, refl, false, [], ◌∷◌}
+use Rattle.std.proofs.Common.{◌≡◌, ◌∙◌, ap, subst, Ok, refl, false, [], ◌∷◌, ◌≢◌, sym}
+use Rattle.std.specs.List.{AllPairs}
 use Rattle.hint_log.specs.Entries.{clause_at}
 use Rattle.oracle.specs.Calls.{IsRefutedUnder}
 use Rattle.log_laws.specs.Engines.{instances}
 use Rattle.expansion.specs.Table.{TableState, IsRefutedBy, ArePoints, point_bits}
 use Rattle.expansion.specs.Silence.{is_silent}
 use Rattle.expansion.proofs.Refuting.{searched_grew, refuted_grew, table_searched, table_answered, table_refuted}
-use Rattle.expansion.proofs.Pointing.{are_points}
+use Rattle.expansion.proofs.Pointing.{are_points, existentials_once}
 use Rattle.expansion.proofs.Told.{table_told, switch_is, switched_on}
 use Rattle.expansion.proofs.tables.Table.solve.Goals as goal
+
+pub points-requires-clause-distinct : goal.points-requires-clause-distinct
+points-requires-clause-distinct g c =
+    let f = c.requires.table.0 in
+    let full = c.requires.table.1 in
+    subst (AllPairs (λ v w. v ≢ w)) (sym full.table.existentials) (existentials_once f.universals f.existentials full.formula.prefix.declared_once)
 
 pub points-requires-clause-made : goal.points-requires-clause-made
 points-requires-clause-made g c =
