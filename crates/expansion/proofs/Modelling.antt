@@ -1,0 +1,161 @@
+-- The values that a search found, as a model of the instances.
+use Rattle.std.proofs.Common.{◌≡◌, ℕ, zero, suc, ◌+◌, ◌-◌, ◌*◌, ◌/◌, ◌%◌, ◌≤◌, ◌==◌, Bool, true, false, true≢false, cond, ◌&&◌, ◌⊎◌, inl, inr, List, [], ◌∷◌, None, Some, refl, sym, ◌∙◌, ap, subst, arith}
+use Rattle.std.specs.List.{Contains, position_or_len}
+use Rattle.std.specs.Option.{option_and_then}
+use Rattle.std.proofs.Math.Nat.{mod-eq-sub-div-mul}
+use Rattle.std.proofs.lemmas.Nat.{div-mul-add}
+use Rattle.std.proofs.lemmas.Bool.{eqb-true, eq-eqb, and_parts}
+use Rattle.dq_lits.specs.Literal.{Assignment, Literal}
+use Rattle.dq_lits.specs.Formula.{Dqbf, Existential}
+use Rattle.dq_lits.specs.Expansion.{agree_on, pair_number}
+use Rattle.hint_log.specs.Conditions.{AreLogged}
+use Rattle.hint_log.specs.Entries.{Entry, Named, Given, Learned, Answer, Round, has_id, last_id, numbered, clause_of, clause_at, name_of}
+use Rattle.hint_log.specs.declared.names.Name.{Name}
+use Rattle.hint_log.specs.declared.names.Name.TheVariants.{Selector, Pair, Input, And, Bad, Copy}
+use Rattle.hint_log.specs.declared.origins.Origin.{Origin}
+use Rattle.hint_log.specs.Naming.{arbiter}
+use Rattle.log_laws.specs.Engines.{Engine, is_own, part}
+
+-- a name in an engine's part is a name in the log
+pub own_name : (engine : Engine) (es : List Entry) (v : ℕ) (n : Name) → AreLogged es → name_of (part engine es) v ≡ Some n → name_of es v ≡ Some n
+own_name engine [] v n logged h = h
+own_name engine (Named w m ∷ es) v n logged h =
+    by_own (is_own engine (Named w m)) (own_name engine es v n logged.1) h
+  where
+    with_name : (b : Bool) → (v == w) ≡ b → (name_of (part engine es) v ≡ Some n → name_of es v ≡ Some n) → cond b (Some m) (name_of (part engine es) v) ≡ Some n
+        → cond b (Some m) (name_of es v) ≡ Some n
+    with_name true same before is = is
+    with_name false other before is = before is
+
+    without : (b : Bool) → (v == w) ≡ b → name_of es v ≡ Some n → cond b (Some m) (name_of es v) ≡ Some n
+    without true same is = let none : name_of es v ≡ None = ap (name_of es) (eqb-true v w same) ∙ logged.0.unnamed in cc
+    without false other is = is
+
+    by_own : (b : Bool) → (name_of (part engine es) v ≡ Some n → name_of es v ≡ Some n) → name_of (cond b (Named w m ∷ part engine es) (part engine es)) v ≡ Some n
+        → cond (v == w) (Some m) (name_of es v) ≡ Some n
+    by_own true before is = with_name (v == w) refl before is
+    by_own false before is = without (v == w) refl (before is)
+own_name engine (Given o c ∷ es) v n logged h = own_name engine es v n logged.1 (past (is_own engine (Given o c)) h)
+  where
+    past : (b : Bool) → name_of (cond b (Given o c ∷ part engine es) (part engine es)) v ≡ Some n → name_of (part engine es) v ≡ Some n
+    past true is = is
+    past false is = is
+own_name engine (Learned c hs ∷ es) v n logged h = own_name engine es v n logged.1 h
+own_name engine (Answer c hs ∷ es) v n logged h = own_name engine es v n logged.1 h
+own_name engine (Round r b j ∷ es) v n logged h = own_name engine es v n logged.1 h
+
+pub later : {X : Type 0} (x e : X) (es : List X) → Contains es x → Contains (e ∷ es) x
+later x e es (k, lt, at) = (suc k, omega (arith, lt), at)
+
+pub head_or_tail : {X : Type 0} (x e : X) (es : List X) → Contains (e ∷ es) x → (e ≡ x) ⊎ Contains es x
+head_or_tail x e es (zero, lt, at) = inl at
+head_or_tail x e es (suc k, lt, at) = inr (k, omega (arith, lt), at)
+
+-- an entry of an engine's part is one of the log
+pub own_entry : (engine : Engine) (es : List Entry) (e : Entry) → Contains (part engine es) e → Contains es e
+own_entry engine [] e h = h
+own_entry engine (x ∷ es) e h = by_own (is_own engine x) (own_entry engine es e) h
+  where
+    by_own : (b : Bool) → (Contains (part engine es) e → Contains es e) → Contains (cond b (x ∷ part engine es) (part engine es)) e → Contains (x ∷ es) e
+    by_own true before has = elim (head_or_tail e x (part engine es) has) [ inl here ↦ (0, omega arith, here) | inr behind ↦ later e x es (before behind) ]
+    by_own false before has = later e x es (before has)
+
+small_id : (es : List Entry) (id : ℕ) (c : List Literal) → clause_at es id ≡ Some c → id ≤ last_id es
+small_id [] id c h = cc
+small_id (x ∷ es) id c h = by (has_id x) (id == last_id es + 1) refl (small_id es id c) h
+  where
+    by : (a b : Bool) → (id == last_id es + 1) ≡ b → (clause_at es id ≡ Some c → id ≤ last_id es) → option_and_then clause_of (cond (a && b) (Some x) (numbered has_id es id)) ≡ Some c
+        → id ≤ cond a (last_id es + 1) (last_id es)
+    by true true same before is = let at = eqb-true id (last_id es + 1) same in omega (arith, at)
+    by true false other before is = let le = before is in omega (arith, le)
+    by false b other before is = before is
+
+-- a given clause has an id
+pub given_id : (es : List Entry) (o : Origin) (c : List Literal) → Contains es (Given o c) → (id : ℕ) × (clause_at es id ≡ Some c)
+given_id [] o c (k, lt, at) = absurd (omega (arith, lt))
+given_id (x ∷ es) o c h =
+    elim (head_or_tail (Given o c) x es h) [
+      | inl here ↦ (
+        last_id es + 1,
+        subst (λ e. clause_at (e ∷ es) (last_id es + 1) ≡ Some c) (sym here)
+            (ap (λ b. option_and_then clause_of (cond b (Some (Given o c)) (numbered has_id es (last_id es + 1)))) (eq-eqb (last_id es + 1) (last_id es + 1) refl)),
+      )
+      | inr behind ↦
+          (let before = given_id es o c behind in
+          let small = small_id es before.0 c before.1 in
+          (before.0, past before.0 (has_id x) (before.0 == last_id es + 1) refl small before.1))
+    ]
+  where
+    past : (id : ℕ) (a b : Bool) → (id == last_id es + 1) ≡ b → id ≤ last_id es → clause_at es id ≡ Some c
+        → option_and_then clause_of (cond (a && b) (Some x) (numbered has_id es id)) ≡ Some c
+    past id true true same small is = let at = eqb-true id (last_id es + 1) same in absurd (omega (arith, at, small))
+    past id true false other small is = is
+    past id false b other small is = is
+
+-- the variable that is named as a pair's arbiter
+abbrev pub is_pair : Name → ℕ → ℕ → Bool
+is_pair (Pair k y) l z = (k == l) && (y == z)
+is_pair _ l z = false
+
+abbrev pub variable_for : List Entry → ℕ → ℕ → ℕ
+variable_for [] k y = 0
+variable_for (Named v n ∷ es) k y = cond (is_pair n k y) v (variable_for es k y)
+variable_for (_ ∷ es) k y = variable_for es k y
+
+is_pair_sound : (n : Name) (k y : ℕ) → is_pair n k y ≡ true → n ≡ Pair k y
+is_pair_sound (Pair l z) k y h =
+    let parts = and_parts (l == k) (z == y) h in
+    ap (λ a. Pair a z) (eqb-true l k parts.0) ∙ ap (λ b. Pair k b) (eqb-true z y parts.1)
+is_pair_sound (Selector g) k y h = absurd (true≢false (sym h))
+is_pair_sound (Input x) k y h = absurd (true≢false (sym h))
+is_pair_sound (And a b) k y h = absurd (true≢false (sym h))
+is_pair_sound (Bad g j) k y h = absurd (true≢false (sym h))
+is_pair_sound (Copy s v) k y h = absurd (true≢false (sym h))
+
+is_pair_itself : (k y : ℕ) → is_pair (Pair k y) k y ≡ true
+is_pair_itself k y = ap (λ b. b && (y == y)) (eq-eqb k k refl) ∙ eq-eqb y y refl
+
+pub found_variable : (es : List Entry) (v k y : ℕ) → AreLogged es → name_of es v ≡ Some (Pair k y) → variable_for es k y ≡ v
+found_variable [] v k y logged h = cc
+found_variable (Named w n ∷ es) v k y logged h = by (is_pair n k y) refl (v == w) refl (found_variable es v k y logged.1) h
+  where
+    by : (a : Bool) → is_pair n k y ≡ a → (b : Bool) → (v == w) ≡ b → (name_of es v ≡ Some (Pair k y) → variable_for es k y ≡ v)
+        → cond b (Some n) (name_of es v) ≡ Some (Pair k y) → cond a w (variable_for es k y) ≡ v
+    by true pair true same before is = sym (eqb-true v w same)
+    by true pair false other before is =
+        let n_is = is_pair_sound n k y pair in
+        absurd (logged.0.fresh v (is ∙ ap Some (sym n_is)))
+    by false pair true same before is =
+        let n_is : n ≡ Pair k y = cc in
+        absurd (true≢false (sym (is_pair_itself k y) ∙ ap (λ m. is_pair m k y) (sym n_is) ∙ pair))
+    by false pair false other before is = before is
+found_variable (Given _ _ ∷ es) v k y logged h = found_variable es v k y logged.1 h
+found_variable (Learned _ _ ∷ es) v k y logged h = found_variable es v k y logged.1 h
+found_variable (Answer _ _ ∷ es) v k y logged h = found_variable es v k y logged.1 h
+found_variable (Round _ _ _ ∷ es) v k y logged h = found_variable es v k y logged.1 h
+
+-- a pair's number gives back the place of its row and its existential
+pair_row : (place v w : ℕ) → 1 ≤ w → w ≤ v → (place * v + w - 1) / v ≡ place
+pair_row place v w low high =
+    let same : place * v + w - 1 ≡ place * v + (w - 1) = omega arith in
+    ap (λ n. n / v) same ∙ div-mul-add place v (w - 1) (omega arith)
+
+pair_variable : (place v w : ℕ) → 1 ≤ w → w ≤ v → (place * v + w - 1) % v + 1 ≡ w
+pair_variable place v w low high =
+    let row = pair_row place v w low high in
+    let is = mod-eq-sub-div-mul (place * v + w - 1) v in
+    let times : (place * v + w - 1) / v * v ≡ place * v = ap (λ n. n * v) row in
+    omega (arith, is, times)
+
+-- the bits of the pairs, by the values of their arbiters
+abbrev pub pair_values : Assignment → List Entry → ℕ → Assignment
+pair_values values es v n = values (variable_for es ((n - 1) / v + 1) ((n - 1) % v + 1))
+
+pub arbiter_value : (values : Assignment) (es : List Entry) (f : Dqbf) (rows : List (List Bool)) (row : List Bool) (y : Existential) (v : ℕ) → AreLogged es
+    → 1 ≤ y.variable → y.variable ≤ f.variables → name_of es v ≡ Some (arbiter f rows row y) → values v ≡ pair_values values es f.variables (pair_number f rows row y)
+arbiter_value values es f rows row y v logged low high named =
+    let place = position_or_len (agree_on f y row) rows in
+    let found = found_variable es v (place + 1) y.variable logged named in
+    ap values (sym found)
+    ∙ sym (ap (λ k. values (variable_for es (k + 1) ((pair_number f rows row y - 1) % f.variables + 1))) (pair_row place f.variables y.variable low high)
+    ∙ ap (λ w. values (variable_for es (place + 1) w)) (pair_variable place f.variables y.variable low high))

@@ -1,0 +1,6 @@
+use Rattle.std.proofs.Common.{◌≤◌, length}
+use Rattle.expansion.proofs.Arbiting.{ArePairsSoFar}
+use Rattle.expansion.proofs.tables.Table.row_pairs.Given as goal
+
+abbrev pub invariant-loop-place : goal.invariant-loop-place
+invariant-loop-place g l = (g.O.Oracle.Fits l.oracle l.log) × (l.place ≤ length l.f.existentials) × ArePairsSoFar l.f l.self l.row l.place l.variables.items l.fn.log l.log

@@ -1,0 +1,111 @@
+//! The instances of the matrix under a new row.
+
+ghost use Rattle.std.specs.Prelude.{◌≡◌, ◌≤◌, ◌<◌, ◌^◌, ◌+◌, ℕ, List, Bool, true, All, map, length, IfOk, OnOk, OnErr};
+ghost use Rattle.std.specs.List.{list_any, filter_map};
+ghost use Rattle.dq_lits.specs.Formula.{IsWellFormed};
+ghost use Rattle.dq_lits.specs.Expansion.{universal_literal_true};
+ghost use Rattle.hint_log.specs.Entries.{Entry, name_of};
+ghost use Rattle.hint_log.specs.Growth.{Grew};
+ghost use Rattle.hint_log.specs.Naming.{AreNamedAs, on_arbiter};
+ghost use Rattle.log_laws.specs.Engines.{instances, part, IsAddedBy};
+ghost use Rattle.expansion.specs.Adding.{IsAdding, AreNewArbiters, IsGivenNext, AreInRange, signed};
+ghost use Rattle.expansion.specs.Table.{AreArbiters};
+
+use crate::tables::Table;
+use crate::universals::has_true_universal;
+use dq_formula::Formula;
+use dq_lits::{Lit, Memory, Row};
+use hint_log::{Log, Origin};
+use oracle::Oracle;
+use std::alloc::Global;
+
+impl Table {
+    // Gives the instances of all clauses under the new row, whose pairs have these variables.
+    pub(crate) fn give_instances<O: Oracle>(
+        &self,
+        oracle: &mut O,
+        f: &Formula,
+        row: &Row,
+        variables: &[u64],
+        log: &mut Log,
+    ) -> Result<(), Memory>
+        requires fit { O.Fits oracle.old log.old }
+        requires adding { IsAdding f.now self.now row.now (length f.now.existentials) 0 log.old.entries }
+        requires formula { IsWellFormed f.now }
+        requires variables { AreNewArbiters f.now self.now row.now log.old.entries variables.now }
+        ensures fit { O.Fits oracle.new log.new }
+        ensures grew { (first : List Entry) → Grew (IsAddedBy f.now instances self.now.group true first) log.old log.new }
+        ensures adding { OnOk result (IsAdding f.now self.now row.now (length f.now.existentials) (length f.now.matrix) log.new.entries) }
+        ensures variables { OnOk result (AreNewArbiters f.now self.now row.now log.new.entries variables.now) }
+    {
+        for j in 0..f.clauses() {
+            self.give_instance(oracle, f, row, variables, j, log)?;
+        }
+        Ok(())
+    }
+
+    // Gives the instance of a clause, unless a universal makes it true.
+    fn give_instance<O: Oracle>(
+        &self,
+        oracle: &mut O,
+        f: &Formula,
+        row: &Row,
+        variables: &[u64],
+        j: usize,
+        log: &mut Log,
+    ) -> Result<(), Memory>
+        requires fit { O.Fits oracle.old log.old }
+        requires clause { j < length f.now.matrix }
+        requires adding { IsAdding f.now self.now row.now (length f.now.existentials) j log.old.entries }
+        requires variables { AreNewArbiters f.now self.now row.now log.old.entries variables.now }
+        ensures fit { O.Fits oracle.new log.new }
+        ensures same { OnErr result (log.new ≡ log.old) }
+        ensures given { OnOk result (IsGivenNext f.now self.now row.now j log.old log.new) }
+    {
+        f.every_formula_is_lawful();
+        let clause = f.clause(j);
+        if has_true_universal(f, row, clause) {
+            return Ok(());
+        }
+        let literals = on_arbiters(self.alloc, f, variables, clause)?;
+        let origin = Origin::Instance {
+            round: self.next_round(),
+            clause: j as u64 + 1,
+        };
+        oracle.add(&self.group, &literals, origin, log)?;
+        Ok(())
+    }
+}
+
+// The existential literals of a clause, on the variables of their pairs.
+fn on_arbiters(
+    alloc: Global,
+    f: &Formula,
+    variables: &[u64],
+    clause: &[Lit],
+) -> Result<Vec<Lit>, Memory>
+    requires each { length variables.now ≡ length f.now.existentials }
+    requires in_range { AreInRange variables.now }
+    ensures { (own : List Entry) (rows : List (List Bool)) (row : List Bool) → AreArbiters f.now own rows row variables.now
+        → IfOk result (λ literals. AreNamedAs own literals.items (filter_map (on_arbiter f.now rows row) clause.now)) }
+{
+    let mut literals = Vec::new(alloc);
+    for l in clause {
+        if let Some(place) = f.existential_place(l.var()) {
+            literals.push(with_sign(variables[place], l.is_neg()))?;
+        }
+    }
+    Ok(literals)
+}
+
+fn with_sign(variable: u64, negated: bool) -> Lit
+    requires from_one { 1 ≤ variable }
+    requires in_range { variable < 2 ^ 62 }
+    ensures { result ≡ signed negated variable }
+{
+    if negated {
+        Lit::neg(variable)
+    } else {
+        Lit::pos(variable)
+    }
+}

@@ -1,0 +1,247 @@
+ghost use Rattle.std.specs.Prelude.{◌≡◌, ◌≢◌, All, map, ◌≤◌, ◌+◌, ◌-◌, ◌++◌, ◌∷◌, [], ℕ, List, length, true, false, OnOk, OnErr, IfOk, IsErrOf, Some, None, Ok, slice_get};
+ghost use Rattle.std.specs.List.{AllPairs};
+ghost use Rattle.dq_lits.specs.Formula.{Dqbf, IsWellFormed};
+ghost use Rattle.dq_lits.specs.Expansion.{IsExpansionUnsatisfiable};
+ghost use Rattle.hint_log.specs.Entries.{Entry, ProofLog, name_of, steps_of, rounds_of};
+ghost use Rattle.hint_log.specs.Growth.{Grew};
+ghost use Rattle.hint_log.specs.Naming.{rows_of};
+ghost use Rattle.hint_log.specs.ProductiveLog.{fault_groups};
+ghost use Rattle.log_laws.specs.Engines.{instances, IsAddedBy, HasNone};
+ghost use Rattle.expansion.specs.Table.{IsTable, IsFullTable, ArePoints, point_bits, IsRefutedBy};
+ghost use Rattle.expansion.specs.FirstRows.{IsRowIndex, AreFirstRows};
+ghost use Rattle.expansion.specs.Silence.{is_silent};
+
+use crate::first_rows::FirstRows;
+use crate::points::{Points, places_in_order};
+use dq_formula::Formula;
+use dq_lits::{Memory, Row, RowList};
+use flat_lists::FlatLists;
+use hint_log::{Log, Stop};
+use log_laws::laws::instances_have_no_model;
+use oracle::{Answer, Group, Oracle};
+use std::alloc::Global;
+use std::marker::Model;
+
+/// Whether the instances have a model.
+#[derive(Debug, Drop)]
+pub enum Exp {
+    /// They have: a bit for each pair.
+    Model(Points),
+    /// They have none; the logged answer of this id shows it.
+    Refuted(u64),
+}
+
+/// The instances of the matrix under some rows.
+#[derive(Debug, Drop)]
+pub struct Table {
+    pub(crate) alloc: Global,
+    pub(crate) group: Group,
+    pub(crate) existentials: Vec<u64>,
+    // Their places, in order of the variables.
+    pub(crate) order: Vec<usize>,
+    pub(crate) rows: RowList,
+    // For each row the variables of its pairs, in order of the existentials.
+    pub(crate) pairs: FlatLists<u64>,
+    pub(crate) first_rows: FirstRows,
+}
+
+impl Model for Table {
+    ghost use Rattle.std.specs.Prelude.{◌≡◌, false};
+    ghost use Rattle.dq_lits.specs.Literal.{variable_of, is_negative};
+    ghost use Rattle.expansion.specs.Table.{TableState};
+
+    ghost Value = { TableState };
+
+    ghost view = { λ t. record { group = variable_of t.group.selector; existentials = t.existentials.items; rows = t.rows; pairs = t.pairs; first_rows = t.first_rows } };
+
+    ghost invariant = { λ t. is_negative t.group.selector ≡ false };
+}
+
+impl Table {
+    /// A table without rows.
+    pub fn new<O: Oracle>(
+        alloc: Global,
+        oracle: &mut O,
+        f: &Formula,
+        log: &mut Log,
+    ) -> Result<Table, Memory>
+        requires fit { O.Fits oracle.old log.old }
+        requires none { HasNone instances log.old.entries }
+        ensures fit { O.Fits oracle.new log.new }
+        ensures grew { (group : ℕ) → Grew (IsAddedBy f.now instances group true log.old.entries) log.old log.new }
+        ensures unnamed { IfOk result (λ t. name_of log.old.entries t.group ≡ None) }
+        ensures made { IfOk result (λ t. IsTable f.now t log.new.entries) }
+        ensures rows { IfOk result (λ t. t.rows ≡ []) }
+    {
+        let existentials = Vec::from_slice(alloc, f.existentials())?;
+        let order = places_in_order(alloc, &existentials)?;
+        let first_rows = FirstRows::new(alloc, f)?;
+        let who = oracle.tenant()?;
+        let group = oracle.group(&who, log)?;
+        Ok(Table {
+            alloc,
+            group,
+            existentials,
+            order,
+            rows: RowList::new(alloc),
+            pairs: FlatLists::new(alloc),
+            first_rows,
+        })
+    }
+
+    /// How many rows there are.
+    pub fn rows(&self) -> u64
+        ensures { result ≡ length self.now.rows }
+    {
+        self.rows.items().len() as u64
+    }
+
+    /// The row of a round, by its number from 1 on.
+    pub fn row(&self, k: u64) -> &Row
+        requires from_one { 1 ≤ k }
+        requires last { k ≤ length self.now.rows }
+        ensures { slice_get self.now.rows (k - 1) ≡ Some result.now }
+    {
+        &self.rows.items()[k as usize - 1]
+    }
+
+    /// Adds the row of the newest round, and gives the oracle the instances of the matrix under it, each once. Where memory is wanting the
+    /// table stays as it was, but for what it knows of the order of its rows.
+    pub fn add_row<O: Oracle>(
+        &mut self,
+        oracle: &mut O,
+        f: &Formula,
+        row: &Row,
+        log: &mut Log,
+    ) -> Result<(), Memory>
+        requires fit { O.Fits oracle.old log.old }
+        requires formula { IsWellFormed f.now }
+        requires table { IsTable f.now self.old log.old.entries }
+        requires rows { rows_of log.old.entries ≡ self.old.rows ++ row.now ∷ [] }
+        requires row_length { length row.now ≡ length f.now.universals }
+        requires few { length (fault_groups log.old.entries) ≤ rounds_of log.old.entries + 1 }
+        ensures fit { O.Fits oracle.new log.new }
+        ensures grew { (first : List Entry) → Grew (IsAddedBy f.now instances self.old.group true first) log.old log.new }
+        ensures group { self.new.group ≡ self.old.group }
+        ensures table { OnOk result (IsFullTable f.now self.new log.new.entries) }
+        ensures rows { OnOk result (self.new.rows ≡ self.old.rows ++ row.now ∷ []) }
+        ensures err { OnErr result (self.new ≡ record self.old { first_rows = self.new.first_rows }) }
+    {
+        let firsts = self.find_rows(f, row)?;
+        self.add_found(oracle, f, row, &firsts, log)
+    }
+
+    // The same, where the first rows that agree with it are found.
+    fn add_found<O: Oracle>(
+        &mut self,
+        oracle: &mut O,
+        f: &Formula,
+        row: &Row,
+        firsts: &[usize],
+        log: &mut Log,
+    ) -> Result<(), Memory>
+        requires fit { O.Fits oracle.old log.old }
+        requires formula { IsWellFormed f.now }
+        requires table { IsTable f.now self.old log.old.entries }
+        requires rows { rows_of log.old.entries ≡ self.old.rows ++ row.now ∷ [] }
+        requires row_length { length row.now ≡ length f.now.universals }
+        requires few { length (fault_groups log.old.entries) ≤ rounds_of log.old.entries + 1 }
+        requires firsts { AreFirstRows f.now self.old.rows row.now (length f.now.existentials) firsts.now }
+        ensures fit { O.Fits oracle.new log.new }
+        ensures grew { (first : List Entry) → Grew (IsAddedBy f.now instances self.old.group true first) log.old log.new }
+        ensures group { self.new.group ≡ self.old.group }
+        ensures table { OnOk result (IsFullTable f.now self.new log.new.entries) }
+        ensures rows { OnOk result (self.new.rows ≡ self.old.rows ++ row.now ∷ []) }
+        ensures err { OnErr result (self.new ≡ self.old) }
+    {
+        let copy = row.copy()?;
+        let variables = self.row_pairs(oracle, f, row, firsts, log)?;
+        self.give_instances(oracle, f, row, &variables, log)?;
+        self.push(copy, &variables)
+    }
+
+    // For each existential, the place of the first row that agrees with this one on what it sees.
+    fn find_rows(&mut self, f: &Formula, row: &Row) -> Result<Vec<usize>, Memory>
+        requires whole { All (λ r. length r ≡ length f.now.universals) self.old.rows }
+        requires row_length { length row.now ≡ length f.now.universals }
+        requires index { IsRowIndex f.now self.old.rows self.old.first_rows }
+        ensures same { self.new ≡ record self.old { first_rows = self.new.first_rows } }
+        ensures index { IsRowIndex f.now self.new.rows self.new.first_rows }
+        ensures firsts { IfOk result (λ firsts. AreFirstRows f.now self.new.rows row.now (length f.now.existentials) firsts.items) }
+    {
+        self.first_rows
+            .find_all(self.alloc, f, self.rows.items(), row)
+    }
+
+    // Adds a row with the variables of its pairs.
+    fn push(&mut self, row: Row, variables: &[u64]) -> Result<(), Memory>
+        ensures group { self.new.group ≡ self.old.group }
+        ensures existentials { self.new.existentials ≡ self.old.existentials }
+        ensures first_rows { self.new.first_rows ≡ self.old.first_rows }
+        ensures rows { OnOk result (self.new.rows ≡ self.old.rows ++ row ∷ []) }
+        ensures pairs { OnOk result (self.new.pairs ≡ self.old.pairs ++ variables.now ∷ []) }
+        ensures err { OnErr result (self.new ≡ self.old) }
+    {
+        self.pairs.push(variables)?;
+        if let Err(refused) = self.rows.push(row) {
+            self.pairs.pop();
+            return Err(refused);
+        }
+        Ok(())
+    }
+
+    /// A model of all instances, or an answer that there is none. It stops for want of memory or at the log's limit, and may be called
+    /// again then.
+    pub fn solve<O: Oracle>(&mut self, oracle: &mut O, log: &mut Log) -> Result<Exp, Stop>
+        requires fit { O.Fits oracle.old log.old }
+        requires table { (f : Dqbf) × IsFullTable f self.old log.old.entries }
+        ensures fit { O.Fits oracle.new log.new }
+        ensures same { self.new ≡ self.old }
+        ensures grew { (f : Dqbf) → IsFullTable f self.old log.old.entries → Grew (IsAddedBy f instances self.old.group (is_silent result) log.old.entries) log.old log.new }
+        ensures table { (f : Dqbf) → IsFullTable f self.old log.old.entries → IsTable f self.new log.new.entries }
+        ensures model { (f : Dqbf) (points : _) → IsFullTable f self.old log.old.entries → result ≡ Ok (Exp.Model points) → ArePoints f self.old.rows (point_bits points) }
+        ensures refuted { (f : Dqbf) (id : ℕ) → IsFullTable f self.old log.old.entries → result ≡ Ok (Exp.Refuted id) → IsExpansionUnsatisfiable f self.old.rows }
+        ensures shown { (id : ℕ) → result ≡ Ok (Exp.Refuted id) → IsRefutedBy log.new.entries id }
+        ensures limit { IsErrOf result Stop.Limit → steps_of log.new.entries ≡ log.new.limit }
+    {
+        instances_have_no_model();
+        match oracle.solve(&[self.group], &[], log)? {
+            Answer::Unsat(id) => Ok(Exp::Refuted(id)),
+            Answer::Sat => Ok(Exp::Model(self.points(oracle)?)),
+        }
+    }
+
+    // The values that a search found, at the pairs.
+    fn points<O: Oracle>(&self, oracle: &O) -> Result<Points, Memory>
+        requires told { O.is_told oracle.now ≡ true }
+        requires made { All (All (O.HasVariable oracle.now)) self.now.pairs }
+        requires distinct { AllPairs (λ v w. v ≢ w) self.now.existentials }
+        ensures variables { IfOk result (λ points. points.variables ≡ self.now.existentials) }
+        ensures bits { IfOk result (λ points. points.rows ≡ map (map (O.values oracle.now)) self.now.pairs) }
+    {
+        let existentials = Vec::from_slice(self.alloc, &self.existentials)?;
+        let order = Vec::from_slice(self.alloc, &self.order)?;
+        let mut bits = RowList::new(self.alloc);
+        for place in 0..self.pairs.len() {
+            bits.push(row_of_values(self.alloc, oracle, self.pairs.get(place))?)?;
+        }
+        Ok(Points {
+            existentials,
+            order,
+            bits,
+        })
+    }
+}
+
+// The values of these variables, in order.
+fn row_of_values<O: Oracle>(alloc: Global, oracle: &O, variables: &[u64]) -> Result<Row, Memory>
+    requires told { O.is_told oracle.now ≡ true }
+    requires made { All (O.HasVariable oracle.now) variables.now }
+    ensures { IfOk result (λ row. row ≡ map (O.values oracle.now) variables.now) }
+{
+    let mut row = Row::new(alloc, variables.len())?;
+    for (place, variable) in variables.iter().enumerate() {
+        row.set(place, oracle.value(*variable));
+    }
+    Ok(row)
+}
