@@ -6,4 +6,4 @@ mod Reading
 mod Supported
 mod Coning
 mod Sides
-mod Writing
+pub mod Writing
