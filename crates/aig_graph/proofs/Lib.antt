@@ -6,3 +6,4 @@ mod Reading
 mod Supported
 mod Coning
 mod Sides
+pub mod Writing

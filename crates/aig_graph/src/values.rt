@@ -1,4 +1,4 @@
-ghost use Rattle.std.specs.Prelude.{◌≡◌, ◌+◌, ◌<◌, ◌≤◌, ◌&&◌, ℕ, length};
+ghost use Rattle.std.specs.Prelude.{◌≡◌, ◌+◌, ◌<◌, ◌≤◌, ◌&&◌, ℕ, All, length, map};
 ghost use Rattle.dq_lits.specs.Row.{bit_of};
 ghost use Rattle.aig_graph.specs.Graph.{IsNode, size_of, with_sign, value_by, gate_value, node_value};
 
@@ -19,6 +19,23 @@ impl Graph {
         self.every_graph_is_lawful();
         self.write_values(self.gates_up_to(n), row, buf);
         self.bit(n, row, buf)
+    }
+
+    /// Writes the values of nodes under a row to `out`, in order. The buffer has a place for each of the graph's; what stands there
+    /// counts for nothing. The call takes no memory, and goes over the gates once, however many nodes there are.
+    pub fn values(&self, nodes: &[Node], row: &Row, buf: &mut Row, out: &mut Row)
+        requires nodes { All (IsNode self.now) nodes.now }
+        requires a_bit_an_input { length row.now ≡ self.now.inputs }
+        requires a_place_a_node { length buf.old ≡ size_of self.now }
+        requires a_bit_a_node { length out.old ≡ length nodes.now }
+        ensures values { out.new ≡ map (node_value self.now (bit_of row.now)) nodes.now }
+        ensures same_length { length buf.new ≡ length buf.old }
+    {
+        self.write_values(self.gates(), row, buf);
+        for (place, n) in nodes.iter().enumerate() {
+            let b = self.bit(*n, row, buf);
+            out.set(place, b);
+        }
     }
 
     // Writes the values of the first gates.

@@ -31,7 +31,7 @@ none_so_far f group bads leaf old few one = record {
   given = λ j below. absurd (omega arith);
 }
 
-fault_in_more : (group bad j i : ℕ) (l : Literal) (out : Leaf) (more es : List Entry) → HasFault group bad j i l out es → HasFault group bad j i l out (more ++ es)
+pub fault_in_more : (group bad j i : ℕ) (l : Literal) (out : Leaf) (more es : List Entry) → HasFault group bad j i l out es → HasFault group bad j i l out (more ++ es)
 fault_in_more group bad j i l out more es (inl none) = inl none
 fault_in_more group bad j i l out more es (inr some) = inr (some.0, some.1, Contains-append_right more es (Given (Fault j i out) (negative group ∷ negative bad ∷ some.0)) some.2)
 

@@ -7,7 +7,7 @@ use Rattle.std.proofs.lemmas.List.{map-append}
 use Rattle.dq_lits.specs.Literal.{Literal, positive}
 use Rattle.dq_lits.specs.Formula.{Dqbf}
 use Rattle.hint_log.specs.Entries.{Entry}
-use Rattle.hint_log.specs.Entries.{Named}
+use Rattle.hint_log.specs.Entries.{Named, Given}
 use Rattle.hint_log.specs.declared.names.Name.TheVariants.{Bad}
 use Rattle.hint_log.specs.Entries.{ProofLog, with_entry, name_of}
 use Rattle.hint_log.specs.Growth.{Grew}
@@ -15,7 +15,9 @@ use Rattle.hint_log.specs.Naming.{NamedLiteral, named_literal, name_literal, Are
 use Rattle.hint_log.specs.ProductiveLog.{fault_groups}
 use Rattle.log_laws.specs.Engines.{circuits, IsAddedBy}
 use Rattle.log_laws.proofs.Growing.{grown_by, grown_by_none, grown_then}
-use Rattle.circuit_cnf.proofs.Inputting.{named_as_stays, name_stays_by, name_cases}
+use Rattle.circuit_cnf.specs.Faults.{IsNamingBads}
+use Rattle.circuit_cnf.proofs.Giving.{contains_cases}
+use Rattle.circuit_cnf.proofs.Naming.{named_as_stays, name_stays_by, name_cases}
 
 abbrev pub bad_name : ℕ → ℕ → NamedLiteral
 bad_name group j = named_literal (Bad group j) false
@@ -24,6 +26,7 @@ bad_name group j = named_literal (Bad group j) false
 pub record BadsSoFar (group : ℕ) (old log : ProofLog) (bads : List Literal) (i : ℕ) : Type 0 where
   pub grew : (h : Dqbf) (standing : ℕ) (start : List Entry) → Grew (IsAddedBy h circuits standing true start) old log
   pub faults : fault_groups log.entries ≡ fault_groups old.entries
+  pub alone : IsNamingBads group old.entries log.entries
   pub named : AreNamedAs log.entries bads (map (bad_name group) (range_with_len 1 i))
   pub names : (v j : ℕ) → name_of log.entries v ≡ Some (Bad group j) → j ≤ i
 
@@ -31,6 +34,7 @@ pub no_bads : (group : ℕ) (old : ProofLog) → ((v j : ℕ) → name_of old.en
 no_bads group old fresh = record {
   grew = λ h standing start. grown_by_none (IsAddedBy h circuits standing true start) old old refl;
   faults = refl;
+  alone = record { names = λ v name is. inl is; givens = λ origin c inside. inside };
   named = refl;
   names = λ v j is. absurd (fresh v j is);
 }
@@ -47,6 +51,13 @@ bad_more group old log new bads i v before unnamed is = subst (λ l. BadsSoFar g
   grew = λ h standing start. grown_then (IsAddedBy h circuits standing true start) old log (with_entry log (Named v (Bad group (i + 1)))) (before.grew h standing start)
       (grown_by (IsAddedBy h circuits standing true start) log (with_entry log (Named v (Bad group (i + 1)))) (Named v (Bad group (i + 1))) refl (record { unnamed = unnamed; own = inr refl; rightly = tt }));
   faults = before.faults;
+  alone = record {
+    names = λ w name is. elim (name_cases log.entries v w (Bad group (i + 1)) name is) [
+      | inl here ↦ inr (i + 1, sym here.1)
+      | inr earlier ↦ before.alone.names w name earlier
+    ];
+    givens = λ origin c inside. elim (contains_cases (Named v (Bad group (i + 1))) (Given origin c) log.entries inside) [ inl is ↦ cc | inr earlier ↦ before.alone.givens origin c earlier ];
+  };
   named = whole;
   names = λ w j named. elim (name_cases log.entries v w (Bad group (i + 1)) (Bad group j) named) [
     | inl same ↦ (let clash = same.1 in let number : i + 1 ≡ j = cc in omega (arith, number))

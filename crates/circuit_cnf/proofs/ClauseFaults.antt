@@ -49,7 +49,7 @@ group_twice group r s groups = by (list_any (λ g. same_literal (negative g) (ne
     or_true : (b : Bool) {a : Bool} → a ≡ true → (a || b) ≡ true
     or_true b h = ap (λ x. x || b) h
 
-few_more : (group j i : ℕ) (out : Leaf) (rest : List Literal) (es : List Entry) → AreFewWith group es → AreFewWith group (Given (Fault j i out) (negative group ∷ rest) ∷ es)
+pub few_more : (group j i : ℕ) (out : Leaf) (rest : List Literal) (es : List Entry) → AreFewWith group es → AreFewWith group (Given (Fault j i out) (negative group ∷ rest) ∷ es)
 few_more group j i out rest es few k l leaf more = subst (λ gs. length gs ≤ rounds_of es + 1) (sym (group_twice group more rest (fault_groups es))) (few j i out rest)
 
 -- what follows the fault of the next literal
@@ -57,7 +57,7 @@ pub record IsNextFault (f : Dqbf) (group bad j place : ℕ) (l : Literal) (out :
   pub grew : (standing : ℕ) (start : List Entry) → name_of start group ≡ None → Grew (IsAddedBy f circuits standing true start) log new
   pub at_most : (new ≡ log) ⊎ ((rest : List Literal) × (new ≡ with_entry log (Given (Fault j place out) (negative group ∷ rest))))
 
-fault_stays : (group bad j i : ℕ) (l : Literal) (out : Leaf) (e : Entry) (es : List Entry) → HasFault group bad j i l out es → HasFault group bad j i l out (e ∷ es)
+pub fault_stays : (group bad j i : ℕ) (l : Literal) (out : Leaf) (e : Entry) (es : List Entry) → HasFault group bad j i l out es → HasFault group bad j i l out (e ∷ es)
 fault_stays group bad j i l out e es (inl none) = inl none
 fault_stays group bad j i l out e es (inr some) = inr (some.0, some.1, contains_more e (Given (Fault j i out) (negative group ∷ negative bad ∷ some.0)) es some.2)
 

@@ -1,5 +1,5 @@
 -- Literals of gates, one after the other.
-use Rattle.std.proofs.Common.{◌≡◌, ℕ, ◌+◌, ◌≤◌, ◌<◌, Bool, true, false, inl, inr, ◌⊎◌, List, [], ◌∷◌, ◌++◌, map, length, get_or, refl, sym, ◌∙◌, ap, subst, arith}
+use Rattle.std.proofs.Common.{◌≡◌, ℕ, ◌+◌, ◌≤◌, ◌<◌, Bool, true, false, inl, inr, ◌⊎◌, List, [], ◌∷◌, ◌++◌, map, length, get_or, None, refl, sym, ◌∙◌, ap, subst, arith}
 use Rattle.std.proofs.lemmas.List.{length-append, get_or_append_left}
 use Rattle.std.proofs.Math.Seq.{get_or-append_seam}
 use Rattle.dq_lits.specs.Literal.{Literal, positive, variable_of}
@@ -8,7 +8,6 @@ use Rattle.dq_lits.specs.Row.{bit_of}
 use Rattle.aig_graph.specs.declared.nodes.Node.TheVariants.{Gate}
 use Rattle.aig_graph.specs.Graph.{AigGraph}
 use Rattle.aig_graph.proofs.Staying.{below_or_here}
-use Rattle.hint_log.specs.Entries.{Entry}
 use Rattle.hint_log.specs.declared.names.Name.TheVariants.{Input as InputName}
 use Rattle.hint_log.specs.declared.origins.Leaf.TheVariants.{Literal as LeafLiteral}
 use Rattle.hint_log.specs.Entries.{ProofLog, rounds_of}
@@ -20,14 +19,11 @@ use Rattle.log_laws.proofs.Growing.{leaves_rest, grown_by_none, grown_then}
 use Rattle.circuit_cnf.specs.declared.gates.Gates.{Gates}
 use Rattle.oracle.specs.declared.groups.Group.{Group}
 use Rattle.circuit_cnf.specs.Checking.{AreInputs}
-use Rattle.circuit_cnf.specs.Gates.{AreKnown}
+use Rattle.circuit_cnf.specs.Gates.{AreKnown, AreBadsStill}
 use Rattle.circuit_cnf.specs.Leaves.{HasLeaf, HaveLeaves}
-use Rattle.circuit_cnf.proofs.Inputting.{named_as_stays}
+use Rattle.circuit_cnf.proofs.Naming.{named_as_stays}
+use Rattle.circuit_cnf.proofs.Parting.{GrewByGates}
 use Rattle.circuit_cnf.proofs.SideLeaves.{leaf_stays}
-
--- how a log grows by gates
-abbrev pub GrewByGates : ℕ → ProofLog → ProofLog → Type 0
-GrewByGates group old new = (h : Dqbf) (start : List Entry) → Grew (IsAddedBy h circuits group true start) old new
 
 -- the first gates have their literals
 pub record LiteralsSoFar (f : Dqbf) (graph : AigGraph) (inputs : List Literal) (marks : List Bool) (first : Gates) (old : ProofLog) (gates : Gates) (log : ProofLog) (literals : List Literal) (i : ℕ) : Type 0 where
@@ -35,19 +31,23 @@ pub record LiteralsSoFar (f : Dqbf) (graph : AigGraph) (inputs : List Literal) (
   pub group : gates.group ≡ first.group
   pub faults : fault_groups log.entries ≡ fault_groups old.entries
   pub few : length (fault_groups log.entries) ≤ rounds_of log.entries + 1
+  pub bads : AreBadsStill old.entries log.entries
   pub known : AreKnown gates log.entries
+  pub ready : gates.unfinished ≡ None
   pub inputs_are : AreInputs f.universals inputs log.entries
   pub have : HaveLeaves f graph marks literals log.entries
   pub count : length literals ≡ i
 
-pub no_literals : (f : Dqbf) (graph : AigGraph) (inputs : List Literal) (marks : List Bool) (first : Gates) (old : ProofLog) → AreKnown first old.entries → length (fault_groups old.entries) ≤ rounds_of old.entries + 1 →
+pub no_literals : (f : Dqbf) (graph : AigGraph) (inputs : List Literal) (marks : List Bool) (first : Gates) (old : ProofLog) → AreKnown first old.entries → first.unfinished ≡ None → length (fault_groups old.entries) ≤ rounds_of old.entries + 1 →
     AreInputs f.universals inputs old.entries → LiteralsSoFar f graph inputs marks first old first old [] 0
-no_literals f graph inputs marks first old known few inputs_are = record {
+no_literals f graph inputs marks first old known ready few inputs_are = record {
   grew = λ h start. grown_by_none (IsAddedBy h circuits (variable_of first.group.selector) true start) old old refl;
   group = refl;
   faults = refl;
   few = few;
+  bads = λ v group j is. is;
   known = known;
+  ready = ready;
   inputs_are = inputs_are;
   have = λ g below marked. absurd (omega arith);
   count = refl;
@@ -58,10 +58,12 @@ pub record IsNextLiteral (f : Dqbf) (graph : AigGraph) (marks : List Bool) (gate
   pub grew : GrewByGates (variable_of gates.group.selector) log new
   pub group : more.group ≡ gates.group
   pub faults : fault_groups new.entries ≡ fault_groups log.entries
+  pub bads : AreBadsStill log.entries new.entries
   pub known : AreKnown more new.entries
+  pub ready : more.unfinished ≡ None
   pub leaf : bit_of marks (graph.inputs + i) ≡ true → HasLeaf f graph new.entries (Gate i false) (LeafLiteral l)
 
-grew_in_all : (first gates : Gates) (old log new : ProofLog) → GrewByGates (variable_of first.group.selector) old log → gates.group ≡ first.group → GrewByGates (variable_of gates.group.selector) log new → GrewByGates (variable_of first.group.selector) old new
+pub grew_in_all : (first gates : Gates) (old log new : ProofLog) → GrewByGates (variable_of first.group.selector) old log → gates.group ≡ first.group → GrewByGates (variable_of gates.group.selector) log new → GrewByGates (variable_of first.group.selector) old new
 grew_in_all first gates old log new before same more h start =
     grown_then (IsAddedBy h circuits (variable_of first.group.selector) true start) old log new (before h start)
     (subst (λ (g : Group). Grew (IsAddedBy h circuits (variable_of g.selector) true start) log new) same (more h start))
@@ -77,7 +79,9 @@ literal_more f graph inputs marks first old gates log more new literals l i befo
   group = next.group ∙ before.group;
   faults = next.faults ∙ before.faults;
   few = subst (λ xs. length xs ≤ rounds_of new.entries + 1) (sym next.faults) (subst (λ n. length (fault_groups log.entries) ≤ n + 1) (sym rest.rounds) before.few);
+  bads = λ v group j is. before.bads v group j (next.bads v group j is);
   known = next.known;
+  ready = next.ready;
   inputs_are = named_as_stays log.entries new.entries rest.names inputs (map (λ x. named_literal (InputName x) false) f.universals) before.inputs_are;
   have = λ g below marked. at g marked (below_or_here g (length literals) (let long = length-append literals (l ∷ []) in omega (arith, below, long)));
   count = let long = length-append literals (l ∷ []) in let c = before.count in omega (arith, long, c);

@@ -1,5 +1,5 @@
 -- Gates that are given to a group.
-use Rattle.std.proofs.Common.{◌≡◌, ℕ, zero, suc, ◌+◌, ◌≤◌, ◌<◌, true, false, inl, inr, ◌⊎◌, List, ◌∷◌, length, Some, refl, sym, ◌∙◌, ap, subst, arith}
+use Rattle.std.proofs.Common.{◌≡◌, ℕ, zero, suc, ◌+◌, ◌≤◌, ◌<◌, false, inl, inr, ◌⊎◌, List, ◌∷◌, length, Some, refl, arith}
 use Rattle.std.specs.List.{Contains}
 use Rattle.dq_lits.specs.Literal.{Literal, positive, negative, variable_of, is_negative, opposite}
 use Rattle.dq_lits.specs.Formula.{Dqbf}
@@ -7,12 +7,10 @@ use Rattle.hint_log.specs.Entries.{Entry}
 use Rattle.hint_log.specs.Entries.{Given}
 use Rattle.hint_log.specs.declared.names.Name.TheVariants.{Selector, And}
 use Rattle.hint_log.specs.declared.origins.Origin.TheVariants.{Gate}
-use Rattle.hint_log.specs.Entries.{ProofLog, with_entry, name_of, rounds_of}
-use Rattle.hint_log.specs.Growth.{Grew}
+use Rattle.hint_log.specs.Entries.{name_of, rounds_of}
 use Rattle.hint_log.specs.Origins.{gate_rest}
 use Rattle.hint_log.specs.ProductiveLog.{fault_groups}
-use Rattle.log_laws.specs.Engines.{circuits, IsGivenBy, IsAddedBy}
-use Rattle.log_laws.proofs.Growing.{grown_by}
+use Rattle.log_laws.specs.Engines.{circuits, IsGivenBy}
 
 -- no clause of the gate from this part on, and what its clauses ask for
 pub record IsReady (group v : ℕ) (a b : Literal) (part : ℕ) (es : List Entry) : Type 0 where
@@ -31,7 +29,7 @@ contains_more e x es (k, below, is) = (suc k, (let b : suc k < suc (length es) =
 pub contains_first : (e : Entry) (es : List Entry) → Contains (e ∷ es) e
 contains_first e es = (0, omega arith, refl)
 
-gate_added : (f : Dqbf) (old es : List Entry) (group v part : ℕ) (a b : Literal) (rest : List Literal) → IsReady group v a b part es → gate_rest v a b part ≡ Some rest →
+pub gate_added : (f : Dqbf) (old es : List Entry) (group v part : ℕ) (a b : Literal) (rest : List Literal) → IsReady group v a b part es → gate_rest v a b part ≡ Some rest →
     IsGivenBy f circuits group old es (Gate v part) (negative group ∷ rest)
 gate_added f old es group v part a b rest ready is = record {
   own = refl;
@@ -47,33 +45,6 @@ gate_added f old es group v part a b rest ready is = record {
   not_repeated = record { first = λ h c inside. ready.fresh part c (omega arith) inside; groups = ready.few };
 }
 
-ready_next : (group v : ℕ) (a b : Literal) (part : ℕ) (c : List Literal) (es : List Entry) → IsReady group v a b part es → IsReady group v a b (part + 1) (Given (Gate v part) c ∷ es)
-ready_next group v a b part c es ready = record {
-  is_group = ready.is_group;
-  is_gate = ready.is_gate;
-  few = ready.few;
-  fresh = λ i d most inside. elim (contains_cases (Given (Gate v part) c) (Given (Gate v i) d) es inside) [
-    | inl is ↦ (let same : part ≡ i = cc in absurd (omega (arith, same, most)))
-    | inr later ↦ ready.fresh i d (omega (arith, most)) later
-  ];
-}
-
 pub selector_is : (g : Literal) → is_negative g ≡ false → opposite g ≡ negative (variable_of g)
 selector_is (positive v) h = refl
 selector_is (negative v) h = cc
-
--- what follows one of its clauses
-pub record IsGivenNext (f : Dqbf) (old : List Entry) (group v : ℕ) (a b : Literal) (part : ℕ) (log new : ProofLog) : Type 0 where
-  pub grew : Grew (IsAddedBy f circuits group true old) log new
-  pub ready : IsReady group v a b (part + 1) new.entries
-
-pub given_next : (f : Dqbf) (old : List Entry) (g : Literal) (v : ℕ) (a b : Literal) (part : ℕ) (lits rest : List Literal) (log new : ProofLog) → is_negative g ≡ false → IsReady (variable_of g) v a b part log.entries →
-    gate_rest v a b part ≡ Some rest → lits ≡ rest → new ≡ with_entry log (Given (Gate v part) (opposite g ∷ lits)) → IsGivenNext f old (variable_of g) v a b part log new
-given_next f old g v a b part lits rest log new plain ready is lits_are added =
-    let group = variable_of g in
-    let clause : opposite g ∷ lits ≡ negative group ∷ rest = ap (λ l. l ∷ lits) (selector_is g plain) ∙ ap (λ ls. negative group ∷ ls) lits_are in
-    let is' : new ≡ with_entry log (Given (Gate v part) (negative group ∷ rest)) = added ∙ ap (λ c. with_entry log (Given (Gate v part) c)) clause in
-    record {
-      grew = grown_by (IsAddedBy f circuits group true old) log new (Given (Gate v part) (negative group ∷ rest)) is' (gate_added f old log.entries group v part a b rest ready is);
-      ready = subst (λ (l : ProofLog). IsReady group v a b (part + 1) l.entries) (sym is') (ready_next group v a b part (negative group ∷ rest) log.entries ready);
-    }

@@ -1,76 +1,31 @@
 -- Inputs that are named one after the other.
-use Rattle.std.proofs.Common.{◌≡◌, ◌≢◌, ℕ, zero, suc, ◌+◌, ◌≤◌, ◌<◌, ◌==◌, Bool, true, false, cond, inl, inr, ◌⊎◌, List, [], ◌∷◌, ◌++◌, map, length, take, get_or, Option, Some, None, refl, sym, ◌∙◌, ap, subst, arith}
+use Rattle.std.proofs.Common.{◌≡◌, ℕ, zero, suc, ◌+◌, ◌≤◌, ◌<◌, ◌==◌, true, false, inl, inr, ◌⊎◌, List, [], ◌∷◌, ◌++◌, map, length, take, get_or, Some, None, IsSome, refl, sym, ◌∙◌, ap, subst, arith}
 use Rattle.std.specs.List.{Contains}
 use Rattle.std.specs.BTreeMap.{get, is_at}
 use Rattle.std.specs.Map.{lookup}
 use Rattle.std.specs.Option.{option_map}
-use Rattle.std.proofs.lemmas.Bool.{eqb-true, eq-eqb, cond-true, cond-false, ne_eqb}
+use Rattle.std.proofs.lemmas.Bool.{eq-eqb, cond-true}
 use Rattle.std.proofs.lemmas.List.{take_more, map-append, get_or-take, length-take, get_or_default, length-append, get_or_append_left}
 use Rattle.std.proofs.lemmas.List.Elements.{Contains-append_left, Contains-push, Contains-get_or}
-use Rattle.dq_lits.specs.Literal.{Literal, positive, variable_of, is_negative}
+use Rattle.dq_lits.specs.Literal.{Literal, positive, variable_of}
 use Rattle.dq_lits.specs.Formula.{Dqbf, HasLawfulPrefix}
-use Rattle.hint_log.specs.Entries.{Entry}
-use Rattle.hint_log.specs.Entries.{Named, Given, Learned, Answer, Round}
-use Rattle.hint_log.specs.declared.names.Name.{Name}
-use Rattle.hint_log.specs.declared.names.Name.TheVariants.{Selector, Input, And}
+use Rattle.hint_log.specs.Entries.{Named, Given}
+use Rattle.hint_log.specs.declared.names.Name.TheVariants.{Selector, Input, And, Bad}
 use Rattle.hint_log.specs.declared.origins.Origin.TheVariants.{Gate}
 use Rattle.hint_log.specs.Entries.{ProofLog, with_entry, name_of}
-use Rattle.hint_log.specs.Growth.{Grew}
-use Rattle.hint_log.specs.Naming.{NamedLiteral, named_literal, name_literal, AreNamedAs}
+use Rattle.hint_log.specs.Growth.{Each, Grew}
+use Rattle.oracle.specs.Searched.{IsGivenToGroup}
+use Rattle.hint_log.specs.Naming.{NamedLiteral, named_literal, name_literal}
 use Rattle.log_laws.specs.Engines.{circuits, IsAddedBy, HasNone}
 use Rattle.log_laws.proofs.Growing.{grown_by, grown_by_none, grown_then}
 use Rattle.oracle.specs.Calls.{IsMade}
 use Rattle.circuit_cnf.specs.declared.checkers.Checker.{Checker}
 use Rattle.circuit_cnf.specs.Checking.{AreInputs, IsChecker}
-use Rattle.circuit_cnf.specs.Gates.{literal_code, pair_cmp, AreKnown}
+use Rattle.circuit_cnf.specs.Gates.{literal_code, pair_cmp, IsGateGiven, AreKnown}
+use Rattle.circuit_cnf.proofs.Grouping.{no_gates_given}
 use Rattle.circuit_cnf.specs.Inputs.{HasNoGates, AreInputsOf}
-use Rattle.circuit_cnf.proofs.Giving.{contains_cases, contains_more, contains_first}
-
--- a name stands in the log
-pub named_contains : (es : List Entry) (v : ℕ) (n : Name) → name_of es v ≡ Some n → Contains es (Named v n)
-named_contains [] v n is = cc
-named_contains (Named w m ∷ es) v n is = by (v == w) refl (named_contains es v n) is where
-  by : (b : Bool) → (v == w) ≡ b → (name_of es v ≡ Some n → Contains es (Named v n)) → cond b (Some m) (name_of es v) ≡ Some n → Contains (Named w m ∷ es) (Named v n)
-  by true e later is =
-      let same : m ≡ n = cc in
-      let here : Named w m ≡ Named v n = ap (λ x. Named x m) (sym (eqb-true v w e)) ∙ ap (Named v) same in
-      subst (Contains (Named w m ∷ es)) here (contains_first (Named w m) es)
-  by false e later is = contains_more (Named w m) (Named v n) es (later is)
-named_contains (Given o c ∷ es) v n is = contains_more (Given o c) (Named v n) es (named_contains es v n is)
-named_contains (Learned c h ∷ es) v n is = contains_more (Learned c h) (Named v n) es (named_contains es v n is)
-named_contains (Answer c h ∷ es) v n is = contains_more (Answer c h) (Named v n) es (named_contains es v n is)
-named_contains (Round r b j ∷ es) v n is = contains_more (Round r b j) (Named v n) es (named_contains es v n is)
-
--- names stay
-abbrev pub NamesStay : List Entry → List Entry → Type 0
-NamesStay old new = (v : ℕ) (n : Name) → name_of old v ≡ Some n → name_of new v ≡ Some n
-
-literal_stays : (old new : List Entry) → NamesStay old new → (l : Literal) (n : NamedLiteral) → name_literal old l ≡ Some n → name_literal new l ≡ Some n
-literal_stays old new stay l n is = by (name_of old (variable_of l)) refl is where
-  by : (o : Option Name) → name_of old (variable_of l) ≡ o → option_map (λ m. named_literal m (is_negative l)) o ≡ Some n → name_literal new l ≡ Some n
-  by None e is = cc
-  by (Some m) e is = ap (option_map (λ k. named_literal k (is_negative l))) (stay (variable_of l) m e) ∙ is
-
-pub named_as_stays : (old new : List Entry) → NamesStay old new → (ls : List Literal) (ns : List NamedLiteral) → AreNamedAs old ls ns → AreNamedAs new ls ns
-named_as_stays old new stay [] [] h = refl
-named_as_stays old new stay [] (n ∷ ns) h = cc
-named_as_stays old new stay (l ∷ ls) [] h = cc
-named_as_stays old new stay (l ∷ ls) (n ∷ ns) h =
-    let here : name_literal old l ≡ Some n = cc in
-    let later : map (name_literal old) ls ≡ map Some ns = cc in
-    ap (λ x. x ∷ map (name_literal new) ls) (literal_stays old new stay l n here) ∙ ap (λ xs. Some n ∷ xs) (named_as_stays old new stay ls ns later)
-
--- a name more
-pub name_stays_by : (es : List Entry) (v : ℕ) (m : Name) → name_of es v ≡ None → NamesStay es (Named v m ∷ es)
-name_stays_by es v m unnamed w n is =
-    let differ : w ≢ v = λ same. (let both : None ≡ Some n = sym unnamed ∙ ap (name_of es) (sym same) ∙ is in cc) in
-    cond-false (w == v) (Some m) (name_of es w) (ne_eqb w v differ) ∙ is
-
-pub name_cases : (es : List Entry) (v w : ℕ) (m n : Name) → name_of (Named v m ∷ es) w ≡ Some n → ((w ≡ v) × (m ≡ n)) ⊎ (name_of es w ≡ Some n)
-name_cases es v w m n is = by (w == v) refl is where
-  by : (b : Bool) → (w == v) ≡ b → cond b (Some m) (name_of es w) ≡ Some n → ((w ≡ v) × (m ≡ n)) ⊎ (name_of es w ≡ Some n)
-  by true e is = inl (eqb-true w v e, cc)
-  by false e is = inr is
+use Rattle.circuit_cnf.proofs.Giving.{contains_cases}
+use Rattle.circuit_cnf.proofs.Naming.{named_contains, named_as_stays, name_stays_by, name_cases}
 
 -- the first universals have inputs
 pub record InputsSoFar (f : Dqbf) (old log : ProofLog) (inputs : List Literal) (i : ℕ) : Type 0 where
@@ -86,6 +41,7 @@ no_inputs f old none = record {
   names = λ v x is. absurd (none (Named v (Input x)) refl (named_contains old.entries v (Input x) is));
   none = record {
     unnamed = λ v a b is. none (Named v (And a b)) refl (named_contains old.entries v (And a b) is);
+    no_bads = λ v group j is. none (Named v (Bad group j)) refl (named_contains old.entries v (Bad group j) is);
     not_given = λ v i c inside. none (Given (Gate v i) c) refl inside;
   };
 }
@@ -114,6 +70,7 @@ input_more f old log new inputs i v before below unnamed is = subst (λ l. Input
   names = λ w y named. subst (λ xs. Contains xs y) (sym taken) (by_name w y (name_cases log.entries v w (Input x) (Input y) named));
   none = record {
     unnamed = λ w a b named. elim (name_cases log.entries v w (Input x) (And a b) named) [ inl same ↦ (let clash = same.1 in cc) | inr old' ↦ before.none.unnamed w a b old' ];
+    no_bads = λ w group j named. elim (name_cases log.entries v w (Input x) (Bad group j) named) [ inl same ↦ (let clash = same.1 in cc) | inr old' ↦ before.none.no_bads w group j old' ];
     not_given = λ w k c inside. elim (contains_cases (Named v (Input x)) (Given (Gate w k) c) log.entries inside) [ inl same ↦ cc | inr old' ↦ before.none.not_given w k c old' ];
   };
 }) where
@@ -158,8 +115,9 @@ all_inputs f old log inputs i most so_far = subst (λ xs. AreInputs xs inputs lo
 -- a checker without gates
 pub new_checker : (f : Dqbf) (log new : ProofLog) (checker : Checker) → HasNoGates log.entries → AreInputs f.universals checker.inputs.items log.entries → IsMade new.entries checker.gates.group →
     name_of log.entries (variable_of checker.gates.group.selector) ≡ None → new ≡ with_entry log (Named (variable_of checker.gates.group.selector) (Selector (variable_of checker.gates.group.selector))) →
-    checker.gates.variables.entries ≡ [] → IsChecker f checker new.entries
-new_checker f log new checker none inputs made unnamed is empty = record { gates = gates; inputs = kept } where
+    checker.gates.variables.entries ≡ [] → checker.gates.unfinished ≡ None →
+    Each IsGivenToGroup log.entries → IsChecker f checker new.entries
+new_checker f log new checker none inputs made unnamed is empty ready grouped = record { gates = gates; inputs = kept; bads = bads } where
   entries_are : new.entries ≡ Named (variable_of checker.gates.group.selector) (Selector (variable_of checker.gates.group.selector)) ∷ log.entries
   entries_are = ap (λ (l : ProofLog). l.entries) is
 
@@ -170,6 +128,13 @@ new_checker f log new checker none inputs made unnamed is empty = record { gates
         | inr old' ↦ none.unnamed v a b old'
       ]
 
+  bads : (v group j : ℕ) → name_of new.entries v ≡ Some (Bad group j) → IsSome (name_of new.entries group)
+  bads v group j named =
+      elim (name_cases log.entries (variable_of checker.gates.group.selector) v (Selector (variable_of checker.gates.group.selector)) (Bad group j) (ap (λ es. name_of es v) (sym entries_are) ∙ named)) [
+        | inl same ↦ (let clash = same.1 in cc)
+        | inr old' ↦ absurd (none.no_bads v group j old')
+      ]
+
   not_found : (p : ℕ × ℕ) (v : ℕ) → get pair_cmp checker.gates.variables p ≡ Some v → ⊥
   not_found p v found = let nothing : None ≡ Some v = ap (lookup (is_at (pair_cmp p))) (sym empty) ∙ found in cc
 
@@ -178,11 +143,13 @@ new_checker f log new checker none inputs made unnamed is empty = record { gates
     made = made;
     known = λ a b v named. absurd (no_name v a b named);
     sound = λ a b v found. absurd (not_found (literal_code a, literal_code b) v found);
-    clauses = λ a b v named. absurd (no_name v a b named);
+    clauses = λ a b v found. absurd (not_found (literal_code a, literal_code b) v found);
     origins = λ v i c inside. elim (contains_cases (Named (variable_of checker.gates.group.selector) (Selector (variable_of checker.gates.group.selector))) (Given (Gate v i) c) log.entries (subst (λ es. Contains es (Given (Gate v i) c)) entries_are inside)) [
       | inl same ↦ cc
       | inr old' ↦ absurd (none.not_given v i c old')
     ];
+    own = subst (Each (IsGateGiven (variable_of checker.gates.group.selector))) (sym entries_are) (tt, no_gates_given (variable_of checker.gates.group.selector) log.entries unnamed grouped);
+    last = λ gate is. let clash : None ≡ Some gate = sym ready ∙ is in cc;
   }
 
   kept : AreInputs f.universals checker.inputs.items new.entries

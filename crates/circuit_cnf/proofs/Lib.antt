@@ -1,6 +1,8 @@
 mod LeafNodes
 mod Showing
 mod Giving
+mod Naming
+mod Grouping
 mod Knowing
 mod Inputting
 mod SideLeaves
@@ -10,3 +12,15 @@ mod Faulting
 mod ClauseFaults
 mod AllFaults
 mod SomeFault
+mod Parting
+mod GroupFaults
+mod Placing
+mod Leaving
+mod Searching
+mod Holding
+mod Falsifying
+mod Outputting
+mod Valuing
+mod Turning
+mod Leafing
+mod Answering

@@ -19,7 +19,7 @@ use Rattle.hint_log.specs.Origins.{leaf_with_sign}
 use Rattle.log_laws.proofs.Found.{named_variable, slice_get_at}
 use Rattle.circuit_cnf.specs.Checking.{AreInputs}
 use Rattle.circuit_cnf.specs.Leaves.{HasLeaf, constant, input, gate, leaf_by, HaveLeaves, AreClosed}
-use Rattle.circuit_cnf.proofs.Inputting.{NamesStay}
+use Rattle.circuit_cnf.proofs.Naming.{NamesStay}
 
 -- leaves stay as names do
 pub leaf_stays : (f : Dqbf) (graph : AigGraph) (old new : List Entry) → NamesStay old new → (n : Node) (leaf : Leaf) → HasLeaf f graph old n leaf → HasLeaf f graph new n leaf
@@ -33,7 +33,7 @@ positive_is (positive v) h = refl
 positive_is (negative v) h = cc
 
 -- the input of a place
-input_at : (es : List Entry) (us : List ℕ) (inputs : List Literal) (i : ℕ) → AreInputs us inputs es → i < length us →
+pub input_at : (es : List Entry) (us : List ℕ) (inputs : List Literal) (i : ℕ) → AreInputs us inputs es → i < length us →
     (v : ℕ) × (get_or inputs i (positive 0) ≡ positive v) × (name_of es v ≡ Some (InputName (get_or us i 0)))
 input_at es [] inputs i h below = absurd (omega arith)
 input_at es (u ∷ us) [] i h below = cc

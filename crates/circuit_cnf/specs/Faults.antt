@@ -9,7 +9,9 @@ use Rattle.hint_log.specs.Entries.{Given}
 use Rattle.hint_log.specs.declared.origins.Leaf.{Leaf}
 use Rattle.hint_log.specs.declared.origins.Leaf.TheVariants.{Constant, Literal as LeafLiteral}
 use Rattle.hint_log.specs.declared.origins.Origin.TheVariants.{Fault}
+use Rattle.hint_log.specs.declared.names.Name.{Name}
 use Rattle.hint_log.specs.declared.names.Name.TheVariants.{Bad}
+use Rattle.hint_log.specs.declared.origins.Origin.{Origin}
 use Rattle.hint_log.specs.Entries.{name_of, rounds_of}
 use Rattle.hint_log.specs.ProductiveLog.{fault_groups}
 use Rattle.hint_log.specs.Origins.{leaf_with_sign, leaf_clause, matrix_literal}
@@ -52,3 +54,20 @@ pub record IsBadAt (group j : ℕ) (bads : List Literal) (entries : List Entry) 
 abbrev pub HaveAllFaults : Dqbf → ℕ → List Literal → (ℕ → Leaf) → ℕ → List Entry → Type 0
 HaveAllFaults f group bads leaf count entries = (j : ℕ) → j < count
     → HaveFaults f group (variable_of (slice_index_or bads j (positive 0))) (j + 1) leaf (slice_index_or f.matrix j []) (length (slice_index_or f.matrix j [])) entries
+
+-- names that are added say of the group's clauses alone that they are false
+abbrev pub NamesBadsAlone : ℕ → List Entry → List Entry → Type 0
+NamesBadsAlone group old new = (v : ℕ) (name : Name) → name_of new v ≡ Some name → (name_of old v ≡ Some name) ⊎ ((j : ℕ) × (name ≡ Bad group j))
+
+-- such names, and nothing is given
+pub record IsNamingBads (group : ℕ) (old new : List Entry) : Type 0 where
+  pub names : NamesBadsAlone group old new
+  pub givens : (origin : Origin) (c : List Literal) → Contains new (Given origin c) → Contains old (Given origin c)
+
+-- what the group says: which clauses are false where, and that one is
+pub record AreGiven (f : Dqbf) (group : ℕ) (leaf : ℕ → Leaf) (entries : List Entry) : Type 0 where
+  pub bads : List Literal
+  pub count : length bads ≡ length f.matrix
+  pub bads_are : (j : ℕ) → j < length f.matrix → IsBadAt group j bads entries
+  pub some : Contains entries (Given (Fault 0 0 (Constant false)) (negative group ∷ bads))
+  pub all : HaveAllFaults f group bads leaf (length f.matrix) entries

@@ -4,12 +4,13 @@ use Rattle.std.specs.List.{Contains}
 use Rattle.dq_lits.specs.Literal.{Literal}
 use Rattle.hint_log.specs.Entries.{Entry}
 use Rattle.hint_log.specs.Entries.{Given}
-use Rattle.hint_log.specs.declared.names.Name.TheVariants.{Input, And}
+use Rattle.hint_log.specs.declared.names.Name.TheVariants.{Input, And, Bad}
 use Rattle.hint_log.specs.declared.origins.Origin.TheVariants.{Gate}
 use Rattle.hint_log.specs.Entries.{name_of}
 
 pub record HasNoGates (entries : List Entry) : Type 0 where
   pub unnamed : (v : ℕ) (a b : Literal) → name_of entries v ≡ Some (And a b) → ⊥
+  pub no_bads : (v group j : ℕ) → name_of entries v ≡ Some (Bad group j) → ⊥
   pub not_given : (v i : ℕ) (c : List Literal) → Contains entries (Given (Gate v i) c) → ⊥
 
 -- the inputs that have names are of these universals

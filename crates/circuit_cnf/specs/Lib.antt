@@ -4,3 +4,5 @@ pub mod Gates
 pub mod Inputs
 pub mod Checking
 pub mod Faults
+pub mod Turning
+pub mod Failing

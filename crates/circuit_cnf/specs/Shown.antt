@@ -1,6 +1,6 @@
 -- What an answer says of outputs that it shows to be right.
 use Rattle.std.specs.Prelude.{◌≡◌, ℕ, List, ◌∷◌}
-use Rattle.std.specs.List.{All, Contains}
+use Rattle.std.specs.List.{All}
 use Rattle.dq_lits.specs.Literal.{Assignment, Literal}
 use Rattle.dq_lits.specs.Formula.{Dqbf, Existential, IsWellFormed}
 use Rattle.dq_lits.specs.Henkin.{MatrixHolds}

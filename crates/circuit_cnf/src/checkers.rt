@@ -15,6 +15,7 @@ use std::collections::BTreeMap;
 /// Checks circuits against the matrix: what was given to the oracle once.
 #[derive(Debug, Drop)]
 pub struct Checker {
+    pub(crate) alloc: Global,
     pub(crate) tenant: Tenant,
     pub(crate) gates: Gates,
     pub(crate) inputs: Vec<Lit>,
@@ -40,8 +41,10 @@ impl Checker {
         let gates = Gates {
             group,
             variables: BTreeMap::new(alloc),
+            unfinished: None,
         };
         Ok(Checker {
+            alloc,
             tenant,
             gates,
             inputs,

@@ -15,13 +15,74 @@ ghost use Rattle.hint_log.specs.Origins.{leaf_with_sign, matrix_literal, IsLeafO
 ghost use Rattle.hint_log.specs.ProductiveLog.{fault_groups};
 ghost use Rattle.log_laws.specs.Engines.{circuits, IsAddedBy};
 ghost use Rattle.oracle.specs.Calls.{IsMade};
-ghost use Rattle.circuit_cnf.specs.Faults.{HasFault, HaveFaults, HaveOneLeaf, AreFewWith, leaf_of, IsBadAt, HaveAllFaults};
+ghost use Rattle.circuit_cnf.specs.Faults.{HasFault, HaveFaults, HaveOneLeaf, AreFewWith, leaf_of, IsBadAt, HaveAllFaults, IsNamingBads, NamesBadsAlone, AreGiven};
 
 use dq_formula::Formula;
 use dq_lits::{Lit, Memory};
 use hint_log::{Leaf, Log, Name, Origin};
 use oracle::{Group, Oracle};
 use std::alloc::Global;
+
+// Says in a new group which clauses are false under the leaves, and that one is.
+pub(crate) fn give_faults<O: Oracle>(
+    alloc: Global,
+    oracle: &mut O,
+    group: &Group,
+    f: &Formula,
+    inputs: &[Lit],
+    outputs: &[Leaf],
+    log: &mut Log,
+) -> Result<(), Memory>
+    requires fit { O.Fits oracle.old log.old }
+    requires made { IsMade log.old.entries group.now }
+    requires fresh { (v j : ℕ) → name_of log.old.entries v ≡ Some (Bad (variable_of group.now.selector) j) → ⊥ }
+    requires input_count { length inputs.now ≡ length f.now.universals }
+    requires output_count { length outputs.now ≡ length f.now.existentials }
+    requires leaves { (v : ℕ) → Contains (declared f.now) v → IsLeafOf f.now log.old.entries v (leaf_of f.now inputs.now outputs.now v) }
+    requires bound { All (All (λ l. Contains (declared f.now) (variable_of l))) f.now.matrix }
+    requires few { AreFewWith (variable_of group.now.selector) log.old.entries }
+    requires one_leaf { HaveOneLeaf f.now (variable_of group.now.selector) (leaf_of f.now inputs.now outputs.now) log.old.entries }
+    ensures fit { O.Fits oracle.new log.new }
+    ensures grew { (standing : ℕ) (start : List Entry) → name_of start (variable_of group.now.selector) ≡ None → Grew (IsAddedBy f.now circuits standing true start) log.old log.new }
+    ensures names { NamesBadsAlone (variable_of group.now.selector) log.old.entries log.new.entries }
+    ensures few { AreFewWith (variable_of group.now.selector) log.new.entries }
+    ensures one_leaf { HaveOneLeaf f.now (variable_of group.now.selector) (leaf_of f.now inputs.now outputs.now) log.new.entries }
+    ensures given { OnOk result (AreGiven f.now (variable_of group.now.selector) (leaf_of f.now inputs.now outputs.now) log.new.entries) }
+{
+    let bads = name_bads(alloc, oracle, group, f, log)?;
+    say_faults(oracle, group, f, inputs, outputs, &bads, log)
+}
+
+// The same by the variables that say it.
+fn say_faults<O: Oracle>(
+    oracle: &mut O,
+    group: &Group,
+    f: &Formula,
+    inputs: &[Lit],
+    outputs: &[Leaf],
+    bads: &[Lit],
+    log: &mut Log,
+) -> Result<(), Memory>
+    requires fit { O.Fits oracle.old log.old }
+    requires made { IsMade log.old.entries group.now }
+    requires input_count { length inputs.now ≡ length f.now.universals }
+    requires output_count { length outputs.now ≡ length f.now.existentials }
+    requires leaves { (v : ℕ) → Contains (declared f.now) v → IsLeafOf f.now log.old.entries v (leaf_of f.now inputs.now outputs.now v) }
+    requires bound { All (All (λ l. Contains (declared f.now) (variable_of l))) f.now.matrix }
+    requires bads { AreNamedAs log.old.entries bads.now (map (λ j. named_literal (Bad (variable_of group.now.selector) j) false) (range_with_len 1 (length f.now.matrix))) }
+    requires few { AreFewWith (variable_of group.now.selector) log.old.entries }
+    requires one_leaf { HaveOneLeaf f.now (variable_of group.now.selector) (leaf_of f.now inputs.now outputs.now) log.old.entries }
+    ensures fit { O.Fits oracle.new log.new }
+    ensures grew { (standing : ℕ) (start : List Entry) → name_of start (variable_of group.now.selector) ≡ None → Grew (IsAddedBy f.now circuits standing true start) log.old log.new }
+    ensures names { (v : ℕ) → name_of log.new.entries v ≡ name_of log.old.entries v }
+    ensures few { AreFewWith (variable_of group.now.selector) log.new.entries }
+    ensures one_leaf { HaveOneLeaf f.now (variable_of group.now.selector) (leaf_of f.now inputs.now outputs.now) log.new.entries }
+    ensures given { OnOk result (AreGiven f.now (variable_of group.now.selector) (leaf_of f.now inputs.now outputs.now) log.new.entries) }
+{
+    all_faults(oracle, group, f, inputs, outputs, bads, log)?;
+    some_fault(oracle, group, f, bads, log)?;
+    Ok(())
+}
 
 // Names a variable for each clause, which says that the clause is false in the group.
 pub(crate) fn name_bads<O: Oracle>(
@@ -36,6 +97,7 @@ pub(crate) fn name_bads<O: Oracle>(
     ensures fit { O.Fits oracle.new log.new }
     ensures grew { (h : Dqbf) (standing : ℕ) (start : List Entry) → Grew (IsAddedBy h circuits standing true start) log.old log.new }
     ensures faults { fault_groups log.new.entries ≡ fault_groups log.old.entries }
+    ensures alone { IsNamingBads (variable_of group.now.selector) log.old.entries log.new.entries }
     ensures named { IfOk result (λ bads. AreNamedAs log.new.entries bads.items
         (map (λ j. named_literal (Bad (variable_of group.now.selector) j) false) (range_with_len 1 (length f.now.matrix)))) }
 {

@@ -1,4 +1,4 @@
-ghost use Rattle.std.specs.Prelude.{◌≡◌, ◌≤◌, ◌<◌, ◌+◌, ◌^◌, ◌++◌, ℕ, true, List, length, Contains, OnOk, OnErr, IfOk, Some};
+ghost use Rattle.std.specs.Prelude.{◌≡◌, ◌≤◌, ◌<◌, ◌+◌, ◌^◌, ℕ, true, List, length, Contains, OnOk, OnErr, IfOk, Some, None};
 ghost use Rattle.dq_lits.specs.Literal.{Literal, variable_of};
 ghost use Rattle.dq_lits.specs.Formula.{Dqbf};
 ghost use Rattle.hint_log.specs.Entries.{Entry};
@@ -11,7 +11,7 @@ ghost use Rattle.hint_log.specs.Growth.{Grew};
 ghost use Rattle.hint_log.specs.ProductiveLog.{fault_groups};
 ghost use Rattle.log_laws.specs.Engines.{circuits, IsAddedBy};
 ghost use Rattle.oracle.specs.Calls.{IsMade};
-ghost use Rattle.circuit_cnf.specs.Gates.{literal_code, gate_entries, AreKnown};
+ghost use Rattle.circuit_cnf.specs.Gates.{literal_code, AreKnown, AreBadsStill, IsPartGiven};
 
 use dq_lits::{Lit, Memory};
 use hint_log::{Log, Name, Origin};
@@ -23,6 +23,17 @@ use std::collections::BTreeMap;
 pub struct Gates {
     pub(crate) group: Group,
     pub(crate) variables: BTreeMap<(u64, u64), u64>,
+    // The gate that was named last, where memory was refused before it had all its clauses.
+    pub(crate) unfinished: Option<Unfinished>,
+}
+
+/// A gate that was named, and how many of its clauses were given.
+#[derive(Clone, Copy, Debug)]
+pub struct Unfinished {
+    pub(crate) left: Lit,
+    pub(crate) right: Lit,
+    pub(crate) variable: u64,
+    pub(crate) parts: u64,
 }
 
 impl Gates {
@@ -36,13 +47,16 @@ impl Gates {
     ) -> Result<u64, Memory>
         requires fit { O.Fits oracle.old log.old }
         requires known { AreKnown self.old log.old.entries }
+        requires ready { self.old.unfinished ≡ None }
         requires sides { HasSides log.old.entries (And a b) }
         requires few { length (fault_groups log.old.entries) ≤ rounds_of log.old.entries + 1 }
         ensures fit { O.Fits oracle.new log.new }
         ensures grew { (f : Dqbf) (old : List Entry) → Grew (IsAddedBy f circuits (variable_of self.old.group.selector) true old) log.old log.new }
         ensures group { self.new.group ≡ self.old.group }
         ensures faults { fault_groups log.new.entries ≡ fault_groups log.old.entries }
-        ensures known { OnOk result (AreKnown self.new log.new.entries) }
+        ensures bads { AreBadsStill log.old.entries log.new.entries }
+        ensures known { AreKnown self.new log.new.entries }
+        ensures ready { OnOk result (self.new.unfinished ≡ None) }
         ensures named { IfOk result (λ v. name_of log.new.entries v ≡ Some (And a b)) }
         ensures in_range { IfOk result (λ v. (1 ≤ v) × (v < 2 ^ 62)) }
     {
@@ -51,61 +65,126 @@ impl Gates {
             return Ok(*v);
         }
         let v = oracle.new_var(Name::And { left: a, right: b }, log)?;
-        self.variables.insert(key, v)?;
-        give(&self.group, oracle, v, a, b, log)?;
+        self.unfinished = Some(Unfinished {
+            left: a,
+            right: b,
+            variable: v,
+            parts: 0,
+        });
+        self.finish(oracle, log)?;
         Ok(v)
+    }
+
+    // Gives the clauses that are missing of the gate that was named last, if any are.
+    pub(crate) fn finish<O: Oracle>(&mut self, oracle: &mut O, log: &mut Log) -> Result<(), Memory>
+        requires fit { O.Fits oracle.old log.old }
+        requires known { AreKnown self.old log.old.entries }
+        requires few { length (fault_groups log.old.entries) ≤ rounds_of log.old.entries + 1 }
+        ensures fit { O.Fits oracle.new log.new }
+        ensures grew { (f : Dqbf) (old : List Entry) → Grew (IsAddedBy f circuits (variable_of self.old.group.selector) true old) log.old log.new }
+        ensures group { self.new.group ≡ self.old.group }
+        ensures names { (v : ℕ) → name_of log.new.entries v ≡ name_of log.old.entries v }
+        ensures faults { fault_groups log.new.entries ≡ fault_groups log.old.entries }
+        ensures known { AreKnown self.new log.new.entries }
+        ensures ready { OnOk result (self.new.unfinished ≡ None) }
+    {
+        match self.unfinished {
+            Some(gate) => self.finish_gate(oracle, &gate, log),
+            None => Ok(()),
+        }
+    }
+
+    fn finish_gate<O: Oracle>(
+        &mut self,
+        oracle: &mut O,
+        gate: &Unfinished,
+        log: &mut Log,
+    ) -> Result<(), Memory>
+        requires fit { O.Fits oracle.old log.old }
+        requires known { AreKnown self.old log.old.entries }
+        requires last { self.old.unfinished ≡ Some gate.now }
+        requires few { length (fault_groups log.old.entries) ≤ rounds_of log.old.entries + 1 }
+        ensures fit { O.Fits oracle.new log.new }
+        ensures grew { (f : Dqbf) (old : List Entry) → Grew (IsAddedBy f circuits (variable_of self.old.group.selector) true old) log.old log.new }
+        ensures group { self.new.group ≡ self.old.group }
+        ensures names { (v : ℕ) → name_of log.new.entries v ≡ name_of log.old.entries v }
+        ensures faults { fault_groups log.new.entries ≡ fault_groups log.old.entries }
+        ensures known { AreKnown self.new log.new.entries }
+        ensures ready { OnOk result (self.new.unfinished ≡ None) }
+    {
+        self.give_parts(oracle, gate, log)?;
+        let key = (code(&gate.left), code(&gate.right));
+        self.variables.insert(key, gate.variable)?;
+        self.unfinished = None;
+        Ok(())
+    }
+
+    // Gives the missing clauses, and notes each.
+    fn give_parts<O: Oracle>(
+        &mut self,
+        oracle: &mut O,
+        gate: &Unfinished,
+        log: &mut Log,
+    ) -> Result<(), Memory>
+        requires fit { O.Fits oracle.old log.old }
+        requires known { AreKnown self.old log.old.entries }
+        requires last { self.old.unfinished ≡ Some gate.now }
+        requires few { length (fault_groups log.old.entries) ≤ rounds_of log.old.entries + 1 }
+        ensures fit { O.Fits oracle.new log.new }
+        ensures grew { (f : Dqbf) (old : List Entry) → Grew (IsAddedBy f circuits (variable_of self.old.group.selector) true old) log.old log.new }
+        ensures group { self.new.group ≡ self.old.group }
+        ensures names { (v : ℕ) → name_of log.new.entries v ≡ name_of log.old.entries v }
+        ensures faults { fault_groups log.new.entries ≡ fault_groups log.old.entries }
+        ensures known { AreKnown self.new log.new.entries }
+        ensures last { OnOk result (self.new.unfinished ≡ Some (record gate.now { parts = 3 })) }
+    {
+        for parts in gate.parts..3 {
+            give_part(&self.group, oracle, gate, parts + 1, log)?;
+            self.unfinished = Some(Unfinished {
+                left: gate.left,
+                right: gate.right,
+                variable: gate.variable,
+                parts: parts + 1,
+            });
+        }
+        Ok(())
     }
 }
 
-// Gives the clauses of a gate.
-fn give<O: Oracle>(
+// Gives a clause of a gate, by its number from 1 to 3.
+fn give_part<O: Oracle>(
     group: &Group,
     oracle: &mut O,
-    v: u64,
-    a: Lit,
-    b: Lit,
+    gate: &Unfinished,
+    part: u64,
     log: &mut Log,
 ) -> Result<(), Memory>
     requires fit { O.Fits oracle.old log.old }
     requires made { IsMade log.old.entries group.now }
-    requires from_one { 1 ≤ v }
-    requires in_range { v < 2 ^ 62 }
-    requires named { name_of log.old.entries v ≡ Some (And a b) }
-    requires sides { HasSides log.old.entries (And a b) }
-    requires fresh { (i : ℕ) (c : List Literal) → Contains log.old.entries (Given (Gate v i) c) → ⊥ }
-    requires few { length (fault_groups log.old.entries) ≤ rounds_of log.old.entries + 1 }
+    requires first { 1 ≤ part }
+    requires last { part ≤ 3 }
+    requires from_one { 1 ≤ gate.now.variable }
+    requires in_range { gate.now.variable < 2 ^ 62 }
+    requires named { name_of log.old.entries gate.now.variable ≡ Some (And gate.now.left gate.now.right) }
+    requires sides { HasSides log.old.entries (And gate.now.left gate.now.right) }
     ensures fit { O.Fits oracle.new log.new }
-    ensures grew { (f : Dqbf) (old : List Entry) → Grew (IsAddedBy f circuits (variable_of group.now.selector) true old) log.old log.new }
-    ensures faults { fault_groups log.new.entries ≡ fault_groups log.old.entries }
-    ensures ok { OnOk result (log.new.entries ≡ gate_entries (variable_of group.now.selector) v a b ++ log.old.entries) }
+    ensures given { OnOk result (IsPartGiven log.old log.new (variable_of group.now.selector) part gate.now) }
+    ensures err { OnErr result (log.new ≡ log.old) }
 {
-    oracle.add(
-        group,
-        &[Lit::neg(v), a],
-        Origin::Gate {
-            variable: v,
-            part: 1,
-        },
-        log,
-    )?;
-    oracle.add(
-        group,
-        &[Lit::neg(v), b],
-        Origin::Gate {
-            variable: v,
-            part: 2,
-        },
-        log,
-    )?;
-    oracle.add(
-        group,
-        &[Lit::pos(v), a.not(), b.not()],
-        Origin::Gate {
-            variable: v,
-            part: 3,
-        },
-        log,
-    )?;
+    let v = gate.variable;
+    let origin = Origin::Gate { variable: v, part };
+    if part == 1 {
+        oracle.add(group, &[Lit::neg(v), gate.left], origin, log)?;
+    } else if part == 2 {
+        oracle.add(group, &[Lit::neg(v), gate.right], origin, log)?;
+    } else {
+        oracle.add(
+            group,
+            &[Lit::pos(v), gate.left.not(), gate.right.not()],
+            origin,
+            log,
+        )?;
+    }
     Ok(())
 }
 

@@ -1,5 +1,6 @@
 //! What a log's leaves and answers say of a graph's nodes. Each law is the contract of a function without parameters.
 
+ghost use Rattle.circuit_cnf.specs.Checking.{CheckersStay, CheckersStayWithRounds};
 ghost use Rattle.circuit_cnf.specs.Leaves.{LeavesHaveNodesValues, LeavesReadNodesCones};
 ghost use Rattle.circuit_cnf.specs.Shown.{ShownOutputsHold, ShownOutputsDecide};
 
@@ -29,3 +30,13 @@ pub fn shown_outputs_decide()
 {
     leaves_read_nodes_cones();
 }
+
+/// What another engine's call adds to a log leaves a checker as it is.
+pub fn checkers_stay()
+    ensures { CheckersStay }
+{}
+
+/// So does a round.
+pub fn checkers_stay_with_rounds()
+    ensures { CheckersStayWithRounds }
+{}

@@ -1,4 +1,4 @@
-ghost use Rattle.std.specs.Prelude.{◌≡◌, ◌≤◌, ◌<◌, ◌+◌, false, true, List, length, OnOk, IfOk};
+ghost use Rattle.std.specs.Prelude.{◌≡◌, ◌≤◌, ◌<◌, ◌+◌, false, true, List, length, map, All, OnOk, IfOk, None};
 ghost use Rattle.dq_lits.specs.Formula.{Dqbf};
 ghost use Rattle.dq_lits.specs.Literal.{variable_of};
 ghost use Rattle.dq_lits.specs.Row.{bit_of};
@@ -11,14 +11,14 @@ ghost use Rattle.hint_log.specs.ProductiveLog.{fault_groups};
 ghost use Rattle.log_laws.specs.Engines.{circuits, IsAddedBy};
 ghost use Rattle.aig_graph.specs.Graph.{IsEarlierNode, size_of};
 ghost use Rattle.circuit_cnf.specs.Checking.{AreInputs};
-ghost use Rattle.circuit_cnf.specs.Gates.{AreKnown};
+ghost use Rattle.circuit_cnf.specs.Gates.{AreKnown, AreBadsStill};
 ghost use Rattle.circuit_cnf.specs.Leaves.{HasLeaf, HaveLeaves, AreClosed, IsInnerNode, leaf_by};
 
 use crate::gates::Gates;
 use aig_graph::{Graph, Look, Node};
 use dq_formula::Formula;
 use dq_lits::{Lit, Memory, Row};
-use hint_log::Log;
+use hint_log::{Leaf, Log};
 use oracle::Oracle;
 use std::alloc::Global;
 
@@ -36,6 +36,7 @@ pub(crate) fn cone_literals<O: Oracle>(
 ) -> Result<Vec<Lit>, Memory>
     requires fit { O.Fits oracle.old log.old }
     requires known { AreKnown gates.old log.old.entries }
+    requires ready { gates.old.unfinished ≡ None }
     requires few { length (fault_groups log.old.entries) ≤ rounds_of log.old.entries + 1 }
     requires universals { graph.now.inputs ≡ length f.now.universals }
     requires inputs { AreInputs f.now.universals inputs.now log.old.entries }
@@ -46,7 +47,9 @@ pub(crate) fn cone_literals<O: Oracle>(
     ensures grew { (h : Dqbf) (old : List Entry) → Grew (IsAddedBy h circuits (variable_of gates.old.group.selector) true old) log.old log.new }
     ensures group { gates.new.group ≡ gates.old.group }
     ensures faults { fault_groups log.new.entries ≡ fault_groups log.old.entries }
-    ensures known { OnOk result (AreKnown gates.new log.new.entries) }
+    ensures bads { AreBadsStill log.old.entries log.new.entries }
+    ensures known { AreKnown gates.new log.new.entries }
+    ensures ready { OnOk result (gates.new.unfinished ≡ None) }
     ensures count { IfOk result (λ literals. length literals.items ≡ length graph.now.gates) }
     ensures leaves { IfOk result (λ literals. HaveLeaves f.now graph.now marks.now literals.items log.new.entries) }
 {
@@ -73,6 +76,7 @@ fn next_literal<O: Oracle>(
 ) -> Result<Lit, Memory>
     requires fit { O.Fits oracle.old log.old }
     requires known { AreKnown gates.old log.old.entries }
+    requires ready { gates.old.unfinished ≡ None }
     requires few { length (fault_groups log.old.entries) ≤ rounds_of log.old.entries + 1 }
     requires universals { graph.now.inputs ≡ length f.now.universals }
     requires inputs { AreInputs f.now.universals inputs.now log.old.entries }
@@ -85,7 +89,9 @@ fn next_literal<O: Oracle>(
     ensures grew { (h : Dqbf) (old : List Entry) → Grew (IsAddedBy h circuits (variable_of gates.old.group.selector) true old) log.old log.new }
     ensures group { gates.new.group ≡ gates.old.group }
     ensures faults { fault_groups log.new.entries ≡ fault_groups log.old.entries }
-    ensures known { OnOk result (AreKnown gates.new log.new.entries) }
+    ensures bads { AreBadsStill log.old.entries log.new.entries }
+    ensures known { AreKnown gates.new log.new.entries }
+    ensures ready { OnOk result (gates.new.unfinished ≡ None) }
     ensures leaf { IfOk result (λ l. bit_of marks.now (graph.now.inputs + length literals.now) ≡ true
         → HasLeaf f.now graph.now log.new.entries (Node.Gate (length literals.now) false) (LeafLiteral l)) }
 {
@@ -108,6 +114,7 @@ pub(crate) fn gate_literal<O: Oracle>(
 ) -> Result<Lit, Memory>
     requires fit { O.Fits oracle.old log.old }
     requires known { AreKnown gates.old log.old.entries }
+    requires ready { gates.old.unfinished ≡ None }
     requires few { length (fault_groups log.old.entries) ≤ rounds_of log.old.entries + 1 }
     requires universals { graph.now.inputs ≡ length f.now.universals }
     requires inputs { AreInputs f.now.universals inputs.now log.old.entries }
@@ -119,7 +126,9 @@ pub(crate) fn gate_literal<O: Oracle>(
     ensures grew { (h : Dqbf) (old : List Entry) → Grew (IsAddedBy h circuits (variable_of gates.old.group.selector) true old) log.old log.new }
     ensures group { gates.new.group ≡ gates.old.group }
     ensures faults { fault_groups log.new.entries ≡ fault_groups log.old.entries }
-    ensures known { OnOk result (AreKnown gates.new log.new.entries) }
+    ensures bads { AreBadsStill log.old.entries log.new.entries }
+    ensures known { AreKnown gates.new log.new.entries }
+    ensures ready { OnOk result (gates.new.unfinished ≡ None) }
     ensures leaf { IfOk result (λ l. HasLeaf f.now graph.now log.new.entries (Node.Gate (length literals.now) false) (LeafLiteral l)) }
 {
     match graph.look(Node::Gate(literals.len(), false)) {
@@ -150,4 +159,32 @@ fn signed(l: Lit, negated: bool) -> Lit
     ensures { LeafLiteral result ≡ leaf_with_sign negated (LeafLiteral l) }
 {
     if negated { l.not() } else { l }
+}
+
+// The leaves of nodes, by the literals of the inputs and the gates.
+pub(crate) fn node_leaves(
+    alloc: Global,
+    inputs: &[Lit],
+    gates: &[Lit],
+    nodes: &[Node],
+) -> Result<Vec<Leaf>, Memory>
+    requires { All (IsEarlierNode (length inputs.now) (length gates.now)) nodes.now }
+    ensures { IfOk result (λ leaves. leaves.items ≡ map (leaf_by inputs.now gates.now) nodes.now) }
+{
+    let mut leaves = Vec::new(alloc);
+    for n in nodes {
+        leaves.push(node_leaf(inputs, gates, *n))?;
+    }
+    Ok(leaves)
+}
+
+fn node_leaf(inputs: &[Lit], gates: &[Lit], n: Node) -> Leaf
+    requires { IsEarlierNode (length inputs.now) (length gates.now) n }
+    ensures { result ≡ leaf_by inputs.now gates.now n }
+{
+    match n {
+        Node::Constant(b) => Leaf::Constant(b),
+        Node::Input(i, negated) => Leaf::Literal(signed(inputs[i], negated)),
+        Node::Gate(g, negated) => Leaf::Literal(signed(gates[g], negated)),
+    }
 }

@@ -3,9 +3,12 @@
 
 pub use checkers::Checker;
 pub use gates::Gates;
+pub use turns::Turn;
 
 mod checkers;
+mod failures;
 mod faults;
 mod gates;
 pub mod laws;
 mod leaves;
+mod turns;

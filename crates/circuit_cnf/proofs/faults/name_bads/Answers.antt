@@ -25,3 +25,10 @@ loop-j-preserved g c =
     let more = bad_more group c.args.log.now c.loop-j.log c.new_var.new.log c.loop-j.bads.items c.loop-j.j c.in_ok-v.v c.loop-j.invariant.1 c.in_ok-v.ensures.unnamed added in
     let items : c.push.new.self.items ≡ c.loop-j.bads.items ++ positive c.in_ok-v.v ∷ [] = c.in_ok-push.ensures.items ∙ ap (λ l. c.loop-j.bads.items ++ l ∷ []) c.pos.ensures in
     (c.new_var.ensures.fit, subst (λ xs. BadsSoFar group c.args.log.now c.new_var.new.log xs (c.loop-j.j + 1)) (sym items) more)
+
+pub returns-in_err-push-clause-alone : goal.returns-in_err-push-clause-alone
+returns-in_err-push-clause-alone g c =
+    let group = variable_of c.args.group.now.selector in
+    let number : c.var.result ≡ group = c.var.ensures.value ∙ ap variable_of c.selector.ensures in
+    let added : c.new_var.new.log ≡ with_entry c.loop-j.log (Named c.in_ok-v.v (Bad group (c.loop-j.j + 1))) = c.in_ok-v.ensures.ok ∙ ap (λ n. with_entry c.loop-j.log (Named c.in_ok-v.v (Bad n (c.loop-j.j + 1)))) number in
+    (bad_more group c.args.log.now c.loop-j.log c.new_var.new.log c.loop-j.bads.items c.loop-j.j c.in_ok-v.v c.loop-j.invariant.1 c.in_ok-v.ensures.unnamed added).alone

@@ -21,7 +21,9 @@ loop-preserved g c =
       grew = c.next_literal.ensures.grew;
       group = c.next_literal.ensures.group;
       faults = c.next_literal.ensures.faults;
-      known = c.in_ok-l.ensures.known;
+      bads = c.next_literal.ensures.bads;
+      known = c.next_literal.ensures.known;
+      ready = c.in_ok-l.ensures.ready;
       leaf = subst (λ xs. bit_of c.args.marks.now (c.args.graph.now.inputs + length xs) ≡ true → HasLeaf c.args.f.now c.args.graph.now c.next_literal.new.log.entries (Gate (length xs) false) (LeafLiteral l)) c.deref.ensures.value c.in_ok-l.ensures.leaf;
     } in
     let more = literal_more c.args.f.now c.args.graph.now c.args.inputs.now c.args.marks.now c.args.gates.now c.args.log.now c.loop.gates c.loop.log c.next_literal.new.gates c.next_literal.new.log c.loop.literals.items l c.loop.counter c.loop.invariant.1 next in

@@ -1,4 +1,4 @@
-use Rattle.std.proofs.Common.{true, inl, refl}
+use Rattle.std.proofs.Common.{true, inl, refl, None}
 use Rattle.dq_lits.specs.Literal.{variable_of}
 use Rattle.hint_log.specs.Entries.{Named}
 use Rattle.hint_log.specs.declared.names.Name.TheVariants.{Selector}
@@ -18,5 +18,5 @@ returns-clause-grew g c group =
 pub returns-clause-made : goal.returns-clause-made
 returns-clause-made g c =
     new_checker c.args.f.now c.name_inputs.new.log c.group.new.log
-    (record { tenant = c.in_ok-tenant.tenant; gates = record { group = c.in_ok-group.group; variables = c.new.result }; inputs = c.in_ok-inputs.inputs })
-    c.in_ok-inputs.ensures.none c.in_ok-inputs.ensures.inputs c.in_ok-group.ensures.made c.in_ok-group.ensures.unnamed c.in_ok-group.ensures.ok c.new.ensures.empty
+    (record { alloc = c.args.alloc; tenant = c.in_ok-tenant.tenant; gates = record { group = c.in_ok-group.group; variables = c.new.result; unfinished = None }; inputs = c.in_ok-inputs.inputs })
+    c.in_ok-inputs.ensures.none c.in_ok-inputs.ensures.inputs c.in_ok-group.ensures.made c.in_ok-group.ensures.unnamed c.in_ok-group.ensures.ok c.new.ensures.empty refl (g.met.O.Oracle.searched c.name_inputs.new.oracle c.name_inputs.new.log c.name_inputs.ensures.fit).grouped

@@ -1,0 +1,146 @@
+-- What a new group says of the clauses, call by call.
+use Rattle.std.proofs.Common.{◌≡◌, ℕ, zero, suc, ◌+◌, ◌≤◌, ◌<◌, true, false, inl, inr, List, [], ◌∷◌, map, length, get_or, Option, Some, None, refl, sym, ◌∙◌, ap, subst, arith}
+use Rattle.std.specs.List.{range_with_len}
+use Rattle.std.specs.Option.{option_map}
+use Rattle.std.proofs.lemmas.Bool.{false≢true}
+use Rattle.dq_lits.specs.Literal.{Literal, positive, negative, variable_of, is_negative}
+use Rattle.dq_lits.specs.Formula.{Dqbf}
+use Rattle.hint_log.specs.Entries.{Entry}
+use Rattle.hint_log.specs.Entries.{Given}
+use Rattle.hint_log.specs.declared.names.Name.{Name}
+use Rattle.hint_log.specs.declared.names.Name.TheVariants.{Selector, Bad}
+use Rattle.hint_log.specs.declared.origins.Leaf.{Leaf}
+use Rattle.hint_log.specs.declared.origins.Leaf.TheVariants.{Constant, Literal as LeafLiteral}
+use Rattle.hint_log.specs.declared.origins.Origin.TheVariants.{Fault}
+use Rattle.hint_log.specs.Conditions.{is_circuit_name}
+use Rattle.hint_log.specs.Entries.{ProofLog, with_entry, name_of, rounds_of}
+use Rattle.hint_log.specs.Growth.{Grew}
+use Rattle.hint_log.specs.Naming.{name_literal, AreNamedAs}
+use Rattle.hint_log.specs.Origins.{matrix_literal, IsLeafOf}
+use Rattle.hint_log.specs.ProductiveLog.{fault_groups, with_group}
+use Rattle.log_laws.specs.Engines.{circuits, IsAddedBy, LeavesRest}
+use Rattle.log_laws.proofs.Found.{named_variable}
+use Rattle.log_laws.proofs.Growing.{leaves_rest, grown_then}
+use Rattle.oracle.specs.Calls.{IsMade}
+use Rattle.oracle.specs.declared.groups.Group.{Group}
+use Rattle.circuit_cnf.specs.Faults.{HaveOneLeaf, AreFewWith, IsBadAt, HaveAllFaults, NamesBadsAlone, IsNamingBads, AreGiven}
+use Rattle.circuit_cnf.proofs.Badding.{bad_name}
+use Rattle.circuit_cnf.proofs.Giving.{contains_cases, contains_first}
+use Rattle.circuit_cnf.proofs.Naming.{NamesStay, named_as_stays}
+use Rattle.circuit_cnf.proofs.ClauseFaults.{few_more, fault_stays}
+
+-- how the log grows by the group's clauses
+abbrev pub GrewByGroup : Dqbf → ℕ → ProofLog → ProofLog → Type 0
+GrewByGroup f group old new = (standing : ℕ) (start : List Entry) → name_of start group ≡ None → Grew (IsAddedBy f circuits standing true start) old new
+
+pub record GroupSoFar (f : Dqbf) (group : ℕ) (leaf : ℕ → Leaf) (old log : ProofLog) : Type 0 where
+  pub grew : GrewByGroup f group old log
+  pub stay : NamesStay old.entries log.entries
+  pub names : NamesBadsAlone group old.entries log.entries
+  pub few : AreFewWith group log.entries
+  pub one_leaf : HaveOneLeaf f group leaf log.entries
+
+pub after_bads : (f : Dqbf) (group : ℕ) (leaf : ℕ → Leaf) (old new : ProofLog) → ((h : Dqbf) (standing : ℕ) (start : List Entry) → Grew (IsAddedBy h circuits standing true start) old new) →
+    fault_groups new.entries ≡ fault_groups old.entries → IsNamingBads group old.entries new.entries → AreFewWith group old.entries → HaveOneLeaf f group leaf old.entries → GroupSoFar f group leaf old new
+after_bads f group leaf old new grew faults alone few one = record {
+  grew = λ standing start unnamed. grew f standing start;
+  stay = rest.names;
+  names = alone.names;
+  few = λ j i out more. subst (λ gs. length (with_group (negative group ∷ more) gs) ≤ rounds_of new.entries + 1) (sym faults)
+      (subst (λ n. length (with_group (negative group ∷ more) (fault_groups old.entries)) ≤ n + 1) (sym rest.rounds) (few j i out more));
+  one_leaf = λ j i v out more inside own. one j i v out more (alone.givens (Fault j i out) (negative group ∷ more) inside) own;
+} where
+  rest : LeavesRest f circuits group true old.entries new.entries
+  rest = leaves_rest f circuits group true old new (grew f group old.entries)
+
+-- what the clauses leave
+pub record IsAfterAll (f : Dqbf) (group : ℕ) (leaf : ℕ → Leaf) (log new : ProofLog) : Type 0 where
+  pub grew : GrewByGroup f group log new
+  pub names : (v : ℕ) → name_of new.entries v ≡ name_of log.entries v
+  pub few : AreFewWith group new.entries
+  pub one_leaf : HaveOneLeaf f group leaf new.entries
+
+pub after_all : (f : Dqbf) (group : ℕ) (leaf : ℕ → Leaf) (old log new : ProofLog) → GroupSoFar f group leaf old log → IsAfterAll f group leaf log new → GroupSoFar f group leaf old new
+after_all f group leaf old log new before after = record {
+  grew = λ standing start unnamed. grown_then (IsAddedBy f circuits standing true start) old log new (before.grew standing start unnamed) (after.grew standing start unnamed);
+  stay = λ v n is. after.names v ∙ before.stay v n is;
+  names = λ v name is. before.names v name (sym (after.names v) ∙ is);
+  few = after.few;
+  one_leaf = after.one_leaf;
+}
+
+pub after_some : (f : Dqbf) (group : ℕ) (leaf : ℕ → Leaf) (bads : List Literal) (old log new : ProofLog) → IsAfterAll f group leaf old log → GrewByGroup f group log new →
+    new ≡ with_entry log (Given (Fault 0 0 (Constant false)) (negative group ∷ bads)) → IsAfterAll f group leaf old new
+after_some f group leaf bads old log new before grew is = record {
+  grew = λ standing start unnamed. grown_then (IsAddedBy f circuits standing true start) old log new (before.grew standing start unnamed) (grew standing start unnamed);
+  names = λ v. ap (λ xs. name_of xs v) es ∙ before.names v;
+  few = subst (AreFewWith group) (sym es) (few_more group 0 0 (Constant false) bads log.entries before.few);
+  one_leaf = subst (HaveOneLeaf f group leaf) (sym es) one;
+} where
+  e : Entry
+  e = Given (Fault 0 0 (Constant false)) (negative group ∷ bads)
+
+  es : new.entries ≡ Given (Fault 0 0 (Constant false)) (negative group ∷ bads) ∷ log.entries
+  es = ap (λ (l : ProofLog). l.entries) is
+
+  one : HaveOneLeaf f group leaf (e ∷ log.entries)
+  one j i v out rest inside own = elim (contains_cases e (Given (Fault j i out) (negative group ∷ rest)) log.entries inside) [
+    | inl same ↦ (let left : 0 ≡ j = cc in let none : None ≡ Some v = ap (λ x. option_map variable_of (matrix_literal f x i)) left ∙ own in cc)
+    | inr earlier ↦ before.one_leaf j i v out rest earlier own
+  ]
+
+pub made_stays : (old new : List Entry) (g : Group) → NamesStay old new → IsMade old g → IsMade new g
+made_stays old new g stay made = record { positive = made.positive; named = stay (variable_of g.selector) (Selector (variable_of g.selector)) made.named }
+
+circuit_stays : (old new : List Entry) → NamesStay old new → (v : ℕ) → is_circuit_name (name_of old v) ≡ true → is_circuit_name (name_of new v) ≡ true
+circuit_stays old new stay v h = by (name_of old v) refl h where
+  by : (o : Option Name) → name_of old v ≡ o → is_circuit_name o ≡ true → is_circuit_name (name_of new v) ≡ true
+  by None e is = absurd (false≢true is)
+  by (Some n) e is = ap is_circuit_name (stay v n e) ∙ is
+
+pub leaf_of_stays : (f : Dqbf) (old new : List Entry) (v : ℕ) (out : Leaf) → NamesStay old new → IsLeafOf f old v out → IsLeafOf f new v out
+leaf_of_stays f old new v (Constant b) stay h = h
+leaf_of_stays f old new v (LeafLiteral l) stay h = ((λ u. let r = h.0 u in (r.0, stay (variable_of l) _ r.1)), circuit_stays old new stay (variable_of l) h.1)
+
+-- the bads by their places
+bad_from : (es : List Entry) (group from : ℕ) (count : ℕ) (bads : List Literal) (j : ℕ) → AreNamedAs es bads (map (bad_name group) (range_with_len from count)) → j < count →
+    (name_of es (variable_of (get_or bads j (positive 0))) ≡ Some (Bad group (j + from))) × (is_negative (get_or bads j (positive 0)) ≡ false)
+bad_from es group from zero bads j h below = absurd (omega (arith, below))
+bad_from es group from (suc count) [] j h below = cc
+bad_from es group from (suc count) (l ∷ bads) zero h below =
+    let here : name_literal es l ≡ Some (bad_name group from) = cc in
+    let n = named_variable es l (Bad group from) false (name_of es (variable_of l)) refl here in
+    let number : from ≡ 0 + from = omega arith in
+    (n.0 ∙ ap (λ n. Some (Bad group n)) number, n.1)
+bad_from es group from (suc count) (l ∷ bads) (suc j) h below =
+    let later : AreNamedAs es bads (map (bad_name group) (range_with_len (from + 1) count)) = cc in
+    let r = bad_from es group (from + 1) count bads j later (omega (arith, below)) in
+    let number : j + (from + 1) ≡ suc j + from = omega arith in
+    (r.0 ∙ ap (λ n. Some (Bad group n)) number, r.1)
+
+pub bads_are_at : (es : List Entry) (group count : ℕ) (bads : List Literal) → AreNamedAs es bads (map (bad_name group) (range_with_len 1 count)) → (j : ℕ) → j < count → IsBadAt group j bads es
+bads_are_at es group count bads h j below = let r = bad_from es group 1 count bads j h below in record { named = r.0; positive_literal = r.1 }
+
+counted : (es : List Entry) (group from count : ℕ) (bads : List Literal) → AreNamedAs es bads (map (bad_name group) (range_with_len from count)) → length bads ≡ count
+counted es group from zero [] h = refl
+counted es group from zero (l ∷ bads) h = cc
+counted es group from (suc count) [] h = cc
+counted es group from (suc count) (l ∷ bads) h =
+    let later : AreNamedAs es bads (map (bad_name group) (range_with_len (from + 1) count)) = cc in
+    let more = counted es group (from + 1) count bads later in omega (arith, more)
+
+pub bads_count : (es : List Entry) (group count : ℕ) (bads : List Literal) → AreNamedAs es bads (map (bad_name group) (range_with_len 1 count)) → length bads ≡ count
+bads_count es group count bads h = counted es group 1 count bads h
+
+pub all_given : (f : Dqbf) (group : ℕ) (leaf : ℕ → Leaf) (bads : List Literal) (named log new : ProofLog) → AreNamedAs named.entries bads (map (bad_name group) (range_with_len 1 (length f.matrix))) →
+    ((v : ℕ) → name_of log.entries v ≡ name_of named.entries v) → HaveAllFaults f group bads leaf (length f.matrix) log.entries →
+    new ≡ with_entry log (Given (Fault 0 0 (Constant false)) (negative group ∷ bads)) → AreGiven f group leaf new.entries
+all_given f group leaf bads named log new are names all is = subst (AreGiven f group leaf) (sym (ap (λ (l : ProofLog). l.entries) is)) (record {
+  bads = bads;
+  count = bads_count named.entries group (length f.matrix) bads are;
+  bads_are = bads_are_at (e ∷ log.entries) group (length f.matrix) bads (named_as_stays named.entries (e ∷ log.entries) (λ v n h. names v ∙ h) bads (map (bad_name group) (range_with_len 1 (length f.matrix))) are);
+  some = contains_first e log.entries;
+  all = λ j below i l small at. fault_stays group (variable_of (get_or bads j (positive 0))) (j + 1) (i + 1) l (leaf (variable_of l)) e log.entries (all j below i l small at);
+}) where
+  e : Entry
+  e = Given (Fault 0 0 (Constant false)) (negative group ∷ bads)

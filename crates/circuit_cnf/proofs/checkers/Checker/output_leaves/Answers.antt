@@ -1,0 +1,55 @@
+use Rattle.std.proofs.Common.{map, sym, ◌∙◌, ap, subst}
+use Rattle.std.specs.List.{All}
+use Rattle.dq_lits.specs.Literal.{variable_of}
+use Rattle.aig_graph.specs.Graph.{IsEarlierNode}
+use Rattle.circuit_cnf.specs.Leaves.{leaf_by}
+use Rattle.circuit_cnf.proofs.ConeLiterals.{grew_in_all}
+use Rattle.circuit_cnf.proofs.Outputting.{few_by_gates, cone_checker, cones_are_closed, are_leaves}
+use Rattle.circuit_cnf.proofs.checkers.Checker.output_leaves.Goals as goal
+
+pub cone_literals-requires-clause-few : goal.cone_literals-requires-clause-few
+cone_literals-requires-clause-few g c =
+    few_by_gates (variable_of c.args.self.now.gates.group.selector) c.args.log.now c.finish.new.log c.finish.ensures.grew c.finish.ensures.faults c.requires.few
+
+pub cone_literals-requires-clause-closed : goal.cone_literals-requires-clause-closed
+cone_literals-requires-clause-closed g c = cones_are_closed c.args.graph.now c.args.outputs.now c.cones.new.marks c.cones.ensures.marked
+
+pub returns-in_err-literals-clause-checker : goal.returns-in_err-literals-clause-checker
+returns-in_err-literals-clause-checker g c =
+    cone_checker c.args.f.now c.args.self.now c.cone_literals.new.gates (variable_of c.finish.new.self.group.selector) c.args.log.now c.finish.new.log c.cone_literals.new.log c.requires.checker c.finish.ensures.names
+    c.cone_literals.ensures.grew c.cone_literals.ensures.bads c.cone_literals.ensures.known
+
+pub returns-in_err-literals-clause-grew : goal.returns-in_err-literals-clause-grew
+returns-in_err-literals-clause-grew g c =
+    grew_in_all c.args.self.now.gates c.finish.new.self c.args.log.now c.finish.new.log c.cone_literals.new.log c.finish.ensures.grew c.finish.ensures.group c.cone_literals.ensures.grew
+
+pub returns-in_err-leaves-clause-checker : goal.returns-in_err-leaves-clause-checker
+returns-in_err-leaves-clause-checker g c =
+    cone_checker c.args.f.now c.args.self.now c.cone_literals.new.gates (variable_of c.finish.new.self.group.selector) c.args.log.now c.finish.new.log c.cone_literals.new.log c.requires.checker c.finish.ensures.names
+    c.cone_literals.ensures.grew c.cone_literals.ensures.bads c.cone_literals.ensures.known
+
+pub returns-in_err-leaves-clause-grew : goal.returns-in_err-leaves-clause-grew
+returns-in_err-leaves-clause-grew g c =
+    grew_in_all c.args.self.now.gates c.finish.new.self c.args.log.now c.finish.new.log c.cone_literals.new.log c.finish.ensures.grew c.finish.ensures.group c.cone_literals.ensures.grew
+
+pub returns-clause-checker : goal.returns-clause-checker
+returns-clause-checker g c =
+    cone_checker c.args.f.now c.args.self.now c.cone_literals.new.gates (variable_of c.finish.new.self.group.selector) c.args.log.now c.finish.new.log c.cone_literals.new.log c.requires.checker c.finish.ensures.names
+    c.cone_literals.ensures.grew c.cone_literals.ensures.bads c.cone_literals.ensures.known
+
+pub returns-clause-grew : goal.returns-clause-grew
+returns-clause-grew g c =
+    grew_in_all c.args.self.now.gates c.finish.new.self c.args.log.now c.finish.new.log c.cone_literals.new.log c.finish.ensures.grew c.finish.ensures.group c.cone_literals.ensures.grew
+
+pub returns-clause-leaves : goal.returns-clause-leaves
+returns-clause-leaves g c =
+    let graph = c.args.graph.now in
+    let nodes = c.args.outputs.now in
+    let inputs = c.args.self.now.inputs.items in
+    let literals = c.in_ok-literals.literals.items in
+    let earlier = subst (λ n. All (IsEarlierNode graph.inputs n) nodes) (sym c.in_ok-literals.ensures.count) c.requires.nodes in
+    are_leaves c.args.f.now graph c.cone_literals.new.log.entries inputs literals c.cones.new.marks nodes c.in_ok-leaves.leaves.items c.requires.an_input_a_universal
+    (cone_checker c.args.f.now c.args.self.now c.cone_literals.new.gates (variable_of c.finish.new.self.group.selector) c.args.log.now c.finish.new.log c.cone_literals.new.log c.requires.checker c.finish.ensures.names
+    c.cone_literals.ensures.grew c.cone_literals.ensures.bads c.cone_literals.ensures.known).inputs
+    c.in_ok-literals.ensures.leaves c.cones.ensures.marked earlier
+    (c.in_ok-leaves.ensures ∙ ap (λ xs. map (leaf_by xs c.deref-3.result.now) nodes) c.deref-2.ensures.value ∙ ap (λ ls. map (leaf_by inputs ls) nodes) c.deref-3.ensures.value)

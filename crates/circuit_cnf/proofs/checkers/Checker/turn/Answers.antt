@@ -1,0 +1,75 @@
+use Rattle.std.proofs.Common.{◌≡◌, Ok, sym, ◌∙◌, ap, subst}
+use Rattle.hint_log.specs.Growth.{Grew}
+use Rattle.log_laws.specs.Engines.{circuits, IsAddedBy}
+use Rattle.circuit_cnf.specs.Checking.{group_of}
+use Rattle.circuit_cnf.specs.Turning.{AreLeavesOf, is_silent_search}
+use Rattle.circuit_cnf.specs.Shown.{IsShownBy}
+use Rattle.circuit_cnf.proofs.Answering.{inputs_count, inputs_named, leaf_is_one, shown, outputs_hold}
+use Rattle.circuit_cnf.proofs.Leafing.{falsified}
+use Rattle.circuit_cnf.proofs.Outputting.{few_same, few_by_gates}
+use Rattle.circuit_cnf.proofs.Searching.{any_silence, turn_grew}
+use Rattle.circuit_cnf.proofs.checkers.Checker.turn.Goals as goal
+
+pub returns-in_err-leaves-clause-few : goal.returns-in_err-leaves-clause-few
+returns-in_err-leaves-clause-few g c = few_by_gates (group_of c.args.self.now) c.args.log.now c.output_leaves.new.log c.output_leaves.ensures.grew c.output_leaves.ensures.faults c.requires.few
+
+pub search-requires-clause-leaves : goal.search-requires-clause-leaves
+search-requires-clause-leaves g c v inside =
+    let have = subst (AreLeavesOf c.args.f.now c.args.graph.now c.output_leaves.new.log.entries c.args.outputs.now) (sym c.deref.ensures.value) c.in_ok-leaves.ensures.leaves in
+    leaf_is_one c.args.f.now c.args.graph.now c.output_leaves.new.log.entries c.output_leaves.new.self.inputs.items c.args.outputs.now c.deref.result.now c.output_leaves.ensures.checker.inputs have c.requires.a_node_an_existential v
+
+pub search-requires-clause-few : goal.search-requires-clause-few
+search-requires-clause-few g c = few_same (group_of c.args.self.now) c.args.log.now c.output_leaves.new.log c.output_leaves.ensures.grew c.output_leaves.ensures.faults c.requires.few
+
+pub returns-in_err-id-clause-grew : goal.returns-in_err-id-clause-grew
+returns-in_err-id-clause-grew g c =
+    turn_grew c.args.f.now (group_of c.args.self.now) (group_of c.output_leaves.new.self) _ c.args.log.now c.output_leaves.new.log c.search.new.log c.output_leaves.ensures.grew c.output_leaves.ensures.group
+    (any_silence c.args.f.now circuits (group_of c.output_leaves.new.self) _ c.output_leaves.new.log.entries c.output_leaves.new.log c.search.new.log c.in_err-id.ensures.grew)
+
+pub returns-in-Some-clause-grew : goal.returns-in-Some-clause-grew
+returns-in-Some-clause-grew g c =
+    turn_grew c.args.f.now (group_of c.args.self.now) (group_of c.output_leaves.new.self) _ c.args.log.now c.output_leaves.new.log c.search.new.log c.output_leaves.ensures.grew c.output_leaves.ensures.group
+    (subst (λ o. Grew (IsAddedBy c.args.f.now circuits (group_of c.output_leaves.new.self) (is_silent_search (Ok o)) c.output_leaves.new.log.entries) c.output_leaves.new.log c.search.new.log) c.in-Some.is c.in_ok-id.ensures.grew)
+
+pub returns-in-Some-clause-shown : goal.returns-in-Some-clause-shown
+returns-in-Some-clause-shown g c id e =
+    let have = subst (AreLeavesOf c.args.f.now c.args.graph.now c.output_leaves.new.log.entries c.args.outputs.now) (sym c.deref.ensures.value) c.in_ok-leaves.ensures.leaves in
+    let held = c.search.ensures.held c.in-Some.id (c.in_ok-id.was ∙ ap Ok c.in-Some.is) in
+    let same : c.in-Some.id ≡ id = cc in
+    subst (λ i. IsShownBy c.args.f.now c.args.graph.now c.args.outputs.now c.search.new.log.entries i) same
+    (shown c.args.f.now c.args.graph.now c.output_leaves.new.log.entries c.output_leaves.new.self.inputs.items c.args.outputs.now c.deref.result.now c.output_leaves.ensures.checker.inputs have
+    c.search.new.log.entries c.in-Some.id c.requires.formula c.requires.a_node_an_existential held)
+
+pub returns-in-Some-clause-holds : goal.returns-in-Some-clause-holds
+returns-in-Some-clause-holds g c id e =
+    let have = subst (AreLeavesOf c.args.f.now c.args.graph.now c.output_leaves.new.log.entries c.args.outputs.now) (sym c.deref.ensures.value) c.in_ok-leaves.ensures.leaves in
+    let held = c.search.ensures.held c.in-Some.id (c.in_ok-id.was ∙ ap Ok c.in-Some.is) in
+    outputs_hold c.args.f.now c.args.graph.now c.output_leaves.new.log.entries c.output_leaves.new.self.inputs.items c.args.outputs.now c.deref.result.now c.output_leaves.ensures.checker.inputs have
+    c.shown_outputs_hold.ensures c.search.new.log.entries c.in-Some.id c.requires.formula c.requires.a_node_an_existential held
+
+pub failure-requires-clause-made : goal.failure-requires-clause-made
+failure-requires-clause-made g c k d below =
+    let inputs = c.output_leaves.new.self.inputs.items in
+    g.met.O.Oracle.made c.search.new.oracle c.search.new.log _ c.search.ensures.fit
+    (inputs_named c.search.new.log.entries c.args.f.now.universals inputs c.search.ensures.checker.inputs (inputs_count c.search.new.log.entries c.args.f.now.universals inputs c.search.ensures.checker.inputs) k d below)
+
+pub failure-requires-clause-failing : goal.failure-requires-clause-failing
+failure-requires-clause-failing g c =
+    let have = subst (AreLeavesOf c.args.f.now c.args.graph.now c.output_leaves.new.log.entries c.args.outputs.now) (sym c.deref.ensures.value) c.in_ok-leaves.ensures.leaves in
+    let failing = c.search.ensures.failing (c.in_ok-id.was ∙ ap Ok c.in-None.is) in
+    falsified c.args.f.now c.args.graph.now c.output_leaves.new.log.entries c.output_leaves.new.self.inputs.items (g.O.Oracle.values c.search.new.oracle)
+    (g.met.O.Oracle.searched c.output_leaves.new.oracle c.output_leaves.new.log c.output_leaves.ensures.fit).logged c.output_leaves.ensures.checker.inputs
+    (inputs_count c.output_leaves.new.log.entries c.args.f.now.universals c.output_leaves.new.self.inputs.items c.output_leaves.ensures.checker.inputs) failing.gates
+    c.args.outputs.now c.deref.result.now have c.requires.a_node_an_existential failing
+
+pub returns-in_err-failure-in-None-clause-grew : goal.returns-in_err-failure-in-None-clause-grew
+returns-in_err-failure-in-None-clause-grew g c =
+    let quiet = subst (λ o. Grew (IsAddedBy c.args.f.now circuits (group_of c.output_leaves.new.self) (is_silent_search (Ok o)) c.output_leaves.new.log.entries) c.output_leaves.new.log c.search.new.log) c.in-None.is c.in_ok-id.ensures.grew in
+    turn_grew c.args.f.now (group_of c.args.self.now) (group_of c.output_leaves.new.self) _ c.args.log.now c.output_leaves.new.log c.search.new.log c.output_leaves.ensures.grew c.output_leaves.ensures.group
+    (any_silence c.args.f.now circuits (group_of c.output_leaves.new.self) _ c.output_leaves.new.log.entries c.output_leaves.new.log c.search.new.log quiet)
+
+pub returns-clause-grew : goal.returns-clause-grew
+returns-clause-grew g c =
+    let quiet = subst (λ o. Grew (IsAddedBy c.args.f.now circuits (group_of c.output_leaves.new.self) (is_silent_search (Ok o)) c.output_leaves.new.log.entries) c.output_leaves.new.log c.search.new.log) c.in-None.is c.in_ok-id.ensures.grew in
+    turn_grew c.args.f.now (group_of c.args.self.now) (group_of c.output_leaves.new.self) _ c.args.log.now c.output_leaves.new.log c.search.new.log c.output_leaves.ensures.grew c.output_leaves.ensures.group
+    (any_silence c.args.f.now circuits (group_of c.output_leaves.new.self) _ c.output_leaves.new.log.entries c.output_leaves.new.log c.search.new.log quiet)

@@ -1,0 +1,5 @@
+use Rattle.circuit_cnf.proofs.Leaving.{others_leave_checkers}
+use Rattle.circuit_cnf.proofs.laws.checkers_stay.Goals as goal
+
+pub returns : goal.returns
+returns c = others_leave_checkers

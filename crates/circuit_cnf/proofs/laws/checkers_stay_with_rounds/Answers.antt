@@ -1,0 +1,5 @@
+use Rattle.circuit_cnf.proofs.Leaving.{round_leaves_checkers}
+use Rattle.circuit_cnf.proofs.laws.checkers_stay_with_rounds.Goals as goal
+
+pub returns : goal.returns
+returns c = round_leaves_checkers

@@ -1,0 +1,190 @@
+ghost use Rattle.std.specs.Prelude.{◌≡◌, ◌≤◌, ◌<◌, ◌+◌, ℕ, Bool, true, false, List, length, map, Contains, All, OnOk, IfOk, IfSome, IsErrOf, Ok, Some, None, slice_index_or, []};
+ghost use Rattle.dq_lits.specs.Formula.{Dqbf, IsWellFormed, declared};
+ghost use Rattle.dq_lits.specs.Literal.{variable_of, clause_true};
+ghost use Rattle.dq_lits.specs.Row.{bit_of};
+ghost use Rattle.hint_log.specs.Entries.{Entry};
+ghost use Rattle.hint_log.specs.Entries.{rounds_of, steps_of};
+ghost use Rattle.hint_log.specs.Growth.{Grew};
+ghost use Rattle.hint_log.specs.Naming.{round_assignment};
+ghost use Rattle.hint_log.specs.Origins.{IsLeafOf};
+ghost use Rattle.hint_log.specs.ProductiveLog.{fault_groups};
+ghost use Rattle.log_laws.specs.Engines.{circuits, IsAddedBy};
+ghost use Rattle.aig_graph.specs.Graph.{IsNode, node_value};
+ghost use Rattle.aig_graph.specs.Outputs.{outputs_of};
+ghost use Rattle.circuit_cnf.specs.Checking.{group_of, IsChecker};
+ghost use Rattle.circuit_cnf.specs.Failing.{IsFailure, HasFalseClause, IsFailing, is_silent};
+ghost use Rattle.circuit_cnf.specs.Faults.{leaf_of};
+ghost use Rattle.circuit_cnf.specs.Shown.{HoldEverywhere, IsShownBy};
+ghost use Rattle.circuit_cnf.specs.Turning.{AreLeavesOf, IsHeldBy, AreFailing, is_silent_search};
+
+use crate::checkers::Checker;
+use crate::failures::false_clause;
+use crate::faults::give_faults;
+use crate::laws::shown_outputs_hold;
+use crate::leaves::{cone_literals, node_leaves};
+use aig_graph::{Graph, Node};
+use dq_formula::Formula;
+use dq_lits::{Lit, Memory, Row};
+use hint_log::{Leaf, Log, Stop};
+use oracle::{Answer, Oracle};
+use std::alloc::Global;
+
+/// Whether outputs make every clause true.
+#[derive(Debug, Drop)]
+pub enum Turn {
+    /// They do, on every row; the logged answer of this id shows it.
+    Holds(u64),
+    /// They don't: a row, the outputs' values there, and the number, from 1 on, of a clause that is false with them.
+    Fails { row: Row, values: Row, j: u64 },
+}
+
+impl Checker {
+    /// Whether every clause is true on every row, where the existentials have the values of these outputs, in order. It stops for want of
+    /// memory or at the log's limit. Before the next call the log needs a round, once the faults of this one were given.
+    pub fn turn<O: Oracle>(
+        &mut self,
+        oracle: &mut O,
+        graph: &Graph,
+        f: &Formula,
+        outputs: &[Node],
+        log: &mut Log,
+    ) -> Result<Turn, Stop>
+        requires fit { O.Fits oracle.old log.old }
+        requires checker { IsChecker f.now self.old log.old.entries }
+        requires formula { IsWellFormed f.now }
+        requires an_input_a_universal { graph.now.inputs ≡ length f.now.universals }
+        requires nodes { All (IsNode graph.now) outputs.now }
+        requires a_node_an_existential { length outputs.now ≡ length f.now.existentials }
+        requires few { length (fault_groups log.old.entries) ≤ rounds_of log.old.entries }
+        ensures fit { O.Fits oracle.new log.new }
+        ensures checker { IsChecker f.now self.new log.new.entries }
+        ensures group { group_of self.new ≡ group_of self.old }
+        ensures grew { Grew (IsAddedBy f.now circuits (group_of self.old) (is_silent result) log.old.entries) log.old log.new }
+        ensures few { length (fault_groups log.new.entries) ≤ rounds_of log.new.entries + 1 }
+        ensures holds { (id : ℕ) → result ≡ Ok (Turn.Holds id) → HoldEverywhere f.now (outputs_of f.now graph.now outputs.now) }
+        ensures shown { (id : ℕ) → result ≡ Ok (Turn.Holds id) → IsShownBy f.now graph.now outputs.now log.new.entries id }
+        ensures fails { (row values : List Bool) (j : ℕ) → result ≡ Ok (Turn.Fails row values j) → IsFailure f.now graph.now outputs.now row values j }
+        ensures limit { IsErrOf result Stop.Limit → steps_of log.new.entries ≡ log.new.limit }
+    {
+        shown_outputs_hold();
+        let leaves = self.output_leaves(oracle, graph, f, outputs, log)?;
+        match self.search(oracle, f, &leaves, log)? {
+            Some(id) => Ok(Turn::Holds(id)),
+            None => Ok(self.failure(oracle, graph, f, outputs)?),
+        }
+    }
+
+    // The leaves of the outputs, whose gates are named, and given where they weren't.
+    fn output_leaves<O: Oracle>(
+        &mut self,
+        oracle: &mut O,
+        graph: &Graph,
+        f: &Formula,
+        outputs: &[Node],
+        log: &mut Log,
+    ) -> Result<Vec<Leaf>, Memory>
+        requires fit { O.Fits oracle.old log.old }
+        requires checker { IsChecker f.now self.old log.old.entries }
+        requires an_input_a_universal { graph.now.inputs ≡ length f.now.universals }
+        requires nodes { All (IsNode graph.now) outputs.now }
+        requires few { length (fault_groups log.old.entries) ≤ rounds_of log.old.entries }
+        ensures fit { O.Fits oracle.new log.new }
+        ensures checker { IsChecker f.now self.new log.new.entries }
+        ensures group { group_of self.new ≡ group_of self.old }
+        ensures grew { (h : Dqbf) (old : List Entry) → Grew (IsAddedBy h circuits (group_of self.old) true old) log.old log.new }
+        ensures faults { fault_groups log.new.entries ≡ fault_groups log.old.entries }
+        ensures inputs { self.new.inputs ≡ self.old.inputs }
+        ensures ready { OnOk result (self.new.gates.unfinished ≡ None) }
+        ensures leaves { IfOk result (λ leaves. AreLeavesOf f.now graph.now log.new.entries outputs.now leaves.items) }
+    {
+        self.gates.finish(oracle, log)?;
+        let mut marks = Row::new(self.alloc, graph.len())?;
+        graph.cones(outputs, &mut marks);
+        let literals = cone_literals(
+            self.alloc,
+            &mut self.gates,
+            oracle,
+            graph,
+            f,
+            &self.inputs,
+            &marks,
+            log,
+        )?;
+        let leaves = node_leaves(self.alloc, &self.inputs, &literals, outputs)?;
+        Ok(leaves)
+    }
+
+    // Gives the faults under these leaves to a new group, and searches for values under which a clause is false.
+    fn search<O: Oracle>(
+        &self,
+        oracle: &mut O,
+        f: &Formula,
+        leaves: &[Leaf],
+        log: &mut Log,
+    ) -> Result<Option<u64>, Stop>
+        requires fit { O.Fits oracle.old log.old }
+        requires checker { IsChecker f.now self.now log.old.entries }
+        requires ready { self.now.gates.unfinished ≡ None }
+        requires formula { IsWellFormed f.now }
+        requires output_count { length leaves.now ≡ length f.now.existentials }
+        requires leaves { (v : ℕ) → Contains (declared f.now) v → IsLeafOf f.now log.old.entries v (leaf_of f.now self.now.inputs.items leaves.now v) }
+        requires few { length (fault_groups log.old.entries) ≤ rounds_of log.old.entries }
+        ensures fit { O.Fits oracle.new log.new }
+        ensures checker { IsChecker f.now self.now log.new.entries }
+        ensures grew { Grew (IsAddedBy f.now circuits (group_of self.now) (is_silent_search result) log.old.entries) log.old log.new }
+        ensures few { length (fault_groups log.new.entries) ≤ rounds_of log.new.entries + 1 }
+        ensures held { (id : ℕ) → result ≡ Ok (Some id) → IsHeldBy f.now (leaf_of f.now self.now.inputs.items leaves.now) log.old.entries log.new.entries id }
+        ensures told { result ≡ Ok None → O.is_told oracle.new ≡ true }
+        ensures failing { result ≡ Ok None → AreFailing f.now (leaf_of f.now self.now.inputs.items leaves.now) log.old.entries (O.values oracle.new) }
+        ensures limit { IsErrOf result Stop.Limit → steps_of log.new.entries ≡ log.new.limit }
+    {
+        let group = oracle.group(&self.tenant, log)?;
+        give_faults(self.alloc, oracle, &group, f, &self.inputs, leaves, log)?;
+        match oracle.solve(&[self.gates.group, group], &[], log)? {
+            Answer::Unsat(id) => Ok(Some(id)),
+            Answer::Sat => Ok(None),
+        }
+    }
+
+    // The row that a search found, the outputs' values there, and a clause that is false with them.
+    fn failure<O: Oracle>(
+        &self,
+        oracle: &O,
+        graph: &Graph,
+        f: &Formula,
+        outputs: &[Node],
+    ) -> Result<Turn, Memory>
+        requires told { O.is_told oracle.now ≡ true }
+        requires made { All (λ l. O.HasVariable oracle.now (variable_of l)) self.now.inputs.items }
+        requires formula { IsWellFormed f.now }
+        requires input_count { length self.now.inputs.items ≡ length f.now.universals }
+        requires an_input_a_universal { graph.now.inputs ≡ length f.now.universals }
+        requires nodes { All (IsNode graph.now) outputs.now }
+        requires a_node_an_existential { length outputs.now ≡ length f.now.existentials }
+        requires failing { HasFalseClause f.now (map (λ l. O.values oracle.now (variable_of l)) self.now.inputs.items)
+            (map (node_value graph.now (bit_of (map (λ l. O.values oracle.now (variable_of l)) self.now.inputs.items))) outputs.now) }
+        ensures { IfOk result (IsFailing f.now graph.now outputs.now) }
+    {
+        let row = input_row(self.alloc, oracle, &self.inputs)?;
+        let mut buf = Row::new(self.alloc, graph.len())?;
+        let mut values = Row::new(self.alloc, outputs.len())?;
+        graph.values(outputs, &row, &mut buf, &mut values);
+        match false_clause(f, &row, &values) {
+            Some(j) => Ok(Turn::Fails { row, values, j }),
+            None => unreachable!(),
+        }
+    }
+}
+
+// The values that a search found of the inputs.
+fn input_row<O: Oracle>(alloc: Global, oracle: &O, inputs: &[Lit]) -> Result<Row, Memory>
+    requires told { O.is_told oracle.now ≡ true }
+    requires made { All (λ l. O.HasVariable oracle.now (variable_of l)) inputs.now }
+    ensures { IfOk result (λ row. row ≡ map (λ l. O.values oracle.now (variable_of l)) inputs.now) }
+{
+    let mut row = Row::new(alloc, inputs.len())?;
+    for (place, l) in inputs.iter().enumerate() {
+        row.set(place, oracle.value(l.var()));
+    }
+    Ok(row)
+}
