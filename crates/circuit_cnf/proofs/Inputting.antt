@@ -1,5 +1,5 @@
 -- Inputs that are named one after the other.
-use Rattle.std.proofs.Common.{◌≡◌, ℕ, zero, suc, ◌+◌, ◌≤◌, ◌<◌, ◌==◌, true, false, inl, inr, ◌⊎◌, List, [], ◌∷◌, ◌++◌, map, length, take, get_or, Some, None, IsSome, refl, sym, ◌∙◌, ap, subst, arith}
+use Rattle.std.proofs.Common.{◌≡◌, ℕ, zero, suc, ◌+◌, ◌≤◌, ◌<◌, ◌==◌, Bool, true, false, cond, inl, inr, ◌⊎◌, List, [], ◌∷◌, ◌++◌, map, length, take, get_or, Some, None, IsSome, refl, sym, ◌∙◌, ap, subst, arith}
 use Rattle.std.specs.List.{Contains}
 use Rattle.std.specs.BTreeMap.{get, is_at}
 use Rattle.std.specs.Map.{lookup}
@@ -9,7 +9,9 @@ use Rattle.std.proofs.lemmas.List.{take_more, map-append, get_or-take, length-ta
 use Rattle.std.proofs.lemmas.List.Elements.{Contains-append_left, Contains-push, Contains-get_or}
 use Rattle.dq_lits.specs.Literal.{Literal, positive, variable_of}
 use Rattle.dq_lits.specs.Formula.{Dqbf, HasLawfulPrefix}
-use Rattle.hint_log.specs.Entries.{Named, Given}
+use Rattle.hint_log.specs.Entries.{Entry, Named, Given}
+use Rattle.hint_log.specs.declared.names.Name.{Name}
+use Rattle.hint_log.specs.ProductiveLog.{fault_groups}
 use Rattle.hint_log.specs.declared.names.Name.TheVariants.{Selector, Input, And, Bad}
 use Rattle.hint_log.specs.declared.origins.Origin.TheVariants.{Gate}
 use Rattle.hint_log.specs.Entries.{ProofLog, with_entry, name_of}
@@ -33,6 +35,15 @@ pub record InputsSoFar (f : Dqbf) (old log : ProofLog) (inputs : List Literal) (
   pub inputs_are : AreInputs (take i f.universals) inputs log.entries
   pub names : AreInputsOf (take i f.universals) log.entries
   pub none : HasNoGates log.entries
+  pub faults : fault_groups log.entries ≡ fault_groups old.entries
+  pub unnamed : (v : ℕ) → name_of log.entries v ≡ None → name_of old.entries v ≡ None
+
+-- what has no name had none before a further name
+pub unnamed_before : (entries : List Entry) (v w : ℕ) (name : Name) → name_of (Named v name ∷ entries) w ≡ None → name_of entries w ≡ None
+unnamed_before entries v w name is = by_bit (w == v) is where
+  by_bit : (b : Bool) → cond b (Some name) (name_of entries w) ≡ None → name_of entries w ≡ None
+  by_bit true e = cc
+  by_bit false e = e
 
 pub no_inputs : (f : Dqbf) (old : ProofLog) → HasNone circuits old.entries → InputsSoFar f old old [] 0
 no_inputs f old none = record {
@@ -44,6 +55,8 @@ no_inputs f old none = record {
     no_bads = λ v group j is. none (Named v (Bad group j)) refl (named_contains old.entries v (Bad group j) is);
     not_given = λ v i c inside. none (Given (Gate v i) c) refl inside;
   };
+  faults = refl;
+  unnamed = λ v is. is;
 }
 
 -- the next universal has none yet
@@ -73,6 +86,8 @@ input_more f old log new inputs i v before below unnamed is = subst (λ l. Input
     no_bads = λ w group j named. elim (name_cases log.entries v w (Input x) (Bad group j) named) [ inl same ↦ (let clash = same.1 in cc) | inr old' ↦ before.none.no_bads w group j old' ];
     not_given = λ w k c inside. elim (contains_cases (Named v (Input x)) (Given (Gate w k) c) log.entries inside) [ inl same ↦ cc | inr old' ↦ before.none.not_given w k c old' ];
   };
+  faults = before.faults;
+  unnamed = λ w none. before.unnamed w (unnamed_before log.entries v w (Input x) none);
 }) where
   us : List ℕ
   us = f.universals

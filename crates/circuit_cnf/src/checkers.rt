@@ -1,7 +1,9 @@
-ghost use Rattle.std.specs.Prelude.{◌≡◌, ℕ, true, IfOk};
+ghost use Rattle.std.specs.Prelude.{◌≡◌, ℕ, true, IfOk, None};
 ghost use Rattle.hint_log.specs.Growth.{Grew};
 ghost use Rattle.log_laws.specs.Engines.{circuits, IsAddedBy, HasNone};
-ghost use Rattle.circuit_cnf.specs.Checking.{AreInputs, IsChecker};
+ghost use Rattle.hint_log.specs.Entries.{name_of};
+ghost use Rattle.hint_log.specs.ProductiveLog.{fault_groups};
+ghost use Rattle.circuit_cnf.specs.Checking.{AreInputs, IsChecker, group_of};
 ghost use Rattle.circuit_cnf.specs.Inputs.{HasNoGates};
 
 use crate::gates::Gates;
@@ -34,6 +36,8 @@ impl Checker {
         ensures fit { O.Fits oracle.new log.new }
         ensures grew { (group : ℕ) → Grew (IsAddedBy f.now circuits group true log.old.entries) log.old log.new }
         ensures made { IfOk result (λ c. IsChecker f.now c log.new.entries) }
+        ensures fresh { IfOk result (λ c. name_of log.old.entries (group_of c) ≡ None) }
+        ensures faults { fault_groups log.new.entries ≡ fault_groups log.old.entries }
     {
         let inputs = name_inputs(alloc, oracle, f, log)?;
         let tenant = oracle.tenant()?;
@@ -65,6 +69,8 @@ fn name_inputs<O: Oracle>(
     ensures grew { (group : ℕ) → Grew (IsAddedBy f.now circuits group true log.old.entries) log.old log.new }
     ensures inputs { IfOk result (λ inputs. AreInputs f.now.universals inputs.items log.new.entries) }
     ensures none { HasNoGates log.new.entries }
+    ensures faults { fault_groups log.new.entries ≡ fault_groups log.old.entries }
+    ensures names { (v : ℕ) → name_of log.new.entries v ≡ None → name_of log.old.entries v ≡ None }
 {
     f.every_formula_is_lawful();
     let mut inputs = Vec::new(alloc);

@@ -68,6 +68,11 @@ pub record PointState : Type 0 where
 abbrev pub point_bits : PointState → PointBits
 point_bits p k y = assignment_of p.variables (slice_index_or p.rows (k - 1) []) y
 
+-- a bit for each existential under each row of the table
+pub record HavePlaces (t : TableState) (points : PointState) : Type 0 where
+  pub variables : points.variables ≡ t.existentials
+  pub rows : length points.rows ≡ length t.rows
+
 -- the points are those of a model of all instances under the rows
 pub record ArePoints (f : Dqbf) (rows : List (List Bool)) (points : PointBits) : Type 0 where
   pub model : Assignment

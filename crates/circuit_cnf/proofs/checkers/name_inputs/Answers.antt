@@ -42,3 +42,17 @@ loop-x-preserved g c =
 pub returns-clause-inputs : goal.returns-clause-inputs
 returns-clause-inputs g c =
     all_inputs c.args.f.now c.args.log.now c.loop-x.log c.loop-x.inputs.items c.loop-x.x-index (subst (λ xs. length xs ≤ c.loop-x.x-index) c.universals-x-items.ensures c.loop-x-test.false) c.loop-x.invariant.1
+
+pub returns-in_err-push-clause-faults : goal.returns-in_err-push-clause-faults
+returns-in_err-push-clause-faults g c =
+    let us = c.universals-x-items.ensures in
+    (input_more c.args.f.now c.args.log.now c.loop-x.log c.new_var.new.log c.loop-x.inputs.items c.loop-x.x-index c.in_ok-v.v c.loop-x.invariant.1
+    (subst (λ xs. c.loop-x.x-index < length xs) us c.loop-x-test.true) c.in_ok-v.ensures.unnamed
+    (subst (λ xs. c.new_var.new.log ≡ with_entry c.loop-x.log (Named c.in_ok-v.v (Input (get_or xs c.loop-x.x-index 0)))) us c.in_ok-v.ensures.ok)).faults
+
+pub returns-in_err-push-clause-names : goal.returns-in_err-push-clause-names
+returns-in_err-push-clause-names g c =
+    let us = c.universals-x-items.ensures in
+    (input_more c.args.f.now c.args.log.now c.loop-x.log c.new_var.new.log c.loop-x.inputs.items c.loop-x.x-index c.in_ok-v.v c.loop-x.invariant.1
+    (subst (λ xs. c.loop-x.x-index < length xs) us c.loop-x-test.true) c.in_ok-v.ensures.unnamed
+    (subst (λ xs. c.new_var.new.log ≡ with_entry c.loop-x.log (Named c.in_ok-v.v (Input (get_or xs c.loop-x.x-index 0)))) us c.in_ok-v.ensures.ok)).unnamed
