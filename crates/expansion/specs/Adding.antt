@@ -50,7 +50,8 @@ pub record IsAdding (f : Dqbf) (t : TableState) (row : List Bool) (named given :
 pub record IsNamedNext (f : Dqbf) (t : TableState) (row : List Bool) (place v : ℕ) (old new : ProofLog) : Type 0 where
   pub grew : (first : List Entry) → Grew (IsAddedBy f instances t.group true first) old new
   pub adding : IsAdding f t row (place + 1) 0 new.entries
-  pub variables : (vs : List ℕ) → AreFirstArbiters f t row (part instances old.entries) place vs → AreFirstArbiters f t row (part instances new.entries) (place + 1) (vs ++ v ∷ [])
+  pub variables : (vs : List ℕ) → AreFirstArbiters f t row (part instances old.entries) place vs
+      → AreFirstArbiters f t row (part instances new.entries) (place + 1) (vs ++ v ∷ [])
 
 -- the variables of all pairs of the new row
 abbrev pub AreNewArbiters : Dqbf → TableState → List Bool → List Entry → List ℕ → Type 0
