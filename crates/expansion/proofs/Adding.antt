@@ -13,8 +13,8 @@ use Rattle.hint_log.specs.declared.names.Name.{Name}
 use Rattle.hint_log.specs.declared.names.Name.TheVariants.{Pair}
 use Rattle.hint_log.specs.declared.origins.Origin.TheVariants.{Instance}
 use Rattle.log_laws.specs.Engines.{instances, is_own, is_engine, name_engine, part}
-use Rattle.expansion.specs.Table.{TableState, HasInstance}
-use Rattle.expansion.specs.Adding.{with_row, IsAmongFirst, IsAddingPart}
+use Rattle.expansion.specs.Table.{TableState, HasInstance, IsOfPairs}
+use Rattle.expansion.specs.Adding.{with_row, IsNewPair, IsAddingPart}
 use Rattle.expansion.proofs.Firsts.{below_or_here}
 use Rattle.expansion.proofs.Modelling.{own_name}
 
@@ -120,13 +120,14 @@ one_more_named f t row named given own p = record {
   complete_so_far = p.complete_so_far;
 }
   where
-    weaker : {k y : ℕ} → (k ≤ length t.rows) ⊎ ((k ≡ length t.rows + 1) × IsAmongFirst named t.existentials y) → (k ≤ length t.rows) ⊎ ((k ≡ length t.rows + 1) × IsAmongFirst (named + 1) t.existentials y)
+    weaker : {v k y : ℕ} → ((k ≤ length t.rows) × IsOfPairs t.pairs v) ⊎ ((k ≡ length t.rows + 1) × IsNewPair f t row named y)
+        → ((k ≤ length t.rows) × IsOfPairs t.pairs v) ⊎ ((k ≡ length t.rows + 1) × IsNewPair f t row (named + 1) y)
     weaker (inl old) = inl old
-    weaker (inr (new, (q, lt, at))) = inr (new, (q, omega (arith, lt), at))
+    weaker (inr (new, (q, e, lt, at, is))) = inr (new, (q, e, omega (arith, lt), at, is))
 
-pub new_named : (f : Dqbf) (t : TableState) (row : List Bool) (named given : ℕ) (own : List Entry) (v y : ℕ) → name_of own v ≡ None → slice_get t.existentials named ≡ Some y
-    → IsAddingPart f t row named given own → IsAddingPart f t row (named + 1) given (Named v (Pair (length t.rows + 1) y) ∷ own)
-new_named f t row named given own v y none y_is p = record {
+pub new_named : (f : Dqbf) (t : TableState) (row : List Bool) (named given : ℕ) (own : List Entry) (v y : ℕ) (e : Existential) → name_of own v ≡ None → slice_get f.existentials named ≡ Some e
+    → arbiter f (with_row t row) row e ≡ Pair (length t.rows + 1) y → IsAddingPart f t row named given own → IsAddingPart f t row (named + 1) given (Named v (Pair (length t.rows + 1) y) ∷ own)
+new_named f t row named given own v y e none e_is first p = record {
   whole = p.whole;
   pairs_long = p.pairs_long;
   names = λ u k z is. by_bit u k z (u == v) is;
@@ -149,11 +150,11 @@ new_named f t row named given own v y none y_is p = record {
     inside k j c (zero, lt, at) = cc
     inside k j c (suc i, lt, at) = (i, omega (arith, lt), at)
 
-    by_bit : (u k z : ℕ) (b : Bool) → cond b (Some P) (name_of own u) ≡ Some (Pair k z) → (k ≤ length t.rows) ⊎ ((k ≡ length t.rows + 1) × IsAmongFirst (named + 1) t.existentials z)
+    by_bit : (u k z : ℕ) (b : Bool) → cond b (Some P) (name_of own u) ≡ Some (Pair k z) → ((k ≤ length t.rows) × IsOfPairs t.pairs u) ⊎ ((k ≡ length t.rows + 1) × IsNewPair f t row (named + 1) z)
     by_bit u k z true is =
         let number : k ≡ length t.rows + 1 = cc in
         let same : y ≡ z = cc in
-        inr (number, (named, omega arith, y_is ∙ ap Some same))
+        inr (number, (named, e, omega arith, e_is, first ∙ ap (Pair (length t.rows + 1)) same))
     by_bit u k z false is = (one_more_named f t row named given own p).names u k z is
 
 -- a clause more is done: a universal makes it true, or its instance stands

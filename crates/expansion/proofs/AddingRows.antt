@@ -1,5 +1,5 @@
 -- A table to which a row is added: how it begins, and what stands at its end.
-use Rattle.std.proofs.Common.{◌≡◌, ℕ, zero, suc, ◌+◌, ◌≤◌, ◌⊎◌, inl, inr, Bool, false, List, [], ◌∷◌, ◌++◌, length, slice_get, Some, Result, Ok, Err, OnOk, refl, sym, ◌∙◌, ap, subst, arith}
+use Rattle.std.proofs.Common.{◌≡◌, ℕ, zero, suc, ◌+◌, ◌≤◌, ◌⊎◌, inl, inr, Bool, false, List, [], ◌∷◌, ◌++◌, length, get_or, slice_get, Some, Result, Ok, Err, OnOk, refl, sym, ◌∙◌, ap, subst, arith}
 use Rattle.std.specs.List.{list_any}
 use Rattle.std.proofs.lemmas.List.{length-append}
 use Rattle.std.proofs.lemmas.List.Elements.{All-append, All-cons, All-nil}
@@ -7,13 +7,17 @@ use Rattle.std.proofs.lemmas.Option.{slice_get_within}
 use Rattle.dq_lits.specs.Literal.{Literal}
 use Rattle.dq_lits.specs.Formula.{Dqbf, IsWellFormed}
 use Rattle.dq_lits.specs.Expansion.{universal_literal_true}
-use Rattle.hint_log.specs.Entries.{Entry, rounds_of}
+use Rattle.hint_log.specs.Conditions.{AreLogged}
+use Rattle.hint_log.specs.Entries.{Entry, rounds_of, name_of}
 use Rattle.hint_log.specs.Naming.{AreNamedAs, arbiter, rows_of}
 use Rattle.hint_log.specs.ProductiveLog.{fault_groups}
+use Rattle.hint_log.specs.declared.names.Name.TheVariants.{Pair}
 use Rattle.log_laws.specs.Engines.{instances, part}
 use Rattle.expansion.specs.FirstRows.{RowIndex, IsRowIndex}
-use Rattle.expansion.specs.Table.{TableState, AreArbiters, HasInstance, IsTable, IsFullTable}
-use Rattle.expansion.specs.Adding.{with_row, IsAdding, AreNewArbiters}
+use Rattle.expansion.specs.Table.{TableState, AreArbiters, HasInstance, IsOfPairs, IsTable, IsFullTable}
+use Rattle.expansion.specs.Adding.{with_row, IsNewPair, IsAdding, AreNewArbiters}
+use Rattle.expansion.proofs.Arbiting.{as_many, named_at}
+use Rattle.expansion.proofs.Modelling.{own_name, found_variable}
 use Rattle.expansion.proofs.RowOrders.{index_kept}
 use Rattle.expansion.proofs.Firsts.{same_arbiter, names_same, instance_same}
 
@@ -48,6 +52,16 @@ begin f t row es table rows whole few = record {
   };
 }
 
+-- the elements of a longer list
+kept_there : {X : Type 0} (xs ys : List X) (k : ℕ) (x : X) → slice_get xs k ≡ Some x → slice_get (xs ++ ys) k ≡ Some x
+kept_there [] ys k x is = cc
+kept_there (z ∷ xs) ys zero x is = is
+kept_there (z ∷ xs) ys (suc k) x is = kept_there xs ys k x is
+
+last_there : {X : Type 0} (xs : List X) (x : X) → slice_get (xs ++ x ∷ []) (length xs) ≡ Some x
+last_there [] x = refl
+last_there (z ∷ xs) x = last_there xs x
+
 -- an element of a longer list is an old one or the last
 old_or_last : {X : Type 0} (xs : List X) (x y : X) (k : ℕ) → slice_get (xs ++ x ∷ []) k ≡ Some y → (slice_get xs k ≡ Some y) ⊎ ((k ≡ length xs) × (x ≡ y))
 old_or_last [] x y zero is = inr (refl, cc)
@@ -60,7 +74,7 @@ old_or_last (z ∷ xs) x y (suc k) is = by (old_or_last xs x y k is)
     by (inr (place, same)) = inr (ap suc place, same)
 
 module _ (f : Dqbf) (t : TableState) (row : List Bool) (vs : List ℕ) (es : List Entry) (adding : IsAdding f t row (length f.existentials) (length f.matrix) es)
-    (first_rows : IsRowIndex f t.rows t.first_rows)
+    (logged : AreLogged es) (first_rows : IsRowIndex f t.rows t.first_rows)
     (variables : AreNewArbiters f t row es vs) where
   abbrev own : List Entry
   own = part instances es
@@ -71,9 +85,26 @@ module _ (f : Dqbf) (t : TableState) (row : List Bool) (vs : List ℕ) (es : Lis
   longer : length (with_row t row) ≡ length t.rows + 1
   longer = length-append t.rows (row ∷ [])
 
-  within : {A : Type 0} (k : ℕ) → (k ≤ length t.rows) ⊎ ((k ≡ length t.rows + 1) × A) → k ≤ length (with_row t row)
-  within k (inl old) = let n = longer in omega (arith, old, n)
+  within : {A B : Type 0} (k : ℕ) → ((k ≤ length t.rows) × A) ⊎ ((k ≡ length t.rows + 1) × B) → k ≤ length (with_row t row)
+  within k (inl (old, other)) = let n = longer in omega (arith, old, n)
   within k (inr (new, other)) = let n = longer in omega (arith, new, n)
+
+  given_within : {B : Type 0} (k : ℕ) → (k ≤ length t.rows) ⊎ ((k ≡ length t.rows + 1) × B) → k ≤ length (with_row t row)
+  given_within k (inl old) = let n = longer in omega (arith, old, n)
+  given_within k (inr (new, other)) = let n = longer in omega (arith, new, n)
+
+  -- every pair's variable is one of a row's pairs
+  among : (v k y : ℕ) → name_of own v ≡ Some (Pair k y) → ((k ≤ length t.rows) × IsOfPairs t.pairs v) ⊎ ((k ≡ length t.rows + 1) × IsNewPair f t row (length f.existentials) y)
+      → IsOfPairs (t.pairs ++ vs ∷ []) v
+  among v k y named (inl (le, (p, us, us_are, has))) = (p, us, kept_there t.pairs (vs ∷ []) p us us_are, has)
+  among v k y named (inr (new, (p, e, lt, e_is, first))) =
+      let n = length t.rows + 1 in
+      let many = as_many (name_of own) (λ z. Some (arbiter f (with_row t row) row z)) vs f.existentials variables in
+      let its_own : name_of own (get_or vs p v) ≡ Some (Pair n y) = named_at own (arbiter f (with_row t row) row) vs f.existentials p v e variables e_is ∙ ap Some first in
+      let mine : name_of own v ≡ Some (Pair n y) = named ∙ ap (λ i. Some (Pair i y)) new in
+      let same : get_or vs p v ≡ v =
+      sym (found_variable es (get_or vs p v) n y logged (own_name instances es (get_or vs p v) (Pair n y) logged its_own)) ∙ found_variable es v n y logged (own_name instances es v (Pair n y) logged mine) in
+      (length t.pairs, vs, last_there t.pairs vs, (p, omega (arith, lt, many), same))
 
   arbiters_at : (k : ℕ) (r : List Bool) (us : List ℕ) → (slice_get t.rows k ≡ Some r) ⊎ ((k ≡ length t.rows) × (row ≡ r)) → (slice_get t.pairs k ≡ Some us) ⊎ ((k ≡ length t.pairs) × (vs ≡ us))
       → AreArbiters f own (with_row t row) r us
@@ -99,8 +130,8 @@ module _ (f : Dqbf) (t : TableState) (row : List Bool) (vs : List ℕ) (es : Lis
     own = record {
       whole = adding.own.whole;
       pairs_long = (let pairs = length-append t.pairs (vs ∷ []) in let rows = longer in omega (arith, pairs, rows, adding.own.pairs_long));
-      names = λ v k y is. within k (adding.own.names v k y is);
-      given = λ k j c has. within k (adding.own.given_before k j c has);
+      names = λ v k y is. (within k (adding.own.names v k y is), among v k y is (adding.own.names v k y is));
+      given = λ k j c has. given_within k (adding.own.given_before k j c has);
       arbiters = λ k r us row_is us_are. arbiters_at k r us (old_or_last t.rows row r k row_is) (old_or_last t.pairs vs us k us_are);
       complete = λ k j r clause row_is clause_is live. instance_there k j r clause (old_or_last t.rows row r k row_is) clause_is live;
     };

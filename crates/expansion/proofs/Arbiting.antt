@@ -14,9 +14,9 @@ use Rattle.hint_log.specs.declared.names.Name.{Name}
 use Rattle.hint_log.specs.declared.names.Name.TheVariants.{Selector, Pair}
 use Rattle.log_laws.specs.Engines.{instances, part, IsAddedBy}
 use Rattle.log_laws.proofs.Growing.{grown_by, grown_by_none, grown_then}
-use Rattle.expansion.specs.Table.{TableState, AreArbiters}
+use Rattle.expansion.specs.Table.{TableState, AreArbiters, IsOfPairs}
 use Rattle.expansion.specs.FirstRows.{IsFirstRow}
-use Rattle.expansion.specs.Adding.{with_row, IsAmongFirst, AreFirstArbiters, IsAddingPart, IsAdding, IsNamedNext}
+use Rattle.expansion.specs.Adding.{with_row, IsNewPair, AreFirstArbiters, IsAddingPart, IsAdding, IsNamedNext}
 use Rattle.expansion.proofs.Adding.{pair_own, unnamed_own, named_keeps, names_kept, KeepsNames, one_more_named, new_named}
 use Rattle.expansion.proofs.Firsts.{arbiter_of_first, arbiter_of_new, passes_there, position_within}
 use Rattle.expansion.proofs.Pointing.{existentials_once}
@@ -73,10 +73,14 @@ module _ (f : Dqbf) (t : TableState) (row : List Bool) (place : ℕ) (es : List 
       once : AllPairs (λ v w. v ≢ w) t.existentials
       once = subst (AllPairs (λ v w. v ≢ w)) (sym adding.existentials) (existentials_once f.universals f.existentials formula.prefix.declared_once)
 
-      by_row : (length t.rows + 1 ≤ length t.rows) ⊎ ((length t.rows + 1 ≡ length t.rows + 1) × IsAmongFirst place t.existentials y) → ⊥
-      by_row (inl old) = omega (arith, old)
-      by_row (inr (same, (p, below, is))) =
-          once p place 0 below (slice_get_within t.existentials place y y_is) (get_or_from_slice_get t.existentials p y 0 is ∙ sym (get_or_from_slice_get t.existentials place y 0 y_is))
+      by_row : ((length t.rows + 1 ≤ length t.rows) × IsOfPairs t.pairs v) ⊎ ((length t.rows + 1 ≡ length t.rows + 1) × IsNewPair f t row place y) → ⊥
+      by_row (inl (old, among)) = omega (arith, old)
+      by_row (inr (same, (p, e, below, e_is, first))) =
+          let variable_same : e.variable ≡ y = cc in
+          let there : get_or t.existentials p 0 ≡ y =
+          ap (λ xs. get_or xs p 0) adding.existentials ∙ get_or-map (λ z. z.variable) f.existentials p e 0 (slice_get_within f.existentials p e e_is)
+          ∙ ap (λ (z : Existential). z.variable) (get_or_from_slice_get f.existentials p e e e_is) ∙ variable_same in
+          once p place 0 below (slice_get_within t.existentials place y y_is) (there ∙ sym (get_or_from_slice_get t.existentials place y 0 y_is))
 
 -- a variable more
 more_variables : (f : Dqbf) (t : TableState) (row : List Bool) (own : List Entry) (place : ℕ) (y : Existential) (v : ℕ) (vs : List ℕ) → slice_get f.existentials place ≡ Some y
@@ -141,7 +145,6 @@ module _ (f : Dqbf) (t : TableState) (row : List Bool) (place first : ℕ) (log 
       let keeps : KeepsNames mine (Named v n ∷ mine) = named_keeps mine v n unnamed_there in
       let named : name_of (Named v n ∷ mine) v ≡ Some (arbiter f (with_row t row) row here) =
       ap (λ b. cond b (Some n) (name_of mine v)) (eq-eqb v v refl) ∙ ap Some (sym arbiter_is) in
-      let in_table : slice_get t.existentials place ≡ Some here.variable = slice_get-get_or t.existentials place 0 below ∙ ap Some (variable_is 0) in
       subst (IsNamedNext f t row place v log) (sym entry) (record {
         grew = λ start. grown_by (IsAddedBy f instances t.group true start) log (with_entry log (Named v n)) (Named v n) refl (record { unnamed = unnamed; own = inr refl; rightly = tt });
         adding = record {
@@ -150,7 +153,7 @@ module _ (f : Dqbf) (t : TableState) (row : List Bool) (place first : ℕ) (log 
           own_group = (tt, adding.own_group);
           rows = adding.rows;
           faults = adding.faults;
-          own = new_named f t row place 0 mine v here.variable unnamed_there in_table adding.own;
+          own = new_named f t row place 0 mine v here.variable here unnamed_there here_is arbiter_is adding.own;
         };
         variables = λ vs are.
             more_variables f t row (Named v n ∷ mine) place here v vs here_is named

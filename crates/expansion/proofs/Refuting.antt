@@ -101,6 +101,21 @@ table_answered f t assumptions old new id r table =
     let before = table_searched f t old r.before r.learned table in
     subst (λ (l : ProofLog). IsTable f t l.entries) (sym r.answered) (record { group = before.group; existentials = before.existentials; own_group = (tt, before.own_group); own = before.own; first_rows = before.first_rows })
 
+-- the rounds stay in both
+pub full_searched : (f : Dqbf) (t : TableState) (old new : ProofLog) → Grew IsLearnedEntry old new → IsFullTable f t old.entries → IsFullTable f t new.entries
+full_searched f t old new g full = record {
+  formula = full.formula;
+  table = table_searched f t old new g full.table;
+  rows = ap rows_of g.grown ∙ learned_rows g.more old.entries g.each ∙ full.rows;
+}
+
+pub full_answered : (f : Dqbf) (t : TableState) (assumptions : List Literal) (old new : ProofLog) (id : ℕ) → IsRefutedUnder old new assumptions id → IsFullTable f t old.entries → IsFullTable f t new.entries
+full_answered f t assumptions old new id r full = record {
+  formula = full.formula;
+  table = table_answered f t assumptions old new id r full.table;
+  rows = ap (λ (l : ProofLog). rows_of l.entries) r.answered ∙ (full_searched f t old r.before r.learned full).rows;
+}
+
 -- a literal among the negated selectors of one group
 only_selector : (g : ℕ) (l : Literal) → holds (positive g ∷ []) (opposite l) ≡ true → l ≡ negative g
 only_selector g (positive v) h = elim (or_cases (same_literal (negative v) (positive g)) false h) [ inl e ↦ cc | inr e ↦ cc ]

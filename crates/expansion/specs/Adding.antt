@@ -2,7 +2,7 @@
 use Rattle.std.specs.Prelude.{◌≡◌, ℕ, ◌+◌, ◌^◌, ◌<◌, ◌≤◌, ◌⊎◌, Bool, true, false, List, [], ◌∷◌, ◌++◌, map, take, length, Some, slice_get}
 use Rattle.std.specs.List.{All, Contains, list_any}
 use Rattle.dq_lits.specs.Literal.{Literal, positive, negative}
-use Rattle.dq_lits.specs.Formula.{Dqbf}
+use Rattle.dq_lits.specs.Formula.{Dqbf, Existential}
 use Rattle.dq_lits.specs.Expansion.{universal_literal_true}
 use Rattle.hint_log.specs.Entries.{Entry, Given, ProofLog, name_of, rounds_of}
 use Rattle.hint_log.specs.Growth.{Each, Grew}
@@ -11,13 +11,15 @@ use Rattle.hint_log.specs.ProductiveLog.{fault_groups}
 use Rattle.hint_log.specs.declared.names.Name.TheVariants.{Selector, Pair}
 use Rattle.hint_log.specs.declared.origins.Origin.TheVariants.{Instance}
 use Rattle.log_laws.specs.Engines.{instances, part, IsOwnGiven, IsAddedBy}
-use Rattle.expansion.specs.Table.{TableState, AreArbiters, HasInstance}
+use Rattle.expansion.specs.Table.{TableState, AreArbiters, HasInstance, IsOfPairs}
 
 abbrev pub with_row : TableState → List Bool → List (List Bool)
 with_row t row = t.rows ++ row ∷ []
 
-abbrev pub IsAmongFirst : ℕ → List ℕ → ℕ → Type 0
-IsAmongFirst n xs y = (p : ℕ) × (p < n) × (slice_get xs p ≡ Some y)
+-- the new row is the first that agrees with itself on what one of the first so many existentials sees, of this variable
+abbrev pub IsNewPair : Dqbf → TableState → List Bool → ℕ → ℕ → Type 0
+IsNewPair f t row named y =
+    (p : ℕ) × (e : Existential) × (p < named) × (slice_get f.existentials p ≡ Some e) × (arbiter f (with_row t row) row e ≡ Pair (length t.rows + 1) y)
 
 -- the variables are named as the arbiters of the new row, for the first so many existentials
 abbrev pub AreFirstArbiters : Dqbf → TableState → List Bool → List Entry → ℕ → List ℕ → Type 0
@@ -27,7 +29,7 @@ AreFirstArbiters f t row own named variables = map (name_of own) variables ≡ m
 pub record IsAddingPart (f : Dqbf) (t : TableState) (row : List Bool) (named given : ℕ) (own : List Entry) : Type 0 where
   pub whole : All (λ r. length r ≡ length f.universals) (with_row t row)
   pub pairs_long : length t.pairs ≡ length t.rows
-  pub names : (v k y : ℕ) → name_of own v ≡ Some (Pair k y) → (k ≤ length t.rows) ⊎ ((k ≡ length t.rows + 1) × IsAmongFirst named t.existentials y)
+  pub names : (v k y : ℕ) → name_of own v ≡ Some (Pair k y) → ((k ≤ length t.rows) × IsOfPairs t.pairs v) ⊎ ((k ≡ length t.rows + 1) × IsNewPair f t row named y)
   pub given_before : (k j : ℕ) (c : List Literal) → Contains own (Given (Instance k j) c) → (k ≤ length t.rows) ⊎ ((k ≡ length t.rows + 1) × (j ≤ given))
   pub arbiters : (k : ℕ) (r : List Bool) (variables : List ℕ) → slice_get t.rows k ≡ Some r → slice_get t.pairs k ≡ Some variables
       → AreArbiters f own (with_row t row) r variables
@@ -48,7 +50,8 @@ pub record IsAdding (f : Dqbf) (t : TableState) (row : List Bool) (named given :
 pub record IsNamedNext (f : Dqbf) (t : TableState) (row : List Bool) (place v : ℕ) (old new : ProofLog) : Type 0 where
   pub grew : (first : List Entry) → Grew (IsAddedBy f instances t.group true first) old new
   pub adding : IsAdding f t row (place + 1) 0 new.entries
-  pub variables : (vs : List ℕ) → AreFirstArbiters f t row (part instances old.entries) place vs → AreFirstArbiters f t row (part instances new.entries) (place + 1) (vs ++ v ∷ [])
+  pub variables : (vs : List ℕ) → AreFirstArbiters f t row (part instances old.entries) place vs
+      → AreFirstArbiters f t row (part instances new.entries) (place + 1) (vs ++ v ∷ [])
 
 -- the variables of all pairs of the new row
 abbrev pub AreNewArbiters : Dqbf → TableState → List Bool → List Entry → List ℕ → Type 0

@@ -42,11 +42,15 @@ abbrev pub found_cmp : Dqbf → List ℕ → List Bool → Option (List Bool) �
 found_cmp f sees row None = Less
 found_cmp f sees row (Some r) = bits_cmp (seen_by f sees r) (seen_by f sees row)
 
+-- the place of the first row that shows the same bits as this one; the number of rows where none does
+abbrev pub first_alike : Dqbf → List ℕ → List (List Bool) → List Bool → ℕ
+first_alike f sees rows row = position_or_len (λ r. same_bits (seen_by f sees row) (seen_by f sees r)) rows
+
 -- the places stand in order, they are those of first rows, and each row that was looked at agrees with one of them
 pub record IsRowOrder (f : Dqbf) (sees : List ℕ) (rows : List (List Bool)) (o : RowOrder) : Type 0 where
   pub within : o.learnt ≤ length rows
   pub sorted : IsSortedBy (λ a b. is_lt (bits_cmp (seen_by f sees (row_at rows a)) (seen_by f sees (row_at rows b)))) o.places
-  pub firsts : (k : ℕ) → Contains o.places k → (k < o.learnt) × (position_or_len (λ r. same_bits (seen_by f sees (row_at rows k)) (seen_by f sees r)) rows ≡ k)
+  pub firsts : (k : ℕ) → Contains o.places k → (k < o.learnt) × (first_alike f sees rows (row_at rows k) ≡ k)
   pub whole : (k : ℕ) → k < o.learnt → (p : ℕ) × Contains o.places p × (same_bits (seen_by f sees (row_at rows k)) (seen_by f sees (row_at rows p)) ≡ true)
 
 -- the existential at the first place has the dependency set of the one at the second

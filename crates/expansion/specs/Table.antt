@@ -32,11 +32,15 @@ pub record HasInstance (f : Dqbf) (group : ℕ) (rows : List (List Bool)) (own :
   pub given : Contains own (Given (Instance (k + 1) (j + 1)) (negative group ∷ rest))
   pub named : AreNamedAs own rest (filter_map (on_arbiter f rows row) clause)
 
+-- the variable is one of a row's pairs
+abbrev pub IsOfPairs : List (List ℕ) → ℕ → Type 0
+IsOfPairs pairs v = (k : ℕ) × (variables : List ℕ) × (slice_get pairs k ≡ Some variables) × Contains variables v
+
 -- the part of the log that the table made: the arbiters' names and the instances under its rows, all of these and no others
 pub record IsTablePart (f : Dqbf) (t : TableState) (own : List Entry) : Type 0 where
   pub whole : All (λ row. length row ≡ length f.universals) t.rows
   pub pairs_long : length t.pairs ≡ length t.rows
-  pub names : (v k y : ℕ) → name_of own v ≡ Some (Pair k y) → k ≤ length t.rows
+  pub names : (v k y : ℕ) → name_of own v ≡ Some (Pair k y) → (k ≤ length t.rows) × IsOfPairs t.pairs v
   pub given : (k j : ℕ) (c : List Literal) → Contains own (Given (Instance k j) c) → k ≤ length t.rows
   pub arbiters : (k : ℕ) (row : List Bool) (variables : List ℕ) → slice_get t.rows k ≡ Some row → slice_get t.pairs k ≡ Some variables
       → AreArbiters f own t.rows row variables
@@ -67,11 +71,6 @@ pub record PointState : Type 0 where
 
 abbrev pub point_bits : PointState → PointBits
 point_bits p k y = assignment_of p.variables (slice_index_or p.rows (k - 1) []) y
-
--- a bit for each existential under each row of the table
-pub record HavePlaces (t : TableState) (points : PointState) : Type 0 where
-  pub variables : points.variables ≡ t.existentials
-  pub rows : length points.rows ≡ length t.rows
 
 -- the points are those of a model of all instances under the rows
 pub record ArePoints (f : Dqbf) (rows : List (List Bool)) (points : PointBits) : Type 0 where

@@ -57,7 +57,7 @@ impl Table {
         requires place { place < length self.now.existentials }
         requires adding { (f : Dqbf) × IsWellFormed f × IsAdding f self.now row.now place 0 log.old.entries × IsFirstRow f self.now.rows row.now place first }
         ensures fit { O.Fits oracle.new log.new }
-        ensures unnamed { OnErr result (log.new ≡ log.old) }
+        ensures err { OnErr result (log.new ≡ log.old) }
         ensures named { (f : Dqbf) → IsWellFormed f → IsAdding f self.now row.now place 0 log.old.entries → IsFirstRow f self.now.rows row.now place first
             → IfOk result (λ v. IsNamedNext f self.now row.now place v log.old log.new) }
     {

@@ -59,7 +59,7 @@ impl Table {
         requires adding { IsAdding f.now self.now row.now (length f.now.existentials) j log.old.entries }
         requires variables { AreNewArbiters f.now self.now row.now log.old.entries variables.now }
         ensures fit { O.Fits oracle.new log.new }
-        ensures same { OnErr result (log.new ≡ log.old) }
+        ensures err { OnErr result (log.new ≡ log.old) }
         ensures given { OnOk result (IsGivenNext f.now self.now row.now j log.old log.new) }
     {
         f.every_formula_is_lawful();

@@ -8,7 +8,7 @@ ghost use Rattle.dq_lits.specs.Henkin.{same_bits};
 ghost use Rattle.dq_lits.specs.Expansion.{row_assignment};
 ghost use Rattle.dq_lits.specs.Row.{bit_of};
 ghost use Rattle.dq_formula.specs.Dependencies.{dependencies, dependency_count, IsDependencySet};
-ghost use Rattle.expansion.specs.FirstRows.{RowOrder, IsRowOrder, seen_by, sees_of, bits_cmp, found_cmp, no_order};
+ghost use Rattle.expansion.specs.FirstRows.{RowOrder, IsRowOrder, seen_by, sees_of, bits_cmp, found_cmp, first_alike, no_order};
 
 use dq_formula::{Deps, Formula};
 use dq_lits::{Memory, Row};
@@ -56,7 +56,7 @@ impl Order {
         requires row_length { length row.now ≡ length f.now.universals }
         requires order { IsRowOrder f.now (sees_of (existential_of f.now y)) rows.now self.old }
         ensures order { IsRowOrder f.now (sees_of (existential_of f.now y)) rows.now self.new }
-        ensures first { IfOk result (λ k. k ≡ position_or_len (λ r. same_bits (seen_by f.now (sees_of (existential_of f.now y)) row.now) (seen_by f.now (sees_of (existential_of f.now y)) r)) rows.now) }
+        ensures first { IfOk result (λ k. k ≡ first_alike f.now (sees_of (existential_of f.now y)) rows.now row.now) }
     {
         for k in self.learnt..rows.len() {
             self.learn(f, y, rows, k)?;
@@ -71,7 +71,7 @@ impl Order {
         requires row_length { length row.now ≡ length f.now.universals }
         requires order { IsRowOrder f.now (sees_of (existential_of f.now y)) rows.now self.now }
         requires all { length rows.now ≤ self.now.learnt }
-        ensures { result ≡ position_or_len (λ r. same_bits (seen_by f.now (sees_of (existential_of f.now y)) row.now) (seen_by f.now (sees_of (existential_of f.now y)) r)) rows.now }
+        ensures { result ≡ first_alike f.now (sees_of (existential_of f.now y)) rows.now row.now }
     {
         match search(f, y, rows, row, &self.places) {
             Ok(at) => self.places[at],

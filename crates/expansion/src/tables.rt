@@ -7,7 +7,7 @@ ghost use Rattle.hint_log.specs.Growth.{Grew};
 ghost use Rattle.hint_log.specs.Naming.{rows_of};
 ghost use Rattle.hint_log.specs.ProductiveLog.{fault_groups};
 ghost use Rattle.log_laws.specs.Engines.{instances, IsAddedBy, HasNone};
-ghost use Rattle.expansion.specs.Table.{IsTable, IsFullTable, ArePoints, point_bits, HavePlaces, IsRefutedBy};
+ghost use Rattle.expansion.specs.Table.{PointState, IsTable, IsFullTable, ArePoints, point_bits, IsRefutedBy};
 ghost use Rattle.expansion.specs.FirstRows.{IsRowIndex, AreFirstRows};
 ghost use Rattle.expansion.specs.Silence.{is_silent};
 
@@ -197,10 +197,13 @@ impl Table {
         requires table { (f : Dqbf) × IsFullTable f self.old log.old.entries }
         ensures fit { O.Fits oracle.new log.new }
         ensures same { self.new ≡ self.old }
-        ensures grew { (f : Dqbf) → IsFullTable f self.old log.old.entries → Grew (IsAddedBy f instances self.old.group (is_silent result) log.old.entries) log.old log.new }
-        ensures table { (f : Dqbf) → IsFullTable f self.old log.old.entries → IsTable f self.new log.new.entries }
-        ensures model { (f : Dqbf) (points : _) → IsFullTable f self.old log.old.entries → result ≡ Ok (Exp.Model points) → ArePoints f self.old.rows (point_bits points) }
-        ensures sized { (f : Dqbf) (points : _) → IsFullTable f self.old log.old.entries → result ≡ Ok (Exp.Model points) → HavePlaces self.old points }
+        ensures grew { (f : Dqbf) → IsFullTable f self.old log.old.entries
+            → Grew (IsAddedBy f instances self.old.group (is_silent result) log.old.entries) log.old log.new }
+        ensures table { (f : Dqbf) → IsFullTable f self.old log.old.entries → IsFullTable f self.new log.new.entries }
+        ensures point_variables { (points : PointState) → result ≡ Ok (Exp.Model points) → points.variables ≡ self.old.existentials }
+        ensures point_rows { (points : PointState) → result ≡ Ok (Exp.Model points) → length points.rows ≡ length self.old.rows }
+        ensures model { (f : Dqbf) (points : PointState) → IsFullTable f self.old log.old.entries → result ≡ Ok (Exp.Model points)
+            → ArePoints f self.old.rows (point_bits points) }
         ensures refuted { (f : Dqbf) (id : ℕ) → IsFullTable f self.old log.old.entries → result ≡ Ok (Exp.Refuted id) → IsExpansionUnsatisfiable f self.old.rows }
         ensures shown { (id : ℕ) → result ≡ Ok (Exp.Refuted id) → IsRefutedBy log.new.entries id }
         ensures limit { IsErrOf result Stop.Limit → steps_of log.new.entries ≡ log.new.limit }

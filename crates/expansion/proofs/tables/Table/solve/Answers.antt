@@ -1,11 +1,12 @@
-use Rattle.std.proofs.Common.{◌≡◌, ◌∙◌, ap, subst, Ok, refl, false, [], ◌∷◌, ◌≢◌, sym}
+use Rattle.std.proofs.Common.{◌≡◌, ◌∙◌, ap, subst, Ok, refl, false, [], ◌∷◌, ◌≢◌, sym, map, length}
 use Rattle.std.specs.List.{AllPairs}
+use Rattle.std.proofs.lemmas.List.{length-map}
 use Rattle.hint_log.specs.Entries.{clause_at}
 use Rattle.oracle.specs.Calls.{IsRefutedUnder}
 use Rattle.log_laws.specs.Engines.{instances}
-use Rattle.expansion.specs.Table.{TableState, IsRefutedBy, ArePoints, point_bits}
+use Rattle.expansion.specs.Table.{TableState, PointState, IsRefutedBy, ArePoints, point_bits}
 use Rattle.expansion.specs.Silence.{is_silent}
-use Rattle.expansion.proofs.Refuting.{searched_grew, refuted_grew, table_searched, table_answered, table_refuted}
+use Rattle.expansion.proofs.Refuting.{searched_grew, refuted_grew, table_searched, full_searched, full_answered, table_refuted}
 use Rattle.expansion.proofs.Pointing.{are_points, existentials_once}
 use Rattle.expansion.proofs.Told.{table_told, switch_is, switched_on}
 use Rattle.expansion.proofs.tables.Table.solve.Goals as goal
@@ -29,14 +30,14 @@ returns-in_err-id-clause-grew g c f full =
     searched_grew f instances c.args.self.now.group (is_silent c.from_residual.result) c.args.log.now c.solve.new.log c.in_err-id.ensures.stop
 
 pub returns-in_err-id-clause-table : goal.returns-in_err-id-clause-table
-returns-in_err-id-clause-table g c f full = table_searched f c.args.self.now c.args.log.now c.solve.new.log c.in_err-id.ensures.stop full.table
+returns-in_err-id-clause-table g c f full = full_searched f c.args.self.now c.args.log.now c.solve.new.log c.in_err-id.ensures.stop full
 
 pub returns-in_err-points-in-Sat-clause-grew : goal.returns-in_err-points-in-Sat-clause-grew
 returns-in_err-points-in-Sat-clause-grew g c f full =
     searched_grew f instances c.args.self.now.group _ c.args.log.now c.solve.new.log (c.solve.ensures.sat (c.in_ok-id.was ∙ ap Ok c.in-Sat.is)).0
 
 pub returns-in_err-points-in-Sat-clause-table : goal.returns-in_err-points-in-Sat-clause-table
-returns-in_err-points-in-Sat-clause-table g c f full = table_searched f c.args.self.now c.args.log.now c.solve.new.log (c.solve.ensures.sat (c.in_ok-id.was ∙ ap Ok c.in-Sat.is)).0 full.table
+returns-in_err-points-in-Sat-clause-table g c f full = full_searched f c.args.self.now c.args.log.now c.solve.new.log (c.solve.ensures.sat (c.in_ok-id.was ∙ ap Ok c.in-Sat.is)).0 full
 
 pub returns-in-Unsat-clause-grew : goal.returns-in-Unsat-clause-grew
 returns-in-Unsat-clause-grew g c f full =
@@ -46,7 +47,7 @@ returns-in-Unsat-clause-grew g c f full =
 pub returns-in-Unsat-clause-table : goal.returns-in-Unsat-clause-table
 returns-in-Unsat-clause-table g c f full =
     let r = c.solve.ensures.unsat c.in-Unsat.id (c.in_ok-id.was ∙ ap Ok c.in-Unsat.is) in
-    table_answered f c.args.self.now _ c.args.log.now c.solve.new.log c.in-Unsat.id r full.table
+    full_answered f c.args.self.now _ c.args.log.now c.solve.new.log c.in-Unsat.id r full
 
 pub returns-in-Unsat-clause-refuted : goal.returns-in-Unsat-clause-refuted
 returns-in-Unsat-clause-refuted g c f id full e =
@@ -71,7 +72,7 @@ returns-in_ok-points-in-Sat-clause-grew g c f full =
     searched_grew f instances c.args.self.now.group _ c.args.log.now c.solve.new.log (c.solve.ensures.sat (c.in_ok-id.was ∙ ap Ok c.in-Sat.is)).0
 
 pub returns-in_ok-points-in-Sat-clause-table : goal.returns-in_ok-points-in-Sat-clause-table
-returns-in_ok-points-in-Sat-clause-table g c f full = table_searched f c.args.self.now c.args.log.now c.solve.new.log (c.solve.ensures.sat (c.in_ok-id.was ∙ ap Ok c.in-Sat.is)).0 full.table
+returns-in_ok-points-in-Sat-clause-table g c f full = full_searched f c.args.self.now c.args.log.now c.solve.new.log (c.solve.ensures.sat (c.in_ok-id.was ∙ ap Ok c.in-Sat.is)).0 full
 
 pub returns-in_ok-points-in-Sat-clause-model : goal.returns-in_ok-points-in-Sat-clause-model
 returns-in_ok-points-in-Sat-clause-model g c f points full e =
@@ -85,3 +86,14 @@ returns-in_ok-points-in-Sat-clause-model g c f points full e =
     (are_points f c.args.self.now c.solve.new.log.entries values c.in_ok-points-in-Sat.field-0.variables c.in_ok-points-in-Sat.field-0.rows full.formula searched.logged
     table sat.1.clauses (switched_on values (clause_at c.solve.new.log.entries) c.self.inside.group.selector c.args.self.now.group switch sat.1)
     c.in_ok-points-in-Sat.ensures.variables c.in_ok-points-in-Sat.ensures.bits)
+
+pub returns-in_ok-points-in-Sat-clause-point_variables : goal.returns-in_ok-points-in-Sat-clause-point_variables
+returns-in_ok-points-in-Sat-clause-point_variables g c points e =
+    let found : c.in_ok-points-in-Sat.field-0 ≡ points = cc in
+    ap (λ (p : PointState). p.variables) (sym found) ∙ c.in_ok-points-in-Sat.ensures.variables
+
+pub returns-in_ok-points-in-Sat-clause-point_rows : goal.returns-in_ok-points-in-Sat-clause-point_rows
+returns-in_ok-points-in-Sat-clause-point_rows g c points e =
+    let found : c.in_ok-points-in-Sat.field-0 ≡ points = cc in
+    ap (λ (p : PointState). length p.rows) (sym found) ∙ ap length c.in_ok-points-in-Sat.ensures.bits
+    ∙ length-map c.args.self.now.pairs (map (g.O.Oracle.values c.solve.new.self)) ∙ c.requires.table.1.table.own.pairs_long
