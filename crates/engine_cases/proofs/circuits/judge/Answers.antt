@@ -1,0 +1,12 @@
+use Rattle.std.proofs.Common.{sym, subst}
+use Rattle.engine_cases.proofs.Rounds.{turn_failed}
+use Rattle.engine_cases.proofs.circuits.judge.Goals as goal
+
+pub returns-in_ok-round-in-Ok-Fails : goal.returns-in_ok-round-in-Ok-Fails
+returns-in_ok-round-in-Ok-Fails g c = record {
+  «open» = λ e. (
+    subst (g.O.Oracle.Fits c.turn.new.oracle) (sym c.in_ok-round-in-Ok-Fails.ensures.ok) (g.met.O.Oracle.round c.turn.new.oracle c.turn.new.log _ _ _ c.turn.ensures.fit),
+    turn_failed c.checkers_stay_with_rounds.ensures c.args.f.now c.args.graph.now c.turn.new.self c.turn.new.log c.round.new.self _ _ _
+        c.requires.open.1.inputs c.turn.ensures.checker c.turn.ensures.few c.in_ok-round-in-Ok-Fails.ensures.ok,
+  );
+}

@@ -1,0 +1,206 @@
+//! Points and candidates by trying them: bit by bit, and under every row.
+
+ghost use Rattle.std.specs.Prelude.{◌≡◌, ◌≤◌, ◌+◌, ℕ, All, length, IfOk};
+ghost use Rattle.dq_formula.specs.Prefix.{existential_variables};
+ghost use Rattle.aig_graph.specs.Graph.{IsNode, size_of};
+
+use crate::rows::{push_bits, row_at, row_count};
+use crate::shown::push_signed;
+use aig_graph::{Graph, Node};
+use anyhow::Result;
+use dq_formula::Formula;
+use dq_lits::{Lit, Row};
+use expansion::{Points, Table};
+use std::alloc::Global;
+
+/// What is written of a model.
+#[derive(Clone, Copy, Debug)]
+pub enum Detail {
+    /// Whether it is one.
+    Checks,
+    /// Its bits, and the candidates' values, too.
+    Bits,
+}
+
+/// Writes for each row whether the points make every clause true there, and whether the candidates have the points' bits.
+pub fn show_rows(
+    alloc: Global,
+    f: &Formula,
+    table: &Table,
+    points: &Points,
+    graph: &Graph,
+    nodes: &[Node],
+    detail: Detail,
+    printed: &mut String,
+) -> Result<()>
+    requires whole { All (λ row. length row ≡ length f.now.universals) table.now.rows }
+    requires rows { length points.now.rows ≡ length table.now.rows }
+    requires variables { points.now.variables ≡ existential_variables f.now }
+    requires inputs { graph.now.inputs ≡ length f.now.universals }
+    requires nodes { All (IsNode graph.now) nodes.now }
+{
+    for before in 0..table.rows() {
+        let row = table.row(before + 1);
+        let bits = bits_of(alloc, f, points, before + 1)?;
+        show_row(alloc, f, row, &bits, graph, nodes, detail, printed)?;
+    }
+    Ok(())
+}
+
+fn show_row(
+    alloc: Global,
+    f: &Formula,
+    row: &Row,
+    bits: &Row,
+    graph: &Graph,
+    nodes: &[Node],
+    detail: Detail,
+    printed: &mut String,
+) -> Result<()>
+    requires row { length row.now ≡ length f.now.universals }
+    requires bits { length bits.now ≡ length f.now.existentials }
+    requires inputs { graph.now.inputs ≡ length f.now.universals }
+    requires nodes { All (IsNode graph.now) nodes.now }
+{
+    let holds = holds(f, row, bits);
+    let followed = are_followed(alloc, row, bits, graph, nodes)?;
+    printed.push_str("\n point")?;
+    if let Detail::Bits = detail {
+        push_bits(alloc, f.existentials(), bits, printed)?;
+    }
+    printed.push_str(&format!(in alloc; ": clauses {holds}, candidates {followed}")?)?;
+    Ok(())
+}
+
+// Whether the nodes have these bits under a row.
+fn are_followed(alloc: Global, row: &Row, bits: &Row, graph: &Graph, nodes: &[Node]) -> Result<bool>
+    requires row { length row.now ≡ graph.now.inputs }
+    requires nodes { All (IsNode graph.now) nodes.now }
+{
+    let mut buf = Row::new(alloc, graph.len())?;
+    let mut followed = nodes.len() == bits.len();
+    for (place, node) in nodes.iter().enumerate() {
+        let value = graph.value(*node, row, &mut buf);
+        followed = followed && place < bits.len() && bits.get(place) == value;
+    }
+    Ok(followed)
+}
+
+// The bits of a round.
+fn bits_of(alloc: Global, f: &Formula, points: &Points, k: u64) -> Result<Row>
+    requires from_one { 1 ≤ k }
+    requires last { k ≤ length points.now.rows }
+    requires variables { points.now.variables ≡ existential_variables f.now }
+    ensures { IfOk result (λ bits. length bits ≡ length f.now.existentials) }
+{
+    let mut bits = Row::new(alloc, f.existentials().len())?;
+    for (place, y) in f.existentials().iter().enumerate() {
+        if place < bits.len() {
+            bits.set(place, points.bit(*y, k));
+        }
+    }
+    Ok(bits)
+}
+
+// Whether every clause is true under a row and bits of the existentials.
+fn holds(f: &Formula, row: &Row, bits: &Row) -> bool
+    requires row { length row.now ≡ length f.now.universals }
+    requires bits { length bits.now ≡ length f.now.existentials }
+{
+    for j in 0..f.clauses() {
+        if !is_clause_true(f, row, bits, f.clause(j)) {
+            return false;
+        }
+    }
+    true
+}
+
+fn is_clause_true(f: &Formula, row: &Row, bits: &Row, clause: &[Lit]) -> bool
+    requires row { length row.now ≡ length f.now.universals }
+    requires bits { length bits.now ≡ length f.now.existentials }
+{
+    for l in clause {
+        if is_true(f, row, bits, *l) {
+            return true;
+        }
+    }
+    false
+}
+
+fn is_true(f: &Formula, row: &Row, bits: &Row, l: Lit) -> bool
+    requires row { length row.now ≡ length f.now.universals }
+    requires bits { length bits.now ≡ length f.now.existentials }
+{
+    match (f.universal_place(l.var()), f.existential_place(l.var())) {
+        (Some(place), _) => row.get(place) != l.is_neg(),
+        (None, Some(place)) => bits.get(place) != l.is_neg(),
+        (None, None) => false,
+    }
+}
+
+/// Writes each candidate's values under all rows, the first row first, and which universals it reads.
+pub fn show_candidates(
+    alloc: Global,
+    f: &Formula,
+    graph: &Graph,
+    nodes: &[Node],
+    printed: &mut String,
+) -> Result<()>
+    requires inputs { graph.now.inputs ≡ length f.now.universals }
+    requires nodes { All (IsNode graph.now) nodes.now }
+{
+    for (place, node) in nodes.iter().enumerate() {
+        printed.push_str("\n candidate")?;
+        if place < f.existentials().len() {
+            push_signed(alloc, f.existentials()[place], false, printed)?;
+        }
+        printed.push_str(": ")?;
+        show_values(alloc, f, graph, *node, printed)?;
+        printed.push_str(" reads")?;
+        show_support(alloc, f, graph, *node, printed)?;
+    }
+    Ok(())
+}
+
+fn show_values(
+    alloc: Global,
+    f: &Formula,
+    graph: &Graph,
+    node: Node,
+    printed: &mut String,
+) -> Result<()>
+    requires inputs { graph.now.inputs ≡ length f.now.universals }
+    requires node { IsNode graph.now node }
+{
+    let mut buf = Row::new(alloc, graph.len())?;
+    let universals = f.universals().len();
+    for number in 0..row_count(universals) {
+        let row = row_at(alloc, universals, number)?;
+        printed.push(if graph.value(node, &row, &mut buf) {
+            '1'
+        } else {
+            '0'
+        })?;
+    }
+    Ok(())
+}
+
+fn show_support(
+    alloc: Global,
+    f: &Formula,
+    graph: &Graph,
+    node: Node,
+    printed: &mut String,
+) -> Result<()>
+    requires inputs { graph.now.inputs ≡ length f.now.universals }
+    requires node { IsNode graph.now node }
+{
+    let mut marks = Row::new(alloc, graph.len())?;
+    graph.support(node, &mut marks);
+    for (place, x) in f.universals().iter().enumerate() {
+        if place < marks.len() && marks.get(place) {
+            push_signed(alloc, *x, false, printed)?;
+        }
+    }
+    Ok(())
+}

@@ -1,0 +1,55 @@
+//! The commands of a table.
+//!
+//! `formula TEXT` says which formula is meant from there on: DQDIMACS, with `/` for an end of a line. Each further command begins with an
+//! empty log and a new solver, and prints which names and given clauses the log has at first and after each step. `turns NAME : OUTPUTS ;
+//! OUTPUTS ..` lets the circuits' checker judge outputs, until some hold, and prints what each turn told. `rows NAME : ROW ; ROW ..` adds
+//! rows to the expansion, until they are refuted, and prints for each row of a model whether the clauses hold there and the candidates have
+//! its bits; `points` does the same, and prints the bits, and the candidates' values under all rows. Lines that begin with `#` are comments.
+
+use crate::evaluation::Detail;
+use crate::{circuits, expansions};
+use anyhow::{Result, anyhow};
+use dq_formula::Formula;
+use dqdimacs_reader::read;
+use std::alloc::Global;
+
+/// Takes a command, and gives what is to be printed.
+pub fn take_line(alloc: Global, formula: &mut String, line: &str) -> Result<Option<String>> {
+    let (word, rest) = line.split_once(' ').unwrap_or((line, ""));
+    match word {
+        "" | "#" => Ok(None),
+        "formula" => set_formula(alloc, formula, rest),
+        "turns" => run(alloc, formula, rest, Kind::Turns),
+        "rows" => run(alloc, formula, rest, Kind::Rows(Detail::Checks)),
+        "points" => run(alloc, formula, rest, Kind::Rows(Detail::Bits)),
+        _ => Err(anyhow!("no command: {line}")),
+    }
+}
+
+/// Which engine is run.
+#[derive(Clone, Copy, Debug)]
+enum Kind {
+    Turns,
+    Rows(Detail),
+}
+
+fn set_formula(alloc: Global, formula: &mut String, rest: &str) -> Result<Option<String>> {
+    formula.clear();
+    for line in rest.split('/') {
+        formula.push_str(line)?;
+        formula.push('\n')?;
+    }
+    let _ = alloc;
+    Ok(None)
+}
+
+fn run(alloc: Global, formula: &str, rest: &str, kind: Kind) -> Result<Option<String>> {
+    let (name, steps) = rest.split_once(" : ").unwrap_or((rest, ""));
+    let formula = read(alloc, formula.as_bytes())?;
+    let mut printed = String::from_str(alloc, name)?;
+    match kind {
+        Kind::Turns => circuits::run(alloc, &formula, steps, &mut printed)?,
+        Kind::Rows(detail) => expansions::run(alloc, &formula, steps, detail, &mut printed)?,
+    }
+    Ok(Some(printed))
+}

@@ -1,0 +1,241 @@
+-- The stages of a turn: what each call leaves of the search.
+use Rattle.std.proofs.Common.{◌≡◌, ◌≢◌, ◌+◌, ◌-◌, ◌≤◌, ◌<◌, ℕ, zero, suc, Bool, true, false, cond, List, [], ◌∷◌, length, None, refl, sym, ◌∙◌, ap, subst, arith, slice_index_or, Result, Ok, Err, OnErr}
+use Rattle.std.specs.List.{All, Contains, filter}
+use Rattle.std.proofs.lemmas.List.{length-map}
+use Rattle.dq_lits.specs.Formula.{Dqbf, IsWellFormed}
+use Rattle.dq_lits.specs.Expansion.{row_assignment}
+use Rattle.hint_log.specs.Entries.{Entry, Round, ProofLog, with_entry, name_of, rounds_of, steps_of, is_counted}
+use Rattle.hint_log.specs.Deciding.{IsUndecided}
+use Rattle.hint_log.specs.Growth.{Grew}
+use Rattle.hint_log.specs.Naming.{rows_of}
+use Rattle.hint_log.specs.ProductiveLog.{IsNewFailure, HasModelWith, IsProductiveLog, fault_groups}
+use Rattle.oracle.specs.Searched.{IsSearched}
+use Rattle.log_laws.specs.Engines.{Engine, circuits, instances, part, is_own, HasNone, IsAddedBy, EnginesLeaveRest}
+use Rattle.dq_lits.specs.Skolem.{IsSupported}
+use Rattle.aig_graph.specs.declared.nodes.Node.{Node}
+use Rattle.aig_graph.specs.Graph.{AigGraph}
+use Rattle.aig_graph.specs.Outputs.{OutputsAreSupported, output_node, outputs_of}
+use Rattle.circuit_cnf.specs.Failing.{IsFailure}
+use Rattle.circuit_cnf.specs.declared.checkers.Checker.{Checker}
+use Rattle.circuit_cnf.specs.Checking.{IsChecker, group_of, CheckersStay, CheckersStayWithRounds}
+use Rattle.expansion.specs.Table.{TableState, IsTable, IsFullTable}
+use Rattle.expansion.specs.Standing.{EnginesLeaveTables, RoundsLeaveTables}
+use Rattle.log_laws.proofs.Growing.{count_grown}
+use Rattle.repair_loop.specs.Searching.{LogGrew, IsKept, IsSearch, AreCandidates, IsCounterexample, AreRefuted, IsRoundLogged}
+use Rattle.repair_loop.proofs.Rows.{no_old_row}
+use Rattle.repair_loop.proofs.Extends.{extends}
+
+pub on_err : {T E : Type 0} (r : Result T E) (P : Type 0) → P → OnErr r P
+on_err (Ok x) P p = tt
+on_err (Err e) P p = p
+
+pub outputs_supported : OutputsAreSupported → (f : Dqbf) (graph : AigGraph) (nodes : List Node) → All (λ y. IsSupported (outputs_of f graph nodes y)) f.existentials
+outputs_supported law f graph nodes k d below = law f graph (output_node f nodes (slice_index_or f.existentials k d))
+
+pub counterexample : (f : Dqbf) (graph : AigGraph) (nodes : List Node) (row values : List Bool) (j : ℕ) → IsFailure f graph nodes row values j
+    → IsCounterexample f (outputs_of f graph nodes) row values j
+counterexample f graph nodes row values j bad =
+    record { row_length = bad.row_length; values_are = bad.values_are; clause = bad.clause; clause_is = bad.clause_is; is_false = bad.is_false }
+
+-- whatever an engine's call added, the log keeps its points
+pub still_kept : EnginesLeaveRest → (f : Dqbf) (engine : Engine) (group : ℕ) (silent : Bool) (old new : ProofLog) → Grew (IsAddedBy f engine group silent old.entries) old new
+    → IsKept f old.entries → IsKept f new.entries
+still_kept law f engine group silent old new grew kept =
+    let left = law f engine group silent old new grew in
+    record { origins = left.origins kept.origins; new_rows = left.new_rows kept.new_rows; models = left.models kept.models; givens = left.givens kept.givens }
+
+pub still_undecided : EnginesLeaveRest → (f : Dqbf) (engine : Engine) (group : ℕ) (silent : Bool) (old new : ProofLog) → silent ≡ true
+    → Grew (IsAddedBy f engine group silent old.entries) old new → IsUndecided f old.entries → IsUndecided f new.entries
+still_undecided law f engine group silent old new quiet grew undecided = (law f engine group silent old new grew).decisions quiet undecided
+
+-- after the table found a model
+pub after_solve : EnginesLeaveRest → CheckersStay → (f : Dqbf) (graph : AigGraph) (t u : TableState) (c : Checker) (silent : Bool) (old new : ProofLog) → silent ≡ true
+    → IsSearch f graph t c old.entries → Grew (IsAddedBy f instances t.group silent old.entries) old new → u ≡ t → IsFullTable f u new.entries
+    → IsSearch f graph u c new.entries
+after_solve law stay f graph t u c silent old new quiet s grew same table =
+    let left = law f instances t.group silent old new grew in
+    let groups : u.group ≡ t.group = ap (λ (v : TableState). v.group) same in
+    let faults = ap length (left.faults refl) in
+    let rounds = left.rounds in
+    let before = s.faults in
+    record {
+      kept = still_kept law f instances t.group silent old new grew s.kept;
+      undecided = still_undecided law f instances t.group silent old new quiet grew s.undecided;
+      table = table;
+      checked = stay f c instances t.group silent old new refl (λ e. s.apart (sym e)) grew s.checked;
+      apart = λ e. s.apart (sym groups ∙ e);
+      inputs = s.inputs;
+      faults = omega (arith, rounds, faults, before);
+    }
+
+-- after the candidates were built
+pub after_build : (f : Dqbf) (graph more : AigGraph) (t : TableState) (c : Checker) (entries : List Entry) → more.inputs ≡ graph.inputs → IsSearch f graph t c entries
+    → IsSearch f more t c entries
+after_build f graph more t c entries same s = record {
+  kept = s.kept;
+  undecided = s.undecided;
+  table = s.table;
+  checked = s.checked;
+  apart = s.apart;
+  inputs = same ∙ s.inputs;
+  faults = s.faults;
+}
+
+-- after a turn that failed
+pub after_turn : EnginesLeaveRest → EnginesLeaveTables → (f : Dqbf) (graph : AigGraph) (t : TableState) (c d : Checker) (silent : Bool) (old new : ProofLog) → silent ≡ true
+    → IsSearch f graph t c old.entries → Grew (IsAddedBy f circuits (group_of c) silent old.entries) old new → group_of d ≡ group_of c → IsChecker f d new.entries
+    → length (fault_groups new.entries) ≤ rounds_of new.entries + 1 → AreRefuted f t d new.entries
+after_turn law tables f graph t c d silent old new quiet s grew same checker faults = record {
+  kept = still_kept law f circuits (group_of c) silent old new grew s.kept;
+  undecided = still_undecided law f circuits (group_of c) silent old new quiet grew s.undecided;
+  table = (tables f t circuits (group_of c) silent old new grew refl s.apart).1 s.table;
+  checked = checker;
+  apart = λ e. s.apart (e ∙ same);
+  faults = faults;
+}
+
+-- after the round is logged
+pub after_round : RoundsLeaveTables → CheckersStayWithRounds → (f : Dqbf) (t : TableState) (c : Checker) (old new : ProofLog) (output : _) → AreRefuted f t c old.entries
+    → AreCandidates f t.rows output → (row values : List Bool) (j : ℕ) → IsCounterexample f output row values j → new ≡ with_entry old (Round row values j)
+    → IsRoundLogged f t c row new.entries
+after_round tables checkers f t c old new output a are row values j bad is =
+    let entries = old.entries in
+    let well = a.table.formula in
+    let failure : IsNewFailure f entries row values j = record {
+      row_length = bad.row_length;
+      values_length = ap length bad.values_are ∙ length-map f.existentials (λ y. (output y).value (row_assignment f row));
+      untried = λ inside. no_old_row f well.prefix t.rows are.points output are.are_points are.agree row values j bad (subst (λ rows. Contains rows row) a.table.rows inside);
+      clause = bad.clause;
+      clause_is = bad.clause_is;
+      is_false = bad.is_false;
+    } in
+    let modelled : HasModelWith f (rows_of entries) row values =
+    subst (λ rows. HasModelWith f rows row values) (sym a.table.rows)
+    (extends f well.prefix t.rows are.points output are.are_points are.agree row values j bad) in
+    let left = tables f t row values j entries a.table in
+    let before = a.faults in
+    let here : IsRoundLogged f t c row (Round row values j ∷ entries) = record {
+      kept = record { origins = (tt, a.kept.origins); new_rows = (failure, a.kept.new_rows); models = (modelled, a.kept.models); givens = (tt, a.kept.givens) };
+      undecided = (tt, a.undecided);
+      table = left.0;
+      rows = left.1;
+      row_length = bad.row_length;
+      checked = checkers f c entries row values j a.checked;
+      apart = a.apart;
+      faults = before;
+    } in
+    subst (λ (l : ProofLog). IsRoundLogged f t c row l.entries) (sym is) here
+
+-- after the row is added
+pub after_row : EnginesLeaveRest → CheckersStay → (f : Dqbf) (graph : AigGraph) (t u : TableState) (c : Checker) (row : List Bool) (old new : ProofLog)
+    → IsRoundLogged f t c row old.entries → Grew (IsAddedBy f instances t.group true old.entries) old new → IsFullTable f u new.entries → u.group ≡ t.group
+    → graph.inputs ≡ length f.universals → IsSearch f graph u c new.entries
+after_row law stay f graph t u c row old new a grew table same inputs =
+    let left = law f instances t.group true old new grew in
+    let faults = ap length (left.faults refl) in
+    let rounds = left.rounds in
+    let before = a.faults in
+    record {
+      kept = still_kept law f instances t.group true old new grew a.kept;
+      undecided = still_undecided law f instances t.group true old new refl grew a.undecided;
+      table = table;
+      checked = stay f c instances t.group true old new refl (λ e. a.apart (sym e)) grew a.checked;
+      apart = λ e. a.apart (sym same ∙ e);
+      inputs = inputs;
+      faults = omega (arith, rounds, faults, before);
+    }
+
+pub log_grew : (P : List Entry → Entry → Type 0) (old new : ProofLog) → Grew P old new → LogGrew old new
+log_grew P old new grew =
+    record { steps = subst (λ es. steps_of old.entries ≤ steps_of es) (sym grew.grown) (count_grown is_counted grew.more old.entries); limit = grew.limit }
+
+pub log_same : (old new : ProofLog) → new ≡ old → LogGrew old new
+log_same old new is = let steps = ap (λ (l : ProofLog). steps_of l.entries) is in record { steps = omega (arith, steps); limit = ap (λ (l : ProofLog). l.limit) is }
+
+pub log_then : (a b c : ProofLog) → LogGrew a b → LogGrew b c → LogGrew a c
+log_then a b c one two = let s = one.steps in let t = two.steps in record { steps = omega (arith, s, t); limit = two.limit ∙ one.limit }
+
+pub round_grew : (old new : ProofLog) (row values : List Bool) (j : ℕ) → new ≡ with_entry old (Round row values j) → LogGrew old new
+round_grew old new row values j is =
+    let steps = ap (λ (l : ProofLog). steps_of l.entries) is in record { steps = omega (arith, steps); limit = ap (λ (l : ProofLog). l.limit) is }
+
+pub round_counts : (old new : ProofLog) (row values : List Bool) (j : ℕ) → new ≡ with_entry old (Round row values j) → steps_of old.entries < steps_of new.entries
+round_counts old new row values j is = let steps = ap (λ (l : ProofLog). steps_of l.entries) is in omega (arith, steps)
+
+-- a log that isn't full has steps left
+pub steps_left : (old mid : ProofLog) → LogGrew old mid → steps_of mid.entries ≤ mid.limit → (steps_of mid.entries ≡ mid.limit → ⊥) → steps_of old.entries < old.limit
+steps_left old mid grew within not_full = let s = grew.steps in let l = grew.limit in omega (arith, s, l, within, not_full)
+
+-- a turn with a round leaves fewer steps
+pub fewer_left : (a b c d : ProofLog) → LogGrew a b → LogGrew c d → LogGrew b c → steps_of b.entries < steps_of c.entries → steps_of b.entries < b.limit
+    → d.limit - steps_of d.entries < a.limit - steps_of a.entries
+fewer_left a b c d one three two more left =
+    let s = one.steps in let l = one.limit in let t = three.steps in let m = three.limit in let k = two.limit in omega (arith, s, l, t, m, k, more, left)
+
+pub no_entries_kept : (f : Dqbf) (entries : List Entry) → entries ≡ [] → IsKept f entries
+no_entries_kept f entries empty = subst (IsKept f) (sym empty) (record { origins = tt; new_rows = tt; models = tt; givens = tt })
+
+pub no_entries_undecided : (f : Dqbf) (entries : List Entry) → entries ≡ [] → IsUndecided f entries
+no_entries_undecided f entries empty = let none : IsUndecided f [] = tt in subst (IsUndecided f) (sym empty) none
+
+-- with what the solver keeps of its log, the log is productive
+pub productive : (f : Dqbf) (entries : List Entry) → IsKept f entries → IsSearched entries → IsProductiveLog f entries
+productive f entries kept searched = record {
+  givens_match_origins = kept.origins;
+  lemmas_are_derived = searched.derived;
+  lemmas_are_new = searched.new;
+  rounds_refute_new_rows = kept.new_rows;
+  rounds_follow_a_model = kept.models;
+  givens_are_not_repeated = kept.givens;
+}
+
+no_element : (e : Entry) → Contains [] e → ⊥
+no_element e (k, below, _) = absurd (omega (arith, below))
+
+contains_first : (x : Entry) (es : List Entry) → Contains (x ∷ es) x
+contains_first x es = (0, omega arith, refl)
+
+contains_later : (x : Entry) (es : List Entry) (e : Entry) → Contains es e → Contains (x ∷ es) e
+contains_later x es e (k, below, is) = (suc k, omega (arith, below), is)
+
+-- an element that passes a test stays
+contains_filtered : (test : Entry → Bool) (es : List Entry) (e : Entry) → test e ≡ true → Contains es e → Contains (filter test es) e
+contains_filtered test [] e passes inside = inside
+contains_filtered test (x ∷ es) e passes (zero, below, is) =
+    subst (Contains (filter test (x ∷ es))) is
+    (subst (λ (b : Bool). Contains (cond b (x ∷ filter test es) (filter test es)) x) (sym (ap test is ∙ passes)) (contains_first x (filter test es)))
+contains_filtered test (x ∷ es) e passes (suc k, below, is) =
+    by_bit (test x) (contains_filtered test es e passes (k, omega (arith, below), is))
+  where
+    by_bit : (b : Bool) → Contains (filter test es) e → Contains (cond b (x ∷ filter test es) (filter test es)) e
+    by_bit true there = contains_later x (filter test es) e there
+    by_bit false there = there
+
+-- what the table named and gave is none of the circuits'
+pub none_yet : EnginesLeaveRest → (f : Dqbf) (old new : ProofLog) → old.entries ≡ [] → ((group : ℕ) → Grew (IsAddedBy f instances group true old.entries) old new)
+    → HasNone circuits new.entries
+none_yet law f old new empty grew e own inside =
+    let left = law f instances 0 true old new (grew 0) in
+    let others : part circuits new.entries ≡ [] = left.others circuits refl ∙ ap (part circuits) empty in
+    let kept = contains_filtered (is_own circuits) new.entries e own inside in
+    no_element e (subst (λ es. Contains es e) others kept)
+
+-- before the first turn
+pub begun : EnginesLeaveRest → EnginesLeaveTables → (f : Dqbf) → IsWellFormed f → (graph : AigGraph) (t : TableState) (c : Checker) (first second third : ProofLog) → graph.inputs ≡ length f.universals
+    → first.entries ≡ [] → ((group : ℕ) → Grew (IsAddedBy f instances group true first.entries) first second) → IsTable f t second.entries → t.rows ≡ []
+    → ((group : ℕ) → Grew (IsAddedBy f circuits group true second.entries) second third) → IsChecker f c third.entries → name_of second.entries (group_of c) ≡ None
+    → fault_groups third.entries ≡ fault_groups second.entries → IsSearch f graph t c third.entries
+begun law tables f well graph t c first second third inputs empty g table rows k checker fresh faults =
+    let left = law f instances 0 true first second (g 0) in
+    let apart : t.group ≢ group_of c = λ e. let is = table.group in let none : name_of second.entries t.group ≡ None = ap (name_of second.entries) e ∙ fresh in cc in
+    let full : IsFullTable f t second.entries = record { formula = well; table = table; rows = left.rows ∙ ap rows_of empty ∙ sym rows } in
+    let none : length (fault_groups third.entries) ≡ 0 = ap length (faults ∙ left.faults refl ∙ ap fault_groups empty) in
+    record {
+      kept = still_kept law f circuits 0 true second third (k 0) (still_kept law f instances 0 true first second (g 0) (no_entries_kept f first.entries empty));
+      undecided = still_undecided law f circuits 0 true second third refl (k 0) (still_undecided law f instances 0 true first second refl (g 0) (no_entries_undecided f first.entries empty));
+      table = (tables f t circuits (group_of c) true second third (k (group_of c)) refl apart).1 full;
+      checked = checker;
+      apart = apart;
+      inputs = inputs;
+      faults = omega (arith, none);
+    }

@@ -1,0 +1,15 @@
+use Rattle.std.proofs.Common.{◌≡◌, ◌-◌}
+use Rattle.hint_log.specs.Entries.{steps_of}
+use Rattle.repair_loop.specs.Searching.{IsSearch}
+use Rattle.repair_loop.proofs.decisions.all_rounds.Given as goal
+
+abbrev pub invariant-loop-outputs : goal.invariant-loop-outputs
+invariant-loop-outputs g l = record {
+  fit : g.O.Oracle.Fits l.oracle l.log;
+  search : IsSearch l.f l.graph l.table l.checker l.log.entries;
+  inputs : l.graph.inputs ≡ l.initial.graph.inputs;
+  limit : l.log.limit ≡ l.initial.log.limit;
+}
+
+abbrev pub decreases-loop-outputs : goal.decreases-loop-outputs
+decreases-loop-outputs g l = l.log.limit - steps_of l.log.entries

@@ -1,0 +1,82 @@
+use Rattle.std.proofs.Common.{◌≡◌, ◌∙◌, ap, subst, Ok, arith}
+use Rattle.hint_log.specs.Entries.{steps_of}
+use Rattle.circuit_cnf.specs.Failing.{is_silent, IsFailure}
+use Rattle.circuit_cnf.specs.Shown.{HoldEverywhere, IsShownBy}
+use Rattle.aig_graph.specs.Outputs.{outputs_of}
+use Rattle.repair_loop.specs.Searching.{IsRoundLogged, IsShownTrue}
+use Rattle.repair_loop.proofs.Stages.{outputs_supported, counterexample, after_turn, after_round, log_grew, log_same, log_then, round_grew, round_counts, steps_left}
+use Rattle.repair_loop.proofs.judging.judge.Goals as goal
+
+pub returns-in_err-id-clause-grew : goal.returns-in_err-id-clause-grew
+returns-in_err-id-clause-grew g c = log_grew _ c.args.log.now c.turn.new.log c.turn.ensures.grew
+
+pub returns-in_err-round-in-Fails-clause-grew : goal.returns-in_err-round-in-Fails-clause-grew
+returns-in_err-round-in-Fails-clause-grew g c =
+    log_then c.args.log.now c.turn.new.log c.round.new.self (log_grew _ c.args.log.now c.turn.new.log c.turn.ensures.grew) (log_same c.turn.new.log c.round.new.self c.in_err-round-in-Fails.ensures.err)
+
+pub returns-in-Holds-clause-grew : goal.returns-in-Holds-clause-grew
+returns-in-Holds-clause-grew g c = log_grew _ c.args.log.now c.turn.new.log c.turn.ensures.grew
+
+pub returns-in-Holds-clause-hold : goal.returns-in-Holds-clause-hold
+returns-in-Holds-clause-hold g c id e =
+    let f = c.args.f.now in
+    let graph = c.args.graph.now in
+    let nodes = c.args.outputs.now in
+    let was = c.in_ok-id.was ∙ ap Ok c.in-Holds.is in
+    let items : c.items.result.now ≡ nodes = c.items.ensures in
+    let holds = subst (λ ns. HoldEverywhere f (outputs_of f graph ns)) items (c.turn.ensures.holds c.in-Holds.id was) in
+    let shown = subst (λ ns. IsShownBy f graph ns c.turn.new.log.entries c.in-Holds.id) items (c.turn.ensures.shown c.in-Holds.id was) in
+    let same : c.in-Holds.id ≡ id = cc in
+    subst (λ i. IsShownTrue f graph nodes c.turn.new.log i) same (record {
+      one_each = c.requires.candidates.one_each;
+      are_nodes = c.requires.candidates.are_nodes;
+      functions = record { supported = outputs_supported c.outputs_are_supported.ensures f graph nodes; reads_declared = c.requires.candidates.reads; holds = holds };
+      shown = shown;
+    })
+
+pub returns-in_ok-round-in-Fails-clause-kept : goal.returns-in_ok-round-in-Fails-clause-kept
+returns-in_ok-round-in-Fails-clause-kept g c =
+    let logged = after_round c.rounds_leave_tables.ensures c.checkers_stay_with_rounds.ensures c.args.f.now c.args.table.now c.turn.new.self c.turn.new.log c.round.new.self
+    (outputs_of c.args.f.now c.args.graph.now c.args.outputs.now)
+    (after_turn c.engines_leave_the_rest.ensures c.engines_leave_tables.ensures c.args.f.now c.args.graph.now c.args.table.now c.args.checker.now c.turn.new.self
+    (is_silent c.turn.result) c.args.log.now c.turn.new.log (ap is_silent (c.in_ok-id.was ∙ ap Ok c.in-Fails.is)) c.requires.search c.turn.ensures.grew c.turn.ensures.group
+    c.turn.ensures.checker c.turn.ensures.few)
+    c.requires.candidates.candidates c.in-Fails.row c.in-Fails.values c.in-Fails.j
+    (counterexample c.args.f.now c.args.graph.now c.args.outputs.now c.in-Fails.row c.in-Fails.values c.in-Fails.j
+    (subst (λ ns. IsFailure c.args.f.now c.args.graph.now ns c.in-Fails.row c.in-Fails.values c.in-Fails.j) c.items.ensures
+    (c.turn.ensures.fails c.in-Fails.row c.in-Fails.values c.in-Fails.j (c.in_ok-id.was ∙ ap Ok c.in-Fails.is))))
+    c.in_ok-round-in-Fails.ensures.ok in
+    logged.kept
+
+pub returns-in_ok-round-in-Fails-clause-grew : goal.returns-in_ok-round-in-Fails-clause-grew
+returns-in_ok-round-in-Fails-clause-grew g c =
+    log_then c.args.log.now c.turn.new.log c.round.new.self (log_grew _ c.args.log.now c.turn.new.log c.turn.ensures.grew)
+    (round_grew c.turn.new.log c.round.new.self c.in-Fails.row c.in-Fails.values c.in-Fails.j c.in_ok-round-in-Fails.ensures.ok)
+
+pub returns-in_ok-round-in-Fails-clause-fail : goal.returns-in_ok-round-in-Fails-clause-fail
+returns-in_ok-round-in-Fails-clause-fail g c row e =
+    let logged = after_round c.rounds_leave_tables.ensures c.checkers_stay_with_rounds.ensures c.args.f.now c.args.table.now c.turn.new.self c.turn.new.log c.round.new.self
+    (outputs_of c.args.f.now c.args.graph.now c.args.outputs.now)
+    (after_turn c.engines_leave_the_rest.ensures c.engines_leave_tables.ensures c.args.f.now c.args.graph.now c.args.table.now c.args.checker.now c.turn.new.self
+    (is_silent c.turn.result) c.args.log.now c.turn.new.log (ap is_silent (c.in_ok-id.was ∙ ap Ok c.in-Fails.is)) c.requires.search c.turn.ensures.grew c.turn.ensures.group
+    c.turn.ensures.checker c.turn.ensures.few)
+    c.requires.candidates.candidates c.in-Fails.row c.in-Fails.values c.in-Fails.j
+    (counterexample c.args.f.now c.args.graph.now c.args.outputs.now c.in-Fails.row c.in-Fails.values c.in-Fails.j
+    (subst (λ ns. IsFailure c.args.f.now c.args.graph.now ns c.in-Fails.row c.in-Fails.values c.in-Fails.j) c.items.ensures
+    (c.turn.ensures.fails c.in-Fails.row c.in-Fails.values c.in-Fails.j (c.in_ok-id.was ∙ ap Ok c.in-Fails.is))))
+    c.in_ok-round-in-Fails.ensures.ok in
+    let same : c.in-Fails.row ≡ row = cc in
+    subst (λ r. IsRoundLogged c.args.f.now c.args.table.now c.turn.new.self r c.round.new.self.entries) same logged
+
+pub returns-in_ok-round-in-Fails-clause-step : goal.returns-in_ok-round-in-Fails-clause-step
+returns-in_ok-round-in-Fails-clause-step g c row e =
+    let before = (log_grew _ c.args.log.now c.turn.new.log c.turn.ensures.grew).steps in
+    let round = round_counts c.turn.new.log c.round.new.self c.in-Fails.row c.in-Fails.values c.in-Fails.j c.in_ok-round-in-Fails.ensures.ok in
+    omega (arith, before, round)
+
+pub returns-in_ok-round-in-Fails-clause-within : goal.returns-in_ok-round-in-Fails-clause-within
+returns-in_ok-round-in-Fails-clause-within g c row e =
+    let full : steps_of c.turn.new.log.entries ≡ c.turn.new.log.limit → ⊥ = λ is. let stopped = c.round.ensures.limit.1 is in let was = c.in_ok-round-in-Fails.was in cc in
+    let value = c.steps.ensures.value in
+    let within = c.steps.ensures.within in
+    steps_left c.args.log.now c.turn.new.log (log_grew _ c.args.log.now c.turn.new.log c.turn.ensures.grew) (omega (arith, value, within)) full

@@ -1,0 +1,95 @@
+-- What the loop keeps from turn to turn, and what its verdicts say.
+use Rattle.std.specs.Prelude.{◌≡◌, ◌≢◌, ◌+◌, ◌≤◌, ◌++◌, ◌∷◌, [], ℕ, Bool, false, List, map, length, Some}
+use Rattle.std.specs.List.{All}
+use Rattle.dq_lits.specs.Literal.{Literal, clause_true}
+use Rattle.dq_lits.specs.Formula.{Dqbf, Existential}
+use Rattle.dq_lits.specs.Expansion.{row_assignment, IsExpansionUnsatisfiable}
+use Rattle.dq_lits.specs.Skolem.{OutputFunction, AreSkolemFunctions}
+use Rattle.hint_log.specs.Deciding.{IsUndecided}
+use Rattle.hint_log.specs.Entries.{Entry, ProofLog, rounds_of, steps_of}
+use Rattle.hint_log.specs.Growth.{Each}
+use Rattle.hint_log.specs.Naming.{numbered_from_one, rows_of, round_assignment}
+use Rattle.hint_log.specs.ProductiveLog.{MatchesOrigin, RefutesNewRow, FollowsModel, IsNotRepeated, fault_groups}
+use Rattle.aig_graph.specs.declared.nodes.Node.{Node}
+use Rattle.aig_graph.specs.Graph.{AigGraph, IsNode}
+use Rattle.aig_graph.specs.Outputs.{ReadDeclared, outputs_of}
+use Rattle.circuit_cnf.specs.declared.checkers.Checker.{Checker}
+use Rattle.circuit_cnf.specs.Checking.{IsChecker, group_of}
+use Rattle.circuit_cnf.specs.Shown.{IsShownBy}
+use Rattle.expansion.specs.Table.{TableState, IsTable, IsFullTable, PointBits, ArePoints, IsRefutedBy}
+use Rattle.candidate_functions.specs.Candidates.{AgreeAtPairs}
+
+-- the points of a productive log that the engines and the loop keep; the solver keeps the others
+pub record IsKept (f : Dqbf) (entries : List Entry) : Type 0 where
+  pub origins : Each (MatchesOrigin f) entries
+  pub new_rows : Each (RefutesNewRow f) entries
+  pub models : Each (FollowsModel f) entries
+  pub givens : Each IsNotRepeated entries
+
+-- before a turn
+pub record IsSearch (f : Dqbf) (graph : AigGraph) (t : TableState) (c : Checker) (entries : List Entry) : Type 0 where
+  pub kept : IsKept f entries
+  pub undecided : IsUndecided f entries
+  pub table : IsFullTable f t entries
+  pub checked : IsChecker f c entries
+  pub apart : t.group ≢ group_of c
+  pub inputs : graph.inputs ≡ length f.universals
+  pub faults : length (fault_groups entries) ≤ rounds_of entries
+
+-- outputs that have the bits of a model of the instances under these rows, at all their pairs
+pub record AreCandidates (f : Dqbf) (rows : List (List Bool)) (output : Existential → OutputFunction) : Type 0 where
+  pub points : PointBits
+  pub are_points : ArePoints f rows points
+  pub agree : AgreeAtPairs f rows points output
+
+-- a node for each existential: such outputs, which read what they may
+pub record AreBuilt (f : Dqbf) (graph : AigGraph) (rows : List (List Bool)) (nodes : List Node) : Type 0 where
+  pub one_each : length nodes ≡ length f.existentials
+  pub are_nodes : All (IsNode graph) nodes
+  pub reads : ReadDeclared f (outputs_of f graph nodes)
+  pub candidates : AreCandidates f rows (outputs_of f graph nodes)
+
+-- no step was lost
+pub record LogGrew (old new : ProofLog) : Type 0 where
+  pub steps : steps_of old.entries ≤ steps_of new.entries
+  pub limit : new.limit ≡ old.limit
+
+-- under this row, with the outputs' values, the clause is false
+pub record IsCounterexample (f : Dqbf) (output : Existential → OutputFunction) (row values : List Bool) (j : ℕ) : Type 0 where
+  pub row_length : length row ≡ length f.universals
+  pub values_are : values ≡ map (λ y. (output y).value (row_assignment f row)) f.existentials
+  pub clause : List Literal
+  pub clause_is : numbered_from_one f.matrix j ≡ Some clause
+  pub is_false : clause_true (round_assignment f row values) clause ≡ false
+
+-- after candidates failed, before the round
+pub record AreRefuted (f : Dqbf) (t : TableState) (c : Checker) (entries : List Entry) : Type 0 where
+  pub kept : IsKept f entries
+  pub undecided : IsUndecided f entries
+  pub table : IsFullTable f t entries
+  pub checked : IsChecker f c entries
+  pub apart : t.group ≢ group_of c
+  pub faults : length (fault_groups entries) ≤ rounds_of entries + 1
+
+-- after the round, before its row is added to the table
+pub record IsRoundLogged (f : Dqbf) (t : TableState) (c : Checker) (row : List Bool) (entries : List Entry) : Type 0 where
+  pub kept : IsKept f entries
+  pub undecided : IsUndecided f entries
+  pub table : IsTable f t entries
+  pub rows : rows_of entries ≡ t.rows ++ row ∷ []
+  pub row_length : length row ≡ length f.universals
+  pub checked : IsChecker f c entries
+  pub apart : t.group ≢ group_of c
+  pub faults : length (fault_groups entries) ≤ rounds_of entries
+
+-- a node for each existential: the outputs are Skolem functions, and the last entry is an answer that shows it
+pub record IsShownTrue (f : Dqbf) (graph : AigGraph) (nodes : List Node) (log : ProofLog) (id : ℕ) : Type 0 where
+  pub one_each : length nodes ≡ length f.existentials
+  pub are_nodes : All (IsNode graph) nodes
+  pub functions : AreSkolemFunctions f (outputs_of f graph nodes)
+  pub shown : IsShownBy f graph nodes log.entries id
+
+-- the instances under the rounds' rows have no model, and the last entry is an answer that shows it
+pub record IsShownFalse (f : Dqbf) (log : ProofLog) (id : ℕ) : Type 0 where
+  pub unsatisfiable : IsExpansionUnsatisfiable f (rows_of log.entries)
+  pub shown : IsRefutedBy log.entries id

@@ -1,0 +1,95 @@
+ghost use Rattle.std.specs.Prelude.{◌≡◌, [], ℕ, length, OnErr, IsErrOf, Ok};
+ghost use Rattle.dq_lits.specs.Formula.{IsWellFormed};
+ghost use Rattle.hint_log.specs.Deciding.{IsUndecided, KeepsSelectors};
+ghost use Rattle.hint_log.specs.Entries.{steps_of};
+ghost use Rattle.hint_log.specs.ProductiveLog.{IsProductiveLog};
+ghost use Rattle.repair_loop.specs.Searching.{IsKept, IsSearch, IsShownTrue, IsShownFalse};
+
+use crate::candidates::{Found, find_candidates};
+use crate::judging::{Judged, judge};
+use aig_graph::Graph;
+use candidate_functions::Outputs;
+use circuit_cnf::Checker;
+use circuit_cnf::laws::checkers_stay;
+use dq_formula::Formula;
+use expansion::Table;
+use expansion::laws::engines_leave_tables;
+use hint_log::{Log, Stop};
+use log_laws::laws::engines_leave_the_rest;
+use oracle::Oracle;
+use std::alloc::Global;
+
+/// What was decided, with the id of the logged answer that shows it.
+#[derive(Debug, Drop)]
+pub enum Verdict {
+    /// The formula is true: an output for each existential.
+    True(Outputs, u64),
+    /// The formula is false.
+    False(u64),
+}
+
+/// Decides a formula: outputs that are Skolem functions, or that there are none, each with the id of the logged answer that shows it. It
+/// stops for want of memory or at the log's limit; a verdict that needs no further step comes at the limit too.
+pub fn decide<O: Oracle>(
+    alloc: Global,
+    oracle: &mut O,
+    graph: &mut Graph,
+    f: &Formula,
+    log: &mut Log,
+) -> Result<Verdict, Stop>
+    requires fit { O.Fits oracle.old log.old }
+    requires empty { log.old.entries ≡ [] }
+    requires formula { IsWellFormed f.now }
+    requires inputs { graph.old.inputs ≡ length f.now.universals }
+    ensures fit { O.Fits oracle.new log.new }
+    ensures inputs { graph.new.inputs ≡ graph.old.inputs }
+    ensures productive { IsProductiveLog f.now log.new.entries }
+    ensures selectors { KeepsSelectors log.new.entries }
+    ensures limit_same { log.new.limit ≡ log.old.limit }
+    ensures shown_true { (nodes : _) (id : ℕ) → result ≡ Ok (Verdict.True nodes id) → IsShownTrue f.now graph.new nodes log.new id }
+    ensures shown_false { (id : ℕ) → result ≡ Ok (Verdict.False id) → IsShownFalse f.now log.new id }
+    ensures undecided { OnErr result (IsUndecided f.now log.new.entries) }
+    ensures limit { IsErrOf result Stop.Limit → steps_of log.new.entries ≡ log.new.limit }
+{
+    engines_leave_the_rest();
+    engines_leave_tables();
+    let mut table = Table::new(alloc, oracle, f, log)?;
+    let mut checker = Checker::new(alloc, oracle, f, log)?;
+    all_rounds(alloc, oracle, graph, &mut table, &mut checker, f, log)
+}
+
+// Turns until there is a verdict or a stop.
+fn all_rounds<O: Oracle>(
+    alloc: Global,
+    oracle: &mut O,
+    graph: &mut Graph,
+    table: &mut Table,
+    checker: &mut Checker,
+    f: &Formula,
+    log: &mut Log,
+) -> Result<Verdict, Stop>
+    requires fit { O.Fits oracle.old log.old }
+    requires search { IsSearch f.now graph.old table.old checker.old log.old.entries }
+    ensures fit { O.Fits oracle.new log.new }
+    ensures inputs { graph.new.inputs ≡ graph.old.inputs }
+    ensures kept { IsKept f.now log.new.entries }
+    ensures limit_same { log.new.limit ≡ log.old.limit }
+    ensures shown_true { (nodes : _) (id : ℕ) → result ≡ Ok (Verdict.True nodes id) → IsShownTrue f.now graph.new nodes log.new id }
+    ensures shown_false { (id : ℕ) → result ≡ Ok (Verdict.False id) → IsShownFalse f.now log.new id }
+    ensures undecided { OnErr result (IsUndecided f.now log.new.entries) }
+    ensures limit { IsErrOf result Stop.Limit → steps_of log.new.entries ≡ log.new.limit }
+{
+    engines_leave_the_rest();
+    checkers_stay();
+    loop {
+        let outputs = match find_candidates(alloc, oracle, graph, table, checker, f, log)? {
+            Found::Candidates(outputs) => outputs,
+            Found::Refuted(id) => return Ok(Verdict::False(id)),
+        };
+        match judge(oracle, graph, table, checker, f, &outputs, log)? {
+            Judged::Hold(id) => return Ok(Verdict::True(outputs, id)),
+            Judged::Fail(row) => table.add_row(oracle, f, &row, log)?,
+        }
+    }
+}
+

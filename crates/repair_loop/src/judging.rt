@@ -1,0 +1,64 @@
+//! The check of candidates, and the round where they fail.
+
+ghost use Rattle.std.specs.Prelude.{◌≡◌, ◌<◌, ℕ, List, Bool, OnErr, IsErrOf, Ok};
+ghost use Rattle.hint_log.specs.Deciding.{IsUndecided};
+ghost use Rattle.hint_log.specs.Entries.{steps_of};
+ghost use Rattle.repair_loop.specs.Searching.{IsKept, IsSearch, AreBuilt, LogGrew, IsRoundLogged, IsShownTrue};
+
+use aig_graph::Graph;
+use aig_graph::laws::outputs_are_supported;
+use candidate_functions::Outputs;
+use circuit_cnf::laws::checkers_stay_with_rounds;
+use circuit_cnf::{Checker, Turn};
+use dq_formula::Formula;
+use dq_lits::Row;
+use expansion::Table;
+use expansion::laws::{engines_leave_tables, rounds_leave_tables};
+use hint_log::{Log, Stop};
+use log_laws::laws::engines_leave_the_rest;
+use oracle::Oracle;
+
+// Candidates hold, by the answer of this id; or they fail under a row, whose round is logged.
+#[derive(Debug, Drop)]
+pub(crate) enum Judged {
+    Hold(u64),
+    Fail(Row),
+}
+
+// Checks candidates, and logs a round where they fail.
+pub(crate) fn judge<O: Oracle>(
+    oracle: &mut O,
+    graph: &Graph,
+    table: &Table,
+    checker: &mut Checker,
+    f: &Formula,
+    outputs: &Outputs,
+    log: &mut Log,
+) -> Result<Judged, Stop>
+    requires fit { O.Fits oracle.old log.old }
+    requires search { IsSearch f.now graph.now table.now checker.old log.old.entries }
+    requires candidates { AreBuilt f.now graph.now table.now.rows outputs.now }
+    ensures fit { O.Fits oracle.new log.new }
+    ensures kept { IsKept f.now log.new.entries }
+    ensures grew { LogGrew log.old log.new }
+    ensures hold { (id : ℕ) → result ≡ Ok (Judged.Hold id) → IsShownTrue f.now graph.now outputs.now log.new id }
+    ensures fail { (row : List Bool) → result ≡ Ok (Judged.Fail row) → IsRoundLogged f.now table.now checker.new row log.new.entries }
+    ensures step { (row : List Bool) → result ≡ Ok (Judged.Fail row) → steps_of log.old.entries < steps_of log.new.entries }
+    ensures within { (row : List Bool) → result ≡ Ok (Judged.Fail row) → steps_of log.old.entries < log.old.limit }
+    ensures undecided { OnErr result (IsUndecided f.now log.new.entries) }
+    ensures limit { IsErrOf result Stop.Limit → steps_of log.new.entries ≡ log.new.limit }
+{
+    engines_leave_the_rest();
+    engines_leave_tables();
+    rounds_leave_tables();
+    checkers_stay_with_rounds();
+    outputs_are_supported();
+    match checker.turn(oracle, graph, f, outputs.items(), log)? {
+        Turn::Holds(id) => Ok(Judged::Hold(id)),
+        Turn::Fails { row, values, j } => {
+            let _ = log.steps();
+            log.round(&row, &values, j)?;
+            Ok(Judged::Fail(row))
+        }
+    }
+}

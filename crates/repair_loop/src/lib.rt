@@ -1,0 +1,9 @@
+//! The search by counterexamples: candidates from a model of the expansion, a check of the circuits, and a row more where they fail
+//! (the loop of Pedant: F.-X. Reichl, F. Slivovsky, S. Szeider, "Certified DQBF solving by definition extraction", 2021).
+#![tactic(auto)]
+
+pub use decisions::{Verdict, decide};
+
+mod candidates;
+mod decisions;
+mod judging;
