@@ -4,6 +4,7 @@
 #![tactic(auto)]
 
 mod circuits;
+mod decisions;
 mod evaluation;
 mod expansions;
 mod expressions;

@@ -4,8 +4,10 @@
 //! empty log and a new solver, and prints which names and given clauses the log has at first and after each step. `turns NAME : OUTPUTS ;
 //! OUTPUTS ..` lets the circuits' checker judge outputs, until some hold, and prints what each turn told. `rows NAME : ROW ; ROW ..` adds
 //! rows to the expansion, until they are refuted, and prints for each row of a model whether the clauses hold there and the candidates have
-//! its bits; `points` does the same, and prints the bits, and the candidates' values under all rows. Lines that begin with `#` are comments.
+//! its bits; `points` does the same, and prints the bits, and the candidates' values under all rows. `decide NAME : LIMIT` runs the loop in so
+//! many steps, and prints `true`, `false` or `limit`; `rounds` prints how many rounds it took, too. Lines that begin with `#` are comments.
 
+use crate::decisions;
 use crate::evaluation::Detail;
 use crate::{circuits, expansions};
 use anyhow::{Result, anyhow};
@@ -22,6 +24,8 @@ pub fn take_line(alloc: Global, formula: &mut String, line: &str) -> Result<Opti
         "turns" => run(alloc, formula, rest, Kind::Turns),
         "rows" => run(alloc, formula, rest, Kind::Rows(Detail::Checks)),
         "points" => run(alloc, formula, rest, Kind::Rows(Detail::Bits)),
+        "decide" => run(alloc, formula, rest, Kind::Decision(Detail::Checks)),
+        "rounds" => run(alloc, formula, rest, Kind::Decision(Detail::Bits)),
         _ => Err(anyhow!("no command: {line}")),
     }
 }
@@ -31,6 +35,7 @@ pub fn take_line(alloc: Global, formula: &mut String, line: &str) -> Result<Opti
 enum Kind {
     Turns,
     Rows(Detail),
+    Decision(Detail),
 }
 
 fn set_formula(alloc: Global, formula: &mut String, rest: &str) -> Result<Option<String>> {
@@ -50,6 +55,7 @@ fn run(alloc: Global, formula: &str, rest: &str, kind: Kind) -> Result<Option<St
     match kind {
         Kind::Turns => circuits::run(alloc, &formula, steps, &mut printed)?,
         Kind::Rows(detail) => expansions::run(alloc, &formula, steps, detail, &mut printed)?,
+        Kind::Decision(detail) => decisions::run(alloc, &formula, steps, detail, &mut printed)?,
     }
     Ok(Some(printed))
 }
