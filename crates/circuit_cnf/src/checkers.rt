@@ -1,4 +1,4 @@
-ghost use Rattle.std.specs.Prelude.{◌≡◌, ℕ, true, IfOk};
+ghost use Rattle.std.specs.Prelude.{ℕ, true, IfOk};
 ghost use Rattle.hint_log.specs.Growth.{Grew};
 ghost use Rattle.log_laws.specs.Engines.{circuits, IsAddedBy, HasNone};
 ghost use Rattle.circuit_cnf.specs.Checking.{AreInputs, IsChecker};
