@@ -19,10 +19,9 @@ use Rattle.log_laws.proofs.Growing.{leaves_rest, grown_by_none, grown_then}
 use Rattle.circuit_cnf.specs.declared.gates.Gates.{Gates}
 use Rattle.oracle.specs.declared.groups.Group.{Group}
 use Rattle.circuit_cnf.specs.Checking.{AreInputs}
-use Rattle.circuit_cnf.specs.Gates.{AreKnown, AreBadsStill}
+use Rattle.circuit_cnf.specs.Gates.{AreKnown, AreBadsStill, GrewByGates}
 use Rattle.circuit_cnf.specs.Leaves.{HasLeaf, HaveLeaves}
 use Rattle.circuit_cnf.proofs.Naming.{named_as_stays}
-use Rattle.circuit_cnf.proofs.Parting.{GrewByGates}
 use Rattle.circuit_cnf.proofs.SideLeaves.{leaf_stays}
 
 -- the first gates have their literals

@@ -23,15 +23,11 @@ use Rattle.log_laws.proofs.Found.{named_variable}
 use Rattle.log_laws.proofs.Growing.{leaves_rest, grown_then}
 use Rattle.oracle.specs.Calls.{IsMade}
 use Rattle.oracle.specs.declared.groups.Group.{Group}
-use Rattle.circuit_cnf.specs.Faults.{HaveOneLeaf, AreFewWith, IsBadAt, HaveAllFaults, NamesBadsAlone, IsNamingBads, AreGiven}
+use Rattle.circuit_cnf.specs.Faults.{HaveOneLeaf, AreFewWith, IsBadAt, HaveAllFaults, NamesBadsAlone, IsNamingBads, AreGiven, GrewByGroup}
 use Rattle.circuit_cnf.proofs.Badding.{bad_name}
 use Rattle.circuit_cnf.proofs.Giving.{contains_cases, contains_first}
 use Rattle.circuit_cnf.proofs.Naming.{NamesStay, named_as_stays}
 use Rattle.circuit_cnf.proofs.ClauseFaults.{few_more, fault_stays}
-
--- how the log grows by the group's clauses
-abbrev pub GrewByGroup : Dqbf → ℕ → ProofLog → ProofLog → Type 0
-GrewByGroup f group old new = (standing : ℕ) (start : List Entry) → name_of start group ≡ None → Grew (IsAddedBy f circuits standing true start) old new
 
 pub record GroupSoFar (f : Dqbf) (group : ℕ) (leaf : ℕ → Leaf) (old log : ProofLog) : Type 0 where
   pub grew : GrewByGroup f group old log

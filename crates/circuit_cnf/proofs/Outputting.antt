@@ -21,12 +21,11 @@ use Rattle.log_laws.proofs.Growing.{leaves_rest}
 use Rattle.circuit_cnf.specs.declared.checkers.Checker.{Checker}
 use Rattle.circuit_cnf.specs.declared.gates.Gates.{Gates}
 use Rattle.circuit_cnf.specs.Checking.{AreInputs, IsChecker}
-use Rattle.circuit_cnf.specs.Gates.{AreKnown, AreBadsStill}
+use Rattle.circuit_cnf.specs.Gates.{AreKnown, AreBadsStill, GrewByGates}
 use Rattle.circuit_cnf.specs.Leaves.{HasLeaf, AreClosed, HaveLeaves, leaf_by}
 use Rattle.circuit_cnf.specs.Turning.{AreLeavesOf}
 use Rattle.circuit_cnf.proofs.Knowing.{some_stays}
 use Rattle.circuit_cnf.proofs.Naming.{named_as_stays}
-use Rattle.circuit_cnf.proofs.Parting.{GrewByGates}
 use Rattle.circuit_cnf.proofs.SideLeaves.{side_has_leaf}
 
 pub few_same : (group : ℕ) (old new : ProofLog) → GrewByGates group old new → fault_groups new.entries ≡ fault_groups old.entries → length (fault_groups old.entries) ≤ rounds_of old.entries →

@@ -1,24 +1,18 @@
 -- The clauses of a gate, one after the other.
-use Rattle.std.proofs.Common.{◌≡◌, ℕ, ◌+◌, ◌≤◌, ◌<◌, true, List, ◌∷◌, length, Some, refl, sym, subst, arith}
+use Rattle.std.proofs.Common.{◌≡◌, ℕ, ◌+◌, ◌≤◌, ◌<◌, true, ◌∷◌, length, Some, refl, sym, subst, arith}
 use Rattle.dq_lits.specs.Literal.{negative, variable_of}
-use Rattle.dq_lits.specs.Formula.{Dqbf}
 use Rattle.hint_log.specs.Entries.{Entry}
 use Rattle.hint_log.specs.Entries.{Given}
 use Rattle.hint_log.specs.declared.origins.Origin.TheVariants.{Gate}
 use Rattle.hint_log.specs.Entries.{ProofLog, with_entry, name_of, rounds_of}
-use Rattle.hint_log.specs.Growth.{Grew}
 use Rattle.hint_log.specs.ProductiveLog.{fault_groups}
 use Rattle.log_laws.specs.Engines.{circuits, IsAddedBy}
 use Rattle.log_laws.proofs.Growing.{grown_by, grown_by_none, grown_then}
 use Rattle.circuit_cnf.specs.declared.gates.Gates.{Gates}
 use Rattle.circuit_cnf.specs.declared.gates.Unfinished.{Unfinished}
-use Rattle.circuit_cnf.specs.Gates.{IsUnfinished, AreKnown, IsPartGiven}
+use Rattle.circuit_cnf.specs.Gates.{IsUnfinished, AreKnown, IsPartGiven, GrewByGates}
 use Rattle.circuit_cnf.proofs.Giving.{IsReady, gate_added}
 use Rattle.circuit_cnf.proofs.Knowing.{part_more}
-
--- how a log grows by gates
-abbrev pub GrewByGates : ℕ → ProofLog → ProofLog → Type 0
-GrewByGates group old new = (h : Dqbf) (start : List Entry) → Grew (IsAddedBy h circuits group true start) old new
 
 -- the first parts stand in the log, and that is noted
 pub record PartsSoFar (first : Gates) (old : ProofLog) (gate : Unfinished) (gates : Gates) (log : ProofLog) (parts : ℕ) : Type 0 where

@@ -17,8 +17,7 @@ use Rattle.oracle.specs.Searched.{IsGivenToGroup}
 use Rattle.oracle.specs.declared.groups.Group.{Group}
 use Rattle.circuit_cnf.specs.declared.checkers.Checker.{Checker}
 use Rattle.circuit_cnf.specs.Checking.{group_of, IsChecker}
-use Rattle.circuit_cnf.specs.Faults.{HaveOneLeaf, AreFewWith, NamesBadsAlone}
-use Rattle.circuit_cnf.proofs.GroupFaults.{GrewByGroup}
+use Rattle.circuit_cnf.specs.Faults.{HaveOneLeaf, AreFewWith, NamesBadsAlone, GrewByGroup}
 use Rattle.circuit_cnf.proofs.Grouping.{IsUnused, group_is_unused, not_given_there, each_weaker}
 use Rattle.circuit_cnf.proofs.Holding.{AreTwoGroups}
 use Rattle.circuit_cnf.proofs.Leaving.{checker_stays, leaves_elsewhere, group_leaves, added_stay, learned_leaves, leaves_then}

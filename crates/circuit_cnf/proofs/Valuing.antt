@@ -11,7 +11,7 @@ use Rattle.aig_graph.specs.declared.nodes.Node.TheVariants.{Constant, Input, Gat
 use Rattle.aig_graph.specs.declared.nodes.Sides.{Sides}
 use Rattle.aig_graph.specs.Graph.{AigGraph, with_sign, value_by, gate_value, node_value}
 use Rattle.aig_graph.specs.Outputs.{output_node, outputs_of}
-use Rattle.circuit_cnf.specs.Failing.{IsFalseClause, IsFailure}
+use Rattle.circuit_cnf.specs.Failing.{FailuresRefuteRows, IsFalseClause, IsFailure}
 use Rattle.circuit_cnf.proofs.Placing.{assigned_at, bit_past, found_at, nowhere}
 
 -- the first place at which a test passes
@@ -162,4 +162,14 @@ failure_is f graph nodes row values j lawful count long are false_there = record
   clause = false_there.0;
   clause_is = false_there.1;
   is_false = false_there.2;
+}
+
+pub failures_refute_rows : FailuresRefuteRows
+failures_refute_rows f graph nodes entries row values j failure untried = record {
+  row_length = failure.row_length;
+  values_length = ap length failure.values_are ∙ mapped_long (λ y. (outputs_of f graph nodes y).value (row_assignment f row)) f.existentials;
+  untried = untried;
+  clause = failure.clause;
+  clause_is = failure.clause_is;
+  is_false = failure.is_false;
 }

@@ -1,12 +1,16 @@
 -- What a turn answers where a clause fails, and which answers decide nothing.
 use Rattle.std.specs.Prelude.{◌≡◌, ◌<◌, ℕ, Bool, true, false, List, [], map, length, Some, Result, Ok, slice_index_or}
+use Rattle.std.specs.List.{Contains}
 use Rattle.dq_lits.specs.Literal.{Literal, clause_true}
 use Rattle.dq_lits.specs.Formula.{Dqbf}
 use Rattle.dq_lits.specs.Expansion.{row_assignment}
 use Rattle.aig_graph.specs.declared.nodes.Node.{Node}
 use Rattle.aig_graph.specs.Graph.{AigGraph}
 use Rattle.aig_graph.specs.Outputs.{outputs_of}
-use Rattle.hint_log.specs.Naming.{numbered_from_one, round_assignment}
+use Rattle.hint_log.specs.Entries.{Entry}
+use Rattle.hint_log.specs.Entries.{Round}
+use Rattle.hint_log.specs.Naming.{numbered_from_one, round_assignment, rows_of}
+use Rattle.hint_log.specs.ProductiveLog.{RefutesNewRow}
 use Rattle.hint_log.specs.declared.stops.Stop.{Stop}
 use Rattle.circuit_cnf.specs.declared.turns.Turn.{Turn}
 use Rattle.circuit_cnf.specs.declared.turns.Turn.TheVariants.{Holds, Fails}
@@ -34,3 +38,8 @@ is_silent _ = true
 abbrev pub IsFailing : Dqbf → AigGraph → List Node → Turn → Type 0
 IsFailing f graph nodes (Fails row values j) = IsFailure f graph nodes row values j
 IsFailing f graph nodes (Holds id) = ⊥
+
+-- a failure at a row that wasn't tried is what a productive log's round is: point 4
+abbrev pub FailuresRefuteRows : Type 0
+FailuresRefuteRows = (f : Dqbf) (graph : AigGraph) (nodes : List Node) (entries : List Entry) (row values : List Bool) (j : ℕ) → IsFailure f graph nodes row values j
+    → (Contains (rows_of entries) row → ⊥) → RefutesNewRow f entries (Round row values j)

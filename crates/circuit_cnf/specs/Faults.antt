@@ -1,6 +1,6 @@
 -- Faults that are given to a group.
-use Rattle.std.specs.Prelude.{◌≡◌, ◌⊎◌, ◌+◌, ◌≤◌, ◌<◌, ◌==◌, ℕ, false, not, List, [], ◌∷◌, map, length, Option, Some, None, position, slice_get, slice_index_or}
-use Rattle.std.specs.List.{Contains}
+use Rattle.std.specs.Prelude.{◌≡◌, ◌⊎◌, ◌+◌, ◌≤◌, ◌<◌, ◌==◌, ℕ, true, false, not, List, [], ◌∷◌, map, length, Option, Some, None, position, slice_get, slice_index_or}
+use Rattle.std.specs.List.{Contains, range_with_len}
 use Rattle.std.specs.Option.{option_map}
 use Rattle.dq_lits.specs.Literal.{Literal, positive, negative, variable_of, is_negative}
 use Rattle.dq_lits.specs.Formula.{Dqbf}
@@ -12,9 +12,12 @@ use Rattle.hint_log.specs.declared.origins.Origin.TheVariants.{Fault}
 use Rattle.hint_log.specs.declared.names.Name.{Name}
 use Rattle.hint_log.specs.declared.names.Name.TheVariants.{Bad}
 use Rattle.hint_log.specs.declared.origins.Origin.{Origin}
-use Rattle.hint_log.specs.Entries.{name_of, rounds_of}
+use Rattle.hint_log.specs.Entries.{ProofLog, name_of, rounds_of}
+use Rattle.hint_log.specs.Growth.{Grew}
+use Rattle.hint_log.specs.Naming.{named_literal, AreNamedAs}
 use Rattle.hint_log.specs.ProductiveLog.{fault_groups}
 use Rattle.hint_log.specs.Origins.{leaf_with_sign, leaf_clause, matrix_literal}
+use Rattle.log_laws.specs.Engines.{circuits, IsAddedBy}
 
 -- the faults in the group have these leaves
 abbrev pub HaveOneLeaf : Dqbf → ℕ → (ℕ → Leaf) → List Entry → Type 0
@@ -54,6 +57,14 @@ pub record IsBadAt (group j : ℕ) (bads : List Literal) (entries : List Entry) 
 abbrev pub HaveAllFaults : Dqbf → ℕ → List Literal → (ℕ → Leaf) → ℕ → List Entry → Type 0
 HaveAllFaults f group bads leaf count entries = (j : ℕ) → j < count
     → HaveFaults f group (variable_of (slice_index_or bads j (positive 0))) (j + 1) leaf (slice_index_or f.matrix j []) (length (slice_index_or f.matrix j [])) entries
+
+-- how a log grows by a group's clauses: whatever stood before the group, they go into a group that was made since
+abbrev pub GrewByGroup : Dqbf → ℕ → ProofLog → ProofLog → Type 0
+GrewByGroup f group old new = (standing : ℕ) (start : List Entry) → name_of start group ≡ None → Grew (IsAddedBy f circuits standing true start) old new
+
+-- each clause's variable, by its number, is named for it in the group
+abbrev pub AreBads : Dqbf → ℕ → List Literal → List Entry → Type 0
+AreBads f group bads entries = AreNamedAs entries bads (map (λ j. named_literal (Bad group j) false) (range_with_len 1 (length f.matrix)))
 
 -- names that are added say of the group's clauses alone that they are false
 abbrev pub NamesBadsAlone : ℕ → List Entry → List Entry → Type 0

@@ -1,5 +1,5 @@
 -- How the gates of the checked circuits stand in the log.
-use Rattle.std.specs.Prelude.{◌≡◌, ◌⊎◌, ◌≤◌, ◌<◌, ℕ, ◌+◌, ◌*◌, List, ◌∷◌, Option, None, Some, IsSome}
+use Rattle.std.specs.Prelude.{◌≡◌, ◌⊎◌, ◌≤◌, ◌<◌, ℕ, ◌+◌, ◌*◌, true, List, ◌∷◌, Option, None, Some, IsSome}
 use Rattle.std.specs.List.{Contains}
 use Rattle.std.specs.BTreeMap.{get}
 use Rattle.std.specs.declared.cmp.Ordering.{Ordering}
@@ -12,9 +12,9 @@ use Rattle.hint_log.specs.declared.names.Name.TheVariants.{And, Bad}
 use Rattle.hint_log.specs.declared.origins.Origin.{Origin}
 use Rattle.hint_log.specs.declared.origins.Origin.TheVariants.{Gate}
 use Rattle.hint_log.specs.Entries.{ProofLog, with_entry, name_of}
-use Rattle.hint_log.specs.Growth.{Each}
+use Rattle.hint_log.specs.Growth.{Each, Grew}
 use Rattle.hint_log.specs.Origins.{gate_rest, IsOriginsClause}
-use Rattle.log_laws.specs.Engines.{IsInGroup}
+use Rattle.log_laws.specs.Engines.{circuits, IsInGroup, IsAddedBy}
 use Rattle.oracle.specs.Calls.{IsMade}
 use Rattle.circuit_cnf.specs.declared.gates.Gates.{Gates}
 use Rattle.circuit_cnf.specs.declared.gates.Unfinished.{Unfinished}
@@ -74,3 +74,7 @@ pub record IsPartGiven (old new : ProofLog) (group part : ℕ) (gate : Unfinishe
 -- no variable more says that a clause is false
 abbrev pub AreBadsStill : List Entry → List Entry → Type 0
 AreBadsStill old new = (v group j : ℕ) → name_of new v ≡ Some (Bad group j) → name_of old v ≡ Some (Bad group j)
+
+-- how a log grows by the gates' group, whatever the formula is and whatever stood before
+abbrev pub GrewByGates : ℕ → ProofLog → ProofLog → Type 0
+GrewByGates group old new = (f : Dqbf) (start : List Entry) → Grew (IsAddedBy f circuits group true start) old new

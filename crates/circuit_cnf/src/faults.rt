@@ -1,5 +1,4 @@
-ghost use Rattle.std.specs.Prelude.{◌≡◌, ◌≤◌, ◌<◌, ◌+◌, ◌∷◌, ◌⊎◌, ℕ, true, false, List, length, map, Contains, All, slice_index_or, [], IfOk, OnOk, OnErr, Some, None};
-ghost use Rattle.std.specs.List.{range_with_len};
+ghost use Rattle.std.specs.Prelude.{◌≡◌, ◌≤◌, ◌<◌, ◌+◌, ◌∷◌, ◌⊎◌, ℕ, true, false, List, length, Contains, All, slice_index_or, [], IfOk, OnOk, OnErr, Some, None};
 ghost use Rattle.dq_lits.specs.Formula.{Dqbf, declared};
 ghost use Rattle.std.specs.Option.{option_map};
 ghost use Rattle.dq_lits.specs.Literal.{Literal, negative, is_negative, variable_of};
@@ -10,12 +9,11 @@ ghost use Rattle.hint_log.specs.declared.origins.Leaf.{Leaf as OriginLeaf};
 ghost use Rattle.hint_log.specs.declared.origins.Origin.TheVariants.{Fault};
 ghost use Rattle.hint_log.specs.Entries.{name_of, rounds_of, with_entry};
 ghost use Rattle.hint_log.specs.Growth.{Grew};
-ghost use Rattle.hint_log.specs.Naming.{named_literal, AreNamedAs};
 ghost use Rattle.hint_log.specs.Origins.{leaf_with_sign, matrix_literal, IsLeafOf};
 ghost use Rattle.hint_log.specs.ProductiveLog.{fault_groups};
 ghost use Rattle.log_laws.specs.Engines.{circuits, IsAddedBy};
 ghost use Rattle.oracle.specs.Calls.{IsMade};
-ghost use Rattle.circuit_cnf.specs.Faults.{HasFault, HaveFaults, HaveOneLeaf, AreFewWith, leaf_of, IsBadAt, HaveAllFaults, IsNamingBads, NamesBadsAlone, AreGiven};
+ghost use Rattle.circuit_cnf.specs.Faults.{HasFault, HaveFaults, HaveOneLeaf, AreFewWith, leaf_of, IsBadAt, HaveAllFaults, IsNamingBads, NamesBadsAlone, AreGiven, GrewByGroup, AreBads};
 
 use dq_formula::Formula;
 use dq_lits::{Lit, Memory};
@@ -43,7 +41,7 @@ pub(crate) fn give_faults<O: Oracle>(
     requires few { AreFewWith (variable_of group.now.selector) log.old.entries }
     requires one_leaf { HaveOneLeaf f.now (variable_of group.now.selector) (leaf_of f.now inputs.now outputs.now) log.old.entries }
     ensures fit { O.Fits oracle.new log.new }
-    ensures grew { (standing : ℕ) (start : List Entry) → name_of start (variable_of group.now.selector) ≡ None → Grew (IsAddedBy f.now circuits standing true start) log.old log.new }
+    ensures grew { GrewByGroup f.now (variable_of group.now.selector) log.old log.new }
     ensures names { NamesBadsAlone (variable_of group.now.selector) log.old.entries log.new.entries }
     ensures few { AreFewWith (variable_of group.now.selector) log.new.entries }
     ensures one_leaf { HaveOneLeaf f.now (variable_of group.now.selector) (leaf_of f.now inputs.now outputs.now) log.new.entries }
@@ -69,11 +67,11 @@ fn say_faults<O: Oracle>(
     requires output_count { length outputs.now ≡ length f.now.existentials }
     requires leaves { (v : ℕ) → Contains (declared f.now) v → IsLeafOf f.now log.old.entries v (leaf_of f.now inputs.now outputs.now v) }
     requires bound { All (All (λ l. Contains (declared f.now) (variable_of l))) f.now.matrix }
-    requires bads { AreNamedAs log.old.entries bads.now (map (λ j. named_literal (Bad (variable_of group.now.selector) j) false) (range_with_len 1 (length f.now.matrix))) }
+    requires bads { AreBads f.now (variable_of group.now.selector) bads.now log.old.entries }
     requires few { AreFewWith (variable_of group.now.selector) log.old.entries }
     requires one_leaf { HaveOneLeaf f.now (variable_of group.now.selector) (leaf_of f.now inputs.now outputs.now) log.old.entries }
     ensures fit { O.Fits oracle.new log.new }
-    ensures grew { (standing : ℕ) (start : List Entry) → name_of start (variable_of group.now.selector) ≡ None → Grew (IsAddedBy f.now circuits standing true start) log.old log.new }
+    ensures grew { GrewByGroup f.now (variable_of group.now.selector) log.old log.new }
     ensures names { (v : ℕ) → name_of log.new.entries v ≡ name_of log.old.entries v }
     ensures few { AreFewWith (variable_of group.now.selector) log.new.entries }
     ensures one_leaf { HaveOneLeaf f.now (variable_of group.now.selector) (leaf_of f.now inputs.now outputs.now) log.new.entries }
@@ -98,8 +96,7 @@ pub(crate) fn name_bads<O: Oracle>(
     ensures grew { (h : Dqbf) (standing : ℕ) (start : List Entry) → Grew (IsAddedBy h circuits standing true start) log.old log.new }
     ensures faults { fault_groups log.new.entries ≡ fault_groups log.old.entries }
     ensures alone { IsNamingBads (variable_of group.now.selector) log.old.entries log.new.entries }
-    ensures named { IfOk result (λ bads. AreNamedAs log.new.entries bads.items
-        (map (λ j. named_literal (Bad (variable_of group.now.selector) j) false) (range_with_len 1 (length f.now.matrix)))) }
+    ensures named { IfOk result (λ bads. AreBads f.now (variable_of group.now.selector) bads.items log.new.entries) }
 {
     let mut bads = Vec::new(alloc);
     for j in 0..f.clauses() {
@@ -136,7 +133,7 @@ pub(crate) fn give_fault<O: Oracle>(
     requires one_leaf { (j i v : ℕ) (out : OriginLeaf) (rest : List Literal) → Contains log.old.entries (Given (Fault j i out) (negative (variable_of group.now.selector) ∷ rest))
         → option_map variable_of (matrix_literal f.now j i) ≡ Some v → v ≡ variable_of literal → out ≡ output.now }
     ensures fit { O.Fits oracle.new log.new }
-    ensures grew { (standing : ℕ) (start : List Entry) → name_of start (variable_of group.now.selector) ≡ None → Grew (IsAddedBy f.now circuits standing true start) log.old log.new }
+    ensures grew { GrewByGroup f.now (variable_of group.now.selector) log.old log.new }
     ensures given { OnOk result (HasFault (variable_of group.now.selector) (variable_of bad) clause place literal output.now log.new.entries) }
     ensures at_most { (log.new ≡ log.old) ⊎ ((rest : List Literal) × (log.new ≡ with_entry log.old (Given (Fault clause place output.now) (negative (variable_of group.now.selector) ∷ rest)))) }
 {
@@ -195,7 +192,7 @@ pub(crate) fn clause_faults<O: Oracle>(
     requires few { AreFewWith (variable_of group.now.selector) log.old.entries }
     requires one_leaf { HaveOneLeaf f.now (variable_of group.now.selector) (leaf_of f.now inputs.now outputs.now) log.old.entries }
     ensures fit { O.Fits oracle.new log.new }
-    ensures grew { (standing : ℕ) (start : List Entry) → name_of start (variable_of group.now.selector) ≡ None → Grew (IsAddedBy f.now circuits standing true start) log.old log.new }
+    ensures grew { GrewByGroup f.now (variable_of group.now.selector) log.old log.new }
     ensures names { (v : ℕ) → name_of log.new.entries v ≡ name_of log.old.entries v }
     ensures few { AreFewWith (variable_of group.now.selector) log.new.entries }
     ensures one_leaf { HaveOneLeaf f.now (variable_of group.now.selector) (leaf_of f.now inputs.now outputs.now) log.new.entries }
@@ -255,7 +252,7 @@ pub(crate) fn all_faults<O: Oracle>(
     requires few { AreFewWith (variable_of group.now.selector) log.old.entries }
     requires one_leaf { HaveOneLeaf f.now (variable_of group.now.selector) (leaf_of f.now inputs.now outputs.now) log.old.entries }
     ensures fit { O.Fits oracle.new log.new }
-    ensures grew { (standing : ℕ) (start : List Entry) → name_of start (variable_of group.now.selector) ≡ None → Grew (IsAddedBy f.now circuits standing true start) log.old log.new }
+    ensures grew { GrewByGroup f.now (variable_of group.now.selector) log.old log.new }
     ensures names { (v : ℕ) → name_of log.new.entries v ≡ name_of log.old.entries v }
     ensures few { AreFewWith (variable_of group.now.selector) log.new.entries }
     ensures one_leaf { HaveOneLeaf f.now (variable_of group.now.selector) (leaf_of f.now inputs.now outputs.now) log.new.entries }
@@ -277,10 +274,10 @@ pub(crate) fn some_fault<O: Oracle>(
 ) -> Result<(), Memory>
     requires fit { O.Fits oracle.old log.old }
     requires made { IsMade log.old.entries group.now }
-    requires bads { AreNamedAs log.old.entries bads.now (map (λ j. named_literal (Bad (variable_of group.now.selector) j) false) (range_with_len 1 (length f.now.matrix))) }
+    requires bads { AreBads f.now (variable_of group.now.selector) bads.now log.old.entries }
     requires few { AreFewWith (variable_of group.now.selector) log.old.entries }
     ensures fit { O.Fits oracle.new log.new }
-    ensures grew { (standing : ℕ) (start : List Entry) → name_of start (variable_of group.now.selector) ≡ None → Grew (IsAddedBy f.now circuits standing true start) log.old log.new }
+    ensures grew { GrewByGroup f.now (variable_of group.now.selector) log.old log.new }
     ensures ok { OnOk result (log.new ≡ with_entry log.old (Given (Fault 0 0 (OriginLeaf.Constant false)) (negative (variable_of group.now.selector) ∷ bads.now))) }
     ensures err { OnErr result (log.new ≡ log.old) }
 {

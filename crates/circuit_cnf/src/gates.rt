@@ -1,17 +1,12 @@
-ghost use Rattle.std.specs.Prelude.{◌≡◌, ◌≤◌, ◌<◌, ◌+◌, ◌^◌, ℕ, true, List, length, Contains, OnOk, OnErr, IfOk, Some, None};
-ghost use Rattle.dq_lits.specs.Literal.{Literal, variable_of};
-ghost use Rattle.dq_lits.specs.Formula.{Dqbf};
-ghost use Rattle.hint_log.specs.Entries.{Entry};
-ghost use Rattle.hint_log.specs.Entries.{Given};
+ghost use Rattle.std.specs.Prelude.{◌≡◌, ◌≤◌, ◌<◌, ◌+◌, ◌^◌, ℕ, length, OnOk, OnErr, IfOk, Some, None};
+ghost use Rattle.dq_lits.specs.Literal.{variable_of};
 ghost use Rattle.hint_log.specs.declared.names.Name.TheVariants.{And};
 ghost use Rattle.hint_log.specs.declared.origins.Origin.TheVariants.{Gate};
 ghost use Rattle.hint_log.specs.Conditions.{HasSides};
 ghost use Rattle.hint_log.specs.Entries.{name_of, rounds_of};
-ghost use Rattle.hint_log.specs.Growth.{Grew};
 ghost use Rattle.hint_log.specs.ProductiveLog.{fault_groups};
-ghost use Rattle.log_laws.specs.Engines.{circuits, IsAddedBy};
 ghost use Rattle.oracle.specs.Calls.{IsMade};
-ghost use Rattle.circuit_cnf.specs.Gates.{literal_code, AreKnown, AreBadsStill, IsPartGiven};
+ghost use Rattle.circuit_cnf.specs.Gates.{literal_code, AreKnown, AreBadsStill, IsPartGiven, GrewByGates};
 
 use dq_lits::{Lit, Memory};
 use hint_log::{Log, Name, Origin};
@@ -51,7 +46,7 @@ impl Gates {
         requires sides { HasSides log.old.entries (And a b) }
         requires few { length (fault_groups log.old.entries) ≤ rounds_of log.old.entries + 1 }
         ensures fit { O.Fits oracle.new log.new }
-        ensures grew { (f : Dqbf) (old : List Entry) → Grew (IsAddedBy f circuits (variable_of self.old.group.selector) true old) log.old log.new }
+        ensures grew { GrewByGates (variable_of self.old.group.selector) log.old log.new }
         ensures group { self.new.group ≡ self.old.group }
         ensures faults { fault_groups log.new.entries ≡ fault_groups log.old.entries }
         ensures bads { AreBadsStill log.old.entries log.new.entries }
@@ -81,7 +76,7 @@ impl Gates {
         requires known { AreKnown self.old log.old.entries }
         requires few { length (fault_groups log.old.entries) ≤ rounds_of log.old.entries + 1 }
         ensures fit { O.Fits oracle.new log.new }
-        ensures grew { (f : Dqbf) (old : List Entry) → Grew (IsAddedBy f circuits (variable_of self.old.group.selector) true old) log.old log.new }
+        ensures grew { GrewByGates (variable_of self.old.group.selector) log.old log.new }
         ensures group { self.new.group ≡ self.old.group }
         ensures names { (v : ℕ) → name_of log.new.entries v ≡ name_of log.old.entries v }
         ensures faults { fault_groups log.new.entries ≡ fault_groups log.old.entries }
@@ -105,7 +100,7 @@ impl Gates {
         requires last { self.old.unfinished ≡ Some gate.now }
         requires few { length (fault_groups log.old.entries) ≤ rounds_of log.old.entries + 1 }
         ensures fit { O.Fits oracle.new log.new }
-        ensures grew { (f : Dqbf) (old : List Entry) → Grew (IsAddedBy f circuits (variable_of self.old.group.selector) true old) log.old log.new }
+        ensures grew { GrewByGates (variable_of self.old.group.selector) log.old log.new }
         ensures group { self.new.group ≡ self.old.group }
         ensures names { (v : ℕ) → name_of log.new.entries v ≡ name_of log.old.entries v }
         ensures faults { fault_groups log.new.entries ≡ fault_groups log.old.entries }
@@ -131,7 +126,7 @@ impl Gates {
         requires last { self.old.unfinished ≡ Some gate.now }
         requires few { length (fault_groups log.old.entries) ≤ rounds_of log.old.entries + 1 }
         ensures fit { O.Fits oracle.new log.new }
-        ensures grew { (f : Dqbf) (old : List Entry) → Grew (IsAddedBy f circuits (variable_of self.old.group.selector) true old) log.old log.new }
+        ensures grew { GrewByGates (variable_of self.old.group.selector) log.old log.new }
         ensures group { self.new.group ≡ self.old.group }
         ensures names { (v : ℕ) → name_of log.new.entries v ≡ name_of log.old.entries v }
         ensures faults { fault_groups log.new.entries ≡ fault_groups log.old.entries }

@@ -1,6 +1,7 @@
 //! What a log's leaves and answers say of a graph's nodes. Each law is the contract of a function without parameters.
 
 ghost use Rattle.circuit_cnf.specs.Checking.{CheckersStay, CheckersStayWithRounds};
+ghost use Rattle.circuit_cnf.specs.Failing.{FailuresRefuteRows};
 ghost use Rattle.circuit_cnf.specs.Leaves.{LeavesHaveNodesValues, LeavesReadNodesCones};
 ghost use Rattle.circuit_cnf.specs.Shown.{ShownOutputsHold, ShownOutputsDecide};
 
@@ -39,4 +40,9 @@ pub fn checkers_stay()
 /// So does a round.
 pub fn checkers_stay_with_rounds()
     ensures { CheckersStayWithRounds }
+{}
+
+/// A turn's failure at a row that wasn't tried may be logged as a round.
+pub fn failures_refute_rows()
+    ensures { FailuresRefuteRows }
 {}

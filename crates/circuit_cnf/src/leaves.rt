@@ -1,17 +1,13 @@
-ghost use Rattle.std.specs.Prelude.{◌≡◌, ◌≤◌, ◌<◌, ◌+◌, false, true, List, length, map, All, OnOk, IfOk, None};
-ghost use Rattle.dq_lits.specs.Formula.{Dqbf};
+ghost use Rattle.std.specs.Prelude.{◌≡◌, ◌≤◌, ◌<◌, ◌+◌, false, true, length, map, All, OnOk, IfOk, None};
 ghost use Rattle.dq_lits.specs.Literal.{variable_of};
 ghost use Rattle.dq_lits.specs.Row.{bit_of};
-ghost use Rattle.hint_log.specs.Entries.{Entry};
 ghost use Rattle.hint_log.specs.declared.origins.Leaf.TheVariants.{Literal as LeafLiteral};
 ghost use Rattle.hint_log.specs.Entries.{rounds_of};
-ghost use Rattle.hint_log.specs.Growth.{Grew};
 ghost use Rattle.hint_log.specs.Origins.{leaf_with_sign};
 ghost use Rattle.hint_log.specs.ProductiveLog.{fault_groups};
-ghost use Rattle.log_laws.specs.Engines.{circuits, IsAddedBy};
 ghost use Rattle.aig_graph.specs.Graph.{IsEarlierNode, size_of};
 ghost use Rattle.circuit_cnf.specs.Checking.{AreInputs};
-ghost use Rattle.circuit_cnf.specs.Gates.{AreKnown, AreBadsStill};
+ghost use Rattle.circuit_cnf.specs.Gates.{AreKnown, AreBadsStill, GrewByGates};
 ghost use Rattle.circuit_cnf.specs.Leaves.{HasLeaf, HaveLeaves, AreClosed, IsInnerNode, leaf_by};
 
 use crate::gates::Gates;
@@ -44,7 +40,7 @@ pub(crate) fn cone_literals<O: Oracle>(
     requires a_place_a_node { length marks.now ≡ size_of graph.now }
     requires closed { AreClosed graph.now marks.now }
     ensures fit { O.Fits oracle.new log.new }
-    ensures grew { (h : Dqbf) (old : List Entry) → Grew (IsAddedBy h circuits (variable_of gates.old.group.selector) true old) log.old log.new }
+    ensures grew { GrewByGates (variable_of gates.old.group.selector) log.old log.new }
     ensures group { gates.new.group ≡ gates.old.group }
     ensures faults { fault_groups log.new.entries ≡ fault_groups log.old.entries }
     ensures bads { AreBadsStill log.old.entries log.new.entries }
@@ -86,7 +82,7 @@ fn next_literal<O: Oracle>(
     requires leaves { HaveLeaves f.now graph.now marks.now literals.now log.old.entries }
     requires gate { length literals.now < length graph.now.gates }
     ensures fit { O.Fits oracle.new log.new }
-    ensures grew { (h : Dqbf) (old : List Entry) → Grew (IsAddedBy h circuits (variable_of gates.old.group.selector) true old) log.old log.new }
+    ensures grew { GrewByGates (variable_of gates.old.group.selector) log.old log.new }
     ensures group { gates.new.group ≡ gates.old.group }
     ensures faults { fault_groups log.new.entries ≡ fault_groups log.old.entries }
     ensures bads { AreBadsStill log.old.entries log.new.entries }
@@ -123,7 +119,7 @@ pub(crate) fn gate_literal<O: Oracle>(
     requires gate { length literals.now < length graph.now.gates }
     requires marked { bit_of marks.now (graph.now.inputs + length literals.now) ≡ true }
     ensures fit { O.Fits oracle.new log.new }
-    ensures grew { (h : Dqbf) (old : List Entry) → Grew (IsAddedBy h circuits (variable_of gates.old.group.selector) true old) log.old log.new }
+    ensures grew { GrewByGates (variable_of gates.old.group.selector) log.old log.new }
     ensures group { gates.new.group ≡ gates.old.group }
     ensures faults { fault_groups log.new.entries ≡ fault_groups log.old.entries }
     ensures bads { AreBadsStill log.old.entries log.new.entries }

@@ -1,11 +1,9 @@
-ghost use Rattle.std.specs.Prelude.{◌≡◌, ◌≤◌, ◌<◌, ◌+◌, ℕ, Bool, true, false, List, length, map, Contains, All, OnOk, IfOk, IfSome, IsErrOf, Ok, Some, None, slice_index_or, []};
-ghost use Rattle.dq_lits.specs.Formula.{Dqbf, IsWellFormed, declared};
-ghost use Rattle.dq_lits.specs.Literal.{variable_of, clause_true};
+ghost use Rattle.std.specs.Prelude.{◌≡◌, ◌≤◌, ◌<◌, ◌+◌, ℕ, Bool, true, false, List, length, map, Contains, All, OnOk, IfOk, IsErrOf, Ok, Some, None, []};
+ghost use Rattle.dq_lits.specs.Formula.{IsWellFormed, declared};
+ghost use Rattle.dq_lits.specs.Literal.{variable_of};
 ghost use Rattle.dq_lits.specs.Row.{bit_of};
-ghost use Rattle.hint_log.specs.Entries.{Entry};
 ghost use Rattle.hint_log.specs.Entries.{rounds_of, steps_of};
 ghost use Rattle.hint_log.specs.Growth.{Grew};
-ghost use Rattle.hint_log.specs.Naming.{round_assignment};
 ghost use Rattle.hint_log.specs.Origins.{IsLeafOf};
 ghost use Rattle.hint_log.specs.ProductiveLog.{fault_groups};
 ghost use Rattle.log_laws.specs.Engines.{circuits, IsAddedBy};
@@ -14,6 +12,7 @@ ghost use Rattle.aig_graph.specs.Outputs.{outputs_of};
 ghost use Rattle.circuit_cnf.specs.Checking.{group_of, IsChecker};
 ghost use Rattle.circuit_cnf.specs.Failing.{IsFailure, HasFalseClause, IsFailing, is_silent};
 ghost use Rattle.circuit_cnf.specs.Faults.{leaf_of};
+ghost use Rattle.circuit_cnf.specs.Gates.{GrewByGates};
 ghost use Rattle.circuit_cnf.specs.Shown.{HoldEverywhere, IsShownBy};
 ghost use Rattle.circuit_cnf.specs.Turning.{AreLeavesOf, IsHeldBy, AreFailing, is_silent_search};
 
@@ -91,7 +90,7 @@ impl Checker {
         ensures fit { O.Fits oracle.new log.new }
         ensures checker { IsChecker f.now self.new log.new.entries }
         ensures group { group_of self.new ≡ group_of self.old }
-        ensures grew { (h : Dqbf) (old : List Entry) → Grew (IsAddedBy h circuits (group_of self.old) true old) log.old log.new }
+        ensures grew { GrewByGates (group_of self.old) log.old log.new }
         ensures faults { fault_groups log.new.entries ≡ fault_groups log.old.entries }
         ensures inputs { self.new.inputs ≡ self.old.inputs }
         ensures ready { OnOk result (self.new.gates.unfinished ≡ None) }
