@@ -8,7 +8,8 @@ ghost use Rattle.cert_text.specs.CircuitProof.{circuit_proof_of};
 ghost use Rattle.cert_text.specs.Grammar.{IsDqrOf};
 ghost use Rattle.cert_text.specs.ProofGrammar.{IsDqpOf};
 ghost use Rattle.cert_text.specs.Scan.{refutation_of};
-ghost use Rattle.cert_text.specs.Canonical.{number_text, signed_text, literal_text, header_text, proof_header_text, row_text, step_text, canonical, canonical_proof};
+ghost use Rattle.dq_text.specs.Written.{number_text};
+ghost use Rattle.cert_text.specs.Canonical.{signed_text, literal_text, header_text, proof_header_text, row_text, step_text, canonical, canonical_proof};
 
 use crate::circuit_proofs::Dqp;
 use crate::refutations::Dqr;

@@ -3,7 +3,8 @@
 ghost use Rattle.std.specs.Prelude.{◌≡◌, ◌++◌, Some, IfOk, OnOk, IsSome};
 ghost use Rattle.std.specs.List.{flat_map};
 ghost use Rattle.dq_lits.specs.Formula.{Existential, existential_of};
-ghost use Rattle.dqdimacs_reader.specs.Canonical.{canonical, number_text, literal_text, header_text, numbers_line, existential_line, universals_text, existential_text, clause_text};
+ghost use Rattle.dq_text.specs.Written.{number_text};
+ghost use Rattle.dqdimacs_reader.specs.Canonical.{canonical, literal_text, header_text, numbers_line, existential_line, universals_text, existential_text, clause_text};
 
 use dq_formula::{Deps, Formula};
 use dq_lits::{Lit, Memory};
