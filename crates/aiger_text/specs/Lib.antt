@@ -5,6 +5,7 @@ pub mod LineStop
 pub mod Lines
 pub mod ReaderState
 pub mod Scan
+pub mod Spellable
 pub mod Steps
 pub mod Symbol
 pub mod SymbolEntry

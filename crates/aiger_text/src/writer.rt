@@ -1,23 +1,27 @@
 //! Writing circuit files.
 
-ghost use Rattle.std.specs.Prelude.{◌≡◌, ◌++◌, IfOk, OnOk};
+ghost use Rattle.std.specs.Prelude.{◌≡◌, ◌++◌, ℕ, Ok, IfOk, OnOk};
 ghost use Rattle.std.specs.List.{flat_map};
-ghost use Rattle.dq_text.specs.Written.{number_text};
 ghost use Rattle.aiger_text.specs.Canonical.{number_line, header_text, input_text, gate_text, symbol_text, comment_text, netlist_text, canonical_circuit};
+ghost use Rattle.aiger_text.specs.Scan.{scan};
+ghost use Rattle.aiger_text.specs.Spellable.{IsSpellable};
 
 use crate::files::{AagFile, Text};
+use crate::laws::canonical_text_spells;
 use circuit_plain::Circuit;
 use dq_lits::Memory;
-use dq_text::push_natural;
+use dq_text::{push_natural, push_spaced};
 use indexmap::IndexMap;
 use std::alloc::Global;
 
 /// The canonical text of a circuit file: the header `aag M I 0 O A`; a line for each input, output and gate; a line for each
 /// symbol of an input and then of an output, in the order in which the file has them; and, where there is a comment, the
-/// line `c` and the comment byte for byte.
+/// line `c` and the comment byte for byte. Where some text spells the file, reading its canonical text gives it back.
 pub fn write(alloc: Global, file: &AagFile) -> Result<Vec<u8>, Memory>
     ensures canonical { IfOk result (λ text. text.items ≡ canonical_circuit file.now) }
+    ensures reads_back { IsSpellable file.now → IfOk result (λ text. (first : ℕ) → scan text.items first ≡ Ok file.now) }
 {
+    canonical_text_spells();
     let mut text = Vec::new(alloc);
     write_header(&file.circuit, &mut text)?;
     write_netlist(&file.circuit, &mut text)?;
@@ -34,15 +38,6 @@ fn write_word(word: &[u8], text: &mut Vec<u8>) -> Result<(), Memory>
     Ok(())
 }
 
-// A number and a space.
-fn write_number(n: u64, text: &mut Vec<u8>) -> Result<(), Memory>
-    ensures { OnOk result (text.new.items ≡ text.old.items ++ number_text n) }
-{
-    push_natural(text, n)?;
-    text.push(b' ')?;
-    Ok(())
-}
-
 // A number and the end of the line.
 fn write_last_number(n: u64, text: &mut Vec<u8>) -> Result<(), Memory>
     ensures { OnOk result (text.new.items ≡ text.old.items ++ number_line n) }
@@ -56,10 +51,10 @@ fn write_header(circuit: &Circuit, text: &mut Vec<u8>) -> Result<(), Memory>
     ensures { OnOk result (text.new.items ≡ text.old.items ++ header_text circuit.now) }
 {
     write_word(b"aag ", text)?;
-    write_number(circuit.max_var(), text)?;
-    write_number(circuit.inputs().len() as u64, text)?;
+    push_spaced(text, circuit.max_var())?;
+    push_spaced(text, circuit.inputs().len() as u64)?;
     write_word(b"0 ", text)?;
-    write_number(circuit.outputs().len() as u64, text)?;
+    push_spaced(text, circuit.outputs().len() as u64)?;
     write_last_number(circuit.gates() as u64, text)
 }
 
@@ -99,8 +94,8 @@ fn write_gates(circuit: &Circuit, text: &mut Vec<u8>) -> Result<(), Memory>
 {
     for i in 0..circuit.gates() {
         let (variable, left, right) = circuit.gate(i);
-        write_number(variable, text)?;
-        write_number(left, text)?;
+        push_spaced(text, variable)?;
+        push_spaced(text, left)?;
         write_last_number(right, text)?;
     }
     Ok(())
@@ -111,7 +106,7 @@ fn write_symbol(letter: u8, place: u64, name: &[u8], text: &mut Vec<u8>) -> Resu
     ensures { OnOk result (text.new.items ≡ text.old.items ++ symbol_text letter (place, name.now)) }
 {
     text.push(letter)?;
-    write_number(place, text)?;
+    push_spaced(text, place)?;
     write_word(name, text)?;
     text.push(b'\n')?;
     Ok(())

@@ -19,9 +19,10 @@ use Rattle.cert_text.specs.Pairs.{is_pair_number}
 use Rattle.cert_text.specs.Scan.{first_id}
 use Rattle.cert_text.specs.declared.refutations.Dqr.{Dqr}
 use Rattle.cert_text.proofs.LineTokens.{tokens_by_text}
-use Rattle.cert_text.proofs.LineWords.{IsWord, AreWords, spaced, tokens_of, line_of_words}
+use Rattle.dq_text.proofs.LineWords.{IsWord, AreWords, spaced, natural_is_word}
+use Rattle.cert_text.proofs.LineWords.{tokens_of, line_of_words}
 use Rattle.dq_text.proofs.Numerals.{natural_is_read}
-use Rattle.cert_text.proofs.NumberWords.{IsSpellable, signed_word, natural_is_word, signed_is_word, signed_number_is}
+use Rattle.cert_text.proofs.NumberWords.{IsSpellable, signed_word, signed_is_word, signed_number_is}
 use Rattle.cert_text.proofs.PairNumbers.{pair_small}
 use Rattle.cert_text.proofs.Parts.{pair_positive, universals_in_range}
 
