@@ -1,4 +1,4 @@
-//! ASCII AIGER, the combinational part, read exactly.
+//! ASCII AIGER, the combinational part, read exactly and written.
 #![tactic(auto)]
 
 pub use faults::{AagFault, AagStop};
