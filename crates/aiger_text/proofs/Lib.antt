@@ -1,3 +1,4 @@
+mod CanonicalCircuit
 mod Cuts
 mod Finishing
 mod FirstFaults
@@ -11,8 +12,12 @@ mod ReadNetlist
 mod ReadSymbols
 mod Reading
 mod SpelledIsRead
+mod SpelledNames
 mod SpelledNetlist
 mod SpelledSymbols
 mod Stages
 mod SymbolSpelling
 mod Variables
+mod WrittenLines
+mod WrittenNetlist
+mod WrittenSymbols

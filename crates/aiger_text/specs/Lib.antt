@@ -1,9 +1,11 @@
+pub mod Canonical
 pub mod FirstFault
 pub mod Grammar
 pub mod LineStop
 pub mod Lines
 pub mod ReaderState
 pub mod Scan
+pub mod Spellable
 pub mod Steps
 pub mod Symbol
 pub mod SymbolEntry

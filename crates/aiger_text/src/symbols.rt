@@ -48,6 +48,20 @@ impl Symbols {
         Some(self.outputs.get(&(i as u64))?.items())
     }
 
+    // The places of the inputs that have names, with these, in order of their lines.
+    pub(crate) fn input_names(&self) -> &IndexMap<u64, Text>
+        ensures { result.now.entries ≡ self.now.inputs }
+    {
+        &self.inputs
+    }
+
+    // The same of the outputs.
+    pub(crate) fn output_names(&self) -> &IndexMap<u64, Text>
+        ensures { result.now.entries ≡ self.now.outputs }
+    {
+        &self.outputs
+    }
+
     /// Names an input that has no name yet, behind the other symbols.
     pub fn add_input(&mut self, i: u64, name: Text) -> Result<(), Memory>
         requires { name_at self.old.inputs i ≡ None }

@@ -11,16 +11,18 @@ use Rattle.dq_lits.specs.Literal.{Literal, positive, negative, variable_of, is_n
 use Rattle.dq_formula.specs.Prefix.{IsLawful}
 use Rattle.dq_text.specs.Number.{number_of}
 use Rattle.dq_text.specs.declared.numbers.Number.TheVariants.{Int}
-use Rattle.cert_text.specs.Canonical.{number_text, signed_text, literal_text, line_end, header_text, row_text, step_text, canonical}
+use Rattle.dq_text.specs.Written.{number_text}
+use Rattle.cert_text.specs.Canonical.{signed_text, literal_text, line_end, header_text, row_text, step_text, canonical}
 use Rattle.cert_text.specs.Grammar.{Tokens, integers, row_numbers, SpellsRow, SpellsStep, AreSteps, IsDqrOf, SpellsRefutation}
 use Rattle.cert_text.specs.Header.{max_count}
 use Rattle.cert_text.specs.Pairs.{is_pair_number}
 use Rattle.cert_text.specs.Scan.{first_id}
 use Rattle.cert_text.specs.declared.refutations.Dqr.{Dqr}
 use Rattle.cert_text.proofs.LineTokens.{tokens_by_text}
-use Rattle.cert_text.proofs.LineWords.{IsWord, AreWords, spaced, tokens_of, line_of_words}
+use Rattle.dq_text.proofs.LineWords.{IsWord, AreWords, spaced, natural_is_word}
+use Rattle.cert_text.proofs.LineWords.{tokens_of, line_of_words}
 use Rattle.dq_text.proofs.Numerals.{natural_is_read}
-use Rattle.cert_text.proofs.NumberWords.{IsSpellable, signed_word, natural_is_word, signed_is_word, signed_number_is}
+use Rattle.cert_text.proofs.NumberWords.{IsSpellable, signed_word, signed_is_word, signed_number_is}
 use Rattle.cert_text.proofs.PairNumbers.{pair_small}
 use Rattle.cert_text.proofs.Parts.{pair_positive, universals_in_range}
 

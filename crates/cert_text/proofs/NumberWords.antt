@@ -1,18 +1,11 @@
 -- What the words of a written number are as numbers.
-use Rattle.std.proofs.Common.{◌≡◌, ℕ, zero, suc, ◌^◌, ◌≤◌, ◌<◌, Bool, true, false, List, [], ◌∷◌, length, refl, arith}
+use Rattle.std.proofs.Common.{◌≡◌, ℕ, zero, suc, ◌^◌, ◌≤◌, ◌<◌, Bool, true, false, List, [], ◌∷◌, refl, arith}
 use Rattle.std.specs.Fmt.{decimal}
-use Rattle.dq_text.proofs.Numerals.{AreDigits, digits_other, decimal_digits, natural_is_read, negative_is_read}
+use Rattle.dq_text.proofs.LineWords.{IsWord, natural_is_word}
+use Rattle.dq_text.proofs.Numerals.{natural_is_read, negative_is_read}
 use Rattle.dq_text.specs.Number.{number_of}
 use Rattle.dq_text.specs.declared.numbers.Number.TheVariants.{Int}
 use Rattle.cert_text.specs.Grammar.{signed}
-use Rattle.cert_text.proofs.LineWords.{IsWord}
-
-digits_word : (ds : List ℕ) → 0 < length ds → AreDigits ds → IsWord ds
-digits_word [] some are = absurd (omega (arith, some))
-digits_word (d ∷ ds) some are = digits_other (d ∷ ds) are
-
-pub natural_is_word : (n : ℕ) → n < 10 ^ 18 → IsWord (decimal n)
-natural_is_word n small = let of = decimal_digits n small in digits_word (decimal n) of.some of.are
 
 -- a variable behind its sign
 abbrev pub signed_word : Bool → ℕ → List ℕ

@@ -4,12 +4,9 @@ use Rattle.std.specs.Fmt.{decimal}
 use Rattle.std.specs.List.{flat_map, zip}
 use Rattle.dq_lits.specs.Derivation.{ProofStep}
 use Rattle.dq_lits.specs.Literal.{Literal, variable_of, is_negative}
+use Rattle.dq_text.specs.Written.{number_text}
 use Rattle.cert_text.specs.declared.circuit_proofs.Dqp.{Dqp}
 use Rattle.cert_text.specs.declared.refutations.Dqr.{Dqr}
-
--- a number and a space
-abbrev pub number_text : ℕ → List ℕ
-number_text n = decimal n ++ 32 ∷ []
 
 -- a variable, behind a minus where it is negated, and a space
 abbrev pub signed_text : Bool → ℕ → List ℕ

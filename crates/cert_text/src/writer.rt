@@ -8,14 +8,15 @@ ghost use Rattle.cert_text.specs.CircuitProof.{circuit_proof_of};
 ghost use Rattle.cert_text.specs.Grammar.{IsDqrOf};
 ghost use Rattle.cert_text.specs.ProofGrammar.{IsDqpOf};
 ghost use Rattle.cert_text.specs.Scan.{refutation_of};
-ghost use Rattle.cert_text.specs.Canonical.{number_text, signed_text, literal_text, header_text, proof_header_text, row_text, step_text, canonical, canonical_proof};
+ghost use Rattle.dq_text.specs.Written.{number_text};
+ghost use Rattle.cert_text.specs.Canonical.{signed_text, literal_text, header_text, proof_header_text, row_text, step_text, canonical, canonical_proof};
 
 use crate::circuit_proofs::Dqp;
 use crate::refutations::Dqr;
 use crate::steps::Step;
 use dq_formula::Formula;
 use dq_lits::{Lit, Memory, Row};
-use dq_text::push_natural;
+use dq_text::{push_natural, push_spaced};
 use std::alloc::Global;
 
 /// The canonical text of a refutation for a formula: the header `p dqr K N`; for each row `u`, the universals
@@ -53,7 +54,7 @@ fn write_header(rows: usize, steps: usize, text: &mut Vec<u8>) -> Result<(), Mem
     ensures { OnOk result (text.new.items ≡ text.old.items ++ header_text rows steps) }
 {
     text.extend_from_slice(b"p dqr ")?;
-    write_number(rows as u64, text)?;
+    push_spaced(text, rows as u64)?;
     push_natural(text, steps as u64)?;
     text.push(b'\n')?;
     Ok(())
@@ -75,15 +76,6 @@ fn write_word(word: &[u8], text: &mut Vec<u8>) -> Result<(), Memory>
     Ok(())
 }
 
-// A number and a space.
-fn write_number(n: u64, text: &mut Vec<u8>) -> Result<(), Memory>
-    ensures { OnOk result (text.new.items ≡ text.old.items ++ number_text n) }
-{
-    push_natural(text, n)?;
-    text.push(b' ')?;
-    Ok(())
-}
-
 // A variable, behind a minus where it is negated, and a space.
 fn write_signed(positive: bool, variable: u64, text: &mut Vec<u8>) -> Result<(), Memory>
     ensures { OnOk result (text.new.items ≡ text.old.items ++ signed_text positive variable) }
@@ -91,7 +83,7 @@ fn write_signed(positive: bool, variable: u64, text: &mut Vec<u8>) -> Result<(),
     if !positive {
         text.push(b'-')?;
     }
-    write_number(variable, text)
+    push_spaced(text, variable)
 }
 
 fn write_literals(literals: &[Lit], text: &mut Vec<u8>) -> Result<(), Memory>
@@ -110,7 +102,7 @@ fn write_hints(hints: &[u64], text: &mut Vec<u8>) -> Result<(), Memory>
 {
     let mut rest = hints;
     while let Some((first, behind)) = rest.split_first() {
-        write_number(*first, text)?;
+        push_spaced(text, *first)?;
         rest = behind;
     }
     Ok(())
@@ -148,7 +140,7 @@ fn write_rows(universals: &[u64], rows: &[Row], text: &mut Vec<u8>) -> Result<()
 fn write_step(step: &Step, text: &mut Vec<u8>) -> Result<(), Memory>
     ensures { OnOk result (text.new.items ≡ text.old.items ++ step_text step.now) }
 {
-    write_number(step.id(), text)?;
+    push_spaced(text, step.id())?;
     write_literals(step.lits(), text)?;
     write_word(b"0 ", text)?;
     write_hints(step.hints(), text)?;

@@ -1,5 +1,6 @@
 mod Cutting
 mod FirstLine
+pub mod LineWords
 mod LongestRuns
 pub mod Numerals
 mod TokenLines

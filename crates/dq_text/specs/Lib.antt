@@ -8,3 +8,4 @@ pub mod NumberedTokens
 pub mod TextLine
 pub mod Token
 pub mod TokensInside
+pub mod Written

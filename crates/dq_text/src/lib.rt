@@ -4,7 +4,7 @@
 #![tactic(auto)]
 
 pub use lines::{Line, LineTokens, Lines};
-pub use numbers::{Number, push_natural, push_number, read_number};
+pub use numbers::{Number, push_natural, push_number, push_spaced, read_number};
 pub use tokens::{Token, Tokens};
 
 mod bytes;

@@ -1,6 +1,7 @@
 ghost use Rattle.std.specs.Prelude.{◌≡◌, ◌++◌, ◌^◌, min, Some, None, OnOk, OnErr, if◌then◌else◌};
 ghost use Rattle.std.specs.Fmt.{decimal, signed_decimal};
 ghost use Rattle.dq_text.specs.Number.{are_digits, decimal_value, number_of};
+ghost use Rattle.dq_text.specs.Written.{number_text};
 
 use dq_lits::Memory;
 use itoa::Buffer;
@@ -71,5 +72,14 @@ pub fn push_natural(buf: &mut Vec<u8>, n: u64) -> Result<(), Memory>
 {
     let mut digits = Buffer::new();
     buf.extend_from_slice(digits.format(n).as_bytes())?;
+    Ok(())
+}
+
+/// Appends the decimal text of a natural number and a space.
+pub fn push_spaced(buf: &mut Vec<u8>, n: u64) -> Result<(), Memory>
+    ensures { OnOk result (buf.new.items ≡ buf.old.items ++ number_text n) }
+{
+    push_natural(buf, n)?;
+    buf.push(b' ')?;
     Ok(())
 }

@@ -6,8 +6,8 @@
 //! numbers of the calls that fail, `writes` the same of the sink. `run` runs the checker under a name, and then
 //! words, reads and writes are as at the start. `unfailing` runs it over files and a sink that never fail, and prints the
 //! status alone; `read` reads the formula's file, of at most so many bytes. `canonical` prints the canonical text of the formula, `refutation`
-//! that of the certificate as a refutation of it, and `proof` that of the proof in the certificate, a circuit. Lines
-//! that begin with `#` are comments.
+//! that of the certificate as a refutation of it, `proof` that of the proof in the certificate, a circuit, and `circuit` that of
+//! the circuit. Lines that begin with `#` are comments.
 #![tactic(auto)]
 
 mod settings;

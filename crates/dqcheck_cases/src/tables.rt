@@ -8,7 +8,7 @@ use dq_io::ReadStop;
 use dqdimacs_reader::{read, write};
 use std::alloc::Global;
 
-/// The most bytes of a circuit whose proof is written again.
+/// The most bytes of a circuit that is written again, or whose proof is.
 const MAX_CIRCUIT: usize = 1 << 20;
 
 /// Takes a line: a setting, or a case, of which it gives what is to be printed.
@@ -48,6 +48,10 @@ pub fn take_line(alloc: Global, settings: &mut Settings, line: &str) -> Result<O
         }
         "proof" => {
             let taken = shown(alloc, &canonical_proof(alloc, settings)?)?;
+            return Ok(Some(format!(in alloc; "{rest}: {taken}")?));
+        }
+        "circuit" => {
+            let taken = shown(alloc, &canonical_circuit(alloc, settings)?)?;
             return Ok(Some(format!(in alloc; "{rest}: {taken}")?));
         }
         _ => return Err(anyhow!("no setting: {line}")),
@@ -103,6 +107,15 @@ fn canonical_proof(alloc: Global, settings: &Settings) -> Result<Vec<u8>> {
     };
     let proof = read_dqp(alloc, comment.items(), 1, &formula, &file.circuit)?;
     Ok(write_dqp(alloc, &proof)?)
+}
+
+// The canonical text of the certificate, a circuit.
+fn canonical_circuit(alloc: Global, settings: &Settings) -> Result<Vec<u8>> {
+    let Some(certificate) = &settings.certificate else {
+        return Err(anyhow!("no circuit"));
+    };
+    let file = circuit_file(alloc, certificate)?;
+    Ok(aiger_text::write(alloc, &file)?)
 }
 
 // The bytes that a spelled text stands for.

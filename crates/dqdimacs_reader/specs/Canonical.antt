@@ -4,10 +4,7 @@ use Rattle.std.specs.Fmt.{decimal, signed_decimal}
 use Rattle.std.specs.List.{flat_map}
 use Rattle.dq_lits.specs.Literal.{Literal, dimacs_number}
 use Rattle.dq_lits.specs.Formula.{Existential, Dqbf}
-
--- a number and a space
-abbrev pub number_text : ℕ → List ℕ
-number_text n = decimal n ++ 32 ∷ []
+use Rattle.dq_text.specs.Written.{number_text}
 
 -- a literal as DIMACS writes it, and a space
 abbrev pub literal_text : Literal → List ℕ

@@ -3,11 +3,12 @@
 ghost use Rattle.std.specs.Prelude.{◌≡◌, ◌++◌, Some, IfOk, OnOk, IsSome};
 ghost use Rattle.std.specs.List.{flat_map};
 ghost use Rattle.dq_lits.specs.Formula.{Existential, existential_of};
-ghost use Rattle.dqdimacs_reader.specs.Canonical.{canonical, number_text, literal_text, header_text, numbers_line, existential_line, universals_text, existential_text, clause_text};
+ghost use Rattle.dq_text.specs.Written.{number_text};
+ghost use Rattle.dqdimacs_reader.specs.Canonical.{canonical, literal_text, header_text, numbers_line, existential_line, universals_text, existential_text, clause_text};
 
 use dq_formula::{Deps, Formula};
 use dq_lits::{Lit, Memory};
-use dq_text::{push_natural, push_number};
+use dq_text::{push_natural, push_number, push_spaced};
 use std::alloc::Global;
 
 /// The canonical text of a formula: the header; a line `a` with all universals, where there are any; for each
@@ -27,18 +28,9 @@ fn write_header(f: &Formula, text: &mut Vec<u8>) -> Result<(), Memory>
     ensures { OnOk result (text.new.items ≡ text.old.items ++ header_text f.now) }
 {
     text.extend_from_slice(b"p cnf ")?;
-    write_number(f.vars(), text)?;
+    push_spaced(text, f.vars())?;
     push_natural(text, f.clauses() as u64)?;
     text.push(b'\n')?;
-    Ok(())
-}
-
-// A number and a space.
-fn write_number(n: u64, text: &mut Vec<u8>) -> Result<(), Memory>
-    ensures { OnOk result (text.new.items ≡ text.old.items ++ number_text n) }
-{
-    push_natural(text, n)?;
-    text.push(b' ')?;
     Ok(())
 }
 
@@ -48,7 +40,7 @@ fn write_numbers(numbers: &[u64], text: &mut Vec<u8>) -> Result<(), Memory>
 {
     let mut rest = numbers;
     while let Some((first, behind)) = rest.split_first() {
-        write_number(*first, text)?;
+        push_spaced(text, *first)?;
         rest = behind;
     }
     Ok(())
@@ -93,7 +85,7 @@ fn write_dependency(
         return write_line(b'e', &[y], text);
     }
     write_word(b"d ", text)?;
-    write_number(y, text)?;
+    push_spaced(text, y)?;
     write_numbers(seen, text)?;
     write_word(b"0\n", text)?;
     Ok(())

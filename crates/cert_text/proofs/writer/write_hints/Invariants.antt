@@ -1,6 +1,6 @@
 use Rattle.std.proofs.Common.{◌≡◌, ◌++◌, length}
 use Rattle.std.specs.List.{flat_map}
-use Rattle.cert_text.specs.Canonical.{number_text}
+use Rattle.dq_text.specs.Written.{number_text}
 use Rattle.cert_text.proofs.writer.write_hints.Given as goal
 
 abbrev pub invariant-loop-first : goal.invariant-loop-first

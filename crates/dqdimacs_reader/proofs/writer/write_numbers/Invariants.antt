@@ -1,6 +1,6 @@
 use Rattle.std.proofs.Common.{◌≡◌, ◌++◌, length}
 use Rattle.std.specs.List.{flat_map}
-use Rattle.dqdimacs_reader.specs.Canonical.{number_text}
+use Rattle.dq_text.specs.Written.{number_text}
 use Rattle.dqdimacs_reader.proofs.writer.write_numbers.Given as goal
 
 abbrev pub invariant-loop-first : goal.invariant-loop-first

@@ -1,0 +1,138 @@
+//! Writing circuit files.
+
+ghost use Rattle.std.specs.Prelude.{◌≡◌, ◌++◌, ℕ, Ok, IfOk, OnOk};
+ghost use Rattle.std.specs.List.{flat_map};
+ghost use Rattle.aiger_text.specs.Canonical.{number_line, header_text, input_text, gate_text, symbol_text, comment_text, netlist_text, canonical_circuit};
+ghost use Rattle.aiger_text.specs.Scan.{scan};
+ghost use Rattle.aiger_text.specs.Spellable.{IsSpellable};
+
+use crate::files::{AagFile, Text};
+use crate::laws::canonical_text_spells;
+use circuit_plain::Circuit;
+use dq_lits::Memory;
+use dq_text::{push_natural, push_spaced};
+use indexmap::IndexMap;
+use std::alloc::Global;
+
+/// The canonical text of a circuit file: the header `aag M I 0 O A`; a line for each input, output and gate; a line for each
+/// symbol of an input and then of an output, in the order in which the file has them; and, where there is a comment, the
+/// line `c` and the comment byte for byte. Where some text spells the file, reading its canonical text gives it back.
+pub fn write(alloc: Global, file: &AagFile) -> Result<Vec<u8>, Memory>
+    ensures canonical { IfOk result (λ text. text.items ≡ canonical_circuit file.now) }
+    ensures reads_back { IsSpellable file.now → IfOk result (λ text. (first : ℕ) → scan text.items first ≡ Ok file.now) }
+{
+    canonical_text_spells();
+    let mut text = Vec::new(alloc);
+    write_header(&file.circuit, &mut text)?;
+    write_netlist(&file.circuit, &mut text)?;
+    write_symbols(b'i', file.symbols.input_names(), &mut text)?;
+    write_symbols(b'o', file.symbols.output_names(), &mut text)?;
+    write_comment(&file.comment, &mut text)?;
+    Ok(text)
+}
+
+fn write_word(word: &[u8], text: &mut Vec<u8>) -> Result<(), Memory>
+    ensures { OnOk result (text.new.items ≡ text.old.items ++ word.now) }
+{
+    text.extend_from_slice(word)?;
+    Ok(())
+}
+
+// A number and the end of the line.
+fn write_last_number(n: u64, text: &mut Vec<u8>) -> Result<(), Memory>
+    ensures { OnOk result (text.new.items ≡ text.old.items ++ number_line n) }
+{
+    push_natural(text, n)?;
+    text.push(b'\n')?;
+    Ok(())
+}
+
+fn write_header(circuit: &Circuit, text: &mut Vec<u8>) -> Result<(), Memory>
+    ensures { OnOk result (text.new.items ≡ text.old.items ++ header_text circuit.now) }
+{
+    write_word(b"aag ", text)?;
+    push_spaced(text, circuit.max_var())?;
+    push_spaced(text, circuit.inputs().len() as u64)?;
+    write_word(b"0 ", text)?;
+    push_spaced(text, circuit.outputs().len() as u64)?;
+    write_last_number(circuit.gates() as u64, text)
+}
+
+fn write_netlist(circuit: &Circuit, text: &mut Vec<u8>) -> Result<(), Memory>
+    ensures { OnOk result (text.new.items ≡ text.old.items ++ netlist_text circuit.now) }
+{
+    write_inputs(circuit, text)?;
+    write_outputs(circuit.outputs(), text)?;
+    write_gates(circuit, text)
+}
+
+fn write_inputs(circuit: &Circuit, text: &mut Vec<u8>) -> Result<(), Memory>
+    ensures { OnOk result (text.new.items ≡ text.old.items ++ flat_map input_text circuit.now.inputs) }
+{
+    // In range, so that doubled they fit.
+    let _ = circuit.max_var();
+    let inputs = circuit.inputs();
+    for i in 0..inputs.len() {
+        write_last_number(2 * inputs[i], text)?;
+    }
+    Ok(())
+}
+
+fn write_outputs(outputs: &[u64], text: &mut Vec<u8>) -> Result<(), Memory>
+    ensures { OnOk result (text.new.items ≡ text.old.items ++ flat_map number_line outputs.now) }
+{
+    let mut rest = outputs;
+    while let Some((first, behind)) = rest.split_first() {
+        write_last_number(*first, text)?;
+        rest = behind;
+    }
+    Ok(())
+}
+
+fn write_gates(circuit: &Circuit, text: &mut Vec<u8>) -> Result<(), Memory>
+    ensures { OnOk result (text.new.items ≡ text.old.items ++ flat_map gate_text circuit.now.gates) }
+{
+    for i in 0..circuit.gates() {
+        let (variable, left, right) = circuit.gate(i);
+        push_spaced(text, variable)?;
+        push_spaced(text, left)?;
+        write_last_number(right, text)?;
+    }
+    Ok(())
+}
+
+// A letter, a place and a name.
+fn write_symbol(letter: u8, place: u64, name: &[u8], text: &mut Vec<u8>) -> Result<(), Memory>
+    ensures { OnOk result (text.new.items ≡ text.old.items ++ symbol_text letter (place, name.now)) }
+{
+    text.push(letter)?;
+    push_spaced(text, place)?;
+    write_word(name, text)?;
+    text.push(b'\n')?;
+    Ok(())
+}
+
+fn write_symbols(
+    letter: u8,
+    symbols: &IndexMap<u64, Text>,
+    text: &mut Vec<u8>,
+) -> Result<(), Memory>
+    ensures { OnOk result (text.new.items ≡ text.old.items ++ flat_map (symbol_text letter) symbols.now.entries) }
+{
+    for (place, name) in symbols.iter() {
+        write_symbol(letter, *place, name.items(), text)?;
+    }
+    Ok(())
+}
+
+fn write_comment(comment: &Option<Text>, text: &mut Vec<u8>) -> Result<(), Memory>
+    ensures { OnOk result (text.new.items ≡ text.old.items ++ comment_text comment.now) }
+{
+    match comment {
+        None => Ok(()),
+        Some(bytes) => {
+            write_word(b"c\n", text)?;
+            write_word(bytes.items(), text)
+        }
+    }
+}
