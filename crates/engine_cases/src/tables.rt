@@ -7,9 +7,8 @@
 //! its bits; `points` does the same, and prints the bits, and the candidates' values under all rows. `decide NAME : LIMIT` runs the loop in so
 //! many steps, and prints `true`, `false` or `limit`; `rounds` prints how many rounds it took, too. Lines that begin with `#` are comments.
 
-use crate::decisions;
 use crate::evaluation::Detail;
-use crate::{circuits, expansions};
+use crate::{circuits, decisions, expansions};
 use anyhow::{Result, anyhow};
 use dq_formula::Formula;
 use dqdimacs_reader::read;

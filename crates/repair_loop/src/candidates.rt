@@ -55,4 +55,3 @@ pub(crate) fn find_candidates<O: Oracle>(
         }
     }
 }
-

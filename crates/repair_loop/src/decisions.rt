@@ -92,4 +92,3 @@ fn all_rounds<O: Oracle>(
         }
     }
 }
-
