@@ -1,0 +1,17 @@
+mod Renamings
+mod ReachedLines
+mod Cutting
+mod DerivedLines
+mod Allowed
+mod Answers
+mod Numbers
+mod PairNames
+mod Instances
+mod Accepting
+mod Naming
+mod Placing
+mod Pairing
+mod Needing
+mod Writing
+mod Exporting
+mod RoundRows
