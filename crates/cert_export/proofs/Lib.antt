@@ -15,3 +15,4 @@ mod Needing
 mod Writing
 mod Exporting
 mod RoundRows
+mod Counting

@@ -18,11 +18,15 @@ abbrev pub hints_or_none : Option Entry → List ℕ
 hints_or_none (Some e) = hints_of e
 hints_or_none None = []
 
--- a clause that was learned or answers
+-- clauses that were learned or answer
+abbrev pub is_lemma : Entry → Bool
+is_lemma (Learned _ _) = true
+is_lemma (Answer _ _) = true
+is_lemma _ = false
+
 abbrev pub is_derived : Option Entry → Bool
-is_derived (Some (Learned _ _)) = true
-is_derived (Some (Answer _ _)) = true
-is_derived _ = false
+is_derived (Some e) = is_lemma e
+is_derived None = false
 
 abbrev pub derived_ids : List Entry → List ℕ → List ℕ
 derived_ids entries ids = filter (λ id. is_derived (numbered has_id entries id)) ids

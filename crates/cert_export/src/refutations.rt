@@ -3,6 +3,7 @@
 ghost use Rattle.std.specs.Prelude.{◌≡◌, ◌+◌, ◌≤◌, ◌<◌, ◌^◌, None, Some, All, length, take, IfOk, OnOk};
 ghost use Rattle.dq_lits.specs.Formula.{IsWellFormed};
 ghost use Rattle.dq_formula.specs.declared.formula.TheConstants.{MAX_CLAUSES};
+ghost use Rattle.hint_log.specs.Entries.{count};
 ghost use Rattle.hint_log.specs.Naming.{rows_of};
 ghost use Rattle.hint_log.specs.ProductiveLog.{IsProductiveLog};
 ghost use Rattle.cert_text.specs.Grammar.{IsDqrOf};
@@ -10,6 +11,7 @@ ghost use Rattle.cert_text.specs.Header.{max_count};
 ghost use Rattle.expansion.specs.Table.{IsRefutedBy};
 ghost use Rattle.refutation_checker.specs.Refutation.{refutation_fault};
 ghost use Rattle.cert_export.specs.Expansion.{instance_id};
+ghost use Rattle.cert_export.specs.Lines.{is_lemma};
 ghost use Rattle.cert_export.specs.Exportable.{IsKnownInstance, AreExportable, AreExportedSteps};
 
 use crate::bases::Ground;
@@ -31,6 +33,7 @@ pub fn export_false(alloc: Global, log: &Log, id: u64, f: &Formula) -> Result<Dq
     requires limit { log.now.limit ≤ max_count }
     ensures rows { IfOk result (λ d. d.rows ≡ rows_of log.now.entries) }
     ensures accepted { IfOk result (λ d. refutation_fault f.now d ≡ None) }
+    ensures few { IfOk result (λ d. length d.steps ≤ count is_lemma log.now.entries) }
     ensures spelled { IfOk result (λ d. length d.steps ≤ max_count → IsDqrOf f.now d) }
 {
     f.every_formula_is_lawful();
