@@ -1,23 +1,16 @@
-//! The lines of a certificate, from a log's derived clauses.
+//! The hints of a line, by places.
 
-ghost use Rattle.std.specs.Prelude.{◌≡◌, ◌+◌, ◌≤◌, ◌<◌, ◌^◌, [], false, All, Contains, map, take, length, slice_index, slice_get, IfOk, OnOk};
+ghost use Rattle.std.specs.Prelude.{◌≡◌, ◌<◌, false, All, Contains, map, length, slice_index, slice_get, IfOk};
 ghost use Rattle.std.specs.List.Sorted.{IsStrictlyIncreasing};
 ghost use Rattle.dq_lits.specs.Derivation.{is_tautology};
-ghost use Rattle.cert_export.specs.Lines.{derived_ids, line_number, line_steps};
-ghost use Rattle.cert_export.specs.Names.{renaming};
-ghost use Rattle.cert_export.specs.Written.{place_in, needed_places, IsWritten, CanBeWritten};
+ghost use Rattle.cert_export.specs.Written.{place_in, needed_places};
 
-use crate::bases::Ground;
-use crate::names::Names;
-use cert_text::{Step, StepList};
-use dq_lits::{Clause, Ids, Lit, Memory};
+use dq_lits::{Lit, Memory};
 use flat_lists::FlatLists;
-use hint_log::Log;
 use rup_core::{Base, Derived, Marks, derive_any};
 use std::alloc::Global;
-use std::marker::Model;
 
-/// Where an id stands among ascending ones, by halves.
+// Where an id stands among ascending ones, by halves.
 fn place(ids: &[u64], id: u64) -> usize
     requires ascending { IsStrictlyIncreasing ids.now }
     requires there { Contains ids.now id }

@@ -1,6 +1,6 @@
 //! The expansion refutation of a formula, from an answer that rests on instances.
 
-ghost use Rattle.std.specs.Prelude.{◌≡◌, ◌+◌, ◌≤◌, ◌<◌, ◌^◌, None, Some, All, length, take, IfOk, OnOk};
+ghost use Rattle.std.specs.Prelude.{◌≡◌, ◌≤◌, None, length, IfOk};
 ghost use Rattle.dq_lits.specs.Formula.{IsWellFormed};
 ghost use Rattle.dq_formula.specs.declared.formula.TheConstants.{MAX_CLAUSES};
 ghost use Rattle.hint_log.specs.Entries.{count};

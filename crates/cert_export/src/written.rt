@@ -1,6 +1,6 @@
 //! Lines that are written one after the other.
 
-ghost use Rattle.std.specs.Prelude.{◌≡◌, ◌+◌, ◌≤◌, ◌<◌, ◌^◌, [], ◌∷◌, ◌++◌, false, All, Contains, map, take, length, IfOk, OnOk};
+ghost use Rattle.std.specs.Prelude.{◌≡◌, ◌+◌, ◌≤◌, ◌<◌, ◌^◌, false, All, Contains, map, take, length, IfOk, OnOk};
 ghost use Rattle.std.specs.List.Sorted.{IsStrictlyIncreasing};
 ghost use Rattle.dq_lits.specs.Derivation.{is_tautology};
 ghost use Rattle.cert_export.specs.Lines.{derived_ids, line_number, line_steps};
