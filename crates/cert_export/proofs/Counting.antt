@@ -1,0 +1,93 @@
+-- There are no more lines than learned clauses and answers.
+use Rattle.std.proofs.Common.{◌≡◌, ℕ, suc, ◌+◌, ◌≤◌, ◌<◌, ◌==◌, Bool, true, false, not, cond, List, [], ◌∷◌, length, Some, refl, sym, ◌∙◌, ap, arith}
+use Rattle.std.specs.List.{All, Contains, filter}
+use Rattle.std.proofs.lemmas.Bool.{eqb-true, ne_eqb}
+use Rattle.std.proofs.lemmas.List.{length-map}
+use Rattle.std.proofs.lemmas.List.Elements.{All-nil, All-cons, All-head, All-tail}
+use Rattle.std.proofs.lemmas.List.Kept.{AllPairs-from_increasing}
+use Rattle.std.specs.List.Sorted.{IsStrictlyIncreasing}
+use Rattle.dq_lits.specs.Derivation.{ProofStep}
+use Rattle.dq_lits.specs.Formula.{Dqbf}
+use Rattle.hint_log.specs.Entries.{Entry, Named, Given, Learned, Answer, Round, has_id, numbered, count}
+use Rattle.cert_export.specs.Exportable.{AreExportedSteps}
+use Rattle.cert_export.specs.Exported.{exported_number}
+use Rattle.cert_export.specs.Expansion.{instance_id}
+use Rattle.cert_export.specs.Lines.{is_lemma, is_derived, derived_ids, line_step}
+use Rattle.cert_export.proofs.Numbers.{rising_filter}
+use Rattle.cert_export.proofs.ReachedLines.{Rising, rising_of}
+
+abbrev others : ℕ → ℕ → Bool
+others n h = not (h == n)
+
+all_others : (n : ℕ) (xs : List ℕ) → ((k : ℕ) → Contains xs k → n < k) → filter (others n) xs ≡ xs
+all_others n [] above = refl
+all_others n (x ∷ xs) above =
+    let more = above x (0, omega arith, refl) in
+    ap (λ b. cond (not b) (x ∷ filter (others n) xs) (filter (others n) xs)) (ne_eqb x n (λ e. omega (arith, e, more)))
+    ∙ ap (λ ys. x ∷ ys) (all_others n xs (λ k inside. let b = inside.1 in above k (suc inside.0, omega (arith, b), inside.2)))
+
+-- without one number a rising list is shorter by one at most
+one_less : (n : ℕ) (xs : List ℕ) → Rising xs → length xs ≤ length (filter (others n) xs) + 1
+one_less n [] rising = omega arith
+one_less n (x ∷ xs) rising = by_bit (x == n) refl (one_less n xs rising.1) where
+  by_bit : (b : Bool) → (x == n) ≡ b → length xs ≤ length (filter (others n) xs) + 1 → suc (length xs) ≤ length (cond (not b) (x ∷ filter (others n) xs) (filter (others n) xs)) + 1
+  by_bit true e later =
+      let same = eqb-true x n e in
+      let kept = ap length (all_others n xs (λ k inside. let less = rising.0 k inside in omega (arith, same, less))) in
+      omega (arith, kept)
+  by_bit false e later = omega (arith, later)
+
+abbrev IsLemmaOf : List Entry → ℕ → Type 0
+IsLemmaOf es h = is_derived (numbered has_id es h) ≡ true
+
+-- the other numbers are of earlier entries
+of_earlier : (e : Entry) (es : List Entry) (n : ℕ) (xs : List ℕ) → All (λ h. is_derived (cond (h == n) (Some e) (numbered has_id es h)) ≡ true) xs → All (IsLemmaOf es) (filter (others n) xs)
+of_earlier e es n [] h = All-nil (IsLemmaOf es)
+of_earlier e es n (x ∷ xs) h = by_bit (x == n) (All-head P x xs h) (of_earlier e es n xs (All-tail P x xs h)) where
+  P : ℕ → Type 0
+  P k = is_derived (cond (k == n) (Some e) (numbered has_id es k)) ≡ true
+
+  by_bit : (b : Bool) → is_derived (cond b (Some e) (numbered has_id es x)) ≡ true → All (IsLemmaOf es) (filter (others n) xs) → All (IsLemmaOf es) (cond (not b) (x ∷ filter (others n) xs) (filter (others n) xs))
+  by_bit true here later = later
+  by_bit false here later = All-cons (IsLemmaOf es) x (filter (others n) xs) here later
+
+not_given : (e : Entry) (es : List Entry) (n : ℕ) (xs : List ℕ) → is_lemma e ≡ false → All (λ h. is_derived (cond (h == n) (Some e) (numbered has_id es h)) ≡ true) xs → All (IsLemmaOf es) xs
+not_given e es n [] none h = All-nil (IsLemmaOf es)
+not_given e es n (x ∷ xs) none h = All-cons (IsLemmaOf es) x xs (by_bit (x == n) (All-head P x xs h)) (not_given e es n xs none (All-tail P x xs h)) where
+  P : ℕ → Type 0
+  P k = is_derived (cond (k == n) (Some e) (numbered has_id es k)) ≡ true
+
+  by_bit : (b : Bool) → is_derived (cond b (Some e) (numbered has_id es x)) ≡ true → IsLemmaOf es x
+  by_bit true here = let both : false ≡ true = sym none ∙ here in cc
+  by_bit false here = here
+
+few_lemmas : (es : List Entry) (xs : List ℕ) → Rising xs → All (IsLemmaOf es) xs → length xs ≤ count is_lemma es
+few_lemmas [] [] rising all = omega arith
+few_lemmas [] (x ∷ xs) rising all = let here : false ≡ true = All-head (IsLemmaOf []) x xs all in cc
+few_lemmas (Named v n ∷ es) xs rising all = few_lemmas es xs rising all
+few_lemmas (Round row values j ∷ es) xs rising all = few_lemmas es xs rising all
+few_lemmas (Given o c ∷ es) xs rising all = few_lemmas es xs rising (not_given (Given o c) es (count has_id es + 1) xs refl all)
+few_lemmas (Learned c hints ∷ es) xs rising all =
+    let n = count has_id es + 1 in
+    let rest = few_lemmas es (filter (others n) xs) (rising_filter (others n) xs rising) (of_earlier (Learned c hints) es n xs all) in
+    let less = one_less n xs rising in
+    omega (arith, rest, less)
+few_lemmas (Answer c hints ∷ es) xs rising all =
+    let n = count has_id es + 1 in
+    let rest = few_lemmas es (filter (others n) xs) (rising_filter (others n) xs rising) (of_earlier (Answer c hints) es n xs all) in
+    let less = one_less n xs rising in
+    omega (arith, rest, less)
+
+all_derived : (es : List Entry) (xs : List ℕ) → All (IsLemmaOf es) (derived_ids es xs)
+all_derived es [] = All-nil (IsLemmaOf es)
+all_derived es (x ∷ xs) = by_bit (is_derived (numbered has_id es x)) refl (all_derived es xs) where
+  by_bit : (b : Bool) → is_derived (numbered has_id es x) ≡ b → All (IsLemmaOf es) (derived_ids es xs) → All (IsLemmaOf es) (cond b (x ∷ derived_ids es xs) (derived_ids es xs))
+  by_bit true e later = All-cons (IsLemmaOf es) x (derived_ids es xs) e later
+  by_bit false e later = later
+
+pub few_steps : (f : Dqbf) (entries : List Entry) (ids : List ℕ) (steps : List ProofStep) → IsStrictlyIncreasing ids → AreExportedSteps f entries ids steps → length steps ≤ count is_lemma entries
+few_steps f entries ids steps ascending exported =
+    let p : ℕ → Bool = λ h. is_derived (numbered has_id entries h) in
+    let many : length steps ≡ length (derived_ids entries ids) = ap length exported.2 ∙ length-map (derived_ids entries ids) (line_step exported.0 (instance_id (length f.matrix)) entries (exported_number f entries ids)) in
+    let few = few_lemmas entries (derived_ids entries ids) (rising_filter p ids (rising_of ids (AllPairs-from_increasing ids ascending))) (all_derived entries ids) in
+    omega (arith, many, few)

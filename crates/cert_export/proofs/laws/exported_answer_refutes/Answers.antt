@@ -1,0 +1,5 @@
+use Rattle.cert_export.proofs.Accepting.{exported_answer_refutes}
+use Rattle.cert_export.proofs.laws.exported_answer_refutes.Goals as goal
+
+pub returns : goal.returns
+returns c = exported_answer_refutes

@@ -1,0 +1,9 @@
+pub mod Renaming
+pub mod Lines
+pub mod LineOrder
+pub mod Expansion
+pub mod Exported
+pub mod Names
+pub mod Pairing
+pub mod Written
+pub mod Exportable

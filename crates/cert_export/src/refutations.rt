@@ -1,0 +1,92 @@
+//! The expansion refutation of a formula, from an answer that rests on instances.
+
+ghost use Rattle.std.specs.Prelude.{◌≡◌, ◌≤◌, None, length, IfOk};
+ghost use Rattle.dq_lits.specs.Formula.{IsWellFormed};
+ghost use Rattle.dq_formula.specs.declared.formula.TheConstants.{MAX_CLAUSES};
+ghost use Rattle.hint_log.specs.Entries.{count};
+ghost use Rattle.hint_log.specs.Naming.{rows_of};
+ghost use Rattle.hint_log.specs.ProductiveLog.{IsProductiveLog};
+ghost use Rattle.cert_text.specs.Grammar.{IsDqrOf};
+ghost use Rattle.cert_text.specs.Header.{max_count};
+ghost use Rattle.expansion.specs.Table.{IsRefutedBy};
+ghost use Rattle.refutation_checker.specs.Refutation.{refutation_fault};
+ghost use Rattle.cert_export.specs.Expansion.{instance_id};
+ghost use Rattle.cert_export.specs.Lines.{is_lemma};
+ghost use Rattle.cert_export.specs.Exportable.{IsKnownInstance, AreExportable, AreExportedSteps};
+
+use crate::bases::Ground;
+use crate::pairs::pair_names;
+use crate::written::write_lines;
+use cert_text::{Dqr, StepList};
+use dq_formula::Formula;
+use dq_lits::{Memory, RowList};
+use hint_log::laws::{reached_are_ids, rounds_are_steps};
+use hint_log::{Log, Origin};
+use std::alloc::Global;
+
+/// The expansion refutation that an answer stands for: the rows of all rounds, and for each learned clause and answer that it
+/// reaches a line. It takes time and memory for the rows and for what the answer reaches.
+pub fn export_false(alloc: Global, log: &Log, id: u64, f: &Formula) -> Result<Dqr, Memory>
+    requires formula { IsWellFormed f.now }
+    requires productive { IsProductiveLog f.now log.now.entries }
+    requires refuted { IsRefutedBy log.now.entries id }
+    requires limit { log.now.limit ≤ max_count }
+    ensures rows { IfOk result (λ d. d.rows ≡ rows_of log.now.entries) }
+    ensures accepted { IfOk result (λ d. refutation_fault f.now d ≡ None) }
+    ensures few { IfOk result (λ d. length d.steps ≤ count is_lemma log.now.entries) }
+    ensures spelled { IfOk result (λ d. length d.steps ≤ max_count → IsDqrOf f.now d) }
+{
+    f.every_formula_is_lawful();
+    log.every_log_is_lawful();
+    rounds_are_steps();
+    reached_are_ids();
+    log.steps();
+    let rows = round_rows(alloc, log)?;
+    let ids = log.trim(id)?;
+    let steps = refutation_steps(alloc, log, ids.items(), f)?;
+    Ok(Dqr { rows, steps })
+}
+
+// The rows of all rounds.
+fn round_rows(alloc: Global, log: &Log) -> Result<RowList, Memory>
+    ensures { IfOk result (λ rows. rows ≡ rows_of log.now.entries) }
+{
+    let mut rows = RowList::new(alloc);
+    for k in 0..log.rounds() {
+        rows.push(log.row(k + 1).copy()?)?;
+    }
+    Ok(rows)
+}
+
+// The lines of the derived clauses among some ids.
+fn refutation_steps(alloc: Global, log: &Log, ids: &[u64], f: &Formula) -> Result<StepList, Memory>
+    requires { AreExportable f.now log.now.entries ids.now }
+    ensures { IfOk result (AreExportedSteps f.now log.now.entries ids.now) }
+{
+    let names = pair_names(alloc, log, ids, f)?;
+    let base = Instances {
+        clauses: f.clauses(),
+    };
+    let last = log.rounds() * f.clauses() as u64;
+    write_lines(alloc, log, ids, &names, &base, last)
+}
+
+// The instances of so many clauses, by row and clause.
+#[derive(Drop)]
+struct Instances {
+    clauses: usize,
+    ghost few: { clauses ≤ MAX_CLAUSES },
+}
+
+impl Ground for Instances {
+    ghost ids = { λ i. instance_id i.clauses };
+
+    ghost Knows = { λ i. IsKnownInstance };
+
+    fn id(&self, origin: Origin) -> u64 {
+        match origin {
+            Origin::Instance { round, clause } => (round - 1) * self.clauses as u64 + clause,
+            _ => unreachable!(),
+        }
+    }
+}
