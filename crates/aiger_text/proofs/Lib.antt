@@ -7,7 +7,6 @@ mod HeaderSpelling
 mod LineNumbers
 mod Names
 mod NaturalTokens
-mod NumberNames
 mod ReadIsSpelled
 mod ReadNetlist
 mod ReadSymbols
