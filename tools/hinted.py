@@ -1,0 +1,288 @@
+"""Refutations of clauses as hinted lines. The solver cadical finds a proof, and unit propagation backward through it
+keeps the clauses that are used and finds each one's hints, in the strict form that docs/LRAT.md describes.
+
+Nothing here is trusted: dqcheck judges the lines.
+"""
+
+import os
+import shutil
+import subprocess
+import sys
+import tempfile
+from typing import NamedTuple
+
+from failure import NO_SOLVER, SOLVER_FAILED, Failure
+
+# A removed clause stays in the proofs made here, so that what only removes clauses would do no harm; but what needs no RAT
+# step, and no look at a removed clause, is easiest to follow.
+OPTIONS = ["-q", "--no-binary", "--no-block", "--no-condition", "--no-cover", "--no-elim", "--no-instantiate"]
+HAS_MODEL, HAS_NONE = 10, 20
+
+
+class Answer(NamedTuple):
+    """What the solver says of clauses: the variables that a model makes true, or else the clauses that it learned, in
+    order, up to the empty one."""
+
+    true: set
+    learned: list
+
+    @property
+    def has_model(self):
+        return self.true is not None
+
+
+class Line(NamedTuple):
+    """A derivation line."""
+
+    id: int
+    literals: list
+    hints: list
+
+    def text(self):
+        return " ".join(map(str, (self.id, *self.literals, 0, *self.hints, 0)))
+
+
+def is_tautology(clause):
+    return any(-literal in clause for literal in clause)
+
+
+class Numbering:
+    """Numbers from 1 on, without gaps, for the variables of clauses: theirs may be as large as a circuit's header says."""
+
+    def __init__(self, clauses):
+        self.variables = [0, *dict.fromkeys(abs(literal) for clause in clauses for literal in clause)]
+        self.numbers = {variable: place for place, variable in enumerate(self.variables)}
+
+    def __len__(self):
+        return len(self.variables) - 1
+
+    def inward(self, clause):
+        return [self.numbers[literal] if literal > 0 else -self.numbers[-literal] for literal in clause]
+
+    def outward(self, clause):
+        return [self.variables[literal] if literal > 0 else -self.variables[-literal] for literal in clause]
+
+
+# The solver
+
+
+def solve(clauses):
+    """The solver's answer on clauses, lists of signed variables."""
+    solver = shutil.which("cadical")
+    if solver is None:
+        raise Failure(NO_SOLVER, "the solver cadical isn't on the path; Debian and Ubuntu have it as a package: apt-get install cadical")
+    numbering = Numbering(clauses)
+    with tempfile.TemporaryDirectory() as folder:
+        paths = [os.path.join(folder, name) for name in ("clauses.cnf", "learned.drat")]
+        with open(paths[0], "w", encoding="ascii") as file:
+            write_dimacs(file, numbering, clauses)
+        run = subprocess.run([solver, *OPTIONS, *paths], capture_output=True, text=True, check=False)
+        if run.returncode == HAS_MODEL:
+            return Answer(true_variables(numbering, run.stdout), None)
+        if run.returncode == HAS_NONE:
+            return Answer(None, learned_clauses(numbering, paths[1]))
+    raise Failure(SOLVER_FAILED, f"cadical ended with status {run.returncode} and no answer: {run.stderr.strip()}")
+
+
+def write_dimacs(file, numbering, clauses):
+    file.write(f"p cnf {len(numbering)} {len(clauses)}\n")
+    for clause in clauses:
+        file.write(" ".join(map(str, [*numbering.inward(clause), 0])) + "\n")
+
+
+def true_variables(numbering, output):
+    literals = [int(word) for line in output.splitlines() if line.startswith("v ") for word in line.split()[1:]]
+    return set(numbering.outward([literal for literal in literals if literal > 0]))
+
+
+def learned_clauses(numbering, path):
+    """The clauses of a DRAT text up to its first empty one, without its deletions."""
+    learned = []
+    with open(path, encoding="ascii") as file:
+        for line in file:
+            if not line.startswith("d"):
+                literals = [int(word) for word in line.split()[:-1]]
+                if not literals:
+                    break
+                learned.append(numbering.outward(literals))
+    return learned
+
+
+# Unit propagation
+
+
+class Propagation:
+    """Unit propagation over clauses that are added one by one, with two watched literals each. Clauses are named by
+    their places. `trail` has the true literals in the order in which they became true; `reasons` has, by variable, the
+    clause that made it so, or None where it was assumed."""
+
+    def __init__(self, variables):
+        self.clauses = []
+        self.watching = [[] for _ in range(2 * variables + 1)]  # by literal; a negative one counts from the end
+        self.is_true = [False] * (2 * variables + 1)
+        self.reasons = [None] * (variables + 1)
+        self.positions = [0] * (variables + 1)
+        self.trail = []
+        self.propagated = 0  # how many of the trail
+
+    def assign(self, literal, reason):
+        self.is_true[literal] = True
+        self.reasons[abs(literal)] = reason
+        self.positions[abs(literal)] = len(self.trail)
+        self.trail.append(literal)
+
+    def take_back(self, length, clause_count):
+        """Takes the trail back to a length at which all of it was propagated, and away the clauses from a place on."""
+        for literal in self.trail[length:]:
+            self.is_true[literal] = False
+        del self.trail[length:]
+        del self.clauses[clause_count:]
+        self.propagated = length
+
+    def add(self, literals):
+        """Adds a clause; answers its place where it is false, else None. It stays only while the trail isn't taken back
+        behind its present end: so a literal that is false or true now needs no watch."""
+        place = len(self.clauses)
+        falses = [literal for literal in literals if self.is_true[-literal]]
+        left = [literal for literal in literals if not self.is_true[-literal]]
+        self.clauses.append(left + falses)
+        if not left:
+            return place
+        if len(left) == 1 and not self.is_true[left[0]]:
+            self.assign(left[0], place)
+        elif not any(self.is_true[literal] for literal in left):
+            for literal in left[:2]:
+                self.watching[literal].append(place)
+        return None
+
+    def propagate(self):
+        """Makes true what is unit; answers a clause that is false, or None."""
+        while self.propagated < len(self.trail):
+            false = -self.trail[self.propagated]
+            self.propagated += 1
+            conflict = self.visit(false)
+            if conflict is not None:
+                return conflict
+        return None
+
+    def visit(self, false):
+        """Looks at the clauses that watch a literal which became false. Those that were taken away are dropped."""
+        is_true, clauses = self.is_true, self.clauses
+        places = self.watching[false]
+        kept = self.watching[false] = []
+        for at, place in enumerate(places):
+            if place >= len(clauses):
+                continue
+            clause = clauses[place]
+            if clause[0] == false:
+                clause[0], clause[1] = clause[1], false
+            other = clause[0]
+            if is_true[other] or not self.moves_watch(place, clause, false):
+                kept.append(place)
+                if is_true[-other]:
+                    kept.extend(places[at + 1 :])
+                    return place
+                if not is_true[other]:
+                    self.assign(other, place)
+        return None
+
+    def moves_watch(self, place, clause, false):
+        """Whether a literal behind the watched ones isn't false and is watched from now on."""
+        for at in range(2, len(clause)):
+            literal = clause[at]
+            if not self.is_true[-literal]:
+                clause[1], clause[at] = literal, false
+                self.watching[literal].append(place)
+                return True
+        return False
+
+    def falsified_under(self, literals):
+        """Assumes that literals are false and propagates; answers a clause that is false then, or None. Where one is true
+        already, that is the reason of the first one that became so."""
+        held = [literal for literal in literals if self.is_true[literal]]
+        if held:
+            return self.reasons[abs(min(held, key=lambda literal: self.positions[abs(literal)]))]
+        for literal in literals:
+            if not self.is_true[-literal]:
+                self.assign(-literal, None)
+        return self.propagate()
+
+    def hints(self, conflict, literals):
+        """The clauses that lead from false literals to a false clause, in the order of the trail, and that clause. A
+        literal is supposed to be false even where the trail has a reason for it, since a hint to that would say nothing new."""
+        supposed = {abs(literal) for literal in literals}
+        needed, waiting = set(), [conflict]
+        while waiting:
+            clause = self.clauses[waiting.pop()]
+            new = {abs(literal) for literal in clause} - supposed - needed
+            needed |= new
+            waiting += [self.reasons[variable] for variable in new]
+        ordered = sorted(needed, key=self.positions.__getitem__)
+        return [self.reasons[variable] for variable in ordered] + [conflict]
+
+
+# Derivations
+
+
+def write(lines):
+    """Writes lines to standard output."""
+    sys.stdout.flush()
+    for line in lines:
+        sys.stdout.write(line.text() + "\n")
+    sys.stdout.flush()
+
+
+def derivation(clauses, learned, first_id):
+    """The lines, with ids from `first_id` on, that derive the empty clause from clauses by id: those of the learned clauses
+    that are used, and the empty one."""
+    base = {id: clause for id, clause in clauses.items() if not is_tautology(clause)}
+    numbering = Numbering(base.values())
+    propagation = Propagation(len(numbering))
+    steps = list(map(numbering.inward, learned))
+    conflict, ends = add_all(propagation, map(numbering.inward, base.values()), steps)
+    used = dict(hints_backward(propagation, len(base), steps, ends, conflict))
+    ids = dict(enumerate(base))
+    ids.update(zip(sorted(used), range(first_id, first_id + len(used))))
+    literals = [*learned[: len(ends)], []]
+    return [
+        Line(ids[place], literals[place - len(base)], [ids[hint] for hint in used[place]]) for place in sorted(used)
+    ]
+
+
+def add_all(propagation, base, steps):
+    """Adds the base's clauses and then the steps, until propagation alone makes a clause false. Answers that clause, and
+    how long the trail was before each step."""
+    for clause in base:
+        conflict = propagation.add(clause)
+        if conflict is not None:
+            return conflict, []
+    conflict, ends = propagation.propagate(), []
+    for step in steps:
+        if conflict is not None:
+            break
+        ends.append(len(propagation.trail))
+        conflict = propagation.add(step)
+        if conflict is None:
+            conflict = propagation.propagate()
+    if conflict is None:
+        raise Failure(SOLVER_FAILED, "the solver's proof doesn't lead to the empty clause by unit propagation")
+    return conflict, ends
+
+
+def hints_backward(propagation, base_count, steps, ends, conflict):
+    """The place and the hints of the empty clause, and then of each step that is used, from the last one on."""
+    hints = propagation.hints(conflict, [])
+    yield base_count + len(ends), hints
+    used = set(hints)
+    for at in reversed(range(len(ends))):
+        place = base_count + at
+        propagation.take_back(ends[at], place)
+        if place not in used:
+            continue
+        conflict = propagation.falsified_under(steps[at])
+        if conflict is None:
+            raise Failure(SOLVER_FAILED, f"clause {at + 1} of the solver's proof doesn't follow by unit propagation")
+        hints = propagation.hints(conflict, steps[at])
+        yield place, hints
+        used.update(hints)
+        propagation.take_back(ends[at], place)

@@ -1,0 +1,162 @@
+#!/usr/bin/env python3
+"""Writes a refutation of a false formula: rows of its universals, and hinted lines that derive the empty clause from the
+clauses' instances there, a `dqr` text as docs/FORMATS.md describes it. The solver cadical finds the lines. Nothing here is
+trusted: dqcheck judges what is written.
+
+Usage: tools/refute.py FORMULA > CERT            DQDIMACS; the rows are found here
+       tools/refute.py FORMULA ROWS > CERT       a row a line, each universal with its sign
+
+Rows are found so: a model of the instances so far gives each existential a bit for what it sees in these rows, and each
+existential is false elsewhere; where a clause is then false under some row, that row is added. At worst all rows are.
+
+The exit status is 0 where a refutation was written, 1 for words that aren't files, and else, with a message: 2 a text can't be
+read, 3 there is no cadical, 4 cadical failed, 7 the instances under the rows of ROWS have a model, 8 the formula isn't
+false.
+"""
+
+import sys
+
+import hinted
+from failure import NOT_FALSE, TOO_FEW_ROWS, Failure, run
+from texts import Place, bytes_of, lines_of, number, read_formula, tokens_of
+
+USAGE = "usage: tools/refute.py FORMULA [ROWS] > CERT"
+
+
+def read_rows(formula, path):
+    """The rows that a text lists, each a set of literals. `u` before a row and 0 behind it, as in a `dqr` text, are
+    accepted, and lines of blanks are skipped."""
+    place, rows = Place(path), []
+    for place.line, line in enumerate(lines_of(bytes_of(path)), 1):
+        words = tokens_of(line)
+        literals = [number(word) for word in words[words[:1] == [b"u"] :]]
+        if literals[-1:] == [0]:
+            literals.pop()
+        place.check(None not in literals, "a row is a list of numbers")
+        fits = sorted(map(abs, literals)) == sorted(formula.universals)
+        place.check(fits or not words, "a row has each universal once, with its sign")
+        if words:
+            rows.append(frozenset(literals))
+    return rows
+
+
+class Expansion:
+    """The clauses' instances under rows, by id, and the variable of each existential under what it sees: the number that
+    it has under the first row which gives it that."""
+
+    def __init__(self, formula, rows=()):
+        self.formula = formula
+        self.rows = []
+        self.pairs = {}
+        self.instances = {}
+        for row in rows:
+            self.add(row)
+
+    def add(self, row):
+        variables = {}
+        for existential, seen in self.formula.dependencies.items():
+            pair = existential, frozenset(literal for literal in row if abs(literal) in seen)
+            variables[existential] = self.pairs.setdefault(pair, len(self.rows) * self.formula.variables + existential)
+        first = len(self.rows) * len(self.formula.clauses) + 1
+        for id, clause in enumerate(self.formula.clauses, first):
+            if row.isdisjoint(clause):
+                left = [literal for literal in clause if abs(literal) in variables]
+                self.instances[id] = [variables[literal] if literal > 0 else -variables[-literal] for literal in left]
+        self.rows.append(row)
+
+    def first_id(self):
+        return len(self.rows) * len(self.formula.clauses) + 1
+
+    def rows_of(self, lines):
+        """The rows whose instances are used by lines, in order."""
+        used = {(hint - 1) // len(self.formula.clauses) for line in lines for hint in line.hints if hint < self.first_id()}
+        return [self.rows[place] for place in sorted(used)]
+
+    def lines(self, learned):
+        return hinted.derivation(self.instances, learned, self.first_id())
+
+
+# Rows that are found
+
+
+def failing_row(formula, expansion, true):
+    """A row under which the functions that follow a model make some clause false, or None."""
+    variables = {*formula.universals, *formula.dependencies}
+    names = iter(range(formula.variables + 1, 10**18))
+    clauses = some_clause_is_false(formula, names) + functions(formula, expansion, true, names)
+    answer = hinted.solve(clauses)
+    if not answer.has_model:
+        return None
+    return frozenset(universal if universal in answer.true else -universal for universal in formula.universals)
+
+
+def some_clause_is_false(formula, names):
+    falsities = [next(names) for _ in formula.clauses]
+    return [
+        falsities,
+        *([-falsity, -literal] for falsity, clause in zip(falsities, formula.clauses) for literal in clause),
+    ]
+
+
+def functions(formula, expansion, true, names):
+    """Clauses that say: each existential is true exactly where it sees what it saw in a row in which it is true."""
+    cases = {existential: [] for existential in formula.dependencies}
+    clauses = []
+    for (existential, seen), variable in expansion.pairs.items():
+        if variable in true:
+            case = next(names)
+            cases[existential].append(case)
+            clauses.append([existential, *(-literal for literal in seen)])
+            clauses += [[-case, literal] for literal in seen]
+    return clauses + [[-existential, *found] for existential, found in cases.items()]
+
+
+def find_rows(formula):
+    """An expansion under rows that are found, and clauses that the solver learned from it."""
+    expansion = Expansion(formula)
+    while (answer := hinted.solve(expansion.instances.values())).has_model:
+        row = failing_row(formula, expansion, answer.true)
+        if row is None:
+            count = len(expansion.rows)
+            message = f"the formula isn't false: functions that follow {count} rows make each clause true under every row"
+            raise Failure(NOT_FALSE, message)
+        expansion.add(row)
+    return expansion, answer.learned
+
+
+def found_refutation(formula):
+    """Rows and lines, without the rows that no line uses."""
+    expansion, learned = find_rows(formula)
+    lines = expansion.lines(learned)
+    while len(rows := expansion.rows_of(lines)) < len(expansion.rows):
+        expansion = Expansion(formula, rows)
+        lines = expansion.lines(hinted.solve(expansion.instances.values()).learned)
+    return expansion.rows, lines
+
+
+# Rows that are given
+
+
+def refutation_under(formula, rows):
+    expansion = Expansion(formula, rows)
+    answer = hinted.solve(expansion.instances.values())
+    if answer.has_model:
+        raise Failure(TOO_FEW_ROWS, f"the clauses' instances under these {len(rows)} rows have a model: the rows don't refute the formula")
+    return rows, expansion.lines(answer.learned)
+
+
+def refute(formula_path, rows_path=None):
+    formula = read_formula(formula_path)
+    if rows_path is None:
+        rows, lines = found_refutation(formula)
+    else:
+        rows, lines = refutation_under(formula, read_rows(formula, rows_path))
+    sys.stdout.write(f"p dqr {len(rows)} {len(lines)}\n")
+    for row in rows:
+        literals = [universal if universal in row else -universal for universal in formula.universals]
+        sys.stdout.write(" ".join(map(str, ["u", *literals, 0])) + "\n")
+    hinted.write(lines)
+
+
+if __name__ == "__main__":
+    sys.exit(run("refute", USAGE, 1, 2, refute))
