@@ -111,10 +111,10 @@ def first_id(formula, circuit):
 
 def failing_row(formula, circuit, inputs, true):
     """What a model of the negated matrix says against the circuit."""
-    row = " ".join(str(universal if inputs[universal] in true else -universal) for universal in formula.universals)
+    row = [universal if inputs[universal] in true else -universal for universal in formula.universals]
     place = next(place for place in range(1, len(formula.clauses) + 1) if circuit.variables + place in true)
     clause = " ".join(map(str, [*formula.clauses[place - 1], 0]))
-    return f"under the row {row} clause {place} is false: {clause}"
+    return f"{' '.join(map(str, ['under row', *row]))}, clause {place} is false: {clause}"
 
 
 def prove(formula_path, circuit_path):

@@ -36,6 +36,12 @@ def number(token):
     return int(token)
 
 
+# The checker refuses what is over these.
+MOST_VARIABLES = 1_000_000
+MOST_CLAUSES = 10_000_000
+LARGEST_COUNT = 1_000_000_000
+
+
 class Place:
     """A file and the line that is looked at."""
 
@@ -80,8 +86,8 @@ class FormulaReader:
     def read(self):
         words = [self.take(), self.take()]
         self.place.check(words == [b"p", b"cnf"], "no header `p cnf V C` stands here")
-        self.formula = Formula(self.natural(self.take()))
-        clause_count = self.natural(self.take())
+        self.formula = Formula(self.count(MOST_VARIABLES))
+        clause_count = self.count(MOST_CLAUSES)
         takers = {b"a": self.take_universals, b"e": self.take_existentials, b"d": self.take_item}
         while token := self.take_any():
             self.place.check(token not in takers or not self.formula.clauses, "a set or an item behind a clause")
@@ -100,6 +106,11 @@ class FormulaReader:
         token = self.take_any()
         self.place.check(token is not None, "the text ends inside a part")
         return token
+
+    def count(self, limit):
+        count = self.natural(self.take())
+        self.place.check(count <= limit, f"{count} is over the limit {limit}")
+        return count
 
     def natural(self, token):
         value = number(token)
@@ -202,7 +213,9 @@ class CircuitReader:
         fits = header[:1] == [b"aag"] and 5 <= len(counts) <= 9 and all(count is not None and count >= 0 for count in counts)
         self.place.check(fits, "no header `aag M I L O A` stands here")
         self.variables, input_count, latch_count, output_count, gate_count, *further = counts
+        self.place.check(max(counts) <= LARGEST_COUNT, f"a number over the limit {LARGEST_COUNT}")
         self.place.check(latch_count == 0 and not any(further), "only combinational circuits, without latches and properties")
+        self.place.check(self.variables >= input_count + gate_count, "fewer variables than inputs and gates")
         self.defined = set()
         inputs = [self.new_variable(self.numbers(1)[0]) for _ in range(input_count)]
         outputs = [self.literal(self.numbers(1)[0]) for _ in range(output_count)]
