@@ -13,18 +13,24 @@ from typing import NamedTuple
 
 from failure import NO_SOLVER, SOLVER_FAILED, Failure
 
-# A removed clause stays in the proofs made here, so that what only removes clauses would do no harm; but what needs no RAT
-# step, and no look at a removed clause, is easiest to follow.
+# Without what may need RAT steps, or clauses that were deleted before.
 OPTIONS = ["-q", "--no-binary", "--no-block", "--no-condition", "--no-cover", "--no-elim", "--no-instantiate"]
 HAS_MODEL, HAS_NONE = 10, 20
 
 
+class Step(NamedTuple):
+    """A clause that the solver learned, and those that it deleted since the one before."""
+
+    literals: list
+    deleted: list
+
+
 class Answer(NamedTuple):
-    """What the solver says of clauses: the variables that a model makes true, or else the clauses that it learned, in
-    order, up to the empty one."""
+    """What the solver says of clauses: the variables that a model makes true, or else what it learned up to the empty
+    clause."""
 
     true: set
-    learned: list
+    steps: list
 
     @property
     def has_model(self):
@@ -80,7 +86,7 @@ def solve(clauses):
         if run.returncode == HAS_MODEL:
             return Answer(true_variables(numbering, run.stdout), None)
         if run.returncode == HAS_NONE:
-            return Answer(None, learned_clauses(numbering, paths[1]))
+            return Answer(None, read_drat(numbering, paths[1]))
     raise Failure(SOLVER_FAILED, f"cadical ended with status {run.returncode} and no answer: {run.stderr.strip()}")
 
 
@@ -95,29 +101,35 @@ def true_variables(numbering, output):
     return set(numbering.outward([literal for literal in literals if literal > 0]))
 
 
-def learned_clauses(numbering, path):
-    """The clauses of a DRAT text up to its first empty one, without its deletions."""
-    learned = []
+def read_drat(numbering, path):
+    """The steps of a DRAT text before its first empty clause."""
+    steps, deleted = [], []
     with open(path, encoding="ascii") as file:
         for line in file:
-            if not line.startswith("d"):
-                literals = [int(word) for word in line.split()[:-1]]
-                if not literals:
-                    break
-                learned.append(numbering.outward(literals))
-    return learned
+            words = line.split()
+            is_deletion = words[0] == "d"
+            literals = numbering.outward([int(word) for word in words[is_deletion:-1]])
+            if is_deletion:
+                deleted.append(literals)
+            elif literals:
+                steps.append(Step(literals, deleted))
+                deleted = []
+            else:
+                break
+    return steps
 
 
 # Unit propagation
 
 
 class Propagation:
-    """Unit propagation over clauses that are added one by one, with two watched literals each. Clauses are named by
-    their places. `trail` has the true literals in the order in which they became true; `reasons` has, by variable, the
+    """Unit propagation over clauses that are added one by one, with two watched literals each, the first ones of their
+    lists. Clauses are named by their places. `trail` has the true literals in the order in which they became true; `reasons` has, by variable, the
     clause that made it so, or None where it was assumed."""
 
     def __init__(self, variables):
         self.clauses = []
+        self.unwatched = set()
         self.watching = [[] for _ in range(2 * variables + 1)]  # by literal; a negative one counts from the end
         self.is_true = [False] * (2 * variables + 1)
         self.reasons = [None] * (variables + 1)
@@ -146,14 +158,27 @@ class Propagation:
         falses = [literal for literal in literals if self.is_true[-literal]]
         left = [literal for literal in literals if not self.is_true[-literal]]
         self.clauses.append(left + falses)
-        if not left:
-            return place
-        if len(left) == 1 and not self.is_true[left[0]]:
-            self.assign(left[0], place)
-        elif not any(self.is_true[literal] for literal in left):
-            for literal in left[:2]:
-                self.watching[literal].append(place)
-        return None
+        if len(left) >= 2 and not any(self.is_true[literal] for literal in left):
+            self.watch(place)
+        else:
+            self.unwatched.add(place)
+            if len(left) == 1 and not self.is_true[left[0]]:
+                self.assign(left[0], place)
+        return None if left else place
+
+    def watch(self, place):
+        for literal in self.clauses[place][:2]:
+            self.watching[literal].append(place)
+
+    def stop_watching(self, place):
+        """Passes a clause over from now on, and answers whether it was looked at: not where it made a literal true, or
+        needed no watch. `watch` brings it back once the trail is as it was."""
+        clause = self.clauses[place]
+        if place in self.unwatched or any(self.is_true[literal] and self.reasons[abs(literal)] == place for literal in clause):
+            return False
+        for literal in clause[:2]:
+            self.watching[literal].remove(place)
+        return True
 
     def propagate(self):
         """Makes true what is unit; answers a clause that is false, or None."""
@@ -232,57 +257,75 @@ def write(lines):
     sys.stdout.flush()
 
 
-def derivation(clauses, learned, first_id):
+def derivation(clauses, steps, first_id):
     """The lines, with ids from `first_id` on, that derive the empty clause from clauses by id: those of the learned clauses
     that are used, and the empty one."""
     base = {id: clause for id, clause in clauses.items() if not is_tautology(clause)}
-    numbering = Numbering(base.values())
-    propagation = Propagation(len(numbering))
-    steps = list(map(numbering.inward, learned))
-    conflict, ends = add_all(propagation, map(numbering.inward, base.values()), steps)
-    used = dict(hints_backward(propagation, len(base), steps, ends, conflict))
+    proof = Proof(Numbering(base.values()), base.values(), steps)
+    used = dict(proof.hints_backward())
     ids = dict(enumerate(base))
     ids.update(zip(sorted(used), range(first_id, first_id + len(used))))
-    literals = [*learned[: len(ends)], []]
-    return [
-        Line(ids[place], literals[place - len(base)], [ids[hint] for hint in used[place]]) for place in sorted(used)
-    ]
+    literals = {len(base) + at: step.literals for at, step in enumerate(steps)} | {proof.end: []}
+    return [Line(ids[place], literals[place], [ids[hint] for hint in used[place]]) for place in sorted(used)]
 
 
-def add_all(propagation, base, steps):
-    """Adds the base's clauses and then the steps, until propagation alone makes a clause false. Answers that clause, and
-    how long the trail was before each step."""
-    for clause in base:
-        conflict = propagation.add(clause)
-        if conflict is not None:
-            return conflict, []
-    conflict, ends = propagation.propagate(), []
-    for step in steps:
-        if conflict is not None:
-            break
-        ends.append(len(propagation.trail))
-        conflict = propagation.add(step)
-        if conflict is None:
-            conflict = propagation.propagate()
-    if conflict is None:
-        raise Failure(SOLVER_FAILED, "the solver's proof doesn't lead to the empty clause by unit propagation")
-    return conflict, ends
+class Proof:
+    """Clauses and steps that lead to an empty clause by unit propagation, all added. `lengths` has how long the trail was before
+    each step, `deleted` the places of what was deleted before it, and `end` is the place of the empty clause."""
 
+    def __init__(self, numbering, base, steps):
+        self.propagation = Propagation(len(numbering))
+        self.base_count = len(base)
+        self.literals = [numbering.inward(step.literals) for step in steps]
+        self.lengths, self.deleted = [], []
+        self.places = {}  # of equal clauses
+        self.conflict = self.add_base(map(numbering.inward, base))
+        for literals, step in zip(self.literals, steps):
+            if self.conflict is None:
+                self.delete(map(numbering.inward, step.deleted))
+                self.lengths.append(len(self.propagation.trail))
+                self.conflict = self.add(literals)
+                if self.conflict is None:
+                    self.conflict = self.propagation.propagate()
+        if self.conflict is None:
+            raise Failure(SOLVER_FAILED, "the solver's proof doesn't lead to the empty clause by unit propagation")
+        self.end = self.base_count + len(self.lengths)
 
-def hints_backward(propagation, base_count, steps, ends, conflict):
-    """The place and the hints of the empty clause, and then of each step that is used, from the last one on."""
-    hints = propagation.hints(conflict, [])
-    yield base_count + len(ends), hints
-    used = set(hints)
-    for at in reversed(range(len(ends))):
-        place = base_count + at
-        propagation.take_back(ends[at], place)
-        if place not in used:
-            continue
-        conflict = propagation.falsified_under(steps[at])
+    def add(self, literals):
+        self.places.setdefault(frozenset(literals), []).append(len(self.propagation.clauses))
+        return self.propagation.add(literals)
+
+    def add_base(self, base):
+        for literals in base:
+            conflict = self.add(literals)
+            if conflict is not None:
+                return conflict
+        return self.propagation.propagate()
+
+    def delete(self, clauses):
+        """Passes clauses over from the next step on; what isn't there, or made a literal true, is left."""
+        found = [self.places[key].pop() for key in map(frozenset, clauses) if self.places.get(key)]
+        self.deleted.append([place for place in found if self.propagation.stop_watching(place)])
+
+    def hints_backward(self):
+        """The place and the hints of the empty clause, and then of each step that is used, from the last one on."""
+        hints = self.propagation.hints(self.conflict, [])
+        yield self.end, hints
+        used = set(hints)
+        for at in reversed(range(len(self.lengths))):
+            place = self.base_count + at
+            self.propagation.take_back(self.lengths[at], place)
+            if place in used:
+                hints = self.hints_of(at)
+                yield place, hints
+                used.update(hints)
+                self.propagation.take_back(self.lengths[at], place)
+            for restored in self.deleted[at]:
+                self.propagation.watch(restored)
+
+    def hints_of(self, at):
+        """The hints of a step, where only the clauses before it are left."""
+        conflict = self.propagation.falsified_under(self.literals[at])
         if conflict is None:
             raise Failure(SOLVER_FAILED, f"clause {at + 1} of the solver's proof doesn't follow by unit propagation")
-        hints = propagation.hints(conflict, steps[at])
-        yield place, hints
-        used.update(hints)
-        propagation.take_back(ends[at], place)
+        return self.propagation.hints(conflict, self.literals[at])

@@ -125,7 +125,7 @@ def prove(formula_path, circuit_path):
     answer = hinted.solve(clauses.values())
     if answer.has_model:
         raise Failure(WRONG_CIRCUIT, failing_row(formula, circuit, inputs, answer.true))
-    lines = hinted.derivation(clauses, answer.learned, first_id(formula, circuit))
+    lines = hinted.derivation(clauses, answer.steps, first_id(formula, circuit))
     sys.stdout.buffer.write(circuit.text + f"c\ndqp {len(lines)}\n".encode())
     hinted.write(lines)
 

@@ -72,8 +72,8 @@ class Expansion:
         used = {(hint - 1) // len(self.formula.clauses) for line in lines for hint in line.hints if hint < self.first_id()}
         return [self.rows[place] for place in sorted(used)]
 
-    def lines(self, learned):
-        return hinted.derivation(self.instances, learned, self.first_id())
+    def lines(self, steps):
+        return hinted.derivation(self.instances, steps, self.first_id())
 
 
 # Rows that are found
@@ -112,7 +112,7 @@ def functions(formula, expansion, true, names):
 
 
 def find_rows(formula):
-    """An expansion under rows that are found, and clauses that the solver learned from it."""
+    """An expansion under rows that are found, and the steps of the solver that refute it."""
     expansion = Expansion(formula)
     while (answer := hinted.solve(expansion.instances.values())).has_model:
         row = failing_row(formula, expansion, answer.true)
@@ -121,16 +121,16 @@ def find_rows(formula):
             message = f"the formula isn't false: functions that follow {count} rows make each clause true under every row"
             raise Failure(NOT_FALSE, message)
         expansion.add(row)
-    return expansion, answer.learned
+    return expansion, answer.steps
 
 
 def found_refutation(formula):
     """Rows and lines, without the rows that no line uses."""
-    expansion, learned = find_rows(formula)
-    lines = expansion.lines(learned)
+    expansion, steps = find_rows(formula)
+    lines = expansion.lines(steps)
     while len(rows := expansion.rows_of(lines)) < len(expansion.rows):
         expansion = Expansion(formula, rows)
-        lines = expansion.lines(hinted.solve(expansion.instances.values()).learned)
+        lines = expansion.lines(hinted.solve(expansion.instances.values()).steps)
     return expansion.rows, lines
 
 
@@ -142,7 +142,7 @@ def refutation_under(formula, rows):
     answer = hinted.solve(expansion.instances.values())
     if answer.has_model:
         raise Failure(TOO_FEW_ROWS, f"the clauses' instances under these {len(rows)} rows have a model: the rows don't refute the formula")
-    return rows, expansion.lines(answer.learned)
+    return rows, expansion.lines(answer.steps)
 
 
 def refute(formula_path, rows_path=None):
