@@ -7,6 +7,7 @@ many there were; where there is one, the exit status is 1. Needs cadical on the 
 Usage: bench/tools.py [CHECKER]     such as crates/dqcheck/out/dqcheck
 """
 
+import functools
 import itertools
 import os
 import random
@@ -72,7 +73,7 @@ class Bench:
         return written
 
 
-# Examples
+# Examples and their like
 
 
 def example(name):
@@ -106,6 +107,28 @@ def examples(bench):
         bench.check_status(f"{formula} {circuit}", "prove_circuit.py", words, status)
     for formula in ("copies", "small-boxes", "two-boxes"):
         bench.check_status(formula, "refute.py", [example(formula + ".dqdimacs")], NOT_FALSE)
+
+
+def forms(bench):
+    """One circuit in forms that its text may have, of which all but an old comment is kept."""
+    formula = example("copies.dqdimacs")
+    symbols = b"aag 2 2 0 2 0\n4\n2\n4\n2\ni1 1\ni0 2\no0 4\no1 3\n"
+    for text, kept in (
+        (b"s TRUE\naag 2 2 0 2 0\n2\n4\n2\n4", b"s TRUE\naag 2 2 0 2 0\n2\n4\n2\n4\n"),
+        (b"aag 2 2 0 2 0\r\n2\r\n4\r\n2\r\n4\r\n", b"aag 2 2 0 2 0\r\n2\r\n4\r\n2\r\n4\r\n"),
+        (b"aag 9 2 0 2 1 0\n2\n 4\n02\n4\n18 18 0\n", None),
+        (b"aag 9 2 0 2 1 0\n2\n 4\n02\n4\n18 2 0\n", b"aag 9 2 0 2 1 0\n2\n 4\n02\n4\n18 2 0\n"),
+        (symbols, symbols),
+        (symbols + b"\nc \t\nsome words\nc\ndqp 0\n", symbols + b"\n"),
+        (symbols.replace(b"o1 3", b"o1 4"), None),
+        (symbols.replace(b"o1 3\n", b""), None),
+    ):
+        words = [formula, bench.file("circuit", text)]
+        if kept is None:
+            bench.check_status(f"{text}", "prove_circuit.py", words, UNREADABLE)
+        else:
+            written = bench.check_verdict(f"{text}", "prove_circuit.py", words, "VALID TRUE")
+            bench.check(f"{text}: what is kept", written.startswith(kept + b"c\ndqp "), written)
 
 
 def given_rows(bench):
@@ -211,12 +234,42 @@ def pigeons(holes):
     return text_of([["p", "cnf", holes * (holes + 1) + 2, len(clauses)], ["a", 1, 2, 0], *clauses])
 
 
+def parities(count, seed):
+    """A formula whose existentials are the parities of the first 2, 3, .. universals, each by its gate over the one before,
+    and a circuit whose last output sums in another order."""
+    universals = list(range(1, count + 1))
+    order = random.Random(seed).sample(universals, count)
+    existentials = list(range(count + 1, 2 * count))
+    clauses, gates, outputs = [], [], []
+
+    def gate(*sides):
+        gates.append([2 * (count + 1 + len(gates)), *sides])
+        return gates[-1][0]
+
+    def parity(left, right):
+        return gate(gate(left, right) + 1, gate(left + 1, right + 1) + 1)
+
+    def parity_of(variables):
+        return functools.reduce(parity, [2 * variable for variable in variables])
+
+    for y, a, b in zip(existentials, [1, *existentials], universals[1:]):
+        clauses += [[-y, a, b, 0], [-y, -a, -b, 0], [y, -a, b, 0], [y, a, -b, 0]]
+        outputs.append(parity_of(order) if b == count else parity(outputs[-1] if outputs else 2, 2 * b))
+    formula = [["p", "cnf", 2 * count - 1, len(clauses)], ["a", *universals, 0], ["e", *existentials, 0], *clauses]
+    header = ["aag", count + len(gates), count, 0, len(outputs), len(gates)]
+    circuit = [header, *([2 * x] for x in universals), *([output] for output in outputs), *gates]
+    return text_of(formula), text_of(circuit)
+
+
 def larger(bench):
     formula, circuit = gates_of_pairs(32, 1)
     words = [bench.file("formula", formula), bench.file("circuit", circuit)]
     bench.check_verdict("64 inputs", "prove_circuit.py", words, "VALID TRUE")
     wrong = circuit.replace(b"\n130\n", b"\n131\n")
     bench.check_status("64 inputs, an output negated", "prove_circuit.py", [words[0], bench.file("circuit", wrong)], WRONG_CIRCUIT)
+    formula, circuit = parities(22, 1)
+    words = [bench.file("formula", formula), bench.file("circuit", circuit)]
+    bench.check_verdict("parities", "prove_circuit.py", words, "VALID TRUE")
     for holes in (4, 6):
         bench.check_verdict(f"{holes} holes", "refute.py", [bench.file("formula", pigeons(holes))], "VALID FALSE")
 
@@ -324,7 +377,7 @@ def main():
     checker = sys.argv[1] if len(sys.argv) > 1 else None
     with tempfile.TemporaryDirectory() as folder:
         bench = Bench(folder, checker)
-        for part in (examples, given_rows, amiss, bad_solvers, larger, random_cases):
+        for part in (examples, forms, given_rows, amiss, bad_solvers, larger, random_cases):
             part(bench)
     print(f"{bench.cases} cases, {bench.differences} differences")
     return 1 if bench.differences else 0

@@ -49,7 +49,7 @@ class Line(NamedTuple):
 
 
 def is_tautology(clause):
-    return any(-literal in clause for literal in clause)
+    return len(set(map(abs, clause))) < len(set(clause))
 
 
 class Numbering:

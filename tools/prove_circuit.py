@@ -47,39 +47,63 @@ def named_variables(circuit, kind, names, variables):
 
 # Reads
 
+UNIVERSALS_AT_A_TIME = 1024
+
 
 def check_reads(formula, circuit, inputs, outputs):
-    """Each output reaches only inputs of universals that its existential sees. Sets of universals are bits of a number."""
-    reached = reached_universals(circuit, {inputs[universal]: 1 << place for universal, place in formula.universals.items()})
-    bits_of = {}
-    for existential, seen in formula.dependencies.items():
-        if seen not in bits_of:
-            bits_of[seen] = sum(1 << formula.universals[universal] for universal in seen)
-        foreign = reached[outputs[existential] // 2] & ~bits_of[seen]
-        if foreign:
-            universal = list(formula.universals)[(foreign & -foreign).bit_length() - 1]
-            message = f"the output for {existential} reaches universal {universal}, which {existential} may not see"
-            raise Failure(FOREIGN_READ, message)
+    """Each output reaches only inputs of universals that its existential sees."""
+    order = gates_in_order(circuit)
+    universals = list(formula.universals)
+    foreign = []
+    for start in range(0, len(universals), UNIVERSALS_AT_A_TIME):
+        foreign += foreign_reads(formula, order, inputs, outputs, universals[start : start + UNIVERSALS_AT_A_TIME])
+    if foreign:
+        _, existential, universal = min(foreign)
+        message = f"the output for {existential} reaches universal {universal}, which {existential} may not see"
+        raise Failure(FOREIGN_READ, message)
 
 
-def reached_universals(circuit, inputs):
-    """The universals that each variable reaches."""
-    sides = {gate.variable: [side // 2 for side in gate.sides] for gate in circuit.gates}
-    reached = {0: 0, **inputs}
-    for root in sides:
-        path = [] if root in reached else [root]
-        on_path = set(path)
+def foreign_reads(formula, order, inputs, outputs, universals):
+    """The first existential whose output reaches one of these universals that it may not see, with its place and the first
+    such universal, in a list; sets of universals are bits of a number."""
+    reached = {0: 0, **dict.fromkeys(inputs.values(), 0)}
+    reached |= {inputs[universal]: 1 << at for at, universal in enumerate(universals)}
+    for variable, (left, right) in order:
+        reached[variable] = reached[left // 2] | reached[right // 2]
+    for place, (existential, seen) in enumerate(formula.dependencies.items()):
+        bits = reached[outputs[existential] // 2] if len(seen) < len(inputs) else 0
+        for at in places_of(bits):
+            if universals[at] not in seen:
+                return [(place, existential, universals[at])]
+    return []
+
+
+def places_of(bits):
+    """The places of ones, from the lowest on."""
+    while bits:
+        lowest = bits & -bits
+        yield lowest.bit_length() - 1
+        bits ^= lowest
+
+
+def gates_in_order(circuit):
+    """The gates, each behind those that it reads."""
+    gates = {gate.variable: gate for gate in circuit.gates}
+    order, is_placed = [], {}  # False while a gate is on the path
+    for root in gates:
+        path = [] if root in is_placed else [root]
+        is_placed.setdefault(root, False)
         while path:
-            waiting = [side for side in sides[path[-1]] if side not in reached]
-            if waiting:
-                circuit.place.check(waiting[0] not in on_path, f"the gate of variable {waiting[0]} reads itself through gates")
-                path.append(waiting[0])
-                on_path.add(waiting[0])
+            sides = [side // 2 for side in gates[path[-1]].sides]
+            waiting = next((side for side in sides if side in gates and not is_placed.get(side)), None)
+            if waiting is None:
+                is_placed[path[-1]] = True
+                order.append(gates[path.pop()])
             else:
-                left, right = sides[path[-1]]
-                reached[path[-1]] = reached[left] | reached[right]
-                on_path.remove(path.pop())
-    return reached
+                circuit.place.check(waiting not in is_placed, f"the gate of variable {waiting} reads itself through gates")
+                is_placed[waiting] = False
+                path.append(waiting)
+    return order
 
 
 # The proof
