@@ -6,8 +6,9 @@ trusted: dqcheck judges what is written.
 Usage: tools/refute.py FORMULA > CERT            DQDIMACS; the rows are found here
        tools/refute.py FORMULA ROWS > CERT       a row a line, each universal with its sign
 
-Rows are found so: a model of the instances so far gives each existential a bit for what it sees in these rows, and each
-existential is false elsewhere; where a clause is then false under some row, that row is added. At worst all rows are.
+Rows are found so: a model of the instances so far gives each existential a bit in each row, and decision trees that agree with
+these bits give it a function of what it sees; where a clause is then false under some row, that row is added. At worst all rows
+are.
 
 The exit status is 0 where a refutation was written, 1 for words that aren't files, and else, with a message: 2 a text can't be
 read, 3 there is no cadical, 4 cadical failed, 7 the instances under the rows of ROWS have a model, 8 the formula isn't
@@ -41,12 +42,13 @@ def read_rows(formula, path):
 
 
 class Expansion:
-    """The clauses' instances under rows, by id, and the variable of each existential under what it sees: the number that
-    it has under the first row which gives it that."""
+    """The clauses' instances under rows, by id, and the variable of each existential under each row: the number that it has
+    under the first row in which it sees the same."""
 
     def __init__(self, formula, rows=()):
         self.formula = formula
         self.rows = []
+        self.variables = []
         self.pairs = {}
         self.instances = {}
         for row in rows:
@@ -63,6 +65,7 @@ class Expansion:
                 left = [literal for literal in clause if abs(literal) in variables]
                 self.instances[id] = [variables[literal] if literal > 0 else -variables[-literal] for literal in left]
         self.rows.append(row)
+        self.variables.append(variables)
 
     def first_id(self):
         return len(self.rows) * len(self.formula.clauses) + 1
@@ -76,49 +79,102 @@ class Expansion:
         return hinted.derivation(self.instances, steps, self.first_id())
 
 
+# Functions that agree with a model
+
+LONG_CLAUSE = 50  # what stands in a longer one says little of each of its variables
+
+
+class Trees:
+    """Learns decision trees. An existential may be decided by universals that it sees, and by existentials that are placed before
+    it and see no more: first by those that share a clause with it, as a gate's sides do, and then by all universals that it sees."""
+
+    def __init__(self, formula):
+        self.formula = formula
+        sees = formula.dependencies
+        self.order = {y: place for place, y in enumerate(sorted(sees, key=lambda y: len(sees[y])))}
+        self.near = {y: {} for y in sees}
+        for clause in formula.clauses:
+            variables = [abs(literal) for literal in clause] if len(clause) <= LONG_CLAUSE else []
+            for existential in filter(sees.__contains__, variables):
+                self.near[existential].update(dict.fromkeys(x for x in variables if self.may_decide(x, existential)))
+
+    def may_decide(self, variable, existential):
+        sees = self.formula.dependencies
+        if variable not in sees:
+            return variable in sees[existential]
+        return self.order[variable] < self.order[existential] and sees[variable] <= sees[existential]
+
+    def clauses(self, expansion, true):
+        """Clauses that make each existential what its tree says."""
+        columns = self.columns(expansion, true)
+        every = (1 << len(expansion.rows)) - 1
+        return [clause for existential in self.order for clause in self.tree(existential, columns, every)]
+
+    def columns(self, expansion, true):
+        """The rows in which each variable is true, as bits of a number."""
+        columns = dict.fromkeys([*self.formula.universals, *self.order], 0)
+        for place, (row, variables) in enumerate(zip(expansion.rows, expansion.variables)):
+            for variable in [x for x in row if x > 0] + [y for y, pair in variables.items() if pair in true]:
+                columns[variable] |= 1 << place
+        return columns
+
+    def tree(self, existential, columns, every):
+        """A clause for each leaf: the existential is as in the leaf's rows, or one of the decisions was another."""
+        waiting = [([], every)]
+        while waiting:
+            others, rows = waiting.pop()
+            ones = columns[existential] & rows
+            if ones in (0, rows):
+                yield [*others, existential if ones else -existential]
+            else:
+                chosen = self.decision(existential, columns, rows)
+                waiting.append(([*others, -chosen], rows & columns[chosen]))
+                waiting.append(([*others, chosen], rows & ~columns[chosen]))
+
+    def decision(self, existential, columns, rows):
+        """The variable that parts rows best by what the existential is in them; rows in which it differs differ in what it
+        sees, so that there is one."""
+
+        def parts(variable):
+            return columns[variable] & rows not in (0, rows)
+
+        def disorder(variable):
+            halves = rows & columns[variable], rows & ~columns[variable]
+            return sum(mixture((half & columns[existential]).bit_count(), half.bit_count()) for half in halves)
+
+        near = list(filter(parts, self.near[existential]))
+        return min(near or filter(parts, sorted(self.formula.dependencies[existential])), key=disorder)
+
+
+def mixture(ones, count):
+    """Gini's impurity of so many bits, times their number."""
+    return ones * (count - ones) / count
+
+
 # Rows that are found
 
 
-def failing_row(formula, expansion, true):
-    """A row under which the functions that follow a model make some clause false, or None."""
-    variables = {*formula.universals, *formula.dependencies}
-    names = iter(range(formula.variables + 1, 10**18))
-    clauses = some_clause_is_false(formula, names) + functions(formula, expansion, true, names)
-    answer = hinted.solve(clauses)
+def failing_row(formula, functions):
+    """A row under which functions, given as clauses, make some clause of the formula false, or None."""
+    falsities = range(formula.variables + 1, formula.variables + len(formula.clauses) + 1)
+    some_is_false = [
+        list(falsities),
+        *([-falsity, -literal] for falsity, clause in zip(falsities, formula.clauses) for literal in clause),
+    ]
+    answer = hinted.solve(some_is_false + functions)
     if not answer.has_model:
         return None
     return frozenset(universal if universal in answer.true else -universal for universal in formula.universals)
 
 
-def some_clause_is_false(formula, names):
-    falsities = [next(names) for _ in formula.clauses]
-    return [
-        falsities,
-        *([-falsity, -literal] for falsity, clause in zip(falsities, formula.clauses) for literal in clause),
-    ]
-
-
-def functions(formula, expansion, true, names):
-    """Clauses that say: each existential is true exactly where it sees what it saw in a row in which it is true."""
-    cases = {existential: [] for existential in formula.dependencies}
-    clauses = []
-    for (existential, seen), variable in expansion.pairs.items():
-        if variable in true:
-            case = next(names)
-            cases[existential].append(case)
-            clauses.append([existential, *(-literal for literal in seen)])
-            clauses += [[-case, literal] for literal in seen]
-    return clauses + [[-existential, *found] for existential, found in cases.items()]
-
-
 def find_rows(formula):
     """An expansion under rows that are found, and the steps of the solver that refute it."""
-    expansion = Expansion(formula)
+    expansion, trees = Expansion(formula), Trees(formula)
     while (answer := hinted.solve(expansion.instances.values())).has_model:
-        row = failing_row(formula, expansion, answer.true)
+        row = failing_row(formula, trees.clauses(expansion, answer.true))
         if row is None:
             count = len(expansion.rows)
-            message = f"the formula isn't false: functions that follow {count} rows make each clause true under every row"
+            message = f"the formula isn't false: functions learned from {count} rows make each clause true under every row"
             raise Failure(NOT_FALSE, message)
         expansion.add(row)
     return expansion, answer.steps
