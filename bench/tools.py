@@ -270,6 +270,9 @@ def larger(bench):
     formula, circuit = parities(22, 1)
     words = [bench.file("formula", formula), bench.file("circuit", circuit)]
     bench.check_verdict("parities", "prove_circuit.py", words, "VALID TRUE")
+    bench.check_status("parities", "refute.py", words[:1], NOT_FALSE)
+    blind = formula.replace(b" 43 0\n", b" 0\nd 43 " + b" ".join(b"%d" % x for x in range(1, 22)) + b" 0\n", 1)
+    bench.check_verdict("a parity that doesn't see all", "refute.py", [bench.file("formula", blind)], "VALID FALSE")
     for holes in (4, 6):
         bench.check_verdict(f"{holes} holes", "refute.py", [bench.file("formula", pigeons(holes))], "VALID FALSE")
 
