@@ -131,6 +131,29 @@ def forms(bench):
             bench.check(f"{text}: what is kept", written.startswith(kept + b"c\ndqp "), written)
 
 
+def odd_clauses(bench):
+    """Formulas with tautologies, with an empty clause, and without clauses or variables."""
+    for text, verdict in (
+        (b"p cnf 5 5\na 1 2 0\nd 3 1 0\n5 -5 0\n3 -2 0\n-3 2 0\n3 -3 4 0\n5 2 -5 0\n", "VALID FALSE"),
+        (b"p cnf 2 2\na 1 0\ne 2 0\n2 -1 0\n0\n", "VALID FALSE"),
+        (b"p cnf 0 1\n0\n", "VALID FALSE"),
+        (b"p cnf 2 2\na 1 0\n2 -2 0\n1 -1 0\n", "VALID TRUE"),
+        (b"p cnf 0 0\n", "VALID TRUE"),
+    ):
+        words = [bench.file("formula", text)]
+        formula = reference.FormulaReader(text).read()
+        inputs, outputs = len(formula.universals), len(formula.existentials)
+        header = ["aag", inputs, inputs, 0, outputs, 0]
+        circuit = text_of([header, *([2 * place] for place in range(1, inputs + 1)), *([1] for _ in range(outputs))])
+        proved = [*words, bench.file("circuit", circuit)]
+        if verdict == "VALID TRUE":
+            bench.check_verdict(f"{text}", "prove_circuit.py", proved, verdict)
+            bench.check_status(f"{text}", "refute.py", words, NOT_FALSE)
+        else:
+            bench.check_status(f"{text}", "prove_circuit.py", proved, WRONG_CIRCUIT)
+            bench.check_verdict(f"{text}", "refute.py", words, verdict)
+
+
 def given_rows(bench):
     """Rows that refute a formula and rows that don't, as lines of numbers and as the rows of a `dqr` text."""
     formula = example("small-blind-boxes.dqdimacs")
@@ -380,7 +403,7 @@ def main():
     checker = sys.argv[1] if len(sys.argv) > 1 else None
     with tempfile.TemporaryDirectory() as folder:
         bench = Bench(folder, checker)
-        for part in (examples, forms, given_rows, amiss, bad_solvers, larger, random_cases):
+        for part in (examples, forms, odd_clauses, given_rows, amiss, bad_solvers, larger, random_cases):
             part(bench)
     print(f"{bench.cases} cases, {bench.differences} differences")
     return 1 if bench.differences else 0

@@ -261,7 +261,7 @@ def derivation(clauses, steps, first_id):
     """The lines, with ids from `first_id` on, that derive the empty clause from clauses by id: those of the learned clauses
     that are used, and the empty one."""
     base = {id: clause for id, clause in clauses.items() if not is_tautology(clause)}
-    proof = Proof(Numbering(base.values()), base.values(), steps)
+    proof = Proof(Numbering(clauses.values()), base.values(), steps)
     used = dict(proof.hints_backward())
     ids = dict(enumerate(base))
     ids.update(zip(sorted(used), range(first_id, first_id + len(used))))
