@@ -316,9 +316,10 @@ def is_satisfiable(clauses):
 
 
 def is_formula_true(formula):
-    """Only the first three universals occur in clauses of random formulas, so that the others may be fixed."""
-    rows = itertools.product((False, True), repeat=min(3, len(formula.universals)))
-    rows = [dict(itertools.zip_longest(formula.universals, row, fillvalue=False)) for row in rows]
+    """Whether a random formula is true: in its clauses three universals occur at most, so that the others may be fixed."""
+    used = sorted({abs(literal) for clause in formula.clauses for literal in clause} & set(formula.universals))
+    fixed = dict.fromkeys(formula.universals, False)
+    rows = [fixed | dict(zip(used, row)) for row in itertools.product((False, True), repeat=len(used))]
     return is_satisfiable(list(reference.instances(formula, rows).values()))
 
 
