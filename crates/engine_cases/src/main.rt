@@ -7,6 +7,7 @@ mod circuits;
 mod decisions;
 mod evaluation;
 mod expansions;
+mod exports;
 mod expressions;
 mod rows;
 mod shown;

@@ -5,10 +5,12 @@
 //! OUTPUTS ..` lets the circuits' checker judge outputs, until some hold, and prints what each turn told. `rows NAME : ROW ; ROW ..` adds
 //! rows to the expansion, until they are refuted, and prints for each row of a model whether the clauses hold there and the candidates have
 //! its bits; `points` does the same, and prints the bits, and the candidates' values under all rows. `decide NAME : LIMIT` runs the loop in so
-//! many steps, and prints `true`, `false` or `limit`; `rounds` prints how many rounds it took, too. Lines that begin with `#` are comments.
+//! many steps, and prints `true`, `false` or `limit`; `rounds` prints how many rounds it took, too. `refute` does
+//! the same, exports the refutation, and prints what the checker says of its text; `certificate` prints that text, too. Lines that begin with
+//! `#` are comments.
 
 use crate::evaluation::Detail;
-use crate::{circuits, decisions, expansions};
+use crate::{circuits, decisions, expansions, exports};
 use anyhow::{Result, anyhow};
 use dq_formula::Formula;
 use dqdimacs_reader::read;
@@ -25,6 +27,8 @@ pub fn take_line(alloc: Global, formula: &mut String, line: &str) -> Result<Opti
         "points" => run(alloc, formula, rest, Kind::Rows(Detail::Bits)),
         "decide" => run(alloc, formula, rest, Kind::Decision(Detail::Checks)),
         "rounds" => run(alloc, formula, rest, Kind::Decision(Detail::Bits)),
+        "refute" => run(alloc, formula, rest, Kind::Refutation(Detail::Checks)),
+        "certificate" => run(alloc, formula, rest, Kind::Refutation(Detail::Bits)),
         _ => Err(anyhow!("no command: {line}")),
     }
 }
@@ -35,6 +39,7 @@ enum Kind {
     Turns,
     Rows(Detail),
     Decision(Detail),
+    Refutation(Detail),
 }
 
 fn set_formula(alloc: Global, formula: &mut String, rest: &str) -> Result<Option<String>> {
@@ -55,6 +60,7 @@ fn run(alloc: Global, formula: &str, rest: &str, kind: Kind) -> Result<Option<St
         Kind::Turns => circuits::run(alloc, &formula, steps, &mut printed)?,
         Kind::Rows(detail) => expansions::run(alloc, &formula, steps, detail, &mut printed)?,
         Kind::Decision(detail) => decisions::run(alloc, &formula, steps, detail, &mut printed)?,
+        Kind::Refutation(detail) => exports::run(alloc, &formula, steps, detail, &mut printed)?,
     }
     Ok(Some(printed))
 }

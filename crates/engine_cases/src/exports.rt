@@ -1,0 +1,124 @@
+//! Whole runs whose refutations are exported, and judged by the checker.
+
+ghost use Rattle.std.specs.Prelude.{◌≡◌, ◌≤◌, [], length};
+ghost use Rattle.dq_lits.specs.Formula.{IsWellFormed};
+ghost use Rattle.hint_log.specs.ProductiveLog.{IsProductiveLog};
+ghost use Rattle.cert_text.specs.Header.{max_count};
+ghost use Rattle.expansion.specs.Table.{IsRefutedBy};
+
+use crate::evaluation::Detail;
+use aig_graph::Graph;
+use anyhow::{Result, anyhow};
+use cdcl_core::Cdcl;
+use cert_export::export_false;
+use cert_text::write_dqr;
+use dq_formula::Formula;
+use dqcheck_core::{Answer, judge};
+use hint_log::Log;
+use oracle::Oracle;
+use repair_loop::{Verdict, decide};
+use std::alloc::Global;
+
+// As many steps as a certificate may have.
+const MAX_STEPS: u64 = 1_000_000_000;
+
+// More bytes than any case's certificate has.
+const MAX_BYTES: usize = 1 << 20;
+
+/// Decides a formula in so many steps, and lets the checker judge the refutation.
+pub fn run(
+    alloc: Global,
+    f: &Formula,
+    limit: &str,
+    detail: Detail,
+    printed: &mut String,
+) -> Result<()>
+    requires formula { IsWellFormed f.now }
+{
+    let limit: u64 = limit.trim().parse()?;
+    if limit > MAX_STEPS {
+        return Err(anyhow!("too many steps: {limit}"));
+    }
+    let mut oracle = Cdcl::new(alloc);
+    let mut log = Log::new(alloc, limit);
+    refute(alloc, &mut oracle, f, &mut log, detail, printed)
+}
+
+fn refute<O: Oracle>(
+    alloc: Global,
+    oracle: &mut O,
+    f: &Formula,
+    log: &mut Log,
+    detail: Detail,
+    printed: &mut String,
+) -> Result<()>
+    requires formula { IsWellFormed f.now }
+    requires fit { O.Fits oracle.old log.old }
+    requires empty { log.old.entries ≡ [] }
+    requires limit { log.old.limit ≤ max_count }
+{
+    let mut graph = Graph::new(alloc, f.universals().len());
+    match decide(alloc, oracle, &mut graph, f, log) {
+        Ok(Verdict::False(id)) => export(alloc, f, log, id, detail, printed),
+        _ => {
+            printed.push_str(": not refuted")?;
+            Ok(())
+        }
+    }
+}
+
+fn export(
+    alloc: Global,
+    f: &Formula,
+    log: &Log,
+    id: u64,
+    detail: Detail,
+    printed: &mut String,
+) -> Result<()>
+    requires formula { IsWellFormed f.now }
+    requires productive { IsProductiveLog f.now log.now.entries }
+    requires refuted { IsRefutedBy log.now.entries id }
+    requires limit { log.now.limit ≤ max_count }
+{
+    let text = certificate(alloc, f, log, id)?;
+    show_text(&text, detail, printed)?;
+    show_judgement(alloc, f, text, printed)
+}
+
+fn certificate(alloc: Global, f: &Formula, log: &Log, id: u64) -> Result<Vec<u8>>
+    requires formula { IsWellFormed f.now }
+    requires productive { IsProductiveLog f.now log.now.entries }
+    requires refuted { IsRefutedBy log.now.entries id }
+    requires limit { log.now.limit ≤ max_count }
+{
+    let refutation = export_false(alloc, log, id, f)?;
+    Ok(write_dqr(alloc, &refutation, f)?)
+}
+
+fn show_text(text: &[u8], detail: Detail, printed: &mut String) -> Result<()> {
+    if let Detail::Bits = detail {
+        printed.push('\n')?;
+        printed.push_str(str::from_utf8(text)?)?;
+    }
+    Ok(())
+}
+
+fn show_judgement(alloc: Global, f: &Formula, text: Vec<u8>, printed: &mut String) -> Result<()>
+    requires formula { IsWellFormed f.now }
+{
+    let word = judgement(alloc, f, text)?;
+    printed.push_str(word)?;
+    Ok(())
+}
+
+fn judgement(alloc: Global, f: &Formula, text: Vec<u8>) -> Result<&'static str>
+    requires formula { IsWellFormed f.now }
+{
+    if text.len() > MAX_BYTES {
+        return Err(anyhow!("a long certificate"));
+    }
+    match judge(alloc, f, text)? {
+        Answer::ValidFalse => Ok(": VALID FALSE"),
+        _ => Ok(": not accepted"),
+    }
+}
