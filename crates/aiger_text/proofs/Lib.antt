@@ -7,6 +7,7 @@ mod HeaderSpelling
 mod LineNumbers
 mod Names
 mod NaturalTokens
+mod NumberNames
 mod ReadIsSpelled
 mod ReadNetlist
 mod ReadSymbols

@@ -1,12 +1,13 @@
 //! What joins the grammar, the first fault and the canonical text. A law is the contract of a function
 //! without parameters and with an empty body.
 
-ghost use Rattle.std.specs.Prelude.{◌≡◌, ◌↔◌, ◌⊎◌, ℕ, List, Ok};
+ghost use Rattle.std.specs.Prelude.{◌≡◌, ◌↔◌, ◌⊎◌, ◌<◌, ◌^◌, ℕ, List, Ok};
+ghost use Rattle.std.specs.Fmt.{decimal};
 ghost use Rattle.aiger_text.specs.Canonical.{canonical_circuit};
 ghost use Rattle.aiger_text.specs.FirstFault.{IsFirstFault};
 ghost use Rattle.aiger_text.specs.Grammar.{SpellsCircuit};
 ghost use Rattle.aiger_text.specs.Scan.{LineFault, AllGrounded, scan};
-ghost use Rattle.aiger_text.specs.Spellable.{IsSpellable};
+ghost use Rattle.aiger_text.specs.Spellable.{IsName, IsSpellable};
 ghost use Rattle.aiger_text.specs.declared.files.AagFile.{AagFile};
 
 /// A text spells one circuit file, or it has one first fault, and never both. The number of its first
@@ -25,4 +26,9 @@ pub fn canonical_text_spells()
     ensures spells { (file : AagFile) → IsSpellable file → SpellsCircuit (canonical_circuit file) file }
     ensures reads_back { (file : AagFile) (first : ℕ) → IsSpellable file → scan (canonical_circuit file) first ≡ Ok file }
     ensures spellable { (text : List ℕ) (file : AagFile) → SpellsCircuit text file → IsSpellable file }
+{}
+
+/// A number below 10^18 is a name that a symbol line can hold.
+pub fn numbers_are_names()
+    ensures { (n : ℕ) → n < 10 ^ 18 → IsName (decimal n) }
 {}
