@@ -1,0 +1,24 @@
+use Rattle.std.proofs.Common.{refl}
+use Rattle.clap.proofs.OnLiterals.{clap_on_literals}
+use Rattle.dqsolve_words.specs.Command.{command_of}
+use Rattle.dqsolve_words.proofs.examples.options_are_taken.Goals as goal
+
+pub returns-clause-none : goal.returns-clause-none
+unfolding clap_on_literals command_of
+returns-clause-none c = refl
+
+pub returns-clause-steps : goal.returns-clause-steps
+unfolding clap_on_literals command_of
+returns-clause-steps c = refl
+
+pub returns-clause-behind : goal.returns-clause-behind
+unfolding clap_on_literals command_of
+returns-clause-behind c = refl
+
+pub returns-clause-plus : goal.returns-clause-plus
+unfolding clap_on_literals command_of
+returns-clause-plus c = refl
+
+pub returns-clause-separator : goal.returns-clause-separator
+unfolding clap_on_literals command_of
+returns-clause-separator c = refl

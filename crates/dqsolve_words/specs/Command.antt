@@ -1,0 +1,86 @@
+-- What the words of a command line ask for, by clap's own meaning of a command with one subcommand. The first word is the
+-- program's own name.
+use Rattle.std.specs.Prelude.{ℕ, Bool, true, false, List, [], ◌∷◌, Option, None, Some, codes, option_map, option_and_then, if◌then◌else◌}
+use Rattle.std.specs.Option.{option_map_or}
+use Rattle.std.specs.Str.{bytes_eq}
+use Rattle.std.specs.Str.Parse.{digits_value, without_leading_plus}
+use Rattle.clap.specs.Faults.{fault_of}
+use Rattle.clap.specs.Kinds.{Kinds}
+use Rattle.clap.specs.Simple.{App, Shape, new_app, new_rule, new_shape, on_top, subcommand_of, with_subcommand}
+use Rattle.clap.specs.ValueTests.{is_unsigned_in}
+use Rattle.clap.specs.Walk.{Row, Rule, first_of}
+use Rattle.clap.specs.declared.builder.action.ArgAction.TheVariants.{Set, SetTrue}
+
+-- a search with so many steps at most, whether the line with the verdict is left out, and the name of the formula's file
+pub record Command : Type 0 where
+  pub steps : ℕ
+  pub bare : Bool
+  pub file : List ℕ
+
+-- an argument that is known by its place, has to be there, and is given once
+abbrev pub required_file : List ℕ → Rule
+required_file id = record (new_rule id) { required = true; action = Some Set }
+
+-- `--ID VALUE`, given once at most
+abbrev pub value_option : List ℕ → Rule
+value_option id = record (new_rule id) { long = Some id; action = Some Set }
+
+-- `--ID`, given once at most
+abbrev pub flag : List ℕ → Rule
+flag id = record (new_rule id) { long = Some id; action = Some SetTrue }
+
+-- without flags of clap's own, not even `--help` and `--version`
+abbrev pub without_flags : Shape → Shape
+without_flags s = record s { disable_help_flag = true; disable_version_flag = true }
+
+-- solve [--steps N] [--bare] FILE
+abbrev pub solve_shape : Shape
+solve_shape = record (without_flags (new_shape (codes "solve"))) {
+  rules = value_option (codes "steps") ∷ flag (codes "bare") ∷ required_file (codes "FILE") ∷ [];
+}
+
+-- dqsolve, with its subcommand and without `help`
+abbrev pub solver_app : App
+solver_app = with_subcommand
+    (on_top (λ top. record (without_flags top) { disable_help_subcommand = true }) (new_app (codes "dqsolve"))) solve_shape
+
+abbrev pub least_steps : ℕ
+least_steps = 1
+
+abbrev pub most_steps : ℕ
+most_steps = 1000000000
+
+abbrev pub default_steps : ℕ
+default_steps = 1000000
+
+-- a number in the range, in decimal digits, perhaps behind a plus
+abbrev pub steps_of : List ℕ → Option ℕ
+steps_of text = if is_unsigned_in least_steps most_steps text then Some (digits_value 10 (without_leading_plus text)) else None
+
+-- how many steps are asked for
+abbrev pub steps_in : List Row → Option ℕ
+steps_in rows = option_map_or steps_of (first_of (codes "steps") rows) (Some default_steps)
+
+-- whether a flag is given
+abbrev pub has_flag : List ℕ → List Row → Bool
+has_flag id rows = option_map_or (λ value. bytes_eq value (codes "true")) (first_of id rows) false
+
+-- what is asked of `solve`
+abbrev pub solve_in : List Row → Option Command
+solve_in rows = option_and_then
+    (λ file. option_map (λ steps. record { steps = steps; bare = has_flag (codes "bare") rows; file = file }) (steps_in rows))
+    (first_of (codes "FILE") rows)
+
+-- what is asked of the subcommand that was named
+abbrev pub command_in : Option (List ℕ × List Row) → Option Command
+command_in sub = option_and_then (λ p. solve_in p.1) sub
+
+-- a command, where its words have no fault
+abbrev pub without_fault : Kinds → Option Command → Option Command
+without_fault [] command = command
+without_fault (_ ∷ _) command = None
+
+-- what the words ask for, where the command has no fault at them; what callers need of it stands in the laws, so it doesn't
+-- unfold in their proofs
+unfoldable pub command_of : List (List ℕ) → Option Command
+command_of words = without_fault (fault_of solver_app words) (command_in (subcommand_of solver_app words))
