@@ -7,6 +7,7 @@
 
 pub use answers::{Answer, CertificateFault};
 pub use judging::judge;
+pub use names::formula_fault_name;
 pub use run::dqcheck_run;
 
 mod answers;

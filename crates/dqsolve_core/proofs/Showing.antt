@@ -1,0 +1,107 @@
+-- From what the search and the exports answer to a verdict's output.
+use Rattle.std.proofs.Common.{◌≡◌, ◌+◌, ◌-◌, ◌≤◌, ℕ, Bool, sym, ap, subst, arith, List, length, None, Result, Ok, Err}
+use Rattle.dq_lits.specs.Expansion.{IsExpansionUnsatisfiable}
+use Rattle.dq_lits.specs.Formula.{Dqbf}
+use Rattle.dq_lits.specs.Henkin.{IsTrueFormula, IsFalseFormula}
+use Rattle.dq_formula.specs.Prefix.{IsLawful}
+use Rattle.aig_graph.specs.declared.nodes.Node.{Node}
+use Rattle.aig_graph.specs.Graph.{AigGraph}
+use Rattle.circuit_cnf.specs.Shown.{ShownOutputsDecide}
+use Rattle.hint_log.specs.Deciding.{IsUndecided}
+use Rattle.hint_log.specs.Entries.{Entry, ProofLog, count, rounds_of, steps_of}
+use Rattle.hint_log.specs.Naming.{rows_of}
+use Rattle.hint_log.specs.ProductiveLog.{IsProductiveLog}
+use Rattle.hint_log.specs.declared.stops.Stop.{Stop}
+use Rattle.aiger_text.specs.declared.files.AagFile.{AagFile}
+use Rattle.cert_text.specs.Grammar.{IsDqrOf}
+use Rattle.cert_text.specs.Header.{max_count}
+use Rattle.cert_text.specs.ProofGrammar.{IsDqpOf}
+use Rattle.cert_text.specs.declared.circuit_proofs.Dqp.{Dqp}
+use Rattle.cert_text.specs.declared.refutations.Dqr.{Dqr}
+use Rattle.cert_export.specs.ExportedCircuit.{IsDecidedTrue, IsProvedCircuit, IsWritable, is_gate_name}
+use Rattle.cert_export.specs.Lines.{is_lemma}
+use Rattle.refutation_checker.specs.Refutation.{refutation_fault}
+use Rattle.repair_loop.specs.Searching.{IsShownTrue as IsFoundTrue}
+use Rattle.dqsolve_core.specs.Accepted.{ProvedCircuitsAreAccepted, RefutationsAreAccepted, SmallLogsAreWithinLimits}
+use Rattle.dqsolve_core.specs.Outputs.{IsVerdictOutput}
+use Rattle.dqsolve_core.specs.Report.{is_unknown, verdict_text}
+use Rattle.dqsolve_core.specs.Shown.{IsShownTrue, IsShownFalse, few_entries}
+use Rattle.dqsolve_core.specs.declared.verdicts.Found.{Found}
+use Rattle.dqsolve_core.specs.declared.verdicts.Found.TheVariants.{Shown, Refuted}
+use Rattle.dqsolve_core.specs.declared.reports.Output.{Output}
+use Rattle.dqsolve_core.proofs.Counts.{count_few}
+
+abbrev found_id : Result Found Stop → ℕ
+found_id (Ok (Shown id)) = id
+found_id (Ok (Refuted id)) = id
+found_id (Err _) = 0
+
+pub same_shown : (id other : ℕ) → ◌≡◌ {A = Result Found Stop} (Ok (Shown id)) (Ok (Shown other)) → id ≡ other
+same_shown id other same = ap found_id same
+
+pub same_refuted : (id other : ℕ) → ◌≡◌ {A = Result Found Stop} (Ok (Refuted id)) (Ok (Refuted other)) → id ≡ other
+same_refuted id other same = ap found_id same
+
+-- the loop's last answer decides that the formula is true
+pub decided : ShownOutputsDecide → (f : Dqbf) (graph : AigGraph) (nodes : List Node) (log : ProofLog) (id : ℕ) → IsFoundTrue f graph nodes log id → IsDecidedTrue f log.entries id
+decided law f graph nodes log id s = record {
+  clause = s.shown.clause;
+  hints = s.shown.hints;
+  earlier = s.shown.earlier;
+  answered = s.shown.answered;
+  last = s.shown.last;
+  decides = law f graph nodes s.shown.earlier s.shown.clause s.shown.hints s.shown.shows s.functions.reads_declared;
+}
+
+-- what the export of a circuit gives
+pub record IsExportedCircuit (f : Dqbf) (entries : List Entry) (file : AagFile) (proof : Dqp) : Type 0 where
+  pub proved : IsProvedCircuit f file proof
+  pub gates : length file.circuit.gates ≤ count is_gate_name entries
+  pub numbers : file.circuit.max_var ≡ length f.universals + length file.circuit.gates
+  pub few : length proof.steps ≤ count is_lemma entries
+  pub spelled : IsWritable file
+  pub allowed : length proof.steps ≤ max_count → IsDqpOf f file.circuit proof
+
+pub shown_true : ProvedCircuitsAreAccepted → SmallLogsAreWithinLimits → (f : Dqbf) (log : ProofLog) (bare : Bool) (file : AagFile) (proof : Dqp)
+    → IsLawful f → IsTrueFormula f → IsExportedCircuit f log.entries file proof → IsShownTrue f log bare file proof
+shown_true accepted within f log bare file proof lawful is_so e = record {
+  true_formula = is_so;
+  circuit = e.proved;
+  accepted = accepted f file proof bare e.proved e.spelled e.allowed;
+  within = within f log.entries file proof lawful e.gates e.numbers e.few;
+}
+
+-- what the export of a refutation gives
+pub record IsExportedRefutation (f : Dqbf) (entries : List Entry) (d : Dqr) : Type 0 where
+  pub rows : d.rows ≡ rows_of entries
+  pub accepted : refutation_fault f d ≡ None
+  pub few : length d.steps ≤ count is_lemma entries
+  pub spelled : length d.steps ≤ max_count → IsDqrOf f d
+
+few_lines : (entries : List Entry) (steps : ℕ) → steps ≤ count is_lemma entries → length entries ≤ few_entries → steps ≤ max_count
+few_lines entries steps few small = let all = count_few is_lemma entries in omega (arith, few, small, all)
+
+pub shown_false : RefutationsAreAccepted → (f : Dqbf) (log : ProofLog) (bare : Bool) (d : Dqr)
+    → IsLawful f → IsFalseFormula f → IsExpansionUnsatisfiable f (rows_of log.entries) → IsExportedRefutation f log.entries d → IsShownFalse f log bare d
+shown_false accepted f log bare d lawful is_so none e = record {
+  false_formula = is_so;
+  rows = e.rows;
+  unsatisfiable = subst (IsExpansionUnsatisfiable f) (sym e.rows) none;
+  refutes = e.accepted;
+  accepted = λ few. accepted f d bare lawful (e.spelled few) e.accepted;
+  within = few_lines log.entries (length d.steps) e.few;
+}
+
+-- where the limit came first
+pub unknown : (f : Dqbf) (log : ProofLog) (bare : Bool) (rounds steps : ℕ) (output : Output) → IsProductiveLog f log.entries → IsUndecided f log.entries
+    → steps_of log.entries ≡ log.limit → rounds_of log.entries ≤ steps_of log.entries → rounds ≡ rounds_of log.entries → steps ≡ steps_of log.entries
+    → output.status ≡ 0 → output.text.items ≡ verdict_text bare f (is_unknown rounds (steps - rounds)) → IsVerdictOutput f log bare output
+unknown f log bare rounds steps output productive undecided limit fewer rounds_are steps_are status text = record {
+  verdict = is_unknown rounds (steps - rounds);
+  is = record {
+    productive = productive;
+    shown = record { limit = limit; undecided = undecided; rounds_are = rounds_are; steps_are = omega (arith, fewer, rounds_are, steps_are) };
+  };
+  status = status;
+  text = text;
+}

@@ -1,0 +1,23 @@
+use Rattle.std.proofs.Common.{ap, ◌∙◌, map, string_bytes}
+use Rattle.std.specs.Io.KnownBytes.{append_known}
+use Rattle.dq_io.specs.State.{state_of}
+use Rattle.dqsolve_core.proofs.Runs.{solution, solved_told}
+use Rattle.dqsolve_core.proofs.run.dqsolve_run.Goals as goal
+
+pub returns-in-Ok-write_all-clause-right : goal.returns-in-Ok-write_all-clause-right
+returns-in-Ok-write_all-clause-right g c =
+    solution (state_of g.F.Files c.args.files.now) (state_of g.F.Files c.report.new.files) (map string_bytes c.args.words.now) c.report.new.log
+    (g.K.Sink.taken c.args.out.now) (g.K.Sink.taken c.write_all.new.sink) c.in-Ok.output c.in-Ok.ensures.due
+    (c.in-Ok-write_all.ensures.ok ∙ ap (append_known (g.K.Sink.taken c.args.out.now)) c.deref.ensures.value)
+
+pub returns-in-Ok-write_all-clause-solved : goal.returns-in-Ok-write_all-clause-solved
+returns-in-Ok-write_all-clause-solved g c formula f told short spelled sound _ _ =
+    solved_told
+    (record {
+      exact = λ text f. (c.formula_or_first_fault.ensures.exact text f).0;
+      unique = c.formula_or_first_fault.ensures.unique;
+    })
+    (state_of g.F.Files c.args.files.now) (state_of g.F.Files c.report.new.files) (map string_bytes c.args.words.now) c.report.new.log
+    (g.K.Sink.taken c.args.out.now) (g.K.Sink.taken c.write_all.new.sink) c.in-Ok.output c.in-Ok.ensures.due
+    (c.in-Ok-write_all.ensures.ok ∙ ap (append_known (g.K.Sink.taken c.args.out.now)) c.deref.ensures.value)
+    formula f told short spelled sound

@@ -1,0 +1,5 @@
+pub mod Accepted
+pub mod Outputs
+pub mod Report
+pub mod Running
+pub mod Shown

@@ -1,0 +1,61 @@
+-- What is shown by what is written with a verdict, and by the search's log.
+use Rattle.std.specs.Prelude.{◌≡◌, ℕ, ◌+◌, ◌≤◌, Bool, length, None}
+use Rattle.dq_lits.specs.Expansion.{IsExpansionUnsatisfiable}
+use Rattle.dq_lits.specs.Formula.{Dqbf}
+use Rattle.dq_lits.specs.Henkin.{IsTrueFormula, IsFalseFormula}
+use Rattle.hint_log.specs.Deciding.{IsUndecided}
+use Rattle.hint_log.specs.Entries.{ProofLog, rounds_of, steps_of}
+use Rattle.hint_log.specs.Naming.{rows_of}
+use Rattle.hint_log.specs.ProductiveLog.{IsProductiveLog}
+use Rattle.aiger_text.specs.declared.files.AagFile.{AagFile}
+use Rattle.cert_text.specs.Header.{max_count}
+use Rattle.cert_text.specs.declared.circuit_proofs.Dqp.{Dqp}
+use Rattle.cert_text.specs.declared.refutations.Dqr.{Dqr}
+use Rattle.cert_export.specs.ExportedCircuit.{IsProvedCircuit}
+use Rattle.refutation_checker.specs.Refutation.{refutation_fault}
+use Rattle.dqcheck_core.specs.Judgement.{IsJudgement}
+use Rattle.dqcheck_core.specs.declared.answers.Answer.TheVariants.{ValidTrue, ValidFalse}
+use Rattle.dqsolve_core.specs.Report.{Verdict, is_true, is_false, is_unknown, verdict_text}
+
+-- with at most so many entries in the log, what is written is within the formats' limits
+abbrev pub few_entries : ℕ
+few_entries = 400000000
+
+-- the numbers of a circuit and its proof are within the formats' limits; the others are no greater than these
+pub record IsWithinLimits (file : AagFile) (proof : Dqp) : Type 0 where
+  pub variables : file.circuit.max_var ≤ max_count
+  pub steps : length proof.steps ≤ max_count
+
+-- the circuit has Skolem functions, its proof shows it, and the checker accepts what is written where it is within the formats' limits
+pub record IsShownTrue (f : Dqbf) (log : ProofLog) (bare : Bool) (file : AagFile) (proof : Dqp) : Type 0 where
+  pub true_formula : IsTrueFormula f
+  pub circuit : IsProvedCircuit f file proof
+  pub accepted : IsWithinLimits file proof → IsJudgement f (verdict_text bare f (is_true file proof)) ValidTrue
+  pub within : length log.entries ≤ few_entries → IsWithinLimits file proof
+
+-- the instances under the rounds' rows have no model, the refutation shows it, and the checker accepts what is written where it is
+-- within the formats' limits
+pub record IsShownFalse (f : Dqbf) (log : ProofLog) (bare : Bool) (d : Dqr) : Type 0 where
+  pub false_formula : IsFalseFormula f
+  pub rows : d.rows ≡ rows_of log.entries
+  pub unsatisfiable : IsExpansionUnsatisfiable f d.rows
+  pub refutes : refutation_fault f d ≡ None
+  pub accepted : length d.steps ≤ max_count → IsJudgement f (verdict_text bare f (is_false d)) ValidFalse
+  pub within : length log.entries ≤ few_entries → length d.steps ≤ max_count
+
+-- all steps were done, each productive, and no answer decides the formula
+pub record IsLimitReached (f : Dqbf) (log : ProofLog) (rounds learned : ℕ) : Type 0 where
+  pub limit : steps_of log.entries ≡ log.limit
+  pub undecided : IsUndecided f log.entries
+  pub rounds_are : rounds ≡ rounds_of log.entries
+  pub steps_are : rounds + learned ≡ steps_of log.entries
+
+abbrev pub IsShown : Dqbf → ProofLog → Bool → Verdict → Type 0
+IsShown f log bare (is_true file proof) = IsShownTrue f log bare file proof
+IsShown f log bare (is_false d) = IsShownFalse f log bare d
+IsShown f log bare (is_unknown rounds learned) = IsLimitReached f log rounds learned
+
+-- a verdict, which a log of productive work shows
+pub record IsVerdict (f : Dqbf) (log : ProofLog) (bare : Bool) (verdict : Verdict) : Type 0 where
+  pub productive : IsProductiveLog f log.entries
+  pub shown : IsShown f log bare verdict

@@ -1,0 +1,131 @@
+//! A whole run: the words, the file, the search, and what is written.
+
+ghost use Rattle.std.specs.Prelude.{◌≡◌, ◌≢◌, ◌≤◌, ◌<◌, ℕ, true, List, length, map, string_bytes, Option, Some, None, IfOk};
+ghost use Rattle.dq_io.specs.Causes.{Rose};
+ghost use Rattle.dq_io.specs.State.{state_of};
+ghost use Rattle.dq_lits.specs.Formula.{Dqbf};
+ghost use Rattle.hint_log.specs.Entries.{steps_of};
+ghost use Rattle.dqdimacs_reader.specs.Grammar.{SpellsFormula};
+ghost use Rattle.dqcheck_core.specs.Running.{max_formula};
+ghost use Rattle.cert_text.specs.Header.{max_count};
+ghost use Rattle.dqsolve_words.specs.Command.{Command, command_of};
+ghost use Rattle.dqsolve_core.specs.Outputs.{IsOutputDue};
+ghost use Rattle.dqsolve_core.specs.Report.{is_verdict_status};
+ghost use Rattle.dqsolve_core.specs.Running.{Ends, IsRunLog, IsTold, IsSolved, IsSolution};
+
+use crate::reports::{
+    Output, long_formula_output, refused_output, source_fault_output, usage_output,
+};
+use crate::verdicts::solve;
+use dq_io::{Files, ReadStop, Sink, read_all, write_all};
+use dq_lits::Memory;
+use dqdimacs_reader::laws::formula_or_first_fault;
+use dqsolve_words::laws::steps_are_in_range;
+use dqsolve_words::{SolveWords, solve_words};
+use hint_log::Log;
+use std::alloc::Global;
+
+/// The most bytes of a formula.
+const MAX_FORMULA: u64 = 1 << 30;
+
+/// Decides the formula in a file, and writes the verdict with a certificate.
+///
+/// The words are the program's name and those of `solve [--steps N] [--bare] FILE`, as clap reads them. The log is emptied first, and
+/// then has the search's entries. The status is 10 where the formula is true, 20 where it is false, 0 where the steps didn't suffice, 1
+/// where the words are others, 2 where the formula's text has a fault, 3 where the file can't be read, 4 where the text can't be
+/// written, 5 for want of memory, and 6 where the file is too long.
+pub fn dqsolve_run<F: Files, K: Sink>(
+    alloc: Global,
+    words: &[String],
+    files: &mut F,
+    out: &mut K,
+    log: &mut Log,
+) -> u8
+    // What is written is the text that is due, and the status is that text's. The log is the run's own.
+    ensures ends { Ends (state_of F.Files files.old) (state_of F.Files files.new) (map string_bytes words.now) log.new
+        (K.taken out.old) (K.taken out.new) result }
+    ensures log { IsRunLog (state_of F.Files files.old) (command_of (map string_bytes words.now)) log.new }
+
+    // Over a file that is told: a verdict is right, and where nothing failed, there is one.
+    ensures right { (formula : List ℕ) (told : IsTold (F.held files.old) (map string_bytes words.now) formula)
+        → is_verdict_status result ≡ true → IsSolution formula log.new told.command (K.taken out.old) (K.taken out.new) result }
+    ensures solved { (formula : List ℕ) (f : Dqbf) (told : IsTold (F.held files.old) (map string_bytes words.now) formula)
+        → length formula ≤ max_formula → SpellsFormula formula f
+        → ¬ Rose (F.faults files.old) (F.faults files.new) → ¬ Rose (K.faults out.old) (K.faults out.new) → result ≢ 5
+        → IsSolved f log.new told.command (K.taken out.old) (K.taken out.new) result }
+
+    // Each answer has its cause, over all files and sinks.
+    ensures unknown { result ≡ 0 → steps_of log.new.entries ≡ log.new.limit }
+    ensures words { result ≡ 1 → command_of (map string_bytes words.now) ≡ None }
+    ensures source { result ≡ 3 → Rose (F.faults files.old) (F.faults files.new) }
+    ensures sink { result ≡ 4 → Rose (K.faults out.old) (K.faults out.new) }
+    ensures long { result ≡ 6 → max_formula < F.given files.new }
+
+    // No fault is passed over: where one was counted, its status comes, or a later cause's.
+    ensures unfaulted_files { result ≢ 3 → result ≢ 4 → result ≢ 5 → F.faults files.new ≡ F.faults files.old }
+    ensures unfaulted_sink { result ≢ 4 → K.faults out.new ≡ K.faults out.old }
+    ensures held { F.held files.new ≡ F.held files.old }
+{
+    formula_or_first_fault();
+    let Ok(output) = report(alloc, words, files, log) else {
+        return 5;
+    };
+    match write_all(out, &output.text) {
+        Ok(()) => output.status,
+        Err(_) => 4,
+    }
+}
+
+// What is to be written.
+fn report<F: Files>(
+    alloc: Global,
+    words: &[String],
+    files: &mut F,
+    log: &mut Log,
+) -> Result<Output, Memory>
+    ensures due { IfOk result (IsOutputDue (state_of F.Files files.old) (state_of F.Files files.new) log.new
+        (command_of (map string_bytes words.now))) }
+    ensures log { IsRunLog (state_of F.Files files.old) (command_of (map string_bytes words.now)) log.new }
+    ensures long { IfOk result (λ output. output.status ≡ 6 → max_formula < F.given files.new) }
+    ensures unfaulted { IfOk result (λ output. output.status ≢ 3 → F.faults files.new ≡ F.faults files.old) }
+    ensures held { F.held files.new ≡ F.held files.old }
+{
+    steps_are_in_range();
+    log.rewind(0);
+    match solve_words(alloc, words)? {
+        None => usage_output(alloc),
+        Some(asked) => report_file(alloc, asked, files, log),
+    }
+}
+
+// What is to be written where the words name a file.
+fn report_file<F: Files>(
+    alloc: Global,
+    asked: SolveWords,
+    files: &mut F,
+    log: &mut Log,
+) -> Result<Output, Memory>
+    requires steps { asked.steps ≤ max_count }
+    ensures due { IfOk result (IsOutputDue (state_of F.Files files.old) (state_of F.Files files.new) log.new
+        (Some (record { steps = asked.entry.steps; bare = asked.entry.bare; file = asked.entry.file.now }))) }
+    ensures log { IsRunLog (state_of F.Files files.old)
+        (Some (record { steps = asked.entry.steps; bare = asked.entry.bare; file = asked.entry.file.now })) log.new }
+    ensures long { IfOk result (λ output. output.status ≡ 6 → max_formula < F.given files.new) }
+    ensures unfaulted { IfOk result (λ output. output.status ≢ 3 → F.faults files.new ≡ F.faults files.old) }
+    ensures held { F.held files.new ≡ F.held files.old }
+{
+    log.rewind(asked.steps);
+    let text = match read_all(alloc, files, asked.file, MAX_FORMULA) {
+        Ok(text) => text,
+        Err(ReadStop::Memory) => return Err(Memory),
+        Err(ReadStop::Fault) => return source_fault_output(alloc),
+        Err(ReadStop::TooLong) => return long_formula_output(alloc),
+    };
+    let read = dqdimacs_reader::read(alloc, &text);
+    drop(text);
+    match read {
+        Ok(formula) => solve(alloc, &formula, asked.bare, log),
+        Err(dqdimacs_reader::ReadStop::Refused { line, name }) => refused_output(alloc, line, name),
+        Err(dqdimacs_reader::ReadStop::Memory) => Err(Memory),
+    }
+}

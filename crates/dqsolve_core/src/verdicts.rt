@@ -1,0 +1,176 @@
+//! The search, and what is written with its verdict.
+
+ghost use Rattle.std.specs.Prelude.{◌≡◌, ◌≤◌, ◌++◌, ℕ, [], length, codes, if◌then◌else◌, Ok, IfOk, OnErr, IsErrOf};
+ghost use Rattle.dq_lits.specs.Formula.{IsWellFormed};
+ghost use Rattle.dq_lits.specs.Henkin.{IsTrueFormula};
+ghost use Rattle.hint_log.specs.Deciding.{IsUndecided};
+ghost use Rattle.hint_log.specs.Entries.{steps_of};
+ghost use Rattle.hint_log.specs.ProductiveLog.{IsProductiveLog};
+ghost use Rattle.aiger_text.specs.Canonical.{canonical_circuit};
+ghost use Rattle.cert_text.specs.Header.{max_count};
+ghost use Rattle.cert_export.specs.ExportedCircuit.{IsDecidedTrue};
+ghost use Rattle.dqcheck_core.specs.Report.{line};
+ghost use Rattle.repair_loop.specs.Searching.{IsShownFalse};
+ghost use Rattle.dqsolve_core.specs.Outputs.{IsVerdictOutput};
+ghost use Rattle.dqsolve_core.specs.Report.{with_proof, counts_text};
+
+use crate::laws::{
+    proved_circuits_are_accepted, refutations_are_accepted, small_logs_are_within_limits,
+};
+use crate::reports::Output;
+use aig_graph::Graph;
+use aiger_text::{AagFile, Text};
+use cdcl_core::Cdcl;
+use cert_export::{export_false, export_true};
+use cert_text::{Dqp, write_dqp, write_dqr};
+use circuit_cnf::laws::shown_outputs_decide;
+use dq_formula::Formula;
+use dq_lits::Memory;
+use dq_lits::laws::skolem_functions_show_true;
+use hint_log::laws::rounds_are_steps;
+use hint_log::{Log, Stop};
+use oracle::Oracle;
+use refutation_checker::laws::refutation_shows_false;
+use repair_loop::{Verdict, decide};
+use std::alloc::Global;
+
+// The id of the answer that shows the formula true, or of the one that shows it false.
+#[derive(Clone, Copy, Debug)]
+enum Found {
+    Shown(u64),
+    Refuted(u64),
+}
+
+/// Searches for a verdict on a formula, in as many steps as the log allows.
+pub fn solve(alloc: Global, f: &Formula, bare: bool, log: &mut Log) -> Result<Output, Memory>
+    requires formula { IsWellFormed f.now }
+    requires empty { log.old.entries ≡ [] }
+    requires limit { log.old.limit ≤ max_count }
+    ensures verdict { IfOk result (IsVerdictOutput f.now log.new bare) }
+    ensures productive { IsProductiveLog f.now log.new.entries }
+    ensures limit { log.new.limit ≡ log.old.limit }
+{
+    let mut oracle = Cdcl::new(alloc);
+    match search(alloc, &mut oracle, f, log) {
+        Ok(Found::Shown(id)) => true_output(alloc, log, id, f, bare),
+        Ok(Found::Refuted(id)) => false_output(alloc, log, id, f, bare),
+        Err(Stop::Limit) => unknown_output(alloc, log, f, bare),
+        Err(Stop::Memory) => Err(Memory),
+    }
+}
+
+// The search over a solver.
+fn search<O: Oracle>(
+    alloc: Global,
+    oracle: &mut O,
+    f: &Formula,
+    log: &mut Log,
+) -> Result<Found, Stop>
+    requires fit { O.Fits oracle.old log.old }
+    requires formula { IsWellFormed f.now }
+    requires empty { log.old.entries ≡ [] }
+    ensures productive { IsProductiveLog f.now log.new.entries }
+    ensures limit_same { log.new.limit ≡ log.old.limit }
+    ensures is_true { (id : ℕ) → result ≡ Ok (Found.Shown id) → IsTrueFormula f.now }
+    ensures shown { (id : ℕ) → result ≡ Ok (Found.Shown id) → IsDecidedTrue f.now log.new.entries id }
+    ensures refuted { (id : ℕ) → result ≡ Ok (Found.Refuted id) → IsShownFalse f.now log.new id }
+    ensures undecided { OnErr result (IsUndecided f.now log.new.entries) }
+    ensures limit { IsErrOf result Stop.Limit → steps_of log.new.entries ≡ log.new.limit }
+{
+    shown_outputs_decide();
+    skolem_functions_show_true();
+    let mut graph = Graph::new(alloc, f.universals().len());
+    match decide(alloc, oracle, &mut graph, f, log)? {
+        Verdict::True(_, id) => Ok(Found::Shown(id)),
+        Verdict::False(id) => Ok(Found::Refuted(id)),
+    }
+}
+
+// What is written of a true formula.
+fn true_output(alloc: Global, log: &Log, id: u64, f: &Formula, bare: bool) -> Result<Output, Memory>
+    requires formula { IsWellFormed f.now }
+    requires productive { IsProductiveLog f.now log.now.entries }
+    requires is_true { IsTrueFormula f.now }
+    requires decided { IsDecidedTrue f.now log.now.entries id }
+    ensures { IfOk result (IsVerdictOutput f.now log.now bare) }
+{
+    f.every_formula_is_lawful();
+    proved_circuits_are_accepted();
+    small_logs_are_within_limits();
+    let (file, proof) = export_true(alloc, log, id, f)?;
+    let evidence = circuit_text(alloc, file, &proof)?;
+    let text = with_verdict(alloc, "s TRUE\n", bare, evidence)?;
+    Ok(Output { status: 10, text })
+}
+
+// A circuit with its proof in its comment.
+fn circuit_text(alloc: Global, mut file: AagFile, proof: &Dqp) -> Result<Vec<u8>, Memory>
+    ensures { IfOk result (λ text. text.items ≡ canonical_circuit (with_proof file proof.now)) }
+{
+    let written = write_dqp(alloc, proof)?;
+    file.comment = Some(Text::from_bytes(alloc, &written)?);
+    aiger_text::write(alloc, &file)
+}
+
+// What is written of a false formula.
+fn false_output(
+    alloc: Global,
+    log: &Log,
+    id: u64,
+    f: &Formula,
+    bare: bool,
+) -> Result<Output, Memory>
+    requires formula { IsWellFormed f.now }
+    requires productive { IsProductiveLog f.now log.now.entries }
+    requires refuted { IsShownFalse f.now log.now id }
+    requires limit { log.now.limit ≤ max_count }
+    ensures { IfOk result (IsVerdictOutput f.now log.now bare) }
+{
+    f.every_formula_is_lawful();
+    refutations_are_accepted();
+    refutation_shows_false();
+    let refutation = export_false(alloc, log, id, f)?;
+    let evidence = write_dqr(alloc, &refutation, f)?;
+    let text = with_verdict(alloc, "s FALSE\n", bare, evidence)?;
+    Ok(Output { status: 20, text })
+}
+
+// What is written where the limit came first.
+fn unknown_output(alloc: Global, log: &Log, f: &Formula, bare: bool) -> Result<Output, Memory>
+    requires productive { IsProductiveLog f.now log.now.entries }
+    requires undecided { IsUndecided f.now log.now.entries }
+    requires limit { steps_of log.now.entries ≡ log.now.limit }
+    ensures { IfOk result (IsVerdictOutput f.now log.now bare) }
+{
+    rounds_are_steps();
+    let rounds = log.rounds();
+    let learned = log.steps() - rounds;
+    let evidence = counts_line(alloc, rounds, learned)?;
+    let text = with_verdict(alloc, "s UNKNOWN\n", bare, evidence)?;
+    Ok(Output { status: 0, text })
+}
+
+fn counts_line(alloc: Global, rounds: u64, learned: u64) -> Result<Vec<u8>, Memory>
+    ensures { IfOk result (λ bytes. bytes.items ≡ line (counts_text rounds learned)) }
+{
+    let text = format!(in alloc; "c rounds {rounds} learned {learned}\n")?;
+    Ok(text.into_bytes())
+}
+
+// The evidence behind the line with the verdict, or alone.
+fn with_verdict(
+    alloc: Global,
+    verdict: &str,
+    bare: bool,
+    evidence: Vec<u8>,
+) -> Result<Vec<u8>, Memory>
+    ensures { IfOk result (λ text. text.items ≡ (if bare then [] else verdict.now) ++ evidence.items) }
+{
+    if bare {
+        return Ok(evidence);
+    }
+    let mut text = Vec::new(alloc);
+    text.extend_from_slice(verdict.as_bytes())?;
+    text.extend_from_slice(&evidence)?;
+    Ok(text)
+}
