@@ -1,8 +1,9 @@
 #!/usr/bin/env python3
 """Makes random formulas, circuits with and without proofs, and refutations, right ones and spoiled ones, some of them on
 numbers that collide in a hash table or have large gaps, and compares what the built checker answers on them with a
-second judge, reference.py. Prints how many of each answer there were, and each difference with the texts of both files;
-where there is one, the exit status is 1.
+second judge, reference.py. Prints how many of each answer there were, and each difference with the texts of both files.
+Then decisions.py compares the built solver's verdicts on random formulas, a tenth as many, with all choices. Where there is a
+difference, the exit status is 1.
 
 Usage: bench/differential.py [COUNT [SEED]]     5,000 cases from seed 1, or COUNT cases from SEED
 """
@@ -16,6 +17,7 @@ import subprocess
 import sys
 import tempfile
 
+import decisions
 import reference
 from bench import CHECKER
 from reference import DerivationLine
@@ -529,7 +531,11 @@ def main():
     words = sys.argv[1:]
     count = int(words[0]) if words else 5_000
     seed = int(words[1]) if len(words) > 1 else 1
-    sys.exit(1 if compare(count, seed) else 0)
+    if not os.path.exists(decisions.SOLVER):
+        sys.exit(f"{decisions.SOLVER} isn't built: run `rt run` in crates/dqsolve, or `rt ci` at the top")
+    differences = compare(count, seed)
+    differences += decisions.compare(count // 10, seed)
+    sys.exit(1 if differences else 0)
 
 
 if __name__ == "__main__":

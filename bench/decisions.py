@@ -1,0 +1,95 @@
+"""Runs the built solver on random small formulas. Each verdict is compared with all choices of bits at the pairs of existentials and
+what they see, tried one by one; each certificate is judged by the built checker and by the second judge, reference.py. Then the solver
+runs with each number of steps from 1 on: below what the verdict takes the answer is UNKNOWN with as many steps in its counts, and
+from there on the verdict, with the same bytes."""
+
+import collections
+import itertools
+import os
+import random
+import re
+import subprocess
+import tempfile
+
+import loop
+import reference
+from bench import CHECKER, TOP
+
+SOLVER = os.environ.get("DQSOLVE", os.path.join(TOP, "crates", "dqsolve", "out", "dqsolve"))
+MOST_DIFFERENCES = 10
+MOST_VERDICTS = 3
+UNKNOWN = re.compile(rb"s UNKNOWN\nc rounds ([0-9]+) learned ([0-9]+)\n")
+
+
+def solve(formula_path, *words):
+    """What the solver writes, and its exit status."""
+    run = subprocess.run([SOLVER, "solve", *words, formula_path], stdout=subprocess.PIPE, check=False)
+    return run.stdout, run.returncode
+
+
+def check(folder, formula_path, certificate):
+    """What the checker says of a certificate."""
+    path = os.path.join(folder, "certificate")
+    with open(path, "wb") as file:
+        file.write(certificate)
+    return subprocess.run([CHECKER, formula_path, path], stdout=subprocess.PIPE, check=False).stdout.decode().strip()
+
+
+def steps_in(answer):
+    """The steps that an UNKNOWN counts, or none for another answer."""
+    match = UNKNOWN.fullmatch(answer[0])
+    return int(match[1]) + int(match[2]) if match and answer[1] == 0 else None
+
+
+def faults_of_verdict(folder, path, text, formula, answer):
+    """What is wrong with a verdict, as a list of sentences."""
+    word, status = ("TRUE", 10) if loop.is_true(formula) else ("FALSE", 20)
+    certificate, found = answer
+    faults = []
+    if found != status or not certificate.startswith(f"s {word}\n".encode()):
+        faults.append(f"due is {word} with status {status}, the solver says {certificate[:20]} with {found}")
+        return faults
+    for judge, said in (("checker", check(folder, path, certificate)), ("second judge", reference.answer(text, certificate))):
+        if said != f"VALID {word}":
+            faults.append(f"the {judge} says {said}")
+    bare, found = solve(path, "--bare")
+    if found != status or b"s %s\n" % word.encode() + bare != certificate:
+        faults.append("without the line with the verdict the text is another")
+    return faults
+
+
+def faults_of_steps(path, answer):
+    """What is wrong with the answers to numbers of steps from 1 on: as many steps each, and then the verdict."""
+    faults, decided = [], 0
+    for steps in itertools.count(1):
+        found = solve(path, "--steps", str(steps))
+        if found == answer:
+            decided += 1
+        elif decided or steps_in(found) != steps:
+            faults.append(f"with {steps} steps the solver says {found[0][:60]} with {found[1]}")
+        if decided == MOST_VERDICTS or len(faults) == MOST_DIFFERENCES:
+            return faults
+
+
+def compare(count, seed):
+    """The number of formulas with a difference; behind the tenth the rest is left out."""
+    rng = random.Random(seed)
+    kinds, differences = collections.Counter(), 0
+    with tempfile.TemporaryDirectory() as folder:
+        path = os.path.join(folder, "formula")
+        for case in range(1, count + 1):
+            formula = loop.random_formula(rng)
+            text = loop.text_of(formula).replace(" / ", "\n").encode() + b"\n"
+            with open(path, "wb") as file:
+                file.write(text)
+            answer = solve(path)
+            faults = faults_of_verdict(folder, path, text, formula, answer) + faults_of_steps(path, answer)
+            kinds[answer[1]] += 1
+            if faults:
+                differences += 1
+                print(f"formula {case}:", *faults, text.decode(), sep="\n  ")
+            if differences == MOST_DIFFERENCES:
+                break
+    print(", ".join(f"{seen} with status {status}" for status, seen in sorted(kinds.items())))
+    print(f"{sum(kinds.values())} formulas from seed {seed}, {differences} differences")
+    return differences
