@@ -17,7 +17,7 @@ use Rattle.hint_log.specs.declared.names.Name.{Name}
 use Rattle.hint_log.specs.Entries.{Entry}
 use Rattle.refutation_checker.specs.Refutation.{normal_of, normal_number, normal_literal, normal_step}
 use Rattle.hint_log.specs.Naming.{rows_of}
-use Rattle.cert_export.specs.Renaming.{Renaming, IsInjective, renamed_clause}
+use Rattle.cert_export.specs.Renaming.{Renaming, IsInjective, renamed_clause, IsPartOf}
 use Rattle.expansion.specs.Table.{IsRefutedBy}
 use Rattle.cert_export.specs.Lines.{is_derived, derived_ids, clause_or_empty, line_clause, line_step, line_steps}
 use Rattle.cert_export.specs.Expansion.{pair_of, pair_renaming, instance_id}
@@ -32,7 +32,7 @@ use Rattle.cert_export.specs.LineOrder.{IsRenamedBase, AreLineNumbers, AreLines,
 use Rattle.cert_export.proofs.Numbers.{lines_have_numbers, rising_filter}
 use Rattle.cert_export.proofs.Allowed.{consecutive, steps_allowed}
 use Rattle.hint_log.specs.Deciding.{IsInstance}
-use Rattle.cert_export.specs.Exported.{exported_steps, IsPartOf, IsPairRenaming, last_instance, exported_number, ExportedAnswerRefutes, ExportedLinesAreAllowed}
+use Rattle.cert_export.specs.Exported.{exported_steps, IsPairRenaming, last_instance, exported_number, ExportedAnswerRefutes, ExportedLinesAreAllowed}
 use Rattle.cert_export.proofs.PairNames.{IsPair, pair_parts, in_range, from_one, small_place, pairs_are_injective}
 use Rattle.cert_export.proofs.Instances.{instances_are_expansion}
 use Rattle.cert_export.proofs.Answers.{answer_there, reached_given, selectors_dropped}

@@ -12,7 +12,9 @@ use Rattle.hint_log.specs.Entries.{Entry, Named, Given, Learned, Answer, Round, 
 use Rattle.cert_export.specs.Exportable.{AreExportedSteps}
 use Rattle.cert_export.specs.Exported.{exported_number}
 use Rattle.cert_export.specs.Expansion.{instance_id}
-use Rattle.cert_export.specs.Lines.{is_lemma, is_derived, derived_ids, line_step}
+use Rattle.hint_log.specs.declared.origins.Origin.{Origin}
+use Rattle.cert_export.specs.Renaming.{Renaming}
+use Rattle.cert_export.specs.Lines.{derived_ids, is_derived, is_lemma, line_step, line_steps}
 use Rattle.cert_export.proofs.Numbers.{rising_filter}
 use Rattle.cert_export.proofs.ReachedLines.{Rising, rising_of}
 
@@ -85,9 +87,13 @@ all_derived es (x ∷ xs) = by_bit (is_derived (numbered has_id es x)) refl (all
   by_bit true e later = All-cons (IsLemmaOf es) x (derived_ids es xs) e later
   by_bit false e later = later
 
-pub few_steps : (f : Dqbf) (entries : List Entry) (ids : List ℕ) (steps : List ProofStep) → IsStrictlyIncreasing ids → AreExportedSteps f entries ids steps → length steps ≤ count is_lemma entries
-few_steps f entries ids steps ascending exported =
+pub lines_few : (entries : List Entry) (ids : List ℕ) (r : Renaming) (base_id : Origin → ℕ) (number : ℕ → ℕ) (steps : List ProofStep) → IsStrictlyIncreasing ids →
+    steps ≡ line_steps r base_id entries number (derived_ids entries ids) → length steps ≤ count is_lemma entries
+lines_few entries ids r base_id number steps ascending are =
     let p : ℕ → Bool = λ h. is_derived (numbered has_id entries h) in
-    let many : length steps ≡ length (derived_ids entries ids) = ap length exported.2 ∙ length-map (derived_ids entries ids) (line_step exported.0 (instance_id (length f.matrix)) entries (exported_number f entries ids)) in
+    let many : length steps ≡ length (derived_ids entries ids) = ap length are ∙ length-map (derived_ids entries ids) (line_step r base_id entries number) in
     let few = few_lemmas entries (derived_ids entries ids) (rising_filter p ids (rising_of ids (AllPairs-from_increasing ids ascending))) (all_derived entries ids) in
     omega (arith, many, few)
+
+pub few_steps : (f : Dqbf) (entries : List Entry) (ids : List ℕ) (steps : List ProofStep) → IsStrictlyIncreasing ids → AreExportedSteps f entries ids steps → length steps ≤ count is_lemma entries
+few_steps f entries ids steps ascending exported = lines_few entries ids exported.0 (instance_id (length f.matrix)) (exported_number f entries ids) steps ascending exported.2

@@ -1,39 +1,25 @@
 -- What is exported for a false formula, and that the checker of refutations accepts it.
-use Rattle.std.specs.Prelude.{◌≡◌, ℕ, ◌*◌, List, length, Some, None}
-use Rattle.std.specs.List.{Contains}
-use Rattle.dq_lits.specs.Literal.{Literal}
+use Rattle.std.specs.Prelude.{◌≡◌, ℕ, ◌*◌, List, length, None}
 use Rattle.dq_lits.specs.Derivation.{ProofStep}
 use Rattle.dq_lits.specs.Formula.{Dqbf, IsWellFormed}
 use Rattle.hint_log.specs.Conditions.{AreLogged}
-use Rattle.hint_log.specs.Entries.{Entry, Given, has_id, numbered}
+use Rattle.hint_log.specs.Entries.{Entry}
 use Rattle.hint_log.specs.Growth.{Each}
 use Rattle.hint_log.specs.Naming.{rows_of}
 use Rattle.hint_log.specs.ProductiveLog.{MatchesOrigin, IsDerivedByHints}
 use Rattle.hint_log.specs.Reached.{AreReached}
-use Rattle.hint_log.specs.declared.origins.Origin.{Origin}
 use Rattle.cert_text.specs.Grammar.{AreSteps}
 use Rattle.cert_text.specs.Pairs.{is_pair_number}
 use Rattle.cert_text.specs.Scan.{first_id}
 use Rattle.expansion.specs.Table.{IsRefutedBy}
 use Rattle.refutation_checker.specs.Refutation.{refutation_fault}
-use Rattle.cert_export.specs.Renaming.{Renaming, renamed_clause}
+use Rattle.cert_export.specs.Renaming.{Renaming, IsRenamingOf}
 use Rattle.cert_export.specs.Lines.{derived_ids, line_number, line_steps}
 use Rattle.cert_export.specs.Expansion.{pair_renaming, instance_id}
 
--- where the one gives a variable a name, the other gives it the same
-abbrev pub IsPartOf : Renaming → Renaming → Type 0
-IsPartOf r s = (v x : ℕ) → r v ≡ Some x → s v ≡ Some x
-
--- the given clauses among these ids lose no pair
-abbrev pub KeepsPairs : Dqbf → List Entry → List ℕ → Renaming → Type 0
-KeepsPairs f entries ids r =
-    (id : ℕ) (origin : Origin) (c : List Literal) → Contains ids id → numbered has_id entries id ≡ Some (Given origin c)
-    → renamed_clause r c ≡ renamed_clause (pair_renaming f entries) c
-
--- the names of the pairs that the given clauses among these ids stand on; perhaps of further ones
-pub record IsPairRenaming (f : Dqbf) (entries : List Entry) (ids : List ℕ) (r : Renaming) : Type 0 where
-  pub right : IsPartOf r (pair_renaming f entries)
-  pub whole : KeepsPairs f entries ids r
+-- the numbers of the pairs that the given clauses among these ids stand on; perhaps of further ones
+abbrev pub IsPairRenaming : Dqbf → List Entry → List ℕ → Renaming → Type 0
+IsPairRenaming f entries ids r = IsRenamingOf (pair_renaming f entries) entries ids r
 
 -- the last id of the instances
 abbrev pub last_instance : Dqbf → List Entry → ℕ

@@ -7,3 +7,10 @@ pub mod Names
 pub mod Pairing
 pub mod Written
 pub mod Exportable
+pub mod CircuitPart
+pub mod ExportedCircuit
+pub mod Negated
+pub mod FaultLeaves
+pub mod Needed
+pub mod Parts
+pub mod Netlists

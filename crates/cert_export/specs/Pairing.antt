@@ -9,9 +9,7 @@ use Rattle.hint_log.specs.declared.names.Name.{Name}
 use Rattle.hint_log.specs.declared.names.Name.TheVariants.{Pair}
 use Rattle.hint_log.specs.declared.origins.Origin.{Origin}
 use Rattle.cert_text.specs.Header.{max_count}
-use Rattle.cert_export.specs.Renaming.{Renaming}
-use Rattle.cert_export.specs.Expansion.{pair_of, pair_renaming}
-use Rattle.cert_export.specs.Exported.{IsPartOf}
+use Rattle.cert_export.specs.Expansion.{pair_of}
 
 -- a pair's name has its own row's number, the first that agrees
 pub record IsOwnPair (f : Dqbf) (rows : List (List Bool)) (k y : ℕ) : Type 0 where
@@ -27,19 +25,14 @@ IsOwnName f rows None = ⊥
 IsOwnName f rows (Some (Pair k y)) = IsOwnPair f rows k y
 IsOwnName f rows (Some _) = Unit {0}
 
+-- so it is of a variable's name
+abbrev pub HasOwnName : Dqbf → List Entry → ℕ → Type 0
+HasOwnName f entries v = IsOwnName f (rows_of entries) (name_of entries v)
+
 abbrev pub HasOwnNames : Dqbf → List Entry → List Literal → Type 0
-HasOwnNames f entries clause = All (λ l. IsOwnName f (rows_of entries) (name_of entries (variable_of l))) clause
+HasOwnNames f entries clause = All (λ l. HasOwnName f entries (variable_of l)) clause
 
 -- the given clauses among these ids stand on pairs by their own names
 abbrev pub HaveOwnNames : Dqbf → List Entry → List ℕ → Type 0
 HaveOwnNames f entries ids =
     (id : ℕ) (origin : Origin) (c : List Literal) → Contains ids id → numbered has_id entries id ≡ Some (Given origin c) → HasOwnNames f entries c
-
--- a variable has its pair's number, or none where it has no pair
-abbrev pub IsNamed : Dqbf → List Entry → Renaming → Literal → Type 0
-IsNamed f entries r l = r (variable_of l) ≡ pair_renaming f entries (variable_of l)
-
--- some variables have their pairs' numbers, among them those of these literals
-pub record AreNamedIn (f : Dqbf) (entries : List Entry) (r : Renaming) (literals : List Literal) : Type 0 where
-  pub right : IsPartOf r (pair_renaming f entries)
-  pub named : All (IsNamed f entries r) literals

@@ -5,12 +5,22 @@
 //! once more as it is written, and its hints end there.
 #![tactic(auto)]
 
+pub use circuits::export_true;
 pub use refutations::export_false;
 
 mod bases;
+mod circuit_numbers;
+mod circuits;
+mod gates;
+mod given_names;
 pub mod laws;
+mod leaves;
 mod lines;
 mod names;
+mod negated;
+mod netlists;
 mod pairs;
+mod parts;
 mod refutations;
+mod symbols;
 mod written;

@@ -15,7 +15,8 @@ ghost use Rattle.cert_export.specs.Lines.{is_lemma};
 ghost use Rattle.cert_export.specs.Exportable.{IsKnownInstance, AreExportable, AreExportedSteps};
 
 use crate::bases::Ground;
-use crate::pairs::pair_names;
+use crate::given_names::given_names;
+use crate::pairs::PairNumbers;
 use crate::written::write_lines;
 use cert_text::{Dqr, StepList};
 use dq_formula::Formula;
@@ -63,7 +64,7 @@ fn refutation_steps(alloc: Global, log: &Log, ids: &[u64], f: &Formula) -> Resul
     requires { AreExportable f.now log.now.entries ids.now }
     ensures { IfOk result (AreExportedSteps f.now log.now.entries ids.now) }
 {
-    let names = pair_names(alloc, log, ids, f)?;
+    let names = given_names(alloc, log, ids, &PairNumbers { f, log })?;
     let base = Instances {
         clauses: f.clauses(),
     };

@@ -45,7 +45,7 @@ pub(crate) fn write_lines<B: Ground>(
     last: u64,
 ) -> Result<StepList, Memory>
     requires can { CanBeWritten (renaming names.now) (B.Knows base.now) log.now.entries ids.now }
-    requires few { last ≤ 10 ^ 17 }
+    requires few { last < 2 ^ 63 }
     ensures { IfOk result (λ steps. steps ≡ line_steps (renaming names.now) (B.ids base.now) log.now.entries (line_number last (derived_ids log.now.entries ids.now))
         (derived_ids log.now.entries ids.now)) }
 {
@@ -87,7 +87,7 @@ impl Written {
         last: u64,
     ) -> Result<(), Memory>
         requires can { CanBeWritten (renaming names.now) (B.Knows base.now) log.now.entries ids.now }
-        requires few { last ≤ 10 ^ 17 }
+        requires few { last < 2 ^ 63 }
         requires place { place < length ids.now }
         requires so_far { IsWritten (renaming names.now) (B.ids base.now) log.now.entries (line_number last (derived_ids log.now.entries ids.now)) (take place ids.now) self.old }
         ensures { OnOk result (IsWritten (renaming names.now) (B.ids base.now) log.now.entries (line_number last (derived_ids log.now.entries ids.now))

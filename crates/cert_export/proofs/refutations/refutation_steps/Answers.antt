@@ -6,8 +6,8 @@ use Rattle.cert_export.proofs.Exporting.{have_own_names, can_be_written, few_ins
 use Rattle.cert_export.proofs.Writing.{if_ok_more}
 use Rattle.cert_export.proofs.refutations.refutation_steps.Goals as goal
 
-pub pair_names-requires-clause-own : goal.pair_names-requires-clause-own
-pair_names-requires-clause-own c = have_own_names c.args.f.now c.args.log.now.entries c.args.ids.now c.requires
+pub given_names-requires-clause-known : goal.given_names-requires-clause-known
+given_names-requires-clause-known c = have_own_names c.args.f.now c.args.log.now.entries c.args.ids.now c.requires
 
 pub overflow_mul-last : goal.overflow_mul-last
 overflow_mul-last c =

@@ -1,0 +1,35 @@
+use Rattle.std.proofs.Common.{arith}
+use Rattle.cert_export.specs.Parts.{part_of, AreCircuitIds}
+use Rattle.cert_export.specs.declared.parts.Part.{Part}
+use Rattle.cert_export.proofs.ExportingCircuits.{small_part}
+use Rattle.cert_export.proofs.circuits.export_ids.Goals as goal
+
+pub proof_steps-requires-clause-ids : goal.proof_steps-requires-clause-ids
+proof_steps-requires-clause-ids c = record {
+  decided = c.requires;
+  part = c.in_ok-part.ensures.part;
+  small = small_part c.args.f.now c.in_ok-part.part.gates c.requires.well_formed.prefix c.requires.few_variables c.requires.few_clauses (let n = c.len.ensures.value in let few = c.if-len-gt-MOST.false in omega (arith, n, few));
+  few_literals = c.in_ok-before.ensures.few;
+}
+
+pub circuit_file-requires : goal.circuit_file-requires
+circuit_file-requires c = record {
+  decided = c.requires;
+  part = c.in_ok-part.ensures.part;
+  small = small_part c.args.f.now c.in_ok-part.part.gates c.requires.well_formed.prefix c.requires.few_variables c.requires.few_clauses (let n = c.len.ensures.value in let few = c.if-len-gt-MOST.false in omega (arith, n, few));
+  few_literals = c.in_ok-before.ensures.few;
+}
+
+pub returns : goal.returns
+returns c = record {
+  part = part_of c.in_ok-part.part;
+  from = record {
+    decided = c.requires;
+    part = c.in_ok-part.ensures.part;
+    small = small_part c.args.f.now c.in_ok-part.part.gates c.requires.well_formed.prefix c.requires.few_variables c.requires.few_clauses (let n = c.len.ensures.value in let few = c.if-len-gt-MOST.false in omega (arith, n, few));
+    few_literals = c.in_ok-before.ensures.few;
+  };
+  few_gates = c.in_ok-part.ensures.few;
+  written = c.in_ok-file.ensures;
+  lines = c.in_ok-steps.ensures;
+}

@@ -1,0 +1,17 @@
+use Rattle.std.proofs.Common.{◌∙◌, ◌==◌, sym, refl, subst, eq-eqb, IsSome}
+use Rattle.std.proofs.lemmas.Bool.{or_right}
+use Rattle.number_tables.specs.Numbers.{has_number}
+use Rattle.cert_export.specs.FaultLeaves.{LeafTable, leaf_of}
+use Rattle.cert_export.proofs.FaultLeaves.{has_leaf}
+use Rattle.cert_export.proofs.leaves.Leaves.insert.Goals as goal
+
+pub returns-then-contains-clause-there : goal.returns-then-contains-clause-there
+returns-then-contains-clause-there c =
+    subst (λ (t : LeafTable). IsSome (leaf_of t c.args.variable)) c.self.view_is
+    (has_leaf (record { variables = c.self.inside.variables; leaves = c.self.inside.leaves.items }) c.args.variable (sym c.contains.ensures ∙ c.if-contains.true))
+
+pub returns-clause-there : goal.returns-clause-there
+returns-clause-there c =
+    let v = c.args.variable in
+    has_leaf (record { variables = c.insert.new.self; leaves = c.push.new.self.items }) v
+    (c.in_ok-insert.ensures.there v ∙ or_right (has_number c.self.inside.variables v) (v == v) (eq-eqb v v refl))

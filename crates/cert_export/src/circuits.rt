@@ -1,0 +1,120 @@
+//! The circuit and the proof of a true formula, from an answer that decides so.
+
+ghost use Rattle.std.specs.Prelude.{◌≡◌, ◌≤◌, ◌+◌, length, IfOk};
+ghost use Rattle.std.specs.List.{sum_by};
+ghost use Rattle.dq_lits.specs.Formula.{IsWellFormed};
+ghost use Rattle.hint_log.specs.Entries.{count};
+ghost use Rattle.hint_log.specs.ProductiveLog.{IsProductiveLog};
+ghost use Rattle.cert_text.specs.Header.{max_count};
+ghost use Rattle.cert_text.specs.ProofGrammar.{IsDqpOf};
+ghost use Rattle.cert_export.specs.CircuitPart.{exported_netlist};
+ghost use Rattle.cert_export.specs.ExportedCircuit.{IsDecidedTrue, IsProvedCircuit, IsWritable, is_gate_name};
+ghost use Rattle.cert_export.specs.Lines.{is_lemma};
+ghost use Rattle.cert_export.specs.Negated.{AreLengthsBefore};
+ghost use Rattle.cert_export.specs.Parts.{part_of, AreDecided, AreCircuitIds, AreProofSteps, IsCircuitFile, IsExportedCircuit};
+
+use crate::circuit_numbers::{CircuitNumbers, MOST};
+use crate::given_names::given_names;
+use crate::laws::{exported_answer_is_proved, exported_file_is_spellable};
+use crate::negated::{Negated, lengths_before};
+use crate::netlists::netlist;
+use crate::parts::{Part, exported_part};
+use crate::symbols::number_symbols;
+use crate::written::write_lines;
+use aiger_text::AagFile;
+use cert_text::{Dqp, StepList};
+use dq_formula::Formula;
+use dq_lits::Memory;
+use hint_log::Log;
+use hint_log::laws::{clauses_are_named, reached_are_ids};
+use std::alloc::Global;
+
+/// The circuit and the proof that an answer stands for, which decides that the formula is true. Each existential's output is the one in the
+/// faults that the answer reaches, and constant false where it reaches none. There is a gate for each one that an output or the proof rests
+/// on, and a line for each learned clause and answer that the answer reaches. It takes time for the log's names and for what the answer
+/// reaches, and memory for the latter.
+pub fn export_true(alloc: Global, log: &Log, id: u64, f: &Formula) -> Result<(AagFile, Dqp), Memory>
+    requires formula { IsWellFormed f.now }
+    requires productive { IsProductiveLog f.now log.now.entries }
+    requires decided { IsDecidedTrue f.now log.now.entries id }
+    ensures proved { IfOk result (λ c. IsProvedCircuit f.now c.0 c.1) }
+    ensures gates { IfOk result (λ c. length c.0.circuit.gates ≤ count is_gate_name log.now.entries) }
+    ensures numbers { IfOk result (λ c. c.0.circuit.max_var ≡ length f.now.universals + length c.0.circuit.gates) }
+    ensures few { IfOk result (λ c. length c.1.steps ≤ count is_lemma log.now.entries) }
+    ensures spelled { IfOk result (λ c. IsWritable c.0) }
+    ensures allowed { IfOk result (λ c. length c.1.steps ≤ max_count → IsDqpOf f.now c.0.circuit c.1) }
+{
+    f.every_formula_is_lawful();
+    log.every_log_is_lawful();
+    reached_are_ids();
+    exported_answer_is_proved();
+    exported_file_is_spellable();
+    let ids = log.trim(id)?;
+    export_ids(alloc, log, id, ids.items(), f)
+}
+
+// The circuit and the proof of an answer, by the ids that it reaches.
+fn export_ids(
+    alloc: Global,
+    log: &Log,
+    id: u64,
+    ids: &[u64],
+    f: &Formula,
+) -> Result<(AagFile, Dqp), Memory>
+    requires { AreDecided f.now log.now.entries id ids.now }
+    ensures { IfOk result (λ c. IsExportedCircuit f.now log.now.entries id ids.now c.0 c.1) }
+{
+    let part = exported_part(alloc, log, id, ids, f)?;
+    if part.gates.len() as u64 > MOST {
+        return Err(Memory);
+    }
+    let before = lengths_before(alloc, f)?;
+    let steps = proof_steps(alloc, log, id, ids, f, &part, &before)?;
+    let file = circuit_file(alloc, log, id, ids, f, &part)?;
+    Ok((file, Dqp { steps }))
+}
+
+// The circuit, with the variables' numbers as symbols.
+fn circuit_file(
+    alloc: Global,
+    log: &Log,
+    id: u64,
+    ids: &[u64],
+    f: &Formula,
+    part: &Part,
+) -> Result<AagFile, Memory>
+    requires { AreCircuitIds f.now log.now.entries id ids.now (part_of part.now) }
+    ensures { IfOk result (λ file. IsCircuitFile f.now log.now.entries (part_of part.now) file) }
+{
+    Ok(AagFile {
+        circuit: netlist(alloc, log, f, part)?,
+        symbols: number_symbols(alloc, f)?,
+        comment: None,
+    })
+}
+
+// The lines of the derived clauses among some ids.
+fn proof_steps(
+    alloc: Global,
+    log: &Log,
+    id: u64,
+    ids: &[u64],
+    f: &Formula,
+    part: &Part,
+    before: &[u64],
+) -> Result<StepList, Memory>
+    requires ids { AreCircuitIds f.now log.now.entries id ids.now (part_of part.now) }
+    requires lengths { AreLengthsBefore f.now.matrix before.now }
+    ensures { IfOk result (AreProofSteps f.now log.now.entries (part_of part.now) ids.now) }
+{
+    clauses_are_named();
+    let names = given_names(alloc, log, ids, &CircuitNumbers { f, log, part })?;
+    let last = 3 * part.gates.len() as u64 + before[f.clauses()] + 1;
+    let base = Negated {
+        f,
+        gates: &part.gates,
+        before,
+        last,
+    };
+    write_lines(alloc, log, ids, &names, &base, last)
+}
