@@ -7,10 +7,10 @@
 ghost use Rattle.std.specs.Prelude.{◌≡◌, ◌≤◌, true, length, IfSome};
 ghost use Rattle.oracle.specs.Fit.{live_in};
 ghost use Rattle.dq_lits.specs.Literal.{variable_of};
-ghost use Rattle.cdcl_core.specs.Runs.{IsRun, IsSharedTrue};
-ghost use Rattle.cdcl_core.specs.Steps.{literals_of, Grown};
-ghost use Rattle.cdcl_core.specs.Sound.{IsSound};
-ghost use Rattle.cdcl_core.specs.Passes.{AreWithin, IsPassed, IsRunPassed, IsPropagated};
+ghost use Rattle.cdcl_scan.specs.Runs.{IsRun, IsSharedTrue};
+ghost use Rattle.cdcl_scan.specs.Steps.{literals_of, Grown};
+ghost use Rattle.cdcl_scan.specs.Sound.{IsSound};
+ghost use Rattle.cdcl_scan.specs.Passes.{AreWithin, IsPassed, IsRunPassed, IsPropagated};
 
 use crate::clauses::{ClauseStore, Run};
 use crate::passes::Pass;
