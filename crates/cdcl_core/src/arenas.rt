@@ -1,58 +1,43 @@
-//! The clauses that a solver holds, flat: all literals stand in one list.
+//! The arena: the literals of all clauses stand end to end in one list.
 
 ghost use Rattle.std.specs.Prelude.{◌≡◌, ◌≤◌, ◌<◌, ◌+◌, ◌++◌, ◌∷◌, [], List, true, length, OnOk, Some, slice_get, vec_capacity};
 ghost use Rattle.dq_lits.specs.Literal.{Literal};
-ghost use Rattle.dq_lits.specs.Derivation.{holds};
 ghost use Rattle.oracle.specs.Fit.{live_in};
-ghost use Rattle.cdcl_core.specs.Runs.{Shares, AreRuns};
 ghost use Rattle.cdcl_core.specs.Pieces.{pieces, AreEnds, start_of};
 
 use dq_lits::{Lit, Memory};
 use std::alloc::Global;
 use std::marker::Model;
 
-/// Neighbouring clauses that share a literal: where it is true, all of them are.
-///
-/// The clauses of a group share its negated selector, so that a whole group that isn't active is passed over at once.
-#[derive(Clone, Copy, Debug)]
-pub(crate) struct Run {
-    /// None, where the clause is empty.
-    pub(crate) shared: Option<Lit>,
-    /// The id of the last clause.
-    pub(crate) last: u64,
-}
-
 /// Clauses in order of time, by their ids from 1 on.
 #[derive(Debug, Drop)]
-pub(crate) struct ClauseStore {
+pub(crate) struct Arena {
     // The literals of all clauses, in order.
     literals: Vec<Lit>,
     // Where the literals of each clause end.
     ends: Vec<usize>,
-    runs: Vec<Run>,
     // How many literals one clause more may have; there is no room for a clause where it is 0.
     spare: usize,
 }
 
-impl Model for ClauseStore {
-    ghost use Rattle.cdcl_core.specs.Storage.{Stored, stored_in, IsStored};
+impl Model for Arena {
+    ghost use Rattle.cdcl_core.specs.ArenaInside.{Arranged, arranged_in, IsArranged};
 
-    ghost Value = { Stored };
+    ghost Value = { Arranged };
 
-    ghost view = { stored_in };
+    ghost view = { arranged_in };
 
-    ghost invariant = { IsStored };
+    ghost invariant = { IsArranged };
 }
 
-impl ClauseStore {
+impl Arena {
     /// No clauses. It takes no memory.
-    pub(crate) fn new(alloc: Global) -> ClauseStore
+    pub(crate) fn new(alloc: Global) -> Arena
         ensures { result.clauses ≡ [] }
     {
-        ClauseStore {
+        Arena {
             literals: Vec::new(alloc),
             ends: Vec::new(alloc),
-            runs: Vec::new(alloc),
             spare: 0,
         }
     }
@@ -73,13 +58,6 @@ impl ClauseStore {
         piece(&self.literals, &self.ends, id as usize - 1)
     }
 
-    /// The runs in order.
-    pub(crate) fn runs(&self) -> &[Run]
-        ensures { AreRuns 0 result.now self.now.clauses (length self.now.clauses) }
-    {
-        &self.runs
-    }
-
     /// Makes room for a clause of these literals.
     pub(crate) fn reserve(&mut self, lits: &[Lit]) -> Result<(), Memory>
         ensures clauses { self.new.clauses ≡ self.old.clauses }
@@ -88,7 +66,6 @@ impl ClauseStore {
         self.spare = 0;
         self.literals.reserve(lits.len())?;
         self.ends.reserve(1)?;
-        self.runs.reserve(1)?;
         self.spare = lits.len() + 1;
         Ok(())
     }
@@ -101,7 +78,6 @@ impl ClauseStore {
         self.spare = 0;
         append(&mut self.literals, lits);
         put_end(&mut self.ends, self.literals.len());
-        extend_runs(&mut self.runs, lits, self.ends.len() as u64);
     }
 }
 
@@ -141,55 +117,4 @@ fn put_end(ends: &mut Vec<usize>, end: usize)
     if ends.push(end).is_err() {
         unreachable!();
     }
-}
-
-// One clause more, with this id: it goes with the newest run where it holds the literal that is shared there, and begins a run else.
-fn extend_runs(runs: &mut Vec<Run>, lits: &[Lit], last: u64)
-    requires { length runs.old.items < vec_capacity runs.old }
-    ensures { (clauses : List (List Literal)) → AreRuns 0 runs.old.items clauses (length clauses) → last ≡ length clauses + 1
-        → AreRuns 0 runs.new.items (clauses ++ lits.now ∷ []) last }
-{
-    match runs.pop() {
-        None => put(runs, first_of(lits), last),
-        Some(run) => {
-            if is_shared(&run.shared, lits) {
-                put(runs, run.shared, last);
-            } else {
-                put(runs, run.shared, run.last);
-                put(runs, first_of(lits), last);
-            }
-        }
-    }
-}
-
-fn put(runs: &mut Vec<Run>, shared: Option<Lit>, last: u64)
-    requires { length runs.old.items < vec_capacity runs.old }
-    ensures items { runs.new.items ≡ runs.old.items ++ record { shared = shared; last = last } ∷ [] }
-    ensures capacity { vec_capacity runs.old ≤ vec_capacity runs.new }
-{
-    if runs.push(Run { shared, last }).is_err() {
-        unreachable!();
-    }
-}
-
-fn first_of(lits: &[Lit]) -> Option<Lit>
-    ensures { Shares result lits.now }
-{
-    lits.first().copied()
-}
-
-fn is_shared(shared: &Option<Lit>, lits: &[Lit]) -> bool
-    ensures { result ≡ true → Shares shared.now lits.now }
-{
-    match shared {
-        None => false,
-        Some(l) => holds(lits, *l),
-    }
-}
-
-/// Whether a literal is among others.
-pub(crate) fn holds(lits: &[Lit], l: Lit) -> bool
-    ensures { result ≡ holds lits.now l }
-{
-    lits.iter().any(|k| l == *k)
 }

@@ -1,0 +1,213 @@
+//! The clauses that a solver holds, each watched at two of its literals.
+
+ghost use Rattle.std.specs.Prelude.{◌≡◌, ◌≤◌, ◌<◌, ◌-◌, ◌++◌, ◌∷◌, ◌⊎◌, [], List, ℕ, None, length, true, suc, Contains, OnOk, Some, vec_capacity};
+ghost use Rattle.dq_lits.specs.Literal.{Literal, positive, same_literal};
+ghost use Rattle.dq_lits.specs.Derivation.{holds};
+ghost use Rattle.oracle.specs.Fit.{live_in};
+ghost use Rattle.cdcl_core.specs.Steps.{literals_of, Grown};
+ghost use Rattle.cdcl_core.specs.Sound.{IsSound};
+ghost use Rattle.cdcl_core.specs.Passes.{AreWithin, IsPropagated};
+ghost use Rattle.cdcl_core.specs.Watching.{IsWatched, IsReady, IsGuarded, AreLevelsGuarded, NotesShort};
+
+use crate::arenas::Arena;
+use crate::propagation::propagate;
+use crate::trails::Trail;
+use crate::watches::{Watches, add_watch, make_room, no_watches};
+use dq_lits::{Lit, Memory};
+use std::alloc::Global;
+use std::marker::Model;
+
+/// Clauses in order of time, by their ids from 1 on.
+#[derive(Debug, Drop)]
+pub(crate) struct ClauseStore {
+    arena: Arena,
+    // Each clause is watched at two of its literals, where it has two that differ.
+    first: Watches,
+    second: Watches,
+    // The ids of the other clauses.
+    short: Vec<u64>,
+    // How many literals one clause more may have; there is no room for a clause where it is 0.
+    spare: usize,
+}
+
+impl Model for ClauseStore {
+    ghost use Rattle.cdcl_core.specs.Storage.{Stored, stored_in, IsStored};
+
+    ghost Value = { Stored };
+
+    ghost view = { stored_in };
+
+    ghost invariant = { IsStored };
+}
+
+impl ClauseStore {
+    ghost use Rattle.cdcl_core.specs.Storage.{HasLists, IsListed};
+
+    /// No clauses. It takes no memory.
+    pub(crate) fn new(alloc: Global) -> ClauseStore
+        ensures { result.clauses ≡ [] }
+    {
+        ClauseStore {
+            arena: Arena::new(alloc),
+            first: no_watches(alloc),
+            second: no_watches(alloc),
+            short: Vec::new(alloc),
+            spare: 0,
+        }
+    }
+
+    /// How many clauses there are.
+    pub(crate) fn len(&self) -> u64
+        ensures { result ≡ length self.now.clauses }
+    {
+        self.arena.len()
+    }
+
+    /// The literals of the clause with an id.
+    pub(crate) fn lits(&self, id: u64) -> &[Lit]
+        requires from_one { 1 ≤ id }
+        requires is_id { id ≤ length self.now.clauses }
+        ensures { live_in self.now.clauses id ≡ Some result.now }
+    {
+        self.arena.lits(id)
+    }
+
+    /// The literals that the clause with an id is watched at.
+    pub(crate) fn watched(&self, id: u64) -> Watched
+        requires from_one { 1 ≤ id }
+        requires is_id { id ≤ length self.now.clauses }
+        ensures { (c : List Literal) → live_in self.now.clauses id ≡ Some c → IsWatched c result.first result.second }
+    {
+        Watched {
+            first: self.first.literals[id as usize - 1],
+            second: self.second.literals[id as usize - 1],
+        }
+    }
+
+    /// Makes room for a clause of these literals.
+    pub(crate) fn reserve(&mut self, lits: &[Lit]) -> Result<(), Memory>
+        ensures clauses { self.new.clauses ≡ self.old.clauses }
+        ensures first { self.new.first ≡ self.old.first }
+        ensures second { self.new.second ≡ self.old.second }
+        ensures spare { OnOk result (length lits.now < self.new.spare) }
+        ensures lists { OnOk result (HasLists self.new lits.now) }
+    {
+        self.spare = 0;
+        make_room(&mut self.first, lits)?;
+        make_room(&mut self.second, lits)?;
+        self.short.reserve(1)?;
+        self.arena.reserve(lits)?;
+        self.spare = lits.len() + 1;
+        Ok(())
+    }
+
+    /// Adds a clause that there is room for.
+    pub(crate) fn push(&mut self, lits: &[Lit])
+        requires spare { length lits.now < self.old.spare }
+        requires lists { HasLists self.old lits.now }
+        ensures { self.new.clauses ≡ self.old.clauses ++ lits.now ∷ [] }
+    {
+        self.push_watched(lits, watched_of(lits));
+    }
+
+    /// Adds a clause that there is room for, watched at these literals.
+    pub(crate) fn push_watched(&mut self, lits: &[Lit], watched: Watched)
+        requires spare { length lits.now < self.old.spare }
+        requires lists { HasLists self.old lits.now }
+        requires first_list { IsListed self.old watched.first }
+        requires second_list { IsListed self.old watched.second }
+        requires watched { IsWatched lits.now watched.first watched.second }
+        ensures clauses { self.new.clauses ≡ self.old.clauses ++ lits.now ∷ [] }
+        ensures first { self.new.first ≡ self.old.first ++ watched.first ∷ [] }
+        ensures second { self.new.second ≡ self.old.second ++ watched.second ∷ [] }
+        ensures count { length self.old.first ≡ length self.old.clauses }
+        ensures second_count { length self.old.second ≡ length self.old.clauses }
+    {
+        self.spare = 0;
+        self.arena.push(lits);
+        add_watch(&mut self.first, watched.first);
+        add_watch(&mut self.second, watched.second);
+        note_short(&mut self.short, watched, self.arena.len());
+    }
+
+    /// Propagates to the end, or to a falsified clause, whose id it answers. All literals but the newest one were processed.
+    pub(crate) fn propagate(&mut self, trail: &mut Trail) -> Option<u64>
+        requires in_range { AreWithin trail.old.room self.old.clauses }
+        requires sound { IsSound (live_in self.old.clauses) trail.old.steps }
+        requires few { length trail.old.steps ≤ trail.old.room }
+        requires ready { IsReady self.old.clauses self.old.first self.old.second trail.old.steps }
+        ensures clauses { self.new.clauses ≡ self.old.clauses }
+        ensures room { trail.new.room ≡ trail.old.room }
+        ensures sound { IsSound (live_in self.new.clauses) trail.new.steps }
+        ensures grown { Grown trail.old.steps trail.new.steps }
+        ensures few { length trail.new.steps ≤ trail.new.room }
+        ensures levels { AreLevelsGuarded self.new.clauses self.new.first self.new.second trail.new.steps }
+        ensures guarded { result ≡ None → IsGuarded self.new.clauses self.new.first self.new.second (literals_of trail.new.steps) (literals_of trail.new.steps) }
+        ensures ended { IsPropagated (live_in self.new.clauses) trail.new result }
+    {
+        self.spare = 0;
+        propagate(
+            trail,
+            &self.arena,
+            &mut self.first,
+            &mut self.second,
+            &self.short,
+        )
+    }
+}
+
+/// Two literals that a clause is watched at.
+#[derive(Clone, Copy, Debug)]
+pub(crate) struct Watched {
+    pub(crate) first: Lit,
+    pub(crate) second: Lit,
+}
+
+// The first literal of a clause, and the first that differs from it; some literal, where it has none.
+fn watched_of(lits: &[Lit]) -> Watched
+    ensures watched { IsWatched lits.now result.first result.second }
+    ensures first { (result.first ≡ positive 1) ⊎ (holds lits.now result.first ≡ true) }
+    ensures second { (result.second ≡ positive 1) ⊎ (holds lits.now result.second ≡ true) }
+{
+    match lits.first() {
+        Some(l) => Watched {
+            first: *l,
+            second: other_of(lits, *l),
+        },
+        None => Watched {
+            first: Lit::pos(1),
+            second: Lit::pos(1),
+        },
+    }
+}
+
+// The first literal that differs from one of them; that one, where there is none.
+fn other_of(lits: &[Lit], l: Lit) -> Lit
+    requires { holds lits.now l ≡ true }
+    ensures watched { IsWatched lits.now l result }
+    ensures among { holds lits.now result ≡ true }
+{
+    for k in lits {
+        if l != *k {
+            return *k;
+        }
+    }
+    l
+}
+
+// Notes a clause that is watched at one literal alone.
+fn note_short(short: &mut Vec<u64>, watched: Watched, id: u64)
+    requires { length short.old.items < vec_capacity short.old }
+    ensures { NotesShort short.old.items short.new.items watched.first watched.second id }
+{
+    if watched.first == watched.second && short.push(id).is_err() {
+        unreachable!();
+    }
+}
+
+/// Whether a literal is among others.
+pub(crate) fn holds(lits: &[Lit], l: Lit) -> bool
+    ensures { result ≡ holds lits.now l }
+{
+    lits.iter().any(|k| l == *k)
+}
