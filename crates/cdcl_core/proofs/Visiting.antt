@@ -3,7 +3,7 @@ use Rattle.std.proofs.Common.{◌≡◌, ◌≢◌, ℕ, zero, suc, ◌+◌, ◌
 use Rattle.std.specs.List.{list_any}
 use Rattle.std.proofs.lemmas.Bool.{cases_Bool, cases_eq, cases_lt, false≢true}
 use Rattle.std.proofs.lemmas.List.{length-set, get_or_past, get_or_default, append_assoc, append-nil, take_more}
-use Rattle.std.proofs.lemmas.Option.{slice_get_within}
+use Rattle.std.proofs.lemmas.Option.{slice_get_within, slice_get-get_or}
 use Rattle.dq_lits.specs.Literal.{Literal, positive, opposite, variable_of, same_literal}
 use Rattle.dq_lits.specs.Derivation.{unit, falsified, stuck, holds, status_of}
 use Rattle.oracle.specs.Fit.{live_in}
@@ -26,6 +26,10 @@ use Rattle.cdcl_core.proofs.Standing.{is_falsified, is_unit, implied_from}
 pub at_id : (clauses : List (List Literal)) (id : ℕ) (c : List Literal) → live_in clauses id ≡ Some c → slice_get clauses (id - 1) ≡ Some c
 at_id clauses zero c is = let n : None ≡ Some c = is in cc
 at_id clauses (suc i) c is = let e : suc i - 1 ≡ i = omega arith in ap (slice_get clauses) e ∙ is
+
+pub some_clause : (clauses : List (List Literal)) (id : ℕ) → 1 ≤ id → id ≤ length clauses → (c : List Literal) × (live_in clauses id ≡ Some c)
+some_clause clauses zero low high = absurd (omega (arith, low))
+some_clause clauses (suc i) low high = (get_or clauses i [], slice_get-get_or clauses i [] (omega (arith, high)))
 
 one_clause : (clauses : List (List Literal)) (i : ℕ) (c d : List Literal) → slice_get clauses i ≡ Some c → slice_get clauses i ≡ Some d → c ≡ d
 one_clause clauses i c d a b = let e : Some c ≡ Some d = sym a ∙ b in cc

@@ -14,6 +14,7 @@ ghost use Rattle.cdcl_core.specs.Passes.{AreWithin, IsOpening, AreTrueUpTo};
 
 use crate::activities::Activities;
 use crate::clauses::{ClauseStore, Watched};
+use crate::statuses::is_true;
 use crate::trails::{Trail, TruthValue};
 use dq_lits::Lit;
 
@@ -90,17 +91,6 @@ fn is_watch_true(trail: &Trail, watched: Watched) -> bool
 {
     watched.first != watched.second
         && (is_true(trail, watched.first) || is_true(trail, watched.second))
-}
-
-fn is_true(trail: &Trail, l: Lit) -> bool
-    requires { variable_of l ≤ trail.now.room }
-    ensures { result ≡ true → holds (literals_of trail.now.steps) l ≡ true }
-{
-    match trail.value(l) {
-        TruthValue::True => true,
-        TruthValue::False => false,
-        TruthValue::Unassigned => false,
-    }
 }
 
 // The most active literal without a value, where the clause has no true literal.

@@ -18,7 +18,7 @@ ghost use Rattle.cdcl_core.specs.Watching.{AreShort, IsReady, AreSame};
 ghost use Rattle.cdcl_core.specs.Visits.{IsVisitable, IsLooked, IsOther, AreOthersFalse, IsVisited, IsListVisited, AreVisited, IsTrailVisited, IsProcessed};
 
 use crate::arenas::Arena;
-use crate::statuses::{Status, status_of};
+use crate::statuses::{Status, is_true, status_of};
 use crate::trails::{Step, Trail, TruthValue};
 use crate::watches::{Watches, put_back, put_elsewhere, take};
 use dq_lits::Lit;
@@ -201,6 +201,9 @@ fn visit(
     ensures { IsVisited arena.now.clauses trail.old trail.new these.old these.new others.now l id result }
 {
     let other = others.literals[id as usize - 1];
+    if is_true(trail, other) {
+        return Some(put_back(these, id, l));
+    }
     match look_at(trail, arena.lits(id), other, id) {
         Look::Kept => Some(put_back(these, id, l)),
         Look::Moved(k) => Some(put_elsewhere(these, id, k)),
