@@ -1,0 +1,12 @@
+pub mod Truth
+pub mod Sets
+pub mod NodeMaps
+pub mod Reaching
+pub mod Replays
+pub mod Deriving
+pub mod Sided
+pub mod Alike
+pub mod Interpolating
+pub mod Steps
+pub mod Resolving
+pub mod Noting

@@ -1,0 +1,4 @@
+pub mod Interpolant
+pub mod Replay
+pub mod Parts
+pub mod Sides

@@ -1,0 +1,107 @@
+//! The partial interpolant of a derived clause: its hints are replayed, and their clauses are resolved, the last one first.
+
+ghost use Rattle.std.specs.Prelude.{◌≡◌, ◌&&◌, ◌||◌, true, false, map, IfOk, None};
+ghost use Rattle.dq_lits.specs.Literal.{variable_of, opposite};
+ghost use Rattle.hint_log.specs.Conditions.{IsId};
+ghost use Rattle.hint_log.specs.Entries.{clause_at, origin_at};
+ghost use Rattle.hint_log.specs.Reached.{Reaches};
+ghost use Rattle.aig_graph.specs.Graph.{IsNode};
+ghost use Rattle.aig_graph.specs.Made.{Extends, IsMade};
+ghost use Rattle.interpolants.specs.Interpolant.{AreNodes};
+ghost use Rattle.interpolants.specs.Sides.{is_local, split, locals};
+ghost use Rattle.interpolants.specs.Parts.{IsPart, IsPartOf, HaveParts, AreNoted};
+ghost use Rattle.interpolants.specs.Replay.{AreDerived, IsReplay};
+
+use crate::chains::Chain;
+use crate::literal_sets::LiteralSet;
+use crate::node_maps::NodeMap;
+use crate::replaying::{assume_false, propagate};
+use crate::sides::Side;
+use aig_graph::{Graph, Node};
+use dq_lits::{Lit, Memory};
+use hint_log::Log;
+use hint_log::laws::reached_are_ids;
+use std::alloc::Global;
+
+/// The partial interpolant of a derived clause, by those of its hints.
+pub(crate) fn derived_part(
+    alloc: Global,
+    log: &Log,
+    id: u64,
+    at: u64,
+    side: &Side,
+    shared: &NodeMap,
+    notes: &NodeMap,
+    graph: &mut Graph,
+) -> Result<Node, Memory>
+    requires id { IsId log.now.entries at }
+    requires reached { Reaches log.now.entries id at }
+    requires derived { AreDerived log.now.entries }
+    requires not_given { origin_at log.now.entries at ≡ None }
+    requires nodes { AreNodes shared.now graph.old }
+    requires parts { AreNoted (split log.now.entries id side.now shared.now) (locals side.now shared.now) graph.old notes.now at }
+    ensures extends { Extends graph.old graph.new }
+    ensures part { IfOk result (IsPartOf (split log.now.entries id side.now shared.now) (locals side.now shared.now) graph.new at) }
+{
+    log.every_log_is_lawful();
+    reached_are_ids();
+    let clause = log.clause(at);
+    let hints = log.hints(at);
+    let mut chain = Chain::new(alloc);
+    let mut trues = LiteralSet::new(alloc);
+    assume_false(&mut trues, clause)?;
+    let last = propagate(log, &mut trues, &mut chain, clause, hints)?;
+    let node = resolve(
+        log, id, side, shared, notes, clause, hints, &mut chain, last, graph,
+    )?;
+    Ok(node)
+}
+
+// Resolves a line's hinted clauses, the last one first.
+fn resolve(
+    log: &Log,
+    id: u64,
+    side: &Side,
+    shared: &NodeMap,
+    notes: &NodeMap,
+    clause: &[Lit],
+    hints: &[u64],
+    chain: &mut Chain,
+    last: u64,
+    graph: &mut Graph,
+) -> Result<Node, Memory>
+    requires nodes { AreNodes shared.now graph.old }
+    requires parts { HaveParts (split log.now.entries id side.now shared.now) (locals side.now shared.now) graph.old notes.now hints.now }
+    requires replay { IsReplay (clause_at log.now.entries) (map opposite clause.now) hints.now chain.old last }
+    ensures extends { Extends graph.old graph.new }
+    ensures part { IfOk result (IsPart (split log.now.entries id side.now shared.now) (locals side.now shared.now) graph.new (map opposite clause.now)) }
+{
+    let mut node = notes.at(last);
+    while let Some(link) = chain.pop() {
+        let local = is_local(side, shared, link.pivot);
+        node = resolved(graph, local, node, notes.at(link.hint))?;
+    }
+    Ok(node)
+}
+
+// Whether a literal stands on a variable of the A side that isn't shared.
+fn is_local(side: &Side, shared: &NodeMap, l: Lit) -> bool
+    ensures { result ≡ is_local shared.now side.now.variables (variable_of l) }
+{
+    side.variables.has(Lit::pos(l.var())) && shared.get(l.var()).is_none()
+}
+
+// The partial interpolant of a resolvent: `or` at a pivot of the A side alone, else `and`.
+fn resolved(graph: &mut Graph, local: bool, p: Node, r: Node) -> Result<Node, Memory>
+    requires p { IsNode graph.old p }
+    requires r { IsNode graph.old r }
+    ensures extends { Extends graph.old graph.new }
+    ensures or { IfOk result (λ n. local ≡ true → IsMade (λ x y. x || y) graph.old graph.new p r n) }
+    ensures and { IfOk result (λ n. local ≡ false → IsMade (λ x y. x && y) graph.old graph.new p r n) }
+{
+    if local {
+        graph.or(p, r)
+    } else {
+        graph.and(p, r)
+    }
+}

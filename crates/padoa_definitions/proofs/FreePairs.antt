@@ -1,0 +1,307 @@
+-- Values of both copies, as two rows with values of the existentials.
+use Rattle.std.proofs.Common.{◌≡◌, ℕ, zero, suc, ◌+◌, ◌<◌, ◌==◌, Bool, true, false, true≢false, not, cond, ◌||◌, ◌&&◌, inl, inr, List, [], ◌∷◌, ◌++◌, map, length, get_or, slice_get, Some, refl, sym, ◌∙◌, ap, subst, arith}
+use Rattle.std.specs.List.{All, Contains, list_any}
+use Rattle.std.specs.Option.{option_and_then}
+use Rattle.std.proofs.lemmas.Bool.{cases_Bool, eqb-true, eq-eqb, ne_eqb, or_cases}
+use Rattle.std.proofs.lemmas.List.Folds.{list_any_at}
+use Rattle.std.proofs.lemmas.List.{length-map}
+use Rattle.std.proofs.lemmas.List.Elements.{All-head, All-tail, Contains-append_left, Contains-append_cases}
+use Rattle.std.proofs.lemmas.Option.{slice_get-get_or, slice_get_within}
+use Rattle.dq_lits.specs.Literal.{Assignment, Literal, positive, negative, variable_of, is_negative, opposite, literal_true, clause_true}
+use Rattle.dq_lits.specs.Derivation.{MakesTrue}
+use Rattle.dq_lits.specs.Formula.{Dqbf, Existential, IsWellFormed, declared, is_universal}
+use Rattle.dq_lits.specs.Expansion.{row_assignment}
+use Rattle.dq_lits.specs.Henkin.{MatrixHolds}
+use Rattle.dq_lits.specs.Row.{assignment_of}
+use Rattle.dq_formula.specs.Prefix.{existential_variables}
+use Rattle.hint_log.specs.Entries.{Entry, Given, has_id, last_id, numbered, clause_of, clause_at, name_of}
+use Rattle.hint_log.specs.Naming.{named_literal, name_literal, AreNamedAs, by_universality, round_assignment}
+use Rattle.hint_log.specs.declared.names.Name.{Name}
+use Rattle.hint_log.specs.declared.names.Name.TheVariants.{Copy as CopyOf}
+use Rattle.hint_log.specs.declared.origins.Origin.{Origin}
+use Rattle.hint_log.specs.declared.origins.Origin.TheVariants.{Copy, Link}
+use Rattle.log_laws.proofs.Found.{named_variable}
+use Rattle.oracle.specs.Calls.{IsMade, assumed}
+use Rattle.oracle.specs.declared.groups.Group.{Group}
+use Rattle.padoa_definitions.specs.Copies.{group_variable, AreCopiesOf, copy_names, IsMatrixCopy, IsLink, IsPadoa}
+use Rattle.padoa_definitions.specs.Defining.{IsSample, IsFreePair}
+use Rattle.padoa_definitions.specs.Dividing.{values_at, IsPairOf, ModelsCopies}
+use Rattle.padoa_definitions.specs.Seeing.{ArePlaces}
+use Rattle.padoa_definitions.specs.declared.copies.MatrixCopy.{MatrixCopy}
+use Rattle.padoa_definitions.specs.declared.defining.Pair.{Pair}
+use Rattle.padoa_definitions.specs.declared.padoa.Padoa.{Padoa}
+use Rattle.padoa_definitions.proofs.Copying.{element_at, named_length, copy_at}
+
+-- a given clause has an id
+given_id : (es : List Entry) (o : Origin) (c : List Literal) → Contains es (Given o c) → (id : ℕ) × (id < last_id es + 1) × (clause_at es id ≡ Some c)
+given_id [] o c (k, lt, at) = absurd (omega (arith, lt))
+given_id (e ∷ es) o c (zero, lt, at) = here e at
+  where
+    here : (e : Entry) → e ≡ Given o c → (id : ℕ) × (id < last_id (e ∷ es) + 1) × (clause_at (e ∷ es) id ≡ Some c)
+    here e is = subst (λ x. (id : ℕ) × (id < last_id (x ∷ es) + 1) × (clause_at (x ∷ es) id ≡ Some c)) (sym is)
+        (last_id es + 1, omega arith, ap (λ b. option_and_then clause_of (cond b (Some (Given o c)) (numbered has_id es (last_id es + 1)))) (eq-eqb (last_id es + 1) (last_id es + 1) refl))
+given_id (e ∷ es) o c (suc k, lt, at) =
+    let before = given_id es o c (k, omega (arith, lt), at) in
+    later (has_id e) refl before.0 before.1 before.2
+  where
+    later : (b : Bool) → has_id e ≡ b → (id : ℕ) → id < last_id es + 1 → clause_at es id ≡ Some c → (id : ℕ) × (id < last_id (e ∷ es) + 1) × (clause_at (e ∷ es) id ≡ Some c)
+    later true h id below is =
+        let more : last_id (e ∷ es) ≡ last_id es + 1 = ap (λ b. cond b (last_id es + 1) (last_id es)) h in (
+          id,
+          omega (arith, below, more),
+          ap (λ b. option_and_then clause_of (cond (b && (id == last_id es + 1)) (Some e) (numbered has_id es id))) h
+              ∙ ap (λ b. option_and_then clause_of (cond b (Some e) (numbered has_id es id))) (ne_eqb id (last_id es + 1) (λ same. omega (arith, below, same))) ∙ is,
+        )
+    later false h id below is =
+        let same : last_id (e ∷ es) ≡ last_id es = ap (λ b. cond b (last_id es + 1) (last_id es)) h in
+        (id, omega (arith, below, same), ap (λ b. option_and_then clause_of (cond (b && (id == last_id es + 1)) (Some e) (numbered has_id es id))) h ∙ is)
+
+abbrev signed : Bool → Bool → Bool
+signed negated b = cond negated (not b) b
+
+literal_signed : (p : Assignment) (k : Literal) → literal_true p k ≡ signed (is_negative k) (p (variable_of k))
+literal_signed p (positive v) = refl
+literal_signed p (negative v) = refl
+
+found_universal : (us : List ℕ) (v : ℕ) → list_any (λ x. x == v) us ≡ true → Contains us v
+found_universal [] v h = cc
+found_universal (x ∷ us) v h = elim (or_cases (x == v) (list_any (λ z. z == v) us) h) [
+  | inl here ↦ (0, omega arith, eqb-true x v here)
+  | inr later ↦ (let r = found_universal us v later in let b = r.1 in (suc r.0, omega (arith, b), r.2))
+]
+
+missing_universal : (us : List ℕ) (v : ℕ) → list_any (λ x. x == v) us ≡ false → Contains us v → ⊥
+missing_universal us v h (k, lt, at) = true≢false (sym (list_any_at (λ x. x == v) us k v lt (eq-eqb (get_or us k v) v at)) ∙ h)
+
+module _ (f : Dqbf) (es : List Entry) (values : Assignment) (formula : IsWellFormed f)
+    (unique : (v w : ℕ) (name : Name) → name_of es v ≡ Some name → name_of es w ≡ Some name → v ≡ w) (live : MakesTrue values (clause_at es)) where
+  given_true : (o : Origin) (c : List Literal) → Contains es (Given o c) → clause_true values c ≡ true
+  given_true o c inside = let r = given_id es o c inside in live r.0 c r.2
+
+  -- where its group is active
+  switched : (g : ℕ) (rest : List Literal) → values g ≡ true → clause_true values (negative g ∷ rest) ≡ true → clause_true values rest ≡ true
+  switched g rest on h = sym (ap (λ b. not b || clause_true values rest) on) ∙ h
+
+  -- the bit that a row of values has for a variable
+  assigned : (side : ℕ) (xs : List ℕ) (lits : List Literal) → AreCopiesOf es side xs lits → (v w : ℕ) → Contains xs v → name_of es w ≡ Some (CopyOf side v) →
+      assignment_of xs (values_at values lits) v ≡ values w
+  assigned side [] lits are v w (k, lt, at) named = absurd (omega (arith, lt))
+  assigned side (x ∷ xs) [] are v w among named = cc
+  assigned side (x ∷ xs) (l ∷ lits) are v w among named =
+      let here : name_literal es l ≡ Some (named_literal (CopyOf side x) false) = cc in
+      let later : map (name_literal es) lits ≡ map Some (map (λ z. named_literal (CopyOf side z) false) xs) = cc in
+      elim (cases_Bool (x == v)) [
+        | inl same ↦ (
+            let l_named = named_variable es l (CopyOf side x) false (name_of es (variable_of l)) refl here in
+            let is : x ≡ v = eqb-true x v same in
+            ap (λ b. cond b (values (variable_of l)) (assignment_of xs (values_at values lits) v)) same
+            ∙ ap values (unique (variable_of l) w (CopyOf side v) (l_named.0 ∙ ap (λ z. Some (CopyOf side z)) is) named))
+        | inr other ↦
+            ap (λ b. cond b (values (variable_of l)) (assignment_of xs (values_at values lits) v)) other
+            ∙ assigned side xs lits later v w (behind among other) named
+      ]
+    where
+      behind : Contains (x ∷ xs) v → (x == v) ≡ false → Contains xs v
+      behind (zero, lt, at) other = absurd (true≢false (sym (eq-eqb x v at) ∙ other))
+      behind (suc k, lt, at) other = (k, omega (arith, lt), at)
+
+  module _ (side : ℕ) (copy : MatrixCopy) (is : IsMatrixCopy f side copy es) (row bits : List Bool) (row_is : row ≡ values_at values copy.universals.items)
+      (bits_are : bits ≡ values_at values copy.existentials.items) (active : values (group_variable copy.group) ≡ true) where
+    abbrev m : Assignment
+    m = round_assignment f row bits
+
+    -- a declared variable has its copy's value
+    pub copied_value : (v w : ℕ) → Contains (declared f) v → name_of es w ≡ Some (CopyOf side v) → m v ≡ values w
+    copied_value v w among named = elim (cases_Bool (is_universal f v)) [
+      | inl universal ↦
+          ap (λ b. by_universality b (row_assignment f row v) (assignment_of (existential_variables f) bits v)) universal ∙ ap (λ r. assignment_of f.universals r v) row_is
+          ∙ assigned side f.universals copy.universals.items is.universals v w (found_universal f.universals v universal) named
+      | inr other ↦ elim (Contains-append_cases f.universals (existential_variables f) v among) [
+        | inl universal ↦ absurd (missing_universal f.universals v other universal)
+        | inr existential ↦
+            ap (λ b. by_universality b (row_assignment f row v) (assignment_of (existential_variables f) bits v)) other ∙ ap (λ r. assignment_of (existential_variables f) r v) bits_are
+            ∙ assigned side (existential_variables f) copy.existentials.items is.existentials v w existential named
+      ]
+    ]
+
+    copied_clause_true : (ls ks : List Literal) → All (λ l. Contains (declared f) (variable_of l)) ls → AreNamedAs es ks (copy_names side ls) → clause_true values ks ≡ clause_true m ls
+    copied_clause_true [] [] bound are = refl
+    copied_clause_true [] (k ∷ ks) bound are = cc
+    copied_clause_true (l ∷ ls) [] bound are = cc
+    copied_clause_true (l ∷ ls) (k ∷ ks) bound are =
+        let here : name_literal es k ≡ Some (named_literal (CopyOf side (variable_of l)) (is_negative l)) = cc in
+        let later : map (name_literal es) ks ≡ map Some (copy_names side ls) = cc in
+        let named = named_variable es k (CopyOf side (variable_of l)) (is_negative l) (name_of es (variable_of k)) refl here in
+        let P : Literal → Type 0 = λ j. Contains (declared f) (variable_of j) in
+        let same : literal_true values k ≡ literal_true m l =
+        literal_signed values k ∙ ap (λ b. signed b (values (variable_of k))) named.1
+        ∙ ap (signed (is_negative l)) (sym (copied_value (variable_of l) (variable_of k) (All-head P l ls bound) named.0)) ∙ sym (literal_signed m l) in
+        ap (λ b. b || clause_true values ks) same ∙ ap (λ b. literal_true m l || b) (copied_clause_true ls ks (All-tail P l ls bound) later)
+
+    pub matrix_holds : MatrixHolds f m
+    matrix_holds j d lt =
+        let clause = get_or f.matrix j d in
+        let given = is.whole j clause (slice_get-get_or f.matrix j d lt) in
+        sym (copied_clause_true clause given.rest (formula.bound j d lt) given.named)
+        ∙ switched (group_variable copy.group) given.rest active (given_true (Copy side (j + 1)) (negative (group_variable copy.group) ∷ given.rest) given.given)
+
+    pub sample : IsSample f row bits
+    sample = record {
+      row_length = ap length row_is ∙ length-map copy.universals.items (λ l. values (variable_of l)) ∙ named_length es copy.universals.items _ is.universals
+          ∙ length-map f.universals (λ v. named_literal (CopyOf side v) false);
+      values_length = ap length bits_are ∙ length-map copy.existentials.items (λ l. values (variable_of l)) ∙ named_length es copy.existentials.items _ is.existentials
+          ∙ length-map (existential_variables f) (λ v. named_literal (CopyOf side v) false) ∙ length-map f.existentials (λ y. y.variable);
+      holds_there = matrix_holds;
+    }
+
+  -- an equation that is active
+  equal_there : (x : ℕ) (g : Group) → IsLink f x g es → values (group_variable g) ≡ true → (v w : ℕ) → name_of es v ≡ Some (CopyOf 1 x) → name_of es w ≡ Some (CopyOf 2 x) → values v ≡ values w
+  equal_there x g link on v w one two =
+      let down = link.whole 1 (inl refl) in
+      let up = link.whole 2 (inr refl) in
+      both (values v) (values w)
+      (pair_true down.rest true false down.named (switched (group_variable g) down.rest on (given_true (Link x 1) (negative (group_variable g) ∷ down.rest) down.given)))
+      (pair_true up.rest false true up.named (switched (group_variable g) up.rest on (given_true (Link x 2) (negative (group_variable g) ∷ up.rest) up.given)))
+    where
+      pair_true : (ks : List Literal) (a b : Bool) → AreNamedAs es ks (named_literal (CopyOf 1 x) a ∷ named_literal (CopyOf 2 x) b ∷ []) → clause_true values ks ≡ true →
+          (signed a (values v) || signed b (values w)) ≡ true
+      pair_true [] a b are h = cc
+      pair_true (k ∷ []) a b are h = cc
+      pair_true (k ∷ j ∷ []) a b are h =
+          let k_is : name_literal es k ≡ Some (named_literal (CopyOf 1 x) a) = cc in
+          let j_is : name_literal es j ≡ Some (named_literal (CopyOf 2 x) b) = cc in
+          let k_named = named_variable es k (CopyOf 1 x) a (name_of es (variable_of k)) refl k_is in
+          let j_named = named_variable es j (CopyOf 2 x) b (name_of es (variable_of j)) refl j_is in
+          let k_value : literal_true values k ≡ signed a (values v) =
+          literal_signed values k ∙ ap (λ s. signed s (values (variable_of k))) k_named.1 ∙ ap (λ u. signed a (values u)) (unique (variable_of k) v (CopyOf 1 x) k_named.0 one) in
+          let j_value : literal_true values j ≡ signed b (values w) =
+          literal_signed values j ∙ ap (λ s. signed s (values (variable_of j))) j_named.1 ∙ ap (λ u. signed b (values u)) (unique (variable_of j) w (CopyOf 2 x) j_named.0 two) in
+          sym (ap (λ t. t || literal_true values j) k_value ∙ ap (λ t. signed a (values v) || t) j_value) ∙ shorter (literal_true values k) (literal_true values j) h
+        where
+          shorter : (s t : Bool) → (s || (t || false)) ≡ true → (s || t) ≡ true
+          shorter true t h = refl
+          shorter false true h = refl
+          shorter false false h = h
+      pair_true (k ∷ j ∷ i ∷ ks) a b are h = cc
+
+      both : (s t : Bool) → (not s || t) ≡ true → (s || not t) ≡ true → s ≡ t
+      both true true d u = refl
+      both true false d u = cc
+      both false true d u = cc
+      both false false d u = refl
+
+as_positive : (l : Literal) → is_negative l ≡ false → l ≡ positive (variable_of l)
+as_positive (positive v) h = refl
+as_positive (negative v) h = cc
+
+opposite_true : (values : Assignment) (l : Literal) → is_negative l ≡ false → literal_true values (opposite l) ≡ true → values (variable_of l) ≡ false
+opposite_true values (positive v) plain h = turned (values v) h
+  where
+    turned : (b : Bool) → not b ≡ true → b ≡ false
+    turned false h = refl
+    turned true h = cc
+opposite_true values (negative v) plain h = cc
+
+positive_true : (values : Assignment) (l : Literal) → is_negative l ≡ false → literal_true values l ≡ true → values (variable_of l) ≡ true
+positive_true values (positive v) plain h = h
+positive_true values (negative v) plain h = cc
+
+all_there : (P : Literal → Type 0) (xs : List Group) (more : List Literal) → All P (map (λ g. g.selector) xs ++ more) → ((g : Group) → Contains xs g → P g.selector) × All P more
+all_there P [] more all = (λ g among. absurd (nothing g among), all)
+  where
+    nothing : (g : Group) → Contains {X = Group} [] g → ⊥
+    nothing g (k, lt, at) = omega (arith, lt)
+all_there P (x ∷ xs) more all =
+    let rest = all_there P xs more (All-tail P x.selector (map (λ g. g.selector) xs ++ more) all) in
+    (λ g among. here g among rest.0, rest.1)
+  where
+    here : (g : Group) → Contains (x ∷ xs) g → ((h : Group) → Contains xs h → P h.selector) → P g.selector
+    here g (zero, lt, at) later = subst (λ h. P h.selector) at (All-head P x.selector (map (λ g. g.selector) xs ++ more) all)
+    here g (suc k, lt, at) later = later g (k, omega (arith, lt), at)
+
+same_map : (m n : Assignment) (xs : List ℕ) → ((x : ℕ) → Contains xs x → m x ≡ n x) → map m xs ≡ map n xs
+same_map m n [] each = refl
+same_map m n (x ∷ xs) each = ap (λ b. b ∷ map m xs) (each x (0, omega arith, refl)) ∙ ap (λ bs. n x ∷ bs) (same_map m n xs (λ z among. each z (later z among)))
+  where
+    later : (z : ℕ) → Contains xs z → Contains (x ∷ xs) z
+    later z (k, lt, at) = (suc k, omega (arith, lt), at)
+
+group_at : (gs : List Group) (k : ℕ) → k < length gs → (g : Group) × (slice_get gs k ≡ Some g)
+group_at [] k lt = absurd (omega (arith, lt))
+group_at (g ∷ gs) zero lt = (g, refl)
+group_at (g ∷ gs) (suc k) lt = group_at gs k (omega (arith, lt))
+
+literal_at : (ls : List Literal) (k : ℕ) → k < length ls → (l : Literal) × (slice_get ls k ≡ Some l)
+literal_at [] k lt = absurd (omega (arith, lt))
+literal_at (l ∷ ls) zero lt = (l, refl)
+literal_at (l ∷ ls) (suc k) lt = literal_at ls k (omega (arith, lt))
+
+pub free_pair : (f : Dqbf) (y : Existential) (p : Padoa) (places : List ℕ) (one other : Literal) (es : List Entry) (values : Assignment) (pair : Pair) → IsWellFormed f →
+    ((v w : ℕ) (name : Name) → name_of es v ≡ Some name → name_of es w ≡ Some name → v ≡ w) → IsPadoa f p es → ArePlaces f.universals y.sees places →
+    Contains (declared f) y.variable →
+    name_literal es one ≡ Some (named_literal (CopyOf 1 y.variable) false) → name_literal es other ≡ Some (named_literal (CopyOf 2 y.variable) false) →
+    ModelsCopies p places one other values es → IsPairOf p values pair → IsFreePair f y pair
+free_pair f y p places one other es values pair formula unique padoa are_places y_declared one_is other_is models are = record {
+  first = sample f es values formula unique live 1 p.first padoa.first pair.row1 pair.values1 are.row1 are.values1 first_on;
+  second = sample f es values formula unique live 2 p.second padoa.second pair.row2 pair.values2 are.row2 are.values2 second_on;
+  agree = same_map (round_assignment f pair.row1 pair.values1) (round_assignment f pair.row2 pair.values2) y.sees agree_at;
+  is_true = value1 y.variable (variable_of one) y_declared one_named.0 ∙ positive_true values one one_named.1 (All-head (λ l. literal_true values l ≡ true) one (opposite other ∷ []) links.1);
+  is_false = value2 y.variable (variable_of other) y_declared other_named.0
+      ∙ opposite_true values other other_named.1 (All-head (λ l. literal_true values l ≡ true) (opposite other) [] (All-tail (λ l. literal_true values l ≡ true) one (opposite other ∷ []) links.1));
+}
+  where
+    live : MakesTrue values (clause_at es)
+    live = models.model.clauses
+
+    all : All (λ l. literal_true values l ≡ true) (p.first.group.selector ∷ p.second.group.selector ∷ map (λ g. g.selector) models.are_active.links ++ one ∷ opposite other ∷ [])
+    all = subst (λ gs. All (λ l. literal_true values l ≡ true) (assumed gs (one ∷ opposite other ∷ []))) models.are_active.active_is models.model.assumptions_true
+
+    behind : All (λ l. literal_true values l ≡ true) (p.second.group.selector ∷ map (λ g. g.selector) models.are_active.links ++ one ∷ opposite other ∷ [])
+    behind = All-tail (λ l. literal_true values l ≡ true) p.first.group.selector (p.second.group.selector ∷ map (λ g. g.selector) models.are_active.links ++ one ∷ opposite other ∷ []) all
+
+    links : ((g : Group) → Contains models.are_active.links g → literal_true values g.selector ≡ true) × All (λ l. literal_true values l ≡ true) (one ∷ opposite other ∷ [])
+    links = all_there (λ l. literal_true values l ≡ true) models.are_active.links (one ∷ opposite other ∷ []) (All-tail (λ l. literal_true values l ≡ true) p.second.group.selector (map (λ g. g.selector) models.are_active.links ++ one ∷ opposite other ∷ []) behind)
+
+    switch_on : (g : Group) → IsMade es g → literal_true values g.selector ≡ true → values (group_variable g) ≡ true
+    switch_on g made h = positive_true values g.selector made.positive h
+
+    first_on : values (group_variable p.first.group) ≡ true
+    first_on = switch_on p.first.group padoa.first.made (All-head (λ l. literal_true values l ≡ true) p.first.group.selector (p.second.group.selector ∷ map (λ g. g.selector) models.are_active.links ++ one ∷ opposite other ∷ []) all)
+
+    second_on : values (group_variable p.second.group) ≡ true
+    second_on = switch_on p.second.group padoa.second.made (All-head (λ l. literal_true values l ≡ true) p.second.group.selector (map (λ g. g.selector) models.are_active.links ++ one ∷ opposite other ∷ []) behind)
+
+    value1 : (v w : ℕ) → Contains (declared f) v → name_of es w ≡ Some (CopyOf 1 v) → round_assignment f pair.row1 pair.values1 v ≡ values w
+    value1 = copied_value f es values formula unique live 1 p.first padoa.first pair.row1 pair.values1 are.row1 are.values1 first_on
+
+    value2 : (v w : ℕ) → Contains (declared f) v → name_of es w ≡ Some (CopyOf 2 v) → round_assignment f pair.row2 pair.values2 v ≡ values w
+    value2 = copied_value f es values formula unique live 2 p.second padoa.second pair.row2 pair.values2 are.row2 are.values2 second_on
+
+    one_named : (name_of es (variable_of one) ≡ Some (CopyOf 1 y.variable)) × (is_negative one ≡ false)
+    one_named = named_variable es one (CopyOf 1 y.variable) false (name_of es (variable_of one)) refl one_is
+
+    other_named : (name_of es (variable_of other) ≡ Some (CopyOf 2 y.variable)) × (is_negative other ≡ false)
+    other_named = named_variable es other (CopyOf 2 y.variable) false (name_of es (variable_of other)) refl other_is
+
+    -- the copy at a place has a name
+    copy_named : (side : ℕ) (lits : List Literal) → AreCopiesOf es side f.universals lits → (k x : ℕ) → slice_get f.universals k ≡ Some x → (w : ℕ) × (name_of es w ≡ Some (CopyOf side x))
+    copy_named side lits named k x at =
+        let lt = slice_get_within f.universals k x at in
+        let long = named_length es lits (map (λ v. named_literal (CopyOf side v) false) f.universals) named in
+        let many = length-map f.universals (λ v. named_literal (CopyOf side v) false) in
+        let l = literal_at lits k (omega (arith, lt, long, many)) in
+        let is = copy_at es side f.universals lits k x l.0 named at l.1 in
+        (variable_of l.0, (named_variable es l.0 (CopyOf side x) false (name_of es (variable_of l.0)) refl is).0)
+
+    agree_at : (x : ℕ) → Contains y.sees x → round_assignment f pair.row1 pair.values1 x ≡ round_assignment f pair.row2 pair.values2 x
+    agree_at x among =
+        let place = are_places.complete x among in
+        let lt = slice_get_within f.universals place.0 x place.1 in
+        let long = padoa.as_many in
+        let g = group_at p.links.items place.0 (omega (arith, lt, long)) in
+        let link = padoa.links place.0 x g.0 place.1 g.1 in
+        let on = switch_on g.0 link.made (links.0 g.0 (models.are_active.complete place.0 g.0 place.2 g.1)) in
+        let a = copy_named 1 p.first.universals.items padoa.first.universals place.0 x place.1 in
+        let b = copy_named 2 p.second.universals.items padoa.second.universals place.0 x place.1 in
+        let x_declared = Contains-append_left f.universals (existential_variables f) x (element_at f.universals place.0 x place.1) in
+        value1 x a.0 x_declared a.1 ∙ equal_there f es values formula unique live x g.0 link on a.0 b.0 a.1 b.1 ∙ sym (value2 x b.0 x_declared b.1)

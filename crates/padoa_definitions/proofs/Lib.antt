@@ -1,0 +1,15 @@
+pub mod Keeping
+pub mod Copying
+pub mod Growing
+pub mod Linking
+pub mod Making
+pub mod SeenPlaces
+pub mod Reached
+pub mod Dividing
+pub mod Sharing
+pub mod Forcing
+pub mod FreePairs
+pub mod Standing
+pub mod Selecting
+pub mod Answering
+pub mod SharedCopies

@@ -1,0 +1,92 @@
+-- The shared variables with their nodes: first copies and inputs.
+use Rattle.std.proofs.Common.{◌≡◌, ℕ, zero, suc, ◌==◌, Bool, true, false, cond, List, [], ◌∷◌, map, length, get_or, slice_get, slice_index, Some, IsSome, refl, sym, ◌∙◌, ap, subst, arith}
+use Rattle.std.specs.List.{Contains}
+use Rattle.std.proofs.lemmas.Bool.{eqb-true, eq-eqb}
+use Rattle.std.proofs.lemmas.List.{length-map}
+use Rattle.std.proofs.lemmas.Option.{slice_get-get_or, slice_get_within, get_or_from_slice_get}
+use Rattle.dq_lits.specs.Literal.{positive, variable_of}
+use Rattle.dq_lits.specs.Formula.{Dqbf, Existential}
+use Rattle.hint_log.specs.Entries.{Entry, name_of}
+use Rattle.hint_log.specs.Naming.{named_literal}
+use Rattle.hint_log.specs.declared.names.Name.{Name}
+use Rattle.hint_log.specs.declared.names.Name.TheVariants.{Copy as CopyOf}
+use Rattle.aig_graph.specs.Graph.{AigGraph, node_value, node_support, IsNode}
+use Rattle.aig_graph.specs.declared.nodes.Node.{Node}
+use Rattle.aig_graph.specs.declared.nodes.Node.TheVariants.{Input}
+use Rattle.interpolants.specs.Interpolant.{node_of, AreNodes}
+use Rattle.log_laws.proofs.Found.{named_variable}
+use Rattle.padoa_definitions.specs.Copies.{AreCopiesOf}
+use Rattle.padoa_definitions.specs.Dividing.{AreSharedCopies, shared_pairs}
+use Rattle.padoa_definitions.specs.Seeing.{ArePlaces}
+use Rattle.padoa_definitions.specs.declared.padoa.Padoa.{Padoa}
+use Rattle.padoa_definitions.proofs.Copying.{named_length, copy_at}
+
+-- the nodes of variables that are selected by places
+module _ (g : ℕ → ℕ × Node) where
+  selected_sound : (ps : List ℕ) (v : ℕ) (n : Node) → node_of (map g ps) v ≡ Some n → (k : ℕ) × Contains ps k × (v ≡ (g k).0) × ((g k).1 ≡ n)
+  selected_sound [] v n h = cc
+  selected_sound (p ∷ ps) v n h = by (v == (g p).0) refl (selected_sound ps v n) h
+    where
+      by : (b : Bool) → (v == (g p).0) ≡ b → (node_of (map g ps) v ≡ Some n → (k : ℕ) × Contains ps k × (v ≡ (g k).0) × ((g k).1 ≡ n)) →
+          cond b (Some (g p).1) (node_of (map g ps) v) ≡ Some n → (k : ℕ) × Contains (p ∷ ps) k × (v ≡ (g k).0) × ((g k).1 ≡ n)
+      by true e later h = let same : (g p).1 ≡ n = cc in (p, (0, omega arith, refl), eqb-true v (g p).0 e, same)
+      by false e later h = let r = later h in (r.0, (suc r.1.0, (let b = r.1.1 in omega (arith, b)), r.1.2), r.2, r.3)
+
+  selected_complete : (ps : List ℕ) (k : ℕ) → Contains ps k → IsSome (node_of (map g ps) (g k).0)
+  selected_complete [] k (i, lt, at) = absurd (omega (arith, lt))
+  selected_complete (p ∷ ps) k among = by (selected_complete ps) ((g k).0 == (g p).0) refl among
+    where
+      by : ((i : ℕ) → Contains ps i → IsSome (node_of (map g ps) (g i).0)) → (b : Bool) → ((g k).0 == (g p).0) ≡ b → Contains (p ∷ ps) k →
+          IsSome (cond b (Some (g p).1) (node_of (map g ps) (g k).0))
+      by later true e among = refl
+      by later false e (zero, lt, at) =
+          let same : ((g k).0 == (g p).0) ≡ true = eq-eqb (g k).0 (g p).0 (ap (λ i. (g i).0) (sym at)) in
+          let clash : true ≡ false = sym same ∙ e in
+          cc
+      by later false e (suc i, lt, at) = later k (i, omega (arith, lt), at)
+
+module _ (f : Dqbf) (y : Existential) (p : Padoa) (places : List ℕ) (es : List Entry) (are_places : ArePlaces f.universals y.sees places)
+    (copies : AreCopiesOf es 1 f.universals p.first.universals.items) where
+  abbrev pick : ℕ → ℕ × Node
+  pick k = (variable_of (get_or p.first.universals.items k (positive 0)), Input k false)
+
+  copy_there : (k x : ℕ) → slice_get f.universals k ≡ Some x → name_of es (pick k).0 ≡ Some (CopyOf 1 x)
+  copy_there k x at =
+      let lits = p.first.universals.items in
+      let lt = slice_get_within f.universals k x at in
+      let long = named_length es lits (map (λ v. named_literal (CopyOf 1 v) false) f.universals) copies in
+      let many = length-map f.universals (λ v. named_literal (CopyOf 1 v) false) in
+      let is = copy_at es 1 f.universals lits k x (get_or lits k (positive 0)) copies at (slice_get-get_or lits k (positive 0) (omega (arith, lt, long, many))) in
+      (named_variable es (get_or lits k (positive 0)) (CopyOf 1 x) false (name_of es (pick k).0) refl is).0
+
+  pub shared_copies : (graph : AigGraph) → ((v w : ℕ) (name : Name) → name_of es v ≡ Some name → name_of es w ≡ Some name → v ≡ w) →
+      AreSharedCopies f y es graph (shared_pairs p places)
+  shared_copies graph unique = record {
+    are = λ v n is.
+        let r = selected_sound pick places v n is in
+        let k = r.0 in
+        let x = are_places.sound k r.1 in
+        let x_is : slice_index f.universals k ≡ x.0 = get_or_from_slice_get f.universals k x.0 0 x.1 in
+        record {
+          place = k;
+          named = ap (name_of es) r.2 ∙ copy_there k x.0 x.1 ∙ ap (λ z. Some (CopyOf 1 z)) (sym x_is);
+          value = λ inputs. ap (node_value graph inputs) (sym r.3);
+          support = λ i has. only k i (subst (λ m. Contains (node_support graph m) i) (sym r.3) has);
+          sees = subst (Contains y.sees) (sym x_is) x.2;
+        };
+    all = λ v x named seen.
+        let r = are_places.complete x seen in
+        let same = unique (pick r.0).0 v (CopyOf 1 x) (copy_there r.0 x r.1) named in
+        subst (λ w. IsSome (node_of (map pick places) w)) same (selected_complete pick places r.0 r.2);
+  }
+    where
+      only : (k i : ℕ) → Contains (k ∷ []) i → i ≡ k
+      only k i (zero, lt, at) = sym at
+      only k i (suc j, lt, at) = absurd (omega (arith, lt))
+
+  pub shared_nodes : (graph : AigGraph) → graph.inputs ≡ length f.universals → AreNodes (shared_pairs p places) graph
+  shared_nodes graph inputs v n is =
+      let r = selected_sound pick places v n is in
+      let x = are_places.sound r.0 r.1 in
+      let lt = slice_get_within f.universals r.0 x.0 x.1 in
+      subst (IsNode graph) r.3 (omega (arith, lt, inputs))

@@ -1,0 +1,13 @@
+use Rattle.std.proofs.Common.{sym, ◌∙◌, ap, false, Some}
+use Rattle.dq_lits.specs.Literal.{variable_of}
+use Rattle.hint_log.specs.Naming.{named_literal, name_literal}
+use Rattle.hint_log.specs.declared.names.Name.TheVariants.{Copy as CopyOf}
+use Rattle.padoa_definitions.proofs.Copying.{opposite_name}
+use Rattle.padoa_definitions.proofs.copies.copied_literal.Goals as goal
+
+pub returns-then-is_neg : goal.returns-then-is_neg
+returns-then-is_neg c = λ entries side us es.
+    ap (name_literal entries) c.not.ensures
+    ∙ opposite_name entries c.copied_variable-variable.result (CopyOf side (variable_of c.args.l))
+    (c.copied_variable-variable.ensures entries side us es ∙ ap (λ v. Some (named_literal (CopyOf side v) false)) c.var.ensures.value)
+    ∙ ap (λ b. Some (named_literal (CopyOf side (variable_of c.args.l)) b)) (sym c.if-is_neg.true ∙ c.is_neg.ensures)

@@ -1,0 +1,5 @@
+use Rattle.padoa_definitions.proofs.Forcing.{definitions_forced}
+use Rattle.padoa_definitions.proofs.laws.definitions_are_forced.Goals as goal
+
+pub returns : goal.returns
+returns c = definitions_forced

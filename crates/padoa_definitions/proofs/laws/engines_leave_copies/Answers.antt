@@ -1,0 +1,5 @@
+use Rattle.padoa_definitions.proofs.Standing.{engines_leave}
+use Rattle.padoa_definitions.proofs.laws.engines_leave_copies.Goals as goal
+
+pub returns : goal.returns
+returns c = engines_leave

@@ -1,0 +1,57 @@
+use Rattle.std.proofs.Common.{inl, inr, refl, sym, subst}
+use Rattle.padoa_definitions.specs.Copies.{AreCopiesOf}
+use Rattle.padoa_definitions.proofs.Keeping.{named_stay, keeps_anew}
+use Rattle.dq_lits.specs.Formula.{declared}
+use Rattle.padoa_definitions.proofs.Making.{uncopied_yet, ungiven_yet, first_grew, first_few, second_uncopied, second_ungiven, second_grew, second_few, unlinked_yet, third_grew, padoa_made, groups_fresh}
+use Rattle.padoa_definitions.proofs.padoa.Padoa.new.Goals as goal
+
+pub copy_matrix-requires-clause-uncopied : goal.copy_matrix-requires-clause-uncopied
+copy_matrix-requires-clause-uncopied g c = uncopied_yet 1 (declared c.args.f.now) c.args.log.now.entries c.requires.none
+
+pub copy_matrix-requires-clause-ungiven : goal.copy_matrix-requires-clause-ungiven
+copy_matrix-requires-clause-ungiven g c = ungiven_yet 1 c.args.log.now.entries c.requires.none
+
+pub copy_matrix-requires-clause-side : goal.copy_matrix-requires-clause-side
+copy_matrix-requires-clause-side g c = inl refl
+
+pub returns-in_err-first-clause-grew : goal.returns-in_err-first-clause-grew
+returns-in_err-first-clause-grew g c = first_grew c.args.f.now c.args.log.now c.copy_matrix.new.log c.requires.none c.requires.few c.copy_matrix.ensures.adds
+
+pub copy_matrix-requires-2-clause-side : goal.copy_matrix-requires-2-clause-side
+copy_matrix-requires-2-clause-side g c = inr refl
+
+pub copy_matrix-requires-2-clause-few : goal.copy_matrix-requires-2-clause-few
+copy_matrix-requires-2-clause-few g c = first_few c.args.f.now c.args.log.now c.copy_matrix.new.log c.requires.none c.requires.few c.copy_matrix.ensures.adds
+
+pub copy_matrix-requires-2-clause-uncopied : goal.copy_matrix-requires-2-clause-uncopied
+copy_matrix-requires-2-clause-uncopied g c = second_uncopied c.args.f.now c.args.log.now c.copy_matrix.new.log c.requires.none c.requires.few c.copy_matrix.ensures.adds (declared c.args.f.now)
+
+pub copy_matrix-requires-2-clause-ungiven : goal.copy_matrix-requires-2-clause-ungiven
+copy_matrix-requires-2-clause-ungiven g c = second_ungiven c.args.f.now c.args.log.now c.copy_matrix.new.log c.requires.none c.requires.few c.copy_matrix.ensures.adds
+
+pub returns-in_err-second-clause-grew : goal.returns-in_err-second-clause-grew
+returns-in_err-second-clause-grew g c = second_grew c.args.f.now c.args.log.now c.copy_matrix.new.log c.requires.none c.requires.few c.copy_matrix.ensures.adds c.copy_matrix-2.new.log c.copy_matrix-2.ensures.adds
+
+pub link_copies-requires-clause-few : goal.link_copies-requires-clause-few
+link_copies-requires-clause-few g c = second_few c.args.f.now c.args.log.now c.copy_matrix.new.log c.requires.none c.requires.few c.copy_matrix.ensures.adds c.copy_matrix-2.new.log c.copy_matrix-2.ensures.adds
+
+pub link_copies-requires-clause-unlinked : goal.link_copies-requires-clause-unlinked
+link_copies-requires-clause-unlinked g c = unlinked_yet c.args.f.now c.args.log.now c.copy_matrix.new.log c.requires.none c.requires.few c.copy_matrix.ensures.adds c.copy_matrix-2.new.log c.copy_matrix-2.ensures.adds
+
+pub returns-in_err-links-clause-grew : goal.returns-in_err-links-clause-grew
+returns-in_err-links-clause-grew g c = third_grew c.args.f.now c.args.log.now c.copy_matrix.new.log c.requires.none c.requires.few c.copy_matrix.ensures.adds c.copy_matrix-2.new.log c.copy_matrix-2.ensures.adds c.link_copies.new.log c.link_copies.ensures.adds
+
+pub returns-clause-grew : goal.returns-clause-grew
+returns-clause-grew g c = third_grew c.args.f.now c.args.log.now c.copy_matrix.new.log c.requires.none c.requires.few c.copy_matrix.ensures.adds c.copy_matrix-2.new.log c.copy_matrix-2.ensures.adds c.link_copies.new.log c.link_copies.ensures.adds
+
+pub returns-clause-made : goal.returns-clause-made
+returns-clause-made g c = padoa_made c.args.f.now c.args.log.now c.copy_matrix.new.log c.requires.none c.requires.few c.copy_matrix.ensures.adds c.copy_matrix-2.new.log c.copy_matrix-2.ensures.adds c.link_copies.new.log c.link_copies.ensures.adds (record { alloc = c.args.alloc; first = c.in_ok-first.first; second = c.in_ok-second.second; links = c.in_ok-links.links }) c.in_ok-first.ensures.copy c.in_ok-second.ensures.copy c.in_ok-links.ensures.links
+
+pub returns-clause-fresh : goal.returns-clause-fresh
+returns-clause-fresh g c = groups_fresh c.args.f.now c.args.log.now c.copy_matrix.new.log c.requires.none c.requires.few c.copy_matrix.ensures.adds c.copy_matrix-2.new.log c.copy_matrix-2.ensures.adds c.link_copies.new.log c.link_copies.ensures.adds (record { alloc = c.args.alloc; first = c.in_ok-first.first; second = c.in_ok-second.second; links = c.in_ok-links.links }) c.in_ok-first.ensures.copy c.in_ok-second.ensures.copy c.in_ok-links.ensures.links c.in_ok-first.ensures.fresh c.in_ok-second.ensures.fresh
+
+pub link_copies-requires-clause-first : goal.link_copies-requires-clause-first
+link_copies-requires-clause-first g c =
+    subst (AreCopiesOf c.copy_matrix-2.new.log.entries 1 c.args.f.now.universals) (sym c.deref.ensures.value)
+    (named_stay c.copy_matrix.new.log.entries c.copy_matrix-2.new.log.entries
+    (keeps_anew c.args.f.now c.copy_matrix.new.log c.copy_matrix-2.new.log c.copy_matrix-2.ensures.adds.grew).names c.in_ok-first.first.universals.items _ c.in_ok-first.ensures.copy.universals)

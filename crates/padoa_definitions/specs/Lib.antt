@@ -1,0 +1,6 @@
+pub mod Copies
+pub mod Defining
+pub mod Standing
+pub mod Growing
+pub mod Dividing
+pub mod Seeing

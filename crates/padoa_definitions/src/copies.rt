@@ -1,0 +1,100 @@
+//! A copy of the matrix: its variables, and literals on them.
+
+ghost use Rattle.std.specs.Prelude.{◌≡◌, ◌≢◌, ℕ, List, All, Contains, IfOk, Some, false, length};
+ghost use Rattle.std.specs.List.{AllPairs};
+ghost use Rattle.dq_lits.specs.Literal.{variable_of, is_negative};
+ghost use Rattle.dq_lits.specs.Formula.{Dqbf, declared};
+ghost use Rattle.dq_formula.specs.Prefix.{existential_variables};
+ghost use Rattle.hint_log.specs.Entries.{Entry};
+ghost use Rattle.hint_log.specs.Naming.{named_literal, name_literal, AreNamedAs};
+ghost use Rattle.hint_log.specs.declared.names.Name.TheVariants.{Copy as CopyOf};
+ghost use Rattle.padoa_definitions.specs.Copies.{AreCopiesOf, copy_names};
+ghost use Rattle.padoa_definitions.specs.Growing.{GrewAnew, AreUncopied, NamesCopies};
+
+use dq_formula::Formula;
+use dq_lits::{Lit, Memory};
+use hint_log::{Log, Name};
+use oracle::{Group, Oracle};
+use std::alloc::Global;
+
+/// A copy of the matrix: the group of its clauses, and the copies of the universals and of the existentials, in order of declaration.
+#[derive(Debug, Drop)]
+pub struct MatrixCopy {
+    pub(crate) group: Group,
+    pub(crate) universals: Vec<Lit>,
+    pub(crate) existentials: Vec<Lit>,
+}
+
+/// Names a copy of each of these variables.
+pub(crate) fn name_copies<O: Oracle>(
+    alloc: Global,
+    oracle: &mut O,
+    side: u64,
+    variables: &[u64],
+    log: &mut Log,
+) -> Result<Vec<Lit>, Memory>
+    requires fit { O.Fits oracle.old log.old }
+    requires distinct { AllPairs (λ v w. v ≢ w) variables.now }
+    requires fresh { AreUncopied side variables.now log.old.entries }
+    ensures fit { O.Fits oracle.new log.new }
+    ensures grew { (f : Dqbf) → GrewAnew f log.old log.new }
+    ensures only { NamesCopies side variables.now log.old.entries log.new.entries }
+    ensures named { IfOk result (λ lits. AreCopiesOf log.new.entries side variables.now lits.items) }
+{
+    let mut lits = Vec::new(alloc);
+    for x in variables {
+        let v = oracle.new_var(Name::Copy { side, variable: *x }, log)?;
+        lits.push(Lit::pos(v))?;
+    }
+    Ok(lits)
+}
+
+/// A clause of the matrix on the copies of its variables.
+pub(crate) fn copied_clause(
+    alloc: Global,
+    copy: &MatrixCopy,
+    f: &Formula,
+    clause: &[Lit],
+) -> Result<Vec<Lit>, Memory>
+    requires bound { All (λ l. Contains (declared f.now) (variable_of l)) clause.now }
+    requires universals { length copy.now.universals.items ≡ length f.now.universals }
+    requires existentials { length copy.now.existentials.items ≡ length f.now.existentials }
+    ensures { (entries : List Entry) (side : ℕ) → AreCopiesOf entries side f.now.universals copy.now.universals.items
+        → AreCopiesOf entries side (existential_variables f.now) copy.now.existentials.items
+        → IfOk result (λ lits. AreNamedAs entries lits.items (copy_names side clause.now)) }
+{
+    let mut lits = Vec::new(alloc);
+    for l in clause {
+        lits.push(copied_literal(copy, f, *l))?;
+    }
+    Ok(lits)
+}
+
+// The copy of a literal.
+fn copied_literal(copy: &MatrixCopy, f: &Formula, l: Lit) -> Lit
+    requires bound { Contains (declared f.now) (variable_of l) }
+    requires universals { length copy.now.universals.items ≡ length f.now.universals }
+    requires existentials { length copy.now.existentials.items ≡ length f.now.existentials }
+    ensures { (entries : List Entry) (side : ℕ) → AreCopiesOf entries side f.now.universals copy.now.universals.items
+        → AreCopiesOf entries side (existential_variables f.now) copy.now.existentials.items
+        → name_literal entries result ≡ Some (named_literal (CopyOf side (variable_of l)) (is_negative l)) }
+{
+    let variable = copied_variable(copy, f, l.var());
+    if l.is_neg() { variable.not() } else { variable }
+}
+
+// The copy of a variable, as a positive literal.
+pub(crate) fn copied_variable(copy: &MatrixCopy, f: &Formula, v: u64) -> Lit
+    requires bound { Contains (declared f.now) v }
+    requires universals { length copy.now.universals.items ≡ length f.now.universals }
+    requires existentials { length copy.now.existentials.items ≡ length f.now.existentials }
+    ensures { (entries : List Entry) (side : ℕ) → AreCopiesOf entries side f.now.universals copy.now.universals.items
+        → AreCopiesOf entries side (existential_variables f.now) copy.now.existentials.items
+        → name_literal entries result ≡ Some (named_literal (CopyOf side v) false) }
+{
+    match (f.universal_place(v), f.existential_place(v)) {
+        (Some(i), _) => copy.universals[i],
+        (None, Some(k)) => copy.existentials[k],
+        (None, None) => unreachable!(),
+    }
+}

@@ -1,0 +1,78 @@
+ghost use Rattle.std.specs.Prelude.{◌≡◌, ℕ, true, length, IfOk, IsErrOf, IsSome, Some};
+ghost use Rattle.dq_lits.specs.Formula.{Existential, IsWellFormed, existential_of};
+ghost use Rattle.hint_log.specs.Entries.{steps_of};
+ghost use Rattle.hint_log.specs.Growth.{Grew};
+ghost use Rattle.aig_graph.specs.Made.{Extends};
+ghost use Rattle.log_laws.specs.Engines.{copies, IsAddedBy};
+ghost use Rattle.padoa_definitions.specs.Copies.{IsPadoa};
+ghost use Rattle.padoa_definitions.specs.Defining.{IsFound};
+
+use crate::copies::copied_variable;
+use crate::padoa::Padoa;
+use crate::seeing::seen_places;
+use aig_graph::{Graph, Node};
+use dq_formula::Formula;
+use dq_lits::Row;
+use hint_log::laws::names_are_unique;
+use hint_log::{Log, Stop};
+use oracle::{Answer, Oracle};
+
+/// Two rows, each with values of the existentials, that make the matrix true: the existential sees the same in both, is true in the
+/// first and false in the second.
+#[derive(Debug, Drop)]
+pub struct Pair {
+    pub row1: Row,
+    pub values1: Row,
+    pub row2: Row,
+    pub values2: Row,
+}
+
+/// Whether an existential has a definition.
+#[derive(Debug, Drop)]
+pub enum Found {
+    /// It has: this node.
+    Defined(Node),
+    /// It has none.
+    Free(Pair),
+}
+
+impl Padoa {
+    /// A definition of an existential over the universals that it sees, or values that show that there is none. It stops for want of memory
+    /// or at the log's limit, and may be called again then.
+    pub fn define<O: Oracle>(
+        &mut self,
+        oracle: &mut O,
+        graph: &mut Graph,
+        f: &Formula,
+        y: u64,
+        log: &mut Log,
+    ) -> Result<Found, Stop>
+        requires fit { O.Fits oracle.old log.old }
+        requires formula { IsWellFormed f.now }
+        requires padoa { IsPadoa f.now self.old log.old.entries }
+        requires existential { IsSome (existential_of f.now y) }
+        requires inputs { graph.old.inputs ≡ length f.now.universals }
+        ensures fit { O.Fits oracle.new log.new }
+        ensures same { self.new ≡ self.old }
+        ensures padoa { IsPadoa f.now self.new log.new.entries }
+        ensures grew { (group : ℕ) → Grew (IsAddedBy f.now copies group true log.old.entries) log.old log.new }
+        ensures extends { Extends graph.old graph.new }
+        ensures found { (e : Existential) → existential_of f.now y ≡ Some e → IfOk result (IsFound f.now graph.new e) }
+        ensures limit { IsErrOf result Stop.Limit → steps_of log.new.entries ≡ log.new.limit }
+    {
+        names_are_unique();
+        let places = seen_places(self.alloc, f, y)?;
+        let one = copied_variable(&self.first, f, y);
+        let other = copied_variable(&self.second, f, y);
+        match self.search(oracle, f, y, &places, &one, &other, log)? {
+            Answer::Unsat(id) => {
+                let node = self.definition(graph, f, y, &places, &one, id, log)?;
+                Ok(Found::Defined(node))
+            }
+            Answer::Sat => {
+                let pair = self.pair(oracle)?;
+                Ok(Found::Free(pair))
+            }
+        }
+    }
+}

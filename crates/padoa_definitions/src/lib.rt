@@ -1,0 +1,20 @@
+//! Padoa's method: whether an existential is defined by the universals that it sees.
+//!
+//! Two copies of the matrix are given to the oracle once, each in a group, and an equation between the copies of each universal, each in a
+//! group of its own. An existential is defined where the copies can't be true together while the universals that it sees agree and it
+//! is true in one copy alone: then an interpolant of the answer is its definition. Else the values that were found show that it isn't.
+#![tactic(auto)]
+
+pub use copies::MatrixCopy;
+pub use defining::{Found, Pair};
+pub use padoa::Padoa;
+
+mod copies;
+mod defining;
+mod giving;
+pub mod laws;
+mod links;
+mod padoa;
+mod reading;
+mod searching;
+mod seeing;

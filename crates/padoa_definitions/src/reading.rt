@@ -1,0 +1,109 @@
+//! What a search found: a definition, or values of both copies.
+
+ghost use Rattle.std.specs.Prelude.{◌≡◌, ◌<◌, ℕ, List, true, false, All, map, length, slice_index_or, IfOk, IsSome, Some};
+ghost use Rattle.dq_lits.specs.Literal.{positive, variable_of};
+ghost use Rattle.dq_lits.specs.Formula.{Existential, existential_of};
+ghost use Rattle.hint_log.specs.Naming.{named_literal, name_literal};
+ghost use Rattle.hint_log.specs.declared.names.Name.TheVariants.{Copy as CopyOf};
+ghost use Rattle.aig_graph.specs.Definitions.{IsDefinition};
+ghost use Rattle.aig_graph.specs.Made.{Extends};
+ghost use Rattle.padoa_definitions.specs.Copies.{IsPadoa};
+ghost use Rattle.padoa_definitions.specs.Dividing.{ShowsDefinition, IsPairOf, shared_pairs, values_at};
+ghost use Rattle.padoa_definitions.specs.Seeing.{ArePlaces};
+
+use crate::defining::Pair;
+use crate::padoa::Padoa;
+use aig_graph::{Graph, Node};
+use dq_formula::Formula;
+use dq_lits::{Lit, Memory, Row};
+use hint_log::Log;
+use hint_log::laws::names_are_unique;
+use interpolants::from_log;
+use oracle::Oracle;
+use std::alloc::Global;
+
+impl Padoa {
+    /// The definition that an answer shows: an interpolant between the two copies.
+    pub(crate) fn definition(
+        &self,
+        graph: &mut Graph,
+        f: &Formula,
+        y: u64,
+        places: &[usize],
+        one: &Lit,
+        id: u64,
+        log: &Log,
+    ) -> Result<Node, Memory>
+        requires padoa { IsPadoa f.now self.now log.now.entries }
+        requires existential { IsSome (existential_of f.now y) }
+        requires places { (e : Existential) → existential_of f.now y ≡ Some e → ArePlaces f.now.universals e.sees places.now }
+        requires one { name_literal log.now.entries one.now ≡ Some (named_literal (CopyOf 1 y) false) }
+        requires shown { (e : Existential) → existential_of f.now y ≡ Some e → ShowsDefinition f.now e self.now one.now log.now.entries id }
+        requires inputs { graph.old.inputs ≡ length f.now.universals }
+        ensures extends { Extends graph.old graph.new }
+        ensures defined { (e : Existential) → existential_of f.now y ≡ Some e → IfOk result (IsDefinition f.now graph.new e) }
+    {
+        names_are_unique();
+        log.every_log_is_lawful();
+        let _ = f.vars();
+        let shared = self.shared(graph, places)?;
+        let node = from_log(
+            self.alloc,
+            log,
+            id,
+            &[self.first.group.selector, *one],
+            &shared,
+            graph,
+        )?;
+        Ok(node)
+    }
+
+    // The first copies of the universals at these places, with their inputs.
+    fn shared(&self, graph: &Graph, places: &[usize]) -> Result<Vec<(u64, Node)>, Memory>
+        requires copies { All (λ p. p < length self.now.first.universals.items) places.now }
+        requires inputs { All (λ p. p < graph.now.inputs) places.now }
+        ensures { IfOk result (λ shared. shared.items ≡ shared_pairs self.now places.now) }
+    {
+        let mut shared = Vec::new(self.alloc);
+        for place in places {
+            let copy = self.first.universals[*place].var();
+            shared.push((copy, graph.input(*place)))?;
+        }
+        Ok(shared)
+    }
+
+    /// The values of both copies that a search found.
+    pub(crate) fn pair<O: Oracle>(&self, oracle: &O) -> Result<Pair, Memory>
+        requires told { O.is_told oracle.now ≡ true }
+        requires first_universals { All (λ l. O.HasVariable oracle.now (variable_of l)) self.now.first.universals.items }
+        requires first_existentials { All (λ l. O.HasVariable oracle.now (variable_of l)) self.now.first.existentials.items }
+        requires second_universals { All (λ l. O.HasVariable oracle.now (variable_of l)) self.now.second.universals.items }
+        requires second_existentials { All (λ l. O.HasVariable oracle.now (variable_of l)) self.now.second.existentials.items }
+        ensures { IfOk result (IsPairOf self.now (O.values oracle.now)) }
+    {
+        let row1 = row_of_values(self.alloc, oracle, &self.first.universals)?;
+        let values1 = row_of_values(self.alloc, oracle, &self.first.existentials)?;
+        let row2 = row_of_values(self.alloc, oracle, &self.second.universals)?;
+        let values2 = row_of_values(self.alloc, oracle, &self.second.existentials)?;
+        Ok(Pair {
+            row1,
+            values1,
+            row2,
+            values2,
+        })
+    }
+}
+
+// The values of these literals' variables, in order.
+fn row_of_values<O: Oracle>(alloc: Global, oracle: &O, lits: &[Lit]) -> Result<Row, Memory>
+    requires told { O.is_told oracle.now ≡ true }
+    requires made { All (λ l. O.HasVariable oracle.now (variable_of l)) lits.now }
+    ensures { IfOk result (λ row. row ≡ values_at (O.values oracle.now) lits.now) }
+{
+    let mut row = Row::new(alloc, lits.len())?;
+    for place in 0..lits.len() {
+        let bit = oracle.value(lits[place].var());
+        row.set(place, bit);
+    }
+    Ok(row)
+}
