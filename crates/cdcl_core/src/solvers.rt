@@ -49,7 +49,6 @@ impl Cdcl {
                 notes: Notes::new(alloc),
                 activities: Activities::new(alloc),
                 restarts: Restarts::new(),
-                position: 0,
             },
             model: Vec::new(alloc),
             is_told: false,
