@@ -7,6 +7,8 @@ use Rattle.aig_graph.specs.Graph.{AigGraph}
 use Rattle.circuit_cnf.specs.Checking.{IsChecker}
 use Rattle.circuit_cnf.specs.declared.checkers.Checker.{Checker}
 use Rattle.expansion.specs.Table.{TableState, IsFullTable}
+use Rattle.padoa_definitions.specs.Copies.{IsPadoa}
+use Rattle.padoa_definitions.specs.declared.padoa.Padoa.{Padoa}
 
 -- every turn so far had its round
 pub record IsOpen (f : Dqbf) (graph : AigGraph) (checker : Checker) (entries : List Entry) : Type 0 where
@@ -18,3 +20,8 @@ pub record IsOpen (f : Dqbf) (graph : AigGraph) (checker : Checker) (entries : L
 pub record IsReady (f : Dqbf) (t : TableState) (entries : List Entry) : Type 0 where
   pub table : IsFullTable f t entries
   pub no_faults : fault_groups entries ≡ []
+
+-- the copies are linked
+pub record IsLinked (f : Dqbf) (graph : AigGraph) (p : Padoa) (entries : List Entry) : Type 0 where
+  pub inputs : graph.inputs ≡ length f.universals
+  pub padoa : IsPadoa f p entries

@@ -155,11 +155,25 @@ pub fn show_candidates(
             push_signed(alloc, f.existentials()[place], false, printed)?;
         }
         printed.push_str(": ")?;
-        show_values(alloc, f, graph, *node, printed)?;
-        printed.push_str(" reads")?;
-        show_support(alloc, f, graph, *node, printed)?;
+        show_node(alloc, f, graph, *node, printed)?;
     }
     Ok(())
+}
+
+/// Writes a node's values under all rows, the first row first, and which universals it reads.
+pub fn show_node(
+    alloc: Global,
+    f: &Formula,
+    graph: &Graph,
+    node: Node,
+    printed: &mut String,
+) -> Result<()>
+    requires inputs { graph.now.inputs ≡ length f.now.universals }
+    requires node { IsNode graph.now node }
+{
+    show_values(alloc, f, graph, node, printed)?;
+    printed.push_str(" reads")?;
+    show_support(alloc, f, graph, node, printed)
 }
 
 fn show_values(

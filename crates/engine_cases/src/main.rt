@@ -5,6 +5,7 @@
 
 mod circuits;
 mod decisions;
+mod definitions;
 mod evaluation;
 mod expansions;
 mod exports;

@@ -6,11 +6,14 @@
 //! rows to the expansion, until they are refuted, and prints for each row of a model whether the clauses hold there and the candidates have
 //! its bits; `points` does the same, and prints the bits, and the candidates' values under all rows. `decide NAME : LIMIT` runs the loop in so
 //! many steps, and prints `true`, `false` or `limit`; `rounds` prints how many rounds it took, too. `refute` does
-//! the same, exports the refutation, and prints what the checker says of its text; `certificate` prints that text, too. Lines that begin with
-//! `#` are comments.
+//! the same, exports the refutation, and prints what the checker says of its text; `certificate` prints that text, too. `define NAME : Y Y ..`
+//! asks for definitions of existentials, and prints the definition's values under all rows, or that there is none. Lines that begin with `#`
+//! are comments.
+
+ghost use Rattle.dq_lits.specs.Formula.{IsWellFormed};
 
 use crate::evaluation::Detail;
-use crate::{circuits, decisions, expansions, exports};
+use crate::{circuits, decisions, definitions, expansions, exports};
 use anyhow::{Result, anyhow};
 use dq_formula::Formula;
 use dqdimacs_reader::read;
@@ -29,6 +32,7 @@ pub fn take_line(alloc: Global, formula: &mut String, line: &str) -> Result<Opti
         "rounds" => run(alloc, formula, rest, Kind::Decision(Detail::Bits)),
         "refute" => run(alloc, formula, rest, Kind::Refutation(Detail::Checks)),
         "certificate" => run(alloc, formula, rest, Kind::Refutation(Detail::Bits)),
+        "define" => run(alloc, formula, rest, Kind::Definitions),
         _ => Err(anyhow!("no command: {line}")),
     }
 }
@@ -40,6 +44,7 @@ enum Kind {
     Rows(Detail),
     Decision(Detail),
     Refutation(Detail),
+    Definitions,
 }
 
 fn set_formula(alloc: Global, formula: &mut String, rest: &str) -> Result<Option<String>> {
@@ -56,11 +61,24 @@ fn run(alloc: Global, formula: &str, rest: &str, kind: Kind) -> Result<Option<St
     let (name, steps) = rest.split_once(" : ").unwrap_or((rest, ""));
     let formula = read(alloc, formula.as_bytes())?;
     let mut printed = String::from_str(alloc, name)?;
-    match kind {
-        Kind::Turns => circuits::run(alloc, &formula, steps, &mut printed)?,
-        Kind::Rows(detail) => expansions::run(alloc, &formula, steps, detail, &mut printed)?,
-        Kind::Decision(detail) => decisions::run(alloc, &formula, steps, detail, &mut printed)?,
-        Kind::Refutation(detail) => exports::run(alloc, &formula, steps, detail, &mut printed)?,
-    }
+    run_engine(alloc, &formula, steps, kind, &mut printed)?;
     Ok(Some(printed))
+}
+
+fn run_engine(
+    alloc: Global,
+    f: &Formula,
+    steps: &str,
+    kind: Kind,
+    printed: &mut String,
+) -> Result<()>
+    requires formula { IsWellFormed f.now }
+{
+    match kind {
+        Kind::Turns => circuits::run(alloc, f, steps, printed),
+        Kind::Rows(detail) => expansions::run(alloc, f, steps, detail, printed),
+        Kind::Decision(detail) => decisions::run(alloc, f, steps, detail, printed),
+        Kind::Refutation(detail) => exports::run(alloc, f, steps, detail, printed),
+        Kind::Definitions => definitions::run(alloc, f, steps, printed),
+    }
 }
