@@ -160,6 +160,10 @@ def facts(path):
         return {"gates": int(header[5]), "lines": int(proof[1]) if proof[0] == "dqp" else 0, "bytes": os.path.getsize(path)}
 
 
+def sizes_of(text):
+    return [int(word) for word in text.split(",")]
+
+
 def words_of(arguments):
     reader = argparse.ArgumentParser(description=__doc__.split("\n\n")[0], epilog=f"families: {', '.join(FAMILIES)}")
     reader.add_argument("families", nargs="*", metavar="FAMILY", help="families whose names begin so; all where there is none")
@@ -167,7 +171,7 @@ def words_of(arguments):
     reader.add_argument("--memory", type=float, default=8, metavar="GIGABYTES", help="of a run (8)")
     reader.add_argument("--steps", type=int, metavar="N", help="the solver's limit of steps (its own)")
     reader.add_argument("--seed", type=int, default=1, help="of the formulas (1)")
-    reader.add_argument("--sizes", type=lambda text: [int(word) for word in text.split(",")], metavar="N,..", help="these sizes only, as far as a family has them")
+    reader.add_argument("--sizes", type=sizes_of, metavar="N,..", help="these sizes only, as far as a family has them")
     reader.add_argument("--csv", metavar="FILE", help="where the table is written, a row for each run and solver")
     reader.add_argument("--solver", default=SOLVER, metavar="FILE", help="the built dqsolve")
     reader.add_argument("--checker", default=CHECKER, metavar="FILE", help="the built dqcheck")
