@@ -1,0 +1,358 @@
+"""Formulas of families that people have: gates with their definitions, circuits with black boxes against their specifications, controllers
+that see a part of their plant, random clauses. A family makes a formula of a size from a seeded source of choices, and says its verdict where
+that is known."""
+
+import functools
+import itertools
+
+
+# Signals
+
+
+class Algebra:
+    """Cells made of conjunctions, parities and negations."""
+
+    def disjunction(self, a, b):
+        return self.negation(self.conjunction(self.negation(a), self.negation(b)))
+
+    def half_adder(self, a, b):
+        return self.parity(a, b), self.conjunction(a, b)
+
+    def full_adder(self, a, b, c):
+        return self.parity(self.parity(a, b), c), self.disjunction(self.conjunction(a, b), self.conjunction(c, self.parity(a, b)))
+
+    def less(self, a, b, below):
+        """Whether a is less than b in this bit, or equal and less below."""
+        here = self.conjunction(self.negation(a), b)
+        return self.disjunction(here, self.conjunction(self.negation(self.parity(a, b)), below))
+
+
+class Tables(Algebra):
+    """Signals as tables over all rows of some inputs, each an integer of 2^inputs bits."""
+
+    def __init__(self, inputs):
+        self.count = 1 << inputs
+        self.full = (1 << self.count) - 1
+
+    def input(self, place):
+        half = 1 << place
+        table, size = ((1 << half) - 1) << half, 2 * half
+        while size < self.count:
+            table, size = table | table << size, 2 * size
+        return table
+
+    def negation(self, a):
+        return self.full ^ a
+
+    def conjunction(self, a, b):
+        return a & b
+
+    def parity(self, a, b):
+        return a ^ b
+
+    def equal(self, pairs):
+        """The rows where the signals of each pair are equal."""
+        return functools.reduce(lambda rows, pair: rows & ~(pair[0] ^ pair[1]), pairs, self.full)
+
+
+class Formula(Algebra):
+    """Signals as literals of a DQBF that grows. A gate is an existential with the clauses that define it; it sees all universals, or, where
+    gates are narrow, what its inputs see. `seen` has None for all."""
+
+    def __init__(self, narrow=False):
+        self.narrow = narrow
+        self.variables = 0
+        self.universals = {}
+        self.seen = {}
+        self.clauses = []
+
+    def universal(self):
+        self.variables += 1
+        self.universals[self.variables] = True
+        return self.variables
+
+    def word(self, count):
+        return [self.universal() for _ in range(count)]
+
+    def existential(self, seen=None):
+        self.variables += 1
+        self.seen[self.variables] = None if seen is None else sorted(seen)
+        return self.variables
+
+    def sight(self, *signals):
+        """The universals that these signals see together."""
+        return {x for s in signals for x in ([abs(s)] if abs(s) in self.universals else self.seen[abs(s)])}
+
+    def gate(self, *inputs):
+        return self.existential(self.sight(*inputs) if self.narrow else None)
+
+    def negation(self, a):
+        return -a
+
+    def conjunction(self, a, b):
+        y = self.gate(a, b)
+        self.clauses += [[-y, a], [-y, b], [y, -a, -b]]
+        return y
+
+    def parity(self, a, b):
+        y = self.gate(a, b)
+        self.clauses += [[-y, a, b], [-y, -a, -b], [y, -a, b], [y, a, -b]]
+        return y
+
+    def choice(self, s, a, b):
+        """a where s is true, and else b."""
+        y = self.gate(s, a, b)
+        self.clauses += [[-s, -a, y], [-s, a, -y], [s, -b, y], [s, b, -y]]
+        return y
+
+    def equate(self, signals, others, demands=()):
+        """Signals equal others wherever the signals of each demand are equal."""
+        guard = []
+        if demands:
+            guard = [-functools.reduce(self.conjunction, [-self.parity(*demand) for demand in demands])]
+        for a, b in zip(signals, others):
+            self.clauses += [[*guard, a, -b], [*guard, -a, b]]
+
+    def text(self):
+        """DQDIMACS."""
+        lines = [["p", "cnf", self.variables, len(self.clauses)], ["a", *self.universals, 0]]
+        lines += [["d", y, *seen, 0] for y, seen in self.seen.items() if seen is not None]
+        lines += [["e", *(y for y, seen in self.seen.items() if seen is None), 0]]
+        return text_of(lines + [[*clause, 0] for clause in self.clauses])
+
+    def linear_text(self):
+        """QDIMACS, or None where what existentials see is no chain."""
+        sights = [(frozenset(self.universals if seen is None else seen), y) for y, seen in self.seen.items()]
+        lines, told = [["p", "cnf", self.variables, len(self.clauses)]], set()
+        for seen, group in itertools.groupby(sorted(sights, key=lambda s: (len(s[0]), sorted(s[0]))), lambda s: s[0]):
+            if not told <= seen:
+                return None
+            lines += [["a", *sorted(seen - told), 0]] if seen else []
+            lines.append(["e", *(y for _, y in group), 0])
+            told = seen
+        rest = sorted(self.universals.keys() - told)
+        return text_of(lines + ([["a", *rest, 0]] if rest else []) + [[*clause, 0] for clause in self.clauses])
+
+
+def text_of(lines):
+    return "".join(" ".join(map(str, line)) + "\n" for line in lines)
+
+
+class Boxes:
+    """A circuit's cells, of which those at some places are boxes: outputs that see what the cell has as inputs, a universal of its own for
+    each input that is none. The demands say that these equal the inputs. A blind input, of a place, isn't seen."""
+
+    def __init__(self, formula, places, blind=None):
+        self.formula, self.places, self.blind, self.demands = formula, places, blind, []
+
+    def cells(self, plain, outputs):
+        """What stands at a place."""
+
+        def cell(place, *inputs):
+            if place not in self.places:
+                return plain(*inputs)
+            seen = [self.universal(signal) for k, signal in enumerate(inputs) if (place, k) != self.blind]
+            boxes = [self.formula.existential(seen) for _ in range(outputs)]
+            return boxes if outputs > 1 else boxes[0]
+
+        return cell
+
+    def universal(self, signal):
+        if signal in self.formula.universals:
+            return signal
+        self.demands.append((self.formula.universal(), signal))
+        return self.demands[-1][0]
+
+
+# Circuits of cells, which are given their place and their inputs
+
+
+def add(algebra, a, b, cell):
+    """A ripple adder, whose second word may be longer."""
+    places, sums, carry = itertools.count(), [], None
+    for bits in itertools.zip_longest(a, b):
+        given = [signal for signal in (*bits, carry) if signal is not None]
+        total, carry = cell(next(places), *given) if len(given) == 3 else algebra.half_adder(*given)
+        sums.append(total)
+    return [*sums, carry]
+
+
+def multiply(algebra, a, b, cell):
+    """An array of adders, with size * (size - 2) full ones."""
+    places, product = itertools.count(), []
+    total = [algebra.conjunction(x, b[0]) for x in a]
+    for y in b[1:]:
+        product.append(total[0])
+        row = [algebra.conjunction(x, y) for x in a]
+        total = add(algebra, total[1:], row, lambda _, *inputs: cell(next(places), *inputs))
+    return product + total
+
+
+def less(algebra, a, b, cell):
+    """Whether a word is less than another."""
+    below = algebra.conjunction(algebra.negation(a[0]), b[0])
+    for place, bits in enumerate(zip(a[1:], b[1:])):
+        below = cell(place, *bits, below)
+    return [below]
+
+
+# Families: each gives a formula of a size, and its verdict where that is known
+
+
+def definitions(rng, size):
+    """As many gates as the size, of two or three inputs, over half as many universals; each sees the up to eight that it stands on. True."""
+    formula = Formula(narrow=True)
+    signals = formula.word(max(3, size // 2))
+    first = len(signals)
+    for _ in range(size):
+        inputs = next((some for some in (rng.sample(signals, 3) for _ in range(20)) if len(formula.sight(*some)) <= 8), signals[:3])
+        inputs = [signal * rng.choice((1, -1)) for signal in inputs]
+        kind = rng.choice((formula.conjunction, formula.parity, formula.choice))
+        signals.append(kind(*inputs if kind == formula.choice else inputs[:2]))
+        signals = signals[:first] + signals[-2 * first :] if len(signals) > 3 * first else signals
+    return formula, "TRUE"
+
+
+def against_plain(formula, circuit, plain, outputs, size, places, blind):
+    """A circuit of two words with boxes at some places against the same without."""
+    a, b = formula.word(size), formula.word(size)
+    boxes = Boxes(formula, places, blind)
+    found = circuit(formula, a, b, boxes.cells(plain, outputs))
+    formula.equate(found, circuit(formula, a, b, lambda place, *inputs: plain(*inputs)), boxes.demands)
+    return formula
+
+
+def adder(rng, size, is_blind=False):
+    """An adder of words, with a box at each fourth full adder, against one without boxes. True; where a box lacks an input, false, since the
+    sum of its place is the parity of its inputs."""
+    formula, places = Formula(), range(0, size - 1, 4)
+    blind = (rng.choice(places), rng.randrange(3)) if is_blind else None
+    return against_plain(formula, add, formula.full_adder, 2, size, places, blind), "FALSE" if is_blind else "TRUE"
+
+
+def comparator(rng, size, is_blind=False):
+    """A comparator of words, with a box at each fourth cell, against one without boxes. True; where a box lacks an input, false, since
+    words that are equal above tell what the box gives."""
+    formula, places = Formula(), range(0, size - 1, 4)
+    blind = (rng.choice(places), rng.randrange(3)) if is_blind else None
+    return against_plain(formula, less, formula.less, 1, size, places, blind), "FALSE" if is_blind else "TRUE"
+
+
+def multiplier(rng, size, is_blind=False):
+    """An array multiplier of words, with a box for some full adder, against one without. True; where the box lacks an input, false if the
+    tables say so, and not known over 16 inputs."""
+    formula = Formula()
+    place, input = rng.randrange(size * (size - 2)), rng.randrange(3)
+    against_plain(formula, multiply, formula.full_adder, 2, size, [place], (place, input) if is_blind else None)
+    if not is_blind:
+        return formula, "TRUE"
+    return formula, multiplier_verdict(size, place, input) if size <= 8 else ""
+
+
+def multiplier_verdict(size, place, blind):
+    """Whether some outputs of a box that lacks an input fit all rows that it can't tell apart."""
+    tables, inputs, fits = Tables(2 * size), [], []
+    words = [[tables.input(first + i) for i in range(size)] for first in (0, size)]
+    specified = multiply(tables, *words, lambda at, *given: tables.full_adder(*given))
+    for outputs in itertools.product((0, tables.full), repeat=2):
+
+        def cell(at, *given):
+            inputs[:] = given if at == place else inputs
+            return outputs if at == place else tables.full_adder(*given)
+
+        fits.append(tables.equal(zip(multiply(tables, *words, cell), specified)))
+    seen = [table for k, table in enumerate(inputs) if k != blind]
+    for bits in itertools.product((0, tables.full), repeat=2):
+        rows = tables.equal(zip(seen, bits))
+        if all(rows & ~fit for fit in fits):
+            return "FALSE"
+    return "TRUE"
+
+
+def parity(rng, size, is_blind=False):
+    """The parity of boxes that see three universals each, in some order, against the parity of the universals. True; where one isn't seen,
+    false."""
+    formula = Formula()
+    inputs = formula.word(size)
+    order = rng.sample(inputs, size)
+    groups = [order[k : k + 3] for k in range(0, size, 3)]
+    if is_blind:
+        rng.choice(groups).pop()
+    boxes = [formula.existential(group) for group in groups]
+    formula.equate(*([functools.reduce(formula.parity, signals)] for signals in (boxes, inputs)))
+    return formula, "FALSE" if is_blind else "TRUE"
+
+
+def controller(rng, size, is_blind=False):
+    """A position of so many bits is to stay between two bounds, where wind may move it by one and the controller, which sees some of the bits
+    and not the wind, may move it back by one. True where it sees a bit in which the bounds differ, and else false."""
+    formula = Formula()
+    position, wind = formula.word(size), formula.universal()
+    low, high = sorted(rng.sample(range(1, (1 << size) - 1), 2))
+    differ = [i for i in range(size) if (low ^ high) >> i & 1]
+    same = [i for i in range(size) if i not in differ]
+    seen = same if is_blind else {rng.choice(differ), *rng.sample(range(size), size // 2)}
+    control = formula.existential(position[i] for i in seen)
+    moved = move(formula, position, formula.conjunction(wind, -control), formula.conjunction(-wind, control))
+    before = [-bound for bound in bounds(formula, position, low, high)]
+    formula.clauses += [[*before, bound] for bound in bounds(formula, moved, low, high)]
+    return formula, "FALSE" if is_blind else "TRUE"
+
+
+def move(formula, bits, up, down):
+    """A word that goes up or down by one."""
+    moved = []
+    for bit in bits:
+        total = formula.parity(bit, up)
+        moved.append(formula.parity(total, down))
+        up, down = formula.conjunction(bit, up), formula.conjunction(-total, down)
+    return moved
+
+
+def bounds(formula, bits, low, high):
+    """Signals that a word is at least a number, and at most another."""
+    return [at_most(formula, [-bit for bit in bits], (1 << len(bits)) - 1 - low), at_most(formula, bits, high)]
+
+
+def at_most(formula, bits, number):
+    """A signal that a word is at most a number below its greatest one; None stands for true meanwhile."""
+    signal = None
+    for i, bit in enumerate(bits):
+        if number >> i & 1:
+            signal = None if signal is None else formula.disjunction(-bit, signal)
+        else:
+            signal = -bit if signal is None else formula.conjunction(-bit, signal)
+    return signal
+
+
+def two_levels(rng, size):
+    """Random clauses of two universals and three existentials, which see all; as many of both, and eight times as many clauses."""
+    formula = Formula()
+    universals, existentials = formula.word(size), [formula.existential() for _ in range(size)]
+    random_clauses(rng, formula, 8 * size, (universals, 2), (existentials, 3))
+    return formula, ""
+
+
+def random_sights(rng, size):
+    """Random clauses of a universal and two existentials, which see a random half each; as many of both, and twice as many clauses."""
+    formula = Formula()
+    universals = formula.word(size)
+    existentials = [formula.existential(rng.sample(universals, size // 2)) for _ in range(size)]
+    random_clauses(rng, formula, 2 * size, (universals, 1), (existentials, 2))
+    return formula, ""
+
+
+def random_clauses(rng, formula, count, *parts):
+    for _ in range(count):
+        chosen = [v for variables, number in parts for v in rng.sample(variables, min(number, len(variables)))]
+        formula.clauses.append([v * rng.choice((1, -1)) for v in chosen])
+
+
+def blind(family):
+    return lambda rng, size: family(rng, size, True)
+
+
+FAMILIES = {"definitions": (definitions, 4)}
+for made, start in ((adder, 2), (comparator, 2), (multiplier, 3), (parity, 4), (controller, 2)):
+    FAMILIES |= {made.__name__: (made, start), f"{made.__name__}-blind": (blind(made), start)}
+FAMILIES |= {"two-levels": (two_levels, 4), "random-sights": (random_sights, 4)}
