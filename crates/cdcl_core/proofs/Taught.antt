@@ -68,6 +68,9 @@ module _ (assumptions : List Literal) (s : Searcher) (log : ProofLog) (new : Tra
   sound_here : IsSound (live_in s.clauses.clauses) (step ∷ new.steps)
   sound_here = lesson_sound log.entries assumptions s.clauses.clauses s.variables s.trail new step marks clause hints d searching.fit searching.sound searching.guided decided chosen lesson
 
+  pub learn_step : IsSound (live_in s.clauses.clauses) (step ∷ new.steps)
+  learn_step = sound_here
+
   guided_here : IsGuided log.entries assumptions (step ∷ new.steps)
   guided_here = lesson_guided log.entries assumptions s.clauses.clauses s.variables s.trail new step marks clause hints d searching.fit searching.sound searching.guided decided chosen lesson
 

@@ -1,5 +1,7 @@
 pub mod Analyses
+pub mod ArenaInside
 pub mod Backing
+pub mod Chains
 pub mod Extension
 pub mod Growing
 pub mod Lessons
@@ -7,8 +9,6 @@ pub mod Marks
 pub mod Noting
 pub mod Passes
 pub mod Pieces
-pub mod Runs
-pub mod Scanning
 pub mod Searching
 pub mod Solver
 pub mod Sound
@@ -16,3 +16,5 @@ pub mod Steps
 pub mod Storage
 pub mod Table
 pub mod TrailInside
+pub mod Visits
+pub mod Watching

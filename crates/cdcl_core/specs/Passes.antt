@@ -1,11 +1,9 @@
--- What a pass of propagation comes to.
-use Rattle.std.specs.Prelude.{◌≡◌, ℕ, suc, ◌≤◌, ◌<◌, true, List, length, Option, None, Some, All, Contains}
+-- What propagation comes to.
+use Rattle.std.specs.Prelude.{◌≡◌, ℕ, ◌≤◌, ◌<◌, true, List, Option, None, Some, All, Contains, slice_get}
 use Rattle.std.specs.List.{list_any}
 use Rattle.dq_lits.specs.Literal.{Literal, variable_of}
-use Rattle.dq_lits.specs.Derivation.{LiveClauses, holds, status_of, falsified, stuck}
+use Rattle.dq_lits.specs.Derivation.{LiveClauses, holds, status_of, falsified}
 use Rattle.hint_log.specs.ProductiveLog.{IsClosed}
-use Rattle.cdcl_core.specs.declared.passes.Pass.{Pass}
-use Rattle.cdcl_core.specs.declared.passes.Pass.TheVariants.{Conflict, More, Quiet}
 use Rattle.cdcl_core.specs.Steps.{Trailed, literals_of, IsFree}
 
 abbrev pub AreWithin : ℕ → List (List Literal) → Type 0
@@ -15,17 +13,6 @@ AreWithin room clauses = All (λ c. All (λ l. variable_of l ≤ room) c) clause
 abbrev pub AreMarkable : ℕ → List (List Literal) → Type 0
 AreMarkable places clauses = All (λ c. All (λ l. variable_of l < places) c) clauses
 
-abbrev pub IsPassed : LiveClauses → Trailed → Trailed → Pass → Type 0
-IsPassed live old new (Conflict id) = status_of (literals_of new.steps) (live id) ≡ falsified
-IsPassed live old new More = length old.steps < length new.steps
-IsPassed live old new Quiet = IsClosed live (literals_of new.steps)
-
--- the same of the clauses behind the first ones, up to the last
-abbrev pub IsRunPassed : LiveClauses → Trailed → Trailed → ℕ → ℕ → Pass → Type 0
-IsRunPassed live old new first last (Conflict id) = status_of (literals_of new.steps) (live id) ≡ falsified
-IsRunPassed live old new first last More = length old.steps < length new.steps
-IsRunPassed live old new first last Quiet = (new ≡ old) × ((j : ℕ) → first ≤ j → j < last → status_of (literals_of new.steps) (live (suc j)) ≡ stuck)
-
 abbrev pub IsPropagated : LiveClauses → Trailed → Option ℕ → Type 0
 IsPropagated live new (Some id) = status_of (literals_of new.steps) (live id) ≡ falsified
 IsPropagated live new None = IsClosed live (literals_of new.steps)
@@ -34,3 +21,7 @@ IsPropagated live new None = IsClosed live (literals_of new.steps)
 abbrev pub IsOpening : List (List Literal) → List Literal → Option Literal → Type 0
 IsOpening clauses trues None = All (λ c. list_any (holds trues) c ≡ true) clauses
 IsOpening clauses trues (Some l) = IsFree trues l × (c : List Literal) × Contains clauses c × (holds c l ≡ true)
+
+-- the first clauses, so many, have true literals
+abbrev pub AreTrueUpTo : ℕ → List (List Literal) → List Literal → Type 0
+AreTrueUpTo last clauses trues = (i : ℕ) (c : List Literal) → i < last → slice_get clauses i ≡ Some c → list_any (holds trues) c ≡ true

@@ -13,6 +13,7 @@ use Rattle.oracle.specs.declared.oracles.Answer.TheVariants.{Sat, Unsat}
 use Rattle.cdcl_core.specs.declared.searchers.Searcher.{Searcher}
 use Rattle.cdcl_core.specs.Steps.{literals_of}
 use Rattle.cdcl_core.specs.Sound.{IsSound, IsGuided, AreTrue}
+use Rattle.cdcl_core.specs.Watching.{IsGuarded, AreLevelsGuarded, IsTopGuarded}
 
 -- the searcher goes with the log, and its trail is one
 pub record IsSearching (assumptions : List Literal) (s : Searcher) (log : ProofLog) : Type 0 where
@@ -21,6 +22,15 @@ pub record IsSearching (assumptions : List Literal) (s : Searcher) (log : ProofL
   pub guided : IsGuided log.entries assumptions s.trail.steps
   pub room : s.variables ≤ s.trail.room
   pub marks : s.trail.room < length s.notes.marks
+  pub levels : AreLevelsGuarded s.clauses.clauses s.clauses.first s.clauses.second s.trail.steps
+
+-- all literals of the trail but the newest were processed
+abbrev pub IsReady : Searcher → Type 0
+IsReady s = IsTopGuarded s.clauses.clauses s.clauses.first s.clauses.second s.trail.steps
+
+-- all literals of the trail were processed
+abbrev pub IsAllGuarded : Searcher → Type 0
+IsAllGuarded s = IsGuarded s.clauses.clauses s.clauses.first s.clauses.second (literals_of s.trail.steps) (literals_of s.trail.steps)
 
 -- assumptions stand on variables that have names, and not beside their negations
 pub record AreAssumptions (log : ProofLog) (assumptions : List Literal) : Type 0 where
@@ -41,12 +51,14 @@ pub record KeepsPlaces (s t : Searcher) : Type 0 where
 -- what a turn that doesn't end the search comes to
 pub record HasTurned (assumptions : List Literal) (s t : Searcher) (old new : ProofLog) : Type 0 where
   pub searching : IsSearching assumptions t new
+  pub ready : IsReady t
   pub learned : HasLearned old new
   pub room : t.trail.room ≡ s.trail.room
 
 -- a turn that doesn't end the search, which is closer to its end
 pub record IsTurn (assumptions : List Literal) (s t : Searcher) (old new : ProofLog) : Type 0 where
   pub searching : IsSearching assumptions t new
+  pub ready : IsReady t
   pub learned : HasLearned old new
   pub few : length t.trail.steps ≤ t.trail.room
   pub closer : left_of t new < left_of s old
@@ -68,6 +80,7 @@ HasRoom s = (s.trail.room ≡ 0) ⊎ (s.trail.room < length s.notes.marks)
 -- how far a search has come
 pub record IsRunning (assumptions : List Literal) (s t : Searcher) (old new : ProofLog) : Type 0 where
   pub searching : IsSearching assumptions t new
+  pub ready : IsReady t
   pub few : length t.trail.steps ≤ t.trail.room
   pub learned : HasLearned old new
   pub places : KeepsPlaces s t

@@ -10,7 +10,7 @@ ghost use Rattle.oracle.specs.Fit.{Fit};
 ghost use Rattle.oracle.specs.Calls.{IsMade, IsPlain, IsModelUnder, IsRefutedUnder, assumed};
 ghost use Rattle.cdcl_core.specs.Growing.{HasLearned};
 ghost use Rattle.cdcl_core.specs.Steps.{literals_of, literal_value};
-ghost use Rattle.cdcl_core.specs.Searching.{IsSearching, AreAssumptions, IsFound, HasRoom, KeepsPlaces};
+ghost use Rattle.cdcl_core.specs.Searching.{IsSearching, IsReady, AreAssumptions, IsFound, HasRoom, KeepsPlaces};
 ghost use Rattle.cdcl_core.specs.declared.trails.TruthValue.TheVariants.{True};
 
 use crate::clauses::ClauseStore;
@@ -114,6 +114,7 @@ pub(crate) fn find(
     ensures limit { result ≡ Err Stop.Limit → steps_of log.new.entries ≡ log.new.limit }
 {
     s.notes.begin()?;
+    s.position = s.clauses.len();
     let assumptions = listed(s.alloc, active, assume)?;
     let found = search_and_keep(s, model, &assumptions, log);
     back_to_start(&mut s.trail);
@@ -142,6 +143,7 @@ fn search_and_keep(
     log: &mut Log,
 ) -> Result<Answer, Stop>
     requires searching { IsSearching assumptions.now s.old log.old }
+    requires ready { IsReady s.old }
     requires few_steps { length s.old.trail.steps ≤ s.old.trail.room }
     requires assumptions { AreAssumptions log.old assumptions.now }
     requires few { s.old.variables < 2 ^ 62 }

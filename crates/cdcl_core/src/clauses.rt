@@ -1,35 +1,31 @@
-//! The clauses that a solver holds, flat: all literals stand in one list.
+//! The clauses that a solver holds, each watched at two of its literals.
 
-ghost use Rattle.std.specs.Prelude.{◌≡◌, ◌≤◌, ◌<◌, ◌+◌, ◌++◌, ◌∷◌, [], List, true, length, OnOk, Some, slice_get, vec_capacity};
-ghost use Rattle.dq_lits.specs.Literal.{Literal};
+ghost use Rattle.std.specs.Prelude.{◌≡◌, ◌≤◌, ◌<◌, ◌-◌, ◌++◌, ◌∷◌, ◌⊎◌, [], List, ℕ, None, length, true, suc, Contains, OnOk, Some, vec_capacity};
+ghost use Rattle.dq_lits.specs.Literal.{Literal, positive, same_literal};
 ghost use Rattle.dq_lits.specs.Derivation.{holds};
 ghost use Rattle.oracle.specs.Fit.{live_in};
-ghost use Rattle.cdcl_core.specs.Runs.{Shares, AreRuns};
-ghost use Rattle.cdcl_core.specs.Pieces.{pieces, AreEnds, start_of};
+ghost use Rattle.cdcl_core.specs.Steps.{literals_of, Grown};
+ghost use Rattle.cdcl_core.specs.Sound.{IsSound};
+ghost use Rattle.cdcl_core.specs.Passes.{AreWithin, IsPropagated};
+ghost use Rattle.cdcl_core.specs.Watching.{IsWatched, IsReady, IsGuarded, AreLevelsGuarded, NotesShort};
 
+use crate::arenas::Arena;
+use crate::propagation::propagate;
+use crate::trails::Trail;
+use crate::watches::{Watches, add_watch, make_room, no_watches};
 use dq_lits::{Lit, Memory};
 use std::alloc::Global;
 use std::marker::Model;
 
-/// Neighbouring clauses that share a literal: where it is true, all of them are.
-///
-/// The clauses of a group share its negated selector, so that a whole group that isn't active is passed over at once.
-#[derive(Clone, Copy, Debug)]
-pub(crate) struct Run {
-    /// None, where the clause is empty.
-    pub(crate) shared: Option<Lit>,
-    /// The id of the last clause.
-    pub(crate) last: u64,
-}
-
 /// Clauses in order of time, by their ids from 1 on.
 #[derive(Debug, Drop)]
 pub(crate) struct ClauseStore {
-    // The literals of all clauses, in order.
-    literals: Vec<Lit>,
-    // Where the literals of each clause end.
-    ends: Vec<usize>,
-    runs: Vec<Run>,
+    arena: Arena,
+    // Each clause is watched at two of its literals, where it has two that differ.
+    first: Watches,
+    second: Watches,
+    // The ids of the other clauses.
+    short: Vec<u64>,
     // How many literals one clause more may have; there is no room for a clause where it is 0.
     spare: usize,
 }
@@ -45,14 +41,17 @@ impl Model for ClauseStore {
 }
 
 impl ClauseStore {
+    ghost use Rattle.cdcl_core.specs.Storage.{HasLists, IsListed};
+
     /// No clauses. It takes no memory.
     pub(crate) fn new(alloc: Global) -> ClauseStore
         ensures { result.clauses ≡ [] }
     {
         ClauseStore {
-            literals: Vec::new(alloc),
-            ends: Vec::new(alloc),
-            runs: Vec::new(alloc),
+            arena: Arena::new(alloc),
+            first: no_watches(alloc),
+            second: no_watches(alloc),
+            short: Vec::new(alloc),
             spare: 0,
         }
     }
@@ -61,7 +60,7 @@ impl ClauseStore {
     pub(crate) fn len(&self) -> u64
         ensures { result ≡ length self.now.clauses }
     {
-        self.ends.len() as u64
+        self.arena.len()
     }
 
     /// The literals of the clause with an id.
@@ -70,120 +69,139 @@ impl ClauseStore {
         requires is_id { id ≤ length self.now.clauses }
         ensures { live_in self.now.clauses id ≡ Some result.now }
     {
-        piece(&self.literals, &self.ends, id as usize - 1)
+        self.arena.lits(id)
     }
 
-    /// The runs in order.
-    pub(crate) fn runs(&self) -> &[Run]
-        ensures { AreRuns 0 result.now self.now.clauses (length self.now.clauses) }
+    /// The literals that the clause with an id is watched at.
+    pub(crate) fn watched(&self, id: u64) -> Watched
+        requires from_one { 1 ≤ id }
+        requires is_id { id ≤ length self.now.clauses }
+        ensures { (c : List Literal) → live_in self.now.clauses id ≡ Some c → IsWatched c result.first result.second }
     {
-        &self.runs
+        Watched {
+            first: self.first.literals[id as usize - 1],
+            second: self.second.literals[id as usize - 1],
+        }
     }
 
     /// Makes room for a clause of these literals.
     pub(crate) fn reserve(&mut self, lits: &[Lit]) -> Result<(), Memory>
         ensures clauses { self.new.clauses ≡ self.old.clauses }
+        ensures first { self.new.first ≡ self.old.first }
+        ensures second { self.new.second ≡ self.old.second }
         ensures spare { OnOk result (length lits.now < self.new.spare) }
+        ensures lists { OnOk result (HasLists self.new lits.now) }
     {
         self.spare = 0;
-        self.literals.reserve(lits.len())?;
-        self.ends.reserve(1)?;
-        self.runs.reserve(1)?;
+        make_room(&mut self.first, lits)?;
+        make_room(&mut self.second, lits)?;
+        self.short.reserve(1)?;
+        self.arena.reserve(lits)?;
         self.spare = lits.len() + 1;
         Ok(())
     }
 
     /// Adds a clause that there is room for.
     pub(crate) fn push(&mut self, lits: &[Lit])
-        requires { length lits.now < self.old.spare }
+        requires spare { length lits.now < self.old.spare }
+        requires lists { HasLists self.old lits.now }
         ensures { self.new.clauses ≡ self.old.clauses ++ lits.now ∷ [] }
     {
+        self.push_watched(lits, watched_of(lits));
+    }
+
+    /// Adds a clause that there is room for, watched at these literals.
+    pub(crate) fn push_watched(&mut self, lits: &[Lit], watched: Watched)
+        requires spare { length lits.now < self.old.spare }
+        requires lists { HasLists self.old lits.now }
+        requires first_list { IsListed self.old watched.first }
+        requires second_list { IsListed self.old watched.second }
+        requires watched { IsWatched lits.now watched.first watched.second }
+        ensures clauses { self.new.clauses ≡ self.old.clauses ++ lits.now ∷ [] }
+        ensures first { self.new.first ≡ self.old.first ++ watched.first ∷ [] }
+        ensures second { self.new.second ≡ self.old.second ++ watched.second ∷ [] }
+        ensures count { length self.old.first ≡ length self.old.clauses }
+        ensures second_count { length self.old.second ≡ length self.old.clauses }
+    {
         self.spare = 0;
-        append(&mut self.literals, lits);
-        put_end(&mut self.ends, self.literals.len());
-        extend_runs(&mut self.runs, lits, self.ends.len() as u64);
+        self.arena.push(lits);
+        add_watch(&mut self.first, watched.first);
+        add_watch(&mut self.second, watched.second);
+        note_short(&mut self.short, watched, self.arena.len());
+    }
+
+    /// Propagates to the end, or to a falsified clause, whose id it answers. All literals but the newest one were processed.
+    pub(crate) fn propagate(&mut self, trail: &mut Trail) -> Option<u64>
+        requires in_range { AreWithin trail.old.room self.old.clauses }
+        requires sound { IsSound (live_in self.old.clauses) trail.old.steps }
+        requires few { length trail.old.steps ≤ trail.old.room }
+        requires ready { IsReady self.old.clauses self.old.first self.old.second trail.old.steps }
+        ensures clauses { self.new.clauses ≡ self.old.clauses }
+        ensures room { trail.new.room ≡ trail.old.room }
+        ensures sound { IsSound (live_in self.new.clauses) trail.new.steps }
+        ensures grown { Grown trail.old.steps trail.new.steps }
+        ensures few { length trail.new.steps ≤ trail.new.room }
+        ensures levels { AreLevelsGuarded self.new.clauses self.new.first self.new.second trail.new.steps }
+        ensures guarded { result ≡ None → IsGuarded self.new.clauses self.new.first self.new.second (literals_of trail.new.steps) (literals_of trail.new.steps) }
+        ensures ended { IsPropagated (live_in self.new.clauses) trail.new result }
+    {
+        self.spare = 0;
+        propagate(
+            trail,
+            &self.arena,
+            &mut self.first,
+            &mut self.second,
+            &self.short,
+        )
     }
 }
 
-// The piece at a place.
-fn piece<'a>(literals: &'a [Lit], ends: &[usize], at: usize) -> &'a [Lit]
-    requires ends { AreEnds 0 ends.now (length literals.now) }
-    requires at { at < length ends.now }
-    ensures { slice_get (pieces literals.now 0 ends.now) at ≡ Some result.now }
-{
-    let start = start_of(ends, at);
-    &literals[start..ends[at]]
+/// Two literals that a clause is watched at.
+#[derive(Clone, Copy, Debug)]
+pub(crate) struct Watched {
+    pub(crate) first: Lit,
+    pub(crate) second: Lit,
 }
 
-// Where the piece at a place begins.
-fn start_of(ends: &[usize], at: usize) -> usize
-    requires { at < length ends.now }
-    ensures { result ≡ start_of 0 ends.now at }
+// The first literal of a clause, and the first that differs from it; some literal, where it has none.
+fn watched_of(lits: &[Lit]) -> Watched
+    ensures watched { IsWatched lits.now result.first result.second }
+    ensures first { (result.first ≡ positive 1) ⊎ (holds lits.now result.first ≡ true) }
+    ensures second { (result.second ≡ positive 1) ⊎ (holds lits.now result.second ≡ true) }
 {
-    if at == 0 { 0 } else { ends[at - 1] }
+    match lits.first() {
+        Some(l) => Watched {
+            first: *l,
+            second: other_of(lits, *l),
+        },
+        None => Watched {
+            first: Lit::pos(1),
+            second: Lit::pos(1),
+        },
+    }
 }
 
-fn append(literals: &mut Vec<Lit>, lits: &[Lit])
-    requires { length literals.old.items + length lits.now ≤ vec_capacity literals.old }
-    ensures { literals.new.items ≡ literals.old.items ++ lits.now }
+// The first literal that differs from one of them; that one, where there is none.
+fn other_of(lits: &[Lit], l: Lit) -> Lit
+    requires { holds lits.now l ≡ true }
+    ensures watched { IsWatched lits.now l result }
+    ensures among { holds lits.now result ≡ true }
 {
-    for l in lits {
-        if literals.push(*l).is_err() {
-            unreachable!();
+    for k in lits {
+        if l != *k {
+            return *k;
         }
     }
+    l
 }
 
-fn put_end(ends: &mut Vec<usize>, end: usize)
-    requires { length ends.old.items < vec_capacity ends.old }
-    ensures { ends.new.items ≡ ends.old.items ++ end ∷ [] }
+// Notes a clause that is watched at one literal alone.
+fn note_short(short: &mut Vec<u64>, watched: Watched, id: u64)
+    requires { length short.old.items < vec_capacity short.old }
+    ensures { NotesShort short.old.items short.new.items watched.first watched.second id }
 {
-    if ends.push(end).is_err() {
+    if watched.first == watched.second && short.push(id).is_err() {
         unreachable!();
-    }
-}
-
-// One clause more, with this id: it goes with the newest run where it holds the literal that is shared there, and begins a run else.
-fn extend_runs(runs: &mut Vec<Run>, lits: &[Lit], last: u64)
-    requires { length runs.old.items < vec_capacity runs.old }
-    ensures { (clauses : List (List Literal)) → AreRuns 0 runs.old.items clauses (length clauses) → last ≡ length clauses + 1
-        → AreRuns 0 runs.new.items (clauses ++ lits.now ∷ []) last }
-{
-    match runs.pop() {
-        None => put(runs, first_of(lits), last),
-        Some(run) => {
-            if is_shared(&run.shared, lits) {
-                put(runs, run.shared, last);
-            } else {
-                put(runs, run.shared, run.last);
-                put(runs, first_of(lits), last);
-            }
-        }
-    }
-}
-
-fn put(runs: &mut Vec<Run>, shared: Option<Lit>, last: u64)
-    requires { length runs.old.items < vec_capacity runs.old }
-    ensures items { runs.new.items ≡ runs.old.items ++ record { shared = shared; last = last } ∷ [] }
-    ensures capacity { vec_capacity runs.old ≤ vec_capacity runs.new }
-{
-    if runs.push(Run { shared, last }).is_err() {
-        unreachable!();
-    }
-}
-
-fn first_of(lits: &[Lit]) -> Option<Lit>
-    ensures { Shares result lits.now }
-{
-    lits.first().copied()
-}
-
-fn is_shared(shared: &Option<Lit>, lits: &[Lit]) -> bool
-    ensures { result ≡ true → Shares shared.now lits.now }
-{
-    match shared {
-        None => false,
-        Some(l) => holds(lits, *l),
     }
 }
 

@@ -3,38 +3,93 @@
 //! A clause is open where it has no true literal. No clause holds a selector that isn't negated, so that no decision makes a selector
 //! true.
 
-ghost use Rattle.std.specs.Prelude.{◌≡◌, ◌≤◌, ◌⊎◌, true, All, MatchOption, Some};
+ghost use Rattle.std.specs.Prelude.{◌≡◌, ◌≤◌, ◌⊎◌, List, true, false, length, All, MatchOption, Some, None};
 ghost use Rattle.std.specs.List.{list_any};
-ghost use Rattle.dq_lits.specs.Literal.{variable_of};
+ghost use Rattle.dq_lits.specs.Literal.{Literal, variable_of, same_literal};
 ghost use Rattle.dq_lits.specs.Derivation.{holds, status_of, stuck};
 ghost use Rattle.oracle.specs.Fit.{live_in};
 ghost use Rattle.hint_log.specs.ProductiveLog.{IsClosed};
 ghost use Rattle.cdcl_core.specs.Steps.{literals_of, IsFree};
-ghost use Rattle.cdcl_core.specs.Passes.{AreWithin, IsOpening};
+ghost use Rattle.cdcl_core.specs.Passes.{AreWithin, IsOpening, AreTrueUpTo};
 
 use crate::activities::Activities;
-use crate::clauses::ClauseStore;
+use crate::clauses::{ClauseStore, Watched};
+use crate::statuses::is_true;
 use crate::trails::{Trail, TruthValue};
 use dq_lits::Lit;
 
-/// A literal without a value of the newest clause that has no true literal.
-pub(crate) fn newest_open(
+/// A clause that has no true literal, and a literal of it without a value.
+#[derive(Clone, Copy, Debug)]
+pub(crate) struct Open {
+    pub(crate) id: u64,
+    pub(crate) literal: Lit,
+}
+
+/// An open clause: the newest one up to an id, or else the newest one.
+pub(crate) fn open_clause(
     trail: &Trail,
     clauses: &ClauseStore,
     activities: &Activities,
-) -> Option<Lit>
+    position: u64,
+) -> Option<Open>
     requires in_range { AreWithin trail.now.room clauses.now.clauses }
     requires closed { IsClosed (live_in clauses.now.clauses) (literals_of trail.now.steps) }
-    ensures { IsOpening clauses.now.clauses (literals_of trail.now.steps) result }
+    ensures { MatchOption result (IsOpening clauses.now.clauses (literals_of trail.now.steps) None) (λ open'. IsOpening clauses.now.clauses (literals_of trail.now.steps) (Some open'.literal)) }
 {
-    let mut id = clauses.len();
-    while id > 0 {
-        match open_literal(trail, clauses.lits(id), activities) {
-            Some(l) => return Some(l),
-            None => id -= 1,
+    if position < clauses.len() {
+        if let Some(open) = newest_open(trail, clauses, activities, position) {
+            return Some(open);
         }
     }
+    newest_open(trail, clauses, activities, clauses.len())
+}
+
+// The newest open clause up to an id.
+fn newest_open(
+    trail: &Trail,
+    clauses: &ClauseStore,
+    activities: &Activities,
+    last: u64,
+) -> Option<Open>
+    requires in_range { AreWithin trail.now.room clauses.now.clauses }
+    requires closed { IsClosed (live_in clauses.now.clauses) (literals_of trail.now.steps) }
+    requires last { last ≤ length clauses.now.clauses }
+    ensures { MatchOption result (AreTrueUpTo last clauses.now.clauses (literals_of trail.now.steps)) (λ open'. IsOpening clauses.now.clauses (literals_of trail.now.steps) (Some open'.literal)) }
+{
+    let mut id = last;
+    while id > 0 {
+        if let Some(literal) = open_in(trail, clauses, activities, id) {
+            return Some(Open { id, literal });
+        }
+        id -= 1;
+    }
     None
+}
+
+// A literal without a value of the clause with an id, where it has no true literal.
+fn open_in(trail: &Trail, clauses: &ClauseStore, activities: &Activities, id: u64) -> Option<Lit>
+    requires in_range { AreWithin trail.now.room clauses.now.clauses }
+    requires closed { IsClosed (live_in clauses.now.clauses) (literals_of trail.now.steps) }
+    requires from_one { 1 ≤ id }
+    requires is_id { id ≤ length clauses.now.clauses }
+    ensures { MatchOption result
+        ((c : List Literal) → live_in clauses.now.clauses id ≡ Some c → list_any (holds (literals_of trail.now.steps)) c ≡ true)
+        (λ l. IsOpening clauses.now.clauses (literals_of trail.now.steps) (Some l)) }
+{
+    if is_watch_true(trail, clauses.watched(id)) {
+        return None;
+    }
+    open_literal(trail, clauses.lits(id), activities)
+}
+
+// Whether one of two literals is true, where they differ.
+fn is_watch_true(trail: &Trail, watched: Watched) -> bool
+    requires { same_literal watched.first watched.second ≡ false → (variable_of watched.first ≤ trail.now.room) × (variable_of watched.second ≤ trail.now.room) }
+    ensures { result ≡ true → (same_literal watched.first watched.second ≡ false)
+        × ((holds (literals_of trail.now.steps) watched.first ≡ true) ⊎ (holds (literals_of trail.now.steps) watched.second ≡ true)) }
+{
+    watched.first != watched.second
+        && (is_true(trail, watched.first) || is_true(trail, watched.second))
 }
 
 // The most active literal without a value, where the clause has no true literal.

@@ -1,7 +1,7 @@
 //! What a conflict teaches goes into the log and the clauses, and the trail goes on from there.
 
-ghost use Rattle.std.specs.Prelude.{◌≡◌, ◌≤◌, ◌<◌, ◌+◌, ◌++◌, ◌∷◌, [], true, false, length, IfOk, OnOk, OnErr, Some, Err, IsErrOf};
-ghost use Rattle.dq_lits.specs.Literal.{variable_of};
+ghost use Rattle.std.specs.Prelude.{◌≡◌, ◌≤◌, ◌<◌, ◌+◌, ◌++◌, ◌∷◌, [], true, false, length, IfOk, OnOk, OnErr, Some, IsSome, IfSome, MatchOption, Err, IsErrOf};
+ghost use Rattle.dq_lits.specs.Literal.{variable_of, opposite, same_literal};
 ghost use Rattle.dq_lits.specs.Derivation.{holds, status_of, falsified};
 ghost use Rattle.hint_log.specs.Conditions.{AreNamed, AreIds};
 ghost use Rattle.hint_log.specs.Entries.{steps_of, last_id, with_entry};
@@ -10,11 +10,12 @@ ghost use Rattle.oracle.specs.Fit.{Fit, live_in};
 ghost use Rattle.cdcl_core.specs.Growing.{HasLearned};
 ghost use Rattle.cdcl_core.specs.Steps.{literals_of, decision_of, is_decision, IsFree};
 ghost use Rattle.cdcl_core.specs.Marks.{is_level_marked};
-ghost use Rattle.cdcl_core.specs.Lessons.{IsLanded};
+ghost use Rattle.cdcl_core.specs.Lessons.{IsLanded, LandsInLevel};
 ghost use Rattle.cdcl_core.specs.Searching.{IsSearching, HasTurned, KeepsPlaces};
+ghost use Rattle.cdcl_core.specs.Storage.{HasLists, IsHeldWatched};
 
 use crate::analysis::analyse;
-use crate::clauses::ClauseStore;
+use crate::clauses::{ClauseStore, Watched};
 use crate::levels::{back_to_start, jump};
 use crate::notes::Notes;
 use crate::searchers::Searcher;
@@ -51,45 +52,80 @@ pub(crate) fn learn(
         conflict,
     );
     s.activities.decay();
-    let id = keep(&mut s.clauses, &s.notes, log)?;
+    let id = log_clause(&mut s.clauses, &s.notes, log)?;
     let is_due = s.restarts.is_due();
-    land(&mut s.trail, &s.notes, first, id, is_due);
+    let level = land(&mut s.trail, &s.notes, &first, id, is_due);
+    hold(&mut s.clauses, &s.notes, &first, &level);
+    s.position = id;
     Ok(())
 }
 
-// Logs the clause that was learned, and holds it.
-fn keep(clauses: &mut ClauseStore, notes: &Notes, log: &mut Log) -> Result<u64, Stop>
+// Logs the clause that was learned, and makes room for it.
+fn log_clause(clauses: &mut ClauseStore, notes: &Notes, log: &mut Log) -> Result<u64, Stop>
     requires named { AreNamed log.old.entries notes.now.literals }
     requires hints { AreIds log.old.entries notes.now.hints }
     ensures ok { OnOk result (log.new ≡ with_entry log.old (Learned notes.now.literals notes.now.hints)) }
     ensures id { IfOk result (λ id. id ≡ last_id log.old.entries + 1) }
-    ensures held { OnOk result (clauses.new.clauses ≡ clauses.old.clauses ++ notes.now.literals ∷ []) }
+    ensures clauses { clauses.new.clauses ≡ clauses.old.clauses }
+    ensures first { clauses.new.first ≡ clauses.old.first }
+    ensures second { clauses.new.second ≡ clauses.old.second }
+    ensures spare { OnOk result (length notes.now.literals < clauses.new.spare) }
+    ensures lists { OnOk result (HasLists clauses.new notes.now.literals) }
     ensures err { OnErr result (log.new ≡ log.old) }
-    ensures err_held { OnErr result (clauses.new.clauses ≡ clauses.old.clauses) }
     ensures limit { IsErrOf result Stop.Limit → steps_of log.old.entries ≡ log.old.limit }
 {
     clauses.reserve(notes.literals())?;
     let id = log.learned(notes.literals(), notes.hints())?;
-    clauses.push(notes.literals());
     Ok(id)
 }
 
 // Takes levels back to where the clause learned from a step is unit, and makes its literal true, or takes everything back.
-fn land(trail: &mut Trail, notes: &Notes, first: Step, id: u64, is_due: bool)
+fn land(trail: &mut Trail, notes: &Notes, first: &Step, id: u64, is_due: bool) -> Option<Lit>
     requires in_range { trail.old.room < length notes.now.marks }
-    requires level { is_decision first ≡ false → is_level_marked notes.now.marks trail.old.steps ≡ false }
-    requires variable { variable_of first.literal ≤ trail.old.room }
-    requires free { IsFree (literals_of trail.old.steps) first.literal }
-    ensures landed { IsLanded trail.old trail.new first notes.now.marks id }
+    requires first { is_decision first.now ≡ false → is_level_marked notes.now.marks trail.old.steps ≡ false }
+    requires decided { IsSome (decision_of (first.now ∷ trail.old.steps)) }
+    requires variable { variable_of first.now.literal ≤ trail.old.room }
+    requires free { IsFree (literals_of trail.old.steps) first.now.literal }
+    ensures landed { IsLanded trail.old trail.new first.now notes.now.marks id }
+    ensures level { MatchOption result (trail.new.steps ≡ []) (λ l. LandsInLevel trail.old trail.new first.now notes.now.marks id l) }
     ensures few { length trail.new.steps ≤ trail.new.room }
 {
     if is_due {
         back_to_start(trail);
-        return;
+        return None;
     }
-    jump(trail, notes, &first);
-    trail.push(Step {
-        literal: first.literal.not(),
-        reason: Some(id),
-    });
+    match jump(trail, notes, first) {
+        None => {
+            back_to_start(trail);
+            None
+        }
+        Some(l) => {
+            trail.push(Step {
+                literal: first.literal.not(),
+                reason: Some(id),
+            });
+            Some(l)
+        }
+    }
+}
+
+// Holds the clause learned from a step, watched at its own literal and at one of the newest level.
+fn hold(clauses: &mut ClauseStore, notes: &Notes, first: &Step, level: &Option<Lit>)
+    requires spare { length notes.now.literals < clauses.old.spare }
+    requires lists { HasLists clauses.old notes.now.literals }
+    requires first { holds notes.now.literals (opposite first.now.literal) ≡ true }
+    requires second { IfSome level.now (λ l. (holds notes.now.literals (opposite l) ≡ true) × (same_literal (opposite first.now.literal) (opposite l) ≡ false)) }
+    ensures held { clauses.new.clauses ≡ clauses.old.clauses ++ notes.now.literals ∷ [] }
+    ensures watched { IfSome level.now (λ l. IsHeldWatched clauses.old clauses.new (opposite first.now.literal) (opposite l)) }
+{
+    match level {
+        None => clauses.push(notes.literals()),
+        Some(l) => clauses.push_watched(
+            notes.literals(),
+            Watched {
+                first: first.literal.not(),
+                second: l.not(),
+            },
+        ),
+    }
 }

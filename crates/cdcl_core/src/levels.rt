@@ -1,10 +1,10 @@
 //! Levels of a trail: each begins with a decision. They are taken back whole.
 
-ghost use Rattle.std.specs.Prelude.{◌≡◌, ◌<◌, [], true, false, length, reverse, All};
+ghost use Rattle.std.specs.Prelude.{◌≡◌, ◌<◌, [], ◌∷◌, List, true, false, length, reverse, All, IsSome, IfSome, MatchOption};
 ghost use Rattle.dq_lits.specs.Literal.{variable_of};
-ghost use Rattle.cdcl_core.specs.Steps.{is_decision, decision_of, under_level};
+ghost use Rattle.cdcl_core.specs.Steps.{is_decision, decision_of, under_level, IsUnder};
 ghost use Rattle.cdcl_core.specs.Marks.{is_level_marked};
-ghost use Rattle.cdcl_core.specs.Lessons.{IsJump};
+ghost use Rattle.cdcl_core.specs.Lessons.{IsJump, IsMarkedInLevel};
 
 use crate::notes::Notes;
 use crate::trails::{Step, Trail};
@@ -44,29 +44,53 @@ pub(crate) fn last_decision(steps: &[Step]) -> Option<Lit>
     None
 }
 
-/// Takes back what is left of a step's level, and then levels until one has a marked literal, or none is left.
-pub(crate) fn jump(trail: &mut Trail, notes: &Notes, step: &Step)
+// The newest marked literal of the newest level; of all literals, where nothing was decided.
+fn marked_in_level(notes: &Notes, steps: &[Step]) -> Option<Lit>
+    requires { All (λ s. variable_of s.literal < length notes.now.marks) steps.now }
+    ensures { MatchOption result (is_level_marked notes.now.marks (reverse steps.now) ≡ false) (λ l. IsMarkedInLevel notes.now.marks (reverse steps.now) l) }
+{
+    let mut at = steps.len();
+    while at > 0 {
+        at -= 1;
+        let step = &steps[at];
+        if notes.has(step.literal) {
+            return Some(step.literal);
+        }
+        if step.reason.is_none() {
+            return None;
+        }
+    }
+    None
+}
+
+/// Takes back what is left of a step's level, and then levels until one has a marked literal, which it answers, or none is left.
+pub(crate) fn jump(trail: &mut Trail, notes: &Notes, step: &Step) -> Option<Lit>
     requires in_range { trail.old.room < length notes.now.marks }
     requires first { is_decision step.now ≡ false → is_level_marked notes.now.marks trail.old.steps ≡ false }
-    ensures { IsJump trail.old trail.new notes.now.marks }
+    requires decided { IsSome (decision_of (step.now ∷ trail.old.steps)) }
+    ensures jumped { IsJump trail.old trail.new notes.now.marks }
+    ensures under { IsUnder (step.now ∷ trail.old.steps) trail.new.steps }
+    ensures level { IfSome result (λ l. IsMarkedInLevel notes.now.marks trail.new.steps l) }
 {
     if step.reason.is_some() {
         back_over_level(trail);
     }
-    back_to_marked_level(trail, notes);
+    back_to_marked_level(trail, notes)
 }
 
 // Takes levels back until one has a marked literal, or none is left.
-fn back_to_marked_level(trail: &mut Trail, notes: &Notes)
+fn back_to_marked_level(trail: &mut Trail, notes: &Notes) -> Option<Lit>
     requires { trail.old.room < length notes.now.marks }
-    ensures { IsJump trail.old trail.new notes.now.marks }
+    ensures jumped { IsJump trail.old trail.new notes.now.marks }
+    ensures under { (steps : List Step) → IsUnder steps trail.old.steps → IsUnder steps trail.new.steps }
+    ensures level { IfSome result (λ l. IsMarkedInLevel notes.now.marks trail.new.steps l) }
 {
     'levels: loop {
-        if is_level_marked(notes, trail.steps()) {
-            return;
+        if let Some(l) = marked_in_level(notes, trail.steps()) {
+            return Some(l);
         }
         if last_decision(trail.steps()).is_none() {
-            return;
+            return None;
         }
         back_over_level(trail);
     }

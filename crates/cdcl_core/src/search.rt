@@ -13,14 +13,13 @@ ghost use Rattle.hint_log.specs.ProductiveLog.{IsClosed};
 ghost use Rattle.oracle.specs.Fit.{Fit, live_in};
 ghost use Rattle.cdcl_core.specs.Growing.{HasLearned};
 ghost use Rattle.cdcl_core.specs.Steps.{literals_of, IsFree};
-ghost use Rattle.cdcl_core.specs.Searching.{IsSearching, AreAssumptions, IsTurn, IsFound, KeepsPlaces};
+ghost use Rattle.cdcl_core.specs.Searching.{IsSearching, IsReady, IsAllGuarded, AreAssumptions, IsTurn, IsFound, KeepsPlaces};
 ghost use Rattle.cdcl_core.specs.Sound.{AreTrue};
 
 use crate::answers::{answer_conflict, answer_false};
 use crate::assumptions::{Next, free_decision, next_assumption};
-use crate::decisions::newest_open;
+use crate::decisions::open_clause;
 use crate::learning::learn;
-use crate::scans::propagate;
 use crate::searchers::Searcher;
 use crate::trails::Step;
 use dq_lits::{Lit, Memory};
@@ -30,6 +29,7 @@ use oracle::Answer as Found;
 /// Searches to the end.
 pub(crate) fn search(s: &mut Searcher, assumptions: &[Lit], log: &mut Log) -> Result<Found, Stop>
     requires searching { IsSearching assumptions.now s.old log.old }
+    requires ready { IsReady s.old }
     requires few { length s.old.trail.steps ≤ s.old.trail.room }
     requires assumptions { AreAssumptions log.old assumptions.now }
     ensures ok { IfOk result (λ found. IsFound assumptions.now s.new log.old log.new found) }
@@ -49,6 +49,7 @@ pub(crate) fn search(s: &mut Searcher, assumptions: &[Lit], log: &mut Log) -> Re
 // One conflict, or one decision.
 fn turn(s: &mut Searcher, assumptions: &[Lit], log: &mut Log) -> Result<Option<Found>, Stop>
     requires searching { IsSearching assumptions.now s.old log.old }
+    requires ready { IsReady s.old }
     requires few { length s.old.trail.steps ≤ s.old.trail.room }
     requires assumptions { AreAssumptions log.old assumptions.now }
     ensures ok { IfOk result (λ found. MatchOption found (IsTurn assumptions.now s.old s.new log.old log.new) (λ f. IsFound assumptions.now s.new log.old log.new f)) }
@@ -57,7 +58,7 @@ fn turn(s: &mut Searcher, assumptions: &[Lit], log: &mut Log) -> Result<Option<F
     ensures stop { OnErr result (HasLearned log.old log.new) }
     ensures limit { result ≡ Err Stop.Limit → steps_of log.new.entries ≡ log.new.limit }
 {
-    match propagate(&mut s.trail, &s.clauses) {
+    match s.clauses.propagate(&mut s.trail) {
         Some(id) => conflict(s, assumptions, id, log),
         None => {
             let found = go_on(s, assumptions, log)?;
@@ -101,6 +102,7 @@ fn go_on(s: &mut Searcher, assumptions: &[Lit], log: &mut Log) -> Result<Option<
     requires searching { IsSearching assumptions.now s.old log.old }
     requires few { length s.old.trail.steps ≤ s.old.trail.room }
     requires closed { IsClosed (live_in s.old.clauses.clauses) (literals_of s.old.trail.steps) }
+    requires guarded { IsAllGuarded s.old }
     requires assumptions { AreAssumptions log.old assumptions.now }
     ensures ok { IfOk result (λ found. MatchOption found (IsTurn assumptions.now s.old s.new log.old log.new) (λ f. IsFound assumptions.now s.new log.old log.new f)) }
     ensures fit { Fit s.new.clauses.clauses s.new.variables log.new.entries }
@@ -124,14 +126,16 @@ fn go_on(s: &mut Searcher, assumptions: &[Lit], log: &mut Log) -> Result<Option<
 fn settle(s: &mut Searcher, assumptions: &[Lit], log: &Log) -> Option<Found>
     requires searching { IsSearching assumptions.now s.old log.now }
     requires closed { IsClosed (live_in s.old.clauses.clauses) (literals_of s.old.trail.steps) }
+    requires guarded { IsAllGuarded s.old }
     requires assumed { AreTrue assumptions.now (literals_of s.old.trail.steps) }
     ensures ok { MatchOption result (IsTurn assumptions.now s.old s.new log.now log.now) (λ f. IsFound assumptions.now s.new log.now log.now f) }
     ensures fit { Fit s.new.clauses.clauses s.new.variables log.now.entries }
     ensures places { KeepsPlaces s.old s.new }
 {
-    match newest_open(&s.trail, &s.clauses, &s.activities) {
-        Some(l) => {
-            decide(s, assumptions, l, log);
+    match open_clause(&s.trail, &s.clauses, &s.activities, s.position) {
+        Some(open) => {
+            s.position = open.id;
+            decide(s, assumptions, open.literal, log);
             None
         }
         None => Some(Found::Sat),
@@ -141,11 +145,13 @@ fn settle(s: &mut Searcher, assumptions: &[Lit], log: &Log) -> Option<Found>
 fn decide(s: &mut Searcher, assumptions: &[Lit], l: Lit, log: &Log)
     requires searching { IsSearching assumptions.now s.old log.now }
     requires closed { IsClosed (live_in s.old.clauses.clauses) (literals_of s.old.trail.steps) }
+    requires guarded { IsAllGuarded s.old }
     requires free { IsFree (literals_of s.old.trail.steps) l }
     requires named { IsSome (name_of log.now.entries (variable_of l)) }
     requires chosen { (holds assumptions.now l ≡ true) ⊎ (AreTrue assumptions.now (literals_of s.old.trail.steps)
         × (is_selector log.now.entries (variable_of l) ≡ true → is_negative l ≡ true)) }
     ensures searching { IsSearching assumptions.now s.new log.now }
+    ensures ready { IsReady s.new }
     ensures longer { length s.new.trail.steps ≡ length s.old.trail.steps + 1 }
     ensures few { length s.new.trail.steps ≤ s.new.trail.room }
     ensures places { KeepsPlaces s.old s.new }

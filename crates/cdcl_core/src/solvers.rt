@@ -49,6 +49,7 @@ impl Cdcl {
                 notes: Notes::new(alloc),
                 activities: Activities::new(alloc),
                 restarts: Restarts::new(),
+                position: 0,
             },
             model: Vec::new(alloc),
             is_told: false,

@@ -1,7 +1,9 @@
-use Rattle.std.proofs.Common.{◌≡◌, ◌∷◌, sym, ap, ◌∙◌, arith, true}
+use Rattle.std.proofs.Common.{◌≡◌, ◌∷◌, sym, ap, ◌∙◌, subst, arith, true}
 use Rattle.dq_lits.specs.Literal.{variable_of, opposite}
 use Rattle.dq_lits.specs.Derivation.{holds}
 use Rattle.cdcl_core.specs.Steps.{literals_of}
+use Rattle.cdcl_core.specs.Watching.{AreLevelsGuarded}
+use Rattle.cdcl_core.proofs.Guarding.{levels_later}
 use Rattle.cdcl_core.proofs.Holding.{opposite-variable}
 use Rattle.cdcl_core.proofs.Turning.{back_sound, back_guided, back_assumed, back_implied, back_reasoned}
 use Rattle.cdcl_core.proofs.answers.answer_false.Goals as goal
@@ -21,6 +23,9 @@ answer_reason-requires-clause-searching c =
       guided = (back_guided c.args.log.now.entries s.clauses.clauses c.args.assumptions.now s.trail.steps new.steps step a r.sound r.guided c.back_to-step.ensures.shrunk still same c.requires.assumed).1;
       room = let k = r.room in let e = c.back_to-step.ensures.room in omega (arith, k, e);
       marks = let k = r.marks in let e = c.back_to-step.ensures.room in omega (arith, k, e);
+      levels =
+          let shrunk = c.back_to-step.ensures.shrunk in
+          (levels_later s.clauses.clauses s.clauses.first s.clauses.second shrunk.popped (step ∷ new.steps) (subst (AreLevelsGuarded s.clauses.clauses s.clauses.first s.clauses.second) shrunk.is r.levels)).1;
     }
 
 pub answer_reason-requires-clause-all_assumed : goal.answer_reason-requires-clause-all_assumed

@@ -1,9 +1,10 @@
-use Rattle.std.proofs.Common.{◌≡◌, ◌∷◌, ◌++◌, [], length, sym, ◌∙◌, subst, arith, List}
+use Rattle.std.proofs.Common.{◌≡◌, ◌∷◌, ◌++◌, [], length, sym, ◌∙◌, ap, subst, arith, List}
 use Rattle.dq_lits.specs.Literal.{Literal}
 use Rattle.hint_log.specs.Entries.{ProofLog}
 use Rattle.oracle.specs.Fit.{Fit, live_in}
 use Rattle.cdcl_core.specs.Sound.{IsSound, IsGuided}
-use Rattle.cdcl_core.proofs.Taught.{clauses_within, learn_named, learn_ids, learn_in_range, learn_free, learn_fit, learn_landed, learned_one}
+use Rattle.cdcl_core.proofs.Landing.{ready_after, watches_held, held_watched}
+use Rattle.cdcl_core.proofs.Taught.{learn_step, clauses_within, learn_named, learn_ids, learn_in_range, learn_free, learn_fit, learn_landed, learned_one}
 use Rattle.cdcl_core.proofs.learning.learn.Goals as goal
 
 pub analyse-first-requires-clause-within : goal.analyse-first-requires-clause-within
@@ -11,8 +12,8 @@ analyse-first-requires-clause-within c =
     let s = c.args.s.now in
     clauses_within s.clauses.clauses s.variables (length s.notes.marks) c.args.log.now.entries c.requires.searching.fit (omega (arith, c.requires.searching.room, c.requires.searching.marks))
 
-pub keep-requires-clause-named : goal.keep-requires-clause-named
-keep-requires-clause-named c =
+pub log_clause-requires-clause-named : goal.log_clause-requires-clause-named
+log_clause-requires-clause-named c =
     let s = c.args.s.now in
     let log = c.args.log.now in
     let mid = c.analyse-first.new.trail in
@@ -21,8 +22,8 @@ keep-requires-clause-named c =
     let lesson = c.analyse-first.ensures.lesson in
     learn_named c.args.assumptions.now s log mid step noted.marks noted.literals noted.hints c.args.decision c.requires.searching c.requires.decided c.requires.chosen lesson
 
-pub keep-requires-clause-hints : goal.keep-requires-clause-hints
-keep-requires-clause-hints c =
+pub log_clause-requires-clause-hints : goal.log_clause-requires-clause-hints
+log_clause-requires-clause-hints c =
     let s = c.args.s.now in
     let log = c.args.log.now in
     let mid = c.analyse-first.new.trail in
@@ -31,8 +32,8 @@ keep-requires-clause-hints c =
     let lesson = c.analyse-first.ensures.lesson in
     learn_ids c.args.assumptions.now s log mid step noted.marks noted.literals noted.hints c.args.decision c.requires.searching c.requires.decided c.requires.chosen lesson
 
-pub land-requires-clause-variable : goal.land-requires-clause-variable
-land-requires-clause-variable c =
+pub land-level-requires-clause-variable : goal.land-level-requires-clause-variable
+land-level-requires-clause-variable c =
     let s = c.args.s.now in
     let log = c.args.log.now in
     let mid = c.analyse-first.new.trail in
@@ -44,8 +45,8 @@ land-requires-clause-variable c =
     let q = lesson.room in
     omega (arith, low, room, q)
 
-pub land-requires-clause-free : goal.land-requires-clause-free
-land-requires-clause-free c =
+pub land-level-requires-clause-free : goal.land-level-requires-clause-free
+land-level-requires-clause-free c =
     let s = c.args.s.now in
     let log = c.args.log.now in
     let mid = c.analyse-first.new.trail in
@@ -62,7 +63,7 @@ returns-clause-fit c =
     let step = c.analyse-first.result in
     let noted = c.analyse-first.new.notes in
     let lesson = c.analyse-first.ensures.lesson in
-    subst (λ (cs : List (List Literal)). Fit cs s.variables c.keep.new.log.entries) (sym c.in_ok-id.ensures.held)
+    subst (λ (cs : List (List Literal)). Fit cs s.variables c.log_clause.new.log.entries) (sym (c.hold.ensures.held ∙ ap (λ cs. cs ++ noted.literals ∷ []) c.log_clause.ensures.clauses))
     (subst (λ (l : ProofLog). Fit (s.clauses.clauses ++ noted.literals ∷ []) s.variables l.entries) (sym c.in_ok-id.ensures.ok)
     (learn_fit c.args.assumptions.now s log mid step noted.marks noted.literals noted.hints c.args.decision c.requires.searching c.requires.decided c.requires.chosen lesson))
 
@@ -74,7 +75,7 @@ returns-clause-learned c =
     let step = c.analyse-first.result in
     let noted = c.analyse-first.new.notes in
     let lesson = c.analyse-first.ensures.lesson in
-    learned_one log c.keep.new.log noted.literals noted.hints c.in_ok-id.ensures.ok
+    learned_one log c.log_clause.new.log noted.literals noted.hints c.in_ok-id.ensures.ok
 
 pub returns-clause-ok : goal.returns-clause-ok
 returns-clause-ok c =
@@ -84,19 +85,37 @@ returns-clause-ok c =
     let step = c.analyse-first.result in
     let noted = c.analyse-first.new.notes in
     let lesson = c.analyse-first.ensures.lesson in
-    let back = c.land.new.trail in
-    let landed = learn_landed c.args.assumptions.now s log mid step noted.marks noted.literals noted.hints c.args.decision c.requires.searching c.requires.decided c.requires.chosen lesson back c.in_ok-id.id c.in_ok-id.ensures.id c.land.ensures.landed in
+    let back = c.land-level.new.trail in
+    let landed = learn_landed c.args.assumptions.now s log mid step noted.marks noted.literals noted.hints c.args.decision c.requires.searching c.requires.decided c.requires.chosen lesson back c.in_ok-id.id c.in_ok-id.ensures.id c.land-level.ensures.landed in
     let room : back.room ≡ s.trail.room = landed.room ∙ lesson.room in
+    let sound_step = learn_step c.args.assumptions.now s log mid step noted.marks noted.literals noted.hints c.args.decision c.requires.searching c.requires.decided c.requires.chosen lesson in
+    let ready = ready_after s.clauses (live_in s.clauses.clauses) s.trail.steps mid step lesson.shrunk sound_step c.requires.searching.levels noted.marks c.in_ok-id.id back c.hold.new.clauses noted.literals c.land-level.result
+    c.land-level.ensures.level (c.hold.ensures.held ∙ ap (λ cs. cs ++ noted.literals ∷ []) c.log_clause.ensures.clauses)
+    (held_watched c.land-level.result s.clauses c.log_clause.new.clauses c.hold.new.clauses step c.log_clause.ensures.clauses c.log_clause.ensures.first c.log_clause.ensures.second c.hold.ensures.watched) in
     record {
+      ready = ready.top;
       searching = record {
-        fit = subst (λ (cs : List (List Literal)). Fit cs s.variables c.keep.new.log.entries) (sym c.in_ok-id.ensures.held)
+        fit = subst (λ (cs : List (List Literal)). Fit cs s.variables c.log_clause.new.log.entries) (sym (c.hold.ensures.held ∙ ap (λ cs. cs ++ noted.literals ∷ []) c.log_clause.ensures.clauses))
             (subst (λ (l : ProofLog). Fit (s.clauses.clauses ++ noted.literals ∷ []) s.variables l.entries) (sym c.in_ok-id.ensures.ok)
             (learn_fit c.args.assumptions.now s log mid step noted.marks noted.literals noted.hints c.args.decision c.requires.searching c.requires.decided c.requires.chosen lesson));
-        sound = subst (λ (cs : List (List Literal)). IsSound (live_in cs) back.steps) (sym c.in_ok-id.ensures.held) landed.sound;
+        sound = subst (λ (cs : List (List Literal)). IsSound (live_in cs) back.steps) (sym (c.hold.ensures.held ∙ ap (λ cs. cs ++ noted.literals ∷ []) c.log_clause.ensures.clauses)) landed.sound;
         guided = subst (λ (l : ProofLog). IsGuided l.entries c.args.assumptions.now back.steps) (sym c.in_ok-id.ensures.ok) landed.guided;
         room = let r = c.requires.searching.room in omega (arith, r, room);
         marks = let m = c.requires.searching.marks in omega (arith, m, room, c.analyse-first.ensures.len);
+        levels = ready.levels;
       };
-      learned = learned_one log c.keep.new.log noted.literals noted.hints c.in_ok-id.ensures.ok;
+      learned = learned_one log c.log_clause.new.log noted.literals noted.hints c.in_ok-id.ensures.ok;
       room = room;
     }
+
+pub hold-requires-clause-second : goal.hold-requires-clause-second
+hold-requires-clause-second c =
+    let s = c.args.s.now in
+    let log = c.args.log.now in
+    let mid = c.analyse-first.new.trail in
+    let step = c.analyse-first.result in
+    let noted = c.analyse-first.new.notes in
+    let lesson = c.analyse-first.ensures.lesson in
+    let sound_step = learn_step c.args.assumptions.now s log mid step noted.marks noted.literals noted.hints c.args.decision c.requires.searching c.requires.decided c.requires.chosen lesson in
+    watches_held s.clauses (live_in s.clauses.clauses) s.trail.steps mid step lesson.shrunk sound_step c.requires.searching.levels noted.marks c.in_ok-id.id c.land-level.new.trail noted.literals
+    c.land-level.result c.land-level.ensures.level lesson.has_rest

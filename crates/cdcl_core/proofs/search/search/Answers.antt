@@ -25,6 +25,7 @@ turns-preserved c =
     let inv = c.turns.invariant in
     record {
       searching = turned.searching;
+      ready = turned.ready;
       few = turned.few;
       learned = learned_both c.args.log.now c.turns.log c.turn.new.log inv.learned turned.learned;
       places = record {

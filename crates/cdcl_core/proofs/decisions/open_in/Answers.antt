@@ -1,0 +1,31 @@
+use Rattle.std.proofs.Common.{inl, inr}
+use Rattle.dq_lits.specs.Derivation.{holds}
+use Rattle.cdcl_core.specs.Steps.{literals_of}
+use Rattle.cdcl_core.proofs.Holding.{any_one}
+use Rattle.cdcl_core.proofs.Passing.{live_within, literal_within, opening_in}
+use Rattle.cdcl_core.proofs.Visiting.{some_clause}
+use Rattle.cdcl_core.proofs.decisions.open_in.Goals as goal
+
+pub is_watch_true-requires : goal.is_watch_true-requires
+is_watch_true-requires c = λ apart.
+    let room = c.args.trail.now.room in
+    let some = some_clause c.args.clauses.now.clauses c.args.id c.requires.from_one c.requires.is_id in
+    let within = live_within c.args.clauses.now.clauses room c.args.id some.0 some.1 c.requires.in_range in
+    let two = (c.watched.ensures some.0 some.1).two apart in
+    (literal_within room some.0 c.watched.result.first within two.0, literal_within room some.0 c.watched.result.second within two.1)
+
+pub returns-then-is_watch_true : goal.returns-then-is_watch_true
+returns-then-is_watch_true c = λ d at.
+    let h = c.is_watch_true.ensures c.if-is_watch_true.true in
+    let two = (c.watched.ensures d at).two h.0 in
+    elim h.1 [
+      | inl on ↦ any_one (holds (literals_of c.args.trail.now.steps)) d c.watched.result.first two.0 on
+      | inr on ↦ any_one (holds (literals_of c.args.trail.now.steps)) d c.watched.result.second two.1 on
+    ]
+
+pub open_literal-requires-clause-in_range : goal.open_literal-requires-clause-in_range
+open_literal-requires-clause-in_range c = live_within c.args.clauses.now.clauses c.args.trail.now.room c.args.id c.lits.result.now c.lits.ensures c.requires.in_range
+
+pub returns : goal.returns
+returns c =
+    opening_in c.args.clauses.now.clauses (literals_of c.args.trail.now.steps) c.lits.result.now c.args.id c.open_literal.result c.lits.ensures c.open_literal.ensures

@@ -1,0 +1,63 @@
+-- Lists of clauses, linked: where each list begins, and what stands behind each clause. An id is from 1 on, and 0 ends a list.
+use Rattle.std.specs.Prelude.{◌≡◌, ℕ, ◌+◌, ◌-◌, ◌*◌, ◌≤◌, ◌==◌, Bool, true, false, List, [], ◌∷◌, length, slice_index_or, if◌then◌else◌, ◌⊎◌}
+use Rattle.std.specs.List.{list_any}
+use Rattle.dq_lits.specs.Literal.{Literal, positive, variable_of, is_negative}
+use Rattle.cdcl_core.specs.declared.watches.Watches.{Watches}
+
+-- the literal at a place
+abbrev pub watch_at : List Literal → ℕ → Literal
+watch_at literals i = slice_index_or literals i (positive 0)
+
+-- the place of a literal's list
+abbrev pub place_of : Literal → ℕ
+place_of l = variable_of l * 2 + (if is_negative l then 1 else 0)
+
+abbrev pub has : List ℕ → ℕ → Bool
+has ids id = list_any (λ x. id == x) ids
+
+abbrev pub IsChain : List ℕ → ℕ → List ℕ → Type 0
+IsChain nexts start [] = start ≡ 0
+IsChain nexts start (id ∷ rest) = (start ≡ id) × (1 ≤ id) × (id ≤ length nexts) × IsChain nexts (slice_index_or nexts (id - 1) 0) rest
+
+-- none stands twice
+abbrev pub AreOnce : List ℕ → Type 0
+AreOnce [] = Unit {0}
+AreOnce (id ∷ rest) = (has rest id ≡ false) × AreOnce rest
+
+-- each clause is on the list of its literal, or else among those that a visit has left, which are a list of their own
+pub record AreLinked (heads nexts : List ℕ) (literals : List Literal) (left : ℕ) (rest : List ℕ) : Type 0 where
+  pub count : length literals ≡ length nexts
+  pub lists : ℕ → List ℕ
+  pub chains : (p : ℕ) → IsChain nexts (slice_index_or heads p 0) (lists p)
+  pub once : (p : ℕ) → AreOnce (lists p)
+  pub on_list : (p id : ℕ) → has (lists p) id ≡ true → place_of (watch_at literals (id - 1)) ≡ p
+  pub rest_chain : IsChain nexts left rest
+  pub rest_once : AreOnce rest
+  pub rest_apart : (p id : ℕ) → has (lists p) id ≡ true → has rest id ≡ false
+  pub whole : (id : ℕ) → 1 ≤ id → id ≤ length nexts → (has (lists (place_of (watch_at literals (id - 1)))) id ≡ true) ⊎ (has rest id ≡ true)
+
+abbrev pub IsLinked : Watches → ℕ → List ℕ → Type 0
+IsLinked w left rest = AreLinked w.heads.items w.nexts.items w.literals.items left rest
+
+-- a literal has a list
+abbrev pub HasList : Watches → Literal → Type 0
+HasList w l = (place_of l + 1) ≤ length w.heads.items
+
+-- the clauses of a literal's list are left to visit
+pub record IsTaken (w : Watches) (l : Literal) (left : ℕ) : Type 0 where
+  pub rest : List ℕ
+  pub linked : IsLinked w left rest
+  pub watched : (id : ℕ) → has rest id ≡ true → watch_at w.literals.items (id - 1) ≡ l
+  pub whole : (id : ℕ) → 1 ≤ id → id ≤ length w.nexts.items → watch_at w.literals.items (id - 1) ≡ l → has rest id ≡ true
+  pub list : (left ≡ 0) ⊎ HasList w l
+
+-- clauses that are watched at a literal are left to visit, from this one on
+pub record IsLeft (w : Watches) (at : ℕ) (l : Literal) : Type 0 where
+  pub rest : List ℕ
+  pub linked : IsLinked w at rest
+  pub watched : (id : ℕ) → has rest id ≡ true → watch_at w.literals.items (id - 1) ≡ l
+
+-- empty lists were added
+pub record AddsLists (old new : List ℕ) : Type 0 where
+  pub more : length old ≤ length new
+  pub same : (p : ℕ) → slice_index_or new p 0 ≡ slice_index_or old p 0

@@ -1,0 +1,120 @@
+//! The arena: the literals of all clauses stand end to end in one list.
+
+ghost use Rattle.std.specs.Prelude.{◌≡◌, ◌≤◌, ◌<◌, ◌+◌, ◌++◌, ◌∷◌, [], List, true, length, OnOk, Some, slice_get, vec_capacity};
+ghost use Rattle.dq_lits.specs.Literal.{Literal};
+ghost use Rattle.oracle.specs.Fit.{live_in};
+ghost use Rattle.cdcl_core.specs.Pieces.{pieces, AreEnds, start_of};
+
+use dq_lits::{Lit, Memory};
+use std::alloc::Global;
+use std::marker::Model;
+
+/// Clauses in order of time, by their ids from 1 on.
+#[derive(Debug, Drop)]
+pub(crate) struct Arena {
+    // The literals of all clauses, in order.
+    literals: Vec<Lit>,
+    // Where the literals of each clause end.
+    ends: Vec<usize>,
+    // How many literals one clause more may have; there is no room for a clause where it is 0.
+    spare: usize,
+}
+
+impl Model for Arena {
+    ghost use Rattle.cdcl_core.specs.ArenaInside.{Arranged, arranged_in, IsArranged};
+
+    ghost Value = { Arranged };
+
+    ghost view = { arranged_in };
+
+    ghost invariant = { IsArranged };
+}
+
+impl Arena {
+    /// No clauses. It takes no memory.
+    pub(crate) fn new(alloc: Global) -> Arena
+        ensures { result.clauses ≡ [] }
+    {
+        Arena {
+            literals: Vec::new(alloc),
+            ends: Vec::new(alloc),
+            spare: 0,
+        }
+    }
+
+    /// How many clauses there are.
+    pub(crate) fn len(&self) -> u64
+        ensures { result ≡ length self.now.clauses }
+    {
+        self.ends.len() as u64
+    }
+
+    /// The literals of the clause with an id.
+    pub(crate) fn lits(&self, id: u64) -> &[Lit]
+        requires from_one { 1 ≤ id }
+        requires is_id { id ≤ length self.now.clauses }
+        ensures { live_in self.now.clauses id ≡ Some result.now }
+    {
+        piece(&self.literals, &self.ends, id as usize - 1)
+    }
+
+    /// Makes room for a clause of these literals.
+    pub(crate) fn reserve(&mut self, lits: &[Lit]) -> Result<(), Memory>
+        ensures clauses { self.new.clauses ≡ self.old.clauses }
+        ensures spare { OnOk result (length lits.now < self.new.spare) }
+    {
+        self.spare = 0;
+        self.literals.reserve(lits.len())?;
+        self.ends.reserve(1)?;
+        self.spare = lits.len() + 1;
+        Ok(())
+    }
+
+    /// Adds a clause that there is room for.
+    pub(crate) fn push(&mut self, lits: &[Lit])
+        requires { length lits.now < self.old.spare }
+        ensures { self.new.clauses ≡ self.old.clauses ++ lits.now ∷ [] }
+    {
+        self.spare = 0;
+        append(&mut self.literals, lits);
+        put_end(&mut self.ends, self.literals.len());
+    }
+}
+
+// The piece at a place.
+fn piece<'a>(literals: &'a [Lit], ends: &[usize], at: usize) -> &'a [Lit]
+    requires ends { AreEnds 0 ends.now (length literals.now) }
+    requires at { at < length ends.now }
+    ensures { slice_get (pieces literals.now 0 ends.now) at ≡ Some result.now }
+{
+    let start = start_of(ends, at);
+    &literals[start..ends[at]]
+}
+
+// Where the piece at a place begins.
+fn start_of(ends: &[usize], at: usize) -> usize
+    requires { at < length ends.now }
+    ensures { result ≡ start_of 0 ends.now at }
+{
+    if at == 0 { 0 } else { ends[at - 1] }
+}
+
+fn append(literals: &mut Vec<Lit>, lits: &[Lit])
+    requires { length literals.old.items + length lits.now ≤ vec_capacity literals.old }
+    ensures { literals.new.items ≡ literals.old.items ++ lits.now }
+{
+    for l in lits {
+        if literals.push(*l).is_err() {
+            unreachable!();
+        }
+    }
+}
+
+fn put_end(ends: &mut Vec<usize>, end: usize)
+    requires { length ends.old.items < vec_capacity ends.old }
+    ensures { ends.new.items ≡ ends.old.items ++ end ∷ [] }
+{
+    if ends.push(end).is_err() {
+        unreachable!();
+    }
+}

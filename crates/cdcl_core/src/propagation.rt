@@ -1,0 +1,279 @@
+//! Propagation, by watched literals.
+//!
+//! The clauses that are watched at the negation of a true literal are visited once that literal was made true. Where the other watched
+//! literal is true, a clause stays as it is. Else it is watched at another literal that isn't false; and where there is none, it makes
+//! the other watched literal true, or it is falsified. So where a watched literal is false and was processed, the other one is true; and
+//! it was true at the end of the same level, so that going back over levels leaves all watches as they are.
+
+ghost use Rattle.std.specs.Prelude.{◌≡◌, ◌≤◌, ◌-◌, [], ℕ, List, true, length, All, MatchOption, Some, Contains};
+ghost use Rattle.std.specs.List.{list_any};
+ghost use Rattle.dq_lits.specs.Literal.{Literal, variable_of, opposite};
+ghost use Rattle.dq_lits.specs.Derivation.{holds, status_of, falsified};
+ghost use Rattle.oracle.specs.Fit.{live_in};
+ghost use Rattle.cdcl_core.specs.Steps.{literals_of, Grown};
+ghost use Rattle.cdcl_core.specs.Sound.{IsSound};
+ghost use Rattle.cdcl_core.specs.Passes.{AreWithin};
+ghost use Rattle.cdcl_core.specs.Chains.{watch_at, IsLinked, HasList, IsTaken, IsLeft};
+ghost use Rattle.cdcl_core.specs.Watching.{AreShort, IsReady, AreSame};
+ghost use Rattle.cdcl_core.specs.Visits.{IsVisitable, IsLooked, IsOther, AreOthersFalse, IsVisited, IsListVisited, AreVisited, IsTrailVisited, IsProcessed};
+
+use crate::arenas::Arena;
+use crate::statuses::{Status, is_true, status_of};
+use crate::trails::{Step, Trail, TruthValue};
+use crate::watches::{Watches, put_back, put_elsewhere, take};
+use dq_lits::Lit;
+
+/// Propagates to the end, or to a falsified clause, whose id it answers. All literals but the newest one were processed.
+pub(crate) fn propagate(
+    trail: &mut Trail,
+    arena: &Arena,
+    first: &mut Watches,
+    second: &mut Watches,
+    short: &[u64],
+) -> Option<u64>
+    requires visitable { IsVisitable arena.now.clauses trail.old first.old second.old }
+    requires linked { IsLinked first.old 0 [] }
+    requires second_linked { IsLinked second.old 0 [] }
+    requires short { AreShort arena.now.clauses first.old.literals.items second.old.literals.items short.now }
+    requires ready { IsReady arena.now.clauses first.old.literals.items second.old.literals.items trail.old.steps }
+    ensures { IsTrailVisited arena.now.clauses trail.old trail.new first.old first.new second.old second.new result }
+{
+    let done = trail.len();
+    if done == 0 {
+        if let Some(id) = pass_short(trail, arena, short) {
+            return Some(id);
+        }
+        return visit_from(trail, arena, first, second, 0);
+    }
+    visit_from(trail, arena, first, second, done - 1)
+}
+
+// Makes the literals of short clauses true.
+fn pass_short(trail: &mut Trail, arena: &Arena, short: &[u64]) -> Option<u64>
+    requires in_range { AreWithin trail.old.room arena.now.clauses }
+    requires sound { IsSound (live_in arena.now.clauses) trail.old.steps }
+    requires few { length trail.old.steps ≤ trail.old.room }
+    requires ids { (id : ℕ) → Contains short.now id → (1 ≤ id) × (id ≤ length arena.now.clauses) }
+    ensures room { trail.new.room ≡ trail.old.room }
+    ensures sound { IsSound (live_in arena.now.clauses) trail.new.steps }
+    ensures grown { Grown trail.old.steps trail.new.steps }
+    ensures few { length trail.new.steps ≤ trail.new.room }
+    ensures passed { MatchOption result
+        ((id : ℕ) (c : List Literal) → Contains short.now id → live_in arena.now.clauses id ≡ Some c → AreSame c → list_any (holds (literals_of trail.new.steps)) c ≡ true)
+        (λ id. status_of (literals_of trail.new.steps) (live_in arena.now.clauses id) ≡ falsified) }
+{
+    for id in short {
+        match status_of(trail, arena.lits(*id)) {
+            Status::Falsified => return Some(*id),
+            Status::Unit(l) => trail.push(Step {
+                literal: l,
+                reason: Some(*id),
+            }),
+            Status::Stuck => {}
+        }
+    }
+    None
+}
+
+// Visits the clauses that are watched at the negation of a true literal, from a place of the trail on.
+fn visit_from(
+    trail: &mut Trail,
+    arena: &Arena,
+    first: &mut Watches,
+    second: &mut Watches,
+    from: usize,
+) -> Option<u64>
+    requires visitable { IsVisitable arena.now.clauses trail.old first.old second.old }
+    requires linked { IsLinked first.old 0 [] }
+    requires second_linked { IsLinked second.old 0 [] }
+    requires processed { IsProcessed arena.now.clauses first.old.literals.items second.old.literals.items trail.old.steps from }
+    ensures { IsTrailVisited arena.now.clauses trail.old trail.new first.old first.new second.old second.new result }
+{
+    for at in from..trail.room() {
+        match trail.literal_at(at) {
+            None => return None,
+            Some(l) => {
+                if let Some(id) = visit_both(trail, arena, first, second, l.not()) {
+                    return Some(id);
+                }
+            }
+        }
+    }
+    None
+}
+
+// Visits the clauses that are watched at a false literal.
+fn visit_both(
+    trail: &mut Trail,
+    arena: &Arena,
+    first: &mut Watches,
+    second: &mut Watches,
+    l: Lit,
+) -> Option<u64>
+    requires visitable { IsVisitable arena.now.clauses trail.old first.old second.old }
+    requires linked { IsLinked first.old 0 [] }
+    requires second_linked { IsLinked second.old 0 [] }
+    requires in_range { variable_of l ≤ trail.old.room }
+    requires false_now { holds (literals_of trail.old.steps) (opposite l) ≡ true }
+    ensures { AreVisited arena.now.clauses trail.old trail.new first.old first.new second.old second.new l result }
+{
+    if let Some(id) = visit_list(trail, arena, first, second, l) {
+        return Some(id);
+    }
+    visit_list(trail, arena, second, first, l)
+}
+
+// Visits the clauses on a false literal's list.
+fn visit_list(
+    trail: &mut Trail,
+    arena: &Arena,
+    these: &mut Watches,
+    others: &Watches,
+    l: Lit,
+) -> Option<u64>
+    requires visitable { IsVisitable arena.now.clauses trail.old these.old others.now }
+    requires linked { IsLinked these.old 0 [] }
+    requires in_range { variable_of l ≤ trail.old.room }
+    requires false_now { holds (literals_of trail.old.steps) (opposite l) ≡ true }
+    ensures { IsListVisited arena.now.clauses trail.old trail.new these.old these.new others.now l result }
+{
+    let mut at = take_oldest_first(these, l);
+    for _ in 0..these.nexts.len() {
+        if at == 0 {
+            return None;
+        }
+        match visit(trail, arena, these, others, l, at) {
+            Some(next) => at = next,
+            None => {
+                put_all_back(these, at, l);
+                return Some(at);
+            }
+        }
+    }
+    None
+}
+
+// Takes a literal's list away in the order in which its clauses came, and gives its first clause: lists begin with what was put on them last.
+// So what propagates, and with it each derivation, doesn't depend on how often a list was visited.
+fn take_oldest_first(these: &mut Watches, l: Lit) -> u64
+    requires { IsLinked these.old 0 [] }
+    ensures taken { IsTaken these.new l result }
+    ensures literals { these.new.literals.items ≡ these.old.literals.items }
+    ensures lists { length these.new.heads.items ≡ length these.old.heads.items }
+{
+    let newest = take(these, l);
+    if newest == 0 {
+        return 0;
+    }
+    put_all_back(these, newest, l);
+    take(these, l)
+}
+
+// Puts the clauses that are left to visit back on their literal's list.
+fn put_all_back(these: &mut Watches, first: u64, l: Lit)
+    requires left { IsLeft these.old first l }
+    requires list { HasList these.old l }
+    ensures linked { IsLinked these.new 0 [] }
+    ensures literals { these.new.literals.items ≡ these.old.literals.items }
+    ensures lists { length these.new.heads.items ≡ length these.old.heads.items }
+{
+    let mut at = first;
+    for _ in 0..these.nexts.len() {
+        if at == 0 {
+            return;
+        }
+        at = put_back(these, at, l);
+    }
+}
+
+/// What a look at a clause comes to that is watched at a false literal.
+#[derive(Clone, Copy)]
+pub(crate) enum Look {
+    /// The other watched literal is true.
+    Kept,
+    /// Another literal isn't false.
+    Moved(Lit),
+    /// All are false.
+    Falsified,
+}
+
+// Looks at a clause that is watched at a false literal, and puts it on a list; gives the next one, or none where it is falsified.
+fn visit(
+    trail: &mut Trail,
+    arena: &Arena,
+    these: &mut Watches,
+    others: &Watches,
+    l: Lit,
+    id: u64,
+) -> Option<u64>
+    requires visitable { IsVisitable arena.now.clauses trail.old these.old others.now }
+    requires from_one { 1 ≤ id }
+    requires is_id { id ≤ length arena.now.clauses }
+    requires nexts { length these.old.nexts.items ≡ length arena.now.clauses }
+    requires list { HasList these.old l }
+    requires in_range { variable_of l ≤ trail.old.room }
+    requires watched { watch_at these.old.literals.items (id - 1) ≡ l }
+    requires false_now { holds (literals_of trail.old.steps) (opposite l) ≡ true }
+    ensures { IsVisited arena.now.clauses trail.old trail.new these.old these.new others.now l id result }
+{
+    let other = others.literals[id as usize - 1];
+    if is_true(trail, other) {
+        return Some(put_back(these, id, l));
+    }
+    match look_at(trail, arena.lits(id), other, id) {
+        Look::Kept => Some(put_back(these, id, l)),
+        Look::Moved(k) => Some(put_elsewhere(these, id, k)),
+        Look::Falsified => None,
+    }
+}
+
+// Looks at a clause, beside its other watched literal, which it makes true where all others are false.
+fn look_at(trail: &mut Trail, lits: &[Lit], other: Lit, id: u64) -> Look
+    requires in_range { All (λ l. variable_of l ≤ trail.old.room) lits.now }
+    requires other_in_range { variable_of other ≤ trail.old.room }
+    requires few { length trail.old.steps ≤ trail.old.room }
+    ensures few { length trail.new.steps ≤ trail.new.room }
+    ensures looked { IsLooked lits.now id trail.old trail.new other result }
+{
+    match trail.value(other) {
+        TruthValue::True => Look::Kept,
+        TruthValue::False => match other_literal(trail, lits, other) {
+            Some(k) => Look::Moved(k),
+            None => Look::Falsified,
+        },
+        TruthValue::Unassigned => match other_literal(trail, lits, other) {
+            Some(k) => Look::Moved(k),
+            None => {
+                trail.push(Step {
+                    literal: other,
+                    reason: Some(id),
+                });
+                Look::Kept
+            }
+        },
+    }
+}
+
+// A literal that isn't false, beside the other watched literal.
+fn other_literal(trail: &Trail, lits: &[Lit], other: Lit) -> Option<Lit>
+    requires { All (λ l. variable_of l ≤ trail.now.room) lits.now }
+    ensures { MatchOption result (AreOthersFalse (literals_of trail.now.steps) lits.now other) (λ k. IsOther (literals_of trail.now.steps) lits.now other k) }
+{
+    for l in lits {
+        if *l != other && !is_false(trail, *l) {
+            return Some(*l);
+        }
+    }
+    None
+}
+
+fn is_false(trail: &Trail, l: Lit) -> bool
+    requires { variable_of l ≤ trail.now.room }
+    ensures { result ≡ holds (literals_of trail.now.steps) (opposite l) }
+{
+    match trail.value(l) {
+        TruthValue::True => false,
+        TruthValue::False => true,
+        TruthValue::Unassigned => false,
+    }
+}

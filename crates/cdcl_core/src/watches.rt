@@ -1,0 +1,151 @@
+//! Lists of clauses by a literal that they are watched at, linked: to put a clause on another list takes no memory.
+//!
+//! A visit takes a whole list away, and puts its clauses back one by one, on the same list or on others.
+
+ghost use Rattle.std.specs.Prelude.{◌≡◌, ◌≤◌, ◌<◌, ◌+◌, ◌*◌, ◌-◌, ◌++◌, ◌∷◌, [], ℕ, List, true, length, set, All, OnOk, vec_capacity};
+ghost use Rattle.dq_lits.specs.Literal.{positive};
+ghost use Rattle.cdcl_core.specs.Chains.{watch_at, place_of, has, IsLinked, HasList, IsTaken, AddsLists};
+
+use dq_lits::{Lit, Memory};
+use std::alloc::Global;
+
+/// One of the two literals that each clause is watched at.
+#[derive(Debug, Drop)]
+pub(crate) struct Watches {
+    /// The id of the first clause on each literal's list; 0, where there is none.
+    pub(crate) heads: Vec<u64>,
+    /// The literal of the clause with id i at place i - 1.
+    pub(crate) literals: Vec<Lit>,
+    /// The id of the clause behind it on its list; 0, where there is none.
+    pub(crate) nexts: Vec<u64>,
+}
+
+/// No clauses. It takes no memory.
+pub(crate) fn no_watches(alloc: Global) -> Watches
+    ensures linked { IsLinked result 0 [] }
+    ensures literals { result.literals.items ≡ [] }
+{
+    Watches {
+        heads: Vec::new(alloc),
+        literals: Vec::new(alloc),
+        nexts: Vec::new(alloc),
+    }
+}
+
+/// Makes room for one clause more, of these literals, or of the first variable.
+pub(crate) fn make_room(watches: &mut Watches, lits: &[Lit]) -> Result<(), Memory>
+    requires { IsLinked watches.old 0 [] }
+    ensures linked { IsLinked watches.new 0 [] }
+    ensures more { length watches.old.heads.items ≤ length watches.new.heads.items }
+    ensures literals { watches.new.literals.items ≡ watches.old.literals.items }
+    ensures some { OnOk result (HasList watches.new (positive 1)) }
+    ensures lists { OnOk result (All (λ l. HasList watches.new l) lits.now) }
+    ensures room { OnOk result (length watches.new.literals.items < vec_capacity watches.new.literals) }
+    ensures nexts_room { OnOk result (length watches.new.nexts.items < vec_capacity watches.new.nexts) }
+{
+    extend(&mut watches.heads, 3)?;
+    add_lists(&mut watches.heads, lits)?;
+    watches.literals.reserve(1)?;
+    watches.nexts.reserve(1)?;
+    Ok(())
+}
+
+// Lists for the literals' variables, and for all smaller ones.
+fn add_lists(heads: &mut Vec<u64>, lits: &[Lit]) -> Result<(), Memory>
+    ensures added { AddsLists heads.old.items heads.new.items }
+    ensures lists { OnOk result (All (λ l. place_of l + 1 ≤ length heads.new.items) lits.now) }
+{
+    for l in lits {
+        extend(heads, l.var() as usize * 2 + 2)?;
+    }
+    Ok(())
+}
+
+fn extend(heads: &mut Vec<u64>, wanted: usize) -> Result<(), Memory>
+    ensures added { AddsLists heads.old.items heads.new.items }
+    ensures lists { OnOk result (wanted ≤ length heads.new.items) }
+{
+    while heads.len() < wanted {
+        heads.push(0)?;
+    }
+    Ok(())
+}
+
+/// One clause more, watched at a literal.
+pub(crate) fn add_watch(watches: &mut Watches, l: Lit)
+    requires linked { IsLinked watches.old 0 [] }
+    requires list { HasList watches.old l }
+    requires room { length watches.old.literals.items < vec_capacity watches.old.literals }
+    requires nexts_room { length watches.old.nexts.items < vec_capacity watches.old.nexts }
+    ensures linked { IsLinked watches.new 0 [] }
+    ensures literals { watches.new.literals.items ≡ watches.old.literals.items ++ l ∷ [] }
+    ensures lists { length watches.new.heads.items ≡ length watches.old.heads.items }
+{
+    let place = place_of(l);
+    let next = watches.heads[place];
+    if watches.literals.push(l).is_err() {
+        unreachable!();
+    }
+    if watches.nexts.push(next).is_err() {
+        unreachable!();
+    }
+    watches.heads[place] = watches.nexts.len() as u64;
+}
+
+/// Takes a literal's list away, and gives its first clause.
+pub(crate) fn take(watches: &mut Watches, l: Lit) -> u64
+    requires { IsLinked watches.old 0 [] }
+    ensures taken { IsTaken watches.new l result }
+    ensures literals { watches.new.literals.items ≡ watches.old.literals.items }
+    ensures lists { length watches.new.heads.items ≡ length watches.old.heads.items }
+{
+    let place = place_of(l);
+    if place >= watches.heads.len() {
+        return 0;
+    }
+    let first = watches.heads[place];
+    watches.heads[place] = 0;
+    first
+}
+
+/// Puts the first of the clauses that are left to visit back on its literal's list, and gives the next one.
+pub(crate) fn put_back(watches: &mut Watches, id: u64, l: Lit) -> u64
+    requires from_one { 1 ≤ id }
+    requires is_id { id ≤ length watches.old.nexts.items }
+    requires list { HasList watches.old l }
+    requires watched { watch_at watches.old.literals.items (id - 1) ≡ l }
+    ensures linked { (rest : List ℕ) → IsLinked watches.old id (id ∷ rest) → IsLinked watches.new result rest }
+    ensures literals { watches.new.literals.items ≡ watches.old.literals.items }
+    ensures lists { length watches.new.heads.items ≡ length watches.old.heads.items }
+    ensures len { length watches.new.nexts.items ≡ length watches.old.nexts.items }
+{
+    let at = id as usize - 1;
+    let place = place_of(l);
+    let next = watches.nexts[at];
+    watches.nexts[at] = watches.heads[place];
+    watches.heads[place] = id;
+    next
+}
+
+/// Puts the first of the clauses that are left to visit on another literal's list, and gives the next one.
+pub(crate) fn put_elsewhere(watches: &mut Watches, id: u64, l: Lit) -> u64
+    requires from_one { 1 ≤ id }
+    requires is_id { id ≤ length watches.old.nexts.items }
+    requires list { HasList watches.old l }
+    requires count { length watches.old.literals.items ≡ length watches.old.nexts.items }
+    ensures linked { (rest : List ℕ) → IsLinked watches.old id (id ∷ rest) → IsLinked watches.new result rest }
+    ensures literals { watches.new.literals.items ≡ set watches.old.literals.items (id - 1) l }
+    ensures lists { length watches.new.heads.items ≡ length watches.old.heads.items }
+    ensures len { length watches.new.nexts.items ≡ length watches.old.nexts.items }
+{
+    watches.literals[id as usize - 1] = l;
+    put_back(watches, id, l)
+}
+
+// The place of a literal's list.
+fn place_of(l: Lit) -> usize
+    ensures { result ≡ place_of l }
+{
+    let place = l.var() as usize * 2;
+    if l.is_neg() { place + 1 } else { place }
+}

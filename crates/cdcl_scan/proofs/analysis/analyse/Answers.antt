@@ -1,0 +1,47 @@
+use Rattle.std.proofs.Common.{◌≡◌, ◌∷◌, ◌++◌, [], reverse, sym, ap, ◌∙◌, subst, ◌==◌, refl}
+use Rattle.std.proofs.lemmas.Bool.{eq-eqb}
+use Rattle.dq_lits.specs.Literal.{variable_of}
+use Rattle.oracle.specs.Fit.{live_in}
+use Rattle.cdcl_scan.specs.Steps.{literals_of, decision_of}
+use Rattle.cdcl_scan.specs.Sound.{IsSound}
+use Rattle.cdcl_scan.specs.Analyses.{IsAnalysis}
+use Rattle.cdcl_scan.proofs.Holding.{any_one}
+use Rattle.cdcl_scan.proofs.Analysing.{analysis_first, sound_consistent}
+use Rattle.cdcl_scan.proofs.Lessons.{sound_later}
+use Rattle.cdcl_scan.proofs.Jumping.{conflict_of, conflict_marked, is_some_of}
+use Rattle.cdcl_scan.proofs.Teaching.{lesson_made}
+use Rattle.cdcl_scan.proofs.analysis.analyse.Goals as goal
+
+pub back_to_first-first-requires-clause-some : goal.back_to_first-first-requires-clause-some
+back_to_first-first-requires-clause-some c =
+    let clauses = c.args.clauses.now.clauses in
+    let steps = c.args.trail.now.steps in
+    let k = conflict_of clauses c.args.conflict (literals_of steps) c.requires.conflict in
+    let d = is_some_of (decision_of steps) c.requires.decided in
+    conflict_marked (live_in clauses) steps c.begin.new.notes.marks k.clause c.args.conflict d.0 c.requires.sound d.1 k.is k.false_now
+    (λ l m. c.begin.ensures.marked k.clause (variable_of l) k.is ∙ any_one (λ x. variable_of x == variable_of l) k.clause l m (eq-eqb (variable_of l) (variable_of l) refl))
+
+pub add_rest-requires-clause-sound : goal.add_rest-requires-clause-sound
+add_rest-requires-clause-sound c =
+    let live = live_in c.args.clauses.now.clauses in
+    let point = c.back_to_first-first.ensures in
+    (sound_later live point.shrunk.popped (c.back_to_first-first.result ∷ c.back_to_first-first.new.trail.steps) (subst (IsSound live) point.shrunk.is c.requires.sound)).1
+
+pub returns-clause-lesson : goal.returns-clause-lesson
+returns-clause-lesson c =
+    let clauses = c.args.clauses.now.clauses in
+    let live = live_in clauses in
+    let old = c.args.trail.now in
+    let mid = c.back_to_first-first.new.trail in
+    let step = c.back_to_first-first.result in
+    let found = c.back_to_first-first.new.notes in
+    let point = c.back_to_first-first.ensures in
+    let k = conflict_of clauses c.args.conflict (literals_of old.steps) c.requires.conflict in
+    let hints : reverse c.begin.new.notes.hints ≡ c.args.conflict ∷ [] = ap reverse c.begin.ensures.hints in
+    let sound = sound_later live point.shrunk.popped (step ∷ mid.steps) (subst (IsSound live) point.shrunk.is c.requires.sound) in
+    let added = c.add_literal.ensures ∙ ap (λ l. record { marks = found.marks; hints = found.hints; literals = found.literals ++ l ∷ [] }) c.not.ensures in
+    lesson_made live old mid step c.begin.new.notes found c.add_literal.new.self c.add_rest.new.notes c.turn.new.self sound c.begin.ensures.literals
+    (λ entries stand. subst (IsAnalysis entries live (literals_of old.steps) [] c.begin.new.notes.marks) (sym hints)
+    (analysis_first entries live c.begin.new.notes.marks (literals_of old.steps) k.clause c.args.conflict k.is k.false_now (λ l m. stand c.args.conflict k.clause l k.is m) (sound_consistent live old.steps c.requires.sound)
+    (λ v. c.begin.ensures.marked k.clause v k.is)))
+    point added c.add_rest.ensures c.turn.ensures

@@ -1,0 +1,188 @@
+//! What the solver's calls rest on.
+
+ghost use Rattle.std.specs.Prelude.{◌≡◌, ◌≤◌, ◌<◌, ◌+◌, ◌-◌, ◌++◌, ◌∷◌, ◌^◌, [], ◌⊎◌, ℕ, List, Bool, true, false, length, All, IfOk, OnOk, OnErr, Ok, Err, vec_capacity, slice_index_or, suc};
+ghost use Rattle.dq_lits.specs.Literal.{Literal, variable_of, opposite, positive};
+ghost use Rattle.dq_lits.specs.Derivation.{is_tautology};
+ghost use Rattle.hint_log.specs.Conditions.{AreNamed};
+ghost use Rattle.hint_log.specs.Entries.{steps_of, last_id, with_entry, clause_at};
+ghost use Rattle.hint_log.specs.Entries.{Given};
+ghost use Rattle.oracle.specs.Fit.{Fit};
+ghost use Rattle.oracle.specs.Calls.{IsMade, IsPlain, IsModelUnder, IsRefutedUnder, assumed};
+ghost use Rattle.cdcl_scan.specs.Growing.{HasLearned};
+ghost use Rattle.cdcl_scan.specs.Steps.{literals_of, literal_value};
+ghost use Rattle.cdcl_scan.specs.Searching.{IsSearching, AreAssumptions, IsFound, HasRoom, KeepsPlaces};
+ghost use Rattle.cdcl_scan.specs.declared.trails.TruthValue.TheVariants.{True};
+
+use crate::clauses::ClauseStore;
+use crate::levels::back_to_start;
+use crate::search::search;
+use crate::searchers::Searcher;
+use crate::trails::{Trail, TruthValue};
+use dq_lits::{Lit, Memory};
+use hint_log::{Log, Origin, Stop};
+use oracle::{Answer, Group};
+use std::alloc::Global;
+
+const FIRST_TOO_LARGE: u64 = 1 << 62;
+
+/// Room for one variable more, and its number.
+pub(crate) fn grow(s: &mut Searcher, model: &mut Vec<bool>) -> Result<u64, Memory>
+    requires room { s.old.variables ≤ s.old.trail.room }
+    requires marks { HasRoom s.old }
+    requires few { s.old.variables < 2 ^ 62 }
+    ensures next { IfOk result (λ v. v ≡ s.old.variables + 1) }
+    ensures in_range { IfOk result (λ v. v < 2 ^ 62) }
+    ensures variables { s.new.variables ≡ s.old.variables }
+    ensures clauses { s.new.clauses.clauses ≡ s.old.clauses.clauses }
+    ensures steps { s.new.trail.steps ≡ s.old.trail.steps }
+    ensures room { s.old.trail.room ≤ s.new.trail.room }
+    ensures room_ok { OnOk result (s.old.variables + 1 ≤ s.new.trail.room) }
+    ensures marks { HasRoom s.new }
+    ensures model { model.new.items ≡ model.old.items }
+    ensures capacity { OnOk result (length model.new.items + 1 ≤ vec_capacity model.new) }
+{
+    let var = s.variables + 1;
+    if var >= FIRST_TOO_LARGE {
+        return Err(Memory);
+    }
+    model.reserve(1)?;
+    s.activities.grow()?;
+    s.notes.begin()?;
+    s.notes.grow()?;
+    s.trail.grow()?;
+    Ok(var)
+}
+
+/// The clause of a group's literals.
+pub(crate) fn group_clause(alloc: Global, selector: Lit, lits: &[Lit]) -> Result<Vec<Lit>, Memory>
+    ensures { IfOk result (λ c. c.items ≡ opposite selector ∷ lits.now) }
+{
+    let mut clause = Vec::new(alloc);
+    clause.push(selector.not())?;
+    for l in lits {
+        clause.push(*l)?;
+    }
+    Ok(clause)
+}
+
+/// Logs a clause that was put to the solver, and holds it.
+pub(crate) fn keep_given(
+    clauses: &mut ClauseStore,
+    clause: &[Lit],
+    origin: Origin,
+    log: &mut Log,
+) -> Result<u64, Memory>
+    requires { AreNamed log.old.entries clause.now }
+    ensures ok { OnOk result (log.new ≡ with_entry log.old (Given origin clause.now)) }
+    ensures id { IfOk result (λ id. id ≡ last_id log.new.entries) }
+    ensures held { OnOk result (clauses.new.clauses ≡ clauses.old.clauses ++ clause.now ∷ []) }
+    ensures err { OnErr result (log.new ≡ log.old) }
+    ensures err_held { OnErr result (clauses.new.clauses ≡ clauses.old.clauses) }
+{
+    clauses.reserve(clause)?;
+    let id = log.given(origin, clause)?;
+    clauses.push(clause);
+    Ok(id)
+}
+
+/// Searches for values, and keeps them. It leaves nothing on the trail.
+pub(crate) fn find(
+    s: &mut Searcher,
+    model: &mut [bool],
+    active: &[Group],
+    assume: &[Lit],
+    log: &mut Log,
+) -> Result<Answer, Stop>
+    requires fit { Fit s.old.clauses.clauses s.old.variables log.old.entries }
+    requires made { All (IsMade log.old.entries) active.now }
+    requires plain { All (IsPlain log.old.entries) assume.now }
+    requires apart { is_tautology assume.now ≡ false }
+    requires bare { s.old.trail.steps ≡ [] }
+    requires room { s.old.variables ≤ s.old.trail.room }
+    requires marks { HasRoom s.old }
+    requires few { s.old.variables < 2 ^ 62 }
+    requires model { length model.old ≡ s.old.variables }
+    ensures sat { result ≡ Ok Answer.Sat → HasLearned log.old log.new × IsModelUnder (λ v. slice_index_or model.new (v - 1) false) (clause_at log.new.entries) (assumed active.now assume.now) }
+    ensures unsat { (id : ℕ) → result ≡ Ok (Answer.Unsat id) → IsRefutedUnder log.old log.new (assumed active.now assume.now) id }
+    ensures fit { Fit s.new.clauses.clauses s.new.variables log.new.entries }
+    ensures bare { s.new.trail.steps ≡ [] }
+    ensures variables { s.new.variables ≡ s.old.variables }
+    ensures room { s.new.trail.room ≡ s.old.trail.room }
+    ensures marks { HasRoom s.new }
+    ensures model { length model.new ≡ length model.old }
+    ensures stop { OnErr result (HasLearned log.old log.new) }
+    ensures limit { result ≡ Err Stop.Limit → steps_of log.new.entries ≡ log.new.limit }
+{
+    s.notes.begin()?;
+    let assumptions = listed(s.alloc, active, assume)?;
+    let found = search_and_keep(s, model, &assumptions, log);
+    back_to_start(&mut s.trail);
+    found
+}
+
+// What is to be true: the selectors of the active groups, and the assumptions.
+fn listed(alloc: Global, active: &[Group], assume: &[Lit]) -> Result<Vec<Lit>, Memory>
+    ensures { IfOk result (λ v. v.items ≡ assumed active.now assume.now) }
+{
+    let mut assumptions = Vec::new(alloc);
+    for g in active {
+        assumptions.push(g.selector)?;
+    }
+    for l in assume {
+        assumptions.push(*l)?;
+    }
+    Ok(assumptions)
+}
+
+// Searches, and keeps the values that were found.
+fn search_and_keep(
+    s: &mut Searcher,
+    model: &mut [bool],
+    assumptions: &[Lit],
+    log: &mut Log,
+) -> Result<Answer, Stop>
+    requires searching { IsSearching assumptions.now s.old log.old }
+    requires few_steps { length s.old.trail.steps ≤ s.old.trail.room }
+    requires assumptions { AreAssumptions log.old assumptions.now }
+    requires few { s.old.variables < 2 ^ 62 }
+    requires model { length model.old ≡ s.old.variables }
+    ensures sat { result ≡ Ok Answer.Sat → HasLearned log.old log.new × IsModelUnder (λ v. slice_index_or model.new (v - 1) false) (clause_at log.new.entries) assumptions.now }
+    ensures unsat { (id : ℕ) → result ≡ Ok (Answer.Unsat id) → IsRefutedUnder log.old log.new assumptions.now id }
+    ensures fit { Fit s.new.clauses.clauses s.new.variables log.new.entries }
+    ensures places { KeepsPlaces s.old s.new }
+    ensures model { length model.new ≡ length model.old }
+    ensures stop { OnErr result (HasLearned log.old log.new) }
+    ensures limit { result ≡ Err Stop.Limit → steps_of log.new.entries ≡ log.new.limit }
+{
+    match search(s, assumptions, log)? {
+        Answer::Sat => {
+            keep_values(model, &s.trail);
+            Ok(Answer::Sat)
+        }
+        Answer::Unsat(id) => Ok(Answer::Unsat(id)),
+    }
+}
+
+// Keeps the values of the trail.
+fn keep_values(model: &mut [bool], trail: &Trail)
+    requires room { length model.old ≤ trail.now.room }
+    requires few { length model.old < 2 ^ 62 }
+    ensures len { length model.new ≡ length model.old }
+    ensures values { (i : ℕ) → i < length model.old → (slice_index_or model.new i false ≡ true → literal_value (literals_of trail.now.steps) (positive (suc i)) ≡ True)
+        × (literal_value (literals_of trail.now.steps) (positive (suc i)) ≡ True → slice_index_or model.new i false ≡ true) }
+{
+    for i in 0..model.len() {
+        model[i] = is_true(trail.value(Lit::pos(i as u64 + 1)));
+    }
+}
+
+fn is_true(value: TruthValue) -> bool
+    ensures on { value ≡ True → result ≡ true }
+    ensures off { result ≡ true → value ≡ True }
+{
+    match value {
+        TruthValue::True => true,
+        TruthValue::False => false,
+        TruthValue::Unassigned => false,
+    }
+}
