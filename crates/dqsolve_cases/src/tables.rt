@@ -22,6 +22,10 @@ pub fn take_line(
         "reads" => settings.reads = calls_of(alloc, rest)?,
         "writes" => settings.writes = calls_of(alloc, rest)?,
         "run" => return Ok(Some(ran(alloc, settings, log, rest)?)),
+        "alone" => {
+            let taken = shown(alloc, &settings.run(alloc, log)?)?;
+            return Ok(Some(format!(in alloc; "{rest}: {taken}")?));
+        }
         "unfailing" => {
             let status = settings.run_unfailing(alloc, log)?;
             return Ok(Some(format!(in alloc; "{rest}: {status}")?));

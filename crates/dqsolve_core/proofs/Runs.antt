@@ -1,5 +1,5 @@
 -- From what a run's parts answer to what the run says.
-use Rattle.std.proofs.Common.{◌≡◌, ℕ, ◌<◌, ◌≤◌, Bool, true, List, length, Option, Some, Result, Ok, Err, refl, sym, ap, ◌∙◌, subst, arith}
+use Rattle.std.proofs.Common.{◌≡◌, ◌⊎◌, inl, inr, ℕ, ◌<◌, ◌≤◌, Bool, true, List, [], length, Option, Some, Result, Ok, Err, refl, sym, ap, ◌∙◌, subst, arith}
 use Rattle.std.specs.Prelude.{IfOk}
 use Rattle.std.specs.Io.KnownBytes.{append_known}
 use Rattle.dq_io.specs.Causes.{Rose}
@@ -10,11 +10,14 @@ use Rattle.dq_lits.specs.declared.memory.Memory.{Memory}
 use Rattle.hint_log.specs.Entries.{ProofLog}
 use Rattle.dqdimacs_reader.specs.Grammar.{SpellsFormula}
 use Rattle.dqdimacs_reader.specs.Machine.{TextFault, reading}
+use Rattle.dqcheck_core.specs.Report.{line}
 use Rattle.dqcheck_core.specs.Running.{max_formula, IsTextOf, IsLong, IsFaultOf, IsFormulaOf, PickedOnce}
-use Rattle.dqsolve_words.specs.Command.{Command, command_of}
-use Rattle.dqsolve_core.specs.Outputs.{IsOutput, IsOutputDue, IsVerdictOutput}
-use Rattle.dqsolve_core.specs.Report.{Report, Verdict, usage, source_fault, long_formula, refused_formula, solved, verdict_status, verdict_text, is_verdict_status}
-use Rattle.dqsolve_core.specs.Running.{IsDueFor, IsDue, IsTold, IsSolved, IsSolution}
+use Rattle.hint_log.specs.ProductiveLog.{IsProductiveLog}
+use Rattle.planted_formulas.specs.Planted.{planted_formula}
+use Rattle.dqsolve_words.specs.Command.{Search, Planting, Command, solve, demo, command_of, default_steps}
+use Rattle.dqsolve_core.specs.Outputs.{IsOutput, IsOutputDue, IsVerdictOutput, IsDemoOutput}
+use Rattle.dqsolve_core.specs.Report.{Report, Verdict, usage, source_fault, long_formula, refused_formula, solved, demonstrated, demo_text, verdict_status, verdict_text, is_verdict_status}
+use Rattle.dqsolve_core.specs.Running.{IsDueFor, IsDueForDemo, IsDue, IsTold, IsSolved, IsSolution, IsRunLog, IsDemonstratedRun}
 use Rattle.dqsolve_core.specs.Shown.{IsVerdict}
 use Rattle.dqsolve_core.specs.declared.reports.Output.{Output}
 
@@ -32,8 +35,8 @@ read_spells holding bytes f is one = subst (λ text. SpellsFormula text f) (held
 
 -- ---- a verdict's output
 
-pub verdict_due : (before now : FilesState) (log : ProofLog) (c : Command) (f : Dqbf) (r : Result Output Memory) → IsFormulaOf (before.held c.file) f
-    → PickedOnce before now → log.limit ≡ c.steps → IfOk r (IsVerdictOutput f log c.bare) → IfOk r (IsOutputDue before now log (Some c))
+pub verdict_due : (before now : FilesState) (log : ProofLog) (c : Search) (f : Dqbf) (r : Result Output Memory) → IsFormulaOf (before.held c.file) f
+    → PickedOnce before now → log.limit ≡ c.steps → IfOk r (IsVerdictOutput f log c.bare) → IfOk r (IsOutputDue before now log (Some (solve c)))
 verdict_due before now log c f (Ok output) one picked limit v = record {
   report = solved c.bare f v.verdict;
   due = (refl, one, limit, v.is, picked);
@@ -43,7 +46,7 @@ verdict_due before now log c f (Err _) one picked limit v = tt
 
 -- ---- what a told file gives
 
-solved_as : (f : Dqbf) (log : ProofLog) (c : Command) (bare : Bool) (before now : Option (List ℕ)) (output : Output) (v : Verdict) → bare ≡ c.bare → log.limit ≡ c.steps
+solved_as : (f : Dqbf) (log : ProofLog) (c : Search) (bare : Bool) (before now : Option (List ℕ)) (output : Output) (v : Verdict) → bare ≡ c.bare → log.limit ≡ c.steps
     → IsVerdict f log bare v → output.status ≡ verdict_status v → now ≡ append_known before (verdict_text bare f v) → IsSolved f log c before now output.status
 solved_as f log c bare before now output v same limit shown status written = record {
   verdict = v;
@@ -53,7 +56,7 @@ solved_as f log c bare before now output v same limit shown status written = rec
   written = written ∙ ap (λ b. append_known before (verdict_text b f v)) same;
 }
 
-solution_by : (files files_now : FilesState) (log : ProofLog) (c : Command) (formula : List ℕ) (before now : Option (List ℕ)) (output : Output)
+solution_by : (files files_now : FilesState) (log : ProofLog) (c : Search) (formula : List ℕ) (before now : Option (List ℕ)) (output : Output)
     → files.held c.file ≡ Holds formula → now ≡ append_known before output.text.items → is_verdict_status output.status ≡ true
     → (report : Report) → IsDueFor files files_now log c report → IsOutput report output → IsSolution formula log c before now output.status
 solution_by files files_now log c formula before now output told written verdict usage due is = absurd due
@@ -69,6 +72,8 @@ solution_by files files_now log c formula before now output told written verdict
   well_formed = one.well_formed;
   solved = solved_as f log c bare before now output v same limit shown is.status (written ∙ ap (append_known before) is.text);
 }
+
+solution_by files files_now log c formula before now output told written verdict (demonstrated _ _ _) due is = absurd due
 
 pub solution : (files files_now : FilesState) (words : List (List ℕ)) (log : ProofLog) (before now : Option (List ℕ)) (output : Output)
     → IsOutputDue files files_now log (command_of words) output → now ≡ append_known before output.text.items
@@ -87,7 +92,7 @@ no_fault law formula f holding fault is spelled refused =
 held_long : (limit : ℕ) (holding : Holding) (bytes : List ℕ) → holding ≡ Holds bytes → IsLong limit holding → limit < length bytes
 held_long limit holding bytes is long = subst (λ h. IsLong limit h) is long
 
-solved_by : FormulaLaw → (files files_now : FilesState) (log : ProofLog) (c : Command) (formula : List ℕ) (f : Dqbf) (before now : Option (List ℕ)) (output : Output)
+solved_by : FormulaLaw → (files files_now : FilesState) (log : ProofLog) (c : Search) (formula : List ℕ) (f : Dqbf) (before now : Option (List ℕ)) (output : Output)
     → files.held c.file ≡ Holds formula → length formula ≤ max_formula → SpellsFormula formula f → (Rose files.faults files_now.faults → ⊥)
     → now ≡ append_known before output.text.items
     → (report : Report) → IsDueFor files files_now log c report → IsOutput report output → IsSolved f log c before now output.status
@@ -102,6 +107,8 @@ solved_by law files files_now log c formula f before now output told short spell
     subst (λ h. IsSolved h log c before now output.status) same_formula
     (solved_as g log c bare before now output v same limit shown is.status (written ∙ ap (append_known before) is.text))
 
+solved_by law files files_now log c formula f before now output told short spelled sound written (demonstrated _ _ _) due is = absurd due
+
 pub solved_told : FormulaLaw → (files files_now : FilesState) (words : List (List ℕ)) (log : ProofLog) (before now : Option (List ℕ)) (output : Output)
     → IsOutputDue files files_now log (command_of words) output → now ≡ append_known before output.text.items
     → (formula : List ℕ) (f : Dqbf) (told : IsTold files.held words formula) → length formula ≤ max_formula → SpellsFormula formula f
@@ -109,3 +116,42 @@ pub solved_told : FormulaLaw → (files files_now : FilesState) (words : List (L
 solved_told law files files_now words log before now output o written formula f told short spelled sound =
     solved_by law files files_now log told.command formula f before now output told.formula_held short spelled sound written o.report
     (subst (λ command. IsDue files files_now log command o.report) told.is o.due) o.is
+
+-- ---- planted formulas
+
+pub demo_due : (files : FilesState) (log : ProofLog) (p : Planting) (r : Result Output Memory) → log.limit ≡ default_steps → IfOk r (IsDemoOutput p log)
+    → IfOk r (IsOutputDue files files log (Some (demo p)))
+demo_due files log p (Ok output) limit d = record {
+  report = demonstrated p d.clauses d.shown;
+  due = (refl, limit, d.is, refl);
+  is = record { status = d.status; text = d.text };
+}
+demo_due files log p (Err _) limit d = tt
+
+pub demo_log : (files : FilesState) (log : ProofLog) (p : Planting) → log.limit ≡ default_steps
+    → (log.entries ≡ []) ⊎ IsProductiveLog (planted_formula p.seed p.size) log.entries → IsRunLog files (Some (demo p)) log
+demo_log files log p limit (inl none) = inl none
+demo_log files log p limit (inr productive) =
+    inr (record { asked = demo p; is = refl; limit = limit; f = planted_formula p.seed p.size; formula = refl; productive = productive })
+
+demonstrated_by : (files files_now : FilesState) (log : ProofLog) (p : Planting) (before now : Option (List ℕ)) (output : Output) → now ≡ append_known before output.text.items
+    → (report : Report) → IsDueForDemo files files_now log p report → IsOutput report output → IsDemonstratedRun p log before now output.status
+demonstrated_by files files_now log p before now output written usage due is = absurd due
+demonstrated_by files files_now log p before now output written source_fault due is = absurd due
+demonstrated_by files files_now log p before now output written long_formula due is = absurd due
+demonstrated_by files files_now log p before now output written (refused_formula _) due is = absurd due
+demonstrated_by files files_now log p before now output written (solved _ _ _) due is = absurd due
+demonstrated_by files files_now log p before now output written (demonstrated q clauses shown) (same, limit, of_log, picked) is = record {
+  clauses = clauses;
+  shown = shown;
+  limit = limit;
+  is = of_log;
+  ends_with = is.status;
+  written = written ∙ ap (append_known before) is.text ∙ ap (λ r. append_known before (line (demo_text r clauses shown))) same;
+}
+
+pub demonstrated_told : (files files_now : FilesState) (words : List (List ℕ)) (log : ProofLog) (before now : Option (List ℕ)) (output : Output)
+    → IsOutputDue files files_now log (command_of words) output → now ≡ append_known before output.text.items → (p : Planting) → command_of words ≡ Some (demo p)
+    → IsDemonstratedRun p log before now output.status
+demonstrated_told files files_now words log before now output o written p asked =
+    demonstrated_by files files_now log p before now output written o.report (subst (λ command. IsDue files files_now log command o.report) asked o.due) o.is

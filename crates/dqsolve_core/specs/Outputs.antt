@@ -1,12 +1,16 @@
 -- What the parts of a run answer, words of private contracts.
-use Rattle.std.specs.Prelude.{◌≡◌, Bool, Option}
+use Rattle.std.specs.Prelude.{◌≡◌, ℕ, Bool, List, Option}
 use Rattle.dq_io.specs.State.{FilesState}
 use Rattle.dq_lits.specs.Formula.{Dqbf}
 use Rattle.hint_log.specs.Entries.{ProofLog}
-use Rattle.dqsolve_words.specs.Command.{Command}
-use Rattle.dqsolve_core.specs.Report.{Report, Verdict, verdict_text, verdict_status, text_of, status_of}
+use Rattle.aiger_text.specs.declared.files.AagFile.{AagFile}
+use Rattle.cert_text.specs.declared.circuit_proofs.Dqp.{Dqp}
+use Rattle.dqcheck_core.specs.Report.{line}
+use Rattle.dqsolve_words.specs.Command.{Command, Planting}
+use Rattle.dqsolve_core.specs.declared.demonstrations.Demonstration.{Demonstration}
+use Rattle.dqsolve_core.specs.Report.{Report, Verdict, is_true, verdict_text, verdict_status, demo_text, demonstration_status, text_of, status_of}
 use Rattle.dqsolve_core.specs.Running.{IsDue}
-use Rattle.dqsolve_core.specs.Shown.{IsVerdict}
+use Rattle.dqsolve_core.specs.Shown.{IsVerdict, IsShownTrue, IsDemonstration}
 use Rattle.dqsolve_core.specs.declared.reports.Output.{Output}
 
 -- the text and the status of a report
@@ -25,3 +29,18 @@ pub record IsVerdictOutput (f : Dqbf) (log : ProofLog) (bare : Bool) (output : O
   pub is : IsVerdict f log bare verdict
   pub status : output.status ≡ verdict_status verdict
   pub text : output.text.items ≡ verdict_text bare f verdict
+
+-- the text of a circuit with its proof, behind the line with the verdict or without it
+pub record IsTrueText (f : Dqbf) (log : ProofLog) (bare : Bool) (text : List ℕ) : Type 0 where
+  pub file : AagFile
+  pub proof : Dqp
+  pub shown : IsShownTrue f log bare file proof
+  pub is : text ≡ verdict_text bare f (is_true file proof)
+
+-- the text and the status of what was shown of a planted formula
+pub record IsDemoOutput (p : Planting) (log : ProofLog) (output : Output) : Type 0 where
+  pub clauses : ℕ
+  pub shown : Demonstration
+  pub is : IsDemonstration p log clauses shown
+  pub status : output.status ≡ demonstration_status shown
+  pub text : output.text.items ≡ line (demo_text p clauses shown)

@@ -1,5 +1,5 @@
 -- What is shown by what is written with a verdict, and by the search's log.
-use Rattle.std.specs.Prelude.{◌≡◌, ℕ, ◌+◌, ◌≤◌, Bool, length, None}
+use Rattle.std.specs.Prelude.{◌≡◌, ℕ, ◌+◌, ◌<◌, ◌≤◌, Bool, false, length, None}
 use Rattle.dq_lits.specs.Expansion.{IsExpansionUnsatisfiable}
 use Rattle.dq_lits.specs.Formula.{Dqbf}
 use Rattle.dq_lits.specs.Henkin.{IsTrueFormula, IsFalseFormula}
@@ -11,10 +11,14 @@ use Rattle.aiger_text.specs.declared.files.AagFile.{AagFile}
 use Rattle.cert_text.specs.Header.{max_count}
 use Rattle.cert_text.specs.declared.circuit_proofs.Dqp.{Dqp}
 use Rattle.cert_text.specs.declared.refutations.Dqr.{Dqr}
-use Rattle.cert_export.specs.ExportedCircuit.{IsProvedCircuit}
+use Rattle.cert_export.specs.ExportedCircuit.{IsDecidedTrue, IsProvedCircuit}
+use Rattle.planted_formulas.specs.Planted.{planted_formula}
 use Rattle.refutation_checker.specs.Refutation.{refutation_fault}
 use Rattle.dqcheck_core.specs.Judgement.{IsJudgement}
 use Rattle.dqcheck_core.specs.declared.answers.Answer.TheVariants.{ValidTrue, ValidFalse}
+use Rattle.dqsolve_words.specs.Command.{Planting}
+use Rattle.dqsolve_core.specs.declared.demonstrations.Demonstration.{Demonstration}
+use Rattle.dqsolve_core.specs.declared.demonstrations.Demonstration.TheVariants.{Valid, Large, CutOff}
 use Rattle.dqsolve_core.specs.Report.{Verdict, is_true, is_false, is_unknown, verdict_text}
 
 -- with at most so many entries in the log, what is written is within the formats' limits
@@ -59,3 +63,39 @@ IsShown f log bare (is_unknown rounds learned) = IsLimitReached f log rounds lea
 pub record IsVerdict (f : Dqbf) (log : ProofLog) (bare : Bool) (verdict : Verdict) : Type 0 where
   pub productive : IsProductiveLog f log.entries
   pub shown : IsShown f log bare verdict
+
+-- an answer of the log decides that the formula is true, and a circuit with its proof is exported of it
+pub record IsExportedOf (f : Dqbf) (log : ProofLog) (file : AagFile) (proof : Dqp) : Type 0 where
+  pub id : ℕ
+  pub decided : IsDecidedTrue f log.entries id
+  pub circuit : IsProvedCircuit f file proof
+
+-- the checker accepts the text
+pub record IsDemonstratedValid (f : Dqbf) (log : ProofLog) : Type 0 where
+  pub file : AagFile
+  pub proof : Dqp
+  pub exported : IsExportedOf f log file proof
+  pub accepted : IsJudgement f (verdict_text false f (is_true file proof)) ValidTrue
+
+-- the log is long, and circuit and proof are beyond the formats' limits
+pub record IsDemonstratedLarge (f : Dqbf) (log : ProofLog) : Type 0 where
+  pub file : AagFile
+  pub proof : Dqp
+  pub exported : IsExportedOf f log file proof
+  pub many : few_entries < length log.entries
+  pub beyond : IsWithinLimits file proof → ⊥
+
+pub record IsCutOff (f : Dqbf) (log : ProofLog) : Type 0 where
+  pub limit : steps_of log.entries ≡ log.limit
+  pub undecided : IsUndecided f log.entries
+
+abbrev pub IsDemonstrated : Dqbf → ProofLog → Demonstration → Type 0
+IsDemonstrated f log Valid = IsDemonstratedValid f log
+IsDemonstrated f log Large = IsDemonstratedLarge f log
+IsDemonstrated f log CutOff = IsCutOff f log
+
+-- the search's log of productive work on the planted formula, of so many clauses, shows that much
+pub record IsDemonstration (p : Planting) (log : ProofLog) (clauses : ℕ) (shown : Demonstration) : Type 0 where
+  pub clauses_are : clauses ≡ length (planted_formula p.seed p.size).matrix
+  pub productive : IsProductiveLog (planted_formula p.seed p.size) log.entries
+  pub is : IsDemonstrated (planted_formula p.seed p.size) log shown

@@ -4,8 +4,10 @@
 //! `laws` say that the checker accepts what is written.
 #![tactic(auto)]
 
+pub use demonstrations::Demonstration;
 pub use run::dqsolve_run;
 
+mod demonstrations;
 pub mod laws;
 mod reports;
 mod run;

@@ -11,7 +11,7 @@ ghost use Rattle.cert_text.specs.Header.{max_count};
 ghost use Rattle.cert_export.specs.ExportedCircuit.{IsDecidedTrue};
 ghost use Rattle.dqcheck_core.specs.Report.{line};
 ghost use Rattle.repair_loop.specs.Searching.{IsShownFalse};
-ghost use Rattle.dqsolve_core.specs.Outputs.{IsVerdictOutput};
+ghost use Rattle.dqsolve_core.specs.Outputs.{IsVerdictOutput, IsTrueText};
 ghost use Rattle.dqsolve_core.specs.Report.{with_proof, counts_text};
 
 use crate::laws::{
@@ -34,9 +34,9 @@ use refutation_checker::laws::refutation_shows_false;
 use repair_loop::{Verdict, decide};
 use std::alloc::Global;
 
-// The id of the answer that shows the formula true, or of the one that shows it false.
+/// The id of the answer that shows the formula true, or of the one that shows it false.
 #[derive(Clone, Copy, Debug)]
-enum Found {
+pub(crate) enum Found {
     Shown(u64),
     Refuted(u64),
 }
@@ -59,8 +59,8 @@ pub fn solve(alloc: Global, f: &Formula, bare: bool, log: &mut Log) -> Result<Ou
     }
 }
 
-// The search over a solver.
-fn search<O: Oracle>(
+/// The search over a solver.
+pub(crate) fn search<O: Oracle>(
     alloc: Global,
     oracle: &mut O,
     f: &Formula,
@@ -94,13 +94,30 @@ fn true_output(alloc: Global, log: &Log, id: u64, f: &Formula, bare: bool) -> Re
     requires decided { IsDecidedTrue f.now log.now.entries id }
     ensures { IfOk result (IsVerdictOutput f.now log.now bare) }
 {
+    let text = true_text(alloc, log, id, f, bare)?;
+    Ok(Output { status: 10, text })
+}
+
+/// The text of the circuit that an answer decides for, with its proof.
+pub(crate) fn true_text(
+    alloc: Global,
+    log: &Log,
+    id: u64,
+    f: &Formula,
+    bare: bool,
+) -> Result<Vec<u8>, Memory>
+    requires formula { IsWellFormed f.now }
+    requires productive { IsProductiveLog f.now log.now.entries }
+    requires is_true { IsTrueFormula f.now }
+    requires decided { IsDecidedTrue f.now log.now.entries id }
+    ensures { IfOk result (λ text. IsTrueText f.now log.now bare text.items) }
+{
     f.every_formula_is_lawful();
     proved_circuits_are_accepted();
     small_logs_are_within_limits();
     let (file, proof) = export_true(alloc, log, id, f)?;
     let evidence = circuit_text(alloc, file, &proof)?;
-    let text = with_verdict(alloc, "s TRUE\n", bare, evidence)?;
-    Ok(Output { status: 10, text })
+    with_verdict(alloc, "s TRUE\n", bare, evidence)
 }
 
 // A circuit with its proof in its comment.

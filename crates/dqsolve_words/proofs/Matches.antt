@@ -10,26 +10,33 @@ use Rattle.clap.specs.Walk.{Row, Text, first_of, rows_of}
 use Rattle.clap.specs.declared.parser.matches.Found.{Found}
 use Rattle.clap.specs.declared.error.kind.ErrorKind.{ErrorKind}
 use Rattle.clap.proofs.WalkLemmas.{first_value-rows}
-use Rattle.dqsolve_words.specs.Command.{Command, command_of, command_in, solve_in, steps_in, steps_of, has_flag, without_fault, solver_app, default_steps}
-use Rattle.dqsolve_words.specs.Examples.{solve}
+use Rattle.dqsolve_words.specs.Command.{Search, Command, command_of, command_in, solve_in, steps_in, number_in, has_flag, without_fault, solver_app, least_steps, most_steps, default_steps}
+
 
 -- what a getter finds is the first value in the rows
 pub value_found : (f : Found) (id : Text) (value : Option Text) → value ≡ first_value f id → value ≡ first_of id (rows_of f)
 value_found f id value is = is ∙ first_value-rows f id
 
-pub steps_found : (f : Found) (value : Option Text) → value ≡ first_value f (codes "steps") → option_map_or steps_of value (Some default_steps) ≡ steps_in (rows_of f)
-steps_found f value is = ap (λ o. option_map_or steps_of o (Some default_steps)) (value_found f (codes "steps") value is)
+pub steps_found : (f : Found) (value : Option Text) → value ≡ first_value f (codes "steps") → option_map_or (number_in least_steps most_steps) value (Some default_steps) ≡ steps_in (rows_of f)
+steps_found f value is = ap (λ o. option_map_or (number_in least_steps most_steps) o (Some default_steps)) (value_found f (codes "steps") value is)
 
 pub flag_found : (f : Found) (id : Text) (value : Option Text) → value ≡ first_value f id → option_map_or (λ v. bytes_eq v (codes "true")) value false ≡ has_flag id (rows_of f)
 flag_found f id value is = ap (λ o. option_map_or (λ v. bytes_eq v (codes "true")) o false) (value_found f id value is)
 
+abbrev search : ℕ → Bool → Text → Search
+search steps bare file = record { steps = steps; bare = bare; file = file }
+
+pub number_found : (f : Found) (id : Text) (least most : ℕ) (value : Option Text) → value ≡ first_value f id
+    → option_and_then (number_in least most) value ≡ option_and_then (number_in least most) (first_of id (rows_of f))
+number_found f id least most value is = ap (option_and_then (number_in least most)) (value_found f id value is)
+
 pub solve_found : (f : Found) (file : Option Text) (steps : Option ℕ) (bare : Bool) → file ≡ first_value f (codes "FILE") → steps ≡ steps_in (rows_of f)
     → bare ≡ has_flag (codes "bare") (rows_of f)
-    → option_and_then (λ (name : Text). option_map (λ (n : ℕ). solve n bare name) steps) file ≡ solve_in (rows_of f)
+    → option_and_then (λ (name : Text). option_map (λ (n : ℕ). search n bare name) steps) file ≡ solve_in (rows_of f)
 solve_found f file steps bare is_file is_steps is_bare =
-    ap (λ (a : Option Text). option_and_then (λ (name : Text). option_map (λ (n : ℕ). solve n bare name) steps) a) (value_found f (codes "FILE") file is_file)
-    ∙ ap (λ (b : Option ℕ). option_and_then (λ (name : Text). option_map (λ (n : ℕ). solve n bare name) b) (first_of (codes "FILE") (rows_of f))) is_steps
-    ∙ ap (λ (c : Bool). option_and_then (λ (name : Text). option_map (λ (n : ℕ). solve n c name) (steps_in (rows_of f))) (first_of (codes "FILE") (rows_of f))) is_bare
+    ap (λ (a : Option Text). option_and_then (λ (name : Text). option_map (λ (n : ℕ). search n bare name) steps) a) (value_found f (codes "FILE") file is_file)
+    ∙ ap (λ (b : Option ℕ). option_and_then (λ (name : Text). option_map (λ (n : ℕ). search n bare name) b) (first_of (codes "FILE") (rows_of f))) is_steps
+    ∙ ap (λ (c : Bool). option_and_then (λ (name : Text). option_map (λ (n : ℕ). search n c name) (steps_in (rows_of f))) (first_of (codes "FILE") (rows_of f))) is_bare
 
 -- what a parse without fault gives
 pub parse_gives : (a : App) (words : List Text) (sub : Option (Text × List Row)) → a ≡ solver_app → (is_simple_and_free a ≡ true → fault_of a words ≡ [])

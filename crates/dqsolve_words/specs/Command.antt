@@ -1,6 +1,6 @@
--- What the words of a command line ask for, by clap's own meaning of a command with one subcommand. The first word is the
--- program's own name.
-use Rattle.std.specs.Prelude.{ℕ, Bool, true, false, List, [], ◌∷◌, Option, None, Some, codes, option_map, option_and_then, if◌then◌else◌}
+-- What the words of a command line ask for, by clap's own meaning of a command with subcommands. The first word is the program's own
+-- name.
+use Rattle.std.specs.Prelude.{ℕ, ◌≤◌, Bool, true, false, List, [], ◌∷◌, Option, None, Some, codes, option_map, option_and_then, if◌then◌else◌}
 use Rattle.std.specs.Option.{option_map_or}
 use Rattle.std.specs.Str.{bytes_eq}
 use Rattle.std.specs.Str.Parse.{digits_value, without_leading_plus}
@@ -12,14 +12,25 @@ use Rattle.clap.specs.Walk.{Row, Rule, first_of}
 use Rattle.clap.specs.declared.builder.action.ArgAction.TheVariants.{Set, SetTrue}
 
 -- a search with so many steps at most, whether the line with the verdict is left out, and the name of the formula's file
-pub record Command : Type 0 where
+pub record Search : Type 0 where
   pub steps : ℕ
   pub bare : Bool
   pub file : List ℕ
 
+-- the formula that is planted by a seed, in a size
+pub record Planting : Type 0 where
+  pub seed : ℕ
+  pub size : ℕ
+
+pub data Command : Type 0 where
+  -- a search on the formula in a file
+  solve : Search → Command
+  -- a search on a planted formula
+  demo : Planting → Command
+
 -- an argument that is known by its place, has to be there, and is given once
-abbrev pub required_file : List ℕ → Rule
-required_file id = record (new_rule id) { required = true; action = Some Set }
+abbrev pub required_word : List ℕ → Rule
+required_word id = record (new_rule id) { required = true; action = Some Set }
 
 -- `--ID VALUE`, given once at most
 abbrev pub value_option : List ℕ → Rule
@@ -36,13 +47,19 @@ without_flags s = record s { disable_help_flag = true; disable_version_flag = tr
 -- solve [--steps N] [--bare] FILE
 abbrev pub solve_shape : Shape
 solve_shape = record (without_flags (new_shape (codes "solve"))) {
-  rules = value_option (codes "steps") ∷ flag (codes "bare") ∷ required_file (codes "FILE") ∷ [];
+  rules = value_option (codes "steps") ∷ flag (codes "bare") ∷ required_word (codes "FILE") ∷ [];
 }
 
--- dqsolve, with its subcommand and without `help`
+-- demo SEED SIZE
+abbrev pub demo_shape : Shape
+demo_shape = record (without_flags (new_shape (codes "demo"))) {
+  rules = required_word (codes "SEED") ∷ required_word (codes "SIZE") ∷ [];
+}
+
+-- dqsolve, with its subcommands and without `help`
 abbrev pub solver_app : App
-solver_app = with_subcommand
-    (on_top (λ top. record (without_flags top) { disable_help_subcommand = true }) (new_app (codes "dqsolve"))) solve_shape
+solver_app = with_subcommand (with_subcommand
+    (on_top (λ top. record (without_flags top) { disable_help_subcommand = true }) (new_app (codes "dqsolve"))) solve_shape) demo_shape
 
 abbrev pub least_steps : ℕ
 least_steps = 1
@@ -53,27 +70,50 @@ most_steps = 1000000000
 abbrev pub default_steps : ℕ
 default_steps = 1000000
 
--- a number in the range, in decimal digits, perhaps behind a plus
-abbrev pub steps_of : List ℕ → Option ℕ
-steps_of text = if is_unsigned_in least_steps most_steps text then Some (digits_value 10 (without_leading_plus text)) else None
+abbrev pub most_seed : ℕ
+most_seed = 2147483647
+
+abbrev pub least_size : ℕ
+least_size = 1
+
+abbrev pub most_size : ℕ
+most_size = 10000
+
+abbrev pub IsInRange : Command → Type 0
+IsInRange (solve s) = (least_steps ≤ s.steps) × (s.steps ≤ most_steps)
+IsInRange (demo p) = (p.seed ≤ most_seed) × (least_size ≤ p.size) × (p.size ≤ most_size)
+
+-- a number in a range, in decimal digits, perhaps behind a plus
+abbrev pub number_in : ℕ → ℕ → List ℕ → Option ℕ
+number_in least most text = if is_unsigned_in least most text then Some (digits_value 10 (without_leading_plus text)) else None
 
 -- how many steps are asked for
 abbrev pub steps_in : List Row → Option ℕ
-steps_in rows = option_map_or steps_of (first_of (codes "steps") rows) (Some default_steps)
+steps_in rows = option_map_or (number_in least_steps most_steps) (first_of (codes "steps") rows) (Some default_steps)
 
 -- whether a flag is given
 abbrev pub has_flag : List ℕ → List Row → Bool
 has_flag id rows = option_map_or (λ value. bytes_eq value (codes "true")) (first_of id rows) false
 
 -- what is asked of `solve`
-abbrev pub solve_in : List Row → Option Command
+abbrev pub solve_in : List Row → Option Search
 solve_in rows = option_and_then
     (λ file. option_map (λ steps. record { steps = steps; bare = has_flag (codes "bare") rows; file = file }) (steps_in rows))
     (first_of (codes "FILE") rows)
 
+-- what is asked of `demo`
+abbrev pub demo_in : List Row → Option Planting
+demo_in rows = option_and_then
+    (λ seed. option_map (λ size. record { seed = seed; size = size }) (option_and_then (number_in least_size most_size) (first_of (codes "SIZE") rows)))
+    (option_and_then (number_in 0 most_seed) (first_of (codes "SEED") rows))
+
+-- what is asked of the subcommand of a name
+abbrev pub asked_of : List ℕ → List Row → Option Command
+asked_of name rows = if bytes_eq name (codes "demo") then option_map demo (demo_in rows) else option_map solve (solve_in rows)
+
 -- what is asked of the subcommand that was named
 abbrev pub command_in : Option (List ℕ × List Row) → Option Command
-command_in sub = option_and_then (λ p. solve_in p.1) sub
+command_in sub = option_and_then (λ p. asked_of p.0 p.1) sub
 
 -- a command, where its words have no fault
 abbrev pub without_fault : Kinds → Option Command → Option Command

@@ -1,11 +1,12 @@
 //! What the words ask for.
 
-ghost use Rattle.std.specs.Prelude.{◌≡◌, false, map, string_bytes, Option, Some, None, MatchOption, option_map, codes, IfOk};
+ghost use Rattle.std.specs.Prelude.{◌≡◌, false, map, string_bytes, Option, Some, None, MatchOption, option_map, option_and_then, codes, IfOk};
 ghost use Rattle.clap.specs.Simple.{app_of, shape_of, subcommand_rows_of};
-ghost use Rattle.clap.specs.Walk.{rows_of, rule_of};
+ghost use Rattle.clap.specs.Walk.{rows_of, rule_of, first_of};
 ghost use Rattle.clap.specs.Matches.{found_of};
 ghost use Rattle.clap.specs.declared.builder.command.Command.TheViews.{out-Command};
-ghost use Rattle.dqsolve_words.specs.Command.{Command, command_of, command_in, solver_app, solve_shape, required_file, value_option, flag, solve_in, steps_in, steps_of, has_flag};
+ghost use Rattle.dqsolve_words.specs.Command.{command_of, command_in, asked_of, solver_app, solve_shape, demo_shape, required_word, value_option, flag, solve_in, demo_in, steps_in, number_in, has_flag, most_seed, least_size, most_size};
+ghost use Rattle.dqsolve_words.specs.Words.{search_of, planting_of, command_said};
 
 use clap::error::ErrorKind;
 use clap::{Arg, ArgAction, ArgMatches, Command};
@@ -21,6 +22,15 @@ const MOST_STEPS: u64 = 1_000_000_000;
 /// The number of steps where none is asked for.
 const DEFAULT_STEPS: u64 = 1_000_000;
 
+/// The greatest seed.
+const MOST_SEED: u64 = 2_147_483_647;
+
+/// The least size.
+const LEAST_SIZE: u64 = 1;
+
+/// The greatest size.
+const MOST_SIZE: u64 = 10_000;
+
 /// A search with so many steps at most, whether the line with the verdict is left out, and the name of the formula's file.
 #[derive(Clone, Copy)]
 pub struct SolveWords<'a> {
@@ -29,9 +39,23 @@ pub struct SolveWords<'a> {
     pub file: &'a str,
 }
 
+/// A search on the formula that is planted by a seed, in a size.
+#[derive(Clone, Copy, Debug)]
+pub struct DemoWords {
+    pub seed: u64,
+    pub size: u64,
+}
+
+/// What the words ask for.
+#[derive(Clone, Copy)]
+pub enum CommandWords<'a> {
+    Solve(SolveWords<'a>),
+    Demo(DemoWords),
+}
+
 // An argument that is known by its place, has to be there, and is given once.
-fn file_argument<'a>(alloc: Global, id: &'a str) -> Arg<'a>
-    ensures rule { rule_of result ≡ required_file id.entry.now }
+fn word_argument<'a>(alloc: Global, id: &'a str) -> Arg<'a>
+    ensures rule { rule_of result ≡ required_word id.entry.now }
     ensures local { result.global ≡ false }
 {
     Arg::new(alloc, id).required(true).action(ArgAction::Set)
@@ -60,7 +84,7 @@ fn solve_command<'a>(alloc: Global) -> Result<Command<'a>, AllocError>
 {
     let steps = option_argument(alloc, "steps");
     let bare = flag_argument(alloc, "bare");
-    let file = file_argument(alloc, "FILE");
+    let file = word_argument(alloc, "FILE");
     Command::new(alloc, "solve")
         .disable_help_flag(true)
         .disable_version_flag(true)
@@ -69,27 +93,43 @@ fn solve_command<'a>(alloc: Global) -> Result<Command<'a>, AllocError>
         .arg(file)
 }
 
-// `dqsolve`, with its subcommand.
+// `demo SEED SIZE`.
+fn demo_command<'a>(alloc: Global) -> Result<Command<'a>, AllocError>
+    ensures shape { IfOk result (λ command. shape_of command ≡ demo_shape) }
+    ensures local { IfOk result (λ command. (out-Command command).has_globals ≡ false) }
+{
+    let seed = word_argument(alloc, "SEED");
+    let size = word_argument(alloc, "SIZE");
+    Command::new(alloc, "demo")
+        .disable_help_flag(true)
+        .disable_version_flag(true)
+        .arg(seed)?
+        .arg(size)
+}
+
+// `dqsolve`, with its subcommands.
 fn solver_command<'a>(alloc: Global) -> Result<Command<'a>, AllocError>
     ensures { IfOk result (λ command. app_of command ≡ solver_app) }
 {
     let solve = solve_command(alloc)?;
+    let demo = demo_command(alloc)?;
     Command::new(alloc, "dqsolve")
         .disable_help_flag(true)
         .disable_version_flag(true)
         .disable_help_subcommand(true)
-        .subcommand(solve)
+        .subcommand(solve)?
+        .subcommand(demo)
 }
 
-// A number of steps in the range.
-fn steps_of(text: &str) -> Option<u64>
-    ensures { result ≡ steps_of text.now }
+// A number in a range.
+fn number_in(text: &str, least: u64, most: u64) -> Option<u64>
+    ensures { result ≡ number_in least most text.now }
 {
-    let Ok(steps) = text.parse::<u64>() else {
+    let Ok(number) = text.parse::<u64>() else {
         return None;
     };
-    if LEAST_STEPS <= steps && steps <= MOST_STEPS {
-        Some(steps)
+    if least <= number && number <= most {
+        Some(number)
     } else {
         None
     }
@@ -100,7 +140,7 @@ fn steps_in<'a>(matches: &ArgMatches<'a>) -> Option<u64>
     ensures { result ≡ steps_in (rows_of (found_of matches.now)) }
 {
     match matches.get_str("steps") {
-        Some(text) => steps_of(text),
+        Some(text) => number_in(text, LEAST_STEPS, MOST_STEPS),
         None => Some(DEFAULT_STEPS),
     }
 }
@@ -117,7 +157,7 @@ fn bare_in<'a>(matches: &ArgMatches<'a>) -> bool
 
 // What the matches of `solve` ask for.
 fn solve_in<'a>(matches: &ArgMatches<'a>) -> Option<SolveWords<'a>>
-    ensures { option_map (λ w. record { steps = w.steps; bare = w.bare; file = w.file.now }) result ≡ solve_in (rows_of (found_of matches.now)) }
+    ensures { option_map search_of result ≡ solve_in (rows_of (found_of matches.now)) }
 {
     let Some(file) = matches.get_str("FILE") else {
         return None;
@@ -129,20 +169,61 @@ fn solve_in<'a>(matches: &ArgMatches<'a>) -> Option<SolveWords<'a>>
     Some(SolveWords { steps, bare, file })
 }
 
+// The number in a range that the matches give a name.
+fn named_number<'a>(matches: &ArgMatches<'a>, id: &str, least: u64, most: u64) -> Option<u64>
+    ensures { result ≡ option_and_then (number_in least most) (first_of id.now (rows_of (found_of matches.now))) }
+{
+    match matches.get_str(id) {
+        Some(text) => number_in(text, least, most),
+        None => None,
+    }
+}
+
+// What the matches of `demo` ask for.
+fn demo_in<'a>(matches: &ArgMatches<'a>) -> Option<DemoWords>
+    ensures { option_map planting_of result ≡ demo_in (rows_of (found_of matches.now)) }
+{
+    let Some(seed) = named_number(matches, "SEED", 0, MOST_SEED) else {
+        return None;
+    };
+    let Some(size) = named_number(matches, "SIZE", LEAST_SIZE, MOST_SIZE) else {
+        return None;
+    };
+    Some(DemoWords { seed, size })
+}
+
+// What the matches ask of the subcommand of a name.
+fn asked_of<'a>(name: &str, matches: &ArgMatches<'a>) -> Option<CommandWords<'a>>
+    ensures { option_map command_said result ≡ asked_of name.now (rows_of (found_of matches.now)) }
+{
+    if name == "demo" {
+        let Some(planting) = demo_in(matches) else {
+            return None;
+        };
+        return Some(CommandWords::Demo(planting));
+    }
+    match solve_in(matches) {
+        Some(search) => Some(CommandWords::Solve(search)),
+        None => None,
+    }
+}
+
 // What the matches ask for.
-fn command_in<'a>(matches: &ArgMatches<'a>) -> Option<SolveWords<'a>>
-    ensures { option_map (λ w. record { steps = w.steps; bare = w.bare; file = w.file.now }) result ≡ command_in (subcommand_rows_of matches.now) }
+fn command_in<'a>(matches: &ArgMatches<'a>) -> Option<CommandWords<'a>>
+    ensures { option_map command_said result ≡ command_in (subcommand_rows_of matches.now) }
 {
     match matches.subcommand() {
-        Some((_, matches)) => solve_in(matches),
+        Some((name, matches)) => asked_of(name, matches),
         None => None,
     }
 }
 
 /// What the words ask for; `None` where they are refused. The first word is the program's own name.
-pub fn solve_words<'a>(alloc: Global, words: &'a [String]) -> Result<Option<SolveWords<'a>>, Memory>
-    ensures { IfOk result (λ answer. option_map (λ w. record { steps = w.steps; bare = w.bare; file = w.file.now }) answer
-        ≡ command_of (map string_bytes words.now)) }
+pub fn command_words<'a>(
+    alloc: Global,
+    words: &'a [String],
+) -> Result<Option<CommandWords<'a>>, Memory>
+    ensures { IfOk result (λ answer. option_map command_said answer ≡ command_of (map string_bytes words.now)) }
 {
     let command = solver_command(alloc)?;
     match command.try_get_matches_from(words) {

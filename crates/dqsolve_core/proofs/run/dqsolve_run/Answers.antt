@@ -1,7 +1,7 @@
 use Rattle.std.proofs.Common.{ap, ◌∙◌, map, string_bytes}
 use Rattle.std.specs.Io.KnownBytes.{append_known}
 use Rattle.dq_io.specs.State.{state_of}
-use Rattle.dqsolve_core.proofs.Runs.{solution, solved_told}
+use Rattle.dqsolve_core.proofs.Runs.{solution, solved_told, demonstrated_told}
 use Rattle.dqsolve_core.proofs.run.dqsolve_run.Goals as goal
 
 pub returns-in-Ok-write_all-clause-right : goal.returns-in-Ok-write_all-clause-right
@@ -21,3 +21,9 @@ returns-in-Ok-write_all-clause-solved g c formula f told short spelled sound _ _
     (g.K.Sink.taken c.args.out.now) (g.K.Sink.taken c.write_all.new.sink) c.in-Ok.output c.in-Ok.ensures.due
     (c.in-Ok-write_all.ensures.ok ∙ ap (append_known (g.K.Sink.taken c.args.out.now)) c.deref.ensures.value)
     formula f told short spelled sound
+
+pub returns-in-Ok-write_all-clause-demonstrated : goal.returns-in-Ok-write_all-clause-demonstrated
+returns-in-Ok-write_all-clause-demonstrated g c p asked _ _ =
+    demonstrated_told (state_of g.F.Files c.args.files.now) (state_of g.F.Files c.report.new.files) (map string_bytes c.args.words.now) c.report.new.log
+    (g.K.Sink.taken c.args.out.now) (g.K.Sink.taken c.write_all.new.sink) c.in-Ok.output c.in-Ok.ensures.due
+    (c.in-Ok-write_all.ensures.ok ∙ ap (append_known (g.K.Sink.taken c.args.out.now)) c.deref.ensures.value) p asked

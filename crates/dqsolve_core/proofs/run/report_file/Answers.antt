@@ -2,6 +2,7 @@ use Rattle.std.proofs.Common.{◌∙◌, ap, inr, refl}
 use Rattle.hint_log.specs.Entries.{ProofLog}
 use Rattle.dq_io.specs.State.{state_of}
 use Rattle.dqcheck_core.proofs.Runs.{told_text, is_short}
+use Rattle.dqsolve_words.specs.Command.{solve}
 use Rattle.dqsolve_core.proofs.Runs.{verdict_due}
 use Rattle.dqsolve_core.proofs.run.report_file.Goals as goal
 
@@ -26,11 +27,11 @@ returns-in-Ok-read-clause-due g c =
 pub returns-in-Ok-read-clause-log : goal.returns-in-Ok-read-clause-log
 returns-in-Ok-read-clause-log g c =
     inr (record {
-      asked = record { steps = c.args.asked.steps; bare = c.args.asked.bare; file = c.args.asked.file.now };
+      asked = solve (record { steps = c.args.asked.steps; bare = c.args.asked.bare; file = c.args.asked.file.now });
       is = refl;
       limit = c.solve.ensures.limit ∙ ap (λ (log : ProofLog). log.limit) c.rewind.ensures;
       f = c.in-Ok-read.formula;
-      read = record {
+      formula = record {
         text = c.in-Ok.text.items;
         read = record {
           is = told_text (g.F.Files.held c.args.files.now c.args.asked.file.now) c.in-Ok.text.items c.in-Ok.ensures.bytes

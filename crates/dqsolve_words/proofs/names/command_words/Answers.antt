@@ -3,7 +3,7 @@ use Rattle.clap.specs.Simple.{app_of, subcommand_rows_of}
 use Rattle.clap.specs.Values.{kind_of}
 use Rattle.clap.specs.declared.error.kind.ErrorKind.TheVariants.{OutOfMemory}
 use Rattle.dqsolve_words.proofs.Matches.{parse_gives, refusal_gives}
-use Rattle.dqsolve_words.proofs.names.solve_words.Goals as goal
+use Rattle.dqsolve_words.proofs.names.command_words.Goals as goal
 
 pub returns-in-Ok : goal.returns-in-Ok
 returns-in-Ok c = c.command_in.ensures

@@ -1,0 +1,17 @@
+use Rattle.std.proofs.Common.{◌∙◌, ◌++◌, ap, cond, [], codes}
+use Rattle.dqcheck_core.specs.Report.{line}
+use Rattle.dqsolve_core.proofs.Showing.{shown_true}
+use Rattle.dqsolve_core.proofs.verdicts.true_text.Goals as goal
+
+pub returns : goal.returns
+returns c =
+    let exported = c.in_ok-file.ensures in
+    record {
+      file = c.in_ok-file.file;
+      proof = c.in_ok-file.proof;
+      shown = shown_true c.proved_circuits_are_accepted.ensures c.small_logs_are_within_limits.ensures c.args.f.now c.args.log.now c.args.bare
+          c.in_ok-file.file c.in_ok-file.proof c.every_formula_is_lawful.ensures
+          c.requires.is_true
+          (record { proved = exported.proved; gates = exported.gates; numbers = exported.numbers; few = exported.few; spelled = exported.spelled; allowed = exported.allowed });
+      is = c.in_ok-text.ensures ∙ ap (λ evidence. cond c.args.bare [] (line (codes "s TRUE")) ++ evidence) c.in_ok-evidence.ensures;
+    }

@@ -1,0 +1,16 @@
+-- The command of words that were read.
+use Rattle.dqsolve_words.specs.Command.{Search, Planting, Command, solve, demo}
+use Rattle.dqsolve_words.specs.declared.names.SolveWords.{SolveWords}
+use Rattle.dqsolve_words.specs.declared.names.DemoWords.{DemoWords}
+use Rattle.dqsolve_words.specs.declared.names.CommandWords.{CommandWords}
+use Rattle.dqsolve_words.specs.declared.names.CommandWords.TheVariants.{Solve, Demo}
+
+abbrev pub search_of : SolveWords → Search
+search_of w = record { steps = w.steps; bare = w.bare; file = w.file.now }
+
+abbrev pub planting_of : DemoWords → Planting
+planting_of w = record { seed = w.seed; size = w.size }
+
+abbrev pub command_said : CommandWords → Command
+command_said (Solve w) = solve (search_of w)
+command_said (Demo w) = demo (planting_of w)
