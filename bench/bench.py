@@ -2,14 +2,20 @@
 """Makes large inputs, runs the built checker on them, and prints what it answers, how long it took, how many MB of
 input it read in a second, and its peak memory.
 
-Usage: bench/bench.py [NAME..]     all measurements, or those whose names contain a NAME
+Usage: bench/bench.py [--beside PROGRAM] [--instructions] [NAME..]
+
+All measurements are made, or those whose names contain a NAME. With --beside the same inputs are given to another
+checker of the same command line, and each line ends with how many times its time the checker took. With --instructions
+both run under valgrind's callgrind, which takes 50 times as long, and instructions are counted in place of seconds.
 
 Where the variable DQCHECK is set, it names the checker that is measured. Behind the measurements of large honest inputs
 stand hostile ones at two sizes, whose time and memory are to follow the text.
 """
 
+import argparse
 import os
 import random
+import re
 import subprocess
 import sys
 import tempfile
@@ -28,10 +34,19 @@ def numbers(first, last, step=1):
     return " ".join(map(str, range(first, last + 1, step)))
 
 
-def rows():
-    """2^20 rows of a circuit of 100 gates and 300 clauses: outputs are chains of gates, and each clause holds."""
-    universals = 20
-    chain, outputs = 20, 5
+def rows(universals):
+    """All rows of a circuit of 100 gates and 300 clauses: outputs are chains of gates, and each clause holds."""
+    return chains(universals, 20, 300)
+
+
+def gates_by_rows(count):
+    """4,096 rows of so many gates and 10 clauses."""
+    return chains(12, count // 5, 10)
+
+
+def chains(universals, chain, count):
+    """Five outputs, each with a chain of gates, and clauses that each hold."""
+    outputs = 5
     existentials = list(range(universals + 1, universals + outputs + 1))
     gates, literals, variable = [], [], universals
     for output in range(outputs):
@@ -42,7 +57,7 @@ def rows():
             side = 2 * variable + step % 2
         literals.append(side)
     clauses = []
-    for j in range(300):
+    for j in range(count):
         y = existentials[j % outputs]
         x = j % universals + 1
         clauses.append(f"{y} {-y} {x} {-(x % universals + 1)} 0")
@@ -497,7 +512,8 @@ def at(make, size):
 
 
 MEASUREMENTS = [
-    rows,
+    *(at(rows, universals) for universals in (14, 20)),
+    at(gates_by_rows, 100_000),
     large_formula,
     long_clause,
     many_items,
@@ -536,32 +552,61 @@ def write(make, paths):
     os.waitpid(writer, 0)
 
 
-def measure(folder, make):
+def run(command):
+    """What a command wrote, its status, its seconds and its peak memory in KB."""
+    started = time.perf_counter()
+    process = subprocess.Popen(command, stdout=subprocess.PIPE, stderr=subprocess.DEVNULL)
+    answer = process.stdout.read().decode().strip()
+    _, status, usage = os.wait4(process.pid, 0)
+    process.returncode = os.waitstatus_to_exitcode(status)
+    return answer, process.returncode, time.perf_counter() - started, usage.ru_maxrss
+
+
+def instructions(folder, command):
+    """How many instructions a command takes, by callgrind."""
+    counts = os.path.join(folder, "callgrind")
+    run(["valgrind", "--tool=callgrind", f"--callgrind-out-file={counts}", *command])
+    with open(counts, encoding="ascii") as file:
+        return int(re.search(r"^(?:summary|totals): (\d+)", file.read(), re.MULTILINE).group(1))
+
+
+def measure(folder, make, beside, counts):
     paths = [os.path.join(folder, kind) for kind in ("formula", "certificate")]
     write(make, paths)
     size = sum(os.path.getsize(path) for path in paths if os.path.exists(path))
-    started = time.perf_counter()
-    run = subprocess.Popen([CHECKER, *paths], stdout=subprocess.PIPE)
-    answer = run.stdout.read().decode().strip()
-    _, status, usage = os.wait4(run.pid, 0)
-    run.returncode = os.waitstatus_to_exitcode(status)
-    seconds = time.perf_counter() - started
+    answer, status, seconds, peak = run([CHECKER, *paths])
+    if counts:
+        cost = instructions(folder, [CHECKER, *paths])
+        line = f"{make.__name__:24} {size / MEGABYTE:8.1f} MB {cost / 1_000_000:10.1f} million instructions"
+    else:
+        cost = seconds
+        line = (
+            f"{make.__name__:24} {size / MEGABYTE:8.1f} MB {seconds:8.2f} s {size / MEGABYTE / seconds:8.1f} MB/s"
+            f" {peak / 1000:8.0f} MB peak"
+        )
+    line += f"   {status} {answer[:60]}"
+    if beside:
+        other, other_status, other_seconds, _ = run([beside, *paths])
+        other_cost = instructions(folder, [beside, *paths]) if counts else other_seconds
+        line += f"   {cost / other_cost:.2f} times" + ("" if other_status == status else f", which said {other[:60]}")
+    print(line, flush=True)
     for path in paths:
         if os.path.exists(path):
             os.remove(path)
-    print(
-        f"{make.__name__:24} {size / MEGABYTE:8.1f} MB {seconds:8.2f} s {size / MEGABYTE / seconds:8.1f} MB/s"
-        f" {usage.ru_maxrss / 1000:8.0f} MB peak   {run.returncode} {answer[:60]}"
-    )
 
 
 def main():
+    parser = argparse.ArgumentParser(description="measures the built checker on large inputs")
+    parser.add_argument("--beside", metavar="PROGRAM", help="another checker, on the same inputs")
+    parser.add_argument("--instructions", action="store_true", help="count instructions in place of seconds")
+    parser.add_argument("names", nargs="*", metavar="NAME", help="what the measurements' names contain")
+    words = parser.parse_args()
     if not os.path.exists(CHECKER):
         sys.exit(f"{CHECKER} isn't built: run `rt run` in crates/dqcheck, or `rt ci` at the top")
     with tempfile.TemporaryDirectory() as folder:
         for make in MEASUREMENTS:
-            if not sys.argv[1:] or any(word in make.__name__ for word in sys.argv[1:]):
-                measure(folder, make)
+            if not words.names or any(name in make.__name__ for name in words.names):
+                measure(folder, make, words.beside, words.instructions)
 
 
 if __name__ == "__main__":

@@ -6,3 +6,6 @@ pub mod SortingLaws
 pub mod ValueLaws
 pub mod WordsLaws
 pub mod WalkingLaws
+pub mod LaneLaws
+pub mod PatternLaws
+pub mod BlockLaws

@@ -1,3 +1,4 @@
+pub mod Blocks
 pub mod Ground
 pub mod Netlist
 pub mod Order

@@ -1,3 +1,4 @@
 mod Rows
 mod Extends
 mod Stages
+mod Defined

@@ -10,7 +10,7 @@ use Rattle.hint_log.specs.Growth.{Grew}
 use Rattle.hint_log.specs.Naming.{rows_of}
 use Rattle.hint_log.specs.ProductiveLog.{IsNewFailure, HasModelWith, IsProductiveLog, fault_groups}
 use Rattle.oracle.specs.Searched.{IsSearched}
-use Rattle.log_laws.specs.Engines.{Engine, circuits, instances, part, is_own, HasNone, IsAddedBy, EnginesLeaveRest}
+use Rattle.log_laws.specs.Engines.{Engine, circuits, instances, is_own, same_engine, HasNone, IsAddedBy, EnginesLeaveRest}
 use Rattle.dq_lits.specs.Skolem.{IsSupported}
 use Rattle.aig_graph.specs.declared.nodes.Node.{Node}
 use Rattle.aig_graph.specs.Graph.{AigGraph}
@@ -21,7 +21,7 @@ use Rattle.circuit_cnf.specs.Checking.{IsChecker, group_of, CheckersStay, Checke
 use Rattle.expansion.specs.Table.{TableState, IsTable, IsFullTable}
 use Rattle.expansion.specs.Standing.{EnginesLeaveTables, RoundsLeaveTables}
 use Rattle.log_laws.proofs.Growing.{count_grown}
-use Rattle.repair_loop.specs.Searching.{LogGrew, IsKept, IsSearch, AreCandidates, IsCounterexample, AreRefuted, IsRoundLogged}
+use Rattle.repair_loop.specs.Searching.{LogGrew, IsKept, IsFresh, IsSearch, AreCandidates, IsCounterexample, AreRefuted, IsRoundLogged}
 use Rattle.repair_loop.proofs.Rows.{no_old_row}
 use Rattle.repair_loop.proofs.Extends.{extends}
 
@@ -189,7 +189,7 @@ productive f entries kept searched = record {
   givens_are_not_repeated = kept.givens;
 }
 
-no_element : (e : Entry) → Contains [] e → ⊥
+pub no_element : (e : Entry) → Contains [] e → ⊥
 no_element e (k, below, _) = absurd (omega (arith, below))
 
 contains_first : (x : Entry) (es : List Entry) → Contains (x ∷ es) x
@@ -211,28 +211,37 @@ contains_filtered test (x ∷ es) e passes (suc k, below, is) =
     by_bit true there = contains_later x (filter test es) e there
     by_bit false there = there
 
--- what the table named and gave is none of the circuits'
-pub none_yet : EnginesLeaveRest → (f : Dqbf) (old new : ProofLog) → old.entries ≡ [] → ((group : ℕ) → Grew (IsAddedBy f instances group true old.entries) old new)
-    → HasNone circuits new.entries
-none_yet law f old new empty grew e own inside =
-    let left = law f instances 0 true old new (grew 0) in
-    let others : part circuits new.entries ≡ [] = left.others circuits refl ∙ ap (part circuits) empty in
-    let kept = contains_filtered (is_own circuits) new.entries e own inside in
-    no_element e (subst (λ es. Contains es e) others kept)
+-- and what is left by the test is an element
+contains_unfiltered : (test : Entry → Bool) (es : List Entry) (e : Entry) → Contains (filter test es) e → Contains es e
+contains_unfiltered test [] e inside = inside
+contains_unfiltered test (x ∷ es) e inside = by_bit (test x) (contains_unfiltered test es e) inside
+  where
+    by_bit : (b : Bool) → (Contains (filter test es) e → Contains es e) → Contains (cond b (x ∷ filter test es) (filter test es)) e → Contains (x ∷ es) e
+    by_bit true later (zero, below, is) = (zero, omega arith, is)
+    by_bit true later (suc k, below, is) = contains_later x es e (later (k, omega (arith, below), is))
+    by_bit false later there = contains_later x es e (later there)
+
+-- an engine of which the log has nothing gets nothing by another engine's call
+pub none_stays : EnginesLeaveRest → (which : Engine) (f : Dqbf) (engine : Engine) (group : ℕ) (silent : Bool) (old new : ProofLog) → same_engine which engine ≡ false
+    → Grew (IsAddedBy f engine group silent old.entries) old new → HasNone which old.entries → HasNone which new.entries
+none_stays law which f engine group silent old new other grew none e own inside =
+    let left = law f engine group silent old new grew in
+    let here = contains_filtered (is_own which) new.entries e own inside in
+    none e own (contains_unfiltered (is_own which) old.entries e (subst (λ es. Contains es e) (left.others which other) here))
 
 -- before the first turn
 pub begun : EnginesLeaveRest → EnginesLeaveTables → (f : Dqbf) → IsWellFormed f → (graph : AigGraph) (t : TableState) (c : Checker) (first second third : ProofLog) → graph.inputs ≡ length f.universals
-    → first.entries ≡ [] → ((group : ℕ) → Grew (IsAddedBy f instances group true first.entries) first second) → IsTable f t second.entries → t.rows ≡ []
+    → IsFresh f first.entries → ((group : ℕ) → Grew (IsAddedBy f instances group true first.entries) first second) → IsTable f t second.entries → t.rows ≡ []
     → ((group : ℕ) → Grew (IsAddedBy f circuits group true second.entries) second third) → IsChecker f c third.entries → name_of second.entries (group_of c) ≡ None
     → fault_groups third.entries ≡ fault_groups second.entries → IsSearch f graph t c third.entries
-begun law tables f well graph t c first second third inputs empty g table rows k checker fresh faults =
+begun law tables f well graph t c first second third inputs start g table rows k checker fresh faults =
     let left = law f instances 0 true first second (g 0) in
     let apart : t.group ≢ group_of c = λ e. let is = table.group in let none : name_of second.entries t.group ≡ None = ap (name_of second.entries) e ∙ fresh in cc in
-    let full : IsFullTable f t second.entries = record { formula = well; table = table; rows = left.rows ∙ ap rows_of empty ∙ sym rows } in
-    let none : length (fault_groups third.entries) ≡ 0 = ap length (faults ∙ left.faults refl ∙ ap fault_groups empty) in
+    let full : IsFullTable f t second.entries = record { formula = well; table = table; rows = left.rows ∙ start.no_rows ∙ sym rows } in
+    let none : length (fault_groups third.entries) ≡ 0 = ap length (faults ∙ left.faults refl ∙ start.no_faults) in
     record {
-      kept = still_kept law f circuits 0 true second third (k 0) (still_kept law f instances 0 true first second (g 0) (no_entries_kept f first.entries empty));
-      undecided = still_undecided law f circuits 0 true second third refl (k 0) (still_undecided law f instances 0 true first second refl (g 0) (no_entries_undecided f first.entries empty));
+      kept = still_kept law f circuits 0 true second third (k 0) (still_kept law f instances 0 true first second (g 0) start.kept);
+      undecided = still_undecided law f circuits 0 true second third refl (k 0) (still_undecided law f instances 0 true first second refl (g 0) start.undecided);
       table = (tables f t circuits (group_of c) true second third (k (group_of c)) refl apart).1 full;
       checked = checker;
       apart = apart;

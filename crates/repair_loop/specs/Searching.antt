@@ -1,5 +1,5 @@
 -- What the loop keeps from turn to turn, and what its verdicts say.
-use Rattle.std.specs.Prelude.{◌≡◌, ◌≢◌, ◌+◌, ◌≤◌, ◌++◌, ◌∷◌, [], ℕ, Bool, false, List, map, length, Some}
+use Rattle.std.specs.Prelude.{◌≡◌, ◌≢◌, ◌+◌, ◌≤◌, ◌++◌, ◌∷◌, [], ℕ, Bool, false, List, map, length, Option, None, Some}
 use Rattle.std.specs.List.{All}
 use Rattle.dq_lits.specs.Literal.{Literal, clause_true}
 use Rattle.dq_lits.specs.Formula.{Dqbf, Existential}
@@ -18,6 +18,9 @@ use Rattle.circuit_cnf.specs.Checking.{IsChecker, group_of}
 use Rattle.circuit_cnf.specs.Shown.{IsShownBy}
 use Rattle.expansion.specs.Table.{TableState, IsTable, IsFullTable, PointBits, ArePoints, IsRefutedBy}
 use Rattle.candidate_functions.specs.Candidates.{AgreeAtPairs}
+use Rattle.log_laws.specs.Engines.{circuits, instances, HasNone}
+use Rattle.padoa_definitions.specs.declared.defining.Found.{Found}
+use Rattle.padoa_definitions.specs.declared.defining.Found.TheVariants.{Defined, Free}
 
 -- the points of a productive log that the engines and the loop keep; the solver keeps the others
 pub record IsKept (f : Dqbf) (entries : List Entry) : Type 0 where
@@ -25,6 +28,20 @@ pub record IsKept (f : Dqbf) (entries : List Entry) : Type 0 where
   pub new_rows : Each (RefutesNewRow f) entries
   pub models : Each (FollowsModel f) entries
   pub givens : Each IsNotRepeated entries
+
+-- before the first turn: nothing is named or given for circuits or instances yet
+pub record IsFresh (f : Dqbf) (entries : List Entry) : Type 0 where
+  pub kept : IsKept f entries
+  pub undecided : IsUndecided f entries
+  pub no_rows : rows_of entries ≡ []
+  pub no_faults : fault_groups entries ≡ []
+  pub no_circuits : HasNone circuits entries
+  pub no_instances : HasNone instances entries
+
+-- the definition that was found, or none
+abbrev pub definition_in : Found → Option Node
+definition_in (Defined node) = Some node
+definition_in (Free pair) = None
 
 -- before a turn
 pub record IsSearch (f : Dqbf) (graph : AigGraph) (t : TableState) (c : Checker) (entries : List Entry) : Type 0 where

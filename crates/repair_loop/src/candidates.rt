@@ -1,11 +1,13 @@
 //! Candidates from a model of the expansion.
 
 ghost use Rattle.std.specs.Prelude.{◌≡◌, ℕ, OnErr, IsErrOf, Ok};
+ghost use Rattle.aig_graph.specs.Made.{Extends};
+ghost use Rattle.candidate_functions.specs.Candidates.{AreDefinitions};
 ghost use Rattle.hint_log.specs.Deciding.{IsUndecided};
 ghost use Rattle.hint_log.specs.Entries.{steps_of};
 ghost use Rattle.repair_loop.specs.Searching.{IsKept, IsSearch, AreBuilt, LogGrew, IsShownFalse};
 
-use aig_graph::Graph;
+use aig_graph::{Graph, Node};
 use candidate_functions::{Outputs, build};
 use circuit_cnf::Checker;
 use circuit_cnf::laws::checkers_stay;
@@ -23,20 +25,22 @@ pub(crate) enum Found {
     Refuted(u64),
 }
 
-// Candidates from a model of the instances.
+// Candidates from a model of the instances, and the definitions that there are.
 pub(crate) fn find_candidates<O: Oracle>(
     alloc: Global,
     oracle: &mut O,
     graph: &mut Graph,
     table: &mut Table,
     checker: &Checker,
+    definitions: &[Option<Node>],
     f: &Formula,
     log: &mut Log,
 ) -> Result<Found, Stop>
     requires fit { O.Fits oracle.old log.old }
     requires search { IsSearch f.now graph.old table.old checker.now log.old.entries }
+    requires definitions { AreDefinitions f.now graph.old definitions.now }
     ensures fit { O.Fits oracle.new log.new }
-    ensures inputs { graph.new.inputs ≡ graph.old.inputs }
+    ensures extends { Extends graph.old graph.new }
     ensures kept { IsKept f.now log.new.entries }
     ensures grew { LogGrew log.old log.new }
     ensures refuted { (id : ℕ) → result ≡ Ok (Found.Refuted id) → IsShownFalse f.now log.new id }
@@ -50,7 +54,7 @@ pub(crate) fn find_candidates<O: Oracle>(
     match table.solve(oracle, log)? {
         Exp::Refuted(id) => Ok(Found::Refuted(id)),
         Exp::Model(points) => {
-            let outputs = build(alloc, f, table, &points, &[], &[], graph)?;
+            let outputs = build(alloc, f, table, &points, &[], definitions, graph)?;
             Ok(Found::Candidates(outputs))
         }
     }

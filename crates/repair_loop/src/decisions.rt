@@ -3,11 +3,13 @@ ghost use Rattle.dq_lits.specs.Formula.{IsWellFormed};
 ghost use Rattle.hint_log.specs.Deciding.{IsUndecided, KeepsSelectors};
 ghost use Rattle.hint_log.specs.Entries.{steps_of};
 ghost use Rattle.hint_log.specs.ProductiveLog.{IsProductiveLog};
+ghost use Rattle.candidate_functions.specs.Candidates.{AreDefinitions};
 ghost use Rattle.repair_loop.specs.Searching.{IsKept, IsSearch, IsShownTrue, IsShownFalse};
 
 use crate::candidates::{Found, find_candidates};
+use crate::definitions::find_definitions;
 use crate::judging::{Judged, judge};
-use aig_graph::Graph;
+use aig_graph::{Graph, Node};
 use candidate_functions::Outputs;
 use circuit_cnf::Checker;
 use circuit_cnf::laws::checkers_stay;
@@ -53,9 +55,19 @@ pub fn decide<O: Oracle>(
 {
     engines_leave_the_rest();
     engines_leave_tables();
+    let definitions = find_definitions(alloc, oracle, graph, f, log)?;
     let mut table = Table::new(alloc, oracle, f, log)?;
     let mut checker = Checker::new(alloc, oracle, f, log)?;
-    all_rounds(alloc, oracle, graph, &mut table, &mut checker, f, log)
+    all_rounds(
+        alloc,
+        oracle,
+        graph,
+        &mut table,
+        &mut checker,
+        &definitions.nodes,
+        f,
+        log,
+    )
 }
 
 // Turns until there is a verdict or a stop.
@@ -65,11 +77,13 @@ fn all_rounds<O: Oracle>(
     graph: &mut Graph,
     table: &mut Table,
     checker: &mut Checker,
+    definitions: &[Option<Node>],
     f: &Formula,
     log: &mut Log,
 ) -> Result<Verdict, Stop>
     requires fit { O.Fits oracle.old log.old }
     requires search { IsSearch f.now graph.old table.old checker.old log.old.entries }
+    requires definitions { AreDefinitions f.now graph.old definitions.now }
     ensures fit { O.Fits oracle.new log.new }
     ensures inputs { graph.new.inputs ≡ graph.old.inputs }
     ensures kept { IsKept f.now log.new.entries }
@@ -82,7 +96,16 @@ fn all_rounds<O: Oracle>(
     engines_leave_the_rest();
     checkers_stay();
     loop {
-        let outputs = match find_candidates(alloc, oracle, graph, table, checker, f, log)? {
+        let outputs = match find_candidates(
+            alloc,
+            oracle,
+            graph,
+            table,
+            checker,
+            definitions,
+            f,
+            log,
+        )? {
             Found::Candidates(outputs) => outputs,
             Found::Refuted(id) => return Ok(Verdict::False(id)),
         };

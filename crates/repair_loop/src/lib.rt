@@ -6,4 +6,5 @@ pub use decisions::{Verdict, decide};
 
 mod candidates;
 mod decisions;
+mod definitions;
 mod judging;

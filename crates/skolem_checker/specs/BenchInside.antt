@@ -1,5 +1,5 @@
 -- What a `Bench` shows of its fields, and what it keeps of them.
-use Rattle.std.specs.Prelude.{◌≡◌, ℕ, ◌+◌, Bool, List, length}
+use Rattle.std.specs.Prelude.{◌≡◌, ℕ, ◌+◌, ◌≤◌, List, length}
 use Rattle.dq_lits.specs.Formula.{Dqbf, IsWellFormed}
 use Rattle.circuit_plain.specs.Netlist.{Netlist, IsNetlist}
 use Rattle.circuit_plain.specs.Order.{IsOrder}
@@ -14,7 +14,7 @@ use Rattle.skolem_checker.specs.declared.reads.ReadWords.{ReadWords}
 use Rattle.skolem_checker.specs.declared.bench.Bench.TheInside.{Inside}
 
 -- the circuit is complete and mapped; order, tables and buffers are those of its renumbered copy
-pub record IsReady (f : Dqbf) (net copy : Netlist) (mapping : Mapping) (order literals places by_input : List ℕ) (words : ReadWords) (bits values : List Bool) : Type 0 where
+pub record IsReady (f : Dqbf) (net copy : Netlist) (mapping : Mapping) (order literals places by_input : List ℕ) (words : ReadWords) (values : List (List ℕ)) : Type 0 where
   pub formed : IsWellFormed f
   pub complete : IsComplete net
   pub kept : IsNetlist net
@@ -25,8 +25,7 @@ pub record IsReady (f : Dqbf) (net copy : Netlist) (mapping : Mapping) (order li
   pub tables : AreTables f copy mapping literals places
   pub by_input_is : by_input ≡ universal_places f mapping
   pub has_words : HasWords copy f words
-  pub a_bit_an_input : length bits ≡ length copy.inputs
-  pub a_value_a_variable : length values ≡ copy.max_var + 1
+  pub a_value_a_variable : length f.universals ≤ 20 → length values ≡ copy.max_var + 1
 
 abbrev pub candidate_in : Inside → Candidate
 candidate_in b = record {
@@ -37,4 +36,4 @@ candidate_in b = record {
 abbrev pub is_ready : Inside → Type 0
 is_ready b =
     IsReady b.formula.now b.circuit.now b.copy (mapping_in b.mapped) b.order b.literals.items b.places.items b.universal_places.items
-    b.words b.bits b.values
+    b.words b.values

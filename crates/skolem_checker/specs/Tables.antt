@@ -1,11 +1,12 @@
 -- Words of private contracts: the tables by which the checks find a variable's circuit literal, and what they compute by
 -- them.
-use Rattle.std.specs.Prelude.{◌≡◌, ◌≢◌, ℕ, ◌+◌, ◌*◌, ◌<◌, ◌==◌, Bool, true, List, length, slice_index, All, AllPairs, Contains, map}
+use Rattle.std.specs.Prelude.{◌≡◌, ◌≢◌, ℕ, ◌+◌, ◌*◌, ◌/◌, ◌%◌, ◌<◌, ◌==◌, Bool, true, List, length, slice_index, All, AllPairs, Contains, map}
 use Rattle.std.specs.Int.{bit_at}
 use Rattle.std.specs.List.{position_or_len, list_all}
 use Rattle.dq_lits.specs.Literal.{Assignment, clause_true}
 use Rattle.dq_lits.specs.Formula.{Dqbf}
 use Rattle.dq_formula.specs.Prefix.{existential_variables}
+use Rattle.circuit_plain.specs.Blocks.{lane_bit}
 use Rattle.circuit_plain.specs.Netlist.{Netlist, literal_variable, literal_bit}
 use Rattle.circuit_plain.specs.Value.{IsValuation}
 use Rattle.circuit_plain.specs.Reach.{Reaches}
@@ -75,6 +76,10 @@ AreRowBits places k bits end = (i : ℕ) → i < end → bits i ≡ (bit_at k (s
 -- the place of each input's universal
 abbrev pub universal_places : Dqbf → Mapping → List ℕ
 universal_places f mapping = map (λ x. position_or_len (λ u. u == x) f.universals) mapping.inputs
+
+-- of a block of rows the bit of the row at place r, in four lanes of 64
+abbrev pub row_bit : List ℕ → ℕ → Bool
+row_bit lanes r = lane_bit lanes (r / 64) (r % 64)
 
 -- the clauses' test under the row of a number
 pub record RowTest (f : Dqbf) (net : Netlist) (literals places : List ℕ) (k : ℕ) (holds : Bool) : Type 0 where

@@ -1,5 +1,6 @@
-ghost use Rattle.std.specs.Prelude.{◌≡◌, ◌≢◌, ◌≤◌, length, AllPairs, IfOk};
+ghost use Rattle.std.specs.Prelude.{◌≡◌, ◌≢◌, ◌≤◌, ◌+◌, length, AllPairs, IfOk};
 ghost use Rattle.dq_lits.specs.Formula.{IsWellFormed};
+ghost use Rattle.circuit_plain.specs.Netlist.{IsNetlist};
 ghost use Rattle.circuit_plain.specs.Order.{IsOrder};
 ghost use Rattle.skolem_checker.specs.Checks.{candidate_of, IsReadsAnswer, IsRowsAnswer};
 ghost use Rattle.skolem_checker.specs.MappingReading.{Answers};
@@ -11,11 +12,14 @@ use crate::renumbering::renumbered;
 use crate::rows::first_bad_row;
 use crate::tables::{literal_table, place_table, universal_places};
 use aiger_text::AagFile;
-use circuit_plain::{Circuit, Order, OrderStop};
+use circuit_plain::{Block, Circuit, Order, OrderStop};
 use dq_formula::Formula;
-use dq_lits::{Memory, Row};
+use dq_lits::Memory;
 use std::alloc::Global;
 use std::marker::Model;
+
+// All rows are tried of at most so many universals.
+const MAX_UNIVERSALS: usize = 20;
 
 /// A circuit that is tested against a formula, with all that the tests need.
 #[derive(Debug, Drop)]
@@ -34,8 +38,8 @@ pub struct Bench<'a> {
     // By input, the place of its universal.
     universal_places: Vec<usize>,
     words: ReadWords,
-    bits: Row,
-    values: Row,
+    // By variable of the copy, its bits under a block of rows.
+    values: Block,
 }
 
 impl<'a> Model for Bench<'a> {
@@ -62,6 +66,19 @@ fn ordered(circuit: &Circuit) -> Result<Order, Memory>
     }
 }
 
+// A block for the circuit's variables, where there are few enough universals that all rows are tried.
+fn row_block(alloc: Global, f: &Formula, circuit: &Circuit) -> Result<Block, Memory>
+    ensures kept { IsNetlist circuit.now }
+    ensures ok { IfOk result (λ block. length f.now.universals ≤ 20
+        → length block ≡ circuit.now.max_var + 1) }
+{
+    let vars = circuit.max_var();
+    if f.universals().len() > MAX_UNIVERSALS {
+        return Ok(Block::new(alloc, 0)?);
+    }
+    Ok(Block::new(alloc, vars)?)
+}
+
 impl<'a> Bench<'a> {
     /// Maps the circuit's inputs to the formula's universals and its outputs to the existentials, and takes all the
     /// memory that the tests need: by the circuit's lines and the formula, whatever the circuit's largest variable. A
@@ -79,8 +96,7 @@ impl<'a> Bench<'a> {
         let places = place_table(alloc, f, &copy, &mapped)?;
         let universal_places = universal_places(alloc, f, &mapped.inputs)?;
         let words = ReadWords::new(alloc, f, &copy)?;
-        let values = Row::new(alloc, copy.max_var() as usize + 1)?;
-        let bits = Row::new(alloc, copy.inputs().len())?;
+        let values = row_block(alloc, f, &copy)?;
         Ok(Bench {
             formula: f,
             circuit,
@@ -91,7 +107,6 @@ impl<'a> Bench<'a> {
             places,
             universal_places,
             words,
-            bits,
             values,
         })
     }
@@ -157,7 +172,6 @@ impl<'a> Bench<'a> {
             &self.order,
             &self.literals,
             &self.universal_places,
-            &mut self.bits,
             &mut self.values,
         )
     }

@@ -1,47 +1,111 @@
-//! Rows of the universals, one by one.
+//! Rows of the universals, 256 at a time.
 
-ghost use Rattle.std.specs.Prelude.{◌≡◌, ◌+◌, ◌<◌, ◌≤◌, ◌^◌, true, false, length, All};
+ghost use Rattle.std.specs.Prelude.{◌≡◌, ◌==◌, ◌+◌, ◌-◌, ◌<◌, ◌≤◌, ◌^◌, ℕ, Bool, Option, None, Some, true, false, length, slice_index, All};
 ghost use Rattle.std.specs.List.{list_all};
-ghost use Rattle.dq_lits.specs.Literal.{variable_of, clause_true};
-ghost use Rattle.dq_lits.specs.Row.{bit_of};
+ghost use Rattle.dq_lits.specs.Literal.{variable_of, literal_true, clause_true};
+ghost use Rattle.circuit_plain.specs.Blocks.{lane_bit, block_bits};
+ghost use Rattle.circuit_plain.specs.Netlist.{literal_variable, literal_bit};
 ghost use Rattle.circuit_plain.specs.Order.{IsOrder};
 ghost use Rattle.skolem_checker.specs.Checks.{IsFirstBad};
-ghost use Rattle.skolem_checker.specs.Tables.{AreRowBits, HasLiteral, RowTest, circuit_assignment};
+ghost use Rattle.skolem_checker.specs.Tables.{HasLiteral, RowTest, circuit_assignment, row_bit};
 
-use circuit_plain::{Circuit, Order, literal_bit};
+use circuit_plain::lanes::{both, either};
+use circuit_plain::{Block, Circuit, Order, literal_lanes};
 use dq_formula::Formula;
-use dq_lits::{Lit, Row};
+use dq_lits::Lit;
+use std::simd::u64x4;
 
-// Writes the inputs' bits of the row with number `k`.
-fn write_bits(k: u32, places: &[usize], bits: &mut Row)
-    requires a_place_a_bit { length bits.old ≡ length places.now }
-    requires few { All (λ place. place < 20) places.now }
-    ensures same_length { length bits.new ≡ length bits.old }
-    ensures written { AreRowBits places.now k (bit_of bits.new) (length places.now) }
+const BLOCK_ROWS: u32 = 256;
+
+// The circuit's literal of a literal of the formula.
+fn circuit_literal(l: &Lit, literals: &[u64]) -> u64
+    requires { variable_of l.now < length literals.now }
+    ensures same_variable { literal_variable result
+        ≡ literal_variable (slice_index literals.now (variable_of l.now)) }
+    ensures bit { (m : ℕ → Bool)
+        → literal_bit m result ≡ literal_true (circuit_assignment literals.now m) l.now }
 {
-    for (i, place) in places.iter().enumerate() {
-        bits.set(i, (k >> *place) % 2 == 1);
-    }
+    literals[l.var() as usize] ^ l.is_neg() as u64
 }
 
-// Whether a clause has a true literal, where each variable has the bit of its circuit literal.
-fn clause_holds(clause: &[Lit], literals: &[u64], values: &Row) -> bool
+// Whether a clause has a true literal, where each variable has the bits of its circuit literal.
+fn clause_lanes(clause: &[Lit], literals: &[u64], values: &Block) -> u64x4
     requires { All (λ l. HasLiteral literals.now (length values.now) (variable_of l)) clause.now }
-    ensures { result ≡ clause_true (circuit_assignment literals.now (bit_of values.now)) clause.now }
+    ensures four { length result ≡ 4 }
+    ensures bits { (l b : ℕ) → l < 4 → b < 64 → lane_bit result l b
+        ≡ clause_true (circuit_assignment literals.now (block_bits values.now l b)) clause.now }
 {
-    clause.iter().any(|l| literal_bit(values, literals[l.var() as usize]) != l.is_neg())
+    let mut holds = u64x4::splat(0);
+    for literal in clause {
+        holds = either(
+            holds,
+            literal_lanes(values, circuit_literal(literal, literals)),
+        );
+    }
+    holds
 }
 
-fn clauses_hold(f: &Formula, literals: &[u64], values: &Row) -> bool
+// Whether every clause has one.
+fn matrix_lanes(f: &Formula, literals: &[u64], values: &Block) -> u64x4
     requires { All (All (λ l. HasLiteral literals.now (length values.now) (variable_of l))) f.now.matrix }
-    ensures { result ≡ list_all (clause_true (circuit_assignment literals.now (bit_of values.now))) f.now.matrix }
+    ensures four { length result ≡ 4 }
+    ensures bits { (l b : ℕ) → l < 4 → b < 64 → lane_bit result l b
+        ≡ list_all (clause_true (circuit_assignment literals.now (block_bits values.now l b))) f.now.matrix }
 {
+    let mut hold = u64x4::splat(u64::MAX);
     for j in 0..f.clauses() {
-        if !clause_holds(f.clause(j), literals, values) {
-            return false;
+        hold = both(hold, clause_lanes(f.clause(j), literals, values));
+    }
+    hold
+}
+
+// Whether no bit of a block's rows is false.
+fn are_full(lanes: &[u64]) -> bool
+    ensures { result ≡ list_all (λ lane. lane == 2 ^ 64 - 1) lanes.now }
+{
+    lanes.iter().all(|lane| *lane == u64::MAX)
+}
+
+// The first of a block's first rows whose bit is false.
+fn first_false(hold: u64x4, count: u32) -> Option<u32>
+    requires four { length hold ≡ 4 }
+    requires in_block { count ≤ 256 }
+    ensures none { result ≡ None → (r : ℕ) → r < count → row_bit hold r ≡ true }
+    ensures some { (r : ℕ) → result ≡ Some r → (r < count) × (row_bit hold r ≡ false)
+        × ((q : ℕ) → q < r → row_bit hold q ≡ true) }
+{
+    let lanes = hold.to_array();
+    if are_full(&lanes) {
+        return None;
+    }
+    for r in 0..count {
+        if (lanes[(r / 64) as usize] >> (r % 64)) % 2 == 0 {
+            return Some(r);
         }
     }
-    true
+    None
+}
+
+// How many rows the universals have.
+fn count_rows(f: &Formula) -> u32
+    requires { length f.now.universals ≤ 20 }
+    ensures value { result ≡ 2 ^ length f.now.universals }
+    ensures small { result ≤ 2 ^ 20 }
+{
+    1 << f.universals().len()
+}
+
+// How many of a block's rows there are: of fewer than 8 universals a part of them.
+fn rows_in_block(rows: u32, first: u32) -> u32
+    requires { first ≤ rows }
+    ensures in_range { first + result ≤ rows }
+    ensures in_block { result ≤ 256 }
+    ensures all { (k : ℕ) → k < first + 256 → k < rows → k < first + result }
+{
+    if rows - first < BLOCK_ROWS {
+        return rows - first;
+    }
+    BLOCK_ROWS
 }
 
 /// The number of the first row under which a clause is false.
@@ -51,26 +115,25 @@ pub(crate) fn first_bad_row(
     order: &Order,
     literals: &[u64],
     places: &[usize],
-    bits: &mut Row,
-    values: &mut Row,
+    values: &mut Block,
 ) -> Result<(), u32>
     requires ordered { IsOrder circuit.now order.now }
     requires few { length f.now.universals ≤ 20 }
     requires a_place_an_input { length places.now ≡ length circuit.now.inputs }
     requires places_fit { All (λ place. place < 20) places.now }
-    requires a_bit_an_input { length bits.old ≡ length circuit.now.inputs }
     requires a_value_a_variable { length values.old ≡ circuit.now.max_var + 1 }
     requires literals_fit { All (All (λ l. HasLiteral literals.now (circuit.now.max_var + 1) (variable_of l))) f.now.matrix }
-    ensures bits_length { length bits.new ≡ length bits.old }
     ensures values_length { length values.new ≡ length values.old }
     ensures first { IsFirstBad (λ k. RowTest f.now circuit.now literals.now places.now k true)
         (λ k. RowTest f.now circuit.now literals.now places.now k false) (2 ^ length f.now.universals) result }
 {
-    for k in 0..1u32 << f.universals().len() {
-        write_bits(k, places, bits);
-        circuit.eval(order, bits, values);
-        if !clauses_hold(f, literals, values) {
-            return Err(k);
+    let rows = count_rows(f);
+    for block in 0..rows.div_ceil(BLOCK_ROWS) {
+        let first = BLOCK_ROWS * block;
+        circuit.eval_block_by(order, places, first as u64, values);
+        let hold = matrix_lanes(f, literals, values);
+        if let Some(row) = first_false(hold, rows_in_block(rows, first)) {
+            return Err(first + row);
         }
     }
     Ok(())

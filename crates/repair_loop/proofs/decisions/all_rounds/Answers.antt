@@ -1,5 +1,6 @@
 use Rattle.std.proofs.Common.{◌≡◌, ◌∙◌, refl, ap, subst, Ok, arith, true}
 use Rattle.log_laws.specs.Engines.{instances}
+use Rattle.candidate_functions.proofs.Growing.{definitions_stay}
 use Rattle.repair_loop.specs.Searching.{IsShownTrue, IsShownFalse}
 use Rattle.repair_loop.proofs.Stages.{on_err, after_row, still_kept, still_undecided, log_grew, fewer_left}
 use Rattle.repair_loop.proofs.decisions.all_rounds.Goals as goal
@@ -56,6 +57,10 @@ loop-outputs-preserved g c =
       search = after_row c.engines_leave_the_rest.ensures c.checkers_stay.ensures c.args.f.now c.find_candidates.new.graph c.find_candidates.new.table c.add_row.new.self
           c.judge.new.checker c.in-Fail.row c.judge.new.log c.add_row.new.log (c.judge.ensures.fail c.in-Fail.row was) (c.add_row.ensures.grew c.judge.new.log.entries)
           c.in_ok-add_row-in-Fail.ensures.table c.add_row.ensures.group found.inputs;
-      inputs = c.find_candidates.ensures.inputs ∙ c.loop-outputs.invariant.inputs;
+      definitions = definitions_stay c.loop-outputs.graph c.find_candidates.new.graph c.find_candidates.ensures.extends c.args.f.now c.args.definitions.now c.loop-outputs.invariant.definitions;
+      inputs = c.find_candidates.ensures.extends.inputs ∙ c.loop-outputs.invariant.inputs;
       limit = (c.add_row.ensures.grew c.judge.new.log.entries).limit ∙ c.judge.ensures.grew.limit ∙ c.find_candidates.ensures.grew.limit ∙ c.loop-outputs.invariant.limit;
     }
+
+pub returns-in_err-outputs-clause-inputs : goal.returns-in_err-outputs-clause-inputs
+returns-in_err-outputs-clause-inputs g c = c.find_candidates.ensures.extends.inputs ∙ c.loop-outputs.invariant.inputs

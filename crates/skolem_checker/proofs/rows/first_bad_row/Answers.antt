@@ -1,13 +1,34 @@
-use Rattle.std.proofs.Common.{sym, ◌∙◌}
-use Rattle.dq_lits.specs.Row.{bit_of}
-use Rattle.skolem_checker.proofs.RowsLaws.{row-more}
+use Rattle.std.proofs.Common.{◌+◌, ◌*◌, ◌<◌, ◌^◌, length, false, ◌∙◌, arith}
+use Rattle.skolem_checker.proofs.RowsLaws.{row_test, rows_more}
 use Rattle.skolem_checker.proofs.rows.first_bad_row.Goals as goal
 
-pub loop-k-preserved : goal.loop-k-preserved
-loop-k-preserved c = record {
-  bits_length = c.write_bits.ensures.same_length ∙ c.loop-k.invariant.bits_length;
-  values_length = c.eval.ensures.same_length ∙ c.loop-k.invariant.values_length;
-  held = row-more c.args.f.now c.args.circuit.now c.args.literals.now c.args.places.now c.loop-k.k
-      (bit_of c.write_bits.new.bits) (bit_of c.eval.new.values)
-      c.loop-k.invariant.held c.write_bits.ensures.written c.eval.ensures.valuation (sym c.if-not-clauses_hold.false ∙ c.clauses_hold.ensures);
+pub overflow_add-result : goal.overflow_add-result
+overflow_add-result c =
+    let found = c.first_false.ensures.some c.in-Some.row c.in-Some.is in
+    record { fits = omega (arith, found.0, c.rows_in_block.ensures.in_range, c.count_rows-rows.ensures.small) }
+
+pub returns-in-Some-clause-first : goal.returns-in-Some-clause-first
+returns-in-Some-clause-first c =
+    let found = c.first_false.ensures.some c.in-Some.row c.in-Some.is in
+    let few : c.in-Some.row < 256 = omega (arith, found.0, c.rows_in_block.ensures.in_block) in
+    let within : 256 * c.loop-block.block + c.in-Some.row < 2 ^ length c.args.f.now.universals =
+    omega (arith, found.0, c.rows_in_block.ensures.in_range, c.count_rows-rows.ensures.value) in (
+      within,
+      rows_more c.args.f.now c.args.circuit.now c.args.literals.now c.args.places.now (256 * c.loop-block.block) c.eval_block_by.new.values
+          c.matrix_lanes-hold.result c.eval_block_by.ensures.valuation c.matrix_lanes-hold.ensures.bits
+          (2 ^ length c.args.f.now.universals) c.in-Some.row (omega (arith, within)) (omega (arith, few)) c.loop-block.invariant.held found.2,
+      row_test c.args.f.now c.args.circuit.now c.args.literals.now c.args.places.now (256 * c.loop-block.block) c.eval_block_by.new.values
+          c.matrix_lanes-hold.result c.eval_block_by.ensures.valuation c.matrix_lanes-hold.ensures.bits c.in-Some.row false few found.1,
+    )
+
+pub loop-block-preserved : goal.loop-block-preserved
+loop-block-preserved c = record {
+  values_length = c.eval_block_by.ensures.same_length ∙ c.loop-block.invariant.values_length;
+  held = λ j j_below j_in.
+      rows_more c.args.f.now c.args.circuit.now c.args.literals.now c.args.places.now (256 * c.loop-block.block) c.eval_block_by.new.values
+      c.matrix_lanes-hold.result c.eval_block_by.ensures.valuation c.matrix_lanes-hold.ensures.bits
+      (2 ^ length c.args.f.now.universals) c.rows_in_block.result
+      (omega (arith, c.rows_in_block.ensures.in_range, c.count_rows-rows.ensures.value)) c.rows_in_block.ensures.in_block
+      c.loop-block.invariant.held (c.first_false.ensures.none c.in_default.is) j
+      (c.rows_in_block.ensures.all j (omega (arith, j_below)) (omega (arith, j_in, c.count_rows-rows.ensures.value)));
 }

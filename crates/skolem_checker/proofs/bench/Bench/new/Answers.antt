@@ -1,5 +1,4 @@
-use Rattle.std.proofs.Common.{◌+◌, length, ap, ◌∙◌, subst}
-use Rattle.std.proofs.lemmas.List.{length-replicate}
+use Rattle.std.proofs.Common.{subst}
 use Rattle.skolem_checker.specs.MappingReading.{mapping_in}
 use Rattle.skolem_checker.specs.Tables.{IsMapping}
 use Rattle.skolem_checker.proofs.OntoLaws.{IsMapped, mapped}
@@ -32,7 +31,7 @@ invariant_of-result c =
       kept = c.renumbered.ensures.kept;
       mapped = is_mapping;
       copied = c.in_ok-copy.ensures.copy;
-      copy_kept = c.max_var.ensures.kept;
+      copy_kept = c.row_block.ensures.kept;
       ordered = c.in_ok-order.ensures;
       tables = record {
         mapped = mapping_copied c.args.f.now c.args.a.now.circuit c.in_ok-copy.copy (mapping_in c.in_ok-mapped.mapped) c.in_ok-copy.ensures.copy is_mapping;
@@ -41,6 +40,5 @@ invariant_of-result c =
       };
       by_input_is = rw c.deref.ensures.value at c.in_ok-universal_places.ensures;
       has_words = c.in_ok-words.ensures;
-      a_bit_an_input = ap length c.in_ok-bits.ensures ∙ length-replicate _ _ ∙ ap length c.inputs.ensures;
-      a_value_a_variable = ap length c.in_ok-values.ensures ∙ length-replicate _ _ ∙ ap (λ n. n + 1) c.max_var.ensures.value;
+      a_value_a_variable = c.in_ok-values.ensures.ok;
     }
