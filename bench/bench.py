@@ -188,9 +188,10 @@ def blind_bit(seen, padding, rows, lines_wanted, variables):
     return formula, lines(f"p dqr {rows} {len(steps)}", *map(row, range(rows)), *steps)
 
 
-def many_rows():
-    """A refutation of 131,072 rows and 262,143 lines."""
-    return blind_bit(16, 16, 131_072, 262_143, 34)
+def refuted_rows(rows):
+    """A refutation of so many rows, a power of two, with two lines for each but one."""
+    seen = rows.bit_length() - 2
+    return blind_bit(seen, 16, rows, 2 * rows - 1, seen + 18)
 
 
 def many_variables():
@@ -313,10 +314,10 @@ def gates_and_proof():
     return proof.texts([proof.gates[-1][0]])
 
 
-def long_proof():
-    """A proof of a million lines for a chain of a thousand gates. Each says that an earlier gate is 1 where a later
+def long_proof(wanted):
+    """A proof of so many lines for a chain of a thousand gates. Each says that an earlier gate is 1 where a later
     one is, from up to twelve lines of its block; a block's lines have up to seven literals of universals besides."""
-    universals, count, wanted, block, window = 24, 1_000, 1_000_000, 3_000, 200
+    universals, count, block, window = 24, 1_000, 3_000, 200
     proof, ends = chain(universals, count)
     falsity = proof.false(universals)
     hints = [proof.literal(universals, place) for place in range(1, universals + 1)]
@@ -523,10 +524,10 @@ MEASUREMENTS = [
     reverse_gates,
     wide_gates,
     large_header,
-    many_rows,
+    *(at(refuted_rows, rows) for rows in (4_096, 131_072)),
     many_variables,
     many_existentials,
-    long_proof,
+    *(at(long_proof, wanted) for wanted in (20_000, 1_000_000)),
     gates_and_proof,
     wide_last_clause,
     *(at(colliding_gates, size) for size in (50_000, 100_000)),

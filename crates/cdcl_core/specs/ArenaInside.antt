@@ -1,7 +1,8 @@
 -- How clauses are kept, flat.
-use Rattle.std.specs.Prelude.{ℕ, ◌+◌, ◌≤◌, List, length, vec_capacity}
+use Rattle.std.specs.Prelude.{◌≡◌, ℕ, ◌+◌, ◌≤◌, List, length, vec_capacity}
 use Rattle.dq_lits.specs.Literal.{Literal}
 use Rattle.cdcl_core.specs.Pieces.{pieces, AreEnds}
+use Rattle.cdcl_core.specs.Runs.{AreStarts}
 use Rattle.cdcl_core.specs.declared.arenas.Arena.TheInside.{Inside}
 
 -- what an arena shows: its clauses in order of time, and how many literals one clause more has to stay below
@@ -15,7 +16,10 @@ arranged_in s = record { clauses = pieces s.literals.items 0 s.ends.items; spare
 pub record HasArenaRoom (s : Inside) : Type 0 where
   pub literals : length s.literals.items + s.spare ≤ vec_capacity s.literals + 1
   pub ends : length s.ends.items + 1 ≤ vec_capacity s.ends
+  pub starts : length s.starts.items + 1 ≤ vec_capacity s.starts
 
 pub record IsArranged (s : Inside) : Type 0 where
   pub ends : AreEnds 0 s.ends.items (length s.literals.items)
+  pub count : length s.starts.items ≡ length s.ends.items
+  pub starts : AreStarts (pieces s.literals.items 0 s.ends.items) s.starts.items
   pub spare : 1 ≤ s.spare → HasArenaRoom s

@@ -9,6 +9,7 @@ pub mod Marks
 pub mod Noting
 pub mod Passes
 pub mod Pieces
+pub mod Runs
 pub mod Searching
 pub mod Solver
 pub mod Sound

@@ -22,6 +22,6 @@ abbrev pub IsOpening : List (List Literal) → List Literal → Option Literal �
 IsOpening clauses trues None = All (λ c. list_any (holds trues) c ≡ true) clauses
 IsOpening clauses trues (Some l) = IsFree trues l × (c : List Literal) × Contains clauses c × (holds c l ≡ true)
 
--- the first clauses, so many, have true literals
-abbrev pub AreTrueUpTo : ℕ → List (List Literal) → List Literal → Type 0
-AreTrueUpTo last clauses trues = (i : ℕ) (c : List Literal) → i < last → slice_get clauses i ≡ Some c → list_any (holds trues) c ≡ true
+-- the clauses from one id downwards have true literals, above another id
+abbrev pub AreTrueWithin : ℕ → ℕ → List (List Literal) → List Literal → Type 0
+AreTrueWithin from down_to clauses trues = (i : ℕ) (c : List Literal) → down_to ≤ i → i < from → slice_get clauses i ≡ Some c → list_any (holds trues) c ≡ true

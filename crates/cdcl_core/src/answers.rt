@@ -19,6 +19,7 @@ ghost use Rattle.cdcl_core.specs.Backing.{IsKeeping};
 ghost use Rattle.cdcl_core.specs.Searching.{IsSearching, AreAssumptions, KeepsPlaces};
 
 use crate::analysis::{begin, resolve};
+use crate::assumptions::Assumptions;
 use crate::clauses::ClauseStore;
 use crate::notes::Notes;
 use crate::searchers::Searcher;
@@ -29,7 +30,7 @@ use hint_log::Log;
 /// Answers from a falsified clause where only assumptions were decided.
 pub(crate) fn answer_conflict(
     s: &mut Searcher,
-    assumptions: &[Lit],
+    assumptions: &Assumptions,
     conflict: u64,
     log: &mut Log,
 ) -> Result<u64, Memory>
@@ -50,7 +51,7 @@ pub(crate) fn answer_conflict(
 /// Answers from a false assumption.
 pub(crate) fn answer_false(
     s: &mut Searcher,
-    assumptions: &[Lit],
+    assumptions: &Assumptions,
     assumption: Lit,
     log: &mut Log,
 ) -> Result<u64, Memory>
@@ -90,7 +91,7 @@ fn back_to(trail: &mut Trail, l: Lit) -> Step
 // Answers from the clause that made an assumption false.
 fn answer_reason(
     s: &mut Searcher,
-    assumptions: &[Lit],
+    assumptions: &Assumptions,
     assumption: Lit,
     reason: u64,
     log: &mut Log,
@@ -113,7 +114,7 @@ fn answer_reason(
 }
 
 // Logs the answer that the notes lead to, and holds it.
-fn answer(s: &mut Searcher, assumptions: &[Lit], log: &mut Log) -> Result<u64, Memory>
+fn answer(s: &mut Searcher, assumptions: &Assumptions, log: &mut Log) -> Result<u64, Memory>
     requires searching { IsSearching assumptions.now s.old log.old }
     requires few { length s.old.notes.hints + length s.old.trail.steps ≤ length s.old.notes.marks }
     requires few_literals { length s.old.notes.literals + length s.old.trail.steps ≤ length s.old.notes.marks }

@@ -4,6 +4,7 @@ ghost use Rattle.std.specs.Prelude.{◌≡◌, ◌≤◌, ◌<◌, ◌+◌, ◌+
 ghost use Rattle.dq_lits.specs.Literal.{Literal};
 ghost use Rattle.oracle.specs.Fit.{live_in};
 ghost use Rattle.cdcl_core.specs.Pieces.{pieces, AreEnds, start_of};
+ghost use Rattle.cdcl_core.specs.Runs.{BeginAlike, BeginsAlike, IsNextStart};
 
 use dq_lits::{Lit, Memory};
 use std::alloc::Global;
@@ -16,6 +17,8 @@ pub(crate) struct Arena {
     literals: Vec<Lit>,
     // Where the literals of each clause end.
     ends: Vec<usize>,
+    // Up to which id all clauses up to each one begin as this one does.
+    starts: Vec<u64>,
     // How many literals one clause more may have; there is no room for a clause where it is 0.
     spare: usize,
 }
@@ -38,6 +41,7 @@ impl Arena {
         Arena {
             literals: Vec::new(alloc),
             ends: Vec::new(alloc),
+            starts: Vec::new(alloc),
             spare: 0,
         }
     }
@@ -58,6 +62,16 @@ impl Arena {
         piece(&self.literals, &self.ends, id as usize - 1)
     }
 
+    /// Of the clauses up to an id that begin with the same literal, one behind the other: the id before theirs.
+    pub(crate) fn start(&self, id: u64) -> u64
+        requires from_one { 1 ≤ id }
+        requires is_id { id ≤ length self.now.clauses }
+        ensures before { result < id }
+        ensures same { BeginAlike self.now.clauses result id }
+    {
+        self.starts[id as usize - 1]
+    }
+
     /// Makes room for a clause of these literals.
     pub(crate) fn reserve(&mut self, lits: &[Lit]) -> Result<(), Memory>
         ensures clauses { self.new.clauses ≡ self.old.clauses }
@@ -66,8 +80,21 @@ impl Arena {
         self.spare = 0;
         self.literals.reserve(lits.len())?;
         self.ends.reserve(1)?;
+        self.starts.reserve(1)?;
         self.spare = lits.len() + 1;
         Ok(())
+    }
+
+    // The start of a clause behind all others.
+    fn next_start(&self, lits: &[Lit]) -> u64
+        ensures { IsNextStart self.now.clauses lits.now result }
+    {
+        let last = self.len();
+        if last > 0 && begin_alike(self.lits(last), lits) {
+            self.start(last)
+        } else {
+            last
+        }
     }
 
     /// Adds a clause that there is room for.
@@ -75,9 +102,11 @@ impl Arena {
         requires { length lits.now < self.old.spare }
         ensures { self.new.clauses ≡ self.old.clauses ++ lits.now ∷ [] }
     {
+        let start = self.next_start(lits);
         self.spare = 0;
         append(&mut self.literals, lits);
         put_end(&mut self.ends, self.literals.len());
+        put_start(&mut self.starts, start);
     }
 }
 
@@ -116,5 +145,24 @@ fn put_end(ends: &mut Vec<usize>, end: usize)
 {
     if ends.push(end).is_err() {
         unreachable!();
+    }
+}
+
+fn put_start(starts: &mut Vec<u64>, start: u64)
+    requires { length starts.old.items < vec_capacity starts.old }
+    ensures { starts.new.items ≡ starts.old.items ++ start ∷ [] }
+{
+    if starts.push(start).is_err() {
+        unreachable!();
+    }
+}
+
+// Whether two clauses begin with the same literal.
+fn begin_alike(lits: &[Lit], others: &[Lit]) -> bool
+    ensures { result ≡ true → BeginsAlike lits.now others.now }
+{
+    match lits.first() {
+        Some(l) => others.first() == Some(l),
+        None => false,
     }
 }

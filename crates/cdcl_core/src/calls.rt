@@ -13,6 +13,7 @@ ghost use Rattle.cdcl_core.specs.Steps.{literals_of, literal_value};
 ghost use Rattle.cdcl_core.specs.Searching.{IsSearching, IsReady, AreAssumptions, IsFound, HasRoom, KeepsPlaces};
 ghost use Rattle.cdcl_core.specs.declared.trails.TruthValue.TheVariants.{True};
 
+use crate::assumptions::Assumptions;
 use crate::clauses::ClauseStore;
 use crate::levels::back_to_start;
 use crate::search::search;
@@ -47,9 +48,11 @@ pub(crate) fn grow(s: &mut Searcher, model: &mut Vec<bool>) -> Result<u64, Memor
     }
     model.reserve(1)?;
     s.activities.grow()?;
+    s.positions.grow()?;
     s.notes.begin()?;
     s.notes.grow()?;
     s.trail.grow()?;
+    s.clauses.grow(var)?;
     Ok(var)
 }
 
@@ -114,32 +117,18 @@ pub(crate) fn find(
     ensures limit { result ≡ Err Stop.Limit → steps_of log.new.entries ≡ log.new.limit }
 {
     s.notes.begin()?;
-    s.position = s.clauses.len();
-    let assumptions = listed(s.alloc, active, assume)?;
+    s.positions.begin();
+    let assumptions = Assumptions::new(active, assume);
     let found = search_and_keep(s, model, &assumptions, log);
     back_to_start(&mut s.trail);
     found
-}
-
-// What is to be true: the selectors of the active groups, and the assumptions.
-fn listed(alloc: Global, active: &[Group], assume: &[Lit]) -> Result<Vec<Lit>, Memory>
-    ensures { IfOk result (λ v. v.items ≡ assumed active.now assume.now) }
-{
-    let mut assumptions = Vec::new(alloc);
-    for g in active {
-        assumptions.push(g.selector)?;
-    }
-    for l in assume {
-        assumptions.push(*l)?;
-    }
-    Ok(assumptions)
 }
 
 // Searches, and keeps the values that were found.
 fn search_and_keep(
     s: &mut Searcher,
     model: &mut [bool],
-    assumptions: &[Lit],
+    assumptions: &Assumptions,
     log: &mut Log,
 ) -> Result<Answer, Stop>
     requires searching { IsSearching assumptions.now s.old log.old }

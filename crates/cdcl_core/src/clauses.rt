@@ -1,9 +1,10 @@
 //! The clauses that a solver holds, each watched at two of its literals.
 
-ghost use Rattle.std.specs.Prelude.{◌≡◌, ◌≤◌, ◌<◌, ◌-◌, ◌++◌, ◌∷◌, ◌⊎◌, [], List, ℕ, None, length, true, suc, Contains, OnOk, Some, vec_capacity};
+ghost use Rattle.std.specs.Prelude.{◌≡◌, ◌≤◌, ◌<◌, ◌-◌, ◌^◌, ◌++◌, ◌∷◌, ◌⊎◌, [], List, ℕ, None, length, true, suc, Contains, OnOk, Some, vec_capacity};
 ghost use Rattle.dq_lits.specs.Literal.{Literal, positive, same_literal};
 ghost use Rattle.dq_lits.specs.Derivation.{holds};
 ghost use Rattle.oracle.specs.Fit.{live_in};
+ghost use Rattle.cdcl_core.specs.Runs.{BeginAlike};
 ghost use Rattle.cdcl_core.specs.Steps.{literals_of, Grown};
 ghost use Rattle.cdcl_core.specs.Sound.{IsSound};
 ghost use Rattle.cdcl_core.specs.Passes.{AreWithin, IsPropagated};
@@ -12,7 +13,7 @@ ghost use Rattle.cdcl_core.specs.Watching.{IsWatched, IsReady, IsGuarded, AreLev
 use crate::arenas::Arena;
 use crate::propagation::propagate;
 use crate::trails::Trail;
-use crate::watches::{Watches, add_watch, make_room, no_watches};
+use crate::watches::{Watches, add_watch, make_lists, make_room, no_watches};
 use dq_lits::{Lit, Memory};
 use std::alloc::Global;
 use std::marker::Model;
@@ -72,6 +73,16 @@ impl ClauseStore {
         self.arena.lits(id)
     }
 
+    /// Of the clauses up to an id that begin with the same literal, one behind the other: the id before theirs.
+    pub(crate) fn start(&self, id: u64) -> u64
+        requires from_one { 1 ≤ id }
+        requires is_id { id ≤ length self.now.clauses }
+        ensures before { result < id }
+        ensures same { BeginAlike self.now.clauses result id }
+    {
+        self.arena.start(id)
+    }
+
     /// The literals that the clause with an id is watched at.
     pub(crate) fn watched(&self, id: u64) -> Watched
         requires from_one { 1 ≤ id }
@@ -82,6 +93,18 @@ impl ClauseStore {
             first: self.first.literals[id as usize - 1],
             second: self.second.literals[id as usize - 1],
         }
+    }
+
+    /// Makes lists for the literals of a variable.
+    pub(crate) fn grow(&mut self, variable: u64) -> Result<(), Memory>
+        requires { variable < 2 ^ 62 }
+        ensures clauses { self.new.clauses ≡ self.old.clauses }
+        ensures first { self.new.first ≡ self.old.first }
+        ensures second { self.new.second ≡ self.old.second }
+    {
+        make_lists(&mut self.first, variable)?;
+        make_lists(&mut self.second, variable)?;
+        Ok(())
     }
 
     /// Makes room for a clause of these literals.

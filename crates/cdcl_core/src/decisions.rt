@@ -10,10 +10,12 @@ ghost use Rattle.dq_lits.specs.Derivation.{holds, status_of, stuck};
 ghost use Rattle.oracle.specs.Fit.{live_in};
 ghost use Rattle.hint_log.specs.ProductiveLog.{IsClosed};
 ghost use Rattle.cdcl_core.specs.Steps.{literals_of, IsFree};
-ghost use Rattle.cdcl_core.specs.Passes.{AreWithin, IsOpening, AreTrueUpTo};
+ghost use Rattle.cdcl_core.specs.Runs.{BeginsTrue};
+ghost use Rattle.cdcl_core.specs.Passes.{AreWithin, IsOpening, AreTrueWithin};
 
 use crate::activities::Activities;
 use crate::clauses::{ClauseStore, Watched};
+use crate::positions::{Positions, Span};
 use crate::statuses::is_true;
 use crate::trails::{Trail, TruthValue};
 use dq_lits::Lit;
@@ -25,39 +27,92 @@ pub(crate) struct Open {
     pub(crate) literal: Lit,
 }
 
-/// An open clause: the newest one up to an id, or else the newest one.
+/// The newest open clause, sought where it may be at first, and then among all.
 pub(crate) fn open_clause(
     trail: &Trail,
     clauses: &ClauseStore,
     activities: &Activities,
-    position: u64,
+    positions: &Positions,
 ) -> Option<Open>
     requires in_range { AreWithin trail.now.room clauses.now.clauses }
     requires closed { IsClosed (live_in clauses.now.clauses) (literals_of trail.now.steps) }
     ensures { MatchOption result (IsOpening clauses.now.clauses (literals_of trail.now.steps) None) (λ open'. IsOpening clauses.now.clauses (literals_of trail.now.steps) (Some open'.literal)) }
 {
-    if position < clauses.len() {
-        if let Some(open) = newest_open(trail, clauses, activities, position) {
-            return Some(open);
+    for span in [positions.newest(), positions.rest()] {
+        let open = newest_open(trail, clauses, activities, span);
+        if open.is_some() {
+            return open;
         }
     }
-    newest_open(trail, clauses, activities, clauses.len())
+    let all = Span {
+        from: clauses.len(),
+        down_to: 0,
+    };
+    newest_open(trail, clauses, activities, all)
 }
 
-// The newest open clause up to an id.
+// The newest open clause of a span. Where a clause begins with a true literal, so do those before it that begin alike: the clauses of a
+// group that is switched off are passed in one step.
 fn newest_open(
     trail: &Trail,
     clauses: &ClauseStore,
     activities: &Activities,
-    last: u64,
+    span: Span,
 ) -> Option<Open>
     requires in_range { AreWithin trail.now.room clauses.now.clauses }
     requires closed { IsClosed (live_in clauses.now.clauses) (literals_of trail.now.steps) }
-    requires last { last ≤ length clauses.now.clauses }
-    ensures { MatchOption result (AreTrueUpTo last clauses.now.clauses (literals_of trail.now.steps)) (λ open'. IsOpening clauses.now.clauses (literals_of trail.now.steps) (Some open'.literal)) }
+    ensures { MatchOption result (AreTrueWithin span.from span.down_to clauses.now.clauses (literals_of trail.now.steps)) (λ open'. IsOpening clauses.now.clauses (literals_of trail.now.steps) (Some open'.literal)) }
 {
-    let mut id = last;
-    while id > 0 {
+    let mut id = span.from.min(clauses.len());
+    while id > span.down_to {
+        let start = clauses.start(id);
+        if !begins_true(trail, clauses.lits(id)) {
+            let alike = Span {
+                from: id,
+                down_to: larger(start, span.down_to),
+            };
+            let open = newest_in(trail, clauses, activities, alike);
+            if open.is_some() {
+                return open;
+            }
+        }
+        id = start;
+    }
+    None
+}
+
+// The larger one of two ids.
+fn larger(id: u64, other: u64) -> u64
+    ensures { (result ≡ id) ⊎ (result ≡ other) }
+{
+    if id < other { other } else { id }
+}
+
+// Whether a clause's first literal is true.
+fn begins_true(trail: &Trail, lits: &[Lit]) -> bool
+    requires { All (λ l. variable_of l ≤ trail.now.room) lits.now }
+    ensures { result ≡ true → BeginsTrue (literals_of trail.now.steps) lits.now }
+{
+    match lits.first() {
+        Some(l) => is_true(trail, *l),
+        None => false,
+    }
+}
+
+// The newest open clause of a span, clause by clause.
+fn newest_in(
+    trail: &Trail,
+    clauses: &ClauseStore,
+    activities: &Activities,
+    span: Span,
+) -> Option<Open>
+    requires in_range { AreWithin trail.now.room clauses.now.clauses }
+    requires closed { IsClosed (live_in clauses.now.clauses) (literals_of trail.now.steps) }
+    requires ids { span.from ≤ length clauses.now.clauses }
+    ensures { MatchOption result (AreTrueWithin span.from span.down_to clauses.now.clauses (literals_of trail.now.steps)) (λ open'. IsOpening clauses.now.clauses (literals_of trail.now.steps) (Some open'.literal)) }
+{
+    let mut id = span.from;
+    while id > span.down_to {
         if let Some(literal) = open_in(trail, clauses, activities, id) {
             return Some(Open { id, literal });
         }

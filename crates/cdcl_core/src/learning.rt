@@ -15,6 +15,7 @@ ghost use Rattle.cdcl_core.specs.Searching.{IsSearching, HasTurned, KeepsPlaces}
 ghost use Rattle.cdcl_core.specs.Storage.{HasLists, IsHeldWatched};
 
 use crate::analysis::analyse;
+use crate::assumptions::Assumptions;
 use crate::clauses::{ClauseStore, Watched};
 use crate::levels::{back_to_start, jump};
 use crate::notes::Notes;
@@ -26,7 +27,7 @@ use hint_log::{Log, Stop};
 /// Learns from a falsified clause, and goes back to where what was learned is unit, or begins anew.
 pub(crate) fn learn(
     s: &mut Searcher,
-    assumptions: &[Lit],
+    assumptions: &Assumptions,
     decision: Lit,
     conflict: u64,
     log: &mut Log,
@@ -56,7 +57,7 @@ pub(crate) fn learn(
     let is_due = s.restarts.is_due();
     let level = land(&mut s.trail, &s.notes, &first, id, is_due);
     hold(&mut s.clauses, &s.notes, &first, &level);
-    s.position = id;
+    s.positions.back(s.trail.len().wrapping_sub(1), id);
     Ok(())
 }
 

@@ -4,8 +4,8 @@
 //! where only assumptions were decided gives an answer, and any other one a learned clause, which is new for that reason. Each turn
 //! that goes on counts a step or makes the trail longer.
 
-ghost use Rattle.std.specs.Prelude.{◌≡◌, ◌≤◌, ◌<◌, ◌+◌, ◌⊎◌, true, length, IfOk, OnErr, Ok, Err, IsSome, MatchOption};
-ghost use Rattle.dq_lits.specs.Literal.{variable_of, is_negative};
+ghost use Rattle.std.specs.Prelude.{◌≡◌, ◌≤◌, ◌<◌, ◌+◌, ◌⊎◌, true, length, take, IfOk, OnErr, Ok, Err, IsSome, MatchOption};
+ghost use Rattle.dq_lits.specs.Literal.{Literal, variable_of, is_negative};
 ghost use Rattle.dq_lits.specs.Derivation.{holds, status_of, falsified};
 ghost use Rattle.hint_log.specs.Entries.{steps_of, name_of};
 ghost use Rattle.hint_log.specs.Naming.{is_selector};
@@ -17,7 +17,7 @@ ghost use Rattle.cdcl_core.specs.Searching.{IsSearching, IsReady, IsAllGuarded, 
 ghost use Rattle.cdcl_core.specs.Sound.{AreTrue};
 
 use crate::answers::{answer_conflict, answer_false};
-use crate::assumptions::{Next, free_decision, next_assumption};
+use crate::assumptions::{Assumptions, Next, free_decision, next_assumption};
 use crate::decisions::open_clause;
 use crate::learning::learn;
 use crate::searchers::Searcher;
@@ -27,7 +27,11 @@ use hint_log::{Log, Stop};
 use oracle::Answer as Found;
 
 /// Searches to the end.
-pub(crate) fn search(s: &mut Searcher, assumptions: &[Lit], log: &mut Log) -> Result<Found, Stop>
+pub(crate) fn search(
+    s: &mut Searcher,
+    assumptions: &Assumptions,
+    log: &mut Log,
+) -> Result<Found, Stop>
     requires searching { IsSearching assumptions.now s.old log.old }
     requires ready { IsReady s.old }
     requires few { length s.old.trail.steps ≤ s.old.trail.room }
@@ -38,20 +42,28 @@ pub(crate) fn search(s: &mut Searcher, assumptions: &[Lit], log: &mut Log) -> Re
     ensures stop { OnErr result (HasLearned log.old log.new) }
     ensures limit { result ≡ Err Stop.Limit → steps_of log.new.entries ≡ log.new.limit }
 {
+    let mut made = 0usize;
     'turns: loop {
-        match turn(s, assumptions, log)? {
+        match turn(s, assumptions, &mut made, log)? {
             None => {}
             Some(found) => return Ok(found),
         }
     }
 }
 
-// One conflict, or one decision.
-fn turn(s: &mut Searcher, assumptions: &[Lit], log: &mut Log) -> Result<Option<Found>, Stop>
+// One conflict, or one decision, where so many assumptions are known to be true.
+fn turn(
+    s: &mut Searcher,
+    assumptions: &Assumptions,
+    made: &mut usize,
+    log: &mut Log,
+) -> Result<Option<Found>, Stop>
     requires searching { IsSearching assumptions.now s.old log.old }
     requires ready { IsReady s.old }
     requires few { length s.old.trail.steps ≤ s.old.trail.room }
     requires assumptions { AreAssumptions log.old assumptions.now }
+    requires made { AreTrue (take made.old assumptions.now) (literals_of s.old.trail.steps) }
+    ensures made { AreTrue (take made.new assumptions.now) (literals_of s.new.trail.steps) }
     ensures ok { IfOk result (λ found. MatchOption found (IsTurn assumptions.now s.old s.new log.old log.new) (λ f. IsFound assumptions.now s.new log.old log.new f)) }
     ensures fit { Fit s.new.clauses.clauses s.new.variables log.new.entries }
     ensures places { KeepsPlaces s.old s.new }
@@ -59,9 +71,12 @@ fn turn(s: &mut Searcher, assumptions: &[Lit], log: &mut Log) -> Result<Option<F
     ensures limit { result ≡ Err Stop.Limit → steps_of log.new.entries ≡ log.new.limit }
 {
     match s.clauses.propagate(&mut s.trail) {
-        Some(id) => conflict(s, assumptions, id, log),
+        Some(id) => {
+            *made = 0;
+            conflict(s, assumptions, id, log)
+        }
         None => {
-            let found = go_on(s, assumptions, log)?;
+            let found = go_on(s, assumptions, made, log)?;
             Ok(found)
         }
     }
@@ -70,7 +85,7 @@ fn turn(s: &mut Searcher, assumptions: &[Lit], log: &mut Log) -> Result<Option<F
 // Learns from a falsified clause, or answers from it where only assumptions were decided.
 fn conflict(
     s: &mut Searcher,
-    assumptions: &[Lit],
+    assumptions: &Assumptions,
     id: u64,
     log: &mut Log,
 ) -> Result<Option<Found>, Stop>
@@ -98,23 +113,32 @@ fn conflict(
 }
 
 // Makes an assumption or another literal true, or finds that all is true or an assumption false.
-fn go_on(s: &mut Searcher, assumptions: &[Lit], log: &mut Log) -> Result<Option<Found>, Memory>
+fn go_on(
+    s: &mut Searcher,
+    assumptions: &Assumptions,
+    made: &mut usize,
+    log: &mut Log,
+) -> Result<Option<Found>, Memory>
     requires searching { IsSearching assumptions.now s.old log.old }
     requires few { length s.old.trail.steps ≤ s.old.trail.room }
     requires closed { IsClosed (live_in s.old.clauses.clauses) (literals_of s.old.trail.steps) }
     requires guarded { IsAllGuarded s.old }
     requires assumptions { AreAssumptions log.old assumptions.now }
+    requires made { AreTrue (take made.old assumptions.now) (literals_of s.old.trail.steps) }
+    ensures made { AreTrue (take made.new assumptions.now) (literals_of s.new.trail.steps) }
     ensures ok { IfOk result (λ found. MatchOption found (IsTurn assumptions.now s.old s.new log.old log.new) (λ f. IsFound assumptions.now s.new log.old log.new f)) }
     ensures fit { Fit s.new.clauses.clauses s.new.variables log.new.entries }
     ensures places { KeepsPlaces s.old s.new }
     ensures err { OnErr result (log.new ≡ log.old) }
 {
-    match next_assumption(&s.trail, assumptions) {
+    match next_assumption(&s.trail, assumptions, made) {
         Next::False(l) => {
+            *made = 0;
             let answer = answer_false(s, assumptions, l, log)?;
             Ok(Some(Found::Unsat(answer)))
         }
         Next::Free(l) => {
+            s.positions.assume(s.trail.len());
             decide(s, assumptions, l, log);
             Ok(None)
         }
@@ -123,18 +147,19 @@ fn go_on(s: &mut Searcher, assumptions: &[Lit], log: &mut Log) -> Result<Option<
 }
 
 // Makes an open literal true, or finds that every clause is.
-fn settle(s: &mut Searcher, assumptions: &[Lit], log: &Log) -> Option<Found>
+fn settle(s: &mut Searcher, assumptions: &Assumptions, log: &Log) -> Option<Found>
     requires searching { IsSearching assumptions.now s.old log.now }
     requires closed { IsClosed (live_in s.old.clauses.clauses) (literals_of s.old.trail.steps) }
     requires guarded { IsAllGuarded s.old }
     requires assumed { AreTrue assumptions.now (literals_of s.old.trail.steps) }
+    ensures more { (t : Literal) → holds (literals_of s.old.trail.steps) t ≡ true → holds (literals_of s.new.trail.steps) t ≡ true }
     ensures ok { MatchOption result (IsTurn assumptions.now s.old s.new log.now log.now) (λ f. IsFound assumptions.now s.new log.now log.now f) }
     ensures fit { Fit s.new.clauses.clauses s.new.variables log.now.entries }
     ensures places { KeepsPlaces s.old s.new }
 {
-    match open_clause(&s.trail, &s.clauses, &s.activities, s.position) {
+    match open_clause(&s.trail, &s.clauses, &s.activities, &s.positions) {
         Some(open) => {
-            s.position = open.id;
+            s.positions.open(open.id, s.trail.len(), s.clauses.len());
             decide(s, assumptions, open.literal, log);
             None
         }
@@ -142,7 +167,7 @@ fn settle(s: &mut Searcher, assumptions: &[Lit], log: &Log) -> Option<Found>
     }
 }
 
-fn decide(s: &mut Searcher, assumptions: &[Lit], l: Lit, log: &Log)
+fn decide(s: &mut Searcher, assumptions: &Assumptions, l: Lit, log: &Log)
     requires searching { IsSearching assumptions.now s.old log.now }
     requires closed { IsClosed (live_in s.old.clauses.clauses) (literals_of s.old.trail.steps) }
     requires guarded { IsAllGuarded s.old }
@@ -154,6 +179,7 @@ fn decide(s: &mut Searcher, assumptions: &[Lit], l: Lit, log: &Log)
     ensures ready { IsReady s.new }
     ensures longer { length s.new.trail.steps ≡ length s.old.trail.steps + 1 }
     ensures few { length s.new.trail.steps ≤ s.new.trail.room }
+    ensures more { (t : Literal) → holds (literals_of s.old.trail.steps) t ≡ true → holds (literals_of s.new.trail.steps) t ≡ true }
     ensures places { KeepsPlaces s.old s.new }
 {
     s.trail.push(Step {

@@ -4,6 +4,7 @@ use crate::activities::Activities;
 use crate::calls::{find, group_clause, grow, keep_given};
 use crate::clauses::ClauseStore;
 use crate::notes::Notes;
+use crate::positions::Positions;
 use crate::restarts::Restarts;
 use crate::searchers::Searcher;
 use crate::trails::Trail;
@@ -49,7 +50,7 @@ impl Cdcl {
                 notes: Notes::new(alloc),
                 activities: Activities::new(alloc),
                 restarts: Restarts::new(),
-                position: 0,
+                positions: Positions::new(alloc),
             },
             model: Vec::new(alloc),
             is_told: false,

@@ -2,7 +2,7 @@
 //!
 //! A visit takes a whole list away, and puts its clauses back one by one, on the same list or on others.
 
-ghost use Rattle.std.specs.Prelude.{◌≡◌, ◌≤◌, ◌<◌, ◌+◌, ◌*◌, ◌-◌, ◌++◌, ◌∷◌, [], ℕ, List, true, length, set, All, OnOk, vec_capacity};
+ghost use Rattle.std.specs.Prelude.{◌≡◌, ◌≤◌, ◌<◌, ◌+◌, ◌*◌, ◌-◌, ◌^◌, ◌++◌, ◌∷◌, [], ℕ, List, true, length, set, All, OnOk, vec_capacity};
 ghost use Rattle.dq_lits.specs.Literal.{positive};
 ghost use Rattle.cdcl_core.specs.Chains.{watch_at, place_of, has, IsLinked, HasList, IsTaken, AddsLists};
 
@@ -30,6 +30,19 @@ pub(crate) fn no_watches(alloc: Global) -> Watches
         literals: Vec::new(alloc),
         nexts: Vec::new(alloc),
     }
+}
+
+/// Makes lists for a variable, so that no clause has to.
+pub(crate) fn make_lists(watches: &mut Watches, variable: u64) -> Result<(), Memory>
+    requires linked { IsLinked watches.old 0 [] }
+    requires in_range { variable < 2 ^ 62 }
+    ensures linked { IsLinked watches.new 0 [] }
+    ensures more { length watches.old.heads.items ≤ length watches.new.heads.items }
+    ensures literals { watches.new.literals ≡ watches.old.literals }
+    ensures nexts { watches.new.nexts ≡ watches.old.nexts }
+{
+    extend(&mut watches.heads, variable as usize * 2 + 2)?;
+    Ok(())
 }
 
 /// Makes room for one clause more, of these literals, or of the first variable.

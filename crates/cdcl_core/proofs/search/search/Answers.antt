@@ -6,7 +6,7 @@ use Rattle.cdcl_core.proofs.Turning.{assumptions_same, learned_both, found_later
 use Rattle.cdcl_core.proofs.search.search.Goals as goal
 
 pub turn-requires-clause-assumptions : goal.turn-requires-clause-assumptions
-turn-requires-clause-assumptions c = assumptions_same c.args.log.now c.turns.log c.args.assumptions.now c.turns.invariant.learned c.requires.assumptions
+turn-requires-clause-assumptions c = assumptions_same c.args.log.now c.turns.log c.args.assumptions.now c.turns.invariant.running.learned c.requires.assumptions
 
 on_err : {X E : Type 0} (P : Type 0) (r : Result X E) → P → OnErr r P
 on_err P (Ok x) p = tt
@@ -15,24 +15,27 @@ on_err P (Err e) p = p
 pub returns-in_err-turn-clause-stop : goal.returns-in_err-turn-clause-stop
 returns-in_err-turn-clause-stop c =
     on_err (HasLearned c.args.log.now c.turn.new.log) c.from_residual.result
-    (learned_both c.args.log.now c.turns.log c.turn.new.log c.turns.invariant.learned c.in_err-turn.ensures.stop)
+    (learned_both c.args.log.now c.turns.log c.turn.new.log c.turns.invariant.running.learned c.in_err-turn.ensures.stop)
 
 pub turns-preserved : goal.turns-preserved
 turns-preserved c =
     let asm = c.args.assumptions.now in
     let turned : IsTurn asm c.turns.s c.turn.new.s c.turns.log c.turn.new.log =
     subst (λ (o : Option Found). MatchOption o (IsTurn asm c.turns.s c.turn.new.s c.turns.log c.turn.new.log) (λ f. IsFound asm c.turn.new.s c.turns.log c.turn.new.log f)) c.in-None.is c.in_ok-turn.ensures.ok in
-    let inv = c.turns.invariant in
+    let inv = c.turns.invariant.running in
     record {
-      searching = turned.searching;
-      ready = turned.ready;
-      few = turned.few;
-      learned = learned_both c.args.log.now c.turns.log c.turn.new.log inv.learned turned.learned;
-      places = record {
-        variables = c.turn.ensures.places.variables ∙ inv.places.variables;
-        room = c.turn.ensures.places.room ∙ inv.places.room;
-        marks = c.turn.ensures.places.marks ∙ inv.places.marks;
+      running = record {
+        searching = turned.searching;
+        ready = turned.ready;
+        few = turned.few;
+        learned = learned_both c.args.log.now c.turns.log c.turn.new.log inv.learned turned.learned;
+        places = record {
+          variables = c.turn.ensures.places.variables ∙ inv.places.variables;
+          room = c.turn.ensures.places.room ∙ inv.places.room;
+          marks = c.turn.ensures.places.marks ∙ inv.places.marks;
+        };
       };
+      made = c.turn.ensures.made;
     }
 
 pub returns-in-Some-clause-ok : goal.returns-in-Some-clause-ok
@@ -40,4 +43,4 @@ returns-in-Some-clause-ok c =
     let asm = c.args.assumptions.now in
     let found : IsFound asm c.turn.new.s c.turns.log c.turn.new.log c.in-Some.found =
     subst (λ (o : Option Found). MatchOption o (IsTurn asm c.turns.s c.turn.new.s c.turns.log c.turn.new.log) (λ f. IsFound asm c.turn.new.s c.turns.log c.turn.new.log f)) c.in-Some.is c.in_ok-turn.ensures.ok in
-    found_later asm c.turn.new.s c.args.log.now c.turns.log c.turn.new.log c.in-Some.found c.turns.invariant.learned found
+    found_later asm c.turn.new.s c.args.log.now c.turns.log c.turn.new.log c.in-Some.found c.turns.invariant.running.learned found

@@ -1,0 +1,120 @@
+//! Where an open clause is sought: a policy that no contract speaks of.
+//!
+//! Clauses of larger ids than the newest open one have true literals, and still have them once the trail is taken back to where that one was
+//! open; but for clauses that were learned meanwhile.
+
+use dq_lits::Memory;
+use std::alloc::Global;
+
+/// Ids of clauses, from the larger one downwards.
+#[derive(Clone, Copy, Debug)]
+pub(crate) struct Span {
+    pub(crate) from: u64,
+    /// Not this one itself.
+    pub(crate) down_to: u64,
+}
+
+/// Where an open clause is sought, now and at each level of the trail.
+#[derive(Debug, Drop)]
+pub(crate) struct Positions {
+    // Where the newest open clause is: what was learned lately, or else behind what is known to be true.
+    newest: Span,
+    rest: Span,
+    // For each level, by how many literals were true when it began, its open clause, and how many clauses there were.
+    opened: Vec<u64>,
+    counts: Vec<u64>,
+}
+
+const NOWHERE: Span = Span {
+    from: 0,
+    down_to: 0,
+};
+
+fn down_from(id: u64) -> Span {
+    Span {
+        from: id,
+        down_to: 0,
+    }
+}
+
+impl Positions {
+    pub(crate) fn new(alloc: Global) -> Positions {
+        Positions {
+            newest: NOWHERE,
+            rest: NOWHERE,
+            opened: Vec::new(alloc),
+            counts: Vec::new(alloc),
+        }
+    }
+
+    /// Room for one variable more.
+    pub(crate) fn grow(&mut self) -> Result<(), Memory> {
+        self.opened.push(0)?;
+        self.counts.push(0)?;
+        Ok(())
+    }
+
+    /// All clauses are to be looked at.
+    pub(crate) fn begin(&mut self) {
+        self.newest = NOWHERE;
+        self.rest = NOWHERE;
+    }
+
+    /// What is to be looked at first.
+    pub(crate) fn newest(&self) -> Span {
+        self.newest
+    }
+
+    /// What is to be looked at then.
+    pub(crate) fn rest(&self) -> Span {
+        self.rest
+    }
+
+    /// Notes an open clause, of which a literal is decided where so many literals are true.
+    pub(crate) fn open(&mut self, id: u64, literals: usize, clauses: u64) {
+        if id > self.newest.down_to && id <= self.newest.from {
+            self.newest.from = id;
+        } else {
+            self.newest = NOWHERE;
+            self.rest = down_from(id);
+        }
+        self.set(literals, id, clauses);
+    }
+
+    /// Notes that an assumption is decided where so many literals are true.
+    pub(crate) fn assume(&mut self, literals: usize) {
+        self.set(literals, u64::MAX, 0);
+    }
+
+    /// Goes back to where so many literals were true, where there are so many clauses now.
+    pub(crate) fn back(&mut self, literals: usize, clauses: u64) {
+        let opened = at(&self.opened, literals);
+        if opened > clauses {
+            self.begin();
+        } else {
+            self.newest = Span {
+                from: clauses,
+                down_to: at(&self.counts, literals),
+            };
+            self.rest = down_from(opened);
+        }
+    }
+
+    fn set(&mut self, literals: usize, opened: u64, clauses: u64) {
+        put(&mut self.opened, literals, opened);
+        put(&mut self.counts, literals, clauses);
+    }
+}
+
+fn at(numbers: &[u64], place: usize) -> u64 {
+    match numbers.get(place) {
+        Some(number) => *number,
+        None => u64::MAX,
+    }
+}
+
+fn put(numbers: &mut [u64], place: usize, number: u64) {
+    if let Some(old) = numbers.get_mut(place) {
+        *old = number;
+    }
+}
