@@ -1,6 +1,6 @@
 -- From what a run's parts answer to what the run says.
 use Rattle.std.proofs.Common.{◌≡◌, ◌⊎◌, inl, inr, ℕ, ◌<◌, ◌≤◌, Bool, true, List, [], length, Option, Some, Result, Ok, Err, refl, sym, ap, ◌∙◌, subst, arith}
-use Rattle.std.specs.Prelude.{IfOk}
+use Rattle.std.specs.Prelude.{IfOk, option_map}
 use Rattle.std.specs.Io.KnownBytes.{append_known}
 use Rattle.dq_io.specs.Causes.{Rose}
 use Rattle.dq_io.specs.Files.{Holding, Holds}
@@ -15,6 +15,11 @@ use Rattle.dqcheck_core.specs.Running.{max_formula, IsTextOf, IsLong, IsFaultOf,
 use Rattle.hint_log.specs.ProductiveLog.{IsProductiveLog}
 use Rattle.planted_formulas.specs.Planted.{planted_formula}
 use Rattle.dqsolve_words.specs.Command.{Search, Planting, Command, solve, demo, command_of, default_steps}
+use Rattle.dqsolve_words.specs.Words.{search_of, planting_of, command_said}
+use Rattle.dqsolve_words.specs.declared.names.SolveWords.{SolveWords}
+use Rattle.dqsolve_words.specs.declared.names.DemoWords.{DemoWords}
+use Rattle.dqsolve_words.specs.declared.names.CommandWords.{CommandWords}
+use Rattle.dqsolve_words.specs.declared.names.CommandWords.TheVariants.{Solve, Demo}
 use Rattle.dqsolve_core.specs.Outputs.{IsOutput, IsOutputDue, IsVerdictOutput, IsDemoOutput}
 use Rattle.dqsolve_core.specs.Report.{Report, Verdict, usage, source_fault, long_formula, refused_formula, solved, demonstrated, demo_text, verdict_status, verdict_text, is_verdict_status}
 use Rattle.dqsolve_core.specs.Running.{IsDueFor, IsDueForDemo, IsDue, IsTold, IsSolved, IsSolution, IsRunLog, IsDemonstratedRun}
@@ -116,6 +121,16 @@ pub solved_told : FormulaLaw → (files files_now : FilesState) (words : List (L
 solved_told law files files_now words log before now output o written formula f told short spelled sound =
     solved_by law files files_now log told.command formula f before now output told.formula_held short spelled sound written o.report
     (subst (λ command. IsDue files files_now log command o.report) told.is o.due) o.is
+
+-- ---- what the words ask for
+
+pub solve_asked : (words : List (List ℕ)) (answer : Option CommandWords) (w : CommandWords) (asked : SolveWords) → option_map command_said answer ≡ command_of words
+    → answer ≡ Some w → w ≡ Solve asked → command_of words ≡ Some (solve (search_of asked))
+solve_asked words answer w asked said is kind = sym said ∙ ap (option_map command_said) (is ∙ ap Some kind)
+
+pub demo_asked : (words : List (List ℕ)) (answer : Option CommandWords) (w : CommandWords) (asked : DemoWords) → option_map command_said answer ≡ command_of words
+    → answer ≡ Some w → w ≡ Demo asked → command_of words ≡ Some (demo (planting_of asked))
+demo_asked words answer w asked said is kind = sym said ∙ ap (option_map command_said) (is ∙ ap Some kind)
 
 -- ---- planted formulas
 

@@ -55,20 +55,30 @@ pub(crate) fn demonstrate(
     ensures limit { log.new.limit ≡ log.old.limit }
 {
     planted_formulas_are_true();
+    let shown = shown_of(alloc, f, log)?;
+    let text = demo_line(alloc, asked, f.clauses(), shown)?;
+    let status = demonstration_status(shown);
+    Ok(Output { status, text })
+}
+
+// What the search shows of a true formula.
+fn shown_of(alloc: Global, f: &Formula, log: &mut Log) -> Result<Demonstration, Memory>
+    requires well_formed { IsWellFormed f.now }
+    requires is_true { IsTrueFormula f.now }
+    requires empty { log.old.entries ≡ [] }
+    ensures shown { IfOk result (IsDemonstrated f.now log.new) }
+    ensures productive { IsProductiveLog f.now log.new.entries }
+    ensures limit { log.new.limit ≡ log.old.limit }
+{
     expansion_lifts();
     no_formula_is_both();
     let mut oracle = Cdcl::new(alloc);
-    let shown = match search(alloc, &mut oracle, f, log) {
-        Ok(Found::Shown(id)) => judged(alloc, log, id, f)?,
+    match search(alloc, &mut oracle, f, log) {
+        Ok(Found::Shown(id)) => judged(alloc, log, id, f),
         Ok(Found::Refuted(_)) => unreachable!(),
-        Err(Stop::Limit) => Demonstration::CutOff,
-        Err(Stop::Memory) => return Err(Memory),
-    };
-    let text = demo_line(alloc, asked, f.clauses(), shown)?;
-    Ok(Output {
-        status: demonstration_status(shown),
-        text,
-    })
+        Err(Stop::Limit) => Ok(Demonstration::CutOff),
+        Err(Stop::Memory) => Err(Memory),
+    }
 }
 
 // What the checker says of the certificate of an answer.

@@ -117,7 +117,8 @@ pub(crate) fn true_text(
     small_logs_are_within_limits();
     let (file, proof) = export_true(alloc, log, id, f)?;
     let evidence = circuit_text(alloc, file, &proof)?;
-    with_verdict(alloc, "s TRUE\n", bare, evidence)
+    let text = with_verdict(alloc, "s TRUE\n", bare, evidence)?;
+    Ok(text)
 }
 
 // A circuit with its proof in its comment.
