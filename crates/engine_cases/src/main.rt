@@ -11,7 +11,6 @@ mod expansions;
 mod exports;
 mod expressions;
 mod rows;
-mod scans;
 mod shown;
 mod tables;
 
