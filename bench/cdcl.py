@@ -1,10 +1,12 @@
 #!/usr/bin/env python3
 """Makes formulas, solves each by the built solver and by minisat, compares the answers, checks each model and each refutation, and
-prints how many conflicts either had.
+prints how many conflicts either had. With --callgrind it prints, too, how many instructions a conflict takes, start and reading counted,
+among the first 20,000: of the solver, and of cadical, which keeps all that it learns then, as the solver does.
 
 Usage: bench/cdcl.py [--callgrind] [NAME..]     all formulas, or those whose names begin with a NAME
 
-The program is crates/cdcl_cases/out/cdcl_cases, which `rt run` in crates/cdcl_cases builds; minisat and valgrind are Debian's.
+The program is crates/cdcl_cases/out/cdcl_cases, which `rt run` in crates/cdcl_cases builds, or what CDCL_CASES names; minisat, cadical
+and valgrind are Debian's.
 """
 
 import itertools
@@ -18,8 +20,9 @@ import tempfile
 import time
 
 TOP = os.path.dirname(os.path.dirname(os.path.abspath(__file__)))
-SOLVER = os.path.join(TOP, "crates", "cdcl_cases", "out", "cdcl_cases")
+SOLVER = os.environ.get("CDCL_CASES", os.path.join(TOP, "crates", "cdcl_cases", "out", "cdcl_cases"))
 SECONDS = 100
+FIRST = 20_000
 
 
 def random_formula(variables, seed):
@@ -67,14 +70,67 @@ def parity_chain(length, seed):
     return variables, clauses
 
 
+class Gates:
+    """Clauses of gates; a variable for each."""
+
+    def __init__(self, inputs):
+        self.variables, self.clauses = inputs, []
+
+    def gate(self, clauses):
+        self.variables += 1
+        self.clauses.extend(clauses(self.variables))
+        return self.variables
+
+    def conjunction(self, a, b):
+        return self.gate(lambda c: [[-c, a], [-c, b], [c, -a, -b]])
+
+    def parity(self, a, b):
+        return self.gate(lambda c: [[-c, a, b], [-c, -a, -b], [c, -a, b], [c, a, -b]])
+
+    def half_adder(self, a, b):
+        return self.parity(a, b), self.conjunction(a, b)
+
+    def full_adder(self, a, b, c):
+        total, carry = self.half_adder(a, b)
+        sum_bit, other = self.half_adder(total, c)
+        return sum_bit, self.gate(lambda d: [[d, -carry], [d, -other], [-d, carry, other]])
+
+    def product(self, first, second, place):
+        """The bits of a product; each column is summed from this end on."""
+        columns = [[] for _ in range(2 * len(first))]
+        for i, a in enumerate(first):
+            for j, b in enumerate(second):
+                columns[i + j].append(self.conjunction(a, b))
+        for k, column in enumerate(columns):
+            while len(column) > 1:
+                bits = [column.pop(place) for _ in range(min(3, len(column)))]
+                sum_bit, carry = self.full_adder(*bits) if len(bits) == 3 else self.half_adder(*bits)
+                column.append(sum_bit)
+                if k + 1 < len(columns):
+                    columns[k + 1].append(carry)
+        return [column[0] for column in columns if column]
+
+
+def multipliers(bits):
+    """Two multipliers that sum their columns from either end, and differ in a bit."""
+    gates = Gates(2 * bits)
+    first, second = list(range(1, bits + 1)), list(range(bits + 1, 2 * bits + 1))
+    left, right = gates.product(first, second, 0), gates.product(second, first, -1)
+    gates.clauses.append([gates.parity(a, b) for a, b in zip(left, right)])
+    return gates.variables, gates.clauses
+
+
 def formulas():
-    for variables in (100, 120, 140):
-        for seed in range(10):
+    for variables in (100, 120, 140, 150, 175, 200, 225):
+        for seed in range(10 if variables < 150 else 4):
             yield f"random-{variables}-{seed}", random_formula(variables, seed)
-    for holes in (6, 7):
+    for holes in (6, 7, 8):
         yield f"pigeons-{holes}", pigeons(holes)
-    for seed in range(10):
-        yield f"parity-10-{seed}", parity_chain(10, seed)
+    for length in (10, 14, 18):
+        for seed in range(10 if length == 10 else 2):
+            yield f"parity-{length}-{seed}", parity_chain(length, seed)
+    for bits in (3, 4, 5, 6):
+        yield f"multipliers-{bits}", multipliers(bits)
 
 
 def text_of(variables, clauses):
@@ -138,13 +194,20 @@ def minisat(path):
     return {10: "true", 20: "false"}[run.returncode], conflicts
 
 
-def instructions(command):
+def instructions(command, conflicts):
+    """How many instructions a conflict takes, by a pattern of how many conflicts there were."""
     with tempfile.TemporaryDirectory() as folder:
         run = subprocess.run(
             ["valgrind", "--tool=callgrind", f"--callgrind-out-file={folder}/out", *command], capture_output=True, text=True
         )
-    found = re.search(r"Collected : (\d+)", run.stderr)
-    return int(found.group(1)) if found else None
+    collected, count = re.search(r"Collected : (\d+)", run.stderr), re.search(conflicts, run.stdout, re.M)
+    return int(collected.group(1)) / max(1, int(count.group(1))) if collected and count else float("nan")
+
+
+def compared(path):
+    own = instructions([SOLVER, path, str(FIRST)], r"^c (\d+) learned$")
+    other = instructions(["cadical", "--reduce=0", "-c", str(FIRST), path], r"^c conflicts:\s+(\d+)")
+    return f" {own:12.0f} {other:12.0f} instructions a conflict, ratio {own / other:.2f}"
 
 
 def mean(numbers):
@@ -168,7 +231,7 @@ def main():
             wrong += not agrees
             print(f"{name:16} {answer:8} {learned!s:>8} {conflicts:>8} {seconds:8.2f} s" + ("" if agrees else f"  minisat says {other}"), end="")
             if counted:
-                print(f" {instructions([SOLVER, path]):>14} {instructions(['minisat', path]):>14}", end="")
+                print(compared(path), end="")
             print(flush=True)
             if learned is not None:
                 ratio = (learned + 1) / (conflicts + 1)

@@ -1,57 +1,36 @@
--- Which variables have names, as the log grows.
-use Rattle.std.proofs.Common.{◌≡◌, ℕ, ◌+◌, ◌≤◌, ◌<◌, cond, List, ◌∷◌, Some, None, is_some, refl, sym, ◌∙◌, ap, subst, arith, inl, inr}
-use Rattle.std.proofs.lemmas.Bool.{cases_eq, cases_lt, eq-eqb, ne_eqb, false≢true}
+-- Which variables were made, as the log grows.
+use Rattle.std.proofs.Common.{◌≡◌, ℕ, ◌+◌, ◌≤◌, ◌<◌, cond, List, [], ◌∷◌, ◌++◌, length, Some, None, Option, IsSome, is_some, refl, sym, ◌∙◌, ap, subst, arith, inl, inr}
+use Rattle.std.specs.List.{All}
+use Rattle.std.proofs.lemmas.List.Elements.{All-weaker}
 use Rattle.dq_lits.specs.Literal.{Literal}
 use Rattle.hint_log.specs.Entries.{Entry}
 use Rattle.hint_log.specs.Entries.{Named, Answer}
 use Rattle.hint_log.specs.declared.names.Name.{Name}
+use Rattle.hint_log.specs.declared.names.Name.TheVariants.{Input}
 use Rattle.hint_log.specs.Conditions.{IsId}
 use Rattle.hint_log.specs.Entries.{ProofLog, name_of, last_id}
 use Rattle.oracle.specs.Calls.{IsRefutedUnder}
-use Rattle.oracle.specs.Fit.{Fit}
 use Rattle.oracle.specs.declared.oracles.Answer.{Answer as Found}
 use Rattle.oracle.specs.declared.oracles.Answer.TheVariants.{Sat, Unsat}
 use Rattle.cdcl_core.specs.Growing.{HasLearned}
 use Rattle.cdcl_core.proofs.Turning.{names_same}
-use Rattle.cdcl_cases.specs.Named.{AreNamedTo}
+use Rattle.cdcl_cases.specs.declared.calls.Made.{Made}
+use Rattle.cdcl_cases.specs.Making.{AreMade}
 
-same_names : (newest : ℕ) (old new : List Entry) → ((v : ℕ) → name_of new v ≡ name_of old v) → AreNamedTo newest old → AreNamedTo newest new
-same_names newest old new same named = record {
-  all = λ v low high. ap is_some (same v) ∙ named.all v low high;
-  only = λ v some. named.only v (sym (ap is_some (same v)) ∙ some);
+same_names : (m : Made) (old new : List Entry) → ((v : ℕ) → name_of new v ≡ name_of old v) → AreMade m old → AreMade m new
+same_names m old new same made = record {
+  named = All-weaker (λ v. IsSome (name_of old v)) (λ v. IsSome (name_of new v)) (λ v h. ap is_some (same v) ∙ h) m.variables.items made.named;
+  low = λ v some. made.low v (sym (ap is_some (same v)) ∙ some);
+  inputs = λ v k is. made.inputs v k (sym (same v) ∙ is);
 }
 
--- one variable more
-pub named_more : (held : List (List Literal)) (variables newest v : ℕ) (name : Name) (es : List Entry) → Fit held variables (Named v name ∷ es) → AreNamedTo newest es → name_of es v ≡ None
-    → AreNamedTo v (Named v name ∷ es)
-named_more held variables newest v name es fit named unnamed =
-    let here : name_of (Named v name ∷ es) v ≡ Some name = ap (λ b. cond b (Some name) (name_of es v)) (eq-eqb v v refl) in
-    let range = fit.in_range v (ap is_some here) in
-    let above : newest < v = above_by range.0 in
-    record {
-      all = λ w low high. fit.all_named w low (let h = range.1 in omega (arith, high, h));
-      only = λ w some. elim (cases_eq w v) [
-        | inl e ↦ (subst (λ x. 1 ≤ x) (sym e) range.0, omega (arith, e))
-        | inr n ↦
-            let r = named.only w (sym (ap (λ b. is_some (cond b (Some name) (name_of es w))) (ne_eqb w v n)) ∙ some) in
-            let high = r.1 in
-            (r.0, omega (arith, high, above))
-      ];
-    }
-  where
-    above_by : 1 ≤ v → newest < v
-    above_by low = elim (cases_lt newest v) [
-      | inl lt ↦ lt
-      | inr ge ↦ absurd (false≢true (sym (ap is_some unnamed) ∙ named.all v low ge))
-    ]
+pub made_learned : (m : Made) (old new : ProofLog) → HasLearned old new → AreMade m old.entries → AreMade m new.entries
+made_learned m old new learned made = same_names m old.entries new.entries (names_same old new learned) made
 
-pub named_learned : (newest : ℕ) (old new : ProofLog) → HasLearned old new → AreNamedTo newest old.entries → AreNamedTo newest new.entries
-named_learned newest old new learned named = same_names newest old.entries new.entries (names_same old new learned) named
-
-pub named_refuted : (newest : ℕ) (old new : ProofLog) (assumptions : List Literal) (id : ℕ) → IsRefutedUnder old new assumptions id → AreNamedTo newest old.entries → AreNamedTo newest new.entries
-named_refuted newest old new assumptions id refuted named =
-    subst (λ (l : ProofLog). AreNamedTo newest l.entries) (sym refuted.answered)
-    (same_names newest old.entries (Answer refuted.clause refuted.hints ∷ refuted.before.entries) (λ v. names_same old refuted.before refuted.learned v) named)
+made_refuted : (m : Made) (old new : ProofLog) (assumptions : List Literal) (id : ℕ) → IsRefutedUnder old new assumptions id → AreMade m old.entries → AreMade m new.entries
+made_refuted m old new assumptions id refuted made =
+    subst (λ (l : ProofLog). AreMade m l.entries) (sym refuted.answered)
+    (same_names m old.entries (Answer refuted.clause refuted.hints ∷ refuted.before.entries) (λ v. names_same old refuted.before refuted.learned v) made)
 
 pub refuted_id : (old new : ProofLog) (assumptions : List Literal) (id : ℕ) → IsRefutedUnder old new assumptions id → IsId new.entries id
 refuted_id old new assumptions id refuted =
@@ -60,7 +39,7 @@ refuted_id old new assumptions id refuted =
     record { from_one = omega (arith, last, count); last = omega (arith, last) }
 
 -- whatever a search answered
-pub named_answered : (newest : ℕ) (old new : ProofLog) (assumptions : List Literal) (answer : Found) → AreNamedTo newest old.entries
-    → (answer ≡ Sat → HasLearned old new) → ((id : ℕ) → answer ≡ Unsat id → IsRefutedUnder old new assumptions id) → AreNamedTo newest new.entries
-named_answered newest old new assumptions Sat named sat unsat = named_learned newest old new (sat refl) named
-named_answered newest old new assumptions (Unsat id) named sat unsat = named_refuted newest old new assumptions id (unsat id refl) named
+pub made_answered : (m : Made) (old new : ProofLog) (assumptions : List Literal) (answer : Found) → AreMade m old.entries
+    → (answer ≡ Sat → HasLearned old new) → ((id : ℕ) → answer ≡ Unsat id → IsRefutedUnder old new assumptions id) → AreMade m new.entries
+made_answered m old new assumptions Sat made sat unsat = made_learned m old new (sat refl) made
+made_answered m old new assumptions (Unsat id) made sat unsat = made_refuted m old new assumptions id (unsat id refl) made

@@ -11,7 +11,8 @@ use Rattle.hint_log.specs.Conditions.{AreNamed, IsId}
 use Rattle.hint_log.specs.Entries.{has_id, last_id, numbered, clause_of, clause_at, name_of}
 use Rattle.rup_core.specs.Range.{StandsWithin}
 use Rattle.rup_core.specs.Reading.{literal_at}
-use Rattle.cdcl_cases.specs.Named.{AreNamedTo}
+use Rattle.cdcl_cases.specs.declared.calls.Made.{Made}
+use Rattle.cdcl_cases.specs.Making.{AreMade}
 
 entry_known : (es : List Entry) (id : ℕ) (e : Entry) → numbered has_id es id ≡ Some e → (1 ≤ id) × (id ≤ last_id es)
 entry_known [] id e at = cc
@@ -52,18 +53,18 @@ literal_known es id i some = by (clause_at es id) refl some
     by None e h = absurd (false≢true h)
     by (Some c) e h = record { clause = c; at = e; known = clause_known es id c e }
 
-pub named_within : (newest : ℕ) (es : List Entry) (c : List Literal) → AreNamedTo newest es → AreNamed es c → StandsWithin newest c
-named_within newest es c named are = All-weaker (λ (l : Literal). IsSome (name_of es (variable_of l))) (λ (l : Literal). variable_of l ≤ newest) (λ l h. (named.only (variable_of l) h).1) c are
+pub named_within : (m : Made) (es : List Entry) (c : List Literal) → AreMade m es → AreNamed es c → StandsWithin m.largest c
+named_within m es c made are = All-weaker (λ (l : Literal). IsSome (name_of es (variable_of l))) (λ (l : Literal). variable_of l ≤ m.largest) (λ l h. made.low (variable_of l) h) c are
 
-pub hinted_within : (newest : ℕ) (es : List Entry) (hints : List ℕ) → AreNamedTo newest es → ((id : ℕ) (c : List Literal) → clause_at es id ≡ Some c → AreNamed es c)
-    → All (λ id. IfSome (clause_at es id) (StandsWithin newest)) hints
-hinted_within newest es [] named are = All-nil (λ id. IfSome (clause_at es id) (StandsWithin newest))
-hinted_within newest es (h ∷ hints) named are =
-    All-cons (λ id. IfSome (clause_at es id) (StandsWithin newest)) h hints (by (clause_at es h) refl) (hinted_within newest es hints named are)
+pub hinted_within : (m : Made) (es : List Entry) (hints : List ℕ) → AreMade m es → ((id : ℕ) (c : List Literal) → clause_at es id ≡ Some c → AreNamed es c)
+    → All (λ id. IfSome (clause_at es id) (StandsWithin m.largest)) hints
+hinted_within m es [] made are = All-nil (λ id. IfSome (clause_at es id) (StandsWithin m.largest))
+hinted_within m es (h ∷ hints) made are =
+    All-cons (λ id. IfSome (clause_at es id) (StandsWithin m.largest)) h hints (by (clause_at es h) refl) (hinted_within m es hints made are)
   where
-    by : (o : Option (List Literal)) → clause_at es h ≡ o → IfSome o (StandsWithin newest)
+    by : (o : Option (List Literal)) → clause_at es h ≡ o → IfSome o (StandsWithin m.largest)
     by None e = tt
-    by (Some c) e = named_within newest es c named (are h c e)
+    by (Some c) e = named_within m es c made (are h c e)
 
 -- a place of the clause
 pub place_known : (clause : List Literal) (i : ℕ) → IsSome (slice_get clause i) → i < length clause

@@ -1,109 +1,141 @@
-//! The solver's calls, with which variables have names afterwards.
+//! The solver's calls, with which variables were made.
 
-ghost use Rattle.std.specs.Prelude.{◌≡◌, ℕ, true, false, IfOk, OnErr, Some, Ok};
+ghost use Rattle.std.specs.Prelude.{◌≡◌, ◌≤◌, ◌++◌, ◌∷◌, ℕ, [], true, false, IfOk, OnOk, OnErr, Ok, IsSome};
 ghost use Rattle.std.specs.List.{All};
 ghost use Rattle.dq_lits.specs.Derivation.{is_tautology};
 ghost use Rattle.hint_log.specs.Conditions.{IsId};
 ghost use Rattle.hint_log.specs.Entries.{last_id, name_of};
-ghost use Rattle.hint_log.specs.declared.names.Name.TheVariants.{Input};
 ghost use Rattle.oracle.specs.Calls.{IsMade, IsPlain};
-ghost use Rattle.oracle.specs.Fit.{Fit};
-ghost use Rattle.cdcl_cases.specs.Named.{AreNamedTo};
+ghost use Rattle.cdcl_cases.specs.Making.{AreMade};
 
 use crate::judging::{Line, are_derived, lines_of};
 use anyhow::{Result, anyhow};
-use cdcl_core::Cdcl;
 use dq_lits::{Lit, Memory};
 use hint_log::{Log, Name, Origin, Stop};
 use oracle::{Answer, Group, Oracle, Tenant};
 use std::alloc::Global;
 
-/// A group, by its selector's variable, which is the newest one then.
-pub fn make_group(
-    solver: &mut Cdcl,
-    log: &mut Log,
-    newest: u64,
-    who: &Tenant,
-) -> Result<u64, Memory>
-    requires fit { Fit solver.old.held solver.old.variables log.old.entries }
-    requires named { AreNamedTo newest log.old.entries }
-    ensures fit { Fit solver.new.held solver.new.variables log.new.entries }
-    ensures named { IfOk result (λ v. AreNamedTo v log.new.entries) }
-    ensures err { OnErr result (AreNamedTo newest log.new.entries) }
-{
-    let group = solver.group(who, log)?;
-    Ok(group.selector().var())
+/// The variables that a solver made, in order, and a bound of their numbers.
+#[derive(Debug, Drop)]
+pub struct Made {
+    pub variables: Vec<u64>,
+    pub largest: u64,
 }
 
-/// A variable, which is the newest one then.
-pub fn make_var(solver: &mut Cdcl, log: &mut Log, newest: u64) -> Result<u64, Memory>
-    requires fit { Fit solver.old.held solver.old.variables log.old.entries }
-    requires named { AreNamedTo newest log.old.entries }
-    requires fresh { (v : ℕ) → name_of log.old.entries v ≡ Some (Input newest) → ⊥ }
-    ensures fit { Fit solver.new.held solver.new.variables log.new.entries }
-    ensures named { IfOk result (λ v. AreNamedTo v log.new.entries) }
-    ensures err { OnErr result (AreNamedTo newest log.new.entries) }
+/// No variables.
+pub fn no_variables(alloc: Global) -> Made
+    ensures { AreMade result [] }
 {
-    let var = solver.new_var(Name::Input { universal: newest }, log)?;
-    Ok(var)
+    Made {
+        variables: Vec::new(alloc),
+        largest: 0,
+    }
+}
+
+fn note(made: &mut Made, variable: u64) -> Result<(), Memory>
+    ensures listed { OnOk result (made.new.variables.items ≡ made.old.variables.items ++ variable ∷ []) }
+    ensures within { OnOk result (variable ≤ made.new.largest) }
+    ensures more { OnOk result (made.old.largest ≤ made.new.largest) }
+{
+    made.variables.push(variable)?;
+    if variable > made.largest {
+        made.largest = variable;
+    }
+    Ok(())
+}
+
+/// A group, whose selector is the next variable.
+pub fn make_group<O: Oracle>(
+    oracle: &mut O,
+    log: &mut Log,
+    made: &mut Made,
+    who: &Tenant,
+) -> Result<(), Memory>
+    requires fit { O.Fits oracle.old log.old }
+    requires made { AreMade made.old log.old.entries }
+    ensures fit { O.Fits oracle.new log.new }
+    ensures made { OnOk result (AreMade made.new log.new.entries) }
+{
+    let group = oracle.group(who, log)?;
+    note(made, group.selector().var())?;
+    Ok(())
+}
+
+/// The next variable. As an input it has a number that no earlier one has.
+pub fn make_var<O: Oracle>(oracle: &mut O, log: &mut Log, made: &mut Made) -> Result<(), Memory>
+    requires fit { O.Fits oracle.old log.old }
+    requires made { AreMade made.old log.old.entries }
+    ensures fit { O.Fits oracle.new log.new }
+    ensures made { OnOk result (AreMade made.new log.new.entries) }
+{
+    let universal = made.variables.len() as u64;
+    let variable = oracle.new_var(Name::Input { universal }, log)?;
+    note(made, variable)?;
+    Ok(())
 }
 
 /// One clause more of a group, and its id, which is the last one.
-pub fn add_clause(
-    solver: &mut Cdcl,
+pub fn add_clause<O: Oracle>(
+    oracle: &mut O,
     log: &mut Log,
-    newest: u64,
+    made: &Made,
     group: &Group,
     lits: &[Lit],
 ) -> Result<u64, Memory>
-    requires fit { Fit solver.old.held solver.old.variables log.old.entries }
-    requires named { AreNamedTo newest log.old.entries }
-    requires made { IsMade log.old.entries group.now }
+    requires fit { O.Fits oracle.old log.old }
+    requires made { AreMade made.now log.old.entries }
+    requires group { IsMade log.old.entries group.now }
     requires plain { All (IsPlain log.old.entries) lits.now }
-    ensures fit { Fit solver.new.held solver.new.variables log.new.entries }
-    ensures named { AreNamedTo newest log.new.entries }
+    ensures fit { O.Fits oracle.new log.new }
+    ensures made { AreMade made.now log.new.entries }
     ensures last { IfOk result (λ id. id ≡ last_id log.new.entries) }
 {
     let origin = Origin::Gate {
-        variable: newest,
+        variable: made.largest,
         part: 1,
     };
-    let id = solver.add(group, lits, origin, log)?;
+    let id = oracle.add(group, lits, origin, log)?;
     Ok(id)
 }
 
 /// A search.
-pub fn search(
-    solver: &mut Cdcl,
+pub fn search<O: Oracle>(
+    oracle: &mut O,
     log: &mut Log,
-    newest: u64,
+    made: &Made,
     active: &[Group],
     assume: &[Lit],
 ) -> Result<Answer, Stop>
-    requires fit { Fit solver.old.held solver.old.variables log.old.entries }
-    requires named { AreNamedTo newest log.old.entries }
-    requires made { All (IsMade log.old.entries) active.now }
+    requires fit { O.Fits oracle.old log.old }
+    requires made { AreMade made.now log.old.entries }
+    requires groups { All (IsMade log.old.entries) active.now }
     requires plain { All (IsPlain log.old.entries) assume.now }
     requires apart { is_tautology assume.now ≡ false }
-    ensures fit { Fit solver.new.held solver.new.variables log.new.entries }
-    ensures named { AreNamedTo newest log.new.entries }
-    ensures told { result ≡ Ok Answer.Sat → solver.new.is_told ≡ true }
+    ensures fit { O.Fits oracle.new log.new }
+    ensures made { AreMade made.now log.new.entries }
+    ensures told { result ≡ Ok Answer.Sat → O.is_told oracle.new ≡ true }
     ensures id { (id : ℕ) → result ≡ Ok (Answer.Unsat id) → IsId log.new.entries id }
 {
-    let answer = solver.solve(active, assume, log)?;
+    let _ = made;
+    let answer = oracle.solve(active, assume, log)?;
     Ok(answer)
 }
 
-/// The values that the last search found; that of variable v stands at place v - 1.
-pub fn values_of(alloc: Global, solver: &Cdcl, log: &Log, newest: u64) -> Result<Vec<bool>, Memory>
-    requires fit { Fit solver.now.held solver.now.variables log.now.entries }
-    requires named { AreNamedTo newest log.now.entries }
-    requires told { solver.now.is_told ≡ true }
+/// The values that the last search found, in the order of the variables.
+pub fn values_of<O: Oracle>(
+    alloc: Global,
+    oracle: &O,
+    log: &Log,
+    made: &Made,
+) -> Result<Vec<bool>, Memory>
+    requires fit { O.Fits oracle.now log.now }
+    requires made { AreMade made.now log.now.entries }
+    requires told { O.is_told oracle.now ≡ true }
 {
     let _ = log;
     let mut values = Vec::new(alloc);
-    for before in 0..newest {
-        values.push(solver.value(before + 1))?;
+    for variable in &made.variables {
+        values.push(oracle.value(*variable))?;
     }
     Ok(values)
 }
@@ -111,7 +143,7 @@ pub fn values_of(alloc: Global, solver: &Cdcl, log: &Log, newest: u64) -> Result
 /// What a search gave.
 #[derive(Debug, Drop)]
 pub enum Found {
-    /// The value of variable v at place v - 1.
+    /// The values of the variables in order.
     Values(Vec<bool>),
     /// The lines that an answer rests on, the answer last.
     Refuted(Vec<Line>),
@@ -120,44 +152,44 @@ pub enum Found {
 }
 
 /// A search, and what it gave.
-pub fn find(
+pub fn find<O: Oracle>(
     alloc: Global,
-    solver: &mut Cdcl,
+    oracle: &mut O,
     log: &mut Log,
-    newest: u64,
+    made: &Made,
     active: &[Group],
     assume: &[Lit],
 ) -> Result<Found>
-    requires fit { Fit solver.old.held solver.old.variables log.old.entries }
-    requires named { AreNamedTo newest log.old.entries }
-    requires made { All (IsMade log.old.entries) active.now }
+    requires fit { O.Fits oracle.old log.old }
+    requires made { AreMade made.now log.old.entries }
+    requires groups { All (IsMade log.old.entries) active.now }
     requires plain { All (IsPlain log.old.entries) assume.now }
     requires apart { is_tautology assume.now ≡ false }
-    ensures fit { Fit solver.new.held solver.new.variables log.new.entries }
-    ensures named { AreNamedTo newest log.new.entries }
+    ensures fit { O.Fits oracle.new log.new }
+    ensures made { AreMade made.now log.new.entries }
 {
-    match search(solver, log, newest, active, assume) {
-        Ok(Answer::Sat) => Ok(Found::Values(values_of(alloc, solver, log, newest)?)),
-        Ok(Answer::Unsat(id)) => Ok(Found::Refuted(lines_of(alloc, log, id)?)),
+    match search(oracle, log, made, active, assume) {
+        Ok(Answer::Sat) => Ok(Found::Values(values_of(alloc, oracle, log, made)?)),
+        Ok(Answer::Unsat(id)) => Ok(Found::Refuted(lines_of(alloc, log, made, id)?)),
         Err(Stop::Limit) => Ok(Found::Limit),
         Err(Stop::Memory) => Err(anyhow!("out of memory")),
     }
 }
 
 /// Whether every clause that was learned or answered is derived by its hints. It adds a clause of a group, whose id is the last one.
-pub fn seal(
+pub fn seal<O: Oracle>(
     alloc: Global,
-    solver: &mut Cdcl,
+    oracle: &mut O,
     log: &mut Log,
-    newest: u64,
+    made: &Made,
     group: &Group,
 ) -> Result<bool>
-    requires fit { Fit solver.old.held solver.old.variables log.old.entries }
-    requires named { AreNamedTo newest log.old.entries }
-    requires made { IsMade log.old.entries group.now }
-    ensures fit { Fit solver.new.held solver.new.variables log.new.entries }
-    ensures named { AreNamedTo newest log.new.entries }
+    requires fit { O.Fits oracle.old log.old }
+    requires made { AreMade made.now log.old.entries }
+    requires group { IsMade log.old.entries group.now }
+    ensures fit { O.Fits oracle.new log.new }
+    ensures made { AreMade made.now log.new.entries }
 {
-    let last = add_clause(solver, log, newest, group, &[])?;
-    are_derived(alloc, log, newest, last)
+    let last = add_clause(oracle, log, made, group, &[])?;
+    are_derived(alloc, log, made, last)
 }

@@ -1,56 +1,81 @@
 //! A formula in DIMACS: values under which it is true, or a refutation.
 
-ghost use Rattle.std.specs.Prelude.{◌<◌, length};
+ghost use Rattle.std.specs.Prelude.{◌≡◌, ◌<◌, [], IfOk, length};
+ghost use Rattle.cdcl_cases.specs.Making.{AreMade};
 
-use crate::calls::Found;
+use crate::calls::{Found, Made, make_group, make_var, no_variables};
 use crate::judging::Line;
-use crate::sessions::Session;
-use anyhow::{Result, anyhow};
+use crate::tables::{add_given, found_by};
+use anyhow::Result;
+use cdcl_core::Cdcl;
 use dq_formula::Formula;
 use dqdimacs_reader::read;
+use hint_log::Log;
+use oracle::Oracle;
 use std::alloc::Global;
 
-/// The answer for a formula's text. All its clauses stand in one group.
-pub fn answer(alloc: Global, text: &[u8]) -> Result<String> {
+// The first variable is the selector of the only group.
+const GROUP: i64 = 1;
+
+/// The answer for a formula's text, where so many clauses may be learned. All its clauses stand in one group.
+pub fn answer(alloc: Global, text: &[u8], limit: u64) -> Result<String> {
     let formula = read(alloc, text)?;
-    answer_formula(alloc, &formula)
+    answer_formula(alloc, &formula, limit)
 }
 
-fn answer_formula(alloc: Global, formula: &Formula) -> Result<String> {
-    let mut session = Session::new(alloc, u64::MAX);
-    let group = load(alloc, &mut session, formula)?;
-    answer_group(alloc, &mut session, group)
+fn answer_formula(alloc: Global, formula: &Formula, limit: u64) -> Result<String> {
+    let mut oracle = Cdcl::new(alloc);
+    let mut log = Log::new(alloc, limit);
+    let found = found_for(alloc, &mut oracle, &mut log, formula)?;
+    written(alloc, &found, log.steps())
 }
 
-fn answer_group(alloc: Global, session: &mut Session, group: u64) -> Result<String> {
-    let found = found_by(session, group)?;
-    written(alloc, &found, session.steps())
+fn found_for<O: Oracle>(
+    alloc: Global,
+    oracle: &mut O,
+    log: &mut Log,
+    formula: &Formula,
+) -> Result<Found>
+    requires fit { O.Fits oracle.old log.old }
+    requires empty { log.old.entries ≡ [] }
+{
+    let mut made = no_variables(alloc);
+    make_variables(oracle, log, &mut made, formula.vars())?;
+    add_clauses(alloc, oracle, log, &made, formula)?;
+    found_by(alloc, oracle, log, &made, &[GROUP], &[])
 }
 
-fn found_by(session: &mut Session, group: u64) -> Result<Found> {
-    session.solve(&[group], &[])
-}
-
-fn written(alloc: Global, found: &Found, steps: u64) -> Result<String> {
-    let shown = shown(alloc, found)?;
-    Ok(format!(in alloc; "{shown}\nc {steps} learned")?)
-}
-
-// Adds the formula's variables and clauses, and gives their group.
-fn load(alloc: Global, session: &mut Session, formula: &Formula) -> Result<u64> {
-    let tenant = session.tenant()?;
-    let group = session.group(&tenant)?;
-    for _ in 0..formula.vars() {
-        session.var()?;
+// A group, and so many variables.
+fn make_variables<O: Oracle>(
+    oracle: &mut O,
+    log: &mut Log,
+    made: &mut Made,
+    count: u64,
+) -> Result<()>
+    requires ready { O.Fits oracle.old log.old × AreMade made.old log.old.entries }
+    ensures ready { IfOk result (λ u. O.Fits oracle.new log.new × AreMade made.new log.new.entries) }
+{
+    let tenant = oracle.tenant()?;
+    make_group(oracle, log, made, &tenant)?;
+    for _ in 0..count {
+        make_var(oracle, log, made)?;
     }
-    add_clauses(alloc, session, formula, group)?;
-    Ok(group)
+    Ok(())
 }
 
-fn add_clauses(alloc: Global, session: &mut Session, formula: &Formula, group: u64) -> Result<()> {
+fn add_clauses<O: Oracle>(
+    alloc: Global,
+    oracle: &mut O,
+    log: &mut Log,
+    made: &Made,
+    formula: &Formula,
+) -> Result<()>
+    requires ready { O.Fits oracle.old log.old × AreMade made.now log.old.entries }
+    ensures ready { IfOk result (λ u. O.Fits oracle.new log.new × AreMade made.now log.new.entries) }
+{
     for j in 0..formula.clauses() {
         let numbers = shifted(alloc, formula, j)?;
-        session.add(group, &numbers)?;
+        add_given(alloc, oracle, log, made, GROUP, &numbers)?;
     }
     Ok(())
 }
@@ -67,11 +92,16 @@ fn shifted(alloc: Global, formula: &Formula, j: usize) -> Result<Vec<i64>>
     Ok(numbers)
 }
 
+fn written(alloc: Global, found: &Found, steps: u64) -> Result<String> {
+    let shown = shown(alloc, found)?;
+    Ok(format!(in alloc; "{shown}\nc {steps} learned")?)
+}
+
 fn shown(alloc: Global, found: &Found) -> Result<String> {
     match found {
         Found::Values(values) => shown_values(alloc, values),
         Found::Refuted(lines) => shown_lines(alloc, lines),
-        Found::Limit => Err(anyhow!("the limit is reached")),
+        Found::Limit => Ok(String::from_str(alloc, "s UNKNOWN")?),
     }
 }
 

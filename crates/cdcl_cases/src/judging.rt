@@ -3,8 +3,10 @@
 ghost use Rattle.std.specs.Prelude.{◌≡◌, ◌≤◌, true, false};
 ghost use Rattle.hint_log.specs.Conditions.{IsId};
 ghost use Rattle.hint_log.specs.Entries.{clause_at, last_id};
-ghost use Rattle.cdcl_cases.specs.Named.{AreNamedTo};
+ghost use Rattle.cdcl_cases.specs.Making.{AreMade};
 
+use crate::calls::Made;
+use crate::numbers::numbers_of;
 use anyhow::Result;
 use dq_lits::Lit;
 use hint_log::Log;
@@ -54,27 +56,28 @@ fn is_id(id: u64, last: u64) -> bool
 }
 
 /// Whether every clause of the log that was learned or answered is derived by its hints.
-pub fn are_derived(alloc: Global, log: &Log, newest: u64, last: u64) -> Result<bool>
-    requires named { AreNamedTo newest log.now.entries }
+pub fn are_derived(alloc: Global, log: &Log, made: &Made, last: u64) -> Result<bool>
+    requires made { AreMade made.now log.now.entries }
     requires last { last ≡ last_id log.now.entries }
 {
-    let mut marks = Marks::new(alloc, newest as usize)?;
+    let mut marks = Marks::new(alloc, made.largest as usize)?;
     for before in 0..last {
         let id = before + 1;
-        if log.origin(id).is_none() && !is_derived(&mut marks, log, newest, last, id) {
+        if log.origin(id).is_none() && !is_derived(&mut marks, log, made, last, id) {
             return Ok(false);
         }
     }
     Ok(true)
 }
 
-fn is_derived(marks: &mut Marks, log: &Log, newest: u64, last: u64, id: u64) -> bool
-    requires named { AreNamedTo newest log.now.entries }
+fn is_derived(marks: &mut Marks, log: &Log, made: &Made, last: u64, id: u64) -> bool
+    requires made { AreMade made.now log.now.entries }
     requires last { last ≡ last_id log.now.entries }
     requires id { IsId log.now.entries id }
-    requires marks { marks.old ≡ newest }
+    requires marks { marks.old ≡ made.now.largest }
     ensures { marks.new ≡ marks.old }
 {
+    let _ = made;
     log.every_log_is_lawful();
     clauses_are_named();
     let base = Clauses { log, last };
@@ -85,7 +88,7 @@ fn is_derived(marks: &mut Marks, log: &Log, newest: u64, last: u64, id: u64) -> 
 }
 
 /// The lines that an answer rests on, by ascending ids.
-pub fn lines_of(alloc: Global, log: &Log, answer: u64) -> Result<Vec<Line>>
+pub fn lines_of(alloc: Global, log: &Log, made: &Made, answer: u64) -> Result<Vec<Line>>
     requires { IsId log.now.entries answer }
 {
     log.every_log_is_lawful();
@@ -93,27 +96,18 @@ pub fn lines_of(alloc: Global, log: &Log, answer: u64) -> Result<Vec<Line>>
     let ids = log.trim(answer)?;
     let mut lines = Vec::new(alloc);
     for id in ids.items() {
-        lines.push(line_of(alloc, log, *id)?)?;
+        lines.push(line_of(alloc, log, made, *id)?)?;
     }
     Ok(lines)
 }
 
-fn line_of(alloc: Global, log: &Log, id: u64) -> Result<Line>
+fn line_of(alloc: Global, log: &Log, made: &Made, id: u64) -> Result<Line>
     requires { IsId log.now.entries id }
 {
     Ok(Line {
         id,
-        literals: numbers_of(alloc, log.clause(id))?,
+        literals: numbers_of(alloc, made, log.clause(id))?,
         hints: log.hints(id).to_vec(alloc)?,
         is_given: log.origin(id).is_some(),
     })
-}
-
-fn numbers_of(alloc: Global, lits: &[Lit]) -> Result<Vec<i64>> {
-    let mut numbers = Vec::new(alloc);
-    for l in lits {
-        let var = l.var() as i64;
-        numbers.push(if l.is_neg() { -var } else { var })?;
-    }
-    Ok(numbers)
 }

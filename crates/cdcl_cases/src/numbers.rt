@@ -1,14 +1,14 @@
-//! Literals and groups by numbers, as far as the log names them.
+//! Literals and groups by numbers: variable n is the nth one that was made, and a literal is its variable's number or the negative of it, as
+//! in DIMACS.
 
-ghost use Rattle.std.specs.Prelude.{◌≡◌, ◌≤◌, ◌+◌, ℕ, IfOk, IfSome, Some, true};
+ghost use Rattle.std.specs.Prelude.{◌≡◌, IfOk, IfSome, IsSome};
 ghost use Rattle.std.specs.List.{All};
 ghost use Rattle.dq_lits.specs.Derivation.{is_tautology, holds};
-ghost use Rattle.dq_lits.specs.Literal.{opposite};
 ghost use Rattle.hint_log.specs.Entries.{name_of};
-ghost use Rattle.hint_log.specs.declared.names.Name.TheVariants.{Input};
 ghost use Rattle.oracle.specs.Calls.{IsMade, IsPlain};
-ghost use Rattle.cdcl_cases.specs.Named.{AreNamedTo};
+ghost use Rattle.cdcl_cases.specs.Making.{AreMade};
 
+use crate::calls::Made;
 use anyhow::{Result, anyhow};
 use dq_lits::Lit;
 use hint_log::{Log, Name};
@@ -17,13 +17,27 @@ use std::alloc::Global;
 
 const FIRST_TOO_LARGE: u64 = 1 << 62;
 
-/// The literal of a number, on a variable that is no selector.
-pub fn plain_lit(log: &Log, newest: u64, number: i64) -> Option<Lit>
-    requires { AreNamedTo newest log.now.entries }
+// The variable of a number.
+fn variable_at(log: &Log, made: &Made, number: u64) -> Option<u64>
+    requires { AreMade made.now log.now.entries }
+    ensures { IfSome result (λ v. IsSome (name_of log.now.entries v)) }
+{
+    let _ = log;
+    let number = number as usize;
+    if number == 0 || number > made.variables.len() {
+        None
+    } else {
+        Some(made.variables[number - 1])
+    }
+}
+
+// The literal of a number, on a variable that is no selector.
+fn plain_lit(log: &Log, made: &Made, number: i64) -> Option<Lit>
+    requires { AreMade made.now log.now.entries }
     ensures { IfSome result (IsPlain log.now.entries) }
 {
-    let var = number.unsigned_abs();
-    if var == 0 || var > newest || var >= FIRST_TOO_LARGE {
+    let var = variable_at(log, made, number.unsigned_abs())?;
+    if var == 0 || var >= FIRST_TOO_LARGE {
         return None;
     }
     let lit = if number < 0 {
@@ -38,13 +52,13 @@ pub fn plain_lit(log: &Log, newest: u64, number: i64) -> Option<Lit>
 }
 
 /// The literals of these numbers.
-pub fn plain_lits(alloc: Global, log: &Log, newest: u64, numbers: &[i64]) -> Result<Vec<Lit>>
-    requires { AreNamedTo newest log.now.entries }
+pub fn plain_lits(alloc: Global, log: &Log, made: &Made, numbers: &[i64]) -> Result<Vec<Lit>>
+    requires { AreMade made.now log.now.entries }
     ensures { IfOk result (λ lits. All (IsPlain log.now.entries) lits.items) }
 {
     let mut lits = Vec::new(alloc);
     for number in numbers {
-        match plain_lit(log, newest, *number) {
+        match plain_lit(log, made, *number) {
             Some(lit) => lits.push(lit)?,
             None => return Err(anyhow!("no variable")),
         }
@@ -52,12 +66,13 @@ pub fn plain_lits(alloc: Global, log: &Log, newest: u64, numbers: &[i64]) -> Res
     Ok(lits)
 }
 
-/// The group with this selector.
-pub fn group_of(log: &Log, newest: u64, selector: u64) -> Option<Group>
-    requires { AreNamedTo newest log.now.entries }
+/// The group whose selector has this number.
+pub fn group_at(log: &Log, made: &Made, number: u64) -> Option<Group>
+    requires { AreMade made.now log.now.entries }
     ensures { IfSome result (IsMade log.now.entries) }
 {
-    if selector == 0 || selector > newest || selector >= FIRST_TOO_LARGE {
+    let selector = variable_at(log, made, number)?;
+    if selector == 0 || selector >= FIRST_TOO_LARGE {
         return None;
     }
     match log.name(selector) {
@@ -68,19 +83,52 @@ pub fn group_of(log: &Log, newest: u64, selector: u64) -> Option<Group>
     }
 }
 
-/// The groups with these selectors.
-pub fn groups_of(alloc: Global, log: &Log, newest: u64, selectors: &[u64]) -> Result<Vec<Group>>
-    requires { AreNamedTo newest log.now.entries }
+/// The groups whose selectors have these numbers.
+pub fn groups_at(alloc: Global, log: &Log, made: &Made, numbers: &[i64]) -> Result<Vec<Group>>
+    requires { AreMade made.now log.now.entries }
     ensures { IfOk result (λ groups. All (IsMade log.now.entries) groups.items) }
 {
     let mut groups = Vec::new(alloc);
-    for selector in selectors {
-        match group_of(log, newest, *selector) {
+    for number in numbers {
+        match group_at(log, made, number.unsigned_abs()) {
             Some(group) => groups.push(group)?,
             None => return Err(anyhow!("no group")),
         }
     }
     Ok(groups)
+}
+
+/// The numbers of literals; 0 for a variable that wasn't made here.
+pub fn numbers_of(alloc: Global, made: &Made, lits: &[Lit]) -> Result<Vec<i64>> {
+    let mut numbers = Vec::new(alloc);
+    for l in lits {
+        let number = number_of(made, l.var());
+        numbers.push(if l.is_neg() {
+            number.wrapping_neg()
+        } else {
+            number
+        })?;
+    }
+    Ok(numbers)
+}
+
+// Mostly the variable itself.
+fn number_of(made: &Made, variable: u64) -> i64 {
+    match made.variables.get((variable as usize).wrapping_sub(1)) {
+        Some(other) if *other == variable => variable as i64,
+        _ => sought(made, variable),
+    }
+}
+
+fn sought(made: &Made, variable: u64) -> i64 {
+    let mut number = 0i64;
+    for other in &made.variables {
+        number = number.saturating_add(1);
+        if *other == variable {
+            return number;
+        }
+    }
+    0
 }
 
 /// Whether a literal stands beside its negation.
@@ -94,18 +142,4 @@ fn holds(lits: &[Lit], l: Lit) -> bool
     ensures { result ≡ holds lits.now l }
 {
     lits.iter().any(|k| l == *k)
-}
-
-/// Whether no input of this number is named.
-pub fn is_fresh(log: &Log, newest: u64, universal: u64) -> bool
-    requires { AreNamedTo newest log.now.entries }
-    ensures { result ≡ true → (v : ℕ) → name_of log.now.entries v ≡ Some (Input universal) → ⊥ }
-{
-    for before in 0..newest {
-        match log.name(before + 1) {
-            Name::Input { universal: other } if other == universal => return false,
-            _ => {}
-        }
-    }
-    true
 }

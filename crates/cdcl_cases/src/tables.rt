@@ -1,134 +1,195 @@
 //! The commands of a table.
 //!
-//! `new LIMIT` begins with an empty log of that limit and one tenant; `tenant` goes on with another. `group` and `var` take the next
-//! variable, the first one is 1, and a group is named by its selector's. `add GROUP LITERAL..` adds a clause. `solve NAME | GROUP.. |
-//! LITERAL..` searches under these groups and assumptions, and prints `Sat`, where the values make the clauses of these groups and the
-//! assumptions true, or `Unsat` with the answer's clause, or `Limit`. `steps NAME` prints how many clauses were learned, and `derived
-//! NAME GROUP` whether all that was learned and answered is derived by its hints. Lines that begin with `#` are comments.
+//! `tenant` goes on with another tenant. `group` and `var` take the next variable, the first one is 1, and a group is named by its
+//! selector's. `add GROUP LITERAL..` adds a clause. `solve NAME | GROUP.. | LITERAL..` searches under these groups and assumptions, and
+//! prints `Sat`, where the values make the clauses of these groups and the assumptions true, or `Unsat` with the answer's clause, or
+//! `Limit`. `steps NAME` prints how many clauses were learned, and `derived NAME GROUP` whether all that was learned and answered is derived
+//! by its hints. Lines that begin with `#` are comments.
 
-use crate::calls::Found;
-use crate::sessions::Session;
+ghost use Rattle.std.specs.Prelude.{[], IfOk};
+ghost use Rattle.cdcl_cases.specs.Making.{AreMade};
+
+use crate::calls::{Found, Made, add_clause, find, make_group, make_var, no_variables, seal};
+use crate::numbers::{excludes_itself, group_at, groups_at, plain_lits};
 use anyhow::{Result, anyhow};
-use oracle::Tenant;
+use hint_log::Log;
+use oracle::{Oracle, Tenant};
 use std::alloc::Global;
 
 /// A clause that was added.
 #[derive(Debug, Drop)]
-struct Given {
+pub struct Given {
     group: i64,
     literals: Vec<i64>,
 }
 
-/// What the commands so far have made.
+/// What the commands of a case have made so far.
 #[derive(Debug, Drop)]
-pub struct Cases {
-    session: Session,
+pub struct Case {
+    pub made: Made,
     tenant: Tenant,
     given: Vec<Given>,
 }
 
-/// An empty log that takes no step.
-pub fn no_cases(alloc: Global) -> Result<Cases> {
-    begun(alloc, 0)
-}
-
-fn begun(alloc: Global, limit: u64) -> Result<Cases> {
-    let mut session = Session::new(alloc, limit);
-    let tenant = session.tenant()?;
-    Ok(Cases {
-        session,
-        tenant,
+/// Nothing.
+pub fn empty_case(alloc: Global) -> Case
+    ensures { AreMade result.made [] }
+{
+    Case {
+        made: no_variables(alloc),
+        tenant: Tenant,
         given: Vec::new(alloc),
-    })
+    }
 }
 
 /// Takes a command, and gives what is to be printed.
-pub fn take_line(alloc: Global, cases: &mut Cases, line: &str) -> Result<Option<String>> {
+pub fn take_line<O: Oracle>(
+    alloc: Global,
+    oracle: &mut O,
+    log: &mut Log,
+    case: &mut Case,
+    line: &str,
+) -> Result<Option<String>>
+    requires ready { O.Fits oracle.old log.old × AreMade case.old.made log.old.entries }
+    ensures ready { IfOk result (λ p. O.Fits oracle.new log.new × AreMade case.new.made log.new.entries) }
+{
     let (word, rest) = line.split_once(' ').unwrap_or((line, ""));
     match word {
         "" | "#" => Ok(None),
-        "new" => begin(alloc, cases, rest),
-        "tenant" => go_on(cases),
-        "group" => make_group(&mut cases.session, &cases.tenant),
-        "var" => make_var(&mut cases.session),
-        "add" => add(alloc, &mut cases.session, &mut cases.given, rest),
-        "solve" => solve(alloc, &mut cases.session, &cases.given, rest),
-        "steps" => steps(alloc, &cases.session, rest),
-        "derived" => derived(alloc, &mut cases.session, rest),
+        "tenant" => go_on(oracle, log, case),
+        "group" => group(oracle, log, case),
+        "var" => var(oracle, log, case),
+        "add" => add(alloc, oracle, log, case, rest),
+        "solve" => solve(alloc, oracle, log, case, rest),
+        "steps" => steps(alloc, log, rest),
+        "derived" => derived(alloc, oracle, log, case, rest),
         _ => Err(anyhow!("no command: {line}")),
     }
 }
 
-fn begin(alloc: Global, cases: &mut Cases, rest: &str) -> Result<Option<String>> {
-    let limit: u64 = rest.parse()?;
-    *cases = begun(alloc, limit)?;
+fn go_on<O: Oracle>(oracle: &mut O, log: &Log, case: &mut Case) -> Result<Option<String>>
+    requires ready { O.Fits oracle.old log.now × AreMade case.old.made log.now.entries }
+    ensures ready { IfOk result (λ p. O.Fits oracle.new log.now × AreMade case.new.made log.now.entries) }
+{
+    let _ = log;
+    case.tenant = oracle.tenant()?;
     Ok(None)
 }
 
-fn go_on(cases: &mut Cases) -> Result<Option<String>> {
-    cases.tenant = cases.session.tenant()?;
+fn group<O: Oracle>(oracle: &mut O, log: &mut Log, case: &mut Case) -> Result<Option<String>>
+    requires ready { O.Fits oracle.old log.old × AreMade case.old.made log.old.entries }
+    ensures ready { IfOk result (λ p. O.Fits oracle.new log.new × AreMade case.new.made log.new.entries) }
+{
+    make_group(oracle, log, &mut case.made, &case.tenant)?;
     Ok(None)
 }
 
-fn make_group(session: &mut Session, tenant: &Tenant) -> Result<Option<String>> {
-    session.group(tenant)?;
+fn var<O: Oracle>(oracle: &mut O, log: &mut Log, case: &mut Case) -> Result<Option<String>>
+    requires ready { O.Fits oracle.old log.old × AreMade case.old.made log.old.entries }
+    ensures ready { IfOk result (λ p. O.Fits oracle.new log.new × AreMade case.new.made log.new.entries) }
+{
+    make_var(oracle, log, &mut case.made)?;
     Ok(None)
 }
 
-fn make_var(session: &mut Session) -> Result<Option<String>> {
-    session.var()?;
-    Ok(None)
-}
-
-fn add(
+fn add<O: Oracle>(
     alloc: Global,
-    session: &mut Session,
-    given: &mut Vec<Given>,
+    oracle: &mut O,
+    log: &mut Log,
+    case: &mut Case,
     rest: &str,
-) -> Result<Option<String>> {
+) -> Result<Option<String>>
+    requires ready { O.Fits oracle.old log.old × AreMade case.old.made log.old.entries }
+    ensures ready { IfOk result (λ p. O.Fits oracle.new log.new × AreMade case.new.made log.new.entries) }
+{
     let (group, literals) = rest.split_once(' ').unwrap_or((rest, ""));
     let group: i64 = group.parse()?;
     let literals = numbers_of(alloc, literals)?;
-    session.add(group.unsigned_abs(), &literals)?;
-    given.push(Given { group, literals })?;
+    add_given(alloc, oracle, log, &case.made, group, &literals)?;
+    case.given.push(Given { group, literals })?;
     Ok(None)
 }
 
-fn solve(
+/// Adds a clause of a group.
+pub fn add_given<O: Oracle>(
     alloc: Global,
-    session: &mut Session,
-    given: &[Given],
+    oracle: &mut O,
+    log: &mut Log,
+    made: &Made,
+    group: i64,
+    literals: &[i64],
+) -> Result<()>
+    requires ready { O.Fits oracle.old log.old × AreMade made.now log.old.entries }
+    ensures ready { IfOk result (λ u. O.Fits oracle.new log.new × AreMade made.now log.new.entries) }
+{
+    let Some(group) = group_at(log, made, group.unsigned_abs()) else {
+        return Err(anyhow!("no group"));
+    };
+    let lits = plain_lits(alloc, log, made, literals)?;
+    add_clause(oracle, log, made, &group, &lits)?;
+    Ok(())
+}
+
+fn solve<O: Oracle>(
+    alloc: Global,
+    oracle: &mut O,
+    log: &mut Log,
+    case: &Case,
     rest: &str,
-) -> Result<Option<String>> {
+) -> Result<Option<String>>
+    requires ready { O.Fits oracle.old log.old × AreMade case.now.made log.old.entries }
+    ensures ready { IfOk result (λ p. O.Fits oracle.new log.new × AreMade case.now.made log.new.entries) }
+{
     let (name, rest) = rest.split_once(" |").unwrap_or((rest, ""));
     let (groups, assumed) = rest.split_once('|').unwrap_or((rest, ""));
     let groups = numbers_of(alloc, groups)?;
     let assumed = numbers_of(alloc, assumed)?;
-    let shown = searched(alloc, session, given, &groups, &assumed)?;
+    let found = found_by(alloc, oracle, log, &case.made, &groups, &assumed)?;
+    let shown = shown(alloc, &case.given, &groups, &assumed, &found)?;
     Ok(Some(format!(in alloc; "{name}: {shown}")?))
 }
 
-fn searched(
+/// Searches under these groups and assumptions.
+pub fn found_by<O: Oracle>(
     alloc: Global,
-    session: &mut Session,
-    given: &[Given],
+    oracle: &mut O,
+    log: &mut Log,
+    made: &Made,
     groups: &[i64],
     assumed: &[i64],
-) -> Result<String> {
-    let selectors = selectors_of(alloc, groups)?;
-    let found = session.solve(&selectors, assumed)?;
-    shown(alloc, given, groups, assumed, &found)
+) -> Result<Found>
+    requires ready { O.Fits oracle.old log.old × AreMade made.now log.old.entries }
+    ensures ready { IfOk result (λ f. O.Fits oracle.new log.new × AreMade made.now log.new.entries) }
+{
+    let active = groups_at(alloc, log, made, groups)?;
+    let assume = plain_lits(alloc, log, made, assumed)?;
+    if excludes_itself(&assume) {
+        return Err(anyhow!("assumptions exclude one another"));
+    }
+    find(alloc, oracle, log, made, &active, &assume)
 }
 
-fn steps(alloc: Global, session: &Session, name: &str) -> Result<Option<String>> {
-    let steps = session.steps();
+fn steps(alloc: Global, log: &Log, name: &str) -> Result<Option<String>> {
+    let steps = log.steps();
     Ok(Some(format!(in alloc; "{name}: {steps}")?))
 }
 
-fn derived(alloc: Global, session: &mut Session, rest: &str) -> Result<Option<String>> {
+fn derived<O: Oracle>(
+    alloc: Global,
+    oracle: &mut O,
+    log: &mut Log,
+    case: &Case,
+    rest: &str,
+) -> Result<Option<String>>
+    requires ready { O.Fits oracle.old log.old × AreMade case.now.made log.old.entries }
+    ensures ready { IfOk result (λ p. O.Fits oracle.new log.new × AreMade case.now.made log.new.entries) }
+{
     let (name, group) = rest.rsplit_once(' ').unwrap_or((rest, ""));
     let group: u64 = group.parse()?;
-    let derived = session.are_derived(group)?;
+    let Some(group) = group_at(log, &case.made, group) else {
+        return Err(anyhow!("no group"));
+    };
+    let derived = seal(alloc, oracle, log, &case.made, &group)?;
     Ok(Some(format!(in alloc; "{name}: {derived}")?))
 }
 
@@ -138,14 +199,6 @@ fn numbers_of(alloc: Global, text: &str) -> Result<Vec<i64>> {
         numbers.push(word.parse()?)?;
     }
     Ok(numbers)
-}
-
-fn selectors_of(alloc: Global, groups: &[i64]) -> Result<Vec<u64>> {
-    let mut selectors = Vec::new(alloc);
-    for group in groups {
-        selectors.push(group.unsigned_abs())?;
-    }
-    Ok(selectors)
 }
 
 fn shown(
