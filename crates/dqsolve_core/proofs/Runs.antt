@@ -77,7 +77,6 @@ solution_by files files_now log c formula before now output told written verdict
   well_formed = one.well_formed;
   solved = solved_as f log c bare before now output v same limit shown is.status (written ∙ ap (append_known before) is.text);
 }
-
 solution_by files files_now log c formula before now output told written verdict (demonstrated _ _ _) due is = absurd due
 
 pub solution : (files files_now : FilesState) (words : List (List ℕ)) (log : ProofLog) (before now : Option (List ℕ)) (output : Output)
@@ -111,7 +110,6 @@ solved_by law files files_now log c formula f before now output told short spell
     let same_formula : g ≡ f = law.unique formula g f (read_spells (files.held c.file) formula g told one) spelled in
     subst (λ h. IsSolved h log c before now output.status) same_formula
     (solved_as g log c bare before now output v same limit shown is.status (written ∙ ap (append_known before) is.text))
-
 solved_by law files files_now log c formula f before now output told short spelled sound written (demonstrated _ _ _) due is = absurd due
 
 pub solved_told : FormulaLaw → (files files_now : FilesState) (words : List (List ℕ)) (log : ProofLog) (before now : Option (List ℕ)) (output : Output)

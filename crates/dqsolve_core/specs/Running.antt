@@ -25,7 +25,6 @@ IsDueFor before now log c long_formula = IsLong max_formula (before.held c.file)
 IsDueFor before now log c (refused_formula fault) = IsFaultOf (before.held c.file) fault × PickedOnce before now
 IsDueFor before now log c (solved bare f verdict) =
     (bare ≡ c.bare) × IsFormulaOf (before.held c.file) f × (log.limit ≡ c.steps) × IsVerdict f log bare verdict × PickedOnce before now
-
 IsDueFor before now log c (demonstrated _ _ _) = ⊥
 
 -- which report is due for a planted formula, by the search's log, in the default number of steps; no file is picked

@@ -12,7 +12,6 @@ use Rattle.clap.specs.declared.error.kind.ErrorKind.{ErrorKind}
 use Rattle.clap.proofs.WalkLemmas.{first_value-rows}
 use Rattle.dqsolve_words.specs.Command.{Search, Command, command_of, command_in, solve_in, steps_in, number_in, has_flag, without_fault, solver_app, least_steps, most_steps, default_steps}
 
-
 -- what a getter finds is the first value in the rows
 pub value_found : (f : Found) (id : Text) (value : Option Text) → value ≡ first_value f id → value ≡ first_of id (rows_of f)
 value_found f id value is = is ∙ first_value-rows f id

@@ -13,7 +13,6 @@ use Rattle.clap.proofs.ValueTestLemmas.{accepts-Accepts, Accepts-accepts}
 use Rattle.std.specs.Str.{bytes_eq}
 use Rattle.dqsolve_words.specs.Command.{Search, Planting, Command, solve, demo, IsInRange, number_in, steps_in, solve_in, demo_in, command_in, has_flag, without_fault, command_of, solver_app, least_steps, most_steps, default_steps, most_seed, least_size, most_size}
 
-
 abbrev search : ℕ → Bool → Text → Search
 search steps bare file = record { steps = steps; bare = bare; file = file }
 
