@@ -4,6 +4,7 @@ ghost use Rattle.std.specs.Prelude.{◌≡◌, [], length};
 ghost use Rattle.dq_lits.specs.Formula.{IsWellFormed};
 
 use crate::evaluation::Detail;
+use crate::scans::compare_verdict;
 use aig_graph::Graph;
 use anyhow::{Result, anyhow};
 use cdcl_core::Cdcl;
@@ -28,13 +29,15 @@ pub fn run(
     let mut log = Log::new(alloc, limit);
     let text = decided(alloc, &mut oracle, f, &mut log)?;
     printed.push_str(text)?;
+    compare_verdict(alloc, f, limit, text, printed)?;
     if let Detail::Bits = detail {
         push_counts(alloc, &log, printed)?;
     }
     Ok(())
 }
 
-fn decided<O: Oracle>(
+/// Decides a formula, and gives the verdict's word.
+pub fn decided<O: Oracle>(
     alloc: Global,
     oracle: &mut O,
     f: &Formula,

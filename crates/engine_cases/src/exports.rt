@@ -7,6 +7,7 @@ ghost use Rattle.cert_text.specs.Header.{max_count};
 ghost use Rattle.expansion.specs.Table.{IsRefutedBy};
 
 use crate::evaluation::Detail;
+use crate::scans::compare_refutation;
 use aig_graph::Graph;
 use anyhow::{Result, anyhow};
 use cdcl_core::Cdcl;
@@ -41,10 +42,14 @@ pub fn run(
     }
     let mut oracle = Cdcl::new(alloc);
     let mut log = Log::new(alloc, limit);
-    refute(alloc, &mut oracle, f, &mut log, detail, printed)
+    let mut shown = String::new(alloc);
+    refute(alloc, &mut oracle, f, &mut log, detail, &mut shown)?;
+    printed.push_str(&shown)?;
+    compare_refutation(alloc, f, limit, detail, &shown, printed)
 }
 
-fn refute<O: Oracle>(
+/// Decides a formula, and prints what the checker says of the refutation.
+pub fn refute<O: Oracle>(
     alloc: Global,
     oracle: &mut O,
     f: &Formula,

@@ -11,6 +11,7 @@ mod expansions;
 mod exports;
 mod expressions;
 mod rows;
+mod scans;
 mod shown;
 mod tables;
 
