@@ -1,0 +1,25 @@
+//! The order of the existentials by what they see, and which of them a definition may read.
+#![tactic(auto)]
+
+ghost use Rattle.std.specs.Prelude.{◌≡◌, IfOk, IsSome, Some};
+ghost use Rattle.dq_lits.specs.Formula.{Existential, existential_of};
+ghost use Rattle.definition_order.specs.Order.{AreInOrder, ArePlacesOfShared};
+
+use dq_formula::Formula;
+use dq_lits::Memory;
+use std::alloc::Global;
+
+/// The places of the existentials, those that see less first, and of those that see as many the one that is declared first.
+pub fn existentials_in_order(alloc: Global, f: &Formula) -> Result<Vec<usize>, Memory>
+    ensures { IfOk result (λ places. AreInOrder f.now places.items) }
+{
+    todo!()
+}
+
+/// The places of the existentials that a definition of this one may read: those that come before it in the order and see no more.
+pub fn shared_existentials(alloc: Global, f: &Formula, y: u64) -> Result<Vec<usize>, Memory>
+    requires existential { IsSome (existential_of f.now y) }
+    ensures { (e : Existential) → existential_of f.now y ≡ Some e → IfOk result (λ places. ArePlacesOfShared f.now e places.items) }
+{
+    todo!()
+}
