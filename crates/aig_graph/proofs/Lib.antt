@@ -1,4 +1,4 @@
-mod Numbered
+pub mod Numbered
 pub mod Staying
 mod Making
 mod Valuing

@@ -1,5 +1,5 @@
 -- Nodes as functions of variables.
-use Rattle.std.specs.Prelude.{◌==◌, false, List, map, slice_index, slice_index_or}
+use Rattle.std.specs.Prelude.{◌==◌, ◌<◌, false, List, length, map, slice_index, slice_index_or}
 use Rattle.std.specs.List.{All, Contains, position_or_len}
 use Rattle.dq_lits.specs.Formula.{Existential, Dqbf}
 use Rattle.dq_lits.specs.Skolem.{OutputFunction, IsSupported}
@@ -24,6 +24,10 @@ outputs_of f graph nodes y = node_output f graph (output_node f nodes y)
 -- each output reads what its existential sees alone
 abbrev pub ReadDeclared : Dqbf → (Existential → OutputFunction) → Type 0
 ReadDeclared f output = All (λ y. All (Contains y.sees) (output y).support) f.existentials
+
+-- the node reads inputs of universals alone
+abbrev pub ReadsUniversals : Dqbf → AigGraph → Node → Type 0
+ReadsUniversals f graph node = All (λ i. i < length f.universals) (node_support graph node)
 
 -- a node's value depends on the inputs that it reads alone
 abbrev pub OutputsAreSupported : Type 0

@@ -58,6 +58,13 @@ impl Graph {
         Node::Input(i, false)
     }
 
+    /// How many inputs there are.
+    pub fn inputs(&self) -> usize
+        ensures { result ≡ self.now.inputs }
+    {
+        self.inputs
+    }
+
     /// How many places there are: inputs, then gates.
     pub fn len(&self) -> usize
         ensures { result ≡ size_of self.now }

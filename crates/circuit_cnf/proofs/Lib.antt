@@ -5,6 +5,7 @@ mod Naming
 mod Grouping
 mod Knowing
 mod Inputting
+mod MarkedInputs
 mod SideLeaves
 mod ConeLiterals
 mod Badding
@@ -20,6 +21,7 @@ mod Searching
 mod Holding
 mod Falsifying
 mod Outputting
+mod Lengthening
 mod Valuing
 mod Turning
 mod Leafing

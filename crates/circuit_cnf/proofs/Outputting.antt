@@ -22,7 +22,7 @@ use Rattle.circuit_cnf.specs.declared.checkers.Checker.{Checker}
 use Rattle.circuit_cnf.specs.declared.gates.Gates.{Gates}
 use Rattle.circuit_cnf.specs.Checking.{AreInputs, IsChecker}
 use Rattle.circuit_cnf.specs.Gates.{AreKnown, AreBadsStill, GrewByGates}
-use Rattle.circuit_cnf.specs.Leaves.{HasLeaf, AreClosed, HaveLeaves, leaf_by}
+use Rattle.circuit_cnf.specs.Leaves.{HasLeaf, AreClosed, AreMarkedUniversals, HaveLeaves, leaf_by}
 use Rattle.circuit_cnf.specs.Turning.{AreLeavesOf}
 use Rattle.circuit_cnf.proofs.Knowing.{some_stays}
 use Rattle.circuit_cnf.proofs.Naming.{named_as_stays}
@@ -62,14 +62,14 @@ long : {X Y : Type 0} (h : X → Y) (xs : List X) → length (map h xs) ≡ leng
 long h [] = refl
 long h (x ∷ xs) = let e = long h xs in omega (arith, e)
 
-pub are_leaves : (f : Dqbf) (graph : AigGraph) (es : List Entry) (inputs literals : List Literal) (marks : List Bool) (nodes : List Node) (leaves : List Leaf) → graph.inputs ≡ length f.universals → AreInputs f.universals inputs es →
+pub are_leaves : (f : Dqbf) (graph : AigGraph) (es : List Entry) (inputs literals : List Literal) (marks : List Bool) (nodes : List Node) (leaves : List Leaf) → AreMarkedUniversals f graph marks → AreInputs f.universals inputs es →
     HaveLeaves f graph marks literals es → ((p : ℕ) → ((bit_of marks p ≡ true) ↔ IsInCone graph nodes p)) → All (IsEarlierNode graph.inputs (length literals)) nodes → leaves ≡ map (leaf_by inputs literals) nodes → AreLeavesOf f graph es nodes leaves
-are_leaves f graph es inputs literals marks nodes leaves universals are have exact earlier is = record {
+are_leaves f graph es inputs literals marks nodes leaves low are have exact earlier is = record {
   count = ap length is ∙ long (leaf_by inputs literals) nodes;
   each = λ k node leaf at leaf_at.
       let inside : Contains nodes node = numbered_among nodes (suc k) node at in
       let same = mapped (leaf_by inputs literals) nodes k node leaf at (ap (λ ls. slice_get ls k) (sym is) ∙ leaf_at) in
       subst (HasLeaf f graph es node) (sym same)
-      (side_has_leaf f graph es inputs literals marks universals are have node (All-contains (IsEarlierNode graph.inputs (length literals)) nodes node earlier inside)
+      (side_has_leaf f graph es inputs literals marks low are have node (All-contains (IsEarlierNode graph.inputs (length literals)) nodes node earlier inside)
       (λ p place. (exact p).1 (root node p inside place)));
 }

@@ -18,7 +18,7 @@ use Rattle.hint_log.specs.Naming.{named_literal, name_literal}
 use Rattle.hint_log.specs.Origins.{leaf_with_sign}
 use Rattle.log_laws.proofs.Found.{named_variable, slice_get_at}
 use Rattle.circuit_cnf.specs.Checking.{AreInputs}
-use Rattle.circuit_cnf.specs.Leaves.{HasLeaf, constant, input, gate, leaf_by, HaveLeaves, AreClosed}
+use Rattle.circuit_cnf.specs.Leaves.{HasLeaf, constant, input, gate, leaf_by, HaveLeaves, AreClosed, AreMarkedUniversals}
 use Rattle.circuit_cnf.proofs.Naming.{NamesStay}
 
 -- leaves stay as names do
@@ -70,15 +70,15 @@ leaf_is_circuit f graph es _ _ (constant b) l is = cc
 leaf_is_circuit f graph es _ _ (input i x v s at named) l is = ap (λ w. is_circuit_name (name_of es w)) (sym (signed_variable s v l is)) ∙ ap is_circuit_name named
 leaf_is_circuit f graph es _ _ (gate g v sides s a b at are on_left on_right named) l is = ap (λ w. is_circuit_name (name_of es w)) (sym (signed_variable s v l is)) ∙ ap is_circuit_name named
 
-pub side_has_leaf : (f : Dqbf) (graph : AigGraph) (es : List Entry) (inputs literals : List Literal) (marks : List Bool) → graph.inputs ≡ length f.universals → AreInputs f.universals inputs es → HaveLeaves f graph marks literals es →
+pub side_has_leaf : (f : Dqbf) (graph : AigGraph) (es : List Entry) (inputs literals : List Literal) (marks : List Bool) → AreMarkedUniversals f graph marks → AreInputs f.universals inputs es → HaveLeaves f graph marks literals es →
     (n : Node) → IsEarlierNode graph.inputs (length literals) n → ((p : ℕ) → place_of graph.inputs n ≡ Some p → bit_of marks p ≡ true) → HasLeaf f graph es n (leaf_by inputs literals n)
-side_has_leaf f graph es inputs literals marks long are have (Constant b) earlier marked = constant b
-side_has_leaf f graph es inputs literals marks long are have (Input i negated) earlier marked =
-    let below : i < length f.universals = omega (arith, long, earlier) in
+side_has_leaf f graph es inputs literals marks low are have (Constant b) earlier marked = constant b
+side_has_leaf f graph es inputs literals marks low are have (Input i negated) earlier marked =
+    let below : i < length f.universals = low i earlier (marked i refl) in
     let at = input_at es f.universals inputs i are below in
     subst (λ l. HasLeaf f graph es (Input i negated) (leaf_with_sign negated (LeafLiteral l))) (sym at.1)
     (input i (get_or f.universals i 0) at.0 negated (slice_get_at f.universals i 0 below) at.2)
-side_has_leaf f graph es inputs literals marks long are have (Gate g negated) earlier marked =
+side_has_leaf f graph es inputs literals marks low are have (Gate g negated) earlier marked =
     gate_sign f graph es (Gate g false) (LeafLiteral (get_or literals g (positive 0))) (have g earlier (marked (graph.inputs + g) refl)) g (get_or literals g (positive 0)) refl refl negated
 
 -- the sides of a look, with the literals that stand for them
@@ -89,15 +89,15 @@ pub record AreSideLeaves (f : Dqbf) (graph : AigGraph) (es : List Entry) (g : �
   pub left : HasLeaf f graph es sides.left (LeafLiteral a)
   pub right : HasLeaf f graph es sides.right (LeafLiteral b)
 
-pub side_leaves : (f : Dqbf) (graph : AigGraph) (es : List Entry) (inputs literals : List Literal) (marks : List Bool) → graph.inputs ≡ length f.universals → AreInputs f.universals inputs es → HaveLeaves f graph marks literals es →
+pub side_leaves : (f : Dqbf) (graph : AigGraph) (es : List Entry) (inputs literals : List Literal) (marks : List Bool) → AreMarkedUniversals f graph marks → AreInputs f.universals inputs es → HaveLeaves f graph marks literals es →
     AreClosed graph marks → bit_of marks (graph.inputs + length literals) ≡ true → (m n : Node) (negated : Bool) (a b : Literal) → IsGateLook graph (length literals) false (LookGate m n negated) →
     LeafLiteral a ≡ leaf_by inputs literals m → LeafLiteral b ≡ leaf_by inputs literals n → AreSideLeaves f graph es (length literals) a b
-side_leaves f graph es inputs literals marks long are have closed marked m n negated a b look a_is b_is =
+side_leaves f graph es inputs literals marks low are have closed marked m n negated a b look a_is b_is =
     let is = look.look_is in
     let left_is : m ≡ look.sides.left = cc in
     let right_is : n ≡ look.sides.right = cc in
-    let left = side_has_leaf f graph es inputs literals marks long are have look.sides.left look.are_sides.left (λ p at. closed (length literals) p look.sides marked look.at (inl at)) in
-    let right = side_has_leaf f graph es inputs literals marks long are have look.sides.right look.are_sides.right (λ p at. closed (length literals) p look.sides marked look.at (inr at)) in
+    let left = side_has_leaf f graph es inputs literals marks low are have look.sides.left look.are_sides.left (λ p at. closed (length literals) p look.sides marked look.at (inl at)) in
+    let right = side_has_leaf f graph es inputs literals marks low are have look.sides.right look.are_sides.right (λ p at. closed (length literals) p look.sides marked look.at (inr at)) in
     record {
       sides = look.sides;
       at = look.at;

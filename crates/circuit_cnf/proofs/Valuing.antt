@@ -82,6 +82,10 @@ gate_same m n inputs (s ∷ gates) g =
 pub node_same : (graph : AigGraph) (m n : ℕ → Bool) → ((i : ℕ) → m i ≡ n i) → (node : Node) → node_value graph m node ≡ node_value graph n node
 node_same graph m n inputs node = value_same m n (gate_value m graph.gates) (gate_value n graph.gates) inputs (gate_same m n inputs graph.gates) node
 
+pub values_same : (graph : AigGraph) (m n : ℕ → Bool) → ((i : ℕ) → m i ≡ n i) → (nodes : List Node) → map (node_value graph m) nodes ≡ map (node_value graph n) nodes
+values_same graph m n inputs [] = refl
+values_same graph m n inputs (x ∷ xs) = ap (λ b. b ∷ map (node_value graph m) xs) (node_same graph m n inputs x) ∙ ap (λ bs. node_value graph n x ∷ bs) (values_same graph m n inputs xs)
+
 abbrev pub nobody : Existential
 nobody = record { variable = 0; sees = [] }
 

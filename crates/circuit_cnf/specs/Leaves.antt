@@ -57,3 +57,7 @@ AreClosed graph marks = (g p : ℕ) (sides : Sides) → bit_of marks (graph.inpu
 abbrev pub HaveLeaves : Dqbf → AigGraph → List Bool → List Literal → List Entry → Type 0
 HaveLeaves f graph marks literals entries = (g : ℕ) → g < length literals → bit_of marks (graph.inputs + g) ≡ true
     → HasLeaf f graph entries (Gate g false) (LeafLiteral (slice_index_or literals g (positive 0)))
+
+-- the inputs that are marked are those of universals
+abbrev pub AreMarkedUniversals : Dqbf → AigGraph → List Bool → Type 0
+AreMarkedUniversals f graph marks = (i : ℕ) → i < graph.inputs → bit_of marks i ≡ true → i < length f.universals

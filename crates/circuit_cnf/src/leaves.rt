@@ -8,7 +8,7 @@ ghost use Rattle.hint_log.specs.ProductiveLog.{fault_groups};
 ghost use Rattle.aig_graph.specs.Graph.{IsEarlierNode, size_of};
 ghost use Rattle.circuit_cnf.specs.Checking.{AreInputs};
 ghost use Rattle.circuit_cnf.specs.Gates.{AreKnown, AreBadsStill, GrewByGates};
-ghost use Rattle.circuit_cnf.specs.Leaves.{HasLeaf, HaveLeaves, AreClosed, IsInnerNode, leaf_by};
+ghost use Rattle.circuit_cnf.specs.Leaves.{HasLeaf, HaveLeaves, AreClosed, AreMarkedUniversals, IsInnerNode, leaf_by};
 
 use crate::gates::Gates;
 use aig_graph::{Graph, Look, Node};
@@ -34,9 +34,9 @@ pub(crate) fn cone_literals<O: Oracle>(
     requires known { AreKnown gates.old log.old.entries }
     requires ready { gates.old.unfinished ≡ None }
     requires few { length (fault_groups log.old.entries) ≤ rounds_of log.old.entries + 1 }
-    requires universals { graph.now.inputs ≡ length f.now.universals }
+    requires universals { AreMarkedUniversals f.now graph.now marks.now }
     requires inputs { AreInputs f.now.universals inputs.now log.old.entries }
-    requires input_count { length inputs.now ≡ graph.now.inputs }
+    requires input_count { length inputs.now ≡ length f.now.universals }
     requires a_place_a_node { length marks.now ≡ size_of graph.now }
     requires closed { AreClosed graph.now marks.now }
     ensures fit { O.Fits oracle.new log.new }
@@ -50,7 +50,7 @@ pub(crate) fn cone_literals<O: Oracle>(
     ensures leaves { IfOk result (λ literals. HaveLeaves f.now graph.now marks.now literals.items log.new.entries) }
 {
     graph.every_graph_is_lawful();
-    let count = graph.len() - inputs.len();
+    let count = graph.len() - graph.inputs();
     let mut literals = Vec::new(alloc);
     for _ in 0..count {
         let l = next_literal(gates, oracle, graph, f, inputs, &literals, marks, log)?;
@@ -74,9 +74,9 @@ fn next_literal<O: Oracle>(
     requires known { AreKnown gates.old log.old.entries }
     requires ready { gates.old.unfinished ≡ None }
     requires few { length (fault_groups log.old.entries) ≤ rounds_of log.old.entries + 1 }
-    requires universals { graph.now.inputs ≡ length f.now.universals }
+    requires universals { AreMarkedUniversals f.now graph.now marks.now }
     requires inputs { AreInputs f.now.universals inputs.now log.old.entries }
-    requires input_count { length inputs.now ≡ graph.now.inputs }
+    requires input_count { length inputs.now ≡ length f.now.universals }
     requires a_place_a_node { length marks.now ≡ size_of graph.now }
     requires closed { AreClosed graph.now marks.now }
     requires leaves { HaveLeaves f.now graph.now marks.now literals.now log.old.entries }
@@ -91,7 +91,8 @@ fn next_literal<O: Oracle>(
     ensures leaf { IfOk result (λ l. bit_of marks.now (graph.now.inputs + length literals.now) ≡ true
         → HasLeaf f.now graph.now log.new.entries (Node.Gate (length literals.now) false) (LeafLiteral l)) }
 {
-    if !marks.get(inputs.len() + literals.len()) {
+    graph.every_graph_is_lawful();
+    if !marks.get(graph.inputs() + literals.len()) {
         return Ok(gates.group.selector);
     }
     gate_literal(gates, oracle, graph, f, inputs, literals, marks, log)
@@ -112,8 +113,9 @@ pub(crate) fn gate_literal<O: Oracle>(
     requires known { AreKnown gates.old log.old.entries }
     requires ready { gates.old.unfinished ≡ None }
     requires few { length (fault_groups log.old.entries) ≤ rounds_of log.old.entries + 1 }
-    requires universals { graph.now.inputs ≡ length f.now.universals }
+    requires universals { AreMarkedUniversals f.now graph.now marks.now }
     requires inputs { AreInputs f.now.universals inputs.now log.old.entries }
+    requires input_count { length inputs.now ≡ length f.now.universals }
     requires closed { AreClosed graph.now marks.now }
     requires leaves { HaveLeaves f.now graph.now marks.now literals.now log.old.entries }
     requires gate { length literals.now < length graph.now.gates }

@@ -8,7 +8,7 @@ ghost use Rattle.hint_log.specs.Origins.{IsLeafOf};
 ghost use Rattle.hint_log.specs.ProductiveLog.{fault_groups};
 ghost use Rattle.log_laws.specs.Engines.{circuits, IsAddedBy};
 ghost use Rattle.aig_graph.specs.Graph.{IsNode, node_value};
-ghost use Rattle.aig_graph.specs.Outputs.{outputs_of};
+ghost use Rattle.aig_graph.specs.Outputs.{outputs_of, ReadsUniversals};
 ghost use Rattle.circuit_cnf.specs.Checking.{group_of, IsChecker};
 ghost use Rattle.circuit_cnf.specs.Failing.{IsFailure, HasFalseClause, IsFailing, is_silent};
 ghost use Rattle.circuit_cnf.specs.Faults.{leaf_of};
@@ -51,8 +51,9 @@ impl Checker {
         requires fit { O.Fits oracle.old log.old }
         requires checker { IsChecker f.now self.old log.old.entries }
         requires formula { IsWellFormed f.now }
-        requires an_input_a_universal { graph.now.inputs ≡ length f.now.universals }
+        requires an_input_a_universal { length f.now.universals ≤ graph.now.inputs }
         requires nodes { All (IsNode graph.now) outputs.now }
+        requires read_universals { All (ReadsUniversals f.now graph.now) outputs.now }
         requires a_node_an_existential { length outputs.now ≡ length f.now.existentials }
         requires few { length (fault_groups log.old.entries) ≤ rounds_of log.old.entries }
         ensures fit { O.Fits oracle.new log.new }
@@ -84,8 +85,8 @@ impl Checker {
     ) -> Result<Vec<Leaf>, Memory>
         requires fit { O.Fits oracle.old log.old }
         requires checker { IsChecker f.now self.old log.old.entries }
-        requires an_input_a_universal { graph.now.inputs ≡ length f.now.universals }
         requires nodes { All (IsNode graph.now) outputs.now }
+        requires read_universals { All (ReadsUniversals f.now graph.now) outputs.now }
         requires few { length (fault_groups log.old.entries) ≤ rounds_of log.old.entries }
         ensures fit { O.Fits oracle.new log.new }
         ensures checker { IsChecker f.now self.new log.new.entries }
@@ -96,6 +97,7 @@ impl Checker {
         ensures ready { OnOk result (self.new.gates.unfinished ≡ None) }
         ensures leaves { IfOk result (λ leaves. AreLeavesOf f.now graph.now log.new.entries outputs.now leaves.items) }
     {
+        graph.every_graph_is_lawful();
         self.gates.finish(oracle, log)?;
         let mut marks = Row::new(self.alloc, graph.len())?;
         graph.cones(outputs, &mut marks);
@@ -157,7 +159,7 @@ impl Checker {
         requires made { All (λ l. O.HasVariable oracle.now (variable_of l)) self.now.inputs.items }
         requires formula { IsWellFormed f.now }
         requires input_count { length self.now.inputs.items ≡ length f.now.universals }
-        requires an_input_a_universal { graph.now.inputs ≡ length f.now.universals }
+        requires an_input_a_universal { length f.now.universals ≤ graph.now.inputs }
         requires nodes { All (IsNode graph.now) outputs.now }
         requires a_node_an_existential { length outputs.now ≡ length f.now.existentials }
         requires failing { HasFalseClause f.now (map (λ l. O.values oracle.now (variable_of l)) self.now.inputs.items)
@@ -165,14 +167,38 @@ impl Checker {
         ensures { IfOk result (IsFailing f.now graph.now outputs.now) }
     {
         let row = input_row(self.alloc, oracle, &self.inputs)?;
-        let mut buf = Row::new(self.alloc, graph.len())?;
-        let mut values = Row::new(self.alloc, outputs.len())?;
-        graph.values(outputs, &row, &mut buf, &mut values);
+        let values = self.output_values(graph, outputs, &row)?;
         match false_clause(f, &row, &values) {
             Some(j) => Ok(Turn::Fails { row, values, j }),
             None => unreachable!(),
         }
     }
+
+    // The outputs' values at a row of the universals.
+    fn output_values(&self, graph: &Graph, outputs: &[Node], row: &Row) -> Result<Row, Memory>
+        requires room { length row.now ≤ graph.now.inputs }
+        requires nodes { All (IsNode graph.now) outputs.now }
+        ensures { IfOk result (λ values. values ≡ map (node_value graph.now (bit_of row.now)) outputs.now) }
+    {
+        let inputs = lengthened(self.alloc, row, graph.inputs())?;
+        let mut buf = Row::new(self.alloc, graph.len())?;
+        let mut values = Row::new(self.alloc, outputs.len())?;
+        graph.values(outputs, &inputs, &mut buf, &mut values);
+        Ok(values)
+    }
+}
+
+// A row of so many bits that begins with these, and is false behind them.
+fn lengthened(alloc: Global, row: &Row, n: usize) -> Result<Row, Memory>
+    requires { length row.now ≤ n }
+    ensures length { IfOk result (λ longer. length longer ≡ n) }
+    ensures bits { IfOk result (λ longer. (i : ℕ) → bit_of longer i ≡ bit_of row.now i) }
+{
+    let mut longer = Row::new(alloc, n)?;
+    for place in 0..row.len() {
+        longer.set(place, row.get(place));
+    }
+    Ok(longer)
 }
 
 // The values that a search found of the inputs.

@@ -1,9 +1,11 @@
-use Rattle.std.proofs.Common.{refl}
+use Rattle.std.proofs.Common.{refl, sym, subst}
 use Rattle.dq_lits.specs.Literal.{variable_of}
 use Rattle.hint_log.specs.declared.origins.Leaf.TheVariants.{Literal as LeafLiteral}
 use Rattle.std.proofs.Common.{length, true}
 use Rattle.log_laws.specs.Engines.{circuits}
 use Rattle.log_laws.proofs.Growing.{leaves_rest}
+use Rattle.aig_graph.specs.Graph.{IsEarlierNode}
+use Rattle.circuit_cnf.proofs.MarkedInputs.{sides_over_universals}
 use Rattle.circuit_cnf.proofs.SideLeaves.{leaf_is_circuit, side_leaves, gate_leaf}
 use Rattle.circuit_cnf.proofs.leaves.gate_literal.Goals as goal
 
@@ -23,3 +25,13 @@ returns-clause-leaf g c =
     c.in-Gate.a c.in-Gate.b c.in-Gate.field-2 c.side_literal-a.result c.side_literal-b.result c.in-Gate.ensures c.side_literal-a.ensures c.side_literal-b.ensures in
     let stay = (leaves_rest c.args.f.now circuits (variable_of c.args.gates.now.group.selector) true c.args.log.now c.variable.new.log (c.variable.ensures.grew c.args.f.now es)).names in
     gate_leaf c.args.f.now c.args.graph.now es c.variable.new.log.entries (length c.args.literals.now) c.in_ok-v-in-Gate.v c.side_literal-a.result c.side_literal-b.result c.pos.result stay s c.in_ok-v-in-Gate.ensures.named c.pos.ensures
+
+pub side_literal-a-requires-clause-earlier : goal.side_literal-a-requires-clause-earlier
+side_literal-a-requires-clause-earlier g c =
+    let low = sides_over_universals c.args.f.now c.args.graph.now c.args.marks.now (length c.args.literals.now) c.requires.universals c.requires.closed c.requires.marked c.in-Gate.a c.in-Gate.b c.in-Gate.field-2 c.in-Gate.ensures in
+    subst (λ n. IsEarlierNode n (length c.args.literals.now) c.in-Gate.a) (sym c.requires.input_count) low.0
+
+pub side_literal-b-requires-clause-earlier : goal.side_literal-b-requires-clause-earlier
+side_literal-b-requires-clause-earlier g c =
+    let low = sides_over_universals c.args.f.now c.args.graph.now c.args.marks.now (length c.args.literals.now) c.requires.universals c.requires.closed c.requires.marked c.in-Gate.a c.in-Gate.b c.in-Gate.field-2 c.in-Gate.ensures in
+    subst (λ n. IsEarlierNode n (length c.args.literals.now) c.in-Gate.b) (sym c.requires.input_count) low.1

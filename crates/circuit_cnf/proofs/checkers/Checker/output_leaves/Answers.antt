@@ -1,9 +1,11 @@
-use Rattle.std.proofs.Common.{map, sym, ◌∙◌, ap, subst}
+use Rattle.std.proofs.Common.{length, map, sym, ◌∙◌, ap, subst}
 use Rattle.std.specs.List.{All}
 use Rattle.dq_lits.specs.Literal.{variable_of}
 use Rattle.aig_graph.specs.Graph.{IsEarlierNode}
 use Rattle.circuit_cnf.specs.Leaves.{leaf_by}
+use Rattle.circuit_cnf.proofs.Answering.{inputs_count}
 use Rattle.circuit_cnf.proofs.ConeLiterals.{grew_in_all}
+use Rattle.circuit_cnf.proofs.MarkedInputs.{marked_universals, all_over_universals}
 use Rattle.circuit_cnf.proofs.Outputting.{few_by_gates, cone_checker, cones_are_closed, are_leaves}
 use Rattle.circuit_cnf.proofs.checkers.Checker.output_leaves.Goals as goal
 
@@ -48,8 +50,27 @@ returns-clause-leaves g c =
     let inputs = c.args.self.now.inputs.items in
     let literals = c.in_ok-literals.literals.items in
     let earlier = subst (λ n. All (IsEarlierNode graph.inputs n) nodes) (sym c.in_ok-literals.ensures.count) c.requires.nodes in
-    are_leaves c.args.f.now graph c.cone_literals.new.log.entries inputs literals c.cones.new.marks nodes c.in_ok-leaves.leaves.items c.requires.an_input_a_universal
+    are_leaves c.args.f.now graph c.cone_literals.new.log.entries inputs literals c.cones.new.marks nodes c.in_ok-leaves.leaves.items
+    (marked_universals c.args.f.now graph nodes c.cones.new.marks c.every_graph_is_lawful.ensures c.requires.nodes c.requires.read_universals c.cones.ensures.marked)
     (cone_checker c.args.f.now c.args.self.now c.cone_literals.new.gates (variable_of c.finish.new.self.group.selector) c.args.log.now c.finish.new.log c.cone_literals.new.log c.requires.checker c.finish.ensures.names
     c.cone_literals.ensures.grew c.cone_literals.ensures.bads c.cone_literals.ensures.known).inputs
     c.in_ok-literals.ensures.leaves c.cones.ensures.marked earlier
     (c.in_ok-leaves.ensures ∙ ap (λ xs. map (leaf_by xs c.deref-3.result.now) nodes) c.deref-2.ensures.value ∙ ap (λ ls. map (leaf_by inputs ls) nodes) c.deref-3.ensures.value)
+
+pub cone_literals-requires-clause-universals : goal.cone_literals-requires-clause-universals
+cone_literals-requires-clause-universals g c =
+    marked_universals c.args.f.now c.args.graph.now c.args.outputs.now c.cones.new.marks c.every_graph_is_lawful.ensures c.requires.nodes c.requires.read_universals c.cones.ensures.marked
+
+pub node_leaves-requires : goal.node_leaves-requires
+node_leaves-requires g c =
+    let graph = c.args.graph.now in
+    let nodes = c.args.outputs.now in
+    let marks = c.cones.new.marks in
+    let inputs = c.args.self.now.inputs.items in
+    let literals = c.in_ok-literals.literals.items in
+    let low = marked_universals c.args.f.now graph nodes marks c.every_graph_is_lawful.ensures c.requires.nodes c.requires.read_universals c.cones.ensures.marked in
+    let earlier = subst (λ n. All (IsEarlierNode graph.inputs n) nodes) (sym c.in_ok-literals.ensures.count) c.requires.nodes in
+    let over = all_over_universals c.args.f.now graph nodes marks (length literals) low c.cones.ensures.marked earlier in
+    let first = subst (λ n. All (IsEarlierNode n (length literals)) nodes) (sym (inputs_count c.args.log.now.entries c.args.f.now.universals inputs c.requires.checker.inputs)) over in
+    let second = subst (λ ls. All (IsEarlierNode (length ls) (length literals)) nodes) (sym c.deref-2.ensures.value) first in
+    subst (λ ls. All (IsEarlierNode (length c.deref-2.result.now) (length ls)) nodes) (sym c.deref-3.ensures.value) second

@@ -1,0 +1,5 @@
+use Rattle.circuit_cnf.proofs.Lengthening.{IsLengthened}
+use Rattle.circuit_cnf.proofs.turns.lengthened.Given as goal
+
+abbrev pub invariant-loop-place : goal.invariant-loop-place
+invariant-loop-place l = IsLengthened l.row l.n l.place l.longer
