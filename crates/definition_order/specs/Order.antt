@@ -3,7 +3,6 @@
 use Rattle.std.specs.Prelude.{◌≡◌, ◌≢◌, ◌⊎◌, ◌<◌, ◌==◌, ◌↔◌, ℕ, List, length, take, Some, slice_get}
 use Rattle.std.specs.List.{All, AllPairs, Contains, position_or_len}
 use Rattle.dq_lits.specs.Formula.{Existential, Dqbf, existential_of}
-use Rattle.dq_formula.specs.Prefix.{existential_variables}
 
 -- where an existential stands among all of them, in order of declaration
 abbrev pub existential_place : Dqbf → Existential → ℕ

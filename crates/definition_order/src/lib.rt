@@ -7,13 +7,21 @@ ghost use Rattle.definition_order.specs.Order.{AreInOrder, ArePlacesOfShared};
 
 use dq_formula::Formula;
 use dq_lits::Memory;
+use shared::is_shared_at;
+use sizes::{places_of, sized_places};
 use std::alloc::Global;
+
+mod shared;
+mod sizes;
 
 /// The places of the existentials, those that see less first, and of those that see as many the one that is declared first.
 pub fn existentials_in_order(alloc: Global, f: &Formula) -> Result<Vec<usize>, Memory>
     ensures { IfOk result (λ places. AreInOrder f.now places.items) }
 {
-    todo!()
+    f.every_formula_is_lawful();
+    let mut sized = sized_places(alloc, f)?;
+    sized.sort_unstable();
+    places_of(alloc, &sized)
 }
 
 /// The places of the existentials that a definition of this one may read: those that come before it in the order and see no more.
@@ -21,5 +29,11 @@ pub fn shared_existentials(alloc: Global, f: &Formula, y: u64) -> Result<Vec<usi
     requires existential { IsSome (existential_of f.now y) }
     ensures { (e : Existential) → existential_of f.now y ≡ Some e → IfOk result (λ places. ArePlacesOfShared f.now e places.items) }
 {
-    todo!()
+    let mut places = Vec::new(alloc);
+    for place in 0..f.existentials().len() {
+        if is_shared_at(f, place, y) {
+            places.push(place)?;
+        }
+    }
+    Ok(places)
 }

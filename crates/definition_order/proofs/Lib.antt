@@ -1,0 +1,4 @@
+pub mod Declared
+mod Ordering
+mod Seeing
+mod Sizing

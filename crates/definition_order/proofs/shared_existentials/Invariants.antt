@@ -1,0 +1,5 @@
+use Rattle.definition_order.proofs.Ordering.{AreSharedSoFar}
+use Rattle.definition_order.proofs.shared_existentials.Given as goal
+
+abbrev pub invariant-loop-place : goal.invariant-loop-place
+invariant-loop-place l = AreSharedSoFar l.f l.y l.places.items l.place

@@ -1,0 +1,46 @@
+//! How much existentials see.
+
+ghost use Rattle.std.specs.Prelude.{◌≡◌, ◌<◌, length, map, IsSome, IfSome, IfOk, Some};
+ghost use Rattle.std.specs.List.{range_with_len};
+ghost use Rattle.dq_lits.specs.Formula.{Existential, existential_of};
+ghost use Rattle.definition_order.specs.Sizes.{sized_place};
+
+use dq_formula::{Deps, Formula};
+use dq_lits::Memory;
+use std::alloc::Global;
+
+// The places of all existentials, each behind the number of universals that the existential sees.
+pub(crate) fn sized_places(alloc: Global, f: &Formula) -> Result<Vec<(usize, usize)>, Memory>
+    ensures { IfOk result (λ sized. sized.items ≡ map (sized_place f.now) (range_with_len 0 (length f.now.existentials))) }
+{
+    let mut sized = Vec::new(alloc);
+    for place in 0..f.existentials().len() {
+        sized.push((size_at(f, place), place))?;
+    }
+    Ok(sized)
+}
+
+pub(crate) fn places_of(alloc: Global, sized: &[(usize, usize)]) -> Result<Vec<usize>, Memory>
+    ensures { IfOk result (λ places. places.items ≡ map (λ s. s.1) sized.now) }
+{
+    Ok(sized.iter().map(|s| s.1).collect(alloc)?)
+}
+
+fn size_at(f: &Formula, place: usize) -> usize
+    requires { place < length f.now.existentials }
+    ensures { (result, place) ≡ sized_place f.now place }
+{
+    f.every_formula_is_lawful();
+    seen(f, f.existentials()[place]).len()
+}
+
+// The universals that an existential sees.
+pub(crate) fn seen(f: &Formula, y: u64) -> &[u64]
+    requires declared { IsSome (existential_of f.now y) }
+    ensures { IfSome (existential_of f.now y) (λ e. result.now ≡ e.sees) }
+{
+    match f.deps_of(y) {
+        Deps::FirstOf(n) => &f.universals()[..*n],
+        Deps::Listed(vars) => vars.items(),
+    }
+}
