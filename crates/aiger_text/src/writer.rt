@@ -70,7 +70,7 @@ fn write_inputs(circuit: &Circuit, text: &mut Vec<u8>) -> Result<(), Memory>
     ensures { OnOk result (text.new.items ≡ text.old.items ++ flat_map input_text circuit.now.inputs) }
 {
     // In range, so that doubled they fit.
-    let _ = circuit.max_var();
+    circuit.every_circuit_is_a_netlist();
     let inputs = circuit.inputs();
     for i in 0..inputs.len() {
         write_last_number(2 * inputs[i], text)?;

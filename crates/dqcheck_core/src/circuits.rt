@@ -195,7 +195,7 @@ fn judge_mapped(
     ensures { IfOk result (BehindMapping first file.now.circuit proof.now (candidate_of f.now file.now.circuit file.now.symbols)) }
 {
     match Bench::new(alloc, f, file) {
-        Ok(mut bench) => test(alloc, f, &mut bench, proof),
+        Ok(mut bench) => judge_reads(alloc, f, &mut bench, proof),
         Err(BenchStop::Map(fault)) => {
             mapping_faults_have_places();
             let line = mapping_line(first, &file.circuit, fault.at);
@@ -205,8 +205,8 @@ fn judge_mapped(
     }
 }
 
-// Tests a mapped circuit.
-fn test(
+// Judges a mapped circuit: what it reads, and then its values.
+fn judge_reads(
     alloc: Global,
     f: &Formula,
     bench: &mut Bench,
@@ -218,7 +218,7 @@ fn test(
     ensures { IfOk result (IsTested proof.now bench.old) }
 {
     match bench.reads_ok() {
-        Ok(()) => test_further(alloc, f, bench, proof),
+        Ok(()) => judge_values(alloc, f, bench, proof),
         Err((existential, universal)) => Ok(Answer::UndeclaredRead {
             existential,
             universal,
@@ -226,8 +226,8 @@ fn test(
     }
 }
 
-// Tests a circuit that reads declared universals alone.
-fn test_further(
+// Judges the values of a circuit that reads declared universals alone, by its proof or by rows.
+fn judge_values(
     alloc: Global,
     f: &Formula,
     bench: &mut Bench,
@@ -239,13 +239,13 @@ fn test_further(
     ensures { IfOk result (IsTestedBy proof.now bench.old) }
 {
     match proof {
-        Some(proof) => test_proof(alloc, bench, proof),
-        None => Ok(test_rows(f, bench)),
+        Some(proof) => judge_proof(alloc, bench, proof),
+        None => Ok(judge_rows(f, bench)),
     }
 }
 
-// Tests the proof that a circuit has.
-fn test_proof(alloc: Global, bench: &Bench, proof: &Dqp) -> Result<Answer, Memory>
+// Judges the proof that a circuit has.
+fn judge_proof(alloc: Global, bench: &Bench, proof: &Dqp) -> Result<Answer, Memory>
     requires few { HasFewLines bench.now.circuit.netlist }
     requires lawful { IsDqpOf bench.now.formula bench.now.circuit.netlist proof.now }
     ensures { IfOk result (λ answer. answer ≡ answer_of_derivation ValidTrue (circuit_proof_fault bench.now proof.now.steps)) }
@@ -258,8 +258,8 @@ fn test_proof(alloc: Global, bench: &Bench, proof: &Dqp) -> Result<Answer, Memor
     }
 }
 
-// Tests the rows of a circuit that has no proof.
-fn test_rows(f: &Formula, bench: &mut Bench) -> Answer
+// Tries the rows of a circuit that has no proof.
+fn judge_rows(f: &Formula, bench: &mut Bench) -> Answer
     requires { bench.old.formula ≡ f.now }
     ensures { IsTestedByRows bench.old.formula bench.old.circuit result }
 {

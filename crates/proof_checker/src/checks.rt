@@ -56,7 +56,7 @@ fn lines_fault(
     requires { AreProofLines bench.now first steps.now }
     ensures { IfOk result (λ fault. proof_fault_in fault ≡ circuit_proof_fault bench.now steps.now) }
 {
-    let _ = bench.circuit().max_var();
+    bench.circuit().every_circuit_is_a_netlist();
     let _ = bench.formula().clauses();
     let matrix = NegatedMatrix::new(alloc, bench)?;
     first_fault(alloc, &matrix, first, steps)

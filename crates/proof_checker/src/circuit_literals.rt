@@ -76,7 +76,7 @@ impl<'c> CircuitLiterals<'c> {
     fn literal(&self, v: u64) -> u64
         ensures { result ≡ circuit_literal self.now v }
     {
-        let _ = self.circuit.max_var();
+        self.circuit.every_circuit_is_a_netlist();
         match self.inputs.place(v) {
             Some(i) => 2 * element_at(self.circuit.inputs(), i),
             None => match self.outputs.place(v) {
@@ -91,7 +91,7 @@ impl<'c> CircuitLiterals<'c> {
         ensures value { result ≡ literal_under (circuit_literal self.now) l }
         ensures in_range { result ≤ 9223372036854775807 }
     {
-        let _ = self.circuit().max_var();
+        self.circuit().every_circuit_is_a_netlist();
         let literal = self.literal(l.var());
         if l.is_neg() {
             opposite_of(literal)

@@ -77,7 +77,7 @@ fn gate_clause(circuit: &Circuit, i: u64) -> Option<ShortClause>
     requires { i / 3 < length circuit.now.gates }
     ensures { option_map short_literals result ≡ option_and_then without_constants (slice_get (flat_map gate_clauses circuit.now.gates) i) }
 {
-    let _ = circuit.max_var();
+    circuit.every_circuit_is_a_netlist();
     let (variable, left, right) = circuit.gate((i / 3) as usize);
     match i % 3 {
         0 => short_of_two(opposite_of(variable), left),

@@ -72,6 +72,7 @@ fn row_block(alloc: Global, f: &Formula, circuit: &Circuit) -> Result<Block, Mem
     ensures ok { IfOk result (λ block. length f.now.universals ≤ 20
         → length block ≡ circuit.now.max_var + 1) }
 {
+    circuit.every_circuit_is_a_netlist();
     let vars = circuit.max_var();
     if f.universals().len() > MAX_UNIVERSALS {
         return Ok(Block::new(alloc, 0)?);

@@ -34,7 +34,7 @@ impl ReadWords {
     pub(crate) fn new(alloc: Global, f: &Formula, circuit: &Circuit) -> Result<ReadWords, Memory>
         ensures { IfOk result (HasWords circuit.now f.now) }
     {
-        let _ = circuit.max_var();
+        circuit.every_circuit_is_a_netlist();
         let universals = f.universals().len();
         Ok(ReadWords {
             reached: zeros(alloc, circuit.max_var() as usize + 1)?,
@@ -122,7 +122,7 @@ fn mark_roots(circuit: &Circuit, places: &[u64], ys: &[u64], words: &mut [u64])
     ensures same_length { length words.new ≡ length words.old }
     ensures roots { AreRoots circuit.now places.now ys.now (length ys.now) words.new }
 {
-    let _ = circuit.max_var();
+    circuit.every_circuit_is_a_netlist();
     clear(words);
     for (i, y) in ys.iter().enumerate() {
         let out = places[*y as usize] as usize;

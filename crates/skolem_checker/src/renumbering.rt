@@ -15,7 +15,7 @@ fn learn_inputs(circuit: &Circuit, known: &mut NumberSet) -> Result<(), Memory>
     requires { known.old ≡ take 1 (known_variables circuit.now) }
     ensures { OnOk result (known.new ≡ take (length circuit.now.inputs + 1) (known_variables circuit.now)) }
 {
-    let _ = circuit.max_var();
+    circuit.every_circuit_is_a_netlist();
     for variable in circuit.inputs() {
         known.push(*variable)?;
     }
@@ -26,7 +26,7 @@ fn learn_gates(circuit: &Circuit, known: &mut NumberSet) -> Result<(), Memory>
     requires { known.old ≡ take (length circuit.now.inputs + 1) (known_variables circuit.now) }
     ensures { OnOk result (known.new ≡ known_variables circuit.now) }
 {
-    let _ = circuit.max_var();
+    circuit.every_circuit_is_a_netlist();
     for i in 0..circuit.gates() {
         let (lhs, _, _) = circuit.gate(i);
         known.push(lhs / 2)?;
@@ -71,7 +71,7 @@ fn copy_inputs(circuit: &Circuit, known: &NumberSet, copy: &mut Circuit) -> Resu
     requires start { copy.old ≡ renumbered_first circuit.now 0 0 0 }
     ensures { OnOk result (copy.new ≡ renumbered_first circuit.now (length circuit.now.inputs) 0 0) }
 {
-    let _ = circuit.max_var();
+    circuit.every_circuit_is_a_netlist();
     for variable in circuit.inputs() {
         copy.add_input(number(known, *variable))?;
     }
@@ -84,7 +84,7 @@ fn copy_gates(circuit: &Circuit, known: &NumberSet, copy: &mut Circuit) -> Resul
     requires start { copy.old ≡ renumbered_first circuit.now (length circuit.now.inputs) 0 0 }
     ensures { OnOk result (copy.new ≡ renumbered_first circuit.now (length circuit.now.inputs) (length circuit.now.gates) 0) }
 {
-    let _ = circuit.max_var();
+    circuit.every_circuit_is_a_netlist();
     for i in 0..circuit.gates() {
         let (lhs, left, right) = circuit.gate(i);
         let new_lhs = renumbered_literal(known, lhs);
@@ -113,7 +113,7 @@ pub(crate) fn renumbered(alloc: Global, circuit: &Circuit) -> Result<Circuit, Me
     ensures kept { IsNetlist circuit.now }
     ensures copy { IfOk result (λ copy. copy ≡ renumbered circuit.now) }
 {
-    let _ = circuit.max_var();
+    circuit.every_circuit_is_a_netlist();
     let known = known_variables(alloc, circuit)?;
     // The constant's place is 0, so that the last place is the largest number.
     let mut copy = Circuit::new(alloc, known.len() as u64 - 1);

@@ -29,7 +29,7 @@ pub(crate) fn write_at(table: &mut Vec<u64>, keys: &[u64], values: &[u64])
 pub(crate) fn input_literals(alloc: Global, circuit: &Circuit) -> Result<Vec<u64>, Memory>
     ensures { IfOk result (λ literals. literals.items ≡ map (λ v. 2 * v) circuit.now.inputs) }
 {
-    let _ = circuit.max_var();
+    circuit.every_circuit_is_a_netlist();
     let mut literals = Vec::new(alloc);
     for variable in circuit.inputs() {
         literals.push(2 * *variable)?;

@@ -9,5 +9,5 @@ new-copy-requires c =
       c.len.ensures.value,
       ap length c.in_ok-known.ensures,
       known_length c.args.circuit.now,
-      few_known c.args.circuit.now c.max_var.ensures.kept,
+      few_known c.args.circuit.now c.every_circuit_is_a_netlist.ensures,
     )

@@ -5,6 +5,6 @@ use Rattle.proof_checker.proofs.circuit_literals.CircuitLiterals.literal_under.G
 
 pub opposite_of-requires : goal.opposite_of-requires
 opposite_of-requires c =
-    let kept = subst IsNetlist c.circuit.ensures c.max_var.ensures.kept in
+    let kept = subst IsNetlist c.circuit.ensures c.every_circuit_is_a_netlist.ensures in
     let below = literal_below c.args.self.now kept c.var.result in
     omega (arith, below, kept.numbered, c.literal-literal.ensures)
