@@ -79,7 +79,7 @@ pub(crate) fn search<O: Oracle>(
 {
     shown_outputs_decide();
     skolem_functions_show_true();
-    let mut graph = Graph::new(alloc, f.universals().len());
+    let mut graph = Graph::new(alloc, f.universals().len() + f.existentials().len());
     match decide(alloc, oracle, &mut graph, f, log)? {
         Verdict::True(_, id) => Ok(Found::Shown(id)),
         Verdict::False(id) => Ok(Found::Refuted(id)),

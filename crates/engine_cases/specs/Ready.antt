@@ -1,5 +1,5 @@
 -- Engines before a further turn or row.
-use Rattle.std.specs.Prelude.{◌≡◌, ◌≤◌, List, [], length}
+use Rattle.std.specs.Prelude.{◌≡◌, ◌+◌, ◌≤◌, List, [], length}
 use Rattle.dq_lits.specs.Formula.{Dqbf}
 use Rattle.hint_log.specs.Entries.{Entry, rounds_of}
 use Rattle.hint_log.specs.ProductiveLog.{fault_groups}
@@ -23,5 +23,5 @@ pub record IsReady (f : Dqbf) (t : TableState) (entries : List Entry) : Type 0 w
 
 -- the copies are linked
 pub record IsLinked (f : Dqbf) (graph : AigGraph) (p : Padoa) (entries : List Entry) : Type 0 where
-  pub inputs : graph.inputs ≡ length f.universals
+  pub inputs : graph.inputs ≡ length f.universals + length f.existentials
   pub padoa : IsPadoa f p entries

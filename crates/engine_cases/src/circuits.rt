@@ -133,6 +133,7 @@ fn judge<O: Oracle>(
     ensures open { IfOk result (λ told. may_go_on told ≡ true → O.Fits oracle.new log.new × IsOpen f.now graph.now checker.new log.new.entries) }
 {
     checkers_stay_with_rounds();
+    graph.every_graph_is_lawful();
     match checker.turn(oracle, graph, f, outputs, log) {
         Ok(Turn::Holds(_)) => Ok(Told::Holds),
         Ok(Turn::Fails { row, values, j }) => {

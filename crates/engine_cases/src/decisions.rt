@@ -47,7 +47,7 @@ pub fn decided<O: Oracle>(
     requires fit { O.Fits oracle.old log.old }
     requires empty { log.old.entries ≡ [] }
 {
-    let mut graph = Graph::new(alloc, f.universals().len());
+    let mut graph = Graph::new(alloc, f.universals().len() + f.existentials().len());
     match decide(alloc, oracle, &mut graph, f, log) {
         Ok(Verdict::True(_, _)) => Ok(": true"),
         Ok(Verdict::False(_)) => Ok(": false"),

@@ -39,7 +39,7 @@ fn begin<O: Oracle>(
     requires fit { O.Fits oracle.old log.old }
     requires empty { log.old.entries ≡ [] }
 {
-    let mut graph = Graph::new(alloc, f.universals().len());
+    let mut graph = Graph::new(alloc, f.universals().len() + f.existentials().len());
     let mut padoa = Padoa::new(alloc, oracle, f, log)?;
     define_each(
         alloc,
@@ -95,7 +95,9 @@ fn define<O: Oracle>(
     let found = padoa.define(oracle, graph, f, y, log);
     push_variable(alloc, y, printed)?;
     match found {
-        Ok(Found::Defined(node)) => show_node(alloc, f, graph, node, printed)?,
+        Ok(Found::Defined(node)) => {
+            show_node(alloc, &variables(alloc, f)?, graph, node, printed)?;
+        }
         Ok(Found::Free(_)) => printed.push_str("free")?,
         Err(Stop::Limit) => printed.push_str("limit")?,
         Err(Stop::Memory) => return Err(anyhow!("out of memory")),
@@ -103,9 +105,17 @@ fn define<O: Oracle>(
     Ok(())
 }
 
-fn push_variable(alloc: Global, y: u64, printed: &mut String) -> Result<()> {
+/// Begins the line of an existential.
+pub fn push_variable(alloc: Global, y: u64, printed: &mut String) -> Result<()> {
     printed.push_str("\n existential")?;
     push_signed(alloc, y, false, printed)?;
     printed.push_str(": ")?;
     Ok(())
+}
+
+// The universals, and then the existentials, in order of declaration.
+fn variables(alloc: Global, f: &Formula) -> Result<Vec<u64>> {
+    let mut variables = Vec::from_slice(alloc, f.universals())?;
+    variables.extend_from_slice(f.existentials())?;
+    Ok(variables)
 }

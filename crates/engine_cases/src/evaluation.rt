@@ -36,7 +36,6 @@ pub fn show_rows(
     requires whole { All (λ row. length row ≡ length f.now.universals) table.now.rows }
     requires rows { length points.now.rows ≡ length table.now.rows }
     requires variables { points.now.variables ≡ existential_variables f.now }
-    requires inputs { graph.now.inputs ≡ length f.now.universals }
     requires nodes { All (IsNode graph.now) nodes.now }
 {
     for before in 0..table.rows() {
@@ -59,11 +58,11 @@ fn show_row(
 ) -> Result<()>
     requires row { length row.now ≡ length f.now.universals }
     requires bits { length bits.now ≡ length f.now.existentials }
-    requires inputs { graph.now.inputs ≡ length f.now.universals }
     requires nodes { All (IsNode graph.now) nodes.now }
 {
     let holds = holds(f, row, bits);
-    let followed = are_followed(alloc, row, bits, graph, nodes)?;
+    let inputs = inputs_of(alloc, graph, row, bits)?;
+    let followed = are_followed(alloc, &inputs, bits, graph, nodes)?;
     printed.push_str("\n point")?;
     if let Detail::Bits = detail {
         push_bits(alloc, f.existentials(), bits, printed)?;
@@ -72,15 +71,36 @@ fn show_row(
     Ok(())
 }
 
-// Whether the nodes have these bits under a row.
-fn are_followed(alloc: Global, row: &Row, bits: &Row, graph: &Graph, nodes: &[Node]) -> Result<bool>
-    requires row { length row.now ≡ graph.now.inputs }
+// What the graph's inputs are: a row, and then bits of the existentials.
+fn inputs_of(alloc: Global, graph: &Graph, row: &Row, bits: &Row) -> Result<Row>
+    ensures { IfOk result (λ inputs. length inputs ≡ graph.now.inputs) }
+{
+    let mut inputs = Row::new(alloc, graph.inputs())?;
+    for place in 0..inputs.len() {
+        if place < row.len() {
+            inputs.set(place, row.get(place));
+        } else if place - row.len() < bits.len() {
+            inputs.set(place, bits.get(place - row.len()));
+        }
+    }
+    Ok(inputs)
+}
+
+// Whether the nodes have these bits under a row of the inputs.
+fn are_followed(
+    alloc: Global,
+    inputs: &Row,
+    bits: &Row,
+    graph: &Graph,
+    nodes: &[Node],
+) -> Result<bool>
+    requires inputs { length inputs.now ≡ graph.now.inputs }
     requires nodes { All (IsNode graph.now) nodes.now }
 {
     let mut buf = Row::new(alloc, graph.len())?;
     let mut followed = nodes.len() == bits.len();
     for (place, node) in nodes.iter().enumerate() {
-        let value = graph.value(*node, row, &mut buf);
+        let value = graph.value(*node, inputs, &mut buf);
         followed = followed && place < bits.len() && bits.get(place) == value;
     }
     Ok(followed)
@@ -146,7 +166,6 @@ pub fn show_candidates(
     nodes: &[Node],
     printed: &mut String,
 ) -> Result<()>
-    requires inputs { graph.now.inputs ≡ length f.now.universals }
     requires nodes { All (IsNode graph.now) nodes.now }
 {
     for (place, node) in nodes.iter().enumerate() {
@@ -155,41 +174,38 @@ pub fn show_candidates(
             push_signed(alloc, f.existentials()[place], false, printed)?;
         }
         printed.push_str(": ")?;
-        show_node(alloc, f, graph, *node, printed)?;
+        show_node(alloc, f.universals(), graph, *node, printed)?;
     }
     Ok(())
 }
 
-/// Writes a node's values under all rows, the first row first, and which universals it reads.
+/// Writes a node's values under all rows of the variables of the first inputs, the first row first, and which of them it reads.
 pub fn show_node(
     alloc: Global,
-    f: &Formula,
+    variables: &[u64],
     graph: &Graph,
     node: Node,
     printed: &mut String,
 ) -> Result<()>
-    requires inputs { graph.now.inputs ≡ length f.now.universals }
     requires node { IsNode graph.now node }
 {
-    show_values(alloc, f, graph, node, printed)?;
+    show_values(alloc, variables.len(), graph, node, printed)?;
     printed.push_str(" reads")?;
-    show_support(alloc, f, graph, node, printed)
+    show_support(alloc, variables, graph, node, printed)
 }
 
 fn show_values(
     alloc: Global,
-    f: &Formula,
+    count: usize,
     graph: &Graph,
     node: Node,
     printed: &mut String,
 ) -> Result<()>
-    requires inputs { graph.now.inputs ≡ length f.now.universals }
     requires node { IsNode graph.now node }
 {
     let mut buf = Row::new(alloc, graph.len())?;
-    let universals = f.universals().len();
-    for number in 0..row_count(universals) {
-        let row = row_at(alloc, universals, number)?;
+    for number in 0..row_count(count) {
+        let row = row_at(alloc, graph.inputs(), number)?;
         printed.push(if graph.value(node, &row, &mut buf) {
             '1'
         } else {
@@ -201,17 +217,16 @@ fn show_values(
 
 fn show_support(
     alloc: Global,
-    f: &Formula,
+    variables: &[u64],
     graph: &Graph,
     node: Node,
     printed: &mut String,
 ) -> Result<()>
-    requires inputs { graph.now.inputs ≡ length f.now.universals }
     requires node { IsNode graph.now node }
 {
     let mut marks = Row::new(alloc, graph.len())?;
     graph.support(node, &mut marks);
-    for (place, x) in f.universals().iter().enumerate() {
+    for (place, x) in variables.iter().enumerate() {
         if place < marks.len() && marks.get(place) {
             push_signed(alloc, *x, false, printed)?;
         }

@@ -151,7 +151,7 @@ fn show_model(
     requires variables { points.now.variables ≡ existential_variables f.now }
     requires points { ArePoints f.now table.now.rows (point_bits points.now) }
 {
-    let mut graph = Graph::new(alloc, f.universals().len());
+    let mut graph = Graph::new(alloc, f.universals().len() + f.existentials().len());
     show_built(alloc, f, table, points, &mut graph, detail, printed)
 }
 
@@ -165,7 +165,7 @@ fn show_built(
     printed: &mut String,
 ) -> Result<()>
     requires formula { IsWellFormed f.now }
-    requires inputs { graph.old.inputs ≡ length f.now.universals }
+    requires inputs { graph.old.inputs ≡ length f.now.universals + length f.now.existentials }
     requires whole { All (λ row. length row ≡ length f.now.universals) table.now.rows }
     requires rows { length points.now.rows ≡ length table.now.rows }
     requires variables { points.now.variables ≡ existential_variables f.now }

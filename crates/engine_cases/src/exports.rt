@@ -62,7 +62,7 @@ pub fn refute<O: Oracle>(
     requires empty { log.old.entries ≡ [] }
     requires limit { log.old.limit ≤ max_count }
 {
-    let mut graph = Graph::new(alloc, f.universals().len());
+    let mut graph = Graph::new(alloc, f.universals().len() + f.existentials().len());
     match decide(alloc, oracle, &mut graph, f, log) {
         Ok(Verdict::False(id)) => export(alloc, f, log, id, detail, printed),
         _ => {

@@ -10,6 +10,7 @@ mod evaluation;
 mod expansions;
 mod exports;
 mod expressions;
+mod forcing;
 mod rows;
 mod scans;
 mod shown;

@@ -7,13 +7,14 @@
 //! its bits; `points` does the same, and prints the bits, and the candidates' values under all rows. `decide NAME : LIMIT` runs the loop in so
 //! many steps, and prints `true`, `false` or `limit`; `rounds` prints how many rounds it took, too. `refute` does
 //! the same, exports the refutation, and prints what the checker says of its text; `certificate` prints that text, too. `define NAME : Y Y ..`
-//! asks for definitions of existentials, and prints the definition's values under all rows, or that there is none. Lines that begin with `#`
-//! are comments.
+//! asks for definitions of existentials, and prints the definition's values under all rows of the universals and the existentials, or that there
+//! is none. `force NAME : Y BIT ROW` asks whether an existential is forced to have a bit at a row, and prints the rule, or a row with values of
+//! the existentials at which it has the other bit. Lines that begin with `#` are comments.
 
 ghost use Rattle.dq_lits.specs.Formula.{IsWellFormed};
 
 use crate::evaluation::Detail;
-use crate::{circuits, decisions, definitions, expansions, exports};
+use crate::{circuits, decisions, definitions, expansions, exports, forcing};
 use anyhow::{Result, anyhow};
 use dq_formula::Formula;
 use dqdimacs_reader::read;
@@ -33,6 +34,7 @@ pub fn take_line(alloc: Global, formula: &mut String, line: &str) -> Result<Opti
         "refute" => run(alloc, formula, rest, Kind::Refutation(Detail::Checks)),
         "certificate" => run(alloc, formula, rest, Kind::Refutation(Detail::Bits)),
         "define" => run(alloc, formula, rest, Kind::Definitions),
+        "force" => run(alloc, formula, rest, Kind::Forcing),
         _ => Err(anyhow!("no command: {line}")),
     }
 }
@@ -45,6 +47,7 @@ enum Kind {
     Decision(Detail),
     Refutation(Detail),
     Definitions,
+    Forcing,
 }
 
 fn set_formula(alloc: Global, formula: &mut String, rest: &str) -> Result<Option<String>> {
@@ -80,5 +83,6 @@ fn run_engine(
         Kind::Decision(detail) => decisions::run(alloc, f, steps, detail, printed),
         Kind::Refutation(detail) => exports::run(alloc, f, steps, detail, printed),
         Kind::Definitions => definitions::run(alloc, f, steps, printed),
+        Kind::Forcing => forcing::run(alloc, f, steps, printed),
     }
 }

@@ -1,10 +1,10 @@
 -- What is kept while definitions are asked for: the log has nothing of the other engines, and the list of definitions grows.
-use Rattle.std.proofs.Common.{◌≡◌, ℕ, ◌<◌, true, List, [], ◌∷◌, ◌++◌, length, get_or, slice_get, Option, None, Some, refl, sym, ◌∙◌, ap, subst, inl, inr, arith, length-append}
-use Rattle.std.specs.List.{Contains}
-use Rattle.std.proofs.Math.ListN.{get_or-append}
-use Rattle.std.proofs.lemmas.Bool.{cases_lt}
-use Rattle.std.proofs.lemmas.List.{get_or-append-add, get_or-map, get_or_past, length-map}
-use Rattle.std.proofs.lemmas.Option.{slice_get-get_or}
+use Rattle.std.proofs.Common.{◌≡◌, ◌≢◌, ℕ, zero, suc, ◌<◌, ◌==◌, true, List, [], ◌∷◌, length, get_or, slice_get, replicate, set, Option, None, Some, refl, sym, ◌∙◌, ap, subst, inl, inr, arith, get_or-set_same, get_or-set_other, length-set}
+use Rattle.std.specs.List.{All, Contains}
+use Rattle.std.proofs.lemmas.Bool.{false≢true, cases_Bool, eqb-true, eq-eqb}
+use Rattle.std.proofs.lemmas.List.{get_or-map, length-map, length-replicate}
+use Rattle.std.proofs.lemmas.List.Elements.{All-nil}
+use Rattle.std.proofs.lemmas.Option.{slice_get_within, slice_get-get_or}
 use Rattle.dq_lits.specs.Formula.{Existential, Dqbf, existential_of, HasLawfulPrefix}
 use Rattle.dq_formula.specs.Prefix.{IsLawful, existential_variables}
 use Rattle.hint_log.specs.Entries.{Entry, ProofLog}
@@ -13,14 +13,18 @@ use Rattle.hint_log.specs.Naming.{rows_of}
 use Rattle.hint_log.specs.ProductiveLog.{fault_groups}
 use Rattle.log_laws.specs.Engines.{Engine, circuits, instances, copies, HasNone, IsAddedBy, EnginesLeaveRest}
 use Rattle.aig_graph.specs.declared.nodes.Node.{Node}
-use Rattle.aig_graph.specs.Definitions.{IsDefinition}
+use Rattle.aig_graph.specs.Made.{Extends}
+use Rattle.definition_order.specs.Definitions.{IsDefinition}
+use Rattle.dq_formula.specs.Rules.{IsRule}
+use Rattle.dq_formula.specs.declared.rules.Rule.{Rule}
 use Rattle.aig_graph.specs.Graph.{AigGraph}
-use Rattle.candidate_functions.specs.Candidates.{AreDefinitions}
+use Rattle.candidate_functions.specs.Candidates.{AreDefinitions, definition_of}
 use Rattle.candidate_functions.proofs.Declaring.{existential_at, variable}
+use Rattle.candidate_functions.proofs.Growing.{definitions_stay}
 use Rattle.padoa_definitions.specs.Defining.{IsFound}
 use Rattle.padoa_definitions.specs.declared.defining.Found.{Found}
 use Rattle.padoa_definitions.specs.declared.defining.Found.TheVariants.{Defined, Free}
-use Rattle.repair_loop.specs.Searching.{IsFresh, definition_in}
+use Rattle.repair_loop.specs.Searching.{IsFresh, AreKnown, definition_in}
 use Rattle.repair_loop.proofs.Stages.{still_kept, still_undecided, none_stays, no_entries_kept, no_entries_undecided, no_element}
 
 -- what a call of the engine of copies added leaves the log fresh
@@ -50,32 +54,55 @@ empty_is_fresh f entries empty = record {
   no_instances = empty_has_none instances entries empty;
 }
 
-pub none_defined : (f : Dqbf) (graph : AigGraph) (definitions : List (Option Node)) → definitions ≡ [] → AreDefinitions f graph definitions
-none_defined f graph definitions empty k d below node is = cc
+none_at : (n k : ℕ) → get_or {X = Option Node} (replicate n None) k None ≡ None
+none_at zero k = refl
+none_at (suc n) zero = refl
+none_at (suc n) (suc k) = none_at n k
 
--- one definition more, or none
-pub defined_more : (f : Dqbf) → HasLawfulPrefix f → (graph : AigGraph) (i : ℕ) (y : Existential) (before : List (Option Node)) (next : Option Node)
-    → length before ≡ i → slice_get f.existentials i ≡ Some y → ((node : Node) → next ≡ Some node → IsDefinition f graph y node)
-    → AreDefinitions f graph before → AreDefinitions f graph (before ++ next ∷ [])
-defined_more f lawful graph i y before next many at here are k d below node is =
-    let z = get_or f.existentials k d in
-    let after = before ++ next ∷ [] in
-    let at_k : slice_get f.existentials k ≡ Some z = slice_get-get_or f.existentials k d below in
-    let place = existential_at f lawful k z at_k in
-    let there : get_or after k None ≡ Some node = sym (ap (λ p. get_or after p None) place) ∙ is in
-    elim (cases_lt k i) [
-      | inl early ↦ are k d below node (ap (λ p. get_or before p None) place ∙ sym (get_or-append before (next ∷ []) None k (omega (arith, many, early))) ∙ there)
-      | inr late ↦ (elim (cases_lt i k) [
-        | inl later ↦ (
-            let none : get_or after k None ≡ None = get_or_past after k None (omega (arith, many, later, length-append before (next ∷ []))) in
-            absurd (let e : Some node ≡ None = sym there ∙ none in cc))
-        | inr same ↦ (
-            let is_k : k ≡ i = omega (arith, late, same) in
-            let own : z ≡ y = let e : Some z ≡ Some y = sym at_k ∙ ap (slice_get f.existentials) is_k ∙ at in cc in
-            let last : get_or after k None ≡ next = ap (λ p. get_or after p None) (omega (arith, is_k, many)) ∙ get_or-append-add before (next ∷ []) 0 None in
-            subst (λ e. IsDefinition f graph e node) (sym own) (here node (sym last ∙ there)))
-      ])
-    ]
+-- nothing is known yet
+pub nothing_known : (f : Dqbf) (graph : AigGraph) (definitions : List (Option Node)) (rules : List Rule) → definitions ≡ replicate (length f.existentials) None → rules ≡ []
+    → AreKnown f graph definitions rules
+nothing_known f graph definitions rules none empty = record {
+  one_each = ap length none ∙ length-replicate (length f.existentials) None;
+  defined = λ k d below node is. (let no = ap (λ ds. definition_of f ds (get_or f.existentials k d)) none ∙ none_at (length f.existentials) _ in let e : Some node ≡ None = sym is ∙ no in cc);
+  forced = subst (All (IsRule f)) (sym empty) (All-nil (IsRule f));
+}
+
+-- what is known of the existential at a place
+pub known_at : (f : Dqbf) → HasLawfulPrefix f → (graph : AigGraph) (p : ℕ) (y : Existential) (before : List (Option Node)) (next : Option Node) (rules : List Rule)
+    → slice_get f.existentials p ≡ Some y → ((node : Node) → next ≡ Some node → IsDefinition f graph y node) → AreKnown f graph before rules
+    → AreKnown f graph (set before p next) rules
+known_at f lawful graph p y before next rules at here known = record {
+  one_each = length-set before p next ∙ known.one_each;
+  defined = defined;
+  forced = known.forced;
+} where
+  inside : p < length before
+  inside = let e = known.one_each in let within = slice_get_within f.existentials p y at in omega (arith, e, within)
+
+  defined : AreDefinitions f graph (set before p next)
+  defined k d below node is =
+      let z = get_or f.existentials k d in
+      let at_k : slice_get f.existentials k ≡ Some z = slice_get-get_or f.existentials k d below in
+      let place = existential_at f lawful k z at_k in
+      let there : get_or (set before p next) k None ≡ Some node = sym (ap (λ q. get_or (set before p next) q None) place) ∙ is in
+      elim (cases_Bool (p == k)) [
+        | inl e ↦ (
+            let same : p ≡ k = eqb-true p k e in
+            let own : y ≡ z = let e : Some y ≡ Some z = sym at ∙ ap (slice_get f.existentials) same ∙ at_k in cc in
+            let last : get_or (set before p next) k None ≡ next = ap (λ q. get_or (set before p next) q None) (sym same) ∙ get_or-set_same before p next None inside in
+            subst (λ e. IsDefinition f graph e node) own (here node (sym last ∙ there)))
+        | inr e ↦ (
+            let other : k ≢ p = λ is. false≢true (sym e ∙ eq-eqb p k (sym is)) in
+            known.defined k d below node (ap (λ q. get_or before q None) place ∙ sym (get_or-set_other before p k next None other) ∙ there))
+      ]
+
+pub known_stays : (f : Dqbf) (old new : AigGraph) (definitions : List (Option Node)) (rules : List Rule) → Extends old new → AreKnown f old definitions rules → AreKnown f new definitions rules
+known_stays f old new definitions rules extends known = record {
+  one_each = known.one_each;
+  defined = definitions_stay old new extends f definitions known.defined;
+  forced = known.forced;
+}
 
 -- the existential that a variable of the list of all names
 pub named_at : (f : Dqbf) → IsLawful f → (variables : List ℕ) → variables ≡ existential_variables f → (i v : ℕ) → i < length variables → v ≡ get_or variables i 0

@@ -2,3 +2,4 @@ mod Rows
 mod Extends
 mod Stages
 mod Defined
+mod Reads

@@ -1,8 +1,10 @@
 -- The stages of a turn: what each call leaves of the search.
-use Rattle.std.proofs.Common.{◌≡◌, ◌≢◌, ◌+◌, ◌-◌, ◌≤◌, ◌<◌, ℕ, zero, suc, Bool, true, false, cond, List, [], ◌∷◌, length, None, refl, sym, ◌∙◌, ap, subst, arith, slice_index_or, Result, Ok, Err, OnErr}
+use Rattle.std.proofs.Common.{◌≡◌, ◌≢◌, ◌+◌, ◌-◌, ◌≤◌, ◌<◌, ℕ, zero, suc, Bool, true, false, cond, List, [], ◌∷◌, length, map, get_or, None, refl, sym, ◌∙◌, ap, subst, arith, slice_index_or, Result, Ok, Err, OnErr, Some}
 use Rattle.std.specs.List.{All, Contains, filter}
-use Rattle.std.proofs.lemmas.List.{length-map}
-use Rattle.dq_lits.specs.Formula.{Dqbf, IsWellFormed}
+use Rattle.std.proofs.lemmas.List.{get_or-map, length-map}
+use Rattle.std.proofs.lemmas.List.Elements.{All-cons}
+use Rattle.std.proofs.lemmas.Option.{slice_get-get_or}
+use Rattle.dq_lits.specs.Formula.{Dqbf, IsWellFormed, declared}
 use Rattle.dq_lits.specs.Expansion.{row_assignment}
 use Rattle.hint_log.specs.Entries.{Entry, Round, ProofLog, with_entry, name_of, rounds_of, steps_of, is_counted}
 use Rattle.hint_log.specs.Deciding.{IsUndecided}
@@ -10,7 +12,7 @@ use Rattle.hint_log.specs.Growth.{Grew}
 use Rattle.hint_log.specs.Naming.{rows_of}
 use Rattle.hint_log.specs.ProductiveLog.{IsNewFailure, HasModelWith, IsProductiveLog, fault_groups}
 use Rattle.oracle.specs.Searched.{IsSearched}
-use Rattle.log_laws.specs.Engines.{Engine, circuits, instances, is_own, same_engine, HasNone, IsAddedBy, EnginesLeaveRest}
+use Rattle.log_laws.specs.Engines.{Engine, circuits, instances, copies, is_own, same_engine, HasNone, IsAddedBy, EnginesLeaveRest}
 use Rattle.dq_lits.specs.Skolem.{IsSupported}
 use Rattle.aig_graph.specs.declared.nodes.Node.{Node}
 use Rattle.aig_graph.specs.Graph.{AigGraph}
@@ -21,7 +23,11 @@ use Rattle.circuit_cnf.specs.Checking.{IsChecker, group_of, CheckersStay, Checke
 use Rattle.expansion.specs.Table.{TableState, IsTable, IsFullTable}
 use Rattle.expansion.specs.Standing.{EnginesLeaveTables, RoundsLeaveTables}
 use Rattle.log_laws.proofs.Growing.{count_grown}
-use Rattle.repair_loop.specs.Searching.{LogGrew, IsKept, IsFresh, IsSearch, AreCandidates, IsCounterexample, AreRefuted, IsRoundLogged}
+use Rattle.padoa_definitions.specs.Copies.{IsPadoa, groups_of, group_variable}
+use Rattle.padoa_definitions.specs.Standing.{EnginesLeaveCopies, RoundsLeaveCopies}
+use Rattle.padoa_definitions.specs.declared.padoa.Padoa.{Padoa}
+use Rattle.hint_log.specs.declared.names.Name.TheVariants.{Selector}
+use Rattle.repair_loop.specs.Searching.{LogGrew, IsKept, IsFresh, HasInputs, AreApart, IsSearch, AreCandidates, IsCounterexample, AreRefuted, IsRoundLogged}
 use Rattle.repair_loop.proofs.Rows.{no_old_row}
 use Rattle.repair_loop.proofs.Extends.{extends}
 
@@ -48,13 +54,34 @@ pub still_undecided : EnginesLeaveRest → (f : Dqbf) (engine : Engine) (group :
     → Grew (IsAddedBy f engine group silent old.entries) old new → IsUndecided f old.entries → IsUndecided f new.entries
 still_undecided law f engine group silent old new quiet grew undecided = (law f engine group silent old new grew).decisions quiet undecided
 
+-- what the engine of copies added leaves a search as it is
+pub after_copies : EnginesLeaveRest → EnginesLeaveTables → CheckersStay → (f : Dqbf) (t : TableState) (p q : Padoa) (old new : ProofLog) → q ≡ p
+    → ((group : ℕ) → Grew (IsAddedBy f copies group true old.entries) old new) → IsPadoa f q new.entries → (graph : AigGraph) (c : Checker)
+    → IsSearch f graph t c p old.entries → IsSearch f graph t c q new.entries
+after_copies law tables stay f t p q old new same grew copied graph c s =
+    let group = t.group + group_of c + 1 in
+    let g = grew group in
+    let left = law f copies group true old new g in
+    let faults = ap length (left.faults refl) in
+    let rounds = left.rounds in
+    let before = s.faults in
+    record {
+      kept = still_kept law f copies group true old new g s.kept;
+      undecided = still_undecided law f copies group true old new refl g s.undecided;
+      table = (tables f t copies group true old new g refl (λ e. omega (arith, e))).1 s.table;
+      checked = stay f c copies group true old new refl (λ e. omega (arith, e)) g s.checked;
+      copied = copied;
+      apart = subst (AreApart t c) (sym same) s.apart;
+      inputs = s.inputs;
+      faults = omega (arith, rounds, faults, before);
+    }
+
 -- after the table found a model
-pub after_solve : EnginesLeaveRest → CheckersStay → (f : Dqbf) (graph : AigGraph) (t u : TableState) (c : Checker) (silent : Bool) (old new : ProofLog) → silent ≡ true
-    → IsSearch f graph t c old.entries → Grew (IsAddedBy f instances t.group silent old.entries) old new → u ≡ t → IsFullTable f u new.entries
-    → IsSearch f graph u c new.entries
-after_solve law stay f graph t u c silent old new quiet s grew same table =
+pub after_solve : EnginesLeaveRest → CheckersStay → EnginesLeaveCopies → (f : Dqbf) (graph : AigGraph) (t u : TableState) (c : Checker) (p : Padoa) (silent : Bool) (old new : ProofLog)
+    → silent ≡ true → IsSearch f graph t c p old.entries → Grew (IsAddedBy f instances t.group silent old.entries) old new → u ≡ t → IsFullTable f u new.entries
+    → IsSearch f graph u c p new.entries
+after_solve law stay copies_stay f graph t u c p silent old new quiet s grew same table =
     let left = law f instances t.group silent old new grew in
-    let groups : u.group ≡ t.group = ap (λ (v : TableState). v.group) same in
     let faults = ap length (left.faults refl) in
     let rounds = left.rounds in
     let before = s.faults in
@@ -62,43 +89,53 @@ after_solve law stay f graph t u c silent old new quiet s grew same table =
       kept = still_kept law f instances t.group silent old new grew s.kept;
       undecided = still_undecided law f instances t.group silent old new quiet grew s.undecided;
       table = table;
-      checked = stay f c instances t.group silent old new refl (λ e. s.apart (sym e)) grew s.checked;
-      apart = λ e. s.apart (sym groups ∙ e);
+      checked = stay f c instances t.group silent old new refl (λ e. s.apart.tables (sym e)) grew s.checked;
+      copied = copies_stay f p instances t.group silent old new grew s.apart.copies_tables s.copied;
+      apart = subst (λ v. AreApart v c p) (sym same) s.apart;
       inputs = s.inputs;
       faults = omega (arith, rounds, faults, before);
     }
 
 -- after the candidates were built
-pub after_build : (f : Dqbf) (graph more : AigGraph) (t : TableState) (c : Checker) (entries : List Entry) → more.inputs ≡ graph.inputs → IsSearch f graph t c entries
-    → IsSearch f more t c entries
-after_build f graph more t c entries same s = record {
+pub after_build : (f : Dqbf) (graph more : AigGraph) (t : TableState) (c : Checker) (p : Padoa) (entries : List Entry) → more.inputs ≡ graph.inputs
+    → IsSearch f graph t c p entries → IsSearch f more t c p entries
+after_build f graph more t c p entries same s = record {
   kept = s.kept;
   undecided = s.undecided;
   table = s.table;
   checked = s.checked;
+  copied = s.copied;
   apart = s.apart;
   inputs = same ∙ s.inputs;
   faults = s.faults;
 }
 
+apart_as : (t u : TableState) (c d : Checker) (p : Padoa) → u.group ≡ t.group → group_of d ≡ group_of c → AreApart t c p → AreApart u d p
+apart_as t u c d p tables checkers a = record {
+  tables = λ e. a.tables (sym tables ∙ e ∙ checkers);
+  copies_tables = λ k z below e. a.copies_tables k z below (e ∙ tables);
+  copies_checkers = λ k z below e. a.copies_checkers k z below (e ∙ checkers);
+}
+
 -- after a turn that failed
-pub after_turn : EnginesLeaveRest → EnginesLeaveTables → (f : Dqbf) (graph : AigGraph) (t : TableState) (c d : Checker) (silent : Bool) (old new : ProofLog) → silent ≡ true
-    → IsSearch f graph t c old.entries → Grew (IsAddedBy f circuits (group_of c) silent old.entries) old new → group_of d ≡ group_of c → IsChecker f d new.entries
-    → length (fault_groups new.entries) ≤ rounds_of new.entries + 1 → AreRefuted f t d new.entries
-after_turn law tables f graph t c d silent old new quiet s grew same checker faults = record {
+pub after_turn : EnginesLeaveRest → EnginesLeaveTables → EnginesLeaveCopies → (f : Dqbf) (graph : AigGraph) (t : TableState) (c d : Checker) (p : Padoa) (silent : Bool) (old new : ProofLog)
+    → silent ≡ true → IsSearch f graph t c p old.entries → Grew (IsAddedBy f circuits (group_of c) silent old.entries) old new → group_of d ≡ group_of c
+    → IsChecker f d new.entries → length (fault_groups new.entries) ≤ rounds_of new.entries + 1 → AreRefuted f t d p new.entries
+after_turn law tables copies_stay f graph t c d p silent old new quiet s grew same checker faults = record {
   kept = still_kept law f circuits (group_of c) silent old new grew s.kept;
   undecided = still_undecided law f circuits (group_of c) silent old new quiet grew s.undecided;
-  table = (tables f t circuits (group_of c) silent old new grew refl s.apart).1 s.table;
+  table = (tables f t circuits (group_of c) silent old new grew refl s.apart.tables).1 s.table;
   checked = checker;
-  apart = λ e. s.apart (e ∙ same);
+  copied = copies_stay f p circuits (group_of c) silent old new grew s.apart.copies_checkers s.copied;
+  apart = apart_as t t c d p refl same s.apart;
   faults = faults;
 }
 
 -- after the round is logged
-pub after_round : RoundsLeaveTables → CheckersStayWithRounds → (f : Dqbf) (t : TableState) (c : Checker) (old new : ProofLog) (output : _) → AreRefuted f t c old.entries
-    → AreCandidates f t.rows output → (row values : List Bool) (j : ℕ) → IsCounterexample f output row values j → new ≡ with_entry old (Round row values j)
-    → IsRoundLogged f t c row new.entries
-after_round tables checkers f t c old new output a are row values j bad is =
+pub after_round : RoundsLeaveTables → CheckersStayWithRounds → RoundsLeaveCopies → (f : Dqbf) (t : TableState) (c : Checker) (p : Padoa) (old new : ProofLog) (output : _)
+    → AreRefuted f t c p old.entries → AreCandidates f t.rows output → (row values : List Bool) (j : ℕ) → IsCounterexample f output row values j
+    → new ≡ with_entry old (Round row values j) → IsRoundLogged f t c p row new.entries
+after_round tables checkers copies_stay f t c p old new output a are row values j bad is =
     let entries = old.entries in
     let well = a.table.formula in
     let failure : IsNewFailure f entries row values j = record {
@@ -114,23 +151,24 @@ after_round tables checkers f t c old new output a are row values j bad is =
     (extends f well.prefix t.rows are.points output are.are_points are.agree row values j bad) in
     let left = tables f t row values j entries a.table in
     let before = a.faults in
-    let here : IsRoundLogged f t c row (Round row values j ∷ entries) = record {
+    let here : IsRoundLogged f t c p row (Round row values j ∷ entries) = record {
       kept = record { origins = (tt, a.kept.origins); new_rows = (failure, a.kept.new_rows); models = (modelled, a.kept.models); givens = (tt, a.kept.givens) };
       undecided = (tt, a.undecided);
       table = left.0;
       rows = left.1;
       row_length = bad.row_length;
       checked = checkers f c entries row values j a.checked;
+      copied = copies_stay f p entries row values j a.copied;
       apart = a.apart;
       faults = before;
     } in
-    subst (λ (l : ProofLog). IsRoundLogged f t c row l.entries) (sym is) here
+    subst (λ (l : ProofLog). IsRoundLogged f t c p row l.entries) (sym is) here
 
 -- after the row is added
-pub after_row : EnginesLeaveRest → CheckersStay → (f : Dqbf) (graph : AigGraph) (t u : TableState) (c : Checker) (row : List Bool) (old new : ProofLog)
-    → IsRoundLogged f t c row old.entries → Grew (IsAddedBy f instances t.group true old.entries) old new → IsFullTable f u new.entries → u.group ≡ t.group
-    → graph.inputs ≡ length f.universals → IsSearch f graph u c new.entries
-after_row law stay f graph t u c row old new a grew table same inputs =
+pub after_row : EnginesLeaveRest → CheckersStay → EnginesLeaveCopies → (f : Dqbf) (graph : AigGraph) (t u : TableState) (c : Checker) (p : Padoa) (row : List Bool) (old new : ProofLog)
+    → IsRoundLogged f t c p row old.entries → Grew (IsAddedBy f instances t.group true old.entries) old new → IsFullTable f u new.entries → u.group ≡ t.group
+    → HasInputs f graph → IsSearch f graph u c p new.entries
+after_row law stay copies_stay f graph t u c p row old new a grew table same inputs =
     let left = law f instances t.group true old new grew in
     let faults = ap length (left.faults refl) in
     let rounds = left.rounds in
@@ -139,8 +177,9 @@ after_row law stay f graph t u c row old new a grew table same inputs =
       kept = still_kept law f instances t.group true old new grew a.kept;
       undecided = still_undecided law f instances t.group true old new refl grew a.undecided;
       table = table;
-      checked = stay f c instances t.group true old new refl (λ e. a.apart (sym e)) grew a.checked;
-      apart = λ e. a.apart (sym same ∙ e);
+      checked = stay f c instances t.group true old new refl (λ e. a.apart.tables (sym e)) grew a.checked;
+      copied = copies_stay f p instances t.group true old new grew a.apart.copies_tables a.copied;
+      apart = apart_as t u c c p same refl a.apart;
       inputs = inputs;
       faults = omega (arith, rounds, faults, before);
     }
@@ -229,14 +268,36 @@ none_stays law which f engine group silent old new other grew none e own inside 
     let here = contains_filtered (is_own which) new.entries e own inside in
     none e own (contains_unfiltered (is_own which) old.entries e (subst (λ es. Contains es e) (left.others which other) here))
 
+-- the groups of the copies were made
+groups_are_made : (f : Dqbf) (p : Padoa) (entries : List Entry) → IsPadoa f p entries → All (λ g. name_of entries g ≡ Some (Selector g)) (groups_of p)
+groups_are_made f p entries is = All-cons IsMadeHere _ _ is.first.made.named (All-cons IsMadeHere _ _ is.second.made.named of_links) where
+  IsMadeHere : ℕ → Type 0
+  IsMadeHere g = name_of entries g ≡ Some (Selector g)
+
+  of_links : All IsMadeHere (map group_variable p.links.items)
+  of_links k d below =
+      let inside : k < length p.links.items = let e = length-map p.links.items group_variable in omega (arith, below, e) in
+      let within : k < length (declared f) = let e = is.as_many in omega (arith, inside, e) in
+      let group = get_or p.links.items k p.first.group in
+      let link = is.links k (get_or (declared f) k 0) group (slice_get-get_or (declared f) k 0 within) (slice_get-get_or p.links.items k p.first.group inside) in
+      subst IsMadeHere (sym (get_or-map group_variable p.links.items k p.first.group d inside)) link.made.named
+
+-- groups that have names are none that had none
+made_apart : (entries : List Entry) (group : ℕ) (groups : List ℕ) → All (λ g. name_of entries g ≡ Some (Selector g)) groups → name_of entries group ≡ None → All (λ g. g ≢ group) groups
+made_apart entries group groups made none k d below e = let is = made k d below in let nothing = ap (name_of entries) e ∙ none in cc
+
 -- before the first turn
-pub begun : EnginesLeaveRest → EnginesLeaveTables → (f : Dqbf) → IsWellFormed f → (graph : AigGraph) (t : TableState) (c : Checker) (first second third : ProofLog) → graph.inputs ≡ length f.universals
-    → IsFresh f first.entries → ((group : ℕ) → Grew (IsAddedBy f instances group true first.entries) first second) → IsTable f t second.entries → t.rows ≡ []
+pub begun : EnginesLeaveRest → EnginesLeaveTables → EnginesLeaveCopies → (f : Dqbf) → IsWellFormed f → (graph : AigGraph) (t : TableState) (c : Checker) (p : Padoa) (first second third : ProofLog)
+    → HasInputs f graph → IsFresh f first.entries → IsPadoa f p first.entries → ((group : ℕ) → Grew (IsAddedBy f instances group true first.entries) first second)
+    → name_of first.entries t.group ≡ None → IsTable f t second.entries → t.rows ≡ []
     → ((group : ℕ) → Grew (IsAddedBy f circuits group true second.entries) second third) → IsChecker f c third.entries → name_of second.entries (group_of c) ≡ None
-    → fault_groups third.entries ≡ fault_groups second.entries → IsSearch f graph t c third.entries
-begun law tables f well graph t c first second third inputs start g table rows k checker fresh faults =
+    → fault_groups third.entries ≡ fault_groups second.entries → IsSearch f graph t c p third.entries
+begun law tables copies_stay f well graph t c p first second third inputs start copied g new_table table rows k checker fresh faults =
     let left = law f instances 0 true first second (g 0) in
     let apart : t.group ≢ group_of c = λ e. let is = table.group in let none : name_of second.entries t.group ≡ None = ap (name_of second.entries) e ∙ fresh in cc in
+    let from_table = made_apart first.entries t.group (groups_of p) (groups_are_made f p first.entries copied) new_table in
+    let still = copies_stay f p instances t.group true first second (g t.group) from_table copied in
+    let from_checker = made_apart second.entries (group_of c) (groups_of p) (groups_are_made f p second.entries still) fresh in
     let full : IsFullTable f t second.entries = record { formula = well; table = table; rows = left.rows ∙ start.no_rows ∙ sym rows } in
     let none : length (fault_groups third.entries) ≡ 0 = ap length (faults ∙ left.faults refl ∙ start.no_faults) in
     record {
@@ -244,7 +305,8 @@ begun law tables f well graph t c first second third inputs start g table rows k
       undecided = still_undecided law f circuits 0 true second third refl (k 0) (still_undecided law f instances 0 true first second refl (g 0) start.undecided);
       table = (tables f t circuits (group_of c) true second third (k (group_of c)) refl apart).1 full;
       checked = checker;
-      apart = apart;
+      copied = copies_stay f p circuits (group_of c) true second third (k (group_of c)) from_checker still;
+      apart = record { tables = apart; copies_tables = from_table; copies_checkers = from_checker };
       inputs = inputs;
       faults = omega (arith, none);
     }

@@ -17,8 +17,12 @@ use Rattle.circuit_cnf.specs.declared.checkers.Checker.{Checker}
 use Rattle.circuit_cnf.specs.Checking.{IsChecker, group_of}
 use Rattle.circuit_cnf.specs.Shown.{IsShownBy}
 use Rattle.expansion.specs.Table.{TableState, IsTable, IsFullTable, PointBits, ArePoints, IsRefutedBy}
-use Rattle.candidate_functions.specs.Candidates.{AgreeAtPairs}
+use Rattle.candidate_functions.specs.Candidates.{AreDefinitions, AgreeAtPairs}
 use Rattle.log_laws.specs.Engines.{circuits, instances, HasNone}
+use Rattle.dq_formula.specs.Rules.{IsRule}
+use Rattle.dq_formula.specs.declared.rules.Rule.{Rule}
+use Rattle.padoa_definitions.specs.Copies.{IsPadoa, groups_of}
+use Rattle.padoa_definitions.specs.declared.padoa.Padoa.{Padoa}
 use Rattle.padoa_definitions.specs.declared.defining.Found.{Found}
 use Rattle.padoa_definitions.specs.declared.defining.Found.TheVariants.{Defined, Free}
 
@@ -43,14 +47,31 @@ abbrev pub definition_in : Found → Option Node
 definition_in (Defined node) = Some node
 definition_in (Free pair) = None
 
+-- what is known of the existentials' functions
+pub record AreKnown (f : Dqbf) (graph : AigGraph) (definitions : List (Option Node)) (rules : List Rule) : Type 0 where
+  pub one_each : length definitions ≡ length f.existentials
+  pub defined : AreDefinitions f graph definitions
+  pub forced : All (IsRule f) rules
+
+-- an input for each universal and each existential
+abbrev pub HasInputs : Dqbf → AigGraph → Type 0
+HasInputs f graph = graph.inputs ≡ length f.universals + length f.existentials
+
+-- the groups of the instances, of the gates and of the copies differ
+pub record AreApart (t : TableState) (c : Checker) (p : Padoa) : Type 0 where
+  pub tables : t.group ≢ group_of c
+  pub copies_tables : All (λ g. g ≢ t.group) (groups_of p)
+  pub copies_checkers : All (λ g. g ≢ group_of c) (groups_of p)
+
 -- before a turn
-pub record IsSearch (f : Dqbf) (graph : AigGraph) (t : TableState) (c : Checker) (entries : List Entry) : Type 0 where
+pub record IsSearch (f : Dqbf) (graph : AigGraph) (t : TableState) (c : Checker) (p : Padoa) (entries : List Entry) : Type 0 where
   pub kept : IsKept f entries
   pub undecided : IsUndecided f entries
   pub table : IsFullTable f t entries
   pub checked : IsChecker f c entries
-  pub apart : t.group ≢ group_of c
-  pub inputs : graph.inputs ≡ length f.universals
+  pub copied : IsPadoa f p entries
+  pub apart : AreApart t c p
+  pub inputs : HasInputs f graph
   pub faults : length (fault_groups entries) ≤ rounds_of entries
 
 -- outputs that have the bits of a model of the instances under these rows, at all their pairs
@@ -66,6 +87,10 @@ pub record AreBuilt (f : Dqbf) (graph : AigGraph) (rows : List (List Bool)) (nod
   pub reads : ReadDeclared f (outputs_of f graph nodes)
   pub candidates : AreCandidates f rows (outputs_of f graph nodes)
 
+-- the search goes on after the entries that were added, whatever checks the circuits
+abbrev pub GoesOn : Dqbf → TableState → Padoa → List Entry → List Entry → Type 0
+GoesOn f t p old new = (graph : AigGraph) (c : Checker) → IsSearch f graph t c p old → IsSearch f graph t c p new
+
 -- no step was lost
 pub record LogGrew (old new : ProofLog) : Type 0 where
   pub steps : steps_of old.entries ≤ steps_of new.entries
@@ -80,23 +105,25 @@ pub record IsCounterexample (f : Dqbf) (output : Existential → OutputFunction)
   pub is_false : clause_true (round_assignment f row values) clause ≡ false
 
 -- after candidates failed, before the round
-pub record AreRefuted (f : Dqbf) (t : TableState) (c : Checker) (entries : List Entry) : Type 0 where
+pub record AreRefuted (f : Dqbf) (t : TableState) (c : Checker) (p : Padoa) (entries : List Entry) : Type 0 where
   pub kept : IsKept f entries
   pub undecided : IsUndecided f entries
   pub table : IsFullTable f t entries
   pub checked : IsChecker f c entries
-  pub apart : t.group ≢ group_of c
+  pub copied : IsPadoa f p entries
+  pub apart : AreApart t c p
   pub faults : length (fault_groups entries) ≤ rounds_of entries + 1
 
 -- after the round, before its row is added to the table
-pub record IsRoundLogged (f : Dqbf) (t : TableState) (c : Checker) (row : List Bool) (entries : List Entry) : Type 0 where
+pub record IsRoundLogged (f : Dqbf) (t : TableState) (c : Checker) (p : Padoa) (row : List Bool) (entries : List Entry) : Type 0 where
   pub kept : IsKept f entries
   pub undecided : IsUndecided f entries
   pub table : IsTable f t entries
   pub rows : rows_of entries ≡ t.rows ++ row ∷ []
   pub row_length : length row ≡ length f.universals
   pub checked : IsChecker f c entries
-  pub apart : t.group ≢ group_of c
+  pub copied : IsPadoa f p entries
+  pub apart : AreApart t c p
   pub faults : length (fault_groups entries) ≤ rounds_of entries
 
 -- a node for each existential: the outputs are Skolem functions, and the last entry is an answer that shows it

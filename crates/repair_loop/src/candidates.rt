@@ -2,12 +2,12 @@
 
 ghost use Rattle.std.specs.Prelude.{◌≡◌, ℕ, OnErr, IsErrOf, Ok};
 ghost use Rattle.aig_graph.specs.Made.{Extends};
-ghost use Rattle.candidate_functions.specs.Candidates.{AreDefinitions};
 ghost use Rattle.hint_log.specs.Deciding.{IsUndecided};
 ghost use Rattle.hint_log.specs.Entries.{steps_of};
-ghost use Rattle.repair_loop.specs.Searching.{IsKept, IsSearch, AreBuilt, LogGrew, IsShownFalse};
+ghost use Rattle.repair_loop.specs.Searching.{IsKept, AreKnown, IsSearch, AreBuilt, LogGrew, IsShownFalse};
 
-use aig_graph::{Graph, Node};
+use crate::definitions::Definitions;
+use aig_graph::Graph;
 use candidate_functions::{Outputs, build};
 use circuit_cnf::Checker;
 use circuit_cnf::laws::checkers_stay;
@@ -16,6 +16,7 @@ use expansion::{Exp, Table};
 use hint_log::{Log, Stop};
 use log_laws::laws::engines_leave_the_rest;
 use oracle::Oracle;
+use padoa_definitions::laws::engines_leave_copies;
 use std::alloc::Global;
 
 // Candidates, or the id of the answer that refutes the rows.
@@ -25,36 +26,49 @@ pub(crate) enum Found {
     Refuted(u64),
 }
 
-// Candidates from a model of the instances, and the definitions that there are.
+// Candidates from a model of the instances, what it forces at the newest row, and the definitions that there are.
 pub(crate) fn find_candidates<O: Oracle>(
     alloc: Global,
     oracle: &mut O,
     graph: &mut Graph,
     table: &mut Table,
     checker: &Checker,
-    definitions: &[Option<Node>],
+    definitions: &mut Definitions,
     f: &Formula,
     log: &mut Log,
 ) -> Result<Found, Stop>
     requires fit { O.Fits oracle.old log.old }
-    requires search { IsSearch f.now graph.old table.old checker.now log.old.entries }
-    requires definitions { AreDefinitions f.now graph.old definitions.now }
+    requires search { IsSearch f.now graph.old table.old checker.now definitions.old.padoa log.old.entries }
+    requires known { AreKnown f.now graph.old definitions.old.nodes.items definitions.old.rules.items }
     ensures fit { O.Fits oracle.new log.new }
     ensures extends { Extends graph.old graph.new }
+    ensures padoa { definitions.new.padoa ≡ definitions.old.padoa }
     ensures kept { IsKept f.now log.new.entries }
     ensures grew { LogGrew log.old log.new }
     ensures refuted { (id : ℕ) → result ≡ Ok (Found.Refuted id) → IsShownFalse f.now log.new id }
-    ensures search { (outputs : _) → result ≡ Ok (Found.Candidates outputs) → IsSearch f.now graph.new table.new checker.now log.new.entries }
+    ensures search { (outputs : _) → result ≡ Ok (Found.Candidates outputs)
+        → IsSearch f.now graph.new table.new checker.now definitions.new.padoa log.new.entries }
+    ensures known { (outputs : _) → result ≡ Ok (Found.Candidates outputs) → AreKnown f.now graph.new definitions.new.nodes.items definitions.new.rules.items }
     ensures candidates { (outputs : _) → result ≡ Ok (Found.Candidates outputs) → AreBuilt f.now graph.new table.new.rows outputs }
     ensures undecided { OnErr result (IsUndecided f.now log.new.entries) }
     ensures limit { IsErrOf result Stop.Limit → steps_of log.new.entries ≡ log.new.limit }
 {
     engines_leave_the_rest();
     checkers_stay();
+    engines_leave_copies();
     match table.solve(oracle, log)? {
         Exp::Refuted(id) => Ok(Found::Refuted(id)),
         Exp::Model(points) => {
-            let outputs = build(alloc, f, table, &points, &[], definitions, graph)?;
+            definitions.force_all(oracle, f, table, &points, log)?;
+            let outputs = build(
+                alloc,
+                f,
+                table,
+                &points,
+                &definitions.rules,
+                &definitions.nodes,
+                graph,
+            )?;
             Ok(Found::Candidates(outputs))
         }
     }

@@ -3,13 +3,12 @@ ghost use Rattle.dq_lits.specs.Formula.{IsWellFormed};
 ghost use Rattle.hint_log.specs.Deciding.{IsUndecided, KeepsSelectors};
 ghost use Rattle.hint_log.specs.Entries.{steps_of};
 ghost use Rattle.hint_log.specs.ProductiveLog.{IsProductiveLog};
-ghost use Rattle.candidate_functions.specs.Candidates.{AreDefinitions};
-ghost use Rattle.repair_loop.specs.Searching.{IsKept, IsSearch, IsShownTrue, IsShownFalse};
+ghost use Rattle.repair_loop.specs.Searching.{IsKept, HasInputs, AreKnown, IsSearch, IsShownTrue, IsShownFalse};
 
 use crate::candidates::{Found, find_candidates};
-use crate::definitions::find_definitions;
+use crate::definitions::{Definitions, find_definitions};
 use crate::judging::{Judged, judge};
-use aig_graph::{Graph, Node};
+use aig_graph::Graph;
 use candidate_functions::Outputs;
 use circuit_cnf::Checker;
 use circuit_cnf::laws::checkers_stay;
@@ -19,6 +18,7 @@ use expansion::laws::engines_leave_tables;
 use hint_log::{Log, Stop};
 use log_laws::laws::engines_leave_the_rest;
 use oracle::Oracle;
+use padoa_definitions::laws::engines_leave_copies;
 use std::alloc::Global;
 
 /// What was decided, with the id of the logged answer that shows it.
@@ -42,7 +42,7 @@ pub fn decide<O: Oracle>(
     requires fit { O.Fits oracle.old log.old }
     requires empty { log.old.entries ≡ [] }
     requires formula { IsWellFormed f.now }
-    requires inputs { graph.old.inputs ≡ length f.now.universals }
+    requires inputs { HasInputs f.now graph.old }
     ensures fit { O.Fits oracle.new log.new }
     ensures inputs { graph.new.inputs ≡ graph.old.inputs }
     ensures productive { IsProductiveLog f.now log.new.entries }
@@ -55,7 +55,8 @@ pub fn decide<O: Oracle>(
 {
     engines_leave_the_rest();
     engines_leave_tables();
-    let definitions = find_definitions(alloc, oracle, graph, f, log)?;
+    engines_leave_copies();
+    let mut definitions = find_definitions(alloc, oracle, graph, f, log)?;
     let mut table = Table::new(alloc, oracle, f, log)?;
     let mut checker = Checker::new(alloc, oracle, f, log)?;
     all_rounds(
@@ -64,7 +65,7 @@ pub fn decide<O: Oracle>(
         graph,
         &mut table,
         &mut checker,
-        &definitions.nodes,
+        &mut definitions,
         f,
         log,
     )
@@ -77,13 +78,13 @@ fn all_rounds<O: Oracle>(
     graph: &mut Graph,
     table: &mut Table,
     checker: &mut Checker,
-    definitions: &[Option<Node>],
+    definitions: &mut Definitions,
     f: &Formula,
     log: &mut Log,
 ) -> Result<Verdict, Stop>
     requires fit { O.Fits oracle.old log.old }
-    requires search { IsSearch f.now graph.old table.old checker.old log.old.entries }
-    requires definitions { AreDefinitions f.now graph.old definitions.now }
+    requires search { IsSearch f.now graph.old table.old checker.old definitions.old.padoa log.old.entries }
+    requires known { AreKnown f.now graph.old definitions.old.nodes.items definitions.old.rules.items }
     ensures fit { O.Fits oracle.new log.new }
     ensures inputs { graph.new.inputs ≡ graph.old.inputs }
     ensures kept { IsKept f.now log.new.entries }
@@ -95,6 +96,7 @@ fn all_rounds<O: Oracle>(
 {
     engines_leave_the_rest();
     checkers_stay();
+    engines_leave_copies();
     loop {
         let outputs = match find_candidates(
             alloc,
@@ -109,7 +111,7 @@ fn all_rounds<O: Oracle>(
             Found::Candidates(outputs) => outputs,
             Found::Refuted(id) => return Ok(Verdict::False(id)),
         };
-        match judge(oracle, graph, table, checker, f, &outputs, log)? {
+        match judge(oracle, graph, table, checker, &definitions.padoa, f, &outputs, log)? {
             Judged::Hold(id) => return Ok(Verdict::True(outputs, id)),
             Judged::Fail(row) => table.add_row(oracle, f, &row, log)?,
         }

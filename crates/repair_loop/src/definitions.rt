@@ -1,16 +1,16 @@
 //! The definitions that the clauses force, which are asked for before the first candidates.
 
-ghost use Rattle.std.specs.Prelude.{◌≡◌, ◌++◌, ◌∷◌, [], length, OnOk, IfOk, IsErrOf};
+ghost use Rattle.std.specs.Prelude.{◌≡◌, ◌<◌, length, All, OnOk, IfOk, IsErrOf, slice_set};
 ghost use Rattle.dq_lits.specs.Formula.{IsWellFormed};
 ghost use Rattle.hint_log.specs.Entries.{steps_of};
 ghost use Rattle.aig_graph.specs.Made.{Extends};
 ghost use Rattle.log_laws.specs.Engines.{copies, HasNone};
-ghost use Rattle.candidate_functions.specs.Candidates.{AreDefinitions};
 ghost use Rattle.padoa_definitions.specs.Copies.{IsPadoa};
-ghost use Rattle.repair_loop.specs.Searching.{IsFresh, definition_in};
+ghost use Rattle.repair_loop.specs.Searching.{IsFresh, HasInputs, AreKnown, definition_in};
 
 use aig_graph::{Graph, Node};
-use dq_formula::Formula;
+use definition_order::existentials_in_order;
+use dq_formula::{Formula, Rule};
 use dq_lits::Memory;
 use hint_log::{Log, Stop};
 use log_laws::laws::engines_leave_the_rest;
@@ -18,34 +18,115 @@ use oracle::Oracle;
 use padoa_definitions::{Found, Padoa, Pair};
 use std::alloc::Global;
 
-// What was found of the existentials.
+// What is known of the existentials, and the copies of the matrix that it is asked of.
 #[derive(Debug, Drop)]
 pub(crate) struct Definitions {
+    pub(crate) padoa: Padoa,
     // The node of each existential that has a definition, in order of declaration.
     pub(crate) nodes: Vec<Option<Node>>,
     // Of each of the others two rows, with values that make the matrix true there.
     pub(crate) pairs: Vec<Pair>,
+    // Bits that those without a definition are forced to have.
+    pub(crate) rules: Vec<Rule>,
 }
 
 impl Definitions {
-    // Adds what was found of the next existential.
-    fn add(&mut self, found: Found) -> Result<(), Memory>
-        ensures nodes { OnOk result (self.new.nodes.items ≡ self.old.nodes.items ++ definition_in found ∷ []) }
+    // Nothing is known yet.
+    fn none(alloc: Global, padoa: Padoa, f: &Formula) -> Result<Definitions, Memory>
+        ensures padoa { IfOk result (λ d. d.padoa ≡ padoa) }
+        ensures known { (graph : _) → IfOk result (λ d. AreKnown f.now graph d.nodes.items d.rules.items) }
+    {
+        Ok(Definitions {
+            padoa,
+            nodes: vec![in alloc; None; f.existentials().len()]?,
+            pairs: Vec::new(alloc),
+            rules: Vec::new(alloc),
+        })
+    }
+
+    // Notes what was found of the existential at a place.
+    fn note(&mut self, place: usize, found: Found) -> Result<(), Memory>
+        requires place { place < length self.old.nodes.items }
+        ensures padoa { self.new.padoa ≡ self.old.padoa }
+        ensures rules { self.new.rules.items ≡ self.old.rules.items }
+        ensures nodes { OnOk result (self.new.nodes.items ≡ slice_set self.old.nodes.items place (definition_in found)) }
     {
         match found {
             Found::Defined(node) => {
-                self.nodes.push(Some(node))?;
+                self.nodes[place] = Some(node);
             }
             Found::Free(pair) => {
                 self.pairs.push(pair)?;
-                self.nodes.push(None)?;
+                self.nodes[place] = None;
             }
         }
         Ok(())
     }
+
+    // Asks for definitions of the existentials at these places.
+    fn find_all<O: Oracle>(
+        &mut self,
+        oracle: &mut O,
+        graph: &mut Graph,
+        places: &[usize],
+        f: &Formula,
+        log: &mut Log,
+    ) -> Result<(), Stop>
+        requires fit { O.Fits oracle.old log.old }
+        requires formula { IsWellFormed f.now }
+        requires fresh { IsFresh f.now log.old.entries }
+        requires padoa { IsPadoa f.now self.old.padoa log.old.entries }
+        requires inputs { HasInputs f.now graph.old }
+        requires known { AreKnown f.now graph.old self.old.nodes.items self.old.rules.items }
+        requires places { All (λ p. p < length f.now.existentials) places.now }
+        ensures fit { O.Fits oracle.new log.new }
+        ensures fresh { IsFresh f.now log.new.entries }
+        ensures limit_same { log.new.limit ≡ log.old.limit }
+        ensures extends { Extends graph.old graph.new }
+        ensures padoa { OnOk result (IsPadoa f.now self.new.padoa log.new.entries) }
+        ensures known { OnOk result (AreKnown f.now graph.new self.new.nodes.items self.new.rules.items) }
+        ensures limit { IsErrOf result Stop.Limit → steps_of log.new.entries ≡ log.new.limit }
+    {
+        for place in places {
+            self.find(oracle, graph, *place, f, log)?;
+        }
+        Ok(())
+    }
+
+    // Asks for a definition of the existential at a place.
+    fn find<O: Oracle>(
+        &mut self,
+        oracle: &mut O,
+        graph: &mut Graph,
+        place: usize,
+        f: &Formula,
+        log: &mut Log,
+    ) -> Result<(), Stop>
+        requires fit { O.Fits oracle.old log.old }
+        requires formula { IsWellFormed f.now }
+        requires fresh { IsFresh f.now log.old.entries }
+        requires padoa { IsPadoa f.now self.old.padoa log.old.entries }
+        requires inputs { HasInputs f.now graph.old }
+        requires known { AreKnown f.now graph.old self.old.nodes.items self.old.rules.items }
+        requires place { place < length f.now.existentials }
+        ensures fit { O.Fits oracle.new log.new }
+        ensures fresh { IsFresh f.now log.new.entries }
+        ensures limit_same { log.new.limit ≡ log.old.limit }
+        ensures extends { Extends graph.old graph.new }
+        ensures padoa { OnOk result (IsPadoa f.now self.new.padoa log.new.entries) }
+        ensures known { OnOk result (AreKnown f.now graph.new self.new.nodes.items self.new.rules.items) }
+        ensures limit { IsErrOf result Stop.Limit → steps_of log.new.entries ≡ log.new.limit }
+    {
+        engines_leave_the_rest();
+        f.every_formula_is_lawful();
+        let y = f.existentials()[place];
+        let found = self.padoa.define(oracle, graph, f, y, log)?;
+        self.note(place, found)?;
+        Ok(())
+    }
 }
 
-// Asks for a definition of each existential over the universals that it sees.
+// Asks for a definition of each existential, those that see less first.
 pub(crate) fn find_definitions<O: Oracle>(
     alloc: Global,
     oracle: &mut O,
@@ -57,49 +138,19 @@ pub(crate) fn find_definitions<O: Oracle>(
     requires formula { IsWellFormed f.now }
     requires fresh { IsFresh f.now log.old.entries }
     requires none { HasNone copies log.old.entries }
-    requires inputs { graph.old.inputs ≡ length f.now.universals }
+    requires inputs { HasInputs f.now graph.old }
     ensures fit { O.Fits oracle.new log.new }
     ensures fresh { IsFresh f.now log.new.entries }
     ensures limit_same { log.new.limit ≡ log.old.limit }
     ensures extends { Extends graph.old graph.new }
-    ensures definitions { IfOk result (λ found. AreDefinitions f.now graph.new found.nodes.items) }
+    ensures padoa { IfOk result (λ d. IsPadoa f.now d.padoa log.new.entries) }
+    ensures known { IfOk result (λ d. AreKnown f.now graph.new d.nodes.items d.rules.items) }
     ensures limit { IsErrOf result Stop.Limit → steps_of log.new.entries ≡ log.new.limit }
 {
     engines_leave_the_rest();
-    let mut padoa = Padoa::new(alloc, oracle, f, log)?;
-    define_all(alloc, oracle, graph, &mut padoa, f, log)
-}
-
-// Asks for them one by one, in order of declaration.
-fn define_all<O: Oracle>(
-    alloc: Global,
-    oracle: &mut O,
-    graph: &mut Graph,
-    padoa: &mut Padoa,
-    f: &Formula,
-    log: &mut Log,
-) -> Result<Definitions, Stop>
-    requires fit { O.Fits oracle.old log.old }
-    requires formula { IsWellFormed f.now }
-    requires fresh { IsFresh f.now log.old.entries }
-    requires padoa { IsPadoa f.now padoa.old log.old.entries }
-    requires inputs { graph.old.inputs ≡ length f.now.universals }
-    ensures fit { O.Fits oracle.new log.new }
-    ensures fresh { IsFresh f.now log.new.entries }
-    ensures limit_same { log.new.limit ≡ log.old.limit }
-    ensures extends { Extends graph.old graph.new }
-    ensures definitions { IfOk result (λ found. AreDefinitions f.now graph.new found.nodes.items) }
-    ensures limit { IsErrOf result Stop.Limit → steps_of log.new.entries ≡ log.new.limit }
-{
-    engines_leave_the_rest();
-    f.every_formula_is_lawful();
-    let mut definitions = Definitions {
-        nodes: Vec::new(alloc),
-        pairs: Vec::new(alloc),
-    };
-    for y in f.existentials() {
-        let found = padoa.define(oracle, graph, f, *y, log)?;
-        definitions.add(found)?;
-    }
+    let padoa = Padoa::new(alloc, oracle, f, log)?;
+    let mut definitions = Definitions::none(alloc, padoa, f)?;
+    let order = existentials_in_order(alloc, f)?;
+    definitions.find_all(oracle, graph, &order, f, log)?;
     Ok(definitions)
 }

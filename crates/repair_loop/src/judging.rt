@@ -17,6 +17,8 @@ use expansion::laws::{engines_leave_tables, rounds_leave_tables};
 use hint_log::{Log, Stop};
 use log_laws::laws::engines_leave_the_rest;
 use oracle::Oracle;
+use padoa_definitions::Padoa;
+use padoa_definitions::laws::{engines_leave_copies, rounds_leave_copies};
 
 // Candidates hold, by the answer of this id; or they fail under a row, whose round is logged.
 #[derive(Debug, Drop)]
@@ -31,18 +33,19 @@ pub(crate) fn judge<O: Oracle>(
     graph: &Graph,
     table: &Table,
     checker: &mut Checker,
+    padoa: &Padoa,
     f: &Formula,
     outputs: &Outputs,
     log: &mut Log,
 ) -> Result<Judged, Stop>
     requires fit { O.Fits oracle.old log.old }
-    requires search { IsSearch f.now graph.now table.now checker.old log.old.entries }
+    requires search { IsSearch f.now graph.now table.now checker.old padoa.now log.old.entries }
     requires candidates { AreBuilt f.now graph.now table.now.rows outputs.now }
     ensures fit { O.Fits oracle.new log.new }
     ensures kept { IsKept f.now log.new.entries }
     ensures grew { LogGrew log.old log.new }
     ensures hold { (id : ℕ) → result ≡ Ok (Judged.Hold id) → IsShownTrue f.now graph.now outputs.now log.new id }
-    ensures fail { (row : List Bool) → result ≡ Ok (Judged.Fail row) → IsRoundLogged f.now table.now checker.new row log.new.entries }
+    ensures fail { (row : List Bool) → result ≡ Ok (Judged.Fail row) → IsRoundLogged f.now table.now checker.new padoa.now row log.new.entries }
     ensures step { (row : List Bool) → result ≡ Ok (Judged.Fail row) → steps_of log.old.entries < steps_of log.new.entries }
     ensures within { (row : List Bool) → result ≡ Ok (Judged.Fail row) → steps_of log.old.entries < log.old.limit }
     ensures undecided { OnErr result (IsUndecided f.now log.new.entries) }
@@ -52,6 +55,8 @@ pub(crate) fn judge<O: Oracle>(
     engines_leave_tables();
     rounds_leave_tables();
     checkers_stay_with_rounds();
+    engines_leave_copies();
+    rounds_leave_copies();
     outputs_are_supported();
     match checker.turn(oracle, graph, f, outputs.items(), log)? {
         Turn::Holds(id) => Ok(Judged::Hold(id)),

@@ -7,4 +7,5 @@ pub use decisions::{Verdict, decide};
 mod candidates;
 mod decisions;
 mod definitions;
+mod forcing;
 mod judging;

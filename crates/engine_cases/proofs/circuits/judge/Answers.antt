@@ -1,4 +1,5 @@
 use Rattle.std.proofs.Common.{sym, subst}
+use Rattle.engine_cases.proofs.Reads.{read_universals}
 use Rattle.engine_cases.proofs.Rounds.{turn_failed}
 use Rattle.engine_cases.proofs.circuits.judge.Goals as goal
 
@@ -10,3 +11,7 @@ returns-in_ok-round-in-Ok-Fails g c = record {
         c.requires.open.1.inputs c.turn.ensures.checker c.turn.ensures.few c.in_ok-round-in-Ok-Fails.ensures.ok,
   );
 }
+
+pub turn-requires-clause-read_universals : goal.turn-requires-clause-read_universals
+turn-requires-clause-read_universals g c =
+    read_universals c.args.f.now c.args.graph.now c.requires.open.1.inputs c.every_graph_is_lawful.ensures c.args.outputs.now c.requires.nodes

@@ -1,0 +1,105 @@
+//! Bits that existentials are forced to have at a row.
+
+ghost use Rattle.std.specs.Prelude.{◌≡◌, [], length, IfOk};
+ghost use Rattle.dq_lits.specs.Formula.{IsWellFormed};
+ghost use Rattle.padoa_definitions.specs.Copies.{IsPadoa};
+
+use crate::definitions::push_variable;
+use crate::rows::{push_bits, row_of};
+use crate::shown::push_signed;
+use anyhow::{Result, anyhow};
+use cdcl_core::Cdcl;
+use dq_formula::Formula;
+use dq_lits::Row;
+use hint_log::{Log, Stop};
+use oracle::Oracle;
+use padoa_definitions::{Forced, Padoa};
+use std::alloc::Global;
+
+// More steps than any case takes.
+const LIMIT: u64 = 1000;
+
+/// Asks whether an existential is forced to have a bit at a row: `Y BIT LITERAL ..`.
+pub fn run(alloc: Global, f: &Formula, question: &str, printed: &mut String) -> Result<()>
+    requires formula { IsWellFormed f.now }
+{
+    let mut words = question.split_whitespace();
+    let Some(y) = words.next() else {
+        return Err(anyhow!("no existential"));
+    };
+    let Some(bit) = words.next() else {
+        return Err(anyhow!("no bit"));
+    };
+    let y: u64 = y.parse()?;
+    let row = row_of(alloc, f, words.as_str())?;
+    ask(alloc, f, y, &row, bit == "1", printed)
+}
+
+fn ask(alloc: Global, f: &Formula, y: u64, row: &Row, bit: bool, printed: &mut String) -> Result<()>
+    requires formula { IsWellFormed f.now }
+    requires row { length row.now ≡ length f.now.universals }
+{
+    let mut oracle = Cdcl::new(alloc);
+    let mut log = Log::new(alloc, LIMIT);
+    let mut padoa = Padoa::new(alloc, &mut oracle, f, &mut log)?;
+    force(
+        alloc,
+        &mut oracle,
+        &mut log,
+        &mut padoa,
+        f,
+        y,
+        row,
+        bit,
+        printed,
+    )
+}
+
+fn force<O: Oracle>(
+    alloc: Global,
+    oracle: &mut O,
+    log: &mut Log,
+    padoa: &mut Padoa,
+    f: &Formula,
+    y: u64,
+    row: &Row,
+    bit: bool,
+    printed: &mut String,
+) -> Result<()>
+    requires formula { IsWellFormed f.now }
+    requires fit { O.Fits oracle.old log.old }
+    requires padoa { IsPadoa f.now padoa.old log.old.entries }
+    requires row { length row.now ≡ length f.now.universals }
+{
+    if !f.is_existential(y) {
+        return Err(anyhow!("no existential: {y}"));
+    }
+    let forced = padoa.force(oracle, f, y, row, bit, log);
+    push_variable(alloc, y, printed)?;
+    match forced {
+        Ok(forced) => show_forced(alloc, f, &forced, printed),
+        Err(Stop::Limit) => Err(anyhow!("limit")),
+        Err(Stop::Memory) => Err(anyhow!("out of memory")),
+    }
+}
+
+fn show_forced(alloc: Global, f: &Formula, forced: &Forced, printed: &mut String) -> Result<()> {
+    match forced {
+        Forced::Rule(rule) => {
+            printed.push_str(if rule.bit {
+                "true where"
+            } else {
+                "false where"
+            })?;
+            for l in rule.cube.lits() {
+                push_signed(alloc, l.var(), l.is_neg(), printed)?;
+            }
+        }
+        Forced::Loose { row, values } => {
+            printed.push_str("loose:")?;
+            push_bits(alloc, f.universals(), row, printed)?;
+            push_bits(alloc, f.existentials(), values, printed)?;
+        }
+    }
+    Ok(())
+}
