@@ -8,6 +8,7 @@ use Rattle.std.proofs.lemmas.Option.{slice_get_within, slice_get-get_or}
 use Rattle.dq_lits.specs.Literal.{Literal, positive, negative, variable_of, is_negative, opposite}
 use Rattle.dq_lits.specs.Derivation.{is_tautology}
 use Rattle.dq_lits.specs.Formula.{Dqbf, Existential, existential_of, declared}
+use Rattle.definition_order.specs.Order.{MayRead}
 use Rattle.hint_log.specs.Conditions.{IsId, AreLogged}
 use Rattle.hint_log.specs.Entries.{Entry, Named, Given, Learned, Answer, Round, ProofLog, has_id, numbered, last_id, name_of}
 use Rattle.hint_log.specs.Deciding.{DecidesNothing}
@@ -112,11 +113,11 @@ some_existential f v P is use_it = by (existential_of f v) refl is
     by (Some y) e h = use_it y e
 
 pub places_within : (f : Dqbf) (p : Padoa) (es : List Entry) (y : ℕ) (places : List ℕ) → IsPadoa f p es → IsSome (existential_of f y) →
-    ((e : Existential) → existential_of f y ≡ Some e → ArePlaces f.universals e.sees places) → All (λ k. k < length p.links.items) places
+    ((e : Existential) → existential_of f y ≡ Some e → ArePlaces (declared f) (MayRead f e) places) → All (λ k. k < length p.links.items) places
 places_within f p es y places padoa is are =
     some_existential f y (All (λ k. k < length p.links.items) places) is (λ e found k d lt.
     let r = (are e found).sound (get_or places k d) (k, lt, get_same places k d lt) in
-    let within = slice_get_within f.universals (get_or places k d) r.0 r.1 in
+    let within = slice_get_within (declared f) (get_or places k d) r.0 r.1 in
     let many = padoa.as_many in
     omega (arith, within, many))
   where
@@ -135,15 +136,15 @@ active_made f p es places active padoa are =
     made g r =
         let lt = slice_get_within p.links.items r.0 g r.2 in
         let many = padoa.as_many in
-        let x_is = slice_get-get_or f.universals r.0 0 (omega (arith, lt, many)) in
-        (padoa.links r.0 (get_or f.universals r.0 0) g x_is r.2).made
+        let x_is = slice_get-get_or (declared f) r.0 0 (omega (arith, lt, many)) in
+        (padoa.links r.0 (get_or (declared f) r.0 0) g x_is r.2).made
 
 -- a search that ends with an answer
 module _ (implied : LinesAreImplied)
     (stays : (e : Entry) (entries : List Entry) (id : ℕ) → IsId entries id → numbered has_id (e ∷ entries) id ≡ numbered has_id entries id)
     (are_ids : (entries : List Entry) (id i : ℕ) → AreLogged entries → IsId entries id → Reaches entries id i → IsId entries i)
     (f : Dqbf) (p : Padoa) (v : ℕ) (places : List ℕ) (active : List Group) (one other : Literal) (old new : ProofLog) (id : ℕ)
-    (padoa : IsPadoa f p old.entries) (is : IsSome (existential_of f v)) (are : (e : Existential) → existential_of f v ≡ Some e → ArePlaces f.universals e.sees places)
+    (padoa : IsPadoa f p old.entries) (is : IsSome (existential_of f v)) (are : (e : Existential) → existential_of f v ≡ Some e → ArePlaces (declared f) (MayRead f e) places)
     (are_active : AreActive p places active)
     (one_is : name_literal old.entries one ≡ Some (named_literal (CopyOf 1 v) false)) (other_is : name_literal old.entries other ≡ Some (named_literal (CopyOf 2 v) false))
     (searched : IsSearched new.entries) (r : IsRefutedUnder old new (assumed active (one ∷ opposite other ∷ [])) id) where
@@ -208,12 +209,12 @@ pub on_answer : {P : Type 0} (a : AnswerOf) → (a ≡ Sat → P) → ((id : ℕ
 on_answer Sat sat unsat = sat refl
 on_answer (Unsat id) sat unsat = unsat id refl
 
-pub places_below : (f : Dqbf) (y n : ℕ) (places : List ℕ) → n ≡ length f.universals → IsSome (existential_of f y) →
-    ((e : Existential) → existential_of f y ≡ Some e → ArePlaces f.universals e.sees places) → All (λ k. k < n) places
+pub places_below : (f : Dqbf) (y n : ℕ) (places : List ℕ) → n ≡ length (declared f) → IsSome (existential_of f y) →
+    ((e : Existential) → existential_of f y ≡ Some e → ArePlaces (declared f) (MayRead f e) places) → All (λ k. k < n) places
 places_below f y n places same is are =
     some_existential f y (All (λ k. k < n) places) is (λ e found k d lt.
     let r = (are e found).sound (get_or places k d) (k, lt, get_or_default places k (get_or places k d) d lt) in
-    let within = slice_get_within f.universals (get_or places k d) r.0 r.1 in
+    let within = slice_get_within (declared f) (get_or places k d) r.0 r.1 in
     omega (arith, within, same))
 
 pub one_existential : (f : Dqbf) (v : ℕ) (P : Type 0) → IsSome (existential_of f v) → ((y : Existential) → existential_of f v ≡ Some y → P) → P

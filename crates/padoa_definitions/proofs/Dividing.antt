@@ -5,7 +5,8 @@ use Rattle.std.specs.Option.{option_and_then}
 use Rattle.std.proofs.lemmas.Bool.{or_cases, or_left, or_right, and_parts, eqb-true, eq-eqb}
 use Rattle.dq_lits.specs.Literal.{Literal, positive, negative, variable_of, is_negative, opposite, same_literal}
 use Rattle.dq_lits.specs.Derivation.{holds}
-use Rattle.dq_lits.specs.Formula.{Dqbf, Existential}
+use Rattle.dq_lits.specs.Formula.{Dqbf, Existential, declared}
+use Rattle.definition_order.specs.Order.{MayRead}
 use Rattle.hint_log.specs.Conditions.{IsId, AreLogged}
 use Rattle.hint_log.specs.Deciding.{ReachesGiven}
 use Rattle.hint_log.specs.Entries.{Entry, Given, Answer, has_id, numbered, last_id, clause_of, clause_at, name_of}
@@ -54,8 +55,8 @@ copy_given es earlier f side (Copy s j) c stay test right =
       copied = subst (λ k. AreNamedAs es right.rest (copy_names k rest_is.clause)) same (named_stay earlier es stay right.rest (copy_names s rest_is.clause) rest_is.named);
     }
 
-link_given : (es earlier : List Entry) (f : Dqbf) (y : Existential) (x : ℕ) (origin : Origin) (c : List Literal) → NamesStay earlier es → Contains y.sees x → is_link_of x origin ≡ true →
-    MatchesOrigin f earlier (Given origin c) → IsLinkGiven es y c
+link_given : (es earlier : List Entry) (f : Dqbf) (y : Existential) (x : ℕ) (origin : Origin) (c : List Literal) → NamesStay earlier es → MayRead f y x → is_link_of x origin ≡ true →
+    MatchesOrigin f earlier (Given origin c) → IsLinkGiven es f y c
 link_given es earlier f y x (Instance k j) c stay seen test right = cc
 link_given es earlier f y x (Gate v i) c stay seen test right = cc
 link_given es earlier f y x (Fault j i leaf) c stay seen test right = cc
@@ -69,7 +70,7 @@ link_given es earlier f y x (Link v i) c stay seen test right =
       part = i;
       is_group = stay right.group (Selector right.group) right.is_group;
       clause_is = right.clause_is;
-      seen = subst (Contains y.sees) (sym same) seen;
+      read = subst (MayRead f y) (sym same) seen;
       which = right.rest_is.0;
       named = named_stay earlier es stay right.rest (link_names v i) right.rest_is.1;
     }
@@ -142,7 +143,7 @@ module _ (f : Dqbf) (y : Existential) (p : Padoa) (places : List ℕ) (active : 
     (stays : (e : Entry) (entries : List Entry) (id : ℕ) → IsId entries id → numbered has_id (e ∷ entries) id ≡ numbered has_id entries id)
     (are_ids : (entries : List Entry) (id i : ℕ) → AreLogged entries → IsId entries id → Reaches entries id i → IsId entries i)
     (es_is : es ≡ Answer clause hints ∷ before) (searched : IsSearched (Answer clause hints ∷ before)) (padoa : IsPadoa f p (Answer clause hints ∷ before))
-    (are_places : ArePlaces f.universals y.sees places) (are_active : AreActive p places active)
+    (are_places : ArePlaces (declared f) (MayRead f y) places) (are_active : AreActive p places active)
     (one_is : name_literal (Answer clause hints ∷ before) one ≡ Some (named_literal (CopyOf 1 y.variable) false))
     (other_is : name_literal (Answer clause hints ∷ before) other ≡ Some (named_literal (CopyOf 2 y.variable) false))
     (negated : (l : Literal) → holds clause l ≡ true → holds (assumed active (one ∷ opposite other ∷ [])) (opposite l) ≡ true) where
@@ -201,7 +202,7 @@ module _ (f : Dqbf) (y : Existential) (p : Padoa) (places : List ℕ) (active : 
     data IsInSome : Type 0 where
       in_first : g ≡ first → IsInSome
       in_second : g ≡ group_variable p.second.group → IsInSome
-      in_link : (k x : ℕ) (link : Group) → Contains y.sees x → IsLink f x link all → g ≡ group_variable link → IsInSome
+      in_link : (k x : ℕ) (link : Group) → MayRead f y x → IsLink f x link all → g ≡ group_variable link → IsInSome
 
     group_of : (h : Group) → IsMade all h → positive g ≡ h.selector → g ≡ group_variable h
     group_of h made same = same_variable g (group_variable h) (same ∙ selector_is h made)
@@ -264,10 +265,10 @@ module _ (f : Dqbf) (y : Existential) (p : Padoa) (places : List ℕ) (active : 
     pub a_clause : list_any (λ l. holds a_side (opposite l) && is_selector all (variable_of l)) c ≡ true → IsCopyGiven all f 1 c
     a_clause h = let r = own_at (is_copy_of 1) first (on_a_group h) padoa.first.own in copy_given all is.earlier f 1 origin c earlier_stay r.0 r.1
 
-    pub b_clause : list_any (λ l. holds a_side (opposite l) && is_selector all (variable_of l)) c ≡ false → IsCopyGiven all f 2 c ⊎ IsLinkGiven all y c
+    pub b_clause : list_any (λ l. holds a_side (opposite l) && is_selector all (variable_of l)) c ≡ false → IsCopyGiven all f 2 c ⊎ IsLinkGiven all f y c
     b_clause h = by classified
       where
-        by : IsInSome → IsCopyGiven all f 2 c ⊎ IsLinkGiven all y c
+        by : IsInSome → IsCopyGiven all f 2 c ⊎ IsLinkGiven all f y c
         by (in_first same) = absurd (true≢false (sym (on_a_first same) ∙ h))
         by (in_second same) = let r = own_at (is_copy_of 2) (group_variable p.second.group) same padoa.second.own in inl (copy_given all is.earlier f 2 origin c earlier_stay r.0 r.1)
         by (in_link k x link seen is_link same) =

@@ -1,6 +1,6 @@
 -- From an interpolant between two linked copies to a definition.
-use Rattle.std.proofs.Common.{◌≡◌, ◌⊎◌, ℕ, Bool, true, false, not, cond, ◌||◌, inl, inr, List, [], ◌∷◌, map, Option, Some, None, get_or, slice_index, refl, sym, ◌∙◌, ap, subst}
-use Rattle.std.specs.List.{Contains, list_any}
+use Rattle.std.proofs.Common.{◌≡◌, ◌⊎◌, ℕ, Bool, true, false, not, cond, ◌||◌, inl, inr, List, [], ◌∷◌, map, Option, Some, None, get_or, refl, sym, ◌∙◌, ap, subst}
+use Rattle.std.specs.List.{list_any}
 use Rattle.std.proofs.lemmas.Bool.{cases_Bool, or_right, not-true}
 use Rattle.std.proofs.lemmas.List.Elements.{All-map, All-contains, Contains-get_or}
 use Rattle.dq_lits.specs.Literal.{Assignment, Literal, positive, negative, variable_of, is_negative, literal_true, clause_true}
@@ -11,7 +11,8 @@ use Rattle.hint_log.specs.Naming.{NamedLiteral, named_literal, name_literal, Are
 use Rattle.hint_log.specs.Origins.{link_names}
 use Rattle.hint_log.specs.declared.names.Name.{Name}
 use Rattle.hint_log.specs.declared.names.Name.TheVariants.{Selector, Pair, Input, And, Bad, Copy as CopyOf}
-use Rattle.aig_graph.specs.Definitions.{IsDefinition}
+use Rattle.definition_order.specs.Definitions.{IsDefinition, input_variable}
+use Rattle.definition_order.specs.Order.{MayRead}
 use Rattle.aig_graph.specs.Graph.{AigGraph, node_value, node_support}
 use Rattle.aig_graph.specs.declared.nodes.Node.{Node}
 use Rattle.interpolants.specs.Interpolant.{Partition, SideHolds, Agrees, is_on_a, IsInterpolant}
@@ -89,8 +90,8 @@ link_true : (m : Assignment) (x i : ℕ) → (i ≡ 1) ⊎ (i ≡ 2) → list_an
 link_true m x i (inl one) = ap (λ k. list_any (named_true m) (link_names x k)) one ∙ either (m x)
 link_true m x i (inr two) = ap (λ k. list_any (named_true m) (link_names x k)) two ∙ either_back (m x)
 
-link_given_true : (entries : List Entry) (y : Existential) (m : Assignment) (clause : List Literal) → IsLinkGiven entries y clause → clause_true (copied_assignment entries m) clause ≡ true
-link_given_true entries y m clause given =
+link_given_true : (entries : List Entry) (f : Dqbf) (y : Existential) (m : Assignment) (clause : List Literal) → IsLinkGiven entries f y clause → clause_true (copied_assignment entries m) clause ≡ true
+link_given_true entries f y m clause given =
     let p = copied_assignment entries m in
     ap (clause_true p) given.clause_is
     ∙ or_right (literal_true p (negative given.group)) (clause_true p given.rest)
@@ -103,14 +104,14 @@ module _ (q : Partition) (f : Dqbf) (graph : AigGraph) (y : Existential) (divide
         | inl on_a ↦ copy_given_true q.entries f 1 m clause holds_there (divides.a_given at clause given on_a)
         | inr on_b ↦ elim (divides.b_given at clause given on_b) [
           | inl copy ↦ copy_given_true q.entries f 2 m clause holds_there copy
-          | inr link ↦ link_given_true q.entries y m clause link
+          | inr link ↦ link_given_true q.entries f y m clause link
         ]
       ]
 
-  shared_agree : (m : Assignment) → Agrees q.shared graph (λ i. m (slice_index f.universals i)) (copied_assignment q.entries m)
+  shared_agree : (m : Assignment) → Agrees q.shared graph (λ i. m (input_variable f i)) (copied_assignment q.entries m)
   shared_agree m v n is =
       let s = shared.are v n is in
-      s.value (λ i. m (slice_index f.universals i)) ∙ sym (ap (value_by m) s.named)
+      s.value (λ i. m (input_variable f i)) ∙ sym (ap (value_by m) s.named)
 
   selector_true : (m : Assignment) (l : Literal) → IsSelectorLiteral q.entries l → literal_true (copied_assignment q.entries m) l ≡ true
   selector_true m l (g, is, named) = ap (literal_true (copied_assignment q.entries m)) is ∙ ap (value_by m) named
@@ -118,15 +119,15 @@ module _ (q : Partition) (f : Dqbf) (graph : AigGraph) (y : Existential) (divide
   pub interpolant_defines : (node : Node) → IsInterpolant q graph node → IsDefinition f graph y node
   interpolant_defines node is = record {
     is_node = is.is_node;
-    reads = All-map (Contains y.sees) (slice_index f.universals) (node_support graph node) (λ k d lt.
+    reads = All-map (MayRead f y) (input_variable f) (node_support graph node) (λ k d lt.
         let i = get_or (node_support graph node) k d in
         let s = is.reads i (Contains-get_or (node_support graph node) k d lt) in
         let t = shared.are s.variable s.node s.node_is in
-        subst (λ j. Contains y.sees (slice_index f.universals j)) (sym (t.support i s.reads)) t.sees);
+        subst (λ j. MayRead f y (input_variable f j)) (sym (t.support i s.reads)) t.read);
     defines = λ m holds_there.
         let p = copied_assignment q.entries m in
         let agrees = shared_agree m in
-        let inputs : ℕ → Bool = λ i. m (slice_index f.universals i) in
+        let inputs : ℕ → Bool = λ i. m (input_variable f i) in
         elim (cases_Bool (m y.variable)) [
           | inl is_true ↦
               is_true ∙ sym (is.follows inputs p agrees (side_true m true holds_there) (λ l h.

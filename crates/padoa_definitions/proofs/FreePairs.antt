@@ -5,11 +5,12 @@ use Rattle.std.specs.Option.{option_and_then}
 use Rattle.std.proofs.lemmas.Bool.{cases_Bool, eqb-true, eq-eqb, ne_eqb, or_cases}
 use Rattle.std.proofs.lemmas.List.Folds.{list_any_at}
 use Rattle.std.proofs.lemmas.List.{length-map}
-use Rattle.std.proofs.lemmas.List.Elements.{All-head, All-tail, Contains-append_left, Contains-append_cases}
+use Rattle.std.proofs.lemmas.List.Elements.{All-head, All-tail, Contains-append_cases}
 use Rattle.std.proofs.lemmas.Option.{slice_get-get_or, slice_get_within}
 use Rattle.dq_lits.specs.Literal.{Assignment, Literal, positive, negative, variable_of, is_negative, opposite, literal_true, clause_true}
 use Rattle.dq_lits.specs.Derivation.{MakesTrue}
 use Rattle.dq_lits.specs.Formula.{Dqbf, Existential, IsWellFormed, declared, is_universal}
+use Rattle.definition_order.specs.Order.{MayRead}
 use Rattle.dq_lits.specs.Expansion.{row_assignment}
 use Rattle.dq_lits.specs.Henkin.{MatrixHolds}
 use Rattle.dq_lits.specs.Row.{assignment_of}
@@ -23,7 +24,7 @@ use Rattle.hint_log.specs.declared.origins.Origin.TheVariants.{Copy, Link}
 use Rattle.log_laws.proofs.Found.{named_variable}
 use Rattle.oracle.specs.Calls.{IsMade, assumed}
 use Rattle.oracle.specs.declared.groups.Group.{Group}
-use Rattle.padoa_definitions.specs.Copies.{group_variable, AreCopiesOf, copy_names, IsMatrixCopy, IsLink, IsPadoa}
+use Rattle.padoa_definitions.specs.Copies.{group_variable, AreCopiesOf, copies_of, copy_names, IsMatrixCopy, IsLink, IsPadoa}
 use Rattle.padoa_definitions.specs.Defining.{IsSample, IsFreePair}
 use Rattle.padoa_definitions.specs.Dividing.{values_at, IsPairOf, ModelsCopies}
 use Rattle.padoa_definitions.specs.Seeing.{ArePlaces}
@@ -31,6 +32,7 @@ use Rattle.padoa_definitions.specs.declared.copies.MatrixCopy.{MatrixCopy}
 use Rattle.padoa_definitions.specs.declared.defining.Pair.{Pair}
 use Rattle.padoa_definitions.specs.declared.padoa.Padoa.{Padoa}
 use Rattle.padoa_definitions.proofs.Copying.{element_at, named_length, copy_at}
+use Rattle.padoa_definitions.proofs.Declaring.{copies_declared, copies_long}
 
 -- a given clause has an id
 given_id : (es : List Entry) (o : Origin) (c : List Literal) → Contains es (Given o c) → (id : ℕ) × (id < last_id es + 1) × (clause_at es id ≡ Some c)
@@ -219,13 +221,6 @@ all_there P (x ∷ xs) more all =
     here g (zero, lt, at) later = subst (λ h. P h.selector) at (All-head P x.selector (map (λ g. g.selector) xs ++ more) all)
     here g (suc k, lt, at) later = later g (k, omega (arith, lt), at)
 
-same_map : (m n : Assignment) (xs : List ℕ) → ((x : ℕ) → Contains xs x → m x ≡ n x) → map m xs ≡ map n xs
-same_map m n [] each = refl
-same_map m n (x ∷ xs) each = ap (λ b. b ∷ map m xs) (each x (0, omega arith, refl)) ∙ ap (λ bs. n x ∷ bs) (same_map m n xs (λ z among. each z (later z among)))
-  where
-    later : (z : ℕ) → Contains xs z → Contains (x ∷ xs) z
-    later z (k, lt, at) = (suc k, omega (arith, lt), at)
-
 group_at : (gs : List Group) (k : ℕ) → k < length gs → (g : Group) × (slice_get gs k ≡ Some g)
 group_at [] k lt = absurd (omega (arith, lt))
 group_at (g ∷ gs) zero lt = (g, refl)
@@ -237,14 +232,14 @@ literal_at (l ∷ ls) zero lt = (l, refl)
 literal_at (l ∷ ls) (suc k) lt = literal_at ls k (omega (arith, lt))
 
 pub free_pair : (f : Dqbf) (y : Existential) (p : Padoa) (places : List ℕ) (one other : Literal) (es : List Entry) (values : Assignment) (pair : Pair) → IsWellFormed f →
-    ((v w : ℕ) (name : Name) → name_of es v ≡ Some name → name_of es w ≡ Some name → v ≡ w) → IsPadoa f p es → ArePlaces f.universals y.sees places →
+    ((v w : ℕ) (name : Name) → name_of es v ≡ Some name → name_of es w ≡ Some name → v ≡ w) → IsPadoa f p es → ArePlaces (declared f) (MayRead f y) places →
     Contains (declared f) y.variable →
     name_literal es one ≡ Some (named_literal (CopyOf 1 y.variable) false) → name_literal es other ≡ Some (named_literal (CopyOf 2 y.variable) false) →
     ModelsCopies p places one other values es → IsPairOf p values pair → IsFreePair f y pair
 free_pair f y p places one other es values pair formula unique padoa are_places y_declared one_is other_is models are = record {
   first = sample f es values formula unique live 1 p.first padoa.first pair.row1 pair.values1 are.row1 are.values1 first_on;
   second = sample f es values formula unique live 2 p.second padoa.second pair.row2 pair.values2 are.row2 are.values2 second_on;
-  agree = same_map (round_assignment f pair.row1 pair.values1) (round_assignment f pair.row2 pair.values2) y.sees agree_at;
+  agree = agree_at;
   is_true = value1 y.variable (variable_of one) y_declared one_named.0 ∙ positive_true values one one_named.1 (All-head (λ l. literal_true values l ≡ true) one (opposite other ∷ []) links.1);
   is_false = value2 y.variable (variable_of other) y_declared other_named.0
       ∙ opposite_true values other other_named.1 (All-head (λ l. literal_true values l ≡ true) (opposite other) [] (All-tail (λ l. literal_true values l ≡ true) one (opposite other ∷ []) links.1));
@@ -284,24 +279,23 @@ free_pair f y p places one other es values pair formula unique padoa are_places 
     other_named = named_variable es other (CopyOf 2 y.variable) false (name_of es (variable_of other)) refl other_is
 
     -- the copy at a place has a name
-    copy_named : (side : ℕ) (lits : List Literal) → AreCopiesOf es side f.universals lits → (k x : ℕ) → slice_get f.universals k ≡ Some x → (w : ℕ) × (name_of es w ≡ Some (CopyOf side x))
+    copy_named : (side : ℕ) (lits : List Literal) → AreCopiesOf es side (declared f) lits → (k x : ℕ) → slice_get (declared f) k ≡ Some x → (w : ℕ) × (name_of es w ≡ Some (CopyOf side x))
     copy_named side lits named k x at =
-        let lt = slice_get_within f.universals k x at in
-        let long = named_length es lits (map (λ v. named_literal (CopyOf side v) false) f.universals) named in
-        let many = length-map f.universals (λ v. named_literal (CopyOf side v) false) in
-        let l = literal_at lits k (omega (arith, lt, long, many)) in
-        let is = copy_at es side f.universals lits k x l.0 named at l.1 in
+        let lt = slice_get_within (declared f) k x at in
+        let long = copies_long es side (declared f) lits named in
+        let l = literal_at lits k (omega (arith, lt, long)) in
+        let is = copy_at es side (declared f) lits k x l.0 named at l.1 in
         (variable_of l.0, (named_variable es l.0 (CopyOf side x) false (name_of es (variable_of l.0)) refl is).0)
 
-    agree_at : (x : ℕ) → Contains y.sees x → round_assignment f pair.row1 pair.values1 x ≡ round_assignment f pair.row2 pair.values2 x
+    agree_at : (x : ℕ) → MayRead f y x → round_assignment f pair.row1 pair.values1 x ≡ round_assignment f pair.row2 pair.values2 x
     agree_at x among =
         let place = are_places.complete x among in
-        let lt = slice_get_within f.universals place.0 x place.1 in
+        let lt = slice_get_within (declared f) place.0 x place.1 in
         let long = padoa.as_many in
         let g = group_at p.links.items place.0 (omega (arith, lt, long)) in
         let link = padoa.links place.0 x g.0 place.1 g.1 in
         let on = switch_on g.0 link.made (links.0 g.0 (models.are_active.complete place.0 g.0 place.2 g.1)) in
-        let a = copy_named 1 p.first.universals.items padoa.first.universals place.0 x place.1 in
-        let b = copy_named 2 p.second.universals.items padoa.second.universals place.0 x place.1 in
-        let x_declared = Contains-append_left f.universals (existential_variables f) x (element_at f.universals place.0 x place.1) in
+        let a = copy_named 1 (copies_of p.first) (copies_declared f 1 p.first es padoa.first.universals padoa.first.existentials) place.0 x place.1 in
+        let b = copy_named 2 (copies_of p.second) (copies_declared f 2 p.second es padoa.second.universals padoa.second.existentials) place.0 x place.1 in
+        let x_declared = element_at (declared f) place.0 x place.1 in
         value1 x a.0 x_declared a.1 ∙ equal_there f es values formula unique live x g.0 link on a.0 b.0 a.1 b.1 ∙ sym (value2 x b.0 x_declared b.1)

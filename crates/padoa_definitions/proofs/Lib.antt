@@ -4,6 +4,7 @@ pub mod Growing
 pub mod Linking
 pub mod Making
 pub mod SeenPlaces
+pub mod Declaring
 pub mod Reached
 pub mod Dividing
 pub mod Sharing

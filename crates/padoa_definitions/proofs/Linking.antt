@@ -1,12 +1,12 @@
--- Equations that are given, part by part and universal by universal.
-use Rattle.std.proofs.Common.{◌≡◌, ◌≢◌, ◌⊎◌, ℕ, zero, suc, ◌+◌, ◌<◌, ◌≤◌, Bool, true, false, inl, inr, List, [], ◌∷◌, ◌++◌, map, length, get_or, slice_get, Some, None, refl, sym, ◌∙◌, ap, subst, arith}
+-- Equations that are given, part by part and variable by variable.
+use Rattle.std.proofs.Common.{◌≡◌, ◌≢◌, ◌⊎◌, ℕ, zero, suc, ◌+◌, ◌≤◌, Bool, true, false, inl, inr, List, [], ◌∷◌, ◌++◌, map, length, slice_get, Some, None, refl, sym, ◌∙◌, ap, subst, arith}
 use Rattle.std.specs.List.{AllPairs, Contains}
 use Rattle.std.specs.Option.{option_map}
 use Rattle.std.proofs.lemmas.Bool.{eq-eqb, eqb-true, cases_lt}
-use Rattle.std.proofs.lemmas.List.{length-append, length-map}
-use Rattle.std.proofs.lemmas.Option.{slice_get-get_or, slice_get_within, get_or_from_slice_get}
+use Rattle.std.proofs.lemmas.List.{length-append}
+use Rattle.std.proofs.lemmas.Option.{slice_get_within, get_or_from_slice_get}
 use Rattle.dq_lits.specs.Literal.{Literal, negative, variable_of, is_negative, opposite}
-use Rattle.dq_lits.specs.Formula.{Dqbf}
+use Rattle.dq_lits.specs.Formula.{Dqbf, declared}
 use Rattle.hint_log.specs.Entries.{Entry, Named, Given, ProofLog, with_entry, name_of}
 use Rattle.hint_log.specs.Growth.{Each}
 use Rattle.hint_log.specs.Naming.{NamedLiteral, named_literal, name_literal, AreNamedAs}
@@ -20,7 +20,7 @@ use Rattle.oracle.specs.declared.groups.Group.{Group}
 use Rattle.padoa_definitions.specs.Copies.{is_link_of, IsGroupGiven, IsGivenIn, AreCopiesOf, IsLink, group_variable}
 use Rattle.padoa_definitions.specs.Growing.{HasFewFaults, Adds, is_any_link, IsUnlinked, AreEquated, AreLinkedSoFar}
 use Rattle.padoa_definitions.proofs.Keeping.{Keeps, NamesStay, IsNamed, named_stay, contains_first, contains_later, contains_cases, given_stays, keeps_anew, link_stays, made_stays}
-use Rattle.padoa_definitions.proofs.Copying.{opposite_name, named_length, copy_at, found_at}
+use Rattle.padoa_definitions.proofs.Copying.{opposite_name, copy_at}
 use Rattle.padoa_definitions.proofs.Growing.{in_same, in_then, in_by, few_more, right_clause, switch_off, unnamed_back, adds_same, adds_then}
 
 pub none_equated : (f : Dqbf) (x g : ℕ) (log : ProofLog) → HasFewFaults log.entries → Each (IsGroupGiven f (is_link_of x) g) log.entries → IsUnlinked x log.entries → AreEquated f x g 0 log log
@@ -87,7 +87,7 @@ both_equated f x group old new made both = record {
   ];
 }
 
--- the universals' equations
+-- the variables' equations
 any_link : (x : ℕ) (o : Origin) → is_link_of x o ≡ true → is_any_link o ≡ true
 any_link x (Instance k j) h = cc
 any_link x (Gate v i) h = cc
@@ -118,7 +118,7 @@ push_cases [] g h (suc k) at = cc
 push_cases (x ∷ gs) g h zero at = inr at
 push_cases (x ∷ gs) g h (suc k) at = elim (push_cases gs g h k at) [ inl last ↦ inl (ap suc last.0, last.1) | inr early ↦ inr early ]
 
-pub link_more : (f : Dqbf) (i x : ℕ) (old log new : ProofLog) (groups more : List Group) (g : Group) → AllPairs (λ a b. a ≢ b) f.universals → slice_get f.universals i ≡ Some x →
+pub link_more : (f : Dqbf) (i x : ℕ) (old log new : ProofLog) (groups more : List Group) (g : Group) → AllPairs (λ a b. a ≢ b) (declared f) → slice_get (declared f) i ≡ Some x →
     AreLinkedSoFar f i old log groups → Adds f 0 (is_link_of x) log new → IsLink f x g new.entries → name_of log.entries (group_variable g) ≡ None → more ≡ groups ++ g ∷ [] →
     AreLinkedSoFar f (i + 1) old new more
 link_more f i x old log new groups more g distinct x_at before adds link unnamed pushed =
@@ -131,7 +131,7 @@ link_more f i x old log new groups more g distinct x_at before adds link unnamed
       ];
       links = λ k y h y_at h_at. elim (push_cases groups g h k h_at) [
         | inl last ↦ (
-            let here : slice_get f.universals i ≡ Some y = ap (slice_get f.universals) (sym (last.0 ∙ before.as_many)) ∙ y_at in
+            let here : slice_get (declared f) i ≡ Some y = ap (slice_get (declared f)) (sym (last.0 ∙ before.as_many)) ∙ y_at in
             let both : Some x ≡ Some y = sym x_at ∙ here in
             let x_is : x ≡ y = cc in
             subst (λ z. IsLink f z h new.entries) x_is (subst (λ z. IsLink f x z new.entries) last.1 link))
@@ -146,10 +146,10 @@ link_more f i x old log new groups more g distinct x_at before adds link unnamed
     keeps : Keeps f (IsNamed log.entries) log.entries new.entries
     keeps = keeps_anew f log new adds.grew
 
-    not_again : (k y : ℕ) → i + 1 ≤ k → slice_get f.universals k ≡ Some y → x ≡ y → ⊥
+    not_again : (k y : ℕ) → i + 1 ≤ k → slice_get (declared f) k ≡ Some y → x ≡ y → ⊥
     not_again k y le y_at same =
-        distinct i k x (omega (arith, le)) (slice_get_within f.universals k y y_at)
-        (get_or_from_slice_get f.universals i x x x_at ∙ same ∙ sym (get_or_from_slice_get f.universals k y x y_at))
+        distinct i k x (omega (arith, le)) (slice_get_within (declared f) k y y_at)
+        (get_or_from_slice_get (declared f) i x x x_at ∙ same ∙ sym (get_or_from_slice_get (declared f) k y x y_at))
 
 pair_named : (es : List Entry) (a b : Literal) (m n : NamedLiteral) → name_literal es a ≡ Some m → name_literal es b ≡ Some n → AreNamedAs es (a ∷ b ∷ []) (m ∷ n ∷ [])
 pair_named es a b m n a_is b_is = ap (λ o. o ∷ name_literal es b ∷ []) a_is ∙ ap (λ o. Some m ∷ o ∷ []) b_is
@@ -185,16 +185,8 @@ unlinked_still x g old new is unlinked = subst (λ (l : ProofLog). IsUnlinked x 
 
 -- the copy at a place, later in the log
 pub copy_there : (old new : List Entry) → NamesStay old new → (side : ℕ) (us : List ℕ) (lits : List Literal) (i x : ℕ) (l : Literal) → AreCopiesOf old side us lits →
-    slice_get us i ≡ Some x → l ≡ get_or lits i l → name_literal new l ≡ Some (named_literal (CopyOf side x) false)
-copy_there old new stay side us lits i x l are at is =
-    let g : ℕ → NamedLiteral = λ v. named_literal (CopyOf side v) false in
-    let lt = slice_get_within us i x at in
-    let long = named_length old lits (map g us) are in
-    let many = length-map us g in
-    copy_at new side us lits i x l (named_stay old new stay lits (map g us) are) at (found_at lits i l (omega (arith, lt, long, many)) is)
+    slice_get us i ≡ Some x → slice_get lits i ≡ Some l → name_literal new l ≡ Some (named_literal (CopyOf side x) false)
+copy_there old new stay side us lits i x l are at is = copy_at new side us lits i x l (named_stay old new stay lits (map (λ v. named_literal (CopyOf side v) false) us) are) at is
 
-pub element_there : (xs us : List ℕ) (i : ℕ) → xs ≡ us → i < length xs → slice_get us i ≡ Some (get_or xs i 0)
-element_there xs us i same lt = subst (λ ys. slice_get ys i ≡ Some (get_or xs i 0)) same (slice_get-get_or xs i 0 lt)
-
-pub all_linked : (f : Dqbf) (xs : List ℕ) (i : ℕ) → xs ≡ f.universals → length xs ≤ i → i ≤ length xs → i ≡ length f.universals
-all_linked f xs i same all few = let long : i ≡ length xs = omega (arith, all, few) in long ∙ ap length same
+pub all_linked : (f : Dqbf) (n i : ℕ) → n ≡ length (declared f) → n ≤ i → i ≤ n → i ≡ length (declared f)
+all_linked f n i same all few = omega (arith, same, all, few)

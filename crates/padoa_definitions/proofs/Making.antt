@@ -3,7 +3,7 @@ use Rattle.std.proofs.Common.{◌≡◌, ℕ, suc, ◌==◌, Bool, true, false, 
 use Rattle.std.specs.List.{All, Contains}
 use Rattle.std.proofs.lemmas.Bool.{eqb-true}
 use Rattle.std.proofs.lemmas.List.Elements.{All-cons, All-nil}
-use Rattle.dq_lits.specs.Formula.{Dqbf}
+use Rattle.dq_lits.specs.Formula.{Dqbf, declared}
 use Rattle.hint_log.specs.Entries.{Entry, Named, Given, Learned, Answer, Round, ProofLog, name_of}
 use Rattle.hint_log.specs.Growth.{Grew}
 use Rattle.hint_log.specs.declared.names.Name.{Name}
@@ -85,7 +85,7 @@ module _ (f : Dqbf) (old first : ProofLog) (none : HasNone copies old.entries) (
       third_grew = grew_all f old third third_anew
 
       module _ (p : Padoa) (first_copy : IsMatrixCopy f 1 p.first first.entries) (second_copy : IsMatrixCopy f 2 p.second second.entries)
-          (linked : AreLinkedSoFar f (length f.universals) second third p.links.items) where
+          (linked : AreLinkedSoFar f (length (declared f)) second third p.links.items) where
         pub padoa_made : IsPadoa f p third.entries
         padoa_made =
             let one = keeps_anew f first second second_adds.grew in

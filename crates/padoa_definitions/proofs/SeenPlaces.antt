@@ -21,7 +21,7 @@ find_sound v (x ∷ xs) y h = by_bit (find_sound v xs y) (x.variable == v) refl 
 sees_universals : (f : Dqbf) → IsLawful f → (v : ℕ) (y : Existential) → existential_of f v ≡ Some y → All (Contains f.universals) y.sees
 sees_universals f lawful v y found = All-contains (λ z. All (Contains f.universals) z.sees) f.existentials y lawful.prefix.sees_universals (find_sound v f.existentials y found).0
 
-some_existential : (f : Dqbf) (v : ℕ) (P : Type 0) → IsSome (existential_of f v) → ((y : Existential) → existential_of f v ≡ Some y → P) → P
+pub some_existential : (f : Dqbf) (v : ℕ) (P : Type 0) → IsSome (existential_of f v) → ((y : Existential) → existential_of f v ≡ Some y → P) → P
 some_existential f v P is use_it = by (existential_of f v) refl is
   where
     by : (o : Option Existential) → existential_of f v ≡ o → IsSome o → P
@@ -66,8 +66,8 @@ places_more us xs i x p old new at there pushed before = subst (ArePlacesSoFar u
     only p q (zero, lt, at) = at
     only p q (suc k, lt, at) = absurd (omega (arith, lt))
 
-pub all_places : (us xs sees : List ℕ) (i : ℕ) (places : List ℕ) → xs ≡ sees → length xs ≤ i → ArePlacesSoFar us xs i places → ArePlaces us sees places
-all_places us xs sees i places same all so_far = subst (λ ys. ArePlaces us ys places) same (record {
+pub all_places : (us xs sees : List ℕ) (i : ℕ) (places : List ℕ) → xs ≡ sees → length xs ≤ i → ArePlacesSoFar us xs i places → ArePlaces us (Contains sees) places
+all_places us xs sees i places same all so_far = subst (λ ys. ArePlaces us (Contains ys) places) same (record {
   sound = so_far.sound;
   complete = λ x among. here x among;
 })

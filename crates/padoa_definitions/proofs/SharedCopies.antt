@@ -1,13 +1,13 @@
 -- The shared variables with their nodes: first copies and inputs.
-use Rattle.std.proofs.Common.{◌≡◌, ℕ, zero, suc, ◌==◌, Bool, true, false, cond, List, [], ◌∷◌, map, length, get_or, slice_get, slice_index, Some, IsSome, refl, sym, ◌∙◌, ap, subst, arith}
+use Rattle.std.proofs.Common.{◌≡◌, ℕ, zero, suc, ◌==◌, Bool, true, false, cond, List, [], ◌∷◌, map, length, get_or, slice_get, Some, IsSome, refl, sym, ◌∙◌, ap, subst, arith}
 use Rattle.std.specs.List.{Contains}
 use Rattle.std.proofs.lemmas.Bool.{eqb-true, eq-eqb}
-use Rattle.std.proofs.lemmas.List.{length-map}
 use Rattle.std.proofs.lemmas.Option.{slice_get-get_or, slice_get_within, get_or_from_slice_get}
 use Rattle.dq_lits.specs.Literal.{positive, variable_of}
-use Rattle.dq_lits.specs.Formula.{Dqbf, Existential}
+use Rattle.dq_lits.specs.Formula.{Dqbf, Existential, declared}
+use Rattle.definition_order.specs.Definitions.{input_variable}
+use Rattle.definition_order.specs.Order.{MayRead}
 use Rattle.hint_log.specs.Entries.{Entry, name_of}
-use Rattle.hint_log.specs.Naming.{named_literal}
 use Rattle.hint_log.specs.declared.names.Name.{Name}
 use Rattle.hint_log.specs.declared.names.Name.TheVariants.{Copy as CopyOf}
 use Rattle.aig_graph.specs.Graph.{AigGraph, node_value, node_support, IsNode}
@@ -15,11 +15,12 @@ use Rattle.aig_graph.specs.declared.nodes.Node.{Node}
 use Rattle.aig_graph.specs.declared.nodes.Node.TheVariants.{Input}
 use Rattle.interpolants.specs.Interpolant.{node_of, AreNodes}
 use Rattle.log_laws.proofs.Found.{named_variable}
-use Rattle.padoa_definitions.specs.Copies.{AreCopiesOf}
+use Rattle.padoa_definitions.specs.Copies.{AreCopiesOf, copies_of}
 use Rattle.padoa_definitions.specs.Dividing.{AreSharedCopies, shared_pairs}
 use Rattle.padoa_definitions.specs.Seeing.{ArePlaces}
 use Rattle.padoa_definitions.specs.declared.padoa.Padoa.{Padoa}
-use Rattle.padoa_definitions.proofs.Copying.{named_length, copy_at}
+use Rattle.padoa_definitions.proofs.Copying.{copy_at}
+use Rattle.padoa_definitions.proofs.Declaring.{copies_long}
 
 -- the nodes of variables that are selected by places
 module _ (g : ℕ → ℕ × Node) where
@@ -45,18 +46,17 @@ module _ (g : ℕ → ℕ × Node) where
           cc
       by later false e (suc i, lt, at) = later k (i, omega (arith, lt), at)
 
-module _ (f : Dqbf) (y : Existential) (p : Padoa) (places : List ℕ) (es : List Entry) (are_places : ArePlaces f.universals y.sees places)
-    (copies : AreCopiesOf es 1 f.universals p.first.universals.items) where
+module _ (f : Dqbf) (y : Existential) (p : Padoa) (places : List ℕ) (es : List Entry) (are_places : ArePlaces (declared f) (MayRead f y) places)
+    (copies : AreCopiesOf es 1 (declared f) (copies_of p.first)) where
   abbrev pick : ℕ → ℕ × Node
-  pick k = (variable_of (get_or p.first.universals.items k (positive 0)), Input k false)
+  pick k = (variable_of (get_or (copies_of p.first) k (positive 0)), Input k false)
 
-  copy_there : (k x : ℕ) → slice_get f.universals k ≡ Some x → name_of es (pick k).0 ≡ Some (CopyOf 1 x)
+  copy_there : (k x : ℕ) → slice_get (declared f) k ≡ Some x → name_of es (pick k).0 ≡ Some (CopyOf 1 x)
   copy_there k x at =
-      let lits = p.first.universals.items in
-      let lt = slice_get_within f.universals k x at in
-      let long = named_length es lits (map (λ v. named_literal (CopyOf 1 v) false) f.universals) copies in
-      let many = length-map f.universals (λ v. named_literal (CopyOf 1 v) false) in
-      let is = copy_at es 1 f.universals lits k x (get_or lits k (positive 0)) copies at (slice_get-get_or lits k (positive 0) (omega (arith, lt, long, many))) in
+      let lits = copies_of p.first in
+      let lt = slice_get_within (declared f) k x at in
+      let long = copies_long es 1 (declared f) lits copies in
+      let is = copy_at es 1 (declared f) lits k x (get_or lits k (positive 0)) copies at (slice_get-get_or lits k (positive 0) (omega (arith, lt, long))) in
       (named_variable es (get_or lits k (positive 0)) (CopyOf 1 x) false (name_of es (pick k).0) refl is).0
 
   pub shared_copies : (graph : AigGraph) → ((v w : ℕ) (name : Name) → name_of es v ≡ Some name → name_of es w ≡ Some name → v ≡ w) →
@@ -66,13 +66,13 @@ module _ (f : Dqbf) (y : Existential) (p : Padoa) (places : List ℕ) (es : List
         let r = selected_sound pick places v n is in
         let k = r.0 in
         let x = are_places.sound k r.1 in
-        let x_is : slice_index f.universals k ≡ x.0 = get_or_from_slice_get f.universals k x.0 0 x.1 in
+        let x_is : input_variable f k ≡ x.0 = get_or_from_slice_get (declared f) k x.0 0 x.1 in
         record {
           place = k;
           named = ap (name_of es) r.2 ∙ copy_there k x.0 x.1 ∙ ap (λ z. Some (CopyOf 1 z)) (sym x_is);
           value = λ inputs. ap (node_value graph inputs) (sym r.3);
           support = λ i has. only k i (subst (λ m. Contains (node_support graph m) i) (sym r.3) has);
-          sees = subst (Contains y.sees) (sym x_is) x.2;
+          read = subst (MayRead f y) (sym x_is) x.2;
         };
     all = λ v x named seen.
         let r = are_places.complete x seen in
@@ -84,9 +84,9 @@ module _ (f : Dqbf) (y : Existential) (p : Padoa) (places : List ℕ) (es : List
       only k i (zero, lt, at) = sym at
       only k i (suc j, lt, at) = absurd (omega (arith, lt))
 
-  pub shared_nodes : (graph : AigGraph) → graph.inputs ≡ length f.universals → AreNodes (shared_pairs p places) graph
+  pub shared_nodes : (graph : AigGraph) → graph.inputs ≡ length (declared f) → AreNodes (shared_pairs p places) graph
   shared_nodes graph inputs v n is =
       let r = selected_sound pick places v n is in
       let x = are_places.sound r.0 r.1 in
-      let lt = slice_get_within f.universals r.0 x.0 x.1 in
+      let lt = slice_get_within (declared f) r.0 x.0 x.1 in
       subst (IsNode graph) r.3 (omega (arith, lt, inputs))

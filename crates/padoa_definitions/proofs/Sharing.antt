@@ -1,11 +1,12 @@
 -- What the two sides have in common: the first copies of what the existential sees.
 use Rattle.std.proofs.Common.{◌≡◌, ◌⊎◌, ℕ, ◌==◌, Bool, true, false, true≢false, ◌&&◌, inl, inr, List, [], ◌∷◌, map, Option, Some, refl, sym, ◌∙◌, ap, subst}
-use Rattle.std.specs.List.{All, Contains, list_any}
+use Rattle.std.specs.List.{All, list_any}
 use Rattle.std.proofs.lemmas.Bool.{cases_Bool, or_cases, or_left, and_parts, eqb-true}
 use Rattle.std.proofs.lemmas.List.Elements.{All-head, All-tail, All-cons, All-nil}
 use Rattle.dq_lits.specs.Literal.{Literal, positive, negative, variable_of, opposite, same_literal}
 use Rattle.dq_lits.specs.Derivation.{holds}
 use Rattle.dq_lits.specs.Formula.{Existential, Dqbf}
+use Rattle.definition_order.specs.Order.{MayRead}
 use Rattle.hint_log.specs.Entries.{Entry, name_of}
 use Rattle.hint_log.specs.Naming.{NamedLiteral, named_literal, name_literal, AreNamedAs, is_selector, is_selector_name}
 use Rattle.hint_log.specs.Origins.{link_names}
@@ -58,10 +59,10 @@ abbrev IsA : Partition → ℕ → Type 0
 IsA q v = ((name_of q.entries v ≡ Some (Selector v)) × (holds q.a_side (positive v) ≡ true)) ⊎ ((m : Name) × (name_of q.entries v ≡ Some m) × IsCopy 1 m)
 
 -- those of the B side
-abbrev IsB : Partition → Existential → ℕ → Type 0
-IsB q y v =
+abbrev IsB : Partition → Dqbf → Existential → ℕ → Type 0
+IsB q f y v =
     ((name_of q.entries v ≡ Some (Selector v)) × (holds q.a_side (positive v) ≡ false))
-    ⊎ (((m : Name) × (name_of q.entries v ≡ Some m) × IsCopy 2 m) ⊎ ((x : ℕ) × (name_of q.entries v ≡ Some (CopyOf 1 x)) × Contains y.sees x))
+    ⊎ (((m : Name) × (name_of q.entries v ≡ Some m) × IsCopy 2 m) ⊎ ((x : ℕ) × (name_of q.entries v ≡ Some (CopyOf 1 x)) × MayRead f y x))
 
 selector_copy : (n : Option Name) (g side x : ℕ) → n ≡ Some (Selector g) → n ≡ Some (CopyOf side x) → ⊥
 selector_copy n g side x a b = let e : Some (Selector g) ≡ Some (CopyOf side x) = sym a ∙ b in cc
@@ -114,11 +115,11 @@ module _ (q : Partition) (f : Dqbf) (y : Existential) (divides : Divides f y q) 
             absurd (true≢false (sym (ap (list_any test) is ∙ or_left (test (negative group)) (list_any test rest) here) ∙ on_b)))
       ]
 
-  b_group : (v group : ℕ) (rest clause : List Literal) → clause ≡ negative group ∷ rest → name_of q.entries group ≡ Some (Selector group) → is_on_a q clause ≡ false → group ≡ v → IsB q y v
+  b_group : (v group : ℕ) (rest clause : List Literal) → clause ≡ negative group ∷ rest → name_of q.entries group ≡ Some (Selector group) → is_on_a q clause ≡ false → group ≡ v → IsB q f y v
   b_group v group rest clause is named on_b same =
       inl (subst (λ n. (name_of q.entries n ≡ Some (Selector n)) × (holds q.a_side (positive n) ≡ false)) same (named, group_of_b group rest clause is named on_b))
 
-  b_kind : (v : ℕ) → IsOfB q v → IsB q y v
+  b_kind : (v : ℕ) → IsOfB q v → IsB q f y v
   b_kind v (inl (l, other, at)) =
       elim (divides.others l other) [
         | inl selector ↦ (
@@ -139,7 +140,7 @@ module _ (q : Partition) (f : Dqbf) (y : Existential) (divides : Divides f y q) 
           | inr later ↦ (
               let named = named_all q.entries (IsLinked link.variable) link.rest (link_names link.variable link.part) link.named (are_linked link.variable link.part link.which) v later in
               elim named.2 [
-                | inl one ↦ inr (inr (link.variable, named.1 ∙ ap Some one, link.seen))
+                | inl one ↦ inr (inr (link.variable, named.1 ∙ ap Some one, link.read))
                 | inr two ↦ inr (inl (named.0, named.1, (link.variable, two)))
               ])
         ]

@@ -3,7 +3,7 @@ use Rattle.std.proofs.Common.{◌≡◌, ◌≢◌, ℕ, ◌<◌, List, ◌∷�
 use Rattle.std.specs.List.{All}
 use Rattle.std.proofs.lemmas.List.Elements.{All-cons}
 use Rattle.std.proofs.lemmas.Option.{slice_get_within, slice_get-get_or}
-use Rattle.dq_lits.specs.Formula.{Dqbf}
+use Rattle.dq_lits.specs.Formula.{Dqbf, declared}
 use Rattle.hint_log.specs.Entries.{Entry, Round}
 use Rattle.hint_log.specs.declared.names.Name.TheVariants.{Selector}
 use Rattle.padoa_definitions.specs.Copies.{IsPadoa, group_variable, groups_of}
@@ -12,8 +12,8 @@ use Rattle.padoa_definitions.specs.declared.padoa.Padoa.{Padoa}
 use Rattle.padoa_definitions.proofs.Keeping.{IsNamed, keeps_by_engine, keeps_entry, padoa_stays}
 use Rattle.padoa_definitions.proofs.Making.{all_groups}
 
-universal_at : (xs : List ℕ) (k : ℕ) → k < length xs → (x : ℕ) × (slice_get xs k ≡ Some x)
-universal_at xs k lt = (get_or xs k 0, slice_get-get_or xs k 0 lt)
+variable_at : (xs : List ℕ) (k : ℕ) → k < length xs → (x : ℕ) × (slice_get xs k ≡ Some x)
+variable_at xs k lt = (get_or xs k 0, slice_get-get_or xs k 0 lt)
 
 -- every group has a name
 pub groups_named : (f : Dqbf) (p : Padoa) (es : List Entry) → IsPadoa f p es → All (IsNamed es) (groups_of p)
@@ -26,7 +26,7 @@ groups_named f p es padoa =
     (all_groups (IsNamed es) p.links.items (λ k g at.
     let lt = slice_get_within p.links.items k g at in
     let many = padoa.as_many in
-    let x = universal_at f.universals k (omega (arith, lt, many)) in
+    let x = variable_at (declared f) k (omega (arith, lt, many)) in
     (Selector (group_variable g), (padoa.links k x.0 g x.1 at).made.named))))
 
 all_both : (P Q : ℕ → Type 0) (xs : List ℕ) → All P xs → All Q xs → All (λ x. P x × Q x) xs

@@ -1,8 +1,8 @@
--- Two copies of the matrix in a log, and equations between the copies of each universal, all in groups of their own (A. Padoa, 1900).
-use Rattle.std.specs.Prelude.{◌≡◌, ◌⊎◌, ◌+◌, ◌==◌, ℕ, Bool, true, false, List, ◌∷◌, map, length, Some, slice_get}
+-- Two copies of the matrix in a log, and equations between the copies of each variable, all in groups of their own (A. Padoa, 1900).
+use Rattle.std.specs.Prelude.{◌≡◌, ◌⊎◌, ◌+◌, ◌==◌, ℕ, Bool, true, false, List, ◌∷◌, ◌++◌, map, length, Some, slice_get}
 use Rattle.std.specs.List.{Contains}
 use Rattle.dq_lits.specs.Literal.{Literal, negative, variable_of, is_negative}
-use Rattle.dq_lits.specs.Formula.{Dqbf}
+use Rattle.dq_lits.specs.Formula.{Dqbf, declared}
 use Rattle.dq_formula.specs.Prefix.{existential_variables}
 use Rattle.hint_log.specs.Entries.{Entry, Given}
 use Rattle.hint_log.specs.Growth.{Each}
@@ -44,6 +44,10 @@ pub record IsGivenIn (entries : List Entry) (group : ℕ) (origin : Origin) (nam
 abbrev pub AreCopiesOf : List Entry → ℕ → List ℕ → List Literal → Type 0
 AreCopiesOf entries side variables copies = AreNamedAs entries copies (map (λ v. named_literal (CopyOf side v) false) variables)
 
+-- the copies of the universals, and then those of the existentials
+abbrev pub copies_of : MatrixCopy → List Literal
+copies_of copy = copy.universals.items ++ copy.existentials.items
+
 abbrev pub copy_names : ℕ → List Literal → List NamedLiteral
 copy_names side clause = map (λ l. named_literal (CopyOf side (variable_of l)) (is_negative l)) clause
 
@@ -62,12 +66,12 @@ pub record IsLink (f : Dqbf) (x : ℕ) (group : Group) (entries : List Entry) : 
   pub own : Each (IsGroupGiven f (is_link_of x) (group_variable group)) entries
   pub whole : (i : ℕ) → (i ≡ 1) ⊎ (i ≡ 2) → IsGivenIn entries (group_variable group) (Link x i) (link_names x i)
 
--- the copies, and an equation for each universal
+-- the copies, and an equation for each declared variable
 pub record IsPadoa (f : Dqbf) (p : Padoa) (entries : List Entry) : Type 0 where
   pub first : IsMatrixCopy f 1 p.first entries
   pub second : IsMatrixCopy f 2 p.second entries
-  pub as_many : length p.links.items ≡ length f.universals
-  pub links : (i x : ℕ) (g : Group) → slice_get f.universals i ≡ Some x → slice_get p.links.items i ≡ Some g → IsLink f x g entries
+  pub as_many : length p.links.items ≡ length (declared f)
+  pub links : (i x : ℕ) (g : Group) → slice_get (declared f) i ≡ Some x → slice_get p.links.items i ≡ Some g → IsLink f x g entries
 
 abbrev pub groups_of : Padoa → List ℕ
 groups_of p = group_variable p.first.group ∷ group_variable p.second.group ∷ map group_variable p.links.items

@@ -1,13 +1,13 @@
 -- What a call that defines an existential answers (A. Padoa, 1900; E. Beth, 1953).
-use Rattle.std.specs.Prelude.{◌≡◌, Bool, true, false, List, length}
+use Rattle.std.specs.Prelude.{◌≡◌, ℕ, Bool, true, false, List, length}
 use Rattle.dq_lits.specs.Literal.{Assignment}
 use Rattle.dq_lits.specs.Formula.{Dqbf, Existential}
-use Rattle.dq_lits.specs.Henkin.{HenkinChoice, Follows, Solves, MatrixHolds, restriction}
+use Rattle.dq_lits.specs.Henkin.{HenkinChoice, Follows, Solves, MatrixHolds}
 use Rattle.hint_log.specs.Naming.{round_assignment}
 use Rattle.aig_graph.specs.declared.nodes.Node.{Node}
 use Rattle.aig_graph.specs.Graph.{AigGraph}
-use Rattle.aig_graph.specs.Definitions.{IsDefinition}
-use Rattle.aig_graph.specs.Outputs.{node_output}
+use Rattle.definition_order.specs.Definitions.{IsDefinition, defining_output}
+use Rattle.definition_order.specs.Order.{MayRead}
 use Rattle.padoa_definitions.specs.declared.defining.Found.{Found}
 use Rattle.padoa_definitions.specs.declared.defining.Found.TheVariants.{Defined, Free}
 use Rattle.padoa_definitions.specs.declared.defining.Pair.{Pair}
@@ -18,11 +18,11 @@ pub record IsSample (f : Dqbf) (row values : List Bool) : Type 0 where
   pub values_length : length values ≡ length f.existentials
   pub holds_there : MatrixHolds f (round_assignment f row values)
 
--- two of them that give the existential the same bits to see, and in which it is true and false
+-- two of them that agree on what a definition of the existential may read, and in which it is true and false
 pub record IsFreePair (f : Dqbf) (y : Existential) (pair : Pair) : Type 0 where
   pub first : IsSample f pair.row1 pair.values1
   pub second : IsSample f pair.row2 pair.values2
-  pub agree : restriction y (round_assignment f pair.row1 pair.values1) ≡ restriction y (round_assignment f pair.row2 pair.values2)
+  pub agree : (v : ℕ) → MayRead f y v → round_assignment f pair.row1 pair.values1 v ≡ round_assignment f pair.row2 pair.values2 v
   pub is_true : round_assignment f pair.row1 pair.values1 y.variable ≡ true
   pub is_false : round_assignment f pair.row2 pair.values2 y.variable ≡ false
 
@@ -31,7 +31,7 @@ abbrev pub IsFound : Dqbf → AigGraph → Existential → Found → Type 0
 IsFound f graph y (Defined node) = IsDefinition f graph y node
 IsFound f graph y (Free pair) = IsFreePair f y pair
 
--- every solving choice has the value of a definition
+-- every solving choice has the value of a definition, with each existential that this reads at that choice's value
 abbrev pub DefinitionsAreForced : Type 0
 DefinitionsAreForced = (f : Dqbf) (graph : AigGraph) (y : Existential) (node : Node) → IsDefinition f graph y node →
-    (choice : HenkinChoice) → Solves choice f → (m : Assignment) → Follows f choice m → m y.variable ≡ (node_output f graph node).value m
+    (choice : HenkinChoice) → Solves choice f → (m : Assignment) → Follows f choice m → m y.variable ≡ (defining_output f graph node).value m

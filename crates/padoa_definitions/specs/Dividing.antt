@@ -1,10 +1,12 @@
 -- What an answer rests on that shows a definition, for private contracts: clauses of the first copy on one side, and of the second copy and of
 -- equations on the other.
-use Rattle.std.specs.Prelude.{◌≡◌, ◌⊎◌, ℕ, Bool, true, false, List, [], ◌∷◌, map, Some, IsSome, slice_get, slice_index, slice_index_or}
+use Rattle.std.specs.Prelude.{◌≡◌, ◌⊎◌, ℕ, Bool, true, false, List, [], ◌∷◌, map, Some, IsSome, slice_get, slice_index_or}
 use Rattle.std.specs.List.{Contains}
 use Rattle.dq_lits.specs.Literal.{Assignment, Literal, positive, negative, variable_of, opposite}
 use Rattle.dq_lits.specs.Derivation.{holds}
 use Rattle.dq_lits.specs.Formula.{Dqbf, Existential}
+use Rattle.definition_order.specs.Order.{MayRead}
+use Rattle.definition_order.specs.Definitions.{input_variable}
 use Rattle.hint_log.specs.Conditions.{IsId}
 use Rattle.hint_log.specs.Entries.{Entry, clause_at, name_of}
 use Rattle.hint_log.specs.Growth.{Each}
@@ -18,7 +20,7 @@ use Rattle.aig_graph.specs.declared.nodes.Node.TheVariants.{Input}
 use Rattle.interpolants.specs.Interpolant.{Partition, partition, node_of, is_on_a, IsReachedGiven, IsOther}
 use Rattle.oracle.specs.Calls.{IsModelUnder, assumed}
 use Rattle.oracle.specs.declared.groups.Group.{Group}
-use Rattle.padoa_definitions.specs.Copies.{copy_names}
+use Rattle.padoa_definitions.specs.Copies.{copies_of, copy_names}
 use Rattle.padoa_definitions.specs.declared.defining.Pair.{Pair}
 use Rattle.padoa_definitions.specs.declared.padoa.Padoa.{Padoa}
 
@@ -32,15 +34,15 @@ pub record IsCopyGiven (entries : List Entry) (f : Dqbf) (side : ℕ) (clause : 
   pub original_is : Contains f.matrix original
   pub copied : AreNamedAs entries rest (copy_names side original)
 
--- one half of an equation between the two copies of a variable that the existential sees, in a group
-pub record IsLinkGiven (entries : List Entry) (y : Existential) (clause : List Literal) : Type 0 where
+-- one half of an equation between the two copies of a variable that the definition may read, in a group
+pub record IsLinkGiven (entries : List Entry) (f : Dqbf) (y : Existential) (clause : List Literal) : Type 0 where
   pub group : ℕ
   pub rest : List Literal
   pub variable : ℕ
   pub part : ℕ
   pub is_group : name_of entries group ≡ Some (Selector group)
   pub clause_is : clause ≡ negative group ∷ rest
-  pub seen : Contains y.sees variable
+  pub read : MayRead f y variable
   pub which : (part ≡ 1) ⊎ (part ≡ 2)
   pub named : AreNamedAs entries rest (link_names variable part)
 
@@ -54,21 +56,21 @@ IsCopyLiteral entries side v negated l = name_literal entries l ≡ Some (named_
 -- the existential is true in the first copy, and false in the second
 pub record Divides (f : Dqbf) (y : Existential) (q : Partition) : Type 0 where
   pub a_given : (at : ℕ) (clause : List Literal) → IsReachedGiven q at clause → is_on_a q clause ≡ true → IsCopyGiven q.entries f 1 clause
-  pub b_given : (at : ℕ) (clause : List Literal) → IsReachedGiven q at clause → is_on_a q clause ≡ false → IsCopyGiven q.entries f 2 clause ⊎ IsLinkGiven q.entries y clause
+  pub b_given : (at : ℕ) (clause : List Literal) → IsReachedGiven q at clause → is_on_a q clause ≡ false → IsCopyGiven q.entries f 2 clause ⊎ IsLinkGiven q.entries f y clause
   pub assumed : (l : Literal) → holds q.a_side l ≡ true → IsSelectorLiteral q.entries l ⊎ IsCopyLiteral q.entries 1 y.variable false l
   pub others : (l : Literal) → IsOther q l → IsSelectorLiteral q.entries l ⊎ IsCopyLiteral q.entries 2 y.variable true l
 
--- a shared variable is the first copy of a universal that the existential sees, and its node that input
+-- a shared variable is the first copy of one that the definition may read, and its node that input
 pub record IsSharedCopy (f : Dqbf) (y : Existential) (entries : List Entry) (graph : AigGraph) (v : ℕ) (n : Node) : Type 0 where
   pub place : ℕ
-  pub named : name_of entries v ≡ Some (CopyOf 1 (slice_index f.universals place))
+  pub named : name_of entries v ≡ Some (CopyOf 1 (input_variable f place))
   pub value : (inputs : ℕ → Bool) → node_value graph inputs n ≡ inputs place
   pub support : (i : ℕ) → Contains (node_support graph n) i → i ≡ place
-  pub sees : Contains y.sees (slice_index f.universals place)
+  pub read : MayRead f y (input_variable f place)
 
 pub record AreSharedCopies (f : Dqbf) (y : Existential) (entries : List Entry) (graph : AigGraph) (shared : List (ℕ × Node)) : Type 0 where
   pub are : (v : ℕ) (n : Node) → node_of shared v ≡ Some n → IsSharedCopy f y entries graph v n
-  pub all : (v x : ℕ) → name_of entries v ≡ Some (CopyOf 1 x) → Contains y.sees x → IsSome (node_of shared v)
+  pub all : (v x : ℕ) → name_of entries v ≡ Some (CopyOf 1 x) → MayRead f y x → IsSome (node_of shared v)
 
 -- the answer shows that the existential has a definition
 pub record ShowsDefinition (f : Dqbf) (y : Existential) (p : Padoa) (one : Literal) (entries : List Entry) (id : ℕ) : Type 0 where
@@ -100,6 +102,6 @@ pub record ModelsCopies (p : Padoa) (places : List ℕ) (one other : Literal) (v
   pub are_active : AreActive p places active
   pub model : IsModelUnder values (clause_at entries) (assumed active (one ∷ opposite other ∷ []))
 
--- the first copies of the universals at these places, with their inputs
+-- the first copies of the variables at these places, with their inputs
 abbrev pub shared_pairs : Padoa → List ℕ → List (ℕ × Node)
-shared_pairs p places = map (λ k. (variable_of (slice_index_or p.first.universals.items k (positive 0)), Input k false)) places
+shared_pairs p places = map (λ k. (variable_of (slice_index_or (copies_of p.first) k (positive 0)), Input k false)) places

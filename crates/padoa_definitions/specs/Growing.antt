@@ -2,7 +2,7 @@
 use Rattle.std.specs.Prelude.{◌≡◌, ◌⊎◌, ◌+◌, ◌<◌, ◌≤◌, ◌==◌, ℕ, Bool, true, false, List, ◌∷◌, take, length, None, Some, slice_get}
 use Rattle.std.specs.List.{Contains}
 use Rattle.dq_lits.specs.Literal.{Literal, negative}
-use Rattle.dq_lits.specs.Formula.{Dqbf}
+use Rattle.dq_lits.specs.Formula.{Dqbf, declared}
 use Rattle.hint_log.specs.Entries.{Entry, Given, ProofLog, with_entry, name_of, rounds_of}
 use Rattle.hint_log.specs.Growth.{Each, Grew}
 use Rattle.hint_log.specs.Naming.{AreNamedAs}
@@ -79,12 +79,12 @@ abbrev pub is_any_link : Origin → Bool
 is_any_link (Link v i) = true
 is_any_link _ = false
 
--- the first universals have their equations, and the others have none
+-- the first declared variables have their equations, and the others have none
 pub record AreLinkedSoFar (f : Dqbf) (i : ℕ) (old new : ProofLog) (groups : List Group) : Type 0 where
   pub adds : Adds f 0 is_any_link old new
   pub as_many : length groups ≡ i
-  pub later : (k x : ℕ) → i ≤ k → slice_get f.universals k ≡ Some x → IsUnlinked x new.entries
-  pub links : (k x : ℕ) (g : Group) → slice_get f.universals k ≡ Some x → slice_get groups k ≡ Some g → IsLink f x g new.entries
+  pub later : (k x : ℕ) → i ≤ k → slice_get (declared f) k ≡ Some x → IsUnlinked x new.entries
+  pub links : (k x : ℕ) (g : Group) → slice_get (declared f) k ≡ Some x → slice_get groups k ≡ Some g → IsLink f x g new.entries
   pub fresh : (k : ℕ) (g : Group) → slice_get groups k ≡ Some g → name_of old.entries (group_variable g) ≡ None
 
 -- the copy of a clause, by its number from 0 on

@@ -1,10 +1,11 @@
--- Where the universals stand that an existential sees.
+-- Where the variables stand that an existential sees, or that its definition may read.
 use Rattle.std.specs.Prelude.{◌≡◌, ◌<◌, ℕ, List, Some, slice_get}
 use Rattle.std.specs.List.{Contains}
 
-pub record ArePlaces (universals sees places : List ℕ) : Type 0 where
-  pub sound : (p : ℕ) → Contains places p → (x : ℕ) × (slice_get universals p ≡ Some x) × Contains sees x
-  pub complete : (x : ℕ) → Contains sees x → (p : ℕ) × (slice_get universals p ≡ Some x) × Contains places p
+-- the places in a list of the variables of a set
+pub record ArePlaces (variables : List ℕ) (set : ℕ → Type 0) (places : List ℕ) : Type 0 where
+  pub sound : (p : ℕ) → Contains places p → (x : ℕ) × (slice_get variables p ≡ Some x) × set x
+  pub complete : (x : ℕ) → set x → (p : ℕ) × (slice_get variables p ≡ Some x) × Contains places p
 
 -- those of the first so many
 pub record ArePlacesSoFar (universals sees : List ℕ) (i : ℕ) (places : List ℕ) : Type 0 where

@@ -1,6 +1,6 @@
 //! A copy of the matrix: its variables, and literals on them.
 
-ghost use Rattle.std.specs.Prelude.{◌≡◌, ◌≢◌, ℕ, List, All, Contains, IfOk, Some, false, length};
+ghost use Rattle.std.specs.Prelude.{◌≡◌, ◌≢◌, ℕ, List, All, Contains, IfOk, Some, false, length, slice_get, ◌<◌};
 ghost use Rattle.std.specs.List.{AllPairs};
 ghost use Rattle.dq_lits.specs.Literal.{variable_of, is_negative};
 ghost use Rattle.dq_lits.specs.Formula.{Dqbf, declared};
@@ -8,7 +8,7 @@ ghost use Rattle.dq_formula.specs.Prefix.{existential_variables};
 ghost use Rattle.hint_log.specs.Entries.{Entry};
 ghost use Rattle.hint_log.specs.Naming.{named_literal, name_literal, AreNamedAs};
 ghost use Rattle.hint_log.specs.declared.names.Name.TheVariants.{Copy as CopyOf};
-ghost use Rattle.padoa_definitions.specs.Copies.{AreCopiesOf, copy_names};
+ghost use Rattle.padoa_definitions.specs.Copies.{AreCopiesOf, copies_of, copy_names};
 ghost use Rattle.padoa_definitions.specs.Growing.{GrewAnew, AreUncopied, NamesCopies};
 
 use dq_formula::Formula;
@@ -23,6 +23,21 @@ pub struct MatrixCopy {
     pub(crate) group: Group,
     pub(crate) universals: Vec<Lit>,
     pub(crate) existentials: Vec<Lit>,
+}
+
+impl MatrixCopy {
+    /// The copy of the variable at a place, universals first.
+    pub(crate) fn copy_at(&self, place: usize) -> Lit
+        requires { place < length (copies_of self.now) }
+        ensures { slice_get (copies_of self.now) place ≡ Some result }
+    {
+        let universals = self.universals.len();
+        if place < universals {
+            self.universals[place]
+        } else {
+            self.existentials[place - universals]
+        }
+    }
 }
 
 /// Names a copy of each of these variables.

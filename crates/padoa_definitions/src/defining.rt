@@ -1,4 +1,4 @@
-ghost use Rattle.std.specs.Prelude.{◌≡◌, ℕ, true, length, IfOk, IsErrOf, IsSome, Some};
+ghost use Rattle.std.specs.Prelude.{◌≡◌, ◌+◌, ℕ, true, length, IfOk, IsErrOf, IsSome, Some};
 ghost use Rattle.dq_lits.specs.Formula.{Existential, IsWellFormed, existential_of};
 ghost use Rattle.hint_log.specs.Entries.{steps_of};
 ghost use Rattle.hint_log.specs.Growth.{Grew};
@@ -9,7 +9,7 @@ ghost use Rattle.padoa_definitions.specs.Defining.{IsFound};
 
 use crate::copies::copied_variable;
 use crate::padoa::Padoa;
-use crate::seeing::seen_places;
+use crate::seeing::shared_places;
 use aig_graph::{Graph, Node};
 use dq_formula::Formula;
 use dq_lits::Row;
@@ -17,8 +17,8 @@ use hint_log::laws::names_are_unique;
 use hint_log::{Log, Stop};
 use oracle::{Answer, Oracle};
 
-/// Two rows, each with values of the existentials, that make the matrix true: the existential sees the same in both, is true in the
-/// first and false in the second.
+/// Two rows, each with values of the existentials, that make the matrix true: what a definition of the existential may read is the same in
+/// both, and it is true in the first and false in the second.
 #[derive(Debug, Drop)]
 pub struct Pair {
     pub row1: Row,
@@ -37,8 +37,8 @@ pub enum Found {
 }
 
 impl Padoa {
-    /// A definition of an existential over the universals that it sees, or values that show that there is none. It stops for want of memory
-    /// or at the log's limit, and may be called again then.
+    /// A definition of an existential over the universals that it sees and the existentials that come before it and see no more, or values
+    /// that show that there is none. It stops for want of memory or at the log's limit, and may be called again then.
     pub fn define<O: Oracle>(
         &mut self,
         oracle: &mut O,
@@ -51,7 +51,7 @@ impl Padoa {
         requires formula { IsWellFormed f.now }
         requires padoa { IsPadoa f.now self.old log.old.entries }
         requires existential { IsSome (existential_of f.now y) }
-        requires inputs { graph.old.inputs ≡ length f.now.universals }
+        requires inputs { graph.old.inputs ≡ length f.now.universals + length f.now.existentials }
         ensures fit { O.Fits oracle.new log.new }
         ensures same { self.new ≡ self.old }
         ensures padoa { IsPadoa f.now self.new log.new.entries }
@@ -61,7 +61,7 @@ impl Padoa {
         ensures limit { IsErrOf result Stop.Limit → steps_of log.new.entries ≡ log.new.limit }
     {
         names_are_unique();
-        let places = seen_places(self.alloc, f, y)?;
+        let places = shared_places(self.alloc, f, y)?;
         let one = copied_variable(&self.first, f, y);
         let other = copied_variable(&self.second, f, y);
         match self.search(oracle, f, y, &places, &one, &other, log)? {

@@ -1,53 +1,55 @@
-//! Equations between the copies of the universals.
+//! Equations between the copies of the variables.
 
 ghost use Rattle.std.specs.Prelude.{◌≡◌, ◌⊎◌, ◌<◌, ℕ, List, true, false, Contains, IfOk, OnOk, OnErr, None, Some, length, slice_get};
 ghost use Rattle.dq_lits.specs.Literal.{Literal};
-ghost use Rattle.dq_lits.specs.Formula.{Dqbf};
+ghost use Rattle.dq_lits.specs.Formula.{Dqbf, declared};
 ghost use Rattle.hint_log.specs.Entries.{Given, name_of};
 ghost use Rattle.hint_log.specs.Growth.{Each};
 ghost use Rattle.hint_log.specs.Naming.{named_literal, name_literal};
 ghost use Rattle.hint_log.specs.declared.names.Name.TheVariants.{Copy as CopyOf};
 ghost use Rattle.hint_log.specs.declared.origins.Origin.{Origin as OriginValue};
 ghost use Rattle.oracle.specs.Calls.{IsMade};
-ghost use Rattle.padoa_definitions.specs.Copies.{is_link_of, group_variable, IsGroupGiven, AreCopiesOf, IsLink};
+ghost use Rattle.padoa_definitions.specs.Copies.{is_link_of, group_variable, IsGroupGiven, AreCopiesOf, copies_of, IsLink};
 ghost use Rattle.padoa_definitions.specs.Growing.{GrewIn, HasFewFaults, Adds, is_any_link, IsUnlinked, AreLinkedSoFar};
 
+use crate::copies::MatrixCopy;
+use crate::seeing::{declared_at, declared_count};
 use dq_formula::Formula;
 use dq_lits::{Lit, Memory};
 use hint_log::{Log, Origin};
 use oracle::{Group, Oracle, Tenant};
 use std::alloc::Global;
 
-/// Gives the equation of each universal to a group of its own.
+/// Gives the equation of each declared variable, universals first, to a group of its own.
 pub(crate) fn link_copies<O: Oracle>(
     alloc: Global,
     oracle: &mut O,
     who: &Tenant,
     f: &Formula,
-    first: &[Lit],
-    second: &[Lit],
+    first: &MatrixCopy,
+    second: &MatrixCopy,
     log: &mut Log,
 ) -> Result<Vec<Group>, Memory>
     requires fit { O.Fits oracle.old log.old }
-    requires first { AreCopiesOf log.old.entries 1 f.now.universals first.now }
-    requires second { AreCopiesOf log.old.entries 2 f.now.universals second.now }
+    requires first { AreCopiesOf log.old.entries 1 (declared f.now) (copies_of first.now) }
+    requires second { AreCopiesOf log.old.entries 2 (declared f.now) (copies_of second.now) }
     requires few { HasFewFaults log.old.entries }
     requires unlinked { (x : ℕ) → IsUnlinked x log.old.entries }
     ensures fit { O.Fits oracle.new log.new }
     ensures adds { Adds f.now 0 is_any_link log.old log.new }
-    ensures links { IfOk result (λ groups. AreLinkedSoFar f.now (length f.now.universals) log.old log.new groups.items) }
+    ensures links { IfOk result (λ groups. AreLinkedSoFar f.now (length (declared f.now)) log.old log.new groups.items) }
 {
     f.every_formula_is_lawful();
     let mut groups = Vec::new(alloc);
-    let universals = f.universals();
-    for i in 0..universals.len() {
-        let group = link(oracle, who, universals[i], &first[i], &second[i], log)?;
+    for i in 0..declared_count(f) {
+        let (one, other) = (first.copy_at(i), second.copy_at(i));
+        let group = link(oracle, who, declared_at(f, i), &one, &other, log)?;
         groups.push(group)?;
     }
     Ok(groups)
 }
 
-// Gives the equation of a universal to a new group.
+// Gives the equation of a variable to a new group.
 fn link<O: Oracle>(
     oracle: &mut O,
     who: &Tenant,

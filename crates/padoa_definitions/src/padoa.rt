@@ -15,7 +15,7 @@ use hint_log::Log;
 use oracle::{Group, Oracle};
 use std::alloc::Global;
 
-/// What was given to the oracle once: two copies of the matrix, and an equation for each universal.
+/// What was given to the oracle once: two copies of the matrix, and an equation for each declared variable.
 #[derive(Debug, Drop)]
 pub struct Padoa {
     pub(crate) alloc: Global,
@@ -44,15 +44,7 @@ impl Padoa {
         let who = oracle.tenant()?;
         let first = copy_matrix(alloc, oracle, &who, 1, f, log)?;
         let second = copy_matrix(alloc, oracle, &who, 2, f, log)?;
-        let links = link_copies(
-            alloc,
-            oracle,
-            &who,
-            f,
-            &first.universals,
-            &second.universals,
-            log,
-        )?;
+        let links = link_copies(alloc, oracle, &who, f, &first, &second, log)?;
         Ok(Padoa {
             alloc,
             first,

@@ -1,13 +1,14 @@
 //! What a search found: a definition, or values of both copies.
 
-ghost use Rattle.std.specs.Prelude.{◌≡◌, ◌<◌, ℕ, List, true, false, All, map, length, slice_index_or, IfOk, IsSome, Some};
+ghost use Rattle.std.specs.Prelude.{◌≡◌, ◌<◌, ◌+◌, ℕ, List, true, false, All, map, length, slice_index_or, IfOk, IsSome, Some};
 ghost use Rattle.dq_lits.specs.Literal.{positive, variable_of};
-ghost use Rattle.dq_lits.specs.Formula.{Existential, existential_of};
+ghost use Rattle.dq_lits.specs.Formula.{Existential, declared, existential_of};
 ghost use Rattle.hint_log.specs.Naming.{named_literal, name_literal};
 ghost use Rattle.hint_log.specs.declared.names.Name.TheVariants.{Copy as CopyOf};
-ghost use Rattle.aig_graph.specs.Definitions.{IsDefinition};
 ghost use Rattle.aig_graph.specs.Made.{Extends};
-ghost use Rattle.padoa_definitions.specs.Copies.{IsPadoa};
+ghost use Rattle.definition_order.specs.Definitions.{IsDefinition};
+ghost use Rattle.definition_order.specs.Order.{MayRead};
+ghost use Rattle.padoa_definitions.specs.Copies.{IsPadoa, copies_of};
 ghost use Rattle.padoa_definitions.specs.Dividing.{ShowsDefinition, IsPairOf, shared_pairs, values_at};
 ghost use Rattle.padoa_definitions.specs.Seeing.{ArePlaces};
 
@@ -36,10 +37,10 @@ impl Padoa {
     ) -> Result<Node, Memory>
         requires padoa { IsPadoa f.now self.now log.now.entries }
         requires existential { IsSome (existential_of f.now y) }
-        requires places { (e : Existential) → existential_of f.now y ≡ Some e → ArePlaces f.now.universals e.sees places.now }
+        requires places { (e : Existential) → existential_of f.now y ≡ Some e → ArePlaces (declared f.now) (MayRead f.now e) places.now }
         requires one { name_literal log.now.entries one.now ≡ Some (named_literal (CopyOf 1 y) false) }
         requires shown { (e : Existential) → existential_of f.now y ≡ Some e → ShowsDefinition f.now e self.now one.now log.now.entries id }
-        requires inputs { graph.old.inputs ≡ length f.now.universals }
+        requires inputs { graph.old.inputs ≡ length f.now.universals + length f.now.existentials }
         ensures extends { Extends graph.old graph.new }
         ensures defined { (e : Existential) → existential_of f.now y ≡ Some e → IfOk result (IsDefinition f.now graph.new e) }
     {
@@ -58,16 +59,16 @@ impl Padoa {
         Ok(node)
     }
 
-    // The first copies of the universals at these places, with their inputs.
+    // The first copies of the variables at these places, with their inputs.
     fn shared(&self, graph: &Graph, places: &[usize]) -> Result<Vec<(u64, Node)>, Memory>
-        requires copies { All (λ p. p < length self.now.first.universals.items) places.now }
+        requires copies { All (λ p. p < length (copies_of self.now.first)) places.now }
         requires inputs { All (λ p. p < graph.now.inputs) places.now }
         ensures { IfOk result (λ shared. shared.items ≡ shared_pairs self.now places.now) }
     {
         let mut shared = Vec::new(self.alloc);
         for place in places {
-            let copy = self.first.universals[*place].var();
-            shared.push((copy, graph.input(*place)))?;
+            let copy = self.first.copy_at(*place);
+            shared.push((copy.var(), graph.input(*place)))?;
         }
         Ok(shared)
     }

@@ -1,7 +1,8 @@
 //! The search for values in which an existential is true in the first copy and false in the second.
 
 ghost use Rattle.std.specs.Prelude.{◌≡◌, ◌<◌, ℕ, true, false, All, length, IfOk, IsErrOf, IsSome, Some, Ok};
-ghost use Rattle.dq_lits.specs.Formula.{Existential, existential_of};
+ghost use Rattle.definition_order.specs.Order.{MayRead};
+ghost use Rattle.dq_lits.specs.Formula.{Existential, declared, existential_of};
 ghost use Rattle.hint_log.specs.Entries.{steps_of};
 ghost use Rattle.hint_log.specs.Growth.{Grew};
 ghost use Rattle.hint_log.specs.Naming.{named_literal, name_literal};
@@ -20,7 +21,7 @@ use hint_log::{Log, Stop};
 use oracle::{Answer, Group, Oracle};
 
 impl Padoa {
-    /// Asks whether an existential can be true in the first copy and false in the second, where the copies agree on what it sees.
+    /// Asks whether an existential can be true in the first copy and false in the second, where the copies agree at these places.
     pub(crate) fn search<O: Oracle>(
         &self,
         oracle: &mut O,
@@ -34,7 +35,7 @@ impl Padoa {
         requires fit { O.Fits oracle.old log.old }
         requires padoa { IsPadoa f.now self.now log.old.entries }
         requires existential { IsSome (existential_of f.now y) }
-        requires places { (e : Existential) → existential_of f.now y ≡ Some e → ArePlaces f.now.universals e.sees places.now }
+        requires places { (e : Existential) → existential_of f.now y ≡ Some e → ArePlaces (declared f.now) (MayRead f.now e) places.now }
         requires one { name_literal log.old.entries one.now ≡ Some (named_literal (CopyOf 1 y) false) }
         requires other { name_literal log.old.entries other.now ≡ Some (named_literal (CopyOf 2 y) false) }
         ensures fit { O.Fits oracle.new log.new }

@@ -1,5 +1,7 @@
 use Rattle.std.proofs.Common.{◌∙◌, Ok, Some, false, ap, sym, subst}
+use Rattle.definition_order.specs.Order.{MayRead}
 use Rattle.dq_formula.specs.Prefix.{existential_variables}
+use Rattle.dq_lits.specs.Formula.{declared}
 use Rattle.hint_log.specs.Naming.{named_literal}
 use Rattle.hint_log.specs.declared.names.Name.TheVariants.{Copy as CopyOf}
 use Rattle.padoa_definitions.proofs.Answering.{existential_declared, found_declared, found_variable, copies_told}
@@ -46,7 +48,7 @@ returns-clause-found g c = λ e found.
     let logged = (g.met.O.Oracle.searched c.search.new.oracle c.search.new.log c.search.ensures.fit).logged in
     free_pair f e p c.deref.result.now c.copied_variable-one.result c.copied_variable-other.result es (g.O.Oracle.values c.search.new.oracle) c.in_ok-pair-in-Sat.pair c.requires.formula
     (λ v w name a b. c.names_are_unique.ensures es v w name logged a b) padoa
-    (subst (ArePlaces f.universals e.sees) (sym c.deref.ensures.value) (c.in_ok-places.ensures e found)) (found_declared f c.args.y e found)
+    (subst (ArePlaces (declared f) (MayRead f e)) (sym c.deref.ensures.value) (c.in_ok-places.ensures e found)) (found_declared f c.args.y e found)
     (c.copied_variable-one.ensures es 1 padoa.first.universals padoa.first.existentials ∙ ap (λ x. Some (named_literal (CopyOf 1 x) false)) (sym v_is))
     (c.copied_variable-other.ensures es 2 padoa.second.universals padoa.second.existentials ∙ ap (λ x. Some (named_literal (CopyOf 2 x) false)) (sym v_is))
     (c.search.ensures.sat (c.in_ok-id.was ∙ ap Ok c.in-Sat.is)) c.in_ok-pair-in-Sat.ensures

@@ -1,5 +1,6 @@
-use Rattle.std.proofs.Common.{inl, inr, refl, sym, subst}
-use Rattle.padoa_definitions.specs.Copies.{AreCopiesOf}
+use Rattle.std.proofs.Common.{inl, inr, refl}
+use Rattle.padoa_definitions.specs.Copies.{copies_of}
+use Rattle.padoa_definitions.proofs.Declaring.{copies_declared}
 use Rattle.padoa_definitions.proofs.Keeping.{named_stay, keeps_anew}
 use Rattle.dq_lits.specs.Formula.{declared}
 use Rattle.padoa_definitions.proofs.Making.{uncopied_yet, ungiven_yet, first_grew, first_few, second_uncopied, second_ungiven, second_grew, second_few, unlinked_yet, third_grew, padoa_made, groups_fresh}
@@ -52,6 +53,13 @@ returns-clause-fresh g c = groups_fresh c.args.f.now c.args.log.now c.copy_matri
 
 pub link_copies-requires-clause-first : goal.link_copies-requires-clause-first
 link_copies-requires-clause-first g c =
-    subst (AreCopiesOf c.copy_matrix-2.new.log.entries 1 c.args.f.now.universals) (sym c.deref.ensures.value)
-    (named_stay c.copy_matrix.new.log.entries c.copy_matrix-2.new.log.entries
-    (keeps_anew c.args.f.now c.copy_matrix.new.log c.copy_matrix-2.new.log c.copy_matrix-2.ensures.adds.grew).names c.in_ok-first.first.universals.items _ c.in_ok-first.ensures.copy.universals)
+    let f = c.args.f.now in
+    let first = c.in_ok-first.first in
+    let keeps = keeps_anew f c.copy_matrix.new.log c.copy_matrix-2.new.log c.copy_matrix-2.ensures.adds.grew in
+    named_stay c.copy_matrix.new.log.entries c.copy_matrix-2.new.log.entries keeps.names (copies_of first) _
+    (copies_declared f 1 first c.copy_matrix.new.log.entries c.in_ok-first.ensures.copy.universals c.in_ok-first.ensures.copy.existentials)
+
+pub link_copies-requires-clause-second : goal.link_copies-requires-clause-second
+link_copies-requires-clause-second g c =
+    let second = c.in_ok-second.second in
+    copies_declared c.args.f.now 2 second c.copy_matrix-2.new.log.entries c.in_ok-second.ensures.copy.universals c.in_ok-second.ensures.copy.existentials
