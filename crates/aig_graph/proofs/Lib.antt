@@ -7,3 +7,6 @@ mod Supported
 mod Coning
 mod Sides
 pub mod Writing
+mod Gathering
+mod PuttingIn
+mod Filling

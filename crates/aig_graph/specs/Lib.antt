@@ -4,3 +4,5 @@ pub mod Joining
 pub mod Marking
 pub mod Outputs
 pub mod Definitions
+pub mod Substituting
+pub mod Putting

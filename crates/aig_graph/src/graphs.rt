@@ -49,6 +49,13 @@ impl Graph {
         let _ = &self.inputs;
     }
 
+    /// How many inputs there are.
+    pub fn inputs(&self) -> usize
+        ensures { result ≡ self.now.inputs }
+    {
+        self.inputs
+    }
+
     /// An input, by its number from 0 on.
     pub fn input(&self, i: usize) -> Node
         requires { i < self.now.inputs }
@@ -174,6 +181,11 @@ impl Graph {
         self.places.insert((left, right), g)?;
         self.gates.push(Sides { left, right })?;
         Ok(Node::Gate(g, false))
+    }
+
+    // Where the graph takes its memory.
+    pub(crate) fn allocator(&self) -> Global {
+        *self.gates.allocator()
     }
 
     // Takes the gates behind the first ones away.

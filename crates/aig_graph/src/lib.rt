@@ -7,9 +7,11 @@
 pub use graphs::Graph;
 pub use nodes::{Look, Node};
 
+mod cone_gates;
 mod gates;
 mod graphs;
 pub mod laws;
 mod nodes;
+mod substituting;
 mod supports;
 mod values;

@@ -1,5 +1,5 @@
 ghost use Rattle.std.specs.Prelude.{◌≡◌, not, ℕ, Bool, false, MatchOption, IsTrue, if◌then◌else◌};
-ghost use Rattle.aig_graph.specs.Graph.{AigGraph, IsNode, node_value, node_support, place_of};
+ghost use Rattle.aig_graph.specs.Graph.{AigGraph, IsNode, node_value, node_support, place_of, with_sign};
 ghost use Rattle.aig_graph.specs.Made.{sides_of};
 ghost use Rattle.aig_graph.specs.Joining.{IsBeside, node_by_side, beside_by, IsInner, AreApart, IsJoined};
 
@@ -47,6 +47,15 @@ impl Node {
             Node::Input(i, negated) => Node::Input(i, !negated),
             Node::Gate(g, negated) => Node::Gate(g, !negated),
         }
+    }
+
+    // The node, or its negation.
+    pub(crate) fn signed(self, negated: bool) -> Node
+        ensures node { (graph : AigGraph) → IsNode graph self → IsNode graph result }
+        ensures value { (graph : AigGraph) (inputs : ℕ → Bool) → node_value graph inputs result ≡ with_sign negated (node_value graph inputs self) }
+        ensures support { (graph : AigGraph) → node_support graph result ≡ node_support graph self }
+    {
+        if negated { self.not() } else { self }
     }
 
     // No constant is said to be the same.
