@@ -49,13 +49,6 @@ impl Graph {
         let _ = &self.inputs;
     }
 
-    /// How many inputs there are.
-    pub fn inputs(&self) -> usize
-        ensures { result ≡ self.now.inputs }
-    {
-        self.inputs
-    }
-
     /// An input, by its number from 0 on.
     pub fn input(&self, i: usize) -> Node
         requires { i < self.now.inputs }
