@@ -1,2 +1,2 @@
 mod Rounds
-mod Reads
+mod UniversalInputs

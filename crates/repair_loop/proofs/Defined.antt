@@ -54,7 +54,10 @@ empty_is_fresh f entries empty = record {
   no_instances = empty_has_none instances entries empty;
 }
 
-none_at : (n k : ℕ) → get_or {X = Option Node} (replicate n None) k None ≡ None
+abbrev nowhere : Option Node
+nowhere = None
+
+none_at : (n k : ℕ) → get_or (replicate n nowhere) k nowhere ≡ nowhere
 none_at zero k = refl
 none_at (suc n) zero = refl
 none_at (suc n) (suc k) = none_at n k
@@ -114,6 +117,13 @@ named_at f lawful variables all i v below is =
     let y = get_or es i none in
     let same : v ≡ y.variable = is ∙ ap (λ vs. get_or vs i 0) all ∙ get_or-map variable es i none 0 within in
     (y, slice_get-get_or es i none within, subst (λ w. existential_of f w ≡ Some y) (sym same) (lawful.named i none within))
+
+-- the existential at a place, by its variable
+pub existential_there : (f : Dqbf) → IsLawful f → (variables : List ℕ) → variables ≡ existential_variables f → (i : ℕ) → i < length f.existentials
+    → (y : Existential) × (slice_get f.existentials i ≡ Some y) × (existential_of f (get_or variables i 0) ≡ Some y)
+existential_there f lawful variables all i below =
+    let many = ap length all ∙ length-map f.existentials variable in
+    named_at f lawful variables all i (get_or variables i 0) (omega (arith, below, many)) refl
 
 -- what was found defines it, where it is a definition
 pub found_defines : (f : Dqbf) (graph : AigGraph) (y : Existential) (found : Found) → IsFound f graph y found → (node : Node) → definition_in found ≡ Some node → IsDefinition f graph y node

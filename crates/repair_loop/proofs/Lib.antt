@@ -2,4 +2,4 @@ mod Rows
 mod Extends
 mod Stages
 mod Defined
-mod Reads
+mod UniversalInputs

@@ -27,7 +27,7 @@ use Rattle.padoa_definitions.specs.Copies.{IsPadoa, groups_of, group_variable}
 use Rattle.padoa_definitions.specs.Standing.{EnginesLeaveCopies, RoundsLeaveCopies}
 use Rattle.padoa_definitions.specs.declared.padoa.Padoa.{Padoa}
 use Rattle.hint_log.specs.declared.names.Name.TheVariants.{Selector}
-use Rattle.repair_loop.specs.Searching.{LogGrew, IsKept, IsFresh, HasInputs, AreApart, IsSearch, AreCandidates, IsCounterexample, AreRefuted, IsRoundLogged}
+use Rattle.repair_loop.specs.Searching.{LogGrew, IsKept, IsFresh, HasInputs, AreApart, IsSearch, GoesOn, AreCandidates, IsCounterexample, AreRefuted, IsRoundLogged}
 use Rattle.repair_loop.proofs.Rows.{no_old_row}
 use Rattle.repair_loop.proofs.Extends.{extends}
 
@@ -56,8 +56,7 @@ still_undecided law f engine group silent old new quiet grew undecided = (law f 
 
 -- what the engine of copies added leaves a search as it is
 pub after_copies : EnginesLeaveRest → EnginesLeaveTables → CheckersStay → (f : Dqbf) (t : TableState) (p q : Padoa) (old new : ProofLog) → q ≡ p
-    → ((group : ℕ) → Grew (IsAddedBy f copies group true old.entries) old new) → IsPadoa f q new.entries → (graph : AigGraph) (c : Checker)
-    → IsSearch f graph t c p old.entries → IsSearch f graph t c q new.entries
+    → ((group : ℕ) → Grew (IsAddedBy f copies group true old.entries) old new) → IsPadoa f q new.entries → GoesOn f t p old.entries new.entries
 after_copies law tables stay f t p q old new same grew copied graph c s =
     let group = t.group + group_of c + 1 in
     let g = grew group in
@@ -70,8 +69,8 @@ after_copies law tables stay f t p q old new same grew copied graph c s =
       undecided = still_undecided law f copies group true old new refl g s.undecided;
       table = (tables f t copies group true old new g refl (λ e. omega (arith, e))).1 s.table;
       checked = stay f c copies group true old new refl (λ e. omega (arith, e)) g s.checked;
-      copied = copied;
-      apart = subst (AreApart t c) (sym same) s.apart;
+      copied = subst (λ r. IsPadoa f r new.entries) same copied;
+      apart = s.apart;
       inputs = s.inputs;
       faults = omega (arith, rounds, faults, before);
     }
@@ -270,7 +269,10 @@ none_stays law which f engine group silent old new other grew none e own inside 
 
 -- the groups of the copies were made
 groups_are_made : (f : Dqbf) (p : Padoa) (entries : List Entry) → IsPadoa f p entries → All (λ g. name_of entries g ≡ Some (Selector g)) (groups_of p)
-groups_are_made f p entries is = All-cons IsMadeHere _ _ is.first.made.named (All-cons IsMadeHere _ _ is.second.made.named of_links) where
+groups_are_made f p entries is =
+    let links = map group_variable p.links.items in
+    let second = group_variable p.second.group in
+    All-cons IsMadeHere (group_variable p.first.group) (second ∷ links) is.first.made.named (All-cons IsMadeHere second links is.second.made.named of_links) where
   IsMadeHere : ℕ → Type 0
   IsMadeHere g = name_of entries g ≡ Some (Selector g)
 

@@ -1,9 +1,10 @@
 //! The rules that the clauses force, which are asked for at each new row.
 
 ghost use Rattle.std.specs.Prelude.{◌≡◌, ◌<◌, ◌≤◌, length, All, IsErrOf, IsSome};
-ghost use Rattle.dq_lits.specs.Formula.{IsWellFormed, existential_of};
+ghost use Rattle.dq_lits.specs.Formula.{Dqbf, IsWellFormed, existential_of};
 ghost use Rattle.dq_formula.specs.Prefix.{existential_variables};
 ghost use Rattle.dq_formula.specs.Rules.{IsRule};
+ghost use Rattle.dq_formula.specs.declared.rules.Rule.{Rule as RuleState};
 ghost use Rattle.hint_log.specs.Entries.{steps_of};
 ghost use Rattle.padoa_definitions.specs.Copies.{IsPadoa};
 ghost use Rattle.repair_loop.specs.Searching.{GoesOn, LogGrew};
@@ -11,6 +12,7 @@ ghost use Rattle.repair_loop.specs.Searching.{GoesOn, LogGrew};
 use crate::definitions::Definitions;
 use circuit_cnf::laws::checkers_stay;
 use dq_formula::Formula;
+use dq_lits::Memory;
 use expansion::laws::engines_leave_tables;
 use expansion::{Points, Table};
 use hint_log::{Log, Stop};
@@ -85,6 +87,7 @@ impl Definitions {
         ensures grew { LogGrew log.old log.new }
         ensures limit { IsErrOf result Stop.Limit → steps_of log.new.entries ≡ log.new.limit }
     {
+        f.every_formula_is_lawful();
         if let Some(_) = self.nodes[place] {
             return Ok(());
         }
@@ -124,10 +127,25 @@ impl Definitions {
         engines_leave_the_rest();
         engines_leave_tables();
         checkers_stay();
-        match self.padoa.force(oracle, f, y, table.row(newest), bit, log)? {
-            Forced::Rule(rule) => self.rules.push(rule)?,
-            Forced::Loose { .. } => {}
-        }
+        let forced = self
+            .padoa
+            .force(oracle, f, y, table.row(newest), bit, log)?;
+        self.keep(forced)?;
         Ok(())
+    }
+
+    // Keeps a rule.
+    fn keep(&mut self, forced: Forced) -> Result<(), Memory>
+        ensures padoa { self.new.padoa ≡ self.old.padoa }
+        ensures nodes { self.new.nodes.items ≡ self.old.nodes.items }
+        ensures rules { (f : Dqbf) → ((r : RuleState) → forced ≡ Forced.Rule r → IsRule f r) → All (IsRule f) self.old.rules.items → All (IsRule f) self.new.rules.items }
+    {
+        match forced {
+            Forced::Rule(rule) => {
+                self.rules.push(rule)?;
+                Ok(())
+            }
+            Forced::Loose { .. } => Ok(()),
+        }
     }
 }

@@ -1,5 +1,5 @@
 use Rattle.std.proofs.Common.{sym, subst}
-use Rattle.engine_cases.proofs.Reads.{read_universals}
+use Rattle.engine_cases.proofs.UniversalInputs.{read_universals}
 use Rattle.engine_cases.proofs.Rounds.{turn_failed}
 use Rattle.engine_cases.proofs.circuits.judge.Goals as goal
 

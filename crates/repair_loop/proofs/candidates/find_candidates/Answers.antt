@@ -1,10 +1,12 @@
-use Rattle.std.proofs.Common.{◌≡◌, ◌∙◌, sym, ap, subst, Ok}
+use Rattle.std.proofs.Common.{◌≡◌, ◌∙◌, sym, ap, subst, length, Ok}
 use Rattle.dq_lits.specs.Expansion.{IsExpansionUnsatisfiable}
+use Rattle.candidate_functions.specs.Candidates.{AreDefinitions}
 use Rattle.log_laws.specs.Engines.{instances}
 use Rattle.expansion.specs.Silence.{is_silent}
 use Rattle.expansion.specs.Table.{TableState, point_bits, ArePoints}
-use Rattle.repair_loop.specs.Searching.{AreBuilt, IsShownFalse}
-use Rattle.repair_loop.proofs.Stages.{after_solve, after_build, log_grew}
+use Rattle.repair_loop.specs.Searching.{IsSearch, AreBuilt, IsShownFalse}
+use Rattle.repair_loop.proofs.Stages.{on_err, after_solve, after_build, log_grew, log_then}
+use Rattle.repair_loop.proofs.Defined.{known_stays}
 use Rattle.repair_loop.proofs.candidates.find_candidates.Goals as goal
 
 pub returns-in_err-id-clause-grew : goal.returns-in_err-id-clause-grew
@@ -14,8 +16,79 @@ pub build-requires-clause-variables : goal.build-requires-clause-variables
 build-requires-clause-variables g c =
     c.solve.ensures.point_variables c.in-Model.points (c.in_ok-id.was ∙ ap Ok c.in-Model.is) ∙ c.requires.search.table.table.existentials
 
+pub returns-in_err-force_all-in-Model-clause-grew : goal.returns-in_err-force_all-in-Model-clause-grew
+returns-in_err-force_all-in-Model-clause-grew g c =
+    log_then c.args.log.now c.solve.new.log c.force_all.new.log (log_grew _ c.args.log.now c.solve.new.log (c.solve.ensures.grew c.args.f.now c.requires.search.table)) c.force_all.ensures.grew
+
 pub returns-in_err-outputs-in-Model-clause-grew : goal.returns-in_err-outputs-in-Model-clause-grew
-returns-in_err-outputs-in-Model-clause-grew g c = log_grew _ c.args.log.now c.solve.new.log (c.solve.ensures.grew c.args.f.now c.requires.search.table)
+returns-in_err-outputs-in-Model-clause-grew g c =
+    log_then c.args.log.now c.solve.new.log c.force_all.new.log (log_grew _ c.args.log.now c.solve.new.log (c.solve.ensures.grew c.args.f.now c.requires.search.table)) c.force_all.ensures.grew
+
+pub force_all-requires-clause-padoa : goal.force_all-requires-clause-padoa
+force_all-requires-clause-padoa g c =
+    let s = c.requires.search in
+    let f = c.args.f.now in
+    let was = c.in_ok-id.was ∙ ap Ok c.in-Model.is in
+    let found = after_solve c.engines_leave_the_rest.ensures c.checkers_stay.ensures c.engines_leave_copies.ensures f c.args.graph.now c.args.table.now c.solve.new.self c.args.checker.now
+      c.args.definitions.now.padoa (is_silent c.solve.result) c.args.log.now c.solve.new.log (ap is_silent was) s (c.solve.ensures.grew f s.table) c.solve.ensures.same (c.solve.ensures.table f s.table) in
+    found.copied
+
+pub returns-in_err-force_all-in-Model-clause-kept : goal.returns-in_err-force_all-in-Model-clause-kept
+returns-in_err-force_all-in-Model-clause-kept g c =
+    let s = c.requires.search in
+    let f = c.args.f.now in
+    let was = c.in_ok-id.was ∙ ap Ok c.in-Model.is in
+    let found = after_solve c.engines_leave_the_rest.ensures c.checkers_stay.ensures c.engines_leave_copies.ensures f c.args.graph.now c.args.table.now c.solve.new.self c.args.checker.now
+      c.args.definitions.now.padoa (is_silent c.solve.result) c.args.log.now c.solve.new.log (ap is_silent was) s (c.solve.ensures.grew f s.table) c.solve.ensures.same (c.solve.ensures.table f s.table) in
+    (c.force_all.ensures.goes_on c.args.graph.now c.args.checker.now found).kept
+
+pub returns-in_err-force_all-in-Model-clause-undecided : goal.returns-in_err-force_all-in-Model-clause-undecided
+returns-in_err-force_all-in-Model-clause-undecided g c =
+    let s = c.requires.search in
+    let f = c.args.f.now in
+    let was = c.in_ok-id.was ∙ ap Ok c.in-Model.is in
+    let found = after_solve c.engines_leave_the_rest.ensures c.checkers_stay.ensures c.engines_leave_copies.ensures f c.args.graph.now c.args.table.now c.solve.new.self c.args.checker.now
+      c.args.definitions.now.padoa (is_silent c.solve.result) c.args.log.now c.solve.new.log (ap is_silent was) s (c.solve.ensures.grew f s.table) c.solve.ensures.same (c.solve.ensures.table f s.table) in
+    on_err _ _ (c.force_all.ensures.goes_on c.args.graph.now c.args.checker.now found).undecided
+
+pub returns-in_err-outputs-in-Model-clause-kept : goal.returns-in_err-outputs-in-Model-clause-kept
+returns-in_err-outputs-in-Model-clause-kept g c =
+    let s = c.requires.search in
+    let f = c.args.f.now in
+    let was = c.in_ok-id.was ∙ ap Ok c.in-Model.is in
+    let found = after_solve c.engines_leave_the_rest.ensures c.checkers_stay.ensures c.engines_leave_copies.ensures f c.args.graph.now c.args.table.now c.solve.new.self c.args.checker.now
+      c.args.definitions.now.padoa (is_silent c.solve.result) c.args.log.now c.solve.new.log (ap is_silent was) s (c.solve.ensures.grew f s.table) c.solve.ensures.same (c.solve.ensures.table f s.table) in
+    (c.force_all.ensures.goes_on c.args.graph.now c.args.checker.now found).kept
+
+pub returns-in_err-outputs-in-Model-clause-undecided : goal.returns-in_err-outputs-in-Model-clause-undecided
+returns-in_err-outputs-in-Model-clause-undecided g c =
+    let s = c.requires.search in
+    let f = c.args.f.now in
+    let was = c.in_ok-id.was ∙ ap Ok c.in-Model.is in
+    let found = after_solve c.engines_leave_the_rest.ensures c.checkers_stay.ensures c.engines_leave_copies.ensures f c.args.graph.now c.args.table.now c.solve.new.self c.args.checker.now
+      c.args.definitions.now.padoa (is_silent c.solve.result) c.args.log.now c.solve.new.log (ap is_silent was) s (c.solve.ensures.grew f s.table) c.solve.ensures.same (c.solve.ensures.table f s.table) in
+    on_err _ _ (c.force_all.ensures.goes_on c.args.graph.now c.args.checker.now found).undecided
+
+pub returns-in_ok-outputs-in-Model-clause-kept : goal.returns-in_ok-outputs-in-Model-clause-kept
+returns-in_ok-outputs-in-Model-clause-kept g c =
+    let s = c.requires.search in
+    let f = c.args.f.now in
+    let was = c.in_ok-id.was ∙ ap Ok c.in-Model.is in
+    let found = after_solve c.engines_leave_the_rest.ensures c.checkers_stay.ensures c.engines_leave_copies.ensures f c.args.graph.now c.args.table.now c.solve.new.self c.args.checker.now
+      c.args.definitions.now.padoa (is_silent c.solve.result) c.args.log.now c.solve.new.log (ap is_silent was) s (c.solve.ensures.grew f s.table) c.solve.ensures.same (c.solve.ensures.table f s.table) in
+    (c.force_all.ensures.goes_on c.args.graph.now c.args.checker.now found).kept
+
+pub build-requires-clause-definitions : goal.build-requires-clause-definitions
+build-requires-clause-definitions g c =
+    subst (AreDefinitions c.args.f.now c.args.graph.now) (sym c.force_all.ensures.nodes ∙ sym c.deref-in-Model.ensures.value) c.requires.known.defined
+
+pub returns-in_ok-outputs-in-Model-clause-known : goal.returns-in_ok-outputs-in-Model-clause-known
+returns-in_ok-outputs-in-Model-clause-known g c outputs e =
+    known_stays c.args.f.now c.args.graph.now c.build.new.graph c.force_all.new.self.nodes.items c.force_all.new.self.rules.items c.build.ensures.extends (record {
+      one_each = ap length c.force_all.ensures.nodes ∙ c.requires.known.one_each;
+      defined = subst (AreDefinitions c.args.f.now c.args.graph.now) (sym c.force_all.ensures.nodes) c.requires.known.defined;
+      forced = c.force_all.ensures.rules;
+    })
 
 pub returns-in-Refuted-clause-grew : goal.returns-in-Refuted-clause-grew
 returns-in-Refuted-clause-grew g c = log_grew _ c.args.log.now c.solve.new.log (c.solve.ensures.grew c.args.f.now c.requires.search.table)
@@ -34,16 +107,19 @@ returns-in-Refuted-clause-refuted g c id e =
     })
 
 pub returns-in_ok-outputs-in-Model-clause-grew : goal.returns-in_ok-outputs-in-Model-clause-grew
-returns-in_ok-outputs-in-Model-clause-grew g c = log_grew _ c.args.log.now c.solve.new.log (c.solve.ensures.grew c.args.f.now c.requires.search.table)
+returns-in_ok-outputs-in-Model-clause-grew g c =
+    log_then c.args.log.now c.solve.new.log c.force_all.new.log (log_grew _ c.args.log.now c.solve.new.log (c.solve.ensures.grew c.args.f.now c.requires.search.table)) c.force_all.ensures.grew
 
 pub returns-in_ok-outputs-in-Model-clause-search : goal.returns-in_ok-outputs-in-Model-clause-search
 returns-in_ok-outputs-in-Model-clause-search g c outputs e =
     let s = c.requires.search in
     let f = c.args.f.now in
     let was = c.in_ok-id.was ∙ ap Ok c.in-Model.is in
-    after_build f c.args.graph.now c.build.new.graph c.solve.new.self c.args.checker.now c.solve.new.log.entries c.build.ensures.extends.inputs
-    (after_solve c.engines_leave_the_rest.ensures c.checkers_stay.ensures f c.args.graph.now c.args.table.now c.solve.new.self c.args.checker.now (is_silent c.solve.result)
-    c.args.log.now c.solve.new.log (ap is_silent was) s (c.solve.ensures.grew f s.table) c.solve.ensures.same (c.solve.ensures.table f s.table))
+    let found = after_solve c.engines_leave_the_rest.ensures c.checkers_stay.ensures c.engines_leave_copies.ensures f c.args.graph.now c.args.table.now c.solve.new.self c.args.checker.now
+      c.args.definitions.now.padoa (is_silent c.solve.result) c.args.log.now c.solve.new.log (ap is_silent was) s (c.solve.ensures.grew f s.table) c.solve.ensures.same (c.solve.ensures.table f s.table) in
+    let here = c.force_all.ensures.goes_on c.args.graph.now c.args.checker.now found in
+    subst (λ p. IsSearch f c.build.new.graph c.solve.new.self c.args.checker.now p c.force_all.new.log.entries) (sym c.force_all.ensures.same)
+    (after_build f c.args.graph.now c.build.new.graph c.solve.new.self c.args.checker.now c.args.definitions.now.padoa c.force_all.new.log.entries c.build.ensures.extends.inputs here)
 
 pub returns-in_ok-outputs-in-Model-clause-candidates : goal.returns-in_ok-outputs-in-Model-clause-candidates
 returns-in_ok-outputs-in-Model-clause-candidates g c outputs e =

@@ -1,6 +1,5 @@
 use Rattle.std.proofs.Common.{◌≡◌, ◌∙◌, refl, ap, subst, Ok, arith, true}
 use Rattle.log_laws.specs.Engines.{instances}
-use Rattle.candidate_functions.proofs.Growing.{definitions_stay}
 use Rattle.repair_loop.specs.Searching.{IsShownTrue, IsShownFalse}
 use Rattle.repair_loop.proofs.Stages.{on_err, after_row, still_kept, still_undecided, log_grew, fewer_left}
 use Rattle.repair_loop.proofs.decisions.all_rounds.Goals as goal
@@ -54,10 +53,10 @@ loop-outputs-preserved g c =
     let found = c.find_candidates.ensures.search c.in-Candidates.outputs (c.in_ok-outputs.was ∙ ap Ok c.in-Candidates.is) in
     record {
       fit = c.add_row.ensures.fit;
-      search = after_row c.engines_leave_the_rest.ensures c.checkers_stay.ensures c.args.f.now c.find_candidates.new.graph c.find_candidates.new.table c.add_row.new.self
-          c.judge.new.checker c.in-Fail.row c.judge.new.log c.add_row.new.log (c.judge.ensures.fail c.in-Fail.row was) (c.add_row.ensures.grew c.judge.new.log.entries)
+      search = after_row c.engines_leave_the_rest.ensures c.checkers_stay.ensures c.engines_leave_copies.ensures c.args.f.now c.find_candidates.new.graph c.find_candidates.new.table c.add_row.new.self
+          c.judge.new.checker c.find_candidates.new.definitions.padoa c.in-Fail.row c.judge.new.log c.add_row.new.log (c.judge.ensures.fail c.in-Fail.row was) (c.add_row.ensures.grew c.judge.new.log.entries)
           c.in_ok-add_row-in-Fail.ensures.table c.add_row.ensures.group found.inputs;
-      definitions = definitions_stay c.loop-outputs.graph c.find_candidates.new.graph c.find_candidates.ensures.extends c.args.f.now c.args.definitions.now c.loop-outputs.invariant.definitions;
+      known = c.find_candidates.ensures.known c.in-Candidates.outputs (c.in_ok-outputs.was ∙ ap Ok c.in-Candidates.is);
       inputs = c.find_candidates.ensures.extends.inputs ∙ c.loop-outputs.invariant.inputs;
       limit = (c.add_row.ensures.grew c.judge.new.log.entries).limit ∙ c.judge.ensures.grew.limit ∙ c.find_candidates.ensures.grew.limit ∙ c.loop-outputs.invariant.limit;
     }

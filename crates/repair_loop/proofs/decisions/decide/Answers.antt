@@ -1,6 +1,5 @@
 use Rattle.std.proofs.Common.{◌∙◌, refl, sym, subst, true}
 use Rattle.log_laws.specs.Engines.{circuits, instances, copies}
-use Rattle.candidate_functions.specs.Candidates.{AreDefinitions}
 use Rattle.repair_loop.proofs.Stages.{on_err, still_kept, still_undecided, none_stays, begun, productive}
 use Rattle.repair_loop.proofs.Defined.{empty_is_fresh, empty_has_none}
 use Rattle.repair_loop.proofs.decisions.decide.Goals as goal
@@ -67,13 +66,10 @@ returns-in_err-checker-clause-undecided g c =
 pub all_rounds-requires-clause-search : goal.all_rounds-requires-clause-search
 all_rounds-requires-clause-search g c =
     let found = c.find_definitions in
-    begun c.engines_leave_the_rest.ensures c.engines_leave_tables.ensures c.args.f.now c.requires.formula found.new.graph c.in_ok-table.table c.in_ok-checker.checker
-    found.new.log c.new.new.log c.new-2.new.log (found.ensures.extends.inputs ∙ c.requires.inputs) found.ensures.fresh c.new.ensures.grew c.in_ok-table.ensures.made c.in_ok-table.ensures.rows
+    begun c.engines_leave_the_rest.ensures c.engines_leave_tables.ensures c.engines_leave_copies.ensures c.args.f.now c.requires.formula found.new.graph c.in_ok-table.table c.in_ok-checker.checker
+    c.in_ok-definitions.definitions.padoa found.new.log c.new.new.log c.new-2.new.log (found.ensures.extends.inputs ∙ c.requires.inputs) found.ensures.fresh c.in_ok-definitions.ensures.padoa
+    c.new.ensures.grew c.in_ok-table.ensures.unnamed c.in_ok-table.ensures.made c.in_ok-table.ensures.rows
     c.new-2.ensures.grew c.in_ok-checker.ensures.made c.in_ok-checker.ensures.fresh c.new-2.ensures.faults
-
-pub all_rounds-requires-clause-definitions : goal.all_rounds-requires-clause-definitions
-all_rounds-requires-clause-definitions g c =
-    subst (AreDefinitions c.args.f.now c.find_definitions.new.graph) (sym c.deref.ensures.value) c.in_ok-definitions.ensures.definitions
 
 pub returns-clause-inputs : goal.returns-clause-inputs
 returns-clause-inputs g c = c.all_rounds.ensures.inputs ∙ c.find_definitions.ensures.extends.inputs

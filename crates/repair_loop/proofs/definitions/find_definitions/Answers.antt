@@ -1,4 +1,6 @@
-use Rattle.std.proofs.Common.{◌∙◌, ap, arith, length}
+use Rattle.std.proofs.Common.{◌∙◌, ◌<◌, ap, sym, subst, arith, length, get_or}
+use Rattle.std.specs.List.{All}
+use Rattle.std.proofs.lemmas.List.Elements.{Contains-get_or}
 use Rattle.repair_loop.proofs.Defined.{still_fresh}
 use Rattle.repair_loop.proofs.definitions.find_definitions.Goals as goal
 
@@ -11,8 +13,32 @@ returns-in_err-padoa-clause-fresh g c = still_fresh c.engines_leave_the_rest.ens
 pub returns-in_err-padoa-clause-limit_same : goal.returns-in_err-padoa-clause-limit_same
 returns-in_err-padoa-clause-limit_same g c = (c.new.ensures.grew 0).limit
 
-pub define_all-requires-clause-fresh : goal.define_all-requires-clause-fresh
-define_all-requires-clause-fresh g c = still_fresh c.engines_leave_the_rest.ensures c.args.f.now c.args.log.now c.new.new.log c.new.ensures.grew c.requires.fresh
+pub returns-in_err-definitions-clause-fresh : goal.returns-in_err-definitions-clause-fresh
+returns-in_err-definitions-clause-fresh g c = still_fresh c.engines_leave_the_rest.ensures c.args.f.now c.args.log.now c.new.new.log c.new.ensures.grew c.requires.fresh
+
+pub returns-in_err-definitions-clause-limit_same : goal.returns-in_err-definitions-clause-limit_same
+returns-in_err-definitions-clause-limit_same g c = (c.new.ensures.grew 0).limit
+
+pub returns-in_err-order-clause-fresh : goal.returns-in_err-order-clause-fresh
+returns-in_err-order-clause-fresh g c = still_fresh c.engines_leave_the_rest.ensures c.args.f.now c.args.log.now c.new.new.log c.new.ensures.grew c.requires.fresh
+
+pub returns-in_err-order-clause-limit_same : goal.returns-in_err-order-clause-limit_same
+returns-in_err-order-clause-limit_same g c = (c.new.ensures.grew 0).limit
+
+pub find_all-requires-clause-fresh : goal.find_all-requires-clause-fresh
+find_all-requires-clause-fresh g c = still_fresh c.engines_leave_the_rest.ensures c.args.f.now c.args.log.now c.new.new.log c.new.ensures.grew c.requires.fresh
+
+pub find_all-requires-clause-known : goal.find_all-requires-clause-known
+find_all-requires-clause-known g c = c.in_ok-definitions.ensures.known c.args.graph.now
+
+pub find_all-requires-clause-places : goal.find_all-requires-clause-places
+find_all-requires-clause-places g c =
+    let order = c.in_ok-order.ensures in
+    let each : All (λ p. p < length c.args.f.now.existentials) c.in_ok-order.order.items = λ k d below. (order.each _).0 (Contains-get_or c.in_ok-order.order.items k d below) in
+    subst (All (λ p. p < length c.args.f.now.existentials)) (sym c.deref.ensures.value) each
+
+pub returns-in_err-find_all-clause-limit_same : goal.returns-in_err-find_all-clause-limit_same
+returns-in_err-find_all-clause-limit_same g c = c.find_all.ensures.limit_same ∙ (c.new.ensures.grew 0).limit
 
 pub returns-clause-limit_same : goal.returns-clause-limit_same
-returns-clause-limit_same g c = c.define_all.ensures.limit_same ∙ (c.new.ensures.grew 0).limit
+returns-clause-limit_same g c = c.find_all.ensures.limit_same ∙ (c.new.ensures.grew 0).limit

@@ -1,10 +1,12 @@
-use Rattle.std.proofs.Common.{◌≡◌, ◌∙◌, ap, subst, Ok, arith}
+use Rattle.std.proofs.Common.{◌≡◌, ◌∙◌, ap, sym, subst, Ok, arith}
+use Rattle.std.specs.List.{All}
 use Rattle.hint_log.specs.Entries.{steps_of}
 use Rattle.circuit_cnf.specs.Failing.{is_silent, IsFailure}
 use Rattle.circuit_cnf.specs.Shown.{HoldEverywhere, IsShownBy}
-use Rattle.aig_graph.specs.Outputs.{outputs_of}
+use Rattle.aig_graph.specs.Outputs.{ReadsUniversals, outputs_of}
 use Rattle.repair_loop.specs.Searching.{IsRoundLogged, IsShownTrue}
 use Rattle.repair_loop.proofs.Stages.{outputs_supported, counterexample, after_turn, after_round, log_grew, log_same, log_then, round_grew, round_counts, steps_left}
+use Rattle.repair_loop.proofs.UniversalInputs.{outputs_read_universals}
 use Rattle.repair_loop.proofs.judging.judge.Goals as goal
 
 pub returns-in_err-id-clause-grew : goal.returns-in_err-id-clause-grew
@@ -36,9 +38,10 @@ returns-in-Holds-clause-hold g c id e =
 
 pub returns-in_ok-round-in-Fails-clause-kept : goal.returns-in_ok-round-in-Fails-clause-kept
 returns-in_ok-round-in-Fails-clause-kept g c =
-    let logged = after_round c.rounds_leave_tables.ensures c.checkers_stay_with_rounds.ensures c.args.f.now c.args.table.now c.turn.new.self c.turn.new.log c.round.new.self
+    let logged = after_round c.rounds_leave_tables.ensures c.checkers_stay_with_rounds.ensures c.rounds_leave_copies.ensures c.args.f.now c.args.table.now c.turn.new.self c.args.padoa.now c.turn.new.log c.round.new.self
     (outputs_of c.args.f.now c.args.graph.now c.args.outputs.now)
-    (after_turn c.engines_leave_the_rest.ensures c.engines_leave_tables.ensures c.args.f.now c.args.graph.now c.args.table.now c.args.checker.now c.turn.new.self
+    (after_turn c.engines_leave_the_rest.ensures c.engines_leave_tables.ensures c.engines_leave_copies.ensures c.args.f.now c.args.graph.now c.args.table.now c.args.checker.now c.turn.new.self
+    c.args.padoa.now
     (is_silent c.turn.result) c.args.log.now c.turn.new.log (ap is_silent (c.in_ok-id.was ∙ ap Ok c.in-Fails.is)) c.requires.search c.turn.ensures.grew c.turn.ensures.group
     c.turn.ensures.checker c.turn.ensures.few)
     c.requires.candidates.candidates c.in-Fails.row c.in-Fails.values c.in-Fails.j
@@ -55,9 +58,10 @@ returns-in_ok-round-in-Fails-clause-grew g c =
 
 pub returns-in_ok-round-in-Fails-clause-fail : goal.returns-in_ok-round-in-Fails-clause-fail
 returns-in_ok-round-in-Fails-clause-fail g c row e =
-    let logged = after_round c.rounds_leave_tables.ensures c.checkers_stay_with_rounds.ensures c.args.f.now c.args.table.now c.turn.new.self c.turn.new.log c.round.new.self
+    let logged = after_round c.rounds_leave_tables.ensures c.checkers_stay_with_rounds.ensures c.rounds_leave_copies.ensures c.args.f.now c.args.table.now c.turn.new.self c.args.padoa.now c.turn.new.log c.round.new.self
     (outputs_of c.args.f.now c.args.graph.now c.args.outputs.now)
-    (after_turn c.engines_leave_the_rest.ensures c.engines_leave_tables.ensures c.args.f.now c.args.graph.now c.args.table.now c.args.checker.now c.turn.new.self
+    (after_turn c.engines_leave_the_rest.ensures c.engines_leave_tables.ensures c.engines_leave_copies.ensures c.args.f.now c.args.graph.now c.args.table.now c.args.checker.now c.turn.new.self
+    c.args.padoa.now
     (is_silent c.turn.result) c.args.log.now c.turn.new.log (ap is_silent (c.in_ok-id.was ∙ ap Ok c.in-Fails.is)) c.requires.search c.turn.ensures.grew c.turn.ensures.group
     c.turn.ensures.checker c.turn.ensures.few)
     c.requires.candidates.candidates c.in-Fails.row c.in-Fails.values c.in-Fails.j
@@ -66,7 +70,7 @@ returns-in_ok-round-in-Fails-clause-fail g c row e =
     (c.turn.ensures.fails c.in-Fails.row c.in-Fails.values c.in-Fails.j (c.in_ok-id.was ∙ ap Ok c.in-Fails.is))))
     c.in_ok-round-in-Fails.ensures.ok in
     let same : c.in-Fails.row ≡ row = cc in
-    subst (λ r. IsRoundLogged c.args.f.now c.args.table.now c.turn.new.self r c.round.new.self.entries) same logged
+    subst (λ r. IsRoundLogged c.args.f.now c.args.table.now c.turn.new.self c.args.padoa.now r c.round.new.self.entries) same logged
 
 pub returns-in_ok-round-in-Fails-clause-step : goal.returns-in_ok-round-in-Fails-clause-step
 returns-in_ok-round-in-Fails-clause-step g c row e =
@@ -80,3 +84,8 @@ returns-in_ok-round-in-Fails-clause-within g c row e =
     let value = c.steps.ensures.value in
     let within = c.steps.ensures.within in
     steps_left c.args.log.now c.turn.new.log (log_grew _ c.args.log.now c.turn.new.log c.turn.ensures.grew) (omega (arith, value, within)) full
+
+pub turn-requires-clause-read_universals : goal.turn-requires-clause-read_universals
+turn-requires-clause-read_universals g c =
+    subst (All (ReadsUniversals c.args.f.now c.args.graph.now)) (sym c.items.ensures)
+    (outputs_read_universals c.args.f.now c.requires.search.table.formula.prefix c.args.graph.now c.args.outputs.now c.requires.candidates.one_each c.requires.candidates.reads)
