@@ -129,7 +129,8 @@ pub record AreByRules (f : Dqbf) (graph : AigGraph) (rules : List Rule) (nodes :
   pub each : (p : ℕ) (y : Existential) → slice_get f.existentials p ≡ Some y → IsByRules f graph rules y (slice_index_or nodes p (Constant false))
 
 -- the output of an existential without a definition
-pub record IsCandidate (f : Dqbf) (rows : List (List Bool)) (points : PointBits) (rules : List Rule) (graph : AigGraph) (y : Existential) (node : Node) : Type 0 where
+pub record IsCandidate (f : Dqbf) (rows : List (List Bool)) (points : PointBits) (rules : List Rule) (graph : AigGraph) (y : Existential)
+    (node : Node) : Type 0 where
   pub is_node : IsNode graph node
   pub reads : All (Contains y.sees) (node_output f graph node).support
   pub at_pairs : AgreesAtPairs f rows points y (node_output f graph node)
@@ -162,8 +163,8 @@ pub record HasClass (f : Dqbf) (rows : List (List Bool)) (graph : AigGraph) (cla
   pub are_pairs : (e : Existential) → existential_of f y ≡ Some e → AreSeenPairs f rows graph e.sees class.pairs.items
 
 -- what stands at the places of the first existentials
-pub record AreFirstOutputs (f : Dqbf) (rows : List (List Bool)) (points : PointBits) (rules : List Rule) (definitions : List (Option Node)) (graph : AigGraph)
-    (count : ℕ) (nodes : List Node) : Type 0 where
+pub record AreFirstOutputs (f : Dqbf) (rows : List (List Bool)) (points : PointBits) (rules : List Rule) (definitions : List (Option Node))
+    (graph : AigGraph) (count : ℕ) (nodes : List Node) : Type 0 where
   pub one_each : length nodes ≡ count
   pub each : (p : ℕ) (y : Existential) → p < count → slice_get f.existentials p ≡ Some y
       → IsFirstOutput f rows points rules graph y (slice_index_or definitions p None) (slice_index_or nodes p (Constant false))

@@ -43,7 +43,7 @@ pub(crate) fn put_definitions(
     Ok(())
 }
 
-// Puts the definition at a place, if any, in there, with the nodes put in for the last inputs.
+// Where there is a definition at a place, puts it there among the nodes, with these put in for its last inputs.
 fn put_definition(
     definitions: &[Option<Node>],
     place: usize,

@@ -82,7 +82,8 @@ fn first_output(
     requires classes { All (IsClass f.now table.now.rows graph.old) classes.old.classes.items }
     ensures extends { Extends graph.old graph.new }
     ensures classes { OnOk result (All (IsClass f.now table.now.rows graph.new) classes.new.classes.items) }
-    ensures output { (rules : List RuleState) (y : Existential) → slice_get f.now.existentials place ≡ Some y → IsByRules f.now graph.old rules y other
+    ensures output { (rules : List RuleState) (y : Existential) → slice_get f.now.existentials place ≡ Some y
+        → IsByRules f.now graph.old rules y other
         → IfOk result (IsFirstOutput f.now table.now.rows (point_bits points.now) rules graph.new y (slice_index_or definitions.now place None)) }
 {
     f.every_formula_is_lawful();
