@@ -3,7 +3,7 @@ pub mod Staying
 mod Making
 mod Valuing
 mod Reading
-mod Supported
+pub mod Supported
 mod Coning
 mod Sides
 pub mod Writing

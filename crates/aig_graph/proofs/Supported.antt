@@ -46,7 +46,7 @@ module _ (m n : ℕ → Bool) where
         ap (λ b. b && value_by m (gate_value m earlier) gate.right) left ∙ ap (λ b. value_by n (gate_value n earlier) gate.left && b) right
     by_bit before false h = before k h
 
-  node_same : (graph : AigGraph) (node : Node) → All Same (node_support graph node) → node_value graph m node ≡ node_value graph n node
+  pub node_same : (graph : AigGraph) (node : Node) → All Same (node_support graph node) → node_value graph m node ≡ node_value graph n node
   node_same graph node all = value_same (gate_value m graph.gates) (gate_value n graph.gates) (gate_support graph.gates) (gate_same graph.gates) node all
 
 pub output_supported : (f : Dqbf) (graph : AigGraph) (node : Node) → IsSupported (node_output f graph node)

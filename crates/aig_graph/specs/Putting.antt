@@ -34,7 +34,8 @@ pub record AreConeGates (graph : AigGraph) (node : Node) (gates : List ℕ) : Ty
   pub within : All (λ g. g < length graph.gates) gates
   pub descending : AllPairs (λ g h. h < g) gates
   pub root : IsAmongGates gates node
-  pub closed : (g : ℕ) (sides : Sides) → Contains gates g → gate_at graph.gates g ≡ Some sides → IsAmongGates gates sides.left × IsAmongGates gates sides.right
+  pub closed : (g : ℕ) (sides : Sides) → Contains gates g → gate_at graph.gates g ≡ Some sides
+      → IsAmongGates gates sides.left × IsAmongGates gates sides.right
 
 -- what was made of a gate
 pub record HasPutIn (graph : AigGraph) (subs : List Node) (made : BTreeMap ℕ Node) (g : ℕ) : Type 0 where
@@ -46,5 +47,7 @@ pub record HasPutIn (graph : AigGraph) (subs : List Node) (made : BTreeMap ℕ N
 abbrev pub IsReady : AigGraph → List Node → BTreeMap ℕ Node → Node → Type 0
 IsReady graph subs made node = (g : ℕ) → gate_of node ≡ Some g → HasPutIn graph subs made g
 
+-- something was made of the gates among a gate's sides
 abbrev pub AreReady : AigGraph → List Node → BTreeMap ℕ Node → ℕ → Type 0
-AreReady graph subs made g = (sides : Sides) → gate_at graph.gates g ≡ Some sides → IsReady graph subs made sides.left × IsReady graph subs made sides.right
+AreReady graph subs made g =
+    (sides : Sides) → gate_at graph.gates g ≡ Some sides → IsReady graph subs made sides.left × IsReady graph subs made sides.right

@@ -12,7 +12,8 @@ first_inputs graph subs = graph.inputs - length subs
 -- the values of the inputs, where the last ones have those of these nodes
 abbrev pub values_put_in : AigGraph → List Node → (ℕ → Bool) → ℕ → Bool
 values_put_in graph subs inputs i =
-    if nat_lt i (first_inputs graph subs) then inputs i else node_value graph inputs (slice_index_or subs (i - first_inputs graph subs) (Constant false))
+    if nat_lt i (first_inputs graph subs) then inputs i
+    else node_value graph inputs (slice_index_or subs (i - first_inputs graph subs) (Constant false))
 
 -- the node reads one of the last inputs, and what is put in there reads this one
 pub record IsReadBySub (graph : AigGraph) (node : Node) (subs : List Node) (i : ℕ) : Type 0 where

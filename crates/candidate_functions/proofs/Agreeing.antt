@@ -1,5 +1,5 @@
 -- A node with the points' bits at the pairs of a dependency set is a candidate.
-use Rattle.std.proofs.Common.{◌≡◌, ℕ, suc, ◌+◌, ◌*◌, Bool, true, false, not, ◌&&◌, ◌||◌, List, [], ◌∷◌, map, length, get_or, slice_get, slice_index, None, Some, refl, sym, ◌∙◌, ap, subst, inl, inr, arith}
+use Rattle.std.proofs.Common.{◌≡◌, ℕ, suc, ◌+◌, ◌*◌, Bool, true, false, not, ◌&&◌, ◌||◌, List, [], ◌∷◌, map, length, get_or, slice_get, slice_index, Some, refl, sym, ◌∙◌, ap, subst, inl, inr, arith}
 use Rattle.std.specs.List.{All, Contains, list_any, position_or_len}
 use Rattle.std.proofs.lemmas.Bool.{and_parts}
 use Rattle.std.proofs.lemmas.List.Elements.{All-contains, All-head, All-tail}
@@ -207,7 +207,7 @@ module _ (f : Dqbf) (rows : List (List Bool)) (points : PointBits) (rules : List
       let there : get_or f.universals i 0 ≡ x = ap (λ q. get_or f.universals q 0) (sym from.2) ∙ get_or-place f.universals x 0 (is_found f.universals x among) in
       subst (Contains y.sees) (sym there) from.1
 
-  pub patched_is_candidate : IsCandidate f rows points rules new y None node
+  pub patched_is_candidate : IsCandidate f rows points rules new y node
   patched_is_candidate = record {
     is_node = is.is_node;
     reads = all_mapped (Contains y.sees) (slice_index f.universals) (node_support new node) (λ i has. elim (is.reads i has) [
@@ -215,6 +215,5 @@ module _ (f : Dqbf) (rows : List (List Bool)) (points : PointBits) (rules : List
       | inr r ↦ read_by_pair i r
     ]);
     at_pairs = at_pairs;
-    by_rules = λ none. follows;
-    defined = λ d h. cc;
+    by_rules = follows;
   }

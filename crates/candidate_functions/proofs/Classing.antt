@@ -1,8 +1,7 @@
 -- Classes of existentials with one dependency set, and where the universals of the set stand.
-use Rattle.std.proofs.Common.{◌≡◌, ℕ, suc, ◌+◌, ◌<◌, ◌==◌, Bool, true, false, cond, List, [], ◌∷◌, ◌++◌, length, take, get_or, slice_get, Option, None, Some, IsSome, IfSome, refl, sym, ◌∙◌, ap, subst, arith}
-use Rattle.std.specs.List.{All, Contains, find, position_or_len}
+use Rattle.std.proofs.Common.{◌≡◌, ℕ, ◌+◌, ◌<◌, ◌==◌, Bool, List, [], ◌∷◌, ◌++◌, length, take, get_or, slice_get, Option, None, Some, IsSome, IfSome, refl, sym, ◌∙◌, ap, subst, arith}
+use Rattle.std.specs.List.{All, Contains, position_or_len}
 use Rattle.std.specs.Option.{option_map}
-use Rattle.std.proofs.lemmas.Bool.{eqb-true}
 use Rattle.std.proofs.lemmas.List.{take_more, map-append, get_or_push, length_push}
 use Rattle.std.proofs.lemmas.List.Elements.{All-contains, All-map, All-weaker, All-push}
 use Rattle.std.proofs.lemmas.Option.{slice_get_within, get_or_from_slice_get, slice_get_read}
@@ -15,34 +14,13 @@ use Rattle.aig_graph.specs.Made.{Extends}
 use Rattle.candidate_functions.specs.Pairs.{universal_places, AreSeenPairs, IsClass, HasClass, HasClassLike}
 use Rattle.candidate_functions.specs.declared.classes.Class.{Class}
 use Rattle.candidate_functions.proofs.Declaring.{is_found}
+use Rattle.definition_order.proofs.Declared.{sees_universals, some_existential}
 use Rattle.candidate_functions.proofs.Growing.{classes_stay}
-
--- what is found is an element that passes
-pub find_sound : (v : ℕ) (ys : List Existential) (y : Existential) → find (λ z. z.variable == v) ys ≡ Some y → Contains ys y × (y.variable ≡ v)
-find_sound v [] y h = cc
-find_sound v (x ∷ xs) y h = by_bit (find_sound v xs y) (x.variable == v) refl h where
-  by_bit : (find (λ z. z.variable == v) xs ≡ Some y → Contains xs y × (y.variable ≡ v)) → (b : Bool) → (x.variable == v) ≡ b
-      → cond b (Some x) (find (λ z. z.variable == v) xs) ≡ Some y → Contains (x ∷ xs) y × (y.variable ≡ v)
-  by_bit later true e h = let same : x ≡ y = cc in let is = eqb-true x.variable v e in ((0, omega arith, same), sym (ap (λ (z : Existential). z.variable) same) ∙ is)
-  by_bit later false e h = let r = later h in let b = r.0.1 in ((suc r.0.0, omega arith, r.0.2), r.1)
-
-pub sees_universals : (f : Dqbf) → IsLawful f → (v : ℕ) (y : Existential) → existential_of f v ≡ Some y → All (Contains f.universals) y.sees
-sees_universals f lawful v y found = All-contains (λ z. All (Contains f.universals) z.sees) f.existentials y lawful.prefix.sees_universals (find_sound v f.existentials y found).0
-
-pub some_existential : (f : Dqbf) (v : ℕ) (P : Type 0) → IsSome (existential_of f v) → ((y : Existential) → existential_of f v ≡ Some y → P) → P
-some_existential f v P is use_it = by (existential_of f v) refl is
-  where
-    by : (o : Option Existential) → existential_of f v ≡ o → IsSome o → P
-    by None e h = cc
-    by (Some y) e h = use_it y e
 
 pub seen_among : (f : Dqbf) → IsLawful f → (v : ℕ) (xs : List ℕ) → IsSome (existential_of f v) → IfSome (existential_of f v) (λ y. xs ≡ y.sees) → All (Contains f.universals) xs
 seen_among f lawful v xs is h = some_existential f v (All (Contains f.universals) xs) is (λ y found.
     let same : xs ≡ y.sees = subst (λ o. IfSome o (λ z. xs ≡ z.sees)) found h in
     subst (All (Contains f.universals)) (sym same) (sees_universals f lawful v y found))
-
-pub seen_is : (f : Dqbf) (v : ℕ) (xs : List ℕ) (y : Existential) → existential_of f v ≡ Some y → IfSome (existential_of f v) (λ z. xs ≡ z.sees) → xs ≡ y.sees
-seen_is f v xs y found h = subst (λ o. IfSome o (λ z. xs ≡ z.sees)) found h
 
 place_more : (f : Dqbf) (xs : List ℕ) (i d : ℕ) → i < length xs → universal_places f (take (i + 1) xs) ≡ universal_places f (take i xs) ++ position_or_len (λ u. u == get_or xs i d) f.universals ∷ []
 place_more f xs i d lt = ap (universal_places f) (take_more xs i d lt) ∙ map-append (λ x. position_or_len (λ u. u == x) f.universals) (take i xs) (get_or xs i d ∷ [])

@@ -113,8 +113,8 @@ round_within rows g places p is =
 pub rounds_within : (rows : List (List Bool)) (g : AigGraph) (places : List ℕ) (pairs : List Pair) → All (IsPair rows g places) pairs → AreRounds (length rows) pairs
 rounds_within rows g places pairs each = All-weaker (IsPair rows g places) (λ p. (1 ≤ p.round) × (p.round ≤ length rows)) (round_within rows g places) pairs each
 
-pub row_whole : (rows : List (List Bool)) (n k : ℕ) (row : List Bool) → All (λ r. length r ≡ n) rows → slice_get rows k ≡ Some row → length row ≡ n
-row_whole rows n k row whole at = ap length (sym (get_or_from_slice_get rows k row row at)) ∙ whole k row (slice_get_within rows k row at)
+pub row_has : (rows : List (List Bool)) (P : List Bool → Type 0) (k : ℕ) (row : List Bool) → All P rows → slice_get rows k ≡ Some row → P row
+row_has rows P k row all at = subst P (get_or_from_slice_get rows k row row at) (all k row (slice_get_within rows k row at))
 
 -- the same with rounds, which are counted from 1
 pub pushed_round : (rows : List (List Bool)) (old new : AigGraph) (places : List ℕ) (round : ℕ) (pairs : List Pair) (row : List Bool) (p : Pair)

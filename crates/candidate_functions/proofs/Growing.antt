@@ -6,12 +6,13 @@ use Rattle.dq_lits.specs.Formula.{Existential, Dqbf}
 use Rattle.dq_formula.specs.declared.rules.Rule.{Rule}
 use Rattle.aig_graph.specs.Graph.{AigGraph, IsNode}
 use Rattle.aig_graph.specs.Made.{Extends}
-use Rattle.aig_graph.specs.Definitions.{IsDefinition}
+use Rattle.definition_order.specs.Definitions.{input_variable, IsDefinition}
+use Rattle.definition_order.specs.Order.{MayRead}
 use Rattle.aig_graph.specs.Outputs.{node_output}
 use Rattle.aig_graph.specs.declared.nodes.Node.{Node}
 use Rattle.expansion.specs.Table.{PointBits}
 use Rattle.candidate_functions.specs.Candidates.{AreDefinitions}
-use Rattle.candidate_functions.specs.Pairs.{IsRowCube, IsPair, ArePairs, universal_places, IsClass, IsByRules, AreByRules, IsCandidate}
+use Rattle.candidate_functions.specs.Pairs.{IsRowCube, IsPair, ArePairs, universal_places, IsClass, IsByRules, AreByRules, IsCandidate, IsFirstOutput}
 use Rattle.candidate_functions.specs.declared.classes.Class.{Class}
 use Rattle.candidate_functions.specs.declared.cubes.Pair.{Pair}
 
@@ -57,7 +58,7 @@ module _ (old new : AigGraph) (h : Extends old new) where
   pub class_stays : (f : Dqbf) (rows : List (List Bool)) (c : Class) → IsClass f rows old c → IsClass f rows new c
   class_stays f rows c is y known = pairs_stay rows (universal_places f y.sees) (length rows) c.pairs.items (is y known)
 
-  support_stays : (f : Dqbf) (n : Node) → IsNode old n → (P : ℕ → Type 0) → All P (node_output f old n).support → All P (node_output f new n).support
+  pub support_stays : (f : Dqbf) (n : Node) → IsNode old n → (P : ℕ → Type 0) → All P (node_output f old n).support → All P (node_output f new n).support
   support_stays f n is P all = subst (λ s. All P (map (slice_index f.universals) s)) (sym (h.supports n is)) all
 
   pub rule_node_stays : (f : Dqbf) (rules : List Rule) (y : Existential) (n : Node) → IsByRules f old rules y n → IsByRules f new rules y n
@@ -76,18 +77,24 @@ module _ (old new : AigGraph) (h : Extends old new) where
   pub definition_stays : (f : Dqbf) (y : Existential) (n : Node) → IsDefinition f old y n → IsDefinition f new y n
   definition_stays f y n is = record {
     is_node = h.nodes n is.is_node;
-    reads = support_stays f n is.is_node (Contains y.sees) is.reads;
-    defines = λ m holds. is.defines m holds ∙ sym (h.values n is.is_node (λ i. m (slice_index f.universals i)));
+    reads = subst (λ s. All (MayRead f y) (map (input_variable f) s)) (sym (h.supports n is.is_node)) is.reads;
+    defines = λ m holds. is.defines m holds ∙ sym (h.values n is.is_node (λ i. m (input_variable f i)));
   }
 
-  pub candidate_stays : (f : Dqbf) (rows : List (List Bool)) (points : PointBits) (rules : List Rule) (y : Existential) (definition : Option Node) (n : Node)
-      → IsCandidate f rows points rules old y definition n → IsCandidate f rows points rules new y definition n
-  candidate_stays f rows points rules y definition n is = record {
+  pub candidate_stays : (f : Dqbf) (rows : List (List Bool)) (points : PointBits) (rules : List Rule) (y : Existential) (n : Node)
+      → IsCandidate f rows points rules old y n → IsCandidate f rows points rules new y n
+  candidate_stays f rows points rules y n is = record {
     is_node = h.nodes n is.is_node;
     reads = support_stays f n is.is_node (Contains y.sees) is.reads;
     at_pairs = λ k row m at sees. h.values n is.is_node (λ i. m (slice_index f.universals i)) ∙ is.at_pairs k row m at sees;
-    by_rules = λ none m away. h.values n is.is_node (λ i. m (slice_index f.universals i)) ∙ is.by_rules none m away;
-    defined = is.defined;
+    by_rules = λ m away. h.values n is.is_node (λ i. m (slice_index f.universals i)) ∙ is.by_rules m away;
+  }
+
+  pub first_output_stays : (f : Dqbf) (rows : List (List Bool)) (points : PointBits) (rules : List Rule) (y : Existential) (definition : Option Node) (n : Node)
+      → IsFirstOutput f rows points rules old y definition n → IsFirstOutput f rows points rules new y definition n
+  first_output_stays f rows points rules y definition n is = record {
+    is_node = h.nodes n is.is_node;
+    undefined = λ none. candidate_stays f rows points rules y n (is.undefined none);
   }
 
   pub classes_stay : (f : Dqbf) (rows : List (List Bool)) (cs : List Class) → All (IsClass f rows old) cs → All (IsClass f rows new) cs

@@ -8,3 +8,4 @@ pub mod Agreeing
 pub mod Outputting
 pub mod Defining
 pub mod Collecting
+pub mod Settling

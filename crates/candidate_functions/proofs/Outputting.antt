@@ -1,11 +1,10 @@
 -- The output of an existential without a definition.
-use Rattle.std.proofs.Common.{◌≡◌, ℕ, Bool, List, length, get_or, slice_get, None, Some, IsSome, Result, Ok, Err, OnOk, sym, ◌∙◌, ap, subst}
-use Rattle.std.specs.List.{All, Contains}
-use Rattle.std.proofs.lemmas.List.{length-map, get_or-map}
+use Rattle.std.proofs.Common.{◌≡◌, ℕ, Bool, List, length, get_or, Some, IsSome, Result, Ok, Err, OnOk, sym, ◌∙◌, ap, subst}
+use Rattle.std.specs.List.{All}
 use Rattle.std.proofs.lemmas.List.Elements.{All-weaker}
-use Rattle.std.proofs.lemmas.Option.{get_or_from_slice_get, slice_get-get_or}
+use Rattle.std.proofs.lemmas.Option.{get_or_from_slice_get}
 use Rattle.dq_lits.specs.Formula.{Existential, Dqbf, existential_of}
-use Rattle.dq_formula.specs.Prefix.{IsLawful, existential_variables}
+use Rattle.dq_formula.specs.Prefix.{IsLawful}
 use Rattle.dq_formula.specs.declared.rules.Rule.{Rule}
 use Rattle.aig_graph.specs.Graph.{AigGraph, IsNode}
 use Rattle.aig_graph.specs.Made.{Extends}
@@ -15,19 +14,9 @@ use Rattle.candidate_functions.specs.Pairs.{universal_places, AreRounds, IsPair,
 use Rattle.candidate_functions.specs.declared.classes.Class.{Class}
 use Rattle.candidate_functions.specs.declared.cubes.Pair.{Pair}
 use Rattle.candidate_functions.proofs.Agreeing.{AtExistential, same_point, patched_is_candidate}
-use Rattle.candidate_functions.proofs.Classing.{find_sound, sees_universals, some_existential}
 use Rattle.candidate_functions.proofs.Cubing.{rounds_within}
-use Rattle.candidate_functions.proofs.Declaring.{variable}
+use Rattle.definition_order.proofs.Declared.{at_contained, find_sound, sees_universals, some_existential}
 use Rattle.candidate_functions.proofs.Growing.{rule_node_stays}
-
-at_contained : (ys : List Existential) (y : Existential) → Contains ys y → (p : ℕ) × (slice_get ys p ≡ Some y)
-at_contained ys y (k, below, is) = (k, slice_get-get_or ys k y below ∙ ap Some is)
-
-pub is_variable : (f : Dqbf) (v : ℕ) → IsSome (existential_of f v) → Contains (existential_variables f) v
-is_variable f v is = some_existential f v (Contains (existential_variables f) v) is (λ y found.
-    let sound = find_sound v f.existentials y found in
-    let (k, below, at) = sound.0 in
-    (k, rw (length-map f.existentials variable) below, get_or-map variable f.existentials k y v below ∙ ap variable at ∙ sound.1))
 
 at_existential : (f : Dqbf) → IsLawful f → (rows : List (List Bool)) (points : PointBits) → All (λ row. length row ≡ length f.universals) rows → ArePoints f rows points
     → (v : ℕ) (y : Existential) → existential_of f v ≡ Some y → AtExistential f rows points y
@@ -42,7 +31,7 @@ at_existential f lawful rows points whole are v y found =
 pub undefined_is_candidate : (f : Dqbf) → IsLawful f → (rows : List (List Bool)) (points : PointBits) → All (λ row. length row ≡ length f.universals) rows → ArePoints f rows points
     → (rules : List Rule) (v : ℕ) (y : Existential) → existential_of f v ≡ Some y → (old mid new : AigGraph) → Extends old mid
     → (pairs : List Pair) → AreSeenPairs f rows mid y.sees pairs → (other node : Node) → IsByRules f old rules y other
-    → IsPatched mid new points v pairs other node → IsCandidate f rows points rules new y None node
+    → IsPatched mid new points v pairs other node → IsCandidate f rows points rules new y node
 undefined_is_candidate f lawful rows points whole are rules v y found old mid new grown pairs seen other node by patched =
     let own = (find_sound v f.existentials y found).1 in
     patched_is_candidate f rows points rules y mid new pairs other node (at_existential f lawful rows points whole are v y found) seen

@@ -1,5 +1,5 @@
 -- Nodes for cubes of rules, and for what the rules say of each existential.
-use Rattle.std.proofs.Common.{◌≡◌, ℕ, zero, suc, ◌+◌, ◌<◌, ◌==◌, false, cond, not, ◌&&◌, List, [], ◌∷◌, map, length, get_or, set, drop, replicate, slice_get, slice_index, None, Some, position, refl, sym, ◌∙◌, ap, subst, inl, inr, arith, eq-eqb}
+use Rattle.std.proofs.Common.{◌≡◌, ℕ, zero, suc, ◌+◌, ◌<◌, ◌≤◌, ◌==◌, false, cond, not, ◌&&◌, List, [], ◌∷◌, map, length, get_or, set, drop, replicate, slice_get, slice_index, None, Some, position, refl, sym, ◌∙◌, ap, subst, inl, inr, arith, eq-eqb}
 use Rattle.std.specs.List.{All, Contains, list_all}
 use Rattle.std.proofs.lemmas.List.{length-set}
 use Rattle.std.proofs.Math.Seq.{drop-cons}
@@ -20,13 +20,14 @@ use Rattle.aig_graph.specs.declared.nodes.Node.{Node}
 use Rattle.aig_graph.specs.declared.nodes.Node.TheVariants.{Constant}
 use Rattle.candidate_functions.specs.Pairs.{input_literal, IsCubeNode, IsByRules, AreByRules}
 use Rattle.candidate_functions.proofs.Cubing.{mapped_from, only_one}
-use Rattle.candidate_functions.proofs.Declaring.{is_found, all_mapped, one_mapped, one_place, placed, unplaced}
+use Rattle.candidate_functions.proofs.Declaring.{is_found, all_mapped, one_mapped, unplaced}
+use Rattle.definition_order.proofs.Declared.{one_place, placed}
 use Rattle.candidate_functions.proofs.Growing.{extends-trans, rule_node_stays}
 
-pub input_literal_is_node : (f : Dqbf) (g : AigGraph) (l : Literal) → g.inputs ≡ length f.universals → Contains f.universals (variable_of l) → IsNode g (input_literal f l)
-input_literal_is_node f g l size among = let below = place-below f.universals (variable_of l) (is_found f.universals (variable_of l) among) in subst (λ n. place f.universals (variable_of l) < n) (sym size) below
+pub input_literal_is_node : (f : Dqbf) (g : AigGraph) (l : Literal) → length f.universals ≤ g.inputs → Contains f.universals (variable_of l) → IsNode g (input_literal f l)
+input_literal_is_node f g l size among = let below = place-below f.universals (variable_of l) (is_found f.universals (variable_of l) among) in omega arith
 
-pub input_literals_are_nodes : (f : Dqbf) (g : AigGraph) (ls : List Literal) → g.inputs ≡ length f.universals → All (λ l. Contains f.universals (variable_of l)) ls → All (IsNode g) (map (input_literal f) ls)
+pub input_literals_are_nodes : (f : Dqbf) (g : AigGraph) (ls : List Literal) → length f.universals ≤ g.inputs → All (λ l. Contains f.universals (variable_of l)) ls → All (IsNode g) (map (input_literal f) ls)
 input_literals_are_nodes f g [] size among k d lt = absurd (omega (arith, lt))
 input_literals_are_nodes f g (l ∷ ls) size among zero d lt = input_literal_is_node f g l size (among 0 l (omega arith))
 input_literals_are_nodes f g (l ∷ ls) size among (suc k) d lt =

@@ -9,9 +9,9 @@ use Rattle.dq_lits.specs.Skolem.{OutputFunction}
 use Rattle.dq_formula.specs.Rules.{rule_bit}
 use Rattle.dq_formula.specs.declared.rules.Rule.{Rule}
 use Rattle.aig_graph.specs.declared.nodes.Node.{Node}
-use Rattle.aig_graph.specs.Definitions.{IsDefinition}
 use Rattle.aig_graph.specs.Graph.{AigGraph}
-use Rattle.aig_graph.specs.Outputs.{output_node}
+use Rattle.aig_graph.specs.Outputs.{outputs_of}
+use Rattle.definition_order.specs.Definitions.{IsDefinition, defining_output}
 use Rattle.expansion.specs.Table.{PointBits}
 
 -- the definition that was handed in for an existential: they are in the order of the existentials, and those that are missing are none
@@ -42,6 +42,8 @@ AgreeAtPairs f rows points output = All (λ y. AgreesAtPairs f rows points y (ou
 abbrev pub FollowRules : Dqbf → List (List Bool) → List Rule → List (Option Node) → (Existential → OutputFunction) → Type 0
 FollowRules f rows rules definitions output = All (λ y. definition_of f definitions y ≡ None → FollowsRules f rows rules y (output y)) f.existentials
 
--- the others have their definition's node
-abbrev pub AreDefined : Dqbf → List (Option Node) → List Node → Type 0
-AreDefined f definitions nodes = All (λ y. (node : Node) → definition_of f definitions y ≡ Some node → output_node f nodes y ≡ node) f.existentials
+-- where each existential has its output's value, the others have their definition's value
+abbrev pub AreDefined : Dqbf → AigGraph → List (Option Node) → List Node → Type 0
+AreDefined f graph definitions nodes =
+    (m : Assignment) → All (λ y. m y.variable ≡ (outputs_of f graph nodes y).value m) f.existentials
+    → All (λ y. (node : Node) → definition_of f definitions y ≡ Some node → m y.variable ≡ (defining_output f graph node).value m) f.existentials

@@ -17,6 +17,10 @@ use Rattle.candidate_functions.specs.Candidates.{AgreesAtPairs, FollowsRules}
 use Rattle.candidate_functions.specs.declared.classes.Class.{Class}
 use Rattle.candidate_functions.specs.declared.cubes.Pair.{Pair}
 
+-- the row has these places
+abbrev pub HasPlaces : List ℕ → List Bool → Type 0
+HasPlaces places row = All (λ p. p < length row) places
+
 -- the inputs have the row's bits at these places
 abbrev pub agrees : List ℕ → List Bool → (ℕ → Bool) → Bool
 agrees places row inputs = list_all (λ p. same_bit (bit_of row p) (inputs p)) places
@@ -124,14 +128,19 @@ pub record AreByRules (f : Dqbf) (graph : AigGraph) (rules : List Rule) (nodes :
   pub one_each : length nodes ≡ length f.existentials
   pub each : (p : ℕ) (y : Existential) → slice_get f.existentials p ≡ Some y → IsByRules f graph rules y (slice_index_or nodes p (Constant false))
 
--- an existential's output
+-- the output of an existential without a definition
 pub record IsCandidate (f : Dqbf) (rows : List (List Bool)) (points : PointBits) (rules : List Rule) (graph : AigGraph) (y : Existential)
-    (definition : Option Node) (node : Node) : Type 0 where
+    (node : Node) : Type 0 where
   pub is_node : IsNode graph node
   pub reads : All (Contains y.sees) (node_output f graph node).support
   pub at_pairs : AgreesAtPairs f rows points y (node_output f graph node)
-  pub by_rules : definition ≡ None → FollowsRules f rows rules y (node_output f graph node)
-  pub defined : (d : Node) → definition ≡ Some d → node ≡ d
+  pub by_rules : FollowsRules f rows rules y (node_output f graph node)
+
+-- what stands at an existential's place before definitions are put in
+pub record IsFirstOutput (f : Dqbf) (rows : List (List Bool)) (points : PointBits) (rules : List Rule) (graph : AigGraph) (y : Existential)
+    (definition : Option Node) (node : Node) : Type 0 where
+  pub is_node : IsNode graph node
+  pub undefined : definition ≡ None → IsCandidate f rows points rules graph y node
 
 -- the dependency set of an existential
 abbrev pub set_of : Dqbf → ℕ → Option (List ℕ)
@@ -153,9 +162,9 @@ pub record HasClass (f : Dqbf) (rows : List (List Bool)) (graph : AigGraph) (cla
   pub at : slice_get classes place ≡ Some class
   pub are_pairs : (e : Existential) → existential_of f y ≡ Some e → AreSeenPairs f rows graph e.sees class.pairs.items
 
--- the outputs of the first existentials
-pub record AreCandidates (f : Dqbf) (rows : List (List Bool)) (points : PointBits) (rules : List Rule) (definitions : List (Option Node)) (graph : AigGraph)
-    (count : ℕ) (nodes : List Node) : Type 0 where
+-- what stands at the places of the first existentials
+pub record AreFirstOutputs (f : Dqbf) (rows : List (List Bool)) (points : PointBits) (rules : List Rule) (definitions : List (Option Node))
+    (graph : AigGraph) (count : ℕ) (nodes : List Node) : Type 0 where
   pub one_each : length nodes ≡ count
   pub each : (p : ℕ) (y : Existential) → p < count → slice_get f.existentials p ≡ Some y
-      → IsCandidate f rows points rules graph y (slice_index_or definitions p None) (slice_index_or nodes p (Constant false))
+      → IsFirstOutput f rows points rules graph y (slice_index_or definitions p None) (slice_index_or nodes p (Constant false))

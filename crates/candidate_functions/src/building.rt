@@ -1,4 +1,4 @@
-ghost use Rattle.std.specs.Prelude.{◌≡◌, length, All, IfOk};
+ghost use Rattle.std.specs.Prelude.{◌≡◌, ◌+◌, length, All, IfOk};
 ghost use Rattle.dq_formula.specs.Prefix.{existential_variables};
 ghost use Rattle.dq_formula.specs.Rules.{IsRule};
 ghost use Rattle.aig_graph.specs.Graph.{IsNode};
@@ -7,7 +7,8 @@ ghost use Rattle.aig_graph.specs.Outputs.{outputs_of, ReadDeclared};
 ghost use Rattle.expansion.specs.Table.{ArePoints, point_bits};
 ghost use Rattle.candidate_functions.specs.Candidates.{AreDefinitions, AgreeAtPairs, FollowRules, AreDefined};
 
-use crate::outputs::all_outputs;
+use crate::definitions::put_definitions;
+use crate::outputs::first_outputs;
 use crate::rules::by_rules;
 use aig_graph::{Graph, Node};
 use dq_formula::{Formula, Rule};
@@ -40,12 +41,13 @@ impl Outputs {
     }
 }
 
-/// Candidates for the existentials' functions, which read what they may. One that has a definition gets its node; any other has its
-/// point's bit at each pair of the table, and elsewhere the bit of its first rule whose cube is true, else false. Definitions are in the
-/// order of the existentials; those that are missing are none.
+/// Candidates for the existentials' functions, which read what they may, universals alone. One that has a definition gets it, with the
+/// outputs of the existentials that it reads put in; any other has its point's bit at each pair of the table, and elsewhere the bit of its
+/// first rule whose cube is true, else false. Definitions are in the order of the existentials; those that are missing are none.
 ///
-/// The points are those of a model of all instances under the table's rows. Work and memory follow the pairs, which existentials with one
-/// dependency set share, and the gates.
+/// The graph has an input for each universal, and behind these one for each existential, for definitions to read. The points are those of a
+/// model of all instances under the table's rows. Work and memory follow the pairs, which existentials with one dependency set share, and
+/// the gates. A refused call leaves gates that were made.
 pub fn build(
     alloc: Global,
     f: &Formula,
@@ -55,7 +57,7 @@ pub fn build(
     definitions: &[Option<Node>],
     graph: &mut Graph,
 ) -> Result<Outputs, Memory>
-    requires inputs { graph.old.inputs ≡ length f.now.universals }
+    requires inputs { graph.old.inputs ≡ length f.now.universals + length f.now.existentials }
     requires whole { All (λ row. length row ≡ length f.now.universals) table.now.rows }
     requires variables { points.now.variables ≡ existential_variables f.now }
     requires as_many { length points.now.rows ≡ length table.now.rows }
@@ -68,10 +70,11 @@ pub fn build(
     ensures reads { IfOk result (λ nodes. ReadDeclared f.now (outputs_of f.now graph.new nodes)) }
     ensures at_pairs { IfOk result (λ nodes. AgreeAtPairs f.now table.now.rows (point_bits points.now) (outputs_of f.now graph.new nodes)) }
     ensures by_rules { IfOk result (λ nodes. FollowRules f.now table.now.rows rules.now definitions.now (outputs_of f.now graph.new nodes)) }
-    ensures defined { IfOk result (λ nodes. AreDefined f.now definitions.now nodes) }
+    ensures defined { IfOk result (λ nodes. AreDefined f.now graph.new definitions.now nodes) }
 {
     f.every_formula_is_lawful();
     let others = by_rules(alloc, f, rules, graph)?;
-    let nodes = all_outputs(alloc, f, table, points, definitions, &others, graph)?;
+    let mut nodes = first_outputs(alloc, f, table, points, definitions, &others, graph)?;
+    put_definitions(alloc, f, definitions, &mut nodes, graph)?;
     Ok(Outputs { nodes })
 }

@@ -1,6 +1,6 @@
 //! Existentials with one dependency set have one list of pairs.
 
-ghost use Rattle.std.specs.Prelude.{◌≡◌, true, [], length, All, IsSome, IfOk, OnOk, Some};
+ghost use Rattle.std.specs.Prelude.{◌≡◌, ◌≤◌, true, [], length, All, IsSome, IfOk, OnOk, Some};
 ghost use Rattle.dq_lits.specs.Formula.{Existential, existential_of};
 ghost use Rattle.aig_graph.specs.Made.{Extends};
 ghost use Rattle.candidate_functions.specs.Pairs.{set_of, AreSeenPairs, IsClass, HasClass, HasClassLike};
@@ -80,7 +80,7 @@ impl Classes {
         graph: &mut Graph,
     ) -> Result<usize, Memory>
         requires declared { IsSome (existential_of f.now y) }
-        requires inputs { graph.old.inputs ≡ length f.now.universals }
+        requires inputs { length f.now.universals ≤ graph.old.inputs }
         requires whole { All (λ row. length row ≡ length f.now.universals) table.now.rows }
         requires classes { All (IsClass f.now table.now.rows graph.old) self.old.classes.items }
         ensures extends { Extends graph.old graph.new }
@@ -106,7 +106,7 @@ fn seen_pairs(
     graph: &mut Graph,
 ) -> Result<Vec<Pair>, Memory>
     requires declared { IsSome (existential_of f.now y) }
-    requires inputs { graph.old.inputs ≡ length f.now.universals }
+    requires inputs { length f.now.universals ≤ graph.old.inputs }
     requires whole { All (λ row. length row ≡ length f.now.universals) table.now.rows }
     ensures extends { Extends graph.old graph.new }
     ensures pairs { (e : Existential) → existential_of f.now y ≡ Some e → IfOk result (λ pairs. AreSeenPairs f.now table.now.rows graph.new e.sees pairs.items) }

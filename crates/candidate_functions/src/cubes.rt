@@ -3,7 +3,7 @@
 ghost use Rattle.std.specs.Prelude.{◌≡◌, ◌≤◌, ◌<◌, ◌-◌, length, map, All, IfOk, OnOk, IsTrue};
 ghost use Rattle.dq_lits.specs.Row.{bit_of};
 ghost use Rattle.aig_graph.specs.Made.{Extends};
-ghost use Rattle.candidate_functions.specs.Pairs.{agrees, row_literal, IsRowCube, HasPair, ArePairs, AreRounds};
+ghost use Rattle.candidate_functions.specs.Pairs.{HasPlaces, agrees, row_literal, IsRowCube, HasPair, ArePairs, AreRounds};
 
 use aig_graph::{Graph, Node};
 use dq_lits::{Memory, Row};
@@ -25,7 +25,7 @@ pub(crate) fn all_pairs(
     places: &[usize],
     graph: &mut Graph,
 ) -> Result<Vec<Pair>, Memory>
-    requires whole { All (λ row. length row ≡ graph.old.inputs) table.now.rows }
+    requires whole { All (HasPlaces places.now) table.now.rows }
     requires places { All (λ p. p < graph.old.inputs) places.now }
     ensures extends { Extends graph.old graph.new }
     ensures pairs { IfOk result (λ pairs. ArePairs table.now.rows graph.new places.now (length table.now.rows) pairs.items) }
@@ -50,7 +50,7 @@ fn add_pair(
 ) -> Result<(), Memory>
     requires from_one { 1 ≤ round }
     requires last { round ≤ length table.now.rows }
-    requires whole { All (λ row. length row ≡ graph.old.inputs) table.now.rows }
+    requires whole { All (HasPlaces places.now) table.now.rows }
     requires places { All (λ p. p < graph.old.inputs) places.now }
     requires pairs { ArePairs table.now.rows graph.old places.now (round - 1) pairs.old.items }
     ensures extends { Extends graph.old graph.new }
@@ -81,7 +81,7 @@ fn first_with(
 
 // The bits of a row at these places, 64 a word.
 fn key(alloc: Global, places: &[usize], row: &Row) -> Result<Vec<u64>, Memory>
-    requires { All (λ p. p < length row.now) places.now }
+    requires { HasPlaces places.now row.now }
 {
     let mut words = Vec::new(alloc);
     for (i, p) in places.iter().enumerate() {
@@ -102,8 +102,8 @@ fn append_bit(words: &mut Vec<u64>, bit: bool) {
 // Whether there is a pair at this place, and it is that of the row.
 fn is_pair_of(table: &Table, places: &[usize], pairs: &[Pair], at: usize, row: &Row) -> bool
     requires rounds { AreRounds (length table.now.rows) pairs.now }
-    requires whole { All (λ r. length r ≡ length row.now) table.now.rows }
-    requires places { All (λ p. p < length row.now) places.now }
+    requires whole { All (HasPlaces places.now) table.now.rows }
+    requires places { HasPlaces places.now row.now }
     ensures { IsTrue result → HasPair table.now.rows places.now pairs.now row.now }
 {
     if at >= pairs.len() {
@@ -113,8 +113,8 @@ fn is_pair_of(table: &Table, places: &[usize], pairs: &[Pair], at: usize, row: &
 }
 
 fn have_same_bits(places: &[usize], a: &Row, b: &Row) -> bool
-    requires a { All (λ p. p < length a.now) places.now }
-    requires b { All (λ p. p < length b.now) places.now }
+    requires a { HasPlaces places.now a.now }
+    requires b { HasPlaces places.now b.now }
     ensures { result ≡ agrees places.now a.now (bit_of b.now) }
 {
     places.iter().all(|p| a.get(*p) == b.get(*p))
@@ -122,7 +122,7 @@ fn have_same_bits(places: &[usize], a: &Row, b: &Row) -> bool
 
 // A node that is true where the inputs at these places have the row's bits.
 fn row_cube(alloc: Global, places: &[usize], row: &Row, graph: &mut Graph) -> Result<Node, Memory>
-    requires row { length row.now ≡ graph.old.inputs }
+    requires row { HasPlaces places.now row.now }
     requires places { All (λ p. p < graph.old.inputs) places.now }
     ensures extends { Extends graph.old graph.new }
     ensures cube { IfOk result (IsRowCube graph.new places.now row.now) }
@@ -132,7 +132,7 @@ fn row_cube(alloc: Global, places: &[usize], row: &Row, graph: &mut Graph) -> Re
 }
 
 fn row_literals(alloc: Global, places: &[usize], row: &Row) -> Result<Vec<Node>, Memory>
-    requires { All (λ p. p < length row.now) places.now }
+    requires { HasPlaces places.now row.now }
     ensures { IfOk result (λ nodes. nodes.items ≡ map (row_literal row.now) places.now) }
 {
     let mut literals = Vec::new(alloc);

@@ -6,6 +6,7 @@ pub use building::{Outputs, build};
 mod building;
 mod classes;
 mod cubes;
+mod definitions;
 mod outputs;
 mod patches;
 mod places;

@@ -1,6 +1,6 @@
 //! What the rules say of each existential, as nodes.
 
-ghost use Rattle.std.specs.Prelude.{◌≡◌, ◌<◌, ◌+◌, false, length, map, drop, replicate, All, Contains, IfOk, OnOk};
+ghost use Rattle.std.specs.Prelude.{◌≡◌, ◌≤◌, ◌<◌, ◌+◌, false, length, map, drop, replicate, All, Contains, IfOk, OnOk};
 ghost use Rattle.dq_lits.specs.Literal.{variable_of};
 ghost use Rattle.dq_formula.specs.Rules.{IsRule};
 ghost use Rattle.aig_graph.specs.Made.{Extends};
@@ -19,7 +19,7 @@ pub(crate) fn by_rules(
     rules: &[Rule],
     graph: &mut Graph,
 ) -> Result<Vec<Node>, Memory>
-    requires inputs { graph.old.inputs ≡ length f.now.universals }
+    requires inputs { length f.now.universals ≤ graph.old.inputs }
     requires rules { All (IsRule f.now) rules.now }
     ensures extends { Extends graph.old graph.new }
     ensures nodes { IfOk result (λ nodes. AreByRules f.now graph.new rules.now nodes.items) }
@@ -48,7 +48,7 @@ fn put_rule(
     nodes: &mut Vec<Node>,
     graph: &mut Graph,
 ) -> Result<(), Memory>
-    requires inputs { graph.old.inputs ≡ length f.now.universals }
+    requires inputs { length f.now.universals ≤ graph.old.inputs }
     requires rules { All (IsRule f.now) rules.now }
     requires at { at < length rules.now }
     requires nodes { AreByRules f.now graph.old (drop (at + 1) rules.now) nodes.old.items }
@@ -66,7 +66,7 @@ fn put_rule(
 
 // A node that is true where all of these literals are.
 fn cube_node(alloc: Global, f: &Formula, cube: &[Lit], graph: &mut Graph) -> Result<Node, Memory>
-    requires inputs { graph.old.inputs ≡ length f.now.universals }
+    requires inputs { length f.now.universals ≤ graph.old.inputs }
     requires universals { All (λ l. Contains f.now.universals (variable_of l)) cube.now }
     ensures extends { Extends graph.old graph.new }
     ensures node { IfOk result (IsCubeNode f.now graph.new cube.now) }

@@ -12,7 +12,8 @@ use dq_formula::{Deps, Formula};
 pub(crate) fn is_shared_at(f: &Formula, place: usize, y: u64) -> bool
     requires place { place < length f.now.existentials }
     requires existential { IsSome (existential_of f.now y) }
-    ensures { (e z : Existential) → existential_of f.now y ≡ Some e → slice_get f.now.existentials place ≡ Some z → (IsTrue result ↔ IsShared f.now e z) }
+    ensures { (e z : Existential) → existential_of f.now y ≡ Some e → slice_get f.now.existentials place ≡ Some z
+        → (IsTrue result ↔ IsShared f.now e z) }
 {
     f.every_formula_is_lawful();
     let z = f.existentials()[place];
@@ -22,7 +23,8 @@ pub(crate) fn is_shared_at(f: &Formula, place: usize, y: u64) -> bool
 fn comes_before(f: &Formula, z: u64, y: u64) -> bool
     requires first { IsSome (existential_of f.now z) }
     requires second { IsSome (existential_of f.now y) }
-    ensures { (d e : Existential) → existential_of f.now z ≡ Some d → existential_of f.now y ≡ Some e → (IsTrue result ↔ ComesBefore f.now d e) }
+    ensures { (d e : Existential) → existential_of f.now z ≡ Some d → existential_of f.now y ≡ Some e
+        → (IsTrue result ↔ ComesBefore f.now d e) }
 {
     goes_first(
         seen(f, z).len(),
@@ -53,7 +55,8 @@ fn place_of(f: &Formula, y: u64) -> usize
 fn sees_no_more(f: &Formula, z: u64, y: u64) -> bool
     requires first { IsSome (existential_of f.now z) }
     requires second { IsSome (existential_of f.now y) }
-    ensures { (d e : Existential) → existential_of f.now z ≡ Some d → existential_of f.now y ≡ Some e → (IsTrue result ↔ All (Contains e.sees) d.sees) }
+    ensures { (d e : Existential) → existential_of f.now z ≡ Some d → existential_of f.now y ≡ Some e
+        → (IsTrue result ↔ All (Contains e.sees) d.sees) }
 {
     is_shorter(f.deps_of(z), f.deps_of(y)) || sees_all(f, y, seen(f, z))
 }

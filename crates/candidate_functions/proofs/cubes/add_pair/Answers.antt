@@ -1,30 +1,21 @@
-use Rattle.std.proofs.Common.{◌<◌, ◌-◌, length, All, sym, ◌∙◌, subst, refl}
-use Rattle.candidate_functions.specs.Pairs.{AreRounds, ArePairs}
-use Rattle.candidate_functions.proofs.Cubing.{row_whole, rounds_within, pushed_round}
+use Rattle.std.proofs.Common.{◌-◌, length, sym, subst, refl}
+use Rattle.candidate_functions.specs.Pairs.{HasPlaces, AreRounds, ArePairs}
+use Rattle.candidate_functions.proofs.Cubing.{row_has, rounds_within, pushed_round}
 use Rattle.candidate_functions.proofs.cubes.add_pair.Goals as goal
 
 pub key-requires : goal.key-requires
-key-requires c =
-    let whole = row_whole c.args.table.now.rows c.args.graph.now.inputs (c.args.round - 1) c.row-row.result.now c.requires.whole c.row-row.ensures in
-    subst (λ n. All (λ p. p < n) c.args.places.now) (sym whole) c.requires.places
+key-requires c = row_has c.args.table.now.rows (HasPlaces c.args.places.now) (c.args.round - 1) c.row-row.result.now c.requires.whole c.row-row.ensures
 
 pub is_pair_of-requires-clause-rounds : goal.is_pair_of-requires-clause-rounds
 is_pair_of-requires-clause-rounds c =
     let rows = c.args.table.now.rows in
     subst (AreRounds (length rows)) (sym c.deref.ensures.value) (rounds_within rows c.args.graph.now c.args.places.now c.args.pairs.now.items c.requires.pairs.each)
 
-pub is_pair_of-requires-clause-whole : goal.is_pair_of-requires-clause-whole
-is_pair_of-requires-clause-whole c =
-    let whole = row_whole c.args.table.now.rows c.args.graph.now.inputs (c.args.round - 1) c.row-row.result.now c.requires.whole c.row-row.ensures in
-    λ k d lt. c.requires.whole k d lt ∙ sym whole
-
 pub is_pair_of-requires-clause-places : goal.is_pair_of-requires-clause-places
-is_pair_of-requires-clause-places c =
-    let whole = row_whole c.args.table.now.rows c.args.graph.now.inputs (c.args.round - 1) c.row-row.result.now c.requires.whole c.row-row.ensures in
-    subst (λ n. All (λ p. p < n) c.args.places.now) (sym whole) c.requires.places
+is_pair_of-requires-clause-places c = row_has c.args.table.now.rows (HasPlaces c.args.places.now) (c.args.round - 1) c.row-row.result.now c.requires.whole c.row-row.ensures
 
 pub row_cube-requires-clause-row : goal.row_cube-requires-clause-row
-row_cube-requires-clause-row c = row_whole c.args.table.now.rows c.args.graph.now.inputs (c.args.round - 1) c.row-row.result.now c.requires.whole c.row-row.ensures
+row_cube-requires-clause-row c = row_has c.args.table.now.rows (HasPlaces c.args.places.now) (c.args.round - 1) c.row-row.result.now c.requires.whole c.row-row.ensures
 
 pub returns-clause-pairs : goal.returns-clause-pairs
 returns-clause-pairs c =

@@ -1,9 +1,10 @@
-use Rattle.std.proofs.Common.{sym, subst, Contains, All, None}
+use Rattle.std.proofs.Common.{sym, subst, Contains, All}
 use Rattle.std.proofs.lemmas.Result.{IfOk-weaker}
 use Rattle.expansion.specs.Table.{point_bits}
 use Rattle.candidate_functions.specs.Pairs.{IsClass, IsPatched, IsCandidate}
 use Rattle.candidate_functions.proofs.Growing.{extends-trans, classes_stay}
-use Rattle.candidate_functions.proofs.Outputting.{is_variable, undefined_is_candidate, pairs_there, on_ok}
+use Rattle.candidate_functions.proofs.Outputting.{undefined_is_candidate, pairs_there, on_ok}
+use Rattle.definition_order.proofs.Declared.{is_variable}
 use Rattle.candidate_functions.proofs.outputs.undefined_output.Goals as goal
 
 pub patched-requires-clause-existential : goal.patched-requires-clause-existential
@@ -27,7 +28,7 @@ returns-clause-output c = λ rules e known by.
     let points = point_bits c.args.points.now in
     let mid = c.class_of.new.graph in
     let new = c.patched.new.graph in
-    IfOk-weaker c.patched.result (IsPatched mid new points c.args.y c.deref.result.now c.args.other) (IsCandidate f rows points rules new e None)
+    IfOk-weaker c.patched.result (IsPatched mid new points c.args.y c.deref.result.now c.args.other) (IsCandidate f rows points rules new e)
     (λ n patched. undefined_is_candidate f c.every_formula_is_lawful.ensures rows points c.requires.whole c.requires.points rules c.args.y e known c.args.graph.now mid new
     c.in_ok-place.ensures.extends c.deref.result.now
     (pairs_there f rows mid c.class_of.new.self.classes.items c.in_ok-place.place c.args.y c.index.result.now c.deref.result.now c.in_ok-place.ensures.place c.index.ensures c.deref.ensures.value e known)

@@ -1,5 +1,5 @@
 use Rattle.std.proofs.Common.{sym, ◌∙◌}
-use Rattle.candidate_functions.proofs.Declaring.{none_contained}
+use Rattle.definition_order.proofs.Declared.{none_contained}
 use Rattle.candidate_functions.proofs.places.universal_place.Goals as goal
 
 pub unreachable-requires : goal.unreachable-requires

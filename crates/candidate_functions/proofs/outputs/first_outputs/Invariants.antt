@@ -1,6 +1,6 @@
 use Rattle.expansion.specs.Table.{point_bits}
 use Rattle.candidate_functions.proofs.Collecting.{OutputsSoFar}
-use Rattle.candidate_functions.proofs.outputs.all_outputs.Given as goal
+use Rattle.candidate_functions.proofs.outputs.first_outputs.Given as goal
 
 abbrev pub invariant-loop-place : goal.invariant-loop-place
 invariant-loop-place l = OutputsSoFar l.f l.table.rows (point_bits l.points) l.definitions l.others l.fn.graph l.graph l.classes.classes.items l.nodes.items l.place

@@ -1,0 +1,31 @@
+use Rattle.std.proofs.Common.{◌≡◌, ◌+◌, false, get_or, length, refl, sym, subst, arith}
+use Rattle.aig_graph.specs.declared.nodes.Node.TheVariants.{Constant}
+use Rattle.expansion.specs.Table.{point_bits}
+use Rattle.candidate_functions.specs.Pairs.{AreFirstOutputs}
+use Rattle.candidate_functions.proofs.Collecting.{OutputsSoFar, output_added}
+use Rattle.candidate_functions.proofs.Growing.{extends-trans}
+use Rattle.candidate_functions.proofs.outputs.first_outputs.Goals as goal
+
+pub returns-in_err-node-clause-extends : goal.returns-in_err-node-clause-extends
+returns-in_err-node-clause-extends c = extends-trans c.args.graph.now c.loop-place.graph c.first_output.new.graph c.loop-place.invariant.grown c.first_output.ensures.extends
+
+pub returns-in_err-push-clause-extends : goal.returns-in_err-push-clause-extends
+returns-in_err-push-clause-extends c = extends-trans c.args.graph.now c.loop-place.graph c.first_output.new.graph c.loop-place.invariant.grown c.in_ok-node.ensures.extends
+
+pub loop-place-preserved : goal.loop-place-preserved
+loop-place-preserved c =
+    let f = c.args.f.now in
+    let rows = c.args.table.now.rows in
+    let points = point_bits c.args.points.now in
+    let place = c.loop-place.place in
+    subst (λ ns. OutputsSoFar f rows points c.args.definitions.now c.args.others.now c.args.graph.now c.first_output.new.graph c.first_output.new.classes.classes.items ns (place + 1))
+    (sym c.in_ok-push.ensures.items)
+    (output_added f rows points c.args.definitions.now c.args.others.now c.args.graph.now c.loop-place.graph c.first_output.new.graph c.loop-place.classes.classes.items
+    c.first_output.new.classes.classes.items c.loop-place.nodes.items place (get_or c.args.others.now place (Constant false)) c.in_ok-node.node c.loop-place.invariant c.in_ok-node.ensures.extends
+    c.in_ok-node.ensures.classes refl c.in_ok-node.ensures.output)
+
+pub returns-clause-outputs : goal.returns-clause-outputs
+returns-clause-outputs c = λ rules by.
+    let all : c.loop-place.place ≡ length c.args.f.now.existentials = omega arith in
+    subst (λ n. AreFirstOutputs c.args.f.now c.args.table.now.rows (point_bits c.args.points.now) rules c.args.definitions.now c.loop-place.graph n c.loop-place.nodes.items) all
+    (c.loop-place.invariant.outputs rules by)
