@@ -273,16 +273,16 @@ groups_are_made f p entries is =
     let links = map group_variable p.links.items in
     let second = group_variable p.second.group in
     All-cons IsMadeHere (group_variable p.first.group) (second ∷ links) is.first.made.named (All-cons IsMadeHere second links is.second.made.named of_links) where
-  IsMadeHere : ℕ → Type 0
-  IsMadeHere g = name_of entries g ≡ Some (Selector g)
+      IsMadeHere : ℕ → Type 0
+      IsMadeHere g = name_of entries g ≡ Some (Selector g)
 
-  of_links : All IsMadeHere (map group_variable p.links.items)
-  of_links k d below =
-      let inside : k < length p.links.items = let e = length-map p.links.items group_variable in omega (arith, below, e) in
-      let within : k < length (declared f) = let e = is.as_many in omega (arith, inside, e) in
-      let group = get_or p.links.items k p.first.group in
-      let link = is.links k (get_or (declared f) k 0) group (slice_get-get_or (declared f) k 0 within) (slice_get-get_or p.links.items k p.first.group inside) in
-      subst IsMadeHere (sym (get_or-map group_variable p.links.items k p.first.group d inside)) link.made.named
+      of_links : All IsMadeHere (map group_variable p.links.items)
+      of_links k d below =
+          let inside : k < length p.links.items = let e = length-map p.links.items group_variable in omega (arith, below, e) in
+          let within : k < length (declared f) = let e = is.as_many in omega (arith, inside, e) in
+          let group = get_or p.links.items k p.first.group in
+          let link = is.links k (get_or (declared f) k 0) group (slice_get-get_or (declared f) k 0 within) (slice_get-get_or p.links.items k p.first.group inside) in
+          subst IsMadeHere (sym (get_or-map group_variable p.links.items k p.first.group d inside)) link.made.named
 
 -- groups that have names are none that had none
 made_apart : (entries : List Entry) (group : ℕ) (groups : List ℕ) → All (λ g. name_of entries g ≡ Some (Selector g)) groups → name_of entries group ≡ None → All (λ g. g ≢ group) groups

@@ -111,7 +111,16 @@ fn all_rounds<O: Oracle>(
             Found::Candidates(outputs) => outputs,
             Found::Refuted(id) => return Ok(Verdict::False(id)),
         };
-        match judge(oracle, graph, table, checker, &definitions.padoa, f, &outputs, log)? {
+        match judge(
+            oracle,
+            graph,
+            table,
+            checker,
+            &definitions.padoa,
+            f,
+            &outputs,
+            log,
+        )? {
             Judged::Hold(id) => return Ok(Verdict::True(outputs, id)),
             Judged::Fail(row) => table.add_row(oracle, f, &row, log)?,
         }

@@ -1,6 +1,6 @@
 //! The definitions that the clauses force, which are asked for before the first candidates.
 
-ghost use Rattle.std.specs.Prelude.{◌≡◌, ◌<◌, length, All, OnOk, IfOk, IsErrOf, slice_set};
+ghost use Rattle.std.specs.Prelude.{◌≡◌, ◌<◌, length, replicate, None, All, OnOk, IfOk, IsErrOf, slice_set};
 ghost use Rattle.dq_lits.specs.Formula.{IsWellFormed};
 ghost use Rattle.hint_log.specs.Entries.{steps_of};
 ghost use Rattle.aig_graph.specs.Made.{Extends};
@@ -38,7 +38,7 @@ impl Definitions {
     {
         Ok(Definitions {
             padoa,
-            nodes: vec![in alloc; None; f.existentials().len()]?,
+            nodes: no_nodes(alloc, f.existentials().len())?,
             pairs: Vec::new(alloc),
             rules: Vec::new(alloc),
         })
@@ -124,6 +124,12 @@ impl Definitions {
         self.note(place, found)?;
         Ok(())
     }
+}
+
+fn no_nodes(alloc: Global, n: usize) -> Result<Vec<Option<Node>>, Memory>
+    ensures { IfOk result (λ nodes. nodes.items ≡ replicate n None) }
+{
+    Ok(vec![in alloc; None; n]?)
 }
 
 // Asks for a definition of each existential, those that see less first.

@@ -127,9 +127,7 @@ impl Definitions {
         engines_leave_the_rest();
         engines_leave_tables();
         checkers_stay();
-        let forced = self
-            .padoa
-            .force(oracle, f, y, table.row(newest), bit, log)?;
+        let forced = self.padoa.force(oracle, f, y, table.row(newest), bit, log)?;
         self.keep(forced)?;
         Ok(())
     }

@@ -30,7 +30,7 @@ force_all-requires-clause-padoa g c =
     let f = c.args.f.now in
     let was = c.in_ok-id.was ∙ ap Ok c.in-Model.is in
     let found = after_solve c.engines_leave_the_rest.ensures c.checkers_stay.ensures c.engines_leave_copies.ensures f c.args.graph.now c.args.table.now c.solve.new.self c.args.checker.now
-      c.args.definitions.now.padoa (is_silent c.solve.result) c.args.log.now c.solve.new.log (ap is_silent was) s (c.solve.ensures.grew f s.table) c.solve.ensures.same (c.solve.ensures.table f s.table) in
+    c.args.definitions.now.padoa (is_silent c.solve.result) c.args.log.now c.solve.new.log (ap is_silent was) s (c.solve.ensures.grew f s.table) c.solve.ensures.same (c.solve.ensures.table f s.table) in
     found.copied
 
 pub returns-in_err-force_all-in-Model-clause-kept : goal.returns-in_err-force_all-in-Model-clause-kept
@@ -39,7 +39,7 @@ returns-in_err-force_all-in-Model-clause-kept g c =
     let f = c.args.f.now in
     let was = c.in_ok-id.was ∙ ap Ok c.in-Model.is in
     let found = after_solve c.engines_leave_the_rest.ensures c.checkers_stay.ensures c.engines_leave_copies.ensures f c.args.graph.now c.args.table.now c.solve.new.self c.args.checker.now
-      c.args.definitions.now.padoa (is_silent c.solve.result) c.args.log.now c.solve.new.log (ap is_silent was) s (c.solve.ensures.grew f s.table) c.solve.ensures.same (c.solve.ensures.table f s.table) in
+    c.args.definitions.now.padoa (is_silent c.solve.result) c.args.log.now c.solve.new.log (ap is_silent was) s (c.solve.ensures.grew f s.table) c.solve.ensures.same (c.solve.ensures.table f s.table) in
     (c.force_all.ensures.goes_on c.args.graph.now c.args.checker.now found).kept
 
 pub returns-in_err-force_all-in-Model-clause-undecided : goal.returns-in_err-force_all-in-Model-clause-undecided
@@ -48,7 +48,7 @@ returns-in_err-force_all-in-Model-clause-undecided g c =
     let f = c.args.f.now in
     let was = c.in_ok-id.was ∙ ap Ok c.in-Model.is in
     let found = after_solve c.engines_leave_the_rest.ensures c.checkers_stay.ensures c.engines_leave_copies.ensures f c.args.graph.now c.args.table.now c.solve.new.self c.args.checker.now
-      c.args.definitions.now.padoa (is_silent c.solve.result) c.args.log.now c.solve.new.log (ap is_silent was) s (c.solve.ensures.grew f s.table) c.solve.ensures.same (c.solve.ensures.table f s.table) in
+    c.args.definitions.now.padoa (is_silent c.solve.result) c.args.log.now c.solve.new.log (ap is_silent was) s (c.solve.ensures.grew f s.table) c.solve.ensures.same (c.solve.ensures.table f s.table) in
     on_err _ _ (c.force_all.ensures.goes_on c.args.graph.now c.args.checker.now found).undecided
 
 pub returns-in_err-outputs-in-Model-clause-kept : goal.returns-in_err-outputs-in-Model-clause-kept
@@ -57,7 +57,7 @@ returns-in_err-outputs-in-Model-clause-kept g c =
     let f = c.args.f.now in
     let was = c.in_ok-id.was ∙ ap Ok c.in-Model.is in
     let found = after_solve c.engines_leave_the_rest.ensures c.checkers_stay.ensures c.engines_leave_copies.ensures f c.args.graph.now c.args.table.now c.solve.new.self c.args.checker.now
-      c.args.definitions.now.padoa (is_silent c.solve.result) c.args.log.now c.solve.new.log (ap is_silent was) s (c.solve.ensures.grew f s.table) c.solve.ensures.same (c.solve.ensures.table f s.table) in
+    c.args.definitions.now.padoa (is_silent c.solve.result) c.args.log.now c.solve.new.log (ap is_silent was) s (c.solve.ensures.grew f s.table) c.solve.ensures.same (c.solve.ensures.table f s.table) in
     (c.force_all.ensures.goes_on c.args.graph.now c.args.checker.now found).kept
 
 pub returns-in_err-outputs-in-Model-clause-undecided : goal.returns-in_err-outputs-in-Model-clause-undecided
@@ -66,7 +66,7 @@ returns-in_err-outputs-in-Model-clause-undecided g c =
     let f = c.args.f.now in
     let was = c.in_ok-id.was ∙ ap Ok c.in-Model.is in
     let found = after_solve c.engines_leave_the_rest.ensures c.checkers_stay.ensures c.engines_leave_copies.ensures f c.args.graph.now c.args.table.now c.solve.new.self c.args.checker.now
-      c.args.definitions.now.padoa (is_silent c.solve.result) c.args.log.now c.solve.new.log (ap is_silent was) s (c.solve.ensures.grew f s.table) c.solve.ensures.same (c.solve.ensures.table f s.table) in
+    c.args.definitions.now.padoa (is_silent c.solve.result) c.args.log.now c.solve.new.log (ap is_silent was) s (c.solve.ensures.grew f s.table) c.solve.ensures.same (c.solve.ensures.table f s.table) in
     on_err _ _ (c.force_all.ensures.goes_on c.args.graph.now c.args.checker.now found).undecided
 
 pub returns-in_ok-outputs-in-Model-clause-kept : goal.returns-in_ok-outputs-in-Model-clause-kept
@@ -75,7 +75,7 @@ returns-in_ok-outputs-in-Model-clause-kept g c =
     let f = c.args.f.now in
     let was = c.in_ok-id.was ∙ ap Ok c.in-Model.is in
     let found = after_solve c.engines_leave_the_rest.ensures c.checkers_stay.ensures c.engines_leave_copies.ensures f c.args.graph.now c.args.table.now c.solve.new.self c.args.checker.now
-      c.args.definitions.now.padoa (is_silent c.solve.result) c.args.log.now c.solve.new.log (ap is_silent was) s (c.solve.ensures.grew f s.table) c.solve.ensures.same (c.solve.ensures.table f s.table) in
+    c.args.definitions.now.padoa (is_silent c.solve.result) c.args.log.now c.solve.new.log (ap is_silent was) s (c.solve.ensures.grew f s.table) c.solve.ensures.same (c.solve.ensures.table f s.table) in
     (c.force_all.ensures.goes_on c.args.graph.now c.args.checker.now found).kept
 
 pub build-requires-clause-definitions : goal.build-requires-clause-definitions
@@ -116,7 +116,7 @@ returns-in_ok-outputs-in-Model-clause-search g c outputs e =
     let f = c.args.f.now in
     let was = c.in_ok-id.was ∙ ap Ok c.in-Model.is in
     let found = after_solve c.engines_leave_the_rest.ensures c.checkers_stay.ensures c.engines_leave_copies.ensures f c.args.graph.now c.args.table.now c.solve.new.self c.args.checker.now
-      c.args.definitions.now.padoa (is_silent c.solve.result) c.args.log.now c.solve.new.log (ap is_silent was) s (c.solve.ensures.grew f s.table) c.solve.ensures.same (c.solve.ensures.table f s.table) in
+    c.args.definitions.now.padoa (is_silent c.solve.result) c.args.log.now c.solve.new.log (ap is_silent was) s (c.solve.ensures.grew f s.table) c.solve.ensures.same (c.solve.ensures.table f s.table) in
     let here = c.force_all.ensures.goes_on c.args.graph.now c.args.checker.now found in
     subst (λ p. IsSearch f c.build.new.graph c.solve.new.self c.args.checker.now p c.force_all.new.log.entries) (sym c.force_all.ensures.same)
     (after_build f c.args.graph.now c.build.new.graph c.solve.new.self c.args.checker.now c.args.definitions.now.padoa c.force_all.new.log.entries c.build.ensures.extends.inputs here)

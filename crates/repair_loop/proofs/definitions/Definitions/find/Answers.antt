@@ -36,6 +36,6 @@ returns-clause-known g c =
     let here = existential_there f lawful c.existentials.result.now c.existentials.ensures c.args.place c.requires.place in
     let still = known_stays f c.args.graph.now c.define.new.graph before rules c.define.ensures.extends c.requires.known in
     let known = known_at f lawful.prefix c.define.new.graph c.args.place here.0 before (definition_in found) rules here.1
-      (found_defines f c.define.new.graph here.0 found (c.in_ok-found.ensures.found here.0 here.2)) still in
+    (found_defines f c.define.new.graph here.0 found (c.in_ok-found.ensures.found here.0 here.2)) still in
     subst (λ ns. AreKnown f c.define.new.graph ns c.note.new.self.rules.items) (sym c.in_ok-note.ensures.nodes)
     (subst (AreKnown f c.define.new.graph _) (sym c.note.ensures.rules) known)
