@@ -139,7 +139,39 @@ active_made f p es places active padoa are =
         let x_is = slice_get-get_or (declared f) r.0 0 (omega (arith, lt, many)) in
         (padoa.links r.0 (get_or (declared f) r.0 0) g x_is r.2).made
 
--- a search that ends with an answer
+-- a search that ends with an answer, whatever was assumed
+module _ (f : Dqbf) (p : Padoa) (assumptions : List Literal) (old new : ProofLog) (id : ℕ) (padoa : IsPadoa f p old.entries) (r : IsRefutedUnder old new assumptions id) where
+  abbrev answer : Entry
+  answer = Answer r.clause r.hints
+
+  pub answered : new.entries ≡ Answer r.clause r.hints ∷ r.before.entries
+  answered = ap (λ (l : ProofLog). l.entries) r.answered
+
+  pub answer_last : id ≡ last_id r.before.entries + 1
+  answer_last = r.last ∙ ap last_id answered
+
+  pub padoa_answered : IsPadoa f p (Answer r.clause r.hints ∷ r.before.entries)
+  padoa_answered =
+      padoa_stays f (λ mine. Unit {0}) r.before.entries (answer ∷ r.before.entries) (keeps_entry f answer r.before.entries (λ w n named. named) (λ test mine. tt)) p (all_plain (groups_of p))
+      (padoa_learned f p old r.before r.learned padoa)
+
+  pub padoa_refuted : IsPadoa f p new.entries
+  padoa_refuted = subst (IsPadoa f p) (sym answered) padoa_answered
+
+  pub names_answered : NamesStay old.entries (Answer r.clause r.hints ∷ r.before.entries)
+  names_answered = names_learned old r.before f r.learned
+
+  pub silent_grew : DecidesNothing f r.before.entries (Answer r.clause r.hints) → (group : ℕ) → Grew (IsAddedBy f copies group true old.entries) old new
+  silent_grew undecided group =
+      let g = learned_grew f old r.before r.learned group in
+      record {
+        more = answer ∷ g.more;
+        grown = answered ∙ ap (λ es. answer ∷ es) g.grown;
+        each = (λ quiet. subst (λ es. DecidesNothing f es answer) g.grown undecided, g.each);
+        limit = ap (λ (l : ProofLog). l.limit) r.answered ∙ g.limit;
+      }
+
+-- a search in both copies that ends with an answer
 module _ (implied : LinesAreImplied)
     (stays : (e : Entry) (entries : List Entry) (id : ℕ) → IsId entries id → numbered has_id (e ∷ entries) id ≡ numbered has_id entries id)
     (are_ids : (entries : List Entry) (id i : ℕ) → AreLogged entries → IsId entries id → Reaches entries id i → IsId entries i)
@@ -148,27 +180,15 @@ module _ (implied : LinesAreImplied)
     (are_active : AreActive p places active)
     (one_is : name_literal old.entries one ≡ Some (named_literal (CopyOf 1 v) false)) (other_is : name_literal old.entries other ≡ Some (named_literal (CopyOf 2 v) false))
     (searched : IsSearched new.entries) (r : IsRefutedUnder old new (assumed active (one ∷ opposite other ∷ [])) id) where
-  abbrev answer : Entry
-  answer = Answer r.clause r.hints
+  abbrev under : List Literal
+  under = assumed active (one ∷ opposite other ∷ [])
 
-  answered : new.entries ≡ answer ∷ r.before.entries
-  answered = ap (λ (l : ProofLog). l.entries) r.answered
+  named_there : (l : Literal) (n : Name) → name_literal old.entries l ≡ Some (named_literal n false) → name_literal (Answer r.clause r.hints ∷ r.before.entries) l ≡ Some (named_literal n false)
+  named_there l n named =
+      literal_stays old.entries (Answer r.clause r.hints ∷ r.before.entries) (names_answered f p under old new id padoa r) l (named_literal n false) named
 
-  padoa_before : IsPadoa f p r.before.entries
-  padoa_before = padoa_learned f p old r.before r.learned padoa
-
-  padoa_there : IsPadoa f p (answer ∷ r.before.entries)
-  padoa_there =
-      padoa_stays f (λ mine. Unit {0}) r.before.entries (answer ∷ r.before.entries) (keeps_entry f answer r.before.entries (λ w n named. named) (λ test mine. tt)) p (all_plain (groups_of p)) padoa_before
-
-  pub padoa_refuted : IsPadoa f p new.entries
-  padoa_refuted = subst (IsPadoa f p) (sym answered) padoa_there
-
-  named_there : (l : Literal) (n : Name) → name_literal old.entries l ≡ Some (named_literal n false) → name_literal (answer ∷ r.before.entries) l ≡ Some (named_literal n false)
-  named_there l n named = literal_stays old.entries (answer ∷ r.before.entries) (names_learned old r.before f r.learned) l (named_literal n false) named
-
-  searched_there : IsSearched (answer ∷ r.before.entries)
-  searched_there = subst IsSearched answered searched
+  searched_there : IsSearched (Answer r.clause r.hints ∷ r.before.entries)
+  searched_there = subst IsSearched (answered f p under old new id padoa r) searched
 
   variable_is : (e : Existential) → existential_of f v ≡ Some e → e.variable ≡ v
   variable_is e found = (find_sound v f.existentials e found).1
@@ -176,32 +196,24 @@ module _ (implied : LinesAreImplied)
   pub shows : (e : Existential) → existential_of f v ≡ Some e → ShowsDefinition f e p one new.entries id
   shows e found =
       let v_is = variable_is e found in
-      subst (λ es. ShowsDefinition f e p one es id) (sym answered) (subst (ShowsDefinition f e p one (answer ∷ r.before.entries)) (sym id_is) (record {
+      let all = Answer r.clause r.hints ∷ r.before.entries in
+      subst (λ es. ShowsDefinition f e p one es id) (sym (answered f p under old new id padoa r)) (subst (ShowsDefinition f e p one all) (sym (answer_last f p under old new id padoa r)) (record {
         is_id = record { from_one = omega arith; last = omega arith };
         derived = searched_there.derived;
-        divides = divides f e p places active one other (answer ∷ r.before.entries) r.before.entries r.clause r.hints stays are_ids refl searched_there padoa_there (are e found) are_active
+        divides = divides f e p places active one other all r.before.entries r.clause r.hints stays are_ids refl searched_there (padoa_answered f p under old new id padoa r) (are e found) are_active
             (named_there one (CopyOf 1 e.variable) (one_is ∙ ap (λ x. Some (named_literal (CopyOf 1 x) false)) (sym v_is)))
             (named_there other (CopyOf 2 e.variable) (other_is ∙ ap (λ x. Some (named_literal (CopyOf 2 x) false)) (sym v_is))) r.negated;
       }))
-    where
-      id_is : id ≡ last_id r.before.entries + 1
-      id_is = r.last ∙ ap last_id answered
 
   pub refuted_grew : (group : ℕ) → Grew (IsAddedBy f copies group true old.entries) old new
-  refuted_grew group =
-      let g = learned_grew f old r.before r.learned group in
-      record {
-        more = answer ∷ g.more;
-        grown = answered ∙ ap (λ es. answer ∷ es) g.grown;
-        each = (λ quiet. subst (λ es. DecidesNothing f es answer) g.grown undecided, g.each);
-        limit = ap (λ (l : ProofLog). l.limit) r.answered ∙ g.limit;
-      }
+  refuted_grew = silent_grew f p under old new id padoa r undecided
     where
-      undecided : DecidesNothing f r.before.entries answer
-      undecided = some_existential f v (DecidesNothing f r.before.entries answer) is (λ e found.
+      undecided : DecidesNothing f r.before.entries (Answer r.clause r.hints)
+      undecided = some_existential f v (DecidesNothing f r.before.entries (Answer r.clause r.hints)) is (λ e found.
           let v_is = variable_is e found in
           undecided_answer implied f r.before.entries r.clause r.hints searched_there
-          (only_copies f e p places active one other (answer ∷ r.before.entries) r.before.entries r.clause r.hints stays are_ids refl searched_there padoa_there (are e found) are_active
+          (only_copies f e p places active one other (Answer r.clause r.hints ∷ r.before.entries) r.before.entries r.clause r.hints stays are_ids refl searched_there
+          (padoa_answered f p under old new id padoa r) (are e found) are_active
           (named_there one (CopyOf 1 e.variable) (one_is ∙ ap (λ x. Some (named_literal (CopyOf 1 x) false)) (sym v_is)))
           (named_there other (CopyOf 2 e.variable) (other_is ∙ ap (λ x. Some (named_literal (CopyOf 2 x) false)) (sym v_is))) r.negated))
 
@@ -220,7 +232,7 @@ places_below f y n places same is are =
 pub one_existential : (f : Dqbf) (v : ℕ) (P : Type 0) → IsSome (existential_of f v) → ((y : Existential) → existential_of f v ≡ Some y → P) → P
 one_existential f v P is use_it = some_existential f v P is use_it
 
-mapped_existential : (ys : List Existential) (e : Existential) → Contains ys e → Contains (map (λ z. z.variable) ys) e.variable
+pub mapped_existential : (ys : List Existential) (e : Existential) → Contains ys e → Contains (map (λ z. z.variable) ys) e.variable
 mapped_existential [] e (k, lt, at) = absurd (omega (arith, lt))
 mapped_existential (y ∷ ys) e (zero, lt, at) = (0, omega arith, ap (λ (z : Existential). z.variable) at)
 mapped_existential (y ∷ ys) e (suc k, lt, at) = let r = mapped_existential ys e (k, omega (arith, lt), at) in let b = r.1 in (suc r.0, omega (arith, b), r.2)

@@ -1,5 +1,5 @@
 -- What an answer of the copies rests on: the first copy on one side, the second copy and equations on the other.
-use Rattle.std.proofs.Common.{◌≡◌, ◌⊎◌, ℕ, suc, ◌+◌, Bool, true, false, true≢false, cond, append_assoc, ◌&&◌, inl, inr, List, [], ◌∷◌, ◌++◌, map, Option, Some, None, IsSome, slice_get, refl, sym, ◌∙◌, ap, subst, arith}
+use Rattle.std.proofs.Common.{◌≡◌, ◌⊎◌, ℕ, suc, ◌+◌, Bool, true, false, true≢false, cond, ◌&&◌, inl, inr, List, [], ◌∷◌, ◌++◌, map, Option, Some, None, IsSome, slice_get, refl, sym, ◌∙◌, ap, subst, arith}
 use Rattle.std.specs.List.{Contains, list_any}
 use Rattle.std.specs.Option.{option_and_then}
 use Rattle.std.proofs.lemmas.Bool.{or_cases, or_left, or_right, and_parts, eqb-true, eq-eqb}
@@ -22,8 +22,7 @@ use Rattle.hint_log.specs.declared.origins.Origin.TheVariants.{Instance, Gate, F
 use Rattle.aig_graph.specs.declared.nodes.Node.{Node}
 use Rattle.interpolants.specs.Interpolant.{Partition, partition, IsReachedGiven, IsOther}
 use Rattle.interpolants.proofs.Truth.{any_witness, same_literal-sound, same_literal-refl, opposite-opposite}
-use Rattle.log_laws.proofs.Found.{each_at, named_variable, numbered_among}
-use Rattle.log_laws.proofs.Reaching.{name_stays}
+use Rattle.log_laws.proofs.Found.{named_variable, numbered_among}
 use Rattle.oracle.specs.Calls.{assumed, IsMade, IsPlain}
 use Rattle.oracle.specs.Searched.{IsSearched}
 use Rattle.oracle.specs.declared.groups.Group.{Group}
@@ -33,10 +32,10 @@ use Rattle.padoa_definitions.specs.Seeing.{ArePlaces}
 use Rattle.padoa_definitions.specs.declared.padoa.Padoa.{Padoa}
 use Rattle.padoa_definitions.proofs.Copying.{opposite_name}
 use Rattle.padoa_definitions.proofs.Keeping.{NamesStay, named_stay}
-use Rattle.padoa_definitions.proofs.Reached.{IsOfCopies, IsOfAnswer, of_answer, is_given_entry, reached_given}
+use Rattle.padoa_definitions.proofs.Reached.{IsOfCopies, IsOfAnswer, of_answer, is_given_entry, reached_given, earlier_stay, group_named, own_at}
 
 -- right clauses by their origins
-copy_given : (es earlier : List Entry) (f : Dqbf) (side : ℕ) (origin : Origin) (c : List Literal) → NamesStay earlier es → is_copy_of side origin ≡ true → MatchesOrigin f earlier (Given origin c) →
+pub copy_given : (es earlier : List Entry) (f : Dqbf) (side : ℕ) (origin : Origin) (c : List Literal) → NamesStay earlier es → is_copy_of side origin ≡ true → MatchesOrigin f earlier (Given origin c) →
     IsCopyGiven es f side c
 copy_given es earlier f side (Instance k j) c stay test right = cc
 copy_given es earlier f side (Gate v i) c stay test right = cc
@@ -75,7 +74,7 @@ link_given es earlier f y x (Link v i) c stay seen test right =
       named = named_stay earlier es stay right.rest (link_names v i) right.rest_is.1;
     }
 
-of_copies : (side : ℕ) (origin : Origin) → is_copy_of side origin ≡ true → IsOfCopies origin
+pub of_copies : (side : ℕ) (origin : Origin) → is_copy_of side origin ≡ true → IsOfCopies origin
 of_copies side (Instance k j) h = cc
 of_copies side (Gate v i) h = cc
 of_copies side (Fault j i leaf) h = cc
@@ -89,14 +88,14 @@ of_links x (Fault j i leaf) h = cc
 of_links x (Copy s j) h = cc
 of_links x (Link v i) h = refl
 
-selector_not_copy : (o : Option Name) (g side v : ℕ) → o ≡ Some (Selector g) → o ≡ Some (CopyOf side v) → ⊥
+pub selector_not_copy : (o : Option Name) (g side v : ℕ) → o ≡ Some (Selector g) → o ≡ Some (CopyOf side v) → ⊥
 selector_not_copy o g side v a b = let e : Some (Selector g) ≡ Some (CopyOf side v) = sym a ∙ b in cc
 
-as_positive : (l : Literal) → is_negative l ≡ false → l ≡ positive (variable_of l)
+pub as_positive : (l : Literal) → is_negative l ≡ false → l ≡ positive (variable_of l)
 as_positive (positive v) h = refl
 as_positive (negative v) h = cc
 
-same_variable : (a b : ℕ) → positive a ≡ positive b → a ≡ b
+pub same_variable : (a b : ℕ) → positive a ≡ positive b → a ≡ b
 same_variable a b e = ap variable_of e
 
 -- an assumption: a selector of one of the groups, or the existential's copies
@@ -107,7 +106,7 @@ pub data IsAssumed (p : Padoa) (places : List ℕ) (one other : Literal) : Liter
   by_one : (l : Literal) → l ≡ one → IsAssumed p places one other l
   by_other : (l : Literal) → l ≡ opposite other → IsAssumed p places one other l
 
-holds_cases : (x : Literal) (xs : List Literal) (l : Literal) → holds (x ∷ xs) l ≡ true → (l ≡ x) ⊎ (holds xs l ≡ true)
+pub holds_cases : (x : Literal) (xs : List Literal) (l : Literal) → holds (x ∷ xs) l ≡ true → (l ≡ x) ⊎ (holds xs l ≡ true)
 holds_cases x xs l h = elim (or_cases (same_literal l x) (holds xs l) h) [ inl same ↦ inl (same_literal-sound l x same) | inr later ↦ inr later ]
 
 element_of : (gs : List Group) (more : List Literal) (l : Literal) → holds (map (λ g. g.selector) gs ++ more) l ≡ true → ((g : Group) × Contains gs g × (l ≡ g.selector)) ⊎ (holds more l ≡ true)
@@ -181,23 +180,14 @@ module _ (f : Dqbf) (y : Existential) (p : Padoa) (places : List ℕ) (active : 
     abbrev g : ℕ
     g = is.grouped.group
 
-    more_split : all ≡ (Answer clause hints ∷ is.more) ++ Given origin c ∷ is.earlier
-    more_split = ap (λ xs. Answer clause hints ∷ xs) is.split
+    stay : NamesStay is.earlier all
+    stay = earlier_stay f before clause hints searched origin c is
 
-    joined : all ≡ ((Answer clause hints ∷ is.more) ++ Given origin c ∷ []) ++ is.earlier
-    joined = more_split ∙ sym (append_assoc (Answer clause hints ∷ is.more) (Given origin c ∷ []) is.earlier)
+    g_named : name_of all g ≡ Some (Selector g)
+    g_named = group_named f before clause hints searched origin c is
 
-    earlier_stay : NamesStay is.earlier all
-    earlier_stay v n named =
-        ap (λ xs. name_of xs v) joined ∙ name_stays ((Answer clause hints ∷ is.more) ++ Given origin c ∷ []) is.earlier v n (subst AreLogged joined searched.logged) named
-
-    group_named : name_of all g ≡ Some (Selector g)
-    group_named = earlier_stay g (Selector g) is.grouped.named
-
-    own_at : (test : Origin → Bool) (h : ℕ) → g ≡ h → Each (IsGroupGiven f test h) all → (test origin ≡ true) × MatchesOrigin f is.earlier (Given origin c)
-    own_at test h same own =
-        each_at (IsGroupGiven f test h) (Answer clause hints ∷ is.more) is.earlier (Given origin c) (subst (Each (IsGroupGiven f test h)) more_split own)
-        (is.grouped.rest, is.grouped.clause_is ∙ ap (λ k. negative k ∷ is.grouped.rest) same)
+    own : (test : Origin → Bool) (h : ℕ) → g ≡ h → Each (IsGroupGiven f test h) all → (test origin ≡ true) × MatchesOrigin f is.earlier (Given origin c)
+    own = own_at f before clause hints searched origin c is
 
     data IsInSome : Type 0 where
       in_first : g ≡ first → IsInSome
@@ -214,7 +204,7 @@ module _ (f : Dqbf) (y : Existential) (p : Padoa) (places : List ℕ) (active : 
         let r = are_places.sound k among in
         let link = padoa.links k r.0 h r.1 at in
         in_link k r.0 h r.2 link (group_of h link.made same)
-    in_some (by_one l same) = absurd (not_one g (positive g) refl group_named same)
+    in_some (by_one l same) = absurd (not_one g (positive g) refl g_named same)
     in_some (by_other l same) = absurd (not_other g same)
 
     classified : IsInSome
@@ -224,9 +214,9 @@ module _ (f : Dqbf) (y : Existential) (p : Padoa) (places : List ℕ) (active : 
     is_of_copies = by classified
       where
         by : IsInSome → IsOfCopies origin
-        by (in_first same) = of_copies 1 origin (own_at (is_copy_of 1) first same padoa.first.own).0
-        by (in_second same) = of_copies 2 origin (own_at (is_copy_of 2) (group_variable p.second.group) same padoa.second.own).0
-        by (in_link k x link seen is_link same) = of_links x origin (own_at (is_link_of x) (group_variable link) same is_link.own).0
+        by (in_first same) = of_copies 1 origin (own (is_copy_of 1) first same padoa.first.own).0
+        by (in_second same) = of_copies 2 origin (own (is_copy_of 2) (group_variable p.second.group) same padoa.second.own).0
+        by (in_link k x link seen is_link same) = of_links x origin (own (is_link_of x) (group_variable link) same is_link.own).0
 
     -- the side of the clause is its group's
     on_a_group : list_any (λ l. holds a_side (opposite l) && is_selector all (variable_of l)) c ≡ true → g ≡ first
@@ -238,7 +228,7 @@ module _ (f : Dqbf) (y : Existential) (p : Padoa) (places : List ℕ) (active : 
           | inl here ↦ elim (holds_cases p.first.group.selector (one ∷ []) (opposite l) both.0) [
             | inl switch ↦ group_of p.first.group padoa.first.made (sym (ap opposite here) ∙ switch)
             | inr last ↦ elim (holds_cases one [] (opposite l) last) [
-              | inl is_one ↦ absurd (not_one g (opposite l) (ap opposite here) group_named is_one)
+              | inl is_one ↦ absurd (not_one g (opposite l) (ap opposite here) g_named is_one)
               | inr none ↦ cc
             ]
           ]
@@ -251,7 +241,7 @@ module _ (f : Dqbf) (y : Existential) (p : Padoa) (places : List ℕ) (active : 
             by : (o : Option Name) → name_of is.earlier (variable_of l) ≡ o → IsSome o → ⊥
             by None e some = cc
             by (Some n) e some =
-                let there = earlier_stay (variable_of l) n e in
+                let there = stay (variable_of l) n e in
                 true≢false (sym h ∙ ap is_selector_name there ∙ sym (ap is_selector_name e) ∙ plain.no_selector)
 
     on_a_first : g ≡ first → list_any (λ l. holds a_side (opposite l) && is_selector all (variable_of l)) c ≡ true
@@ -259,20 +249,20 @@ module _ (f : Dqbf) (y : Existential) (p : Padoa) (places : List ℕ) (active : 
         let test : Literal → Bool = λ l. holds a_side (opposite l) && is_selector all (variable_of l) in
         let switch : p.first.group.selector ≡ positive g = selector_is p.first.group padoa.first.made ∙ ap positive (sym same) in
         let held : holds a_side (positive g) ≡ true = or_left (same_literal (positive g) p.first.group.selector) (holds (one ∷ []) (positive g)) (ap (same_literal (positive g)) switch ∙ same_literal-refl (positive g)) in
-        let here : test (negative g) ≡ true = ap (λ b. b && is_selector all g) held ∙ ap is_selector_name group_named in
+        let here : test (negative g) ≡ true = ap (λ b. b && is_selector all g) held ∙ ap is_selector_name g_named in
         ap (list_any test) is.grouped.clause_is ∙ or_left (test (negative g)) (list_any test is.grouped.rest) here
 
     pub a_clause : list_any (λ l. holds a_side (opposite l) && is_selector all (variable_of l)) c ≡ true → IsCopyGiven all f 1 c
-    a_clause h = let r = own_at (is_copy_of 1) first (on_a_group h) padoa.first.own in copy_given all is.earlier f 1 origin c earlier_stay r.0 r.1
+    a_clause h = let r = own (is_copy_of 1) first (on_a_group h) padoa.first.own in copy_given all is.earlier f 1 origin c stay r.0 r.1
 
     pub b_clause : list_any (λ l. holds a_side (opposite l) && is_selector all (variable_of l)) c ≡ false → IsCopyGiven all f 2 c ⊎ IsLinkGiven all f y c
     b_clause h = by classified
       where
         by : IsInSome → IsCopyGiven all f 2 c ⊎ IsLinkGiven all f y c
         by (in_first same) = absurd (true≢false (sym (on_a_first same) ∙ h))
-        by (in_second same) = let r = own_at (is_copy_of 2) (group_variable p.second.group) same padoa.second.own in inl (copy_given all is.earlier f 2 origin c earlier_stay r.0 r.1)
+        by (in_second same) = let r = own (is_copy_of 2) (group_variable p.second.group) same padoa.second.own in inl (copy_given all is.earlier f 2 origin c stay r.0 r.1)
         by (in_link k x link seen is_link same) =
-            let r = own_at (is_link_of x) (group_variable link) same is_link.own in inr (link_given all is.earlier f y x origin c earlier_stay seen r.0 r.1)
+            let r = own (is_link_of x) (group_variable link) same is_link.own in inr (link_given all is.earlier f y x origin c stay seen r.0 r.1)
 
   selector_literal : (h : Group) → IsMade all h → (l : Literal) → l ≡ h.selector → IsSelectorLiteral all l
   selector_literal h made l same = (group_variable h, same ∙ selector_is h made, made.named)

@@ -58,10 +58,10 @@ given_id (e ∷ es) o c (suc k, lt, at) =
         let same : last_id (e ∷ es) ≡ last_id es = ap (λ b. cond b (last_id es + 1) (last_id es)) h in
         (id, omega (arith, below, same), ap (λ b. option_and_then clause_of (cond (b && (id == last_id es + 1)) (Some e) (numbered has_id es id))) h ∙ is)
 
-abbrev signed : Bool → Bool → Bool
+abbrev pub signed : Bool → Bool → Bool
 signed negated b = cond negated (not b) b
 
-literal_signed : (p : Assignment) (k : Literal) → literal_true p k ≡ signed (is_negative k) (p (variable_of k))
+pub literal_signed : (p : Assignment) (k : Literal) → literal_true p k ≡ signed (is_negative k) (p (variable_of k))
 literal_signed p (positive v) = refl
 literal_signed p (negative v) = refl
 
@@ -85,7 +85,7 @@ module _ (f : Dqbf) (es : List Entry) (values : Assignment) (formula : IsWellFor
   switched g rest on h = sym (ap (λ b. not b || clause_true values rest) on) ∙ h
 
   -- the bit that a row of values has for a variable
-  assigned : (side : ℕ) (xs : List ℕ) (lits : List Literal) → AreCopiesOf es side xs lits → (v w : ℕ) → Contains xs v → name_of es w ≡ Some (CopyOf side v) →
+  pub assigned : (side : ℕ) (xs : List ℕ) (lits : List Literal) → AreCopiesOf es side xs lits → (v w : ℕ) → Contains xs v → name_of es w ≡ Some (CopyOf side v) →
       assignment_of xs (values_at values lits) v ≡ values w
   assigned side [] lits are v w (k, lt, at) named = absurd (omega (arith, lt))
   assigned side (x ∷ xs) [] are v w among named = cc
@@ -204,7 +204,7 @@ opposite_true values (positive v) plain h = turned (values v) h
     turned true h = cc
 opposite_true values (negative v) plain h = cc
 
-positive_true : (values : Assignment) (l : Literal) → is_negative l ≡ false → literal_true values l ≡ true → values (variable_of l) ≡ true
+pub positive_true : (values : Assignment) (l : Literal) → is_negative l ≡ false → literal_true values l ≡ true → values (variable_of l) ≡ true
 positive_true values (positive v) plain h = h
 positive_true values (negative v) plain h = cc
 

@@ -8,9 +8,14 @@ pub mod Declaring
 pub mod Reached
 pub mod Dividing
 pub mod Sharing
-pub mod Forcing
+pub mod Interpolating
 pub mod FreePairs
 pub mod Standing
 pub mod Selecting
 pub mod Answering
+pub mod Ruling
+pub mod Asking
+pub mod Cubing
+pub mod Loosening
+pub mod Settling
 pub mod SharedCopies

@@ -1,5 +1,5 @@
 -- The given clauses that an answer of the copies reaches.
-use Rattle.std.proofs.Common.{◌≡◌, ◌⊎◌, ℕ, ◌+◌, ◌==◌, true, false, true≢false, cond, ◌||◌, inl, inr, List, [], ◌∷◌, ◌++◌, Option, Some, None, IsSome, refl, sym, ◌∙◌, ap, subst}
+use Rattle.std.proofs.Common.{◌≡◌, ◌⊎◌, ℕ, ◌+◌, ◌==◌, Bool, true, false, true≢false, cond, append_assoc, ◌||◌, inl, inr, List, [], ◌∷◌, ◌++◌, Option, Some, None, IsSome, refl, sym, ◌∙◌, ap, subst}
 use Rattle.std.specs.List.{Contains}
 use Rattle.std.specs.Option.{option_and_then}
 use Rattle.std.proofs.lemmas.Bool.{eq-eqb}
@@ -17,8 +17,11 @@ use Rattle.hint_log.specs.declared.origins.Origin.{Origin}
 use Rattle.hint_log.specs.declared.origins.Origin.TheVariants.{Instance, Gate, Fault, Copy, Link}
 use Rattle.log_laws.specs.Engines.{circuits, instances, copies, origin_engine}
 use Rattle.log_laws.proofs.Found.{split_at, each_at}
-use Rattle.log_laws.proofs.Reaching.{answer_true}
+use Rattle.log_laws.proofs.Reaching.{answer_true, name_stays}
+use Rattle.hint_log.specs.ProductiveLog.{MatchesOrigin}
 use Rattle.oracle.specs.Searched.{IsSearched, IsGivenToGroup, IsOfGroup}
+use Rattle.padoa_definitions.specs.Copies.{IsGroupGiven}
+use Rattle.padoa_definitions.proofs.Keeping.{NamesStay}
 
 -- the law of derived lines
 abbrev pub LinesAreImplied : Type 0
@@ -100,6 +103,28 @@ of_answer es clause hints searched origin c reached =
       grouped = grouped;
       kept = searched.kept.0 origin grouped.group grouped.rest (subst (ReachesGiven es hints origin) grouped.clause_is reached);
     }
+
+-- such a clause, seen from the answer
+module _ (f : Dqbf) (es : List Entry) (clause : List Literal) (hints : List ℕ) (searched : IsSearched (Answer clause hints ∷ es)) (origin : Origin) (c : List Literal)
+    (is : IsOfAnswer es clause origin c) where
+  more_split : Answer clause hints ∷ es ≡ (Answer clause hints ∷ is.more) ++ Given origin c ∷ is.earlier
+  more_split = ap (λ xs. Answer clause hints ∷ xs) is.split
+
+  joined : Answer clause hints ∷ es ≡ ((Answer clause hints ∷ is.more) ++ Given origin c ∷ []) ++ is.earlier
+  joined = more_split ∙ sym (append_assoc (Answer clause hints ∷ is.more) (Given origin c ∷ []) is.earlier)
+
+  pub earlier_stay : NamesStay is.earlier (Answer clause hints ∷ es)
+  earlier_stay v n named =
+      ap (λ xs. name_of xs v) joined ∙ name_stays ((Answer clause hints ∷ is.more) ++ Given origin c ∷ []) is.earlier v n (subst AreLogged joined searched.logged) named
+
+  pub group_named : name_of (Answer clause hints ∷ es) is.grouped.group ≡ Some (Selector is.grouped.group)
+  group_named = earlier_stay is.grouped.group (Selector is.grouped.group) is.grouped.named
+
+  pub own_at : (test : Origin → Bool) (h : ℕ) → is.grouped.group ≡ h → Each (IsGroupGiven f test h) (Answer clause hints ∷ es) →
+      (test origin ≡ true) × MatchesOrigin f is.earlier (Given origin c)
+  own_at test h same own =
+      each_at (IsGroupGiven f test h) (Answer clause hints ∷ is.more) is.earlier (Given origin c) (subst (Each (IsGroupGiven f test h)) more_split own)
+      (is.grouped.rest, is.grouped.clause_is ∙ ap (λ k. negative k ∷ is.grouped.rest) same)
 
 -- a clause of negated selectors isn't true everywhere
 abbrev all_true : Assignment

@@ -18,7 +18,7 @@ find_sound v (x ∷ xs) y h = by_bit (find_sound v xs y) (x.variable == v) refl 
   by_bit later true e h = let same : x ≡ y = cc in let is = eqb-true x.variable v e in ((0, omega arith, same), sym (ap (λ (z : Existential). z.variable) same) ∙ is)
   by_bit later false e h = let r = later h in let b = r.0.1 in ((suc r.0.0, omega (arith, b), r.0.2), r.1)
 
-sees_universals : (f : Dqbf) → IsLawful f → (v : ℕ) (y : Existential) → existential_of f v ≡ Some y → All (Contains f.universals) y.sees
+pub sees_universals : (f : Dqbf) → IsLawful f → (v : ℕ) (y : Existential) → existential_of f v ≡ Some y → All (Contains f.universals) y.sees
 sees_universals f lawful v y found = All-contains (λ z. All (Contains f.universals) z.sees) f.existentials y lawful.prefix.sees_universals (find_sound v f.existentials y found).0
 
 pub some_existential : (f : Dqbf) (v : ℕ) (P : Type 0) → IsSome (existential_of f v) → ((y : Existential) → existential_of f v ≡ Some y → P) → P

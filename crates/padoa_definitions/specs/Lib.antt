@@ -4,3 +4,5 @@ pub mod Standing
 pub mod Growing
 pub mod Dividing
 pub mod Seeing
+pub mod Forcing
+pub mod Ruling

@@ -95,8 +95,12 @@ impl Padoa {
     }
 }
 
-// The values of these literals' variables, in order.
-fn row_of_values<O: Oracle>(alloc: Global, oracle: &O, lits: &[Lit]) -> Result<Row, Memory>
+/// The values of these literals' variables, in order.
+pub(crate) fn row_of_values<O: Oracle>(
+    alloc: Global,
+    oracle: &O,
+    lits: &[Lit],
+) -> Result<Row, Memory>
     requires told { O.is_told oracle.now ≡ true }
     requires made { All (λ l. O.HasVariable oracle.now (variable_of l)) lits.now }
     ensures { IfOk result (λ row. row ≡ values_at (O.values oracle.now) lits.now) }

@@ -5,7 +5,7 @@ use Rattle.padoa_definitions.proofs.Answering.{places_below, one_existential}
 use Rattle.padoa_definitions.proofs.Declaring.{copies_declared, copies_long, declared_long}
 use Rattle.padoa_definitions.specs.Copies.{copies_of}
 use Rattle.dq_lits.specs.Formula.{declared}
-use Rattle.padoa_definitions.proofs.Forcing.{interpolant_defines}
+use Rattle.padoa_definitions.proofs.Interpolating.{interpolant_defines}
 use Rattle.padoa_definitions.proofs.SharedCopies.{shared_copies, shared_nodes}
 use Rattle.padoa_definitions.proofs.Sharing.{copies_share}
 use Rattle.padoa_definitions.proofs.padoa.Padoa.definition.Goals as goal

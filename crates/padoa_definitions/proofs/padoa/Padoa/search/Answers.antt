@@ -24,9 +24,7 @@ pub returns-clause-padoa : goal.returns-clause-padoa
 returns-clause-padoa g c =
     on_answer c.in_ok-answer.answer
     (λ e. padoa_learned c.args.f.now c.args.self.now c.args.log.now c.solve.new.log (c.solve.ensures.sat (c.in_ok-answer.was ∙ ap Ok e)).0 c.requires.padoa)
-    (λ id e. padoa_refuted c.derived_line_is_implied.ensures c.ids_stay.ensures c.reached_are_ids.ensures c.args.f.now c.args.self.now c.args.y c.args.places.now c.in_ok-active.active.items c.args.one.now
-    c.args.other.now c.args.log.now c.solve.new.log id c.requires.padoa c.requires.existential c.requires.places c.in_ok-active.ensures c.requires.one c.requires.other
-    (g.met.O.Oracle.searched c.solve.new.self c.solve.new.log c.solve.ensures.fit)
+    (λ id e. padoa_refuted c.args.f.now c.args.self.now (assumed c.in_ok-active.active.items (c.args.one.now ∷ opposite c.args.other.now ∷ [])) c.args.log.now c.solve.new.log id c.requires.padoa
     (subst (λ gs. IsRefutedUnder c.args.log.now c.solve.new.log (assumed gs (c.args.one.now ∷ opposite c.args.other.now ∷ [])) id) c.deref.ensures.value
     (subst (λ l. IsRefutedUnder c.args.log.now c.solve.new.log (assumed c.deref.result.now (c.args.one.now ∷ l ∷ [])) id) c.not.ensures (c.solve.ensures.unsat id (c.in_ok-answer.was ∙ ap Ok e)))))
 

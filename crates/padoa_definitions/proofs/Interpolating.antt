@@ -1,5 +1,5 @@
 -- From an interpolant between two linked copies to a definition.
-use Rattle.std.proofs.Common.{◌≡◌, ◌⊎◌, ℕ, Bool, true, false, not, cond, ◌||◌, inl, inr, List, [], ◌∷◌, map, Option, Some, None, get_or, refl, sym, ◌∙◌, ap, subst}
+use Rattle.std.proofs.Common.{◌≡◌, ◌⊎◌, ℕ, Bool, true, false, not, cond, ◌||◌, inl, inr, List, [], ◌∷◌, map, Some, get_or, refl, sym, ◌∙◌, ap, subst}
 use Rattle.std.specs.List.{list_any}
 use Rattle.std.proofs.lemmas.Bool.{cases_Bool, or_right, not-true}
 use Rattle.std.proofs.lemmas.List.Elements.{All-map, All-contains, Contains-get_or}
@@ -9,8 +9,7 @@ use Rattle.dq_lits.specs.Henkin.{MatrixHolds}
 use Rattle.hint_log.specs.Entries.{Entry, name_of}
 use Rattle.hint_log.specs.Naming.{NamedLiteral, named_literal, name_literal, AreNamedAs}
 use Rattle.hint_log.specs.Origins.{link_names}
-use Rattle.hint_log.specs.declared.names.Name.{Name}
-use Rattle.hint_log.specs.declared.names.Name.TheVariants.{Selector, Pair, Input, And, Bad, Copy as CopyOf}
+use Rattle.hint_log.specs.declared.names.Name.TheVariants.{Copy as CopyOf}
 use Rattle.definition_order.specs.Definitions.{IsDefinition, input_variable}
 use Rattle.definition_order.specs.Order.{MayRead}
 use Rattle.aig_graph.specs.Graph.{AigGraph, node_value, node_support}
@@ -19,36 +18,21 @@ use Rattle.interpolants.specs.Interpolant.{Partition, SideHolds, Agrees, is_on_a
 use Rattle.log_laws.proofs.Found.{named_variable}
 use Rattle.padoa_definitions.specs.Copies.{copy_names}
 use Rattle.padoa_definitions.specs.Defining.{DefinitionsAreForced}
+use Rattle.padoa_definitions.specs.Ruling.{copy_value, value_by, copied_assignment}
 use Rattle.padoa_definitions.specs.Dividing.{IsCopyGiven, IsLinkGiven, IsSelectorLiteral, Divides, AreSharedCopies}
 
--- each copy has its variable's value, and all groups are active
-abbrev copy_value : Assignment → Name → Bool
-copy_value m (Selector _) = true
-copy_value m (Pair _ _) = false
-copy_value m (Input _) = false
-copy_value m (And _ _) = false
-copy_value m (Bad _ _) = false
-copy_value m (CopyOf _ v) = m v
-
-abbrev value_by : Assignment → Option Name → Bool
-value_by m None = false
-value_by m (Some n) = copy_value m n
-
-abbrev copied_assignment : List Entry → Assignment → Assignment
-copied_assignment entries m v = value_by m (name_of entries v)
-
-abbrev signed : Bool → Bool → Bool
+abbrev pub signed : Bool → Bool → Bool
 signed negated b = cond negated (not b) b
 
-abbrev named_true : Assignment → NamedLiteral → Bool
+abbrev pub named_true : Assignment → NamedLiteral → Bool
 named_true m n = signed n.negated (copy_value m n.name)
 
-literal_signed : (p : Assignment) (k : Literal) → literal_true p k ≡ signed (is_negative k) (p (variable_of k))
+pub literal_signed : (p : Assignment) (k : Literal) → literal_true p k ≡ signed (is_negative k) (p (variable_of k))
 literal_signed p (positive v) = refl
 literal_signed p (negative v) = refl
 
 -- a named literal has its name's value
-named_is : (entries : List Entry) (m : Assignment) (k : Literal) (n : NamedLiteral) → name_literal entries k ≡ Some n → literal_true (copied_assignment entries m) k ≡ named_true m n
+pub named_is : (entries : List Entry) (m : Assignment) (k : Literal) (n : NamedLiteral) → name_literal entries k ≡ Some n → literal_true (copied_assignment entries m) k ≡ named_true m n
 named_is entries m k n is =
     let named = named_variable entries k n.name n.negated (name_of entries (variable_of k)) refl is in
     literal_signed (copied_assignment entries m) k ∙ ap (λ b. signed b (copied_assignment entries m (variable_of k))) named.1 ∙ ap (λ o. signed n.negated (value_by m o)) named.0
@@ -69,7 +53,7 @@ copies_true m side (l ∷ ls) =
     ap (λ b. b || list_any (named_true m) (copy_names side ls)) (sym (literal_signed m l)) ∙ ap (λ b. literal_true m l || b) (copies_true m side ls)
 
 -- every given clause is true where the matrix is
-copy_given_true : (entries : List Entry) (f : Dqbf) (side : ℕ) (m : Assignment) (clause : List Literal) → MatrixHolds f m → IsCopyGiven entries f side clause →
+pub copy_given_true : (entries : List Entry) (f : Dqbf) (side : ℕ) (m : Assignment) (clause : List Literal) → MatrixHolds f m → IsCopyGiven entries f side clause →
     clause_true (copied_assignment entries m) clause ≡ true
 copy_given_true entries f side m clause holds_there given =
     let p = copied_assignment entries m in
