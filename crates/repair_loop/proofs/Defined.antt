@@ -1,5 +1,5 @@
 -- What is kept while definitions are asked for: the log has nothing of the other engines, and the list of definitions grows.
-use Rattle.std.proofs.Common.{◌≡◌, ◌≢◌, ℕ, zero, suc, ◌<◌, ◌==◌, true, List, [], ◌∷◌, length, get_or, slice_get, replicate, set, Option, None, Some, refl, sym, ◌∙◌, ap, subst, inl, inr, arith, get_or-set_same, get_or-set_other, length-set}
+use Rattle.std.proofs.Common.{◌≡◌, ◌≢◌, ℕ, zero, suc, ◌<◌, ◌==◌, true, List, [], ◌∷◌, length, get_or, slice_get, replicate, set, Bool, Option, None, Some, IsSome, refl, sym, ◌∙◌, ap, subst, inl, inr, arith, get_or-set_same, get_or-set_other, length-set}
 use Rattle.std.specs.List.{All, Contains}
 use Rattle.std.proofs.lemmas.Bool.{false≢true, cases_Bool, eqb-true, eq-eqb}
 use Rattle.std.proofs.lemmas.List.{get_or-map, length-map, length-replicate}
@@ -19,11 +19,14 @@ use Rattle.dq_formula.specs.Rules.{IsRule}
 use Rattle.dq_formula.specs.declared.rules.Rule.{Rule}
 use Rattle.aig_graph.specs.Graph.{AigGraph}
 use Rattle.candidate_functions.specs.Candidates.{AreDefinitions, definition_of}
-use Rattle.candidate_functions.proofs.Declaring.{existential_at, variable}
+use Rattle.definition_order.proofs.Declared.{existential_at, variable}
 use Rattle.candidate_functions.proofs.Growing.{definitions_stay}
 use Rattle.padoa_definitions.specs.Defining.{IsFound}
 use Rattle.padoa_definitions.specs.declared.defining.Found.{Found}
 use Rattle.padoa_definitions.specs.declared.defining.Found.TheVariants.{Defined, Free}
+use Rattle.padoa_definitions.specs.Forcing.{IsForced}
+use Rattle.padoa_definitions.specs.declared.forcing.Forced.{Forced}
+use Rattle.padoa_definitions.specs.declared.forcing.Forced.TheVariants.{Rule as ByRule, Loose}
 use Rattle.repair_loop.specs.Searching.{IsFresh, AreKnown, definition_in}
 use Rattle.repair_loop.proofs.Stages.{still_kept, still_undecided, none_stays, no_entries_kept, no_entries_undecided, no_element}
 
@@ -129,3 +132,12 @@ existential_there f lawful variables all i below =
 pub found_defines : (f : Dqbf) (graph : AigGraph) (y : Existential) (found : Found) → IsFound f graph y found → (node : Node) → definition_in found ≡ Some node → IsDefinition f graph y node
 found_defines f graph y (Defined own) is node same = subst (IsDefinition f graph y) (let e : own ≡ node = cc in e) is
 found_defines f graph y (Free pair) is node same = cc
+
+pub some_existential : (o : Option Existential) → IsSome o → (y : Existential) × (o ≡ Some y)
+some_existential None is = cc
+some_existential (Some y) is = (y, refl)
+
+-- what forces it, where it is forced
+pub forced_rule : (f : Dqbf) (y : Existential) (row : List Bool) (bit : Bool) (forced : Forced) → IsForced f y row bit forced → (rule : Rule) → forced ≡ ByRule rule → IsRule f rule
+forced_rule f y row bit (ByRule own) is rule same = subst (IsRule f) (let e : own ≡ rule = cc in e) is.is_rule
+forced_rule f y row bit (Loose other values) is rule same = cc

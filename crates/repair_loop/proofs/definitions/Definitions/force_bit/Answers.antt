@@ -1,5 +1,7 @@
-use Rattle.std.proofs.Common.{◌∙◌, ap, Ok, true}
+use Rattle.std.proofs.Common.{true}
+use Rattle.dq_lits.specs.Formula.{existential_of}
 use Rattle.log_laws.specs.Engines.{copies, IsAddedBy}
+use Rattle.repair_loop.proofs.Defined.{some_existential, forced_rule}
 use Rattle.repair_loop.proofs.Stages.{after_copies, log_grew}
 use Rattle.repair_loop.proofs.definitions.Definitions.force_bit.Goals as goal
 
@@ -20,7 +22,10 @@ pub returns-in_err-keep-clause-grew : goal.returns-in_err-keep-clause-grew
 returns-in_err-keep-clause-grew g c = log_grew _ c.args.log.now c.force.new.log (c.force.ensures.grew 0)
 
 pub returns-in_err-keep-clause-rules : goal.returns-in_err-keep-clause-rules
-returns-in_err-keep-clause-rules g c = c.keep.ensures.rules c.args.f.now (λ r is. c.force.ensures.rule r (c.in_ok-forced.was ∙ ap Ok is)) c.requires.rules
+returns-in_err-keep-clause-rules g c =
+    let here = some_existential (existential_of c.args.f.now c.args.y) c.requires.existential in
+    c.keep.ensures.rules c.args.f.now
+    (forced_rule c.args.f.now here.0 c.row.result.now c.args.bit c.in_ok-forced.forced (c.in_ok-forced.ensures.forced here.0 here.1)) c.requires.rules
 
 pub returns-clause-goes_on : goal.returns-clause-goes_on
 returns-clause-goes_on g c =
@@ -31,4 +36,7 @@ pub returns-clause-grew : goal.returns-clause-grew
 returns-clause-grew g c = log_grew _ c.args.log.now c.force.new.log (c.force.ensures.grew 0)
 
 pub returns-clause-rules : goal.returns-clause-rules
-returns-clause-rules g c = c.keep.ensures.rules c.args.f.now (λ r is. c.force.ensures.rule r (c.in_ok-forced.was ∙ ap Ok is)) c.requires.rules
+returns-clause-rules g c =
+    let here = some_existential (existential_of c.args.f.now c.args.y) c.requires.existential in
+    c.keep.ensures.rules c.args.f.now
+    (forced_rule c.args.f.now here.0 c.row.result.now c.args.bit c.in_ok-forced.forced (c.in_ok-forced.ensures.forced here.0 here.1)) c.requires.rules
