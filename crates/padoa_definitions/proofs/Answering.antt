@@ -1,5 +1,5 @@
 -- What a search leaves and shows.
-use Rattle.std.proofs.Common.{◌≡◌, ◌≢◌, ℕ, zero, suc, ◌+◌, ◌<◌, ◌==◌, Bool, true, false, ◌||◌, List, [], ◌∷◌, ◌++◌, map, length, get_or, Option, Some, None, IsSome, slice_get, refl, sym, ◌∙◌, ap, subst, arith}
+use Rattle.std.proofs.Common.{◌≡◌, ◌≢◌, ℕ, zero, suc, ◌+◌, ◌<◌, ◌==◌, Bool, true, false, ◌||◌, List, [], ◌∷◌, ◌++◌, map, length, get_or, Option, Some, IsSome, slice_get, refl, sym, ◌∙◌, ap, subst, arith}
 use Rattle.std.specs.List.{All, Contains}
 use Rattle.std.proofs.lemmas.Bool.{ne_eqb}
 use Rattle.std.proofs.lemmas.List.{get_or_default}
@@ -32,7 +32,7 @@ use Rattle.padoa_definitions.proofs.Keeping.{Keeps, NamesStay, IsNamed, keeps_by
 use Rattle.padoa_definitions.proofs.Standing.{groups_named}
 use Rattle.padoa_definitions.proofs.Reached.{LinesAreImplied, undecided_answer}
 use Rattle.padoa_definitions.proofs.Dividing.{divides, only_copies}
-use Rattle.padoa_definitions.proofs.SeenPlaces.{find_sound}
+use Rattle.padoa_definitions.proofs.SeenPlaces.{find_sound, some_existential}
 
 each_weaker : (P Q : List Entry → Entry → Type 0) → ((earlier : List Entry) (e : Entry) → P earlier e → Q earlier e) → (more old : List Entry) → EachOf P more old → EachOf Q more old
 each_weaker P Q weaker [] old h = tt
@@ -104,13 +104,6 @@ copies_apart es y one other one_is other_is =
         ap (λ b. (b || false) || ((w == v || (false || false)) || false)) (ne_eqb v w apart) ∙ ap (λ b. (b || (false || false)) || false) (ne_eqb w v (λ same. apart (sym same)))
     by (positive v) (negative w) k l apart = cc
     by (negative v) l k m apart = cc
-
-some_existential : (f : Dqbf) (v : ℕ) (P : Type 0) → IsSome (existential_of f v) → ((y : Existential) → existential_of f v ≡ Some y → P) → P
-some_existential f v P is use_it = by (existential_of f v) refl is
-  where
-    by : (o : Option Existential) → existential_of f v ≡ o → IsSome o → P
-    by None e h = cc
-    by (Some y) e h = use_it y e
 
 pub places_within : (f : Dqbf) (p : Padoa) (es : List Entry) (y : ℕ) (places : List ℕ) → IsPadoa f p es → IsSome (existential_of f y) →
     ((e : Existential) → existential_of f y ≡ Some e → ArePlaces (declared f) (MayRead f e) places) → All (λ k. k < length p.links.items) places
@@ -228,9 +221,6 @@ places_below f y n places same is are =
     let r = (are e found).sound (get_or places k d) (k, lt, get_or_default places k (get_or places k d) d lt) in
     let within = slice_get_within (declared f) (get_or places k d) r.0 r.1 in
     omega (arith, within, same))
-
-pub one_existential : (f : Dqbf) (v : ℕ) (P : Type 0) → IsSome (existential_of f v) → ((y : Existential) → existential_of f v ≡ Some y → P) → P
-one_existential f v P is use_it = some_existential f v P is use_it
 
 pub mapped_existential : (ys : List Existential) (e : Existential) → Contains ys e → Contains (map (λ z. z.variable) ys) e.variable
 mapped_existential [] e (k, lt, at) = absurd (omega (arith, lt))

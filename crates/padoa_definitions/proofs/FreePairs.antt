@@ -32,6 +32,7 @@ use Rattle.padoa_definitions.specs.declared.copies.MatrixCopy.{MatrixCopy}
 use Rattle.padoa_definitions.specs.declared.defining.Pair.{Pair}
 use Rattle.padoa_definitions.specs.declared.padoa.Padoa.{Padoa}
 use Rattle.padoa_definitions.proofs.Copying.{element_at, named_length, copy_at}
+use Rattle.padoa_definitions.proofs.Interpolating.{signed, literal_signed}
 use Rattle.padoa_definitions.proofs.Declaring.{copies_declared, copies_long}
 
 -- a given clause has an id
@@ -57,13 +58,6 @@ given_id (e ∷ es) o c (suc k, lt, at) =
     later false h id below is =
         let same : last_id (e ∷ es) ≡ last_id es = ap (λ b. cond b (last_id es + 1) (last_id es)) h in
         (id, omega (arith, below, same), ap (λ b. option_and_then clause_of (cond (b && (id == last_id es + 1)) (Some e) (numbered has_id es id))) h ∙ is)
-
-abbrev pub signed : Bool → Bool → Bool
-signed negated b = cond negated (not b) b
-
-pub literal_signed : (p : Assignment) (k : Literal) → literal_true p k ≡ signed (is_negative k) (p (variable_of k))
-literal_signed p (positive v) = refl
-literal_signed p (negative v) = refl
 
 found_universal : (us : List ℕ) (v : ℕ) → list_any (λ x. x == v) us ≡ true → Contains us v
 found_universal [] v h = cc
@@ -191,10 +185,6 @@ module _ (f : Dqbf) (es : List Entry) (values : Assignment) (formula : IsWellFor
       both true false d u = cc
       both false true d u = cc
       both false false d u = refl
-
-as_positive : (l : Literal) → is_negative l ≡ false → l ≡ positive (variable_of l)
-as_positive (positive v) h = refl
-as_positive (negative v) h = cc
 
 opposite_true : (values : Assignment) (l : Literal) → is_negative l ≡ false → literal_true values (opposite l) ≡ true → values (variable_of l) ≡ false
 opposite_true values (positive v) plain h = turned (values v) h

@@ -18,7 +18,8 @@ use Rattle.padoa_definitions.specs.Dividing.{values_at}
 use Rattle.padoa_definitions.specs.Forcing.{IsLoose}
 use Rattle.padoa_definitions.specs.declared.padoa.Padoa.{Padoa}
 use Rattle.padoa_definitions.proofs.Asking.{AreAsked, not_not}
-use Rattle.padoa_definitions.proofs.FreePairs.{signed, literal_signed, positive_true, assigned, sample, copied_value}
+use Rattle.padoa_definitions.proofs.FreePairs.{positive_true, assigned, sample, copied_value}
+use Rattle.padoa_definitions.proofs.Interpolating.{signed, literal_signed}
 use Rattle.padoa_definitions.proofs.Ruling.{held_of_all}
 
 same_map : (m n : Assignment) (xs : List ℕ) → ((x : ℕ) → Contains xs x → m x ≡ n x) → map m xs ≡ map n xs

@@ -1,13 +1,12 @@
 //! Bits that existentials are forced to have where they see what they see at a row.
 
-ghost use Rattle.std.specs.Prelude.{◌≡◌, ◌⊎◌, ◌<◌, ◌∷◌, [], ℕ, List, true, false, not, All, length, IfOk, IsErrOf, IsSome, Some, Ok};
+ghost use Rattle.std.specs.Prelude.{◌≡◌, ◌<◌, ◌∷◌, [], ℕ, List, true, false, All, length, IfOk, IsErrOf, IsSome, Some, Ok};
 ghost use Rattle.dq_lits.specs.Derivation.{is_tautology};
 ghost use Rattle.dq_lits.specs.Formula.{Existential, IsWellFormed, existential_of};
-ghost use Rattle.dq_lits.specs.Literal.{Literal, variable_of, is_negative};
+ghost use Rattle.dq_lits.specs.Literal.{Literal, variable_of};
 ghost use Rattle.hint_log.specs.Conditions.{IsId};
 ghost use Rattle.hint_log.specs.Entries.{clause_at, name_of, steps_of};
 ghost use Rattle.hint_log.specs.Growth.{Grew};
-ghost use Rattle.hint_log.specs.declared.names.Name.TheVariants.{Copy as CopyOf};
 ghost use Rattle.log_laws.specs.Engines.{copies, IsAddedBy};
 ghost use Rattle.oracle.specs.Calls.{IsModelUnder, assumed};
 ghost use Rattle.padoa_definitions.specs.Copies.{IsPadoa};

@@ -1,7 +1,7 @@
 //! The clauses of a copy of the matrix.
 
-ghost use Rattle.std.specs.Prelude.{◌≡◌, ◌⊎◌, ◌<◌, ◌+◌, ℕ, List, true, All, Contains, IfOk, OnOk, OnErr, None, Some, length, slice_get};
-ghost use Rattle.dq_lits.specs.Literal.{Literal, variable_of};
+ghost use Rattle.std.specs.Prelude.{◌≡◌, ◌⊎◌, ◌<◌, ◌+◌, ℕ, List, true, Contains, IfOk, OnOk, OnErr, None, length};
+ghost use Rattle.dq_lits.specs.Literal.{Literal};
 ghost use Rattle.dq_lits.specs.Formula.{IsWellFormed, declared};
 ghost use Rattle.dq_formula.specs.Prefix.{existential_variables};
 ghost use Rattle.hint_log.specs.Entries.{Given, name_of};

@@ -1,6 +1,6 @@
 //! Equations between the copies of the variables.
 
-ghost use Rattle.std.specs.Prelude.{◌≡◌, ◌⊎◌, ◌<◌, ℕ, List, true, false, Contains, IfOk, OnOk, OnErr, None, Some, length, slice_get};
+ghost use Rattle.std.specs.Prelude.{◌≡◌, ◌⊎◌, ◌<◌, ℕ, List, true, false, Contains, IfOk, OnOk, None, Some, length};
 ghost use Rattle.dq_lits.specs.Literal.{Literal};
 ghost use Rattle.dq_lits.specs.Formula.{Dqbf, declared};
 ghost use Rattle.hint_log.specs.Entries.{Given, name_of};

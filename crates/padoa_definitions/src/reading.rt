@@ -1,7 +1,7 @@
 //! What a search found: a definition, or values of both copies.
 
-ghost use Rattle.std.specs.Prelude.{◌≡◌, ◌<◌, ◌+◌, ℕ, List, true, false, All, map, length, slice_index_or, IfOk, IsSome, Some};
-ghost use Rattle.dq_lits.specs.Literal.{positive, variable_of};
+ghost use Rattle.std.specs.Prelude.{◌≡◌, ◌<◌, ◌+◌, true, false, All, length, IfOk, IsSome, Some};
+ghost use Rattle.dq_lits.specs.Literal.{variable_of};
 ghost use Rattle.dq_lits.specs.Formula.{Existential, declared, existential_of};
 ghost use Rattle.hint_log.specs.Naming.{named_literal, name_literal};
 ghost use Rattle.hint_log.specs.declared.names.Name.TheVariants.{Copy as CopyOf};

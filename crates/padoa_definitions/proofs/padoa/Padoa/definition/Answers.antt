@@ -1,7 +1,8 @@
 use Rattle.std.proofs.Common.{◌∷◌, [], length, sym, ◌∙◌, subst}
 use Rattle.interpolants.specs.Interpolant.{partition, SharesAll, AreNodes}
 use Rattle.padoa_definitions.specs.Dividing.{AreSharedCopies}
-use Rattle.padoa_definitions.proofs.Answering.{places_below, one_existential}
+use Rattle.padoa_definitions.proofs.Answering.{places_below}
+use Rattle.padoa_definitions.proofs.SeenPlaces.{some_existential}
 use Rattle.padoa_definitions.proofs.Declaring.{copies_declared, copies_long, declared_long}
 use Rattle.padoa_definitions.specs.Copies.{copies_of}
 use Rattle.dq_lits.specs.Formula.{declared}
@@ -23,14 +24,14 @@ shared-requires-clause-inputs c = places_below c.args.f.now c.args.y c.args.grap
 
 pub from_log-requires-clause-shares : goal.from_log-requires-clause-shares
 from_log-requires-clause-shares c =
-    one_existential c.args.f.now c.args.y (SharesAll (partition c.args.log.now.entries c.args.id (c.args.self.now.first.group.selector ∷ c.args.one.now ∷ []) c.deref.result.now)) c.requires.existential (λ e found.
+    some_existential c.args.f.now c.args.y (SharesAll (partition c.args.log.now.entries c.args.id (c.args.self.now.first.group.selector ∷ c.args.one.now ∷ []) c.deref.result.now)) c.requires.existential (λ e found.
     copies_share (partition c.args.log.now.entries c.args.id (c.args.self.now.first.group.selector ∷ c.args.one.now ∷ []) c.deref.result.now) c.args.f.now e ((c.requires.shown e found).divides c.deref.result.now) c.args.graph.now (subst (AreSharedCopies c.args.f.now e c.args.log.now.entries c.args.graph.now) (sym (c.deref.ensures.value ∙ c.in_ok-shared.ensures))
     (shared_copies c.args.f.now e c.args.self.now c.args.places.now c.args.log.now.entries (c.requires.places e found) (copies_declared c.args.f.now 1 c.args.self.now.first c.args.log.now.entries c.requires.padoa.first.universals c.requires.padoa.first.existentials) c.args.graph.now
     (λ v w name a b. c.names_are_unique.ensures c.args.log.now.entries v w name c.every_log_is_lawful.ensures a b))))
 
 pub from_log-requires-clause-nodes : goal.from_log-requires-clause-nodes
 from_log-requires-clause-nodes c =
-    one_existential c.args.f.now c.args.y (AreNodes c.deref.result.now c.args.graph.now) c.requires.existential (λ e found.
+    some_existential c.args.f.now c.args.y (AreNodes c.deref.result.now c.args.graph.now) c.requires.existential (λ e found.
     subst (λ xs. AreNodes xs c.args.graph.now) (sym (c.deref.ensures.value ∙ c.in_ok-shared.ensures))
     (shared_nodes c.args.f.now e c.args.self.now c.args.places.now c.args.log.now.entries (c.requires.places e found) (copies_declared c.args.f.now 1 c.args.self.now.first c.args.log.now.entries c.requires.padoa.first.universals c.requires.padoa.first.existentials) c.args.graph.now (c.requires.inputs ∙ sym (declared_long c.args.f.now))))
 
