@@ -3,6 +3,5 @@ pub mod Made
 pub mod Joining
 pub mod Marking
 pub mod Outputs
-pub mod Definitions
 pub mod Substituting
 pub mod Putting
