@@ -64,6 +64,7 @@ fn read_proof_lines(
 fn last_variable(f: &Formula, c: &Circuit) -> u64
     ensures { result ≡ c.now.max_var + length f.now.matrix }
 {
+    c.every_circuit_is_a_netlist();
     c.max_var() + f.clauses() as u64
 }
 
