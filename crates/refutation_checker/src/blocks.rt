@@ -13,7 +13,7 @@ ghost use Rattle.refutation_checker.specs.Pairs.{existential_part};
 ghost use Rattle.refutation_checker.specs.PairTable.{AreBlocks};
 
 use crate::pair_tables::PairTable;
-use cert_text::Step;
+use cert_text::StepList;
 use dq_lits::{Clause, Lit, Memory};
 use number_tables::NumberSet;
 use std::alloc::Global;
@@ -23,7 +23,7 @@ pub(crate) fn learn_steps(
     alloc: Global,
     table: &mut PairTable,
     parts: &[Clause],
-    steps: &[Step],
+    steps: &StepList,
 ) -> Result<(), Memory>
     requires parts { parts.now ≡ map (existential_part table.old.formula) table.old.formula.matrix }
     requires pairs { All (λ step. All (λ l. is_pair_number table.old.formula (length table.old.rows) (variable_of l) ≡ true) step.literals) steps.now }
@@ -38,7 +38,7 @@ fn blocks_of(
     alloc: Global,
     table: &PairTable,
     parts: &[Clause],
-    steps: &[Step],
+    steps: &StepList,
 ) -> Result<Vec<u64>, Memory>
     requires parts { parts.now ≡ map (existential_part table.now.formula) table.now.formula.matrix }
     requires pairs { All (λ step. All (λ l. is_pair_number table.now.formula (length table.now.rows) (variable_of l) ≡ true) step.literals) steps.now }
@@ -54,7 +54,7 @@ fn blocks_of(
 fn see_steps(
     table: &PairTable,
     parts: &[Clause],
-    steps: &[Step],
+    steps: &StepList,
     seen: &mut NumberSet,
 ) -> Result<(), Memory>
     requires parts { parts.now ≡ map (existential_part table.now.formula) table.now.formula.matrix }
@@ -62,9 +62,10 @@ fn see_steps(
     requires seen { AreBlocks table.now seen.old }
     ensures { OnOk result (AreBlocks table.now seen.new) }
 {
-    for step in steps {
-        see_hinted(table, parts, step.hints(), step.lits().len(), seen)?;
-        see_line(table, step.lits(), seen)?;
+    for i in 0..steps.len() {
+        let step = steps.get(i);
+        see_hinted(table, parts, step.hints, step.lits.len(), seen)?;
+        see_line(table, step.lits, seen)?;
     }
     Ok(())
 }
