@@ -104,7 +104,11 @@ fn line_ends(bytes: &[u8]) -> usize
     ensures is { result ≡ line_ends bytes.now }
     ensures bound { result ≤ length bytes.now }
 {
-    bytes.iter().filter(|byte| **byte == b'\n').count()
+    let mut count = 0;
+    for byte in bytes {
+        count += usize::from(*byte == b'\n');
+    }
+    count
 }
 
 // The number of the first line of a comment, which ends a text of so many line ends.
