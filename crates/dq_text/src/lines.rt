@@ -5,6 +5,7 @@ ghost use Rattle.dq_text.specs.Number.{number_of};
 use crate::cursors::{separator_free_length, skip_separators};
 use crate::numbers::{Number, read_number};
 use crate::short_numbers::short_number;
+use memchr::memchr;
 use std::marker::Model;
 
 /// A line of a text without its LF, with its number.
@@ -85,7 +86,7 @@ impl<'a> Lines<'a> {
 fn cut_line(bytes: &[u8]) -> (&[u8], &[u8])
     ensures first { IsFirstLine bytes.now result.0.now result.1.now }
 {
-    match bytes.iter().position(|byte| *byte == b'\n') {
+    match memchr(b'\n', bytes) {
         None => (bytes, &bytes[bytes.len()..]),
         Some(end) => (&bytes[..end], &bytes[end + 1..]),
     }
