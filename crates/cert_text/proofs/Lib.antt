@@ -18,6 +18,7 @@ pub mod PlainSteps
 pub mod ProofSpelling
 pub mod RefutationSpelling
 pub mod RowSpelling
+pub mod SignsTaken
 pub mod SmallNumbers
 pub mod StepSpelling
 pub mod Writing

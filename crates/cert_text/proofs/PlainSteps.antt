@@ -29,7 +29,7 @@ pub first_small : (tokens left : Tokens) (n : ℤ) → map number_of tokens ≡ 
 first_small [] left n h = cc
 first_small (token ∷ tokens) left n h = let here : number_of token ≡ Int n = cc in token_small token n here
 
-integers-append : (ms ns : List ℤ) → integers (ms ++ ns) ≡ integers ms ++ integers ns
+pub integers-append : (ms ns : List ℤ) → integers (ms ++ ns) ≡ integers ms ++ integers ns
 integers-append [] ns = refl
 integers-append (m ∷ ms) ns = ap (λ rest. Int m ∷ rest) (integers-append ms ns)
 
@@ -38,7 +38,7 @@ pub variable_positive : (vs : Variables) (v : ℕ) → is_variable vs v ≡ true
 variable_positive (Pairs pairs) v h = pair_positive pairs.formula.now pairs.rows v h
 variable_positive (UpTo last) v h = leb-true 1 v (and_parts _ _ h).0
 
-wide : (n : ℤ) → nat_abs n < 10 ^ 18 → to_z w64 (of_z w64 n) ≡ n
+pub wide : (n : ℤ) → nat_abs n < 10 ^ 18 → to_z w64 (of_z w64 n) ≡ n
 wide (pos n) small = to_z-of_z w64 (pos n) (omega (arith, small))
 wide (negsuc n) small = to_z-of_z w64 (negsuc n) (omega (arith, small))
 

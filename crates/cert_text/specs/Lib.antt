@@ -16,6 +16,7 @@ pub mod PlainStep
 pub mod ProofGrammar
 pub mod RowLine
 pub mod Scan
+pub mod SignsTaken
 pub mod StepLine
 pub mod StepNumbers
 pub mod Steps
