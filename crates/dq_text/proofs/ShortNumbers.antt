@@ -47,31 +47,33 @@ word_cut : (word rest : List ℕ) → IsWord word → goes_on rest ≡ false →
 word_cut [] rest is ends = absurd is
 word_cut (byte ∷ word) rest is ends = word_ends byte word rest is.0 is.1 ends
 
-digits_of : (bytes others : List ℕ) (n : ℕ) (b : BeginsWithNatural bytes n others) → AreDigitsOf n b.digits
-digits_of bytes others n b = record { some = b.some; are = b.are; value = b.value_is }
+digits_of : (bytes left : List ℕ) (n : ℕ) (b : BeginsWithNatural bytes n left) → AreDigitsOf n b.digits
+digits_of bytes left n b = record { some = b.some; are = b.are; value = b.value_is }
 
-pub natural_begins : (bytes others : List ℕ) (n : ℕ) → BeginsWithNatural bytes n others →
-    map number_of (line_tokens bytes) ≡ Int (pos n) ∷ map number_of (line_tokens others)
-natural_begins bytes others n b =
+pub natural_begins : (bytes left : List ℕ) (n : ℕ) → BeginsWithNatural bytes n left →
+    map number_of (line_tokens bytes) ≡ Int (pos n) ∷ map number_of (line_tokens left)
+natural_begins bytes left n b =
     ap (λ text. map number_of (line_tokens text)) b.parts
-    ∙ ap (map number_of) (word_cut b.digits others (digits_word b.digits b.some b.are) b.ends)
-    ∙ ap (λ number. number ∷ map number_of (line_tokens others)) (digits_number b.digits n b.small (digits_of bytes others n b))
+    ∙ ap (map number_of) (word_cut b.digits b.others (digits_word b.digits b.some b.are) b.ends)
+    ∙ ap (λ number. number ∷ map number_of (line_tokens b.others)) (digits_number b.digits n b.small (digits_of bytes left n b))
+    ∙ ap (λ tokens. Int (pos n) ∷ map number_of tokens) (sym b.same)
 
 minus_word : (ds : List ℕ) → IsWord ds → IsWord (45 ∷ ds)
 minus_word [] is = absurd is
 minus_word (d ∷ ds) is = (refl, is)
 
-negative_begins_suc : (bytes others : List ℕ) (n : ℕ) → BeginsWithNatural bytes (suc n) others →
-    map number_of (line_tokens (45 ∷ bytes)) ≡ Int (negsuc n) ∷ map number_of (line_tokens others)
-negative_begins_suc bytes others n b =
+negative_begins_suc : (bytes left : List ℕ) (n : ℕ) → BeginsWithNatural bytes (suc n) left →
+    map number_of (line_tokens (45 ∷ bytes)) ≡ Int (negsuc n) ∷ map number_of (line_tokens left)
+negative_begins_suc bytes left n b =
     ap (λ text. map number_of (line_tokens (45 ∷ text))) b.parts
-    ∙ ap (map number_of) (word_cut (45 ∷ b.digits) others (minus_word b.digits (digits_word b.digits b.some b.are)) b.ends)
-    ∙ ap (λ number. number ∷ map number_of (line_tokens others)) (negative_value b.digits n (are_some b.digits b.some b.are) b.value_is b.small)
+    ∙ ap (map number_of) (word_cut (45 ∷ b.digits) b.others (minus_word b.digits (digits_word b.digits b.some b.are)) b.ends)
+    ∙ ap (λ number. number ∷ map number_of (line_tokens b.others)) (negative_value b.digits n (are_some b.digits b.some b.are) b.value_is b.small)
+    ∙ ap (λ tokens. Int (negsuc n) ∷ map number_of tokens) (sym b.same)
 
-pub negative_begins : (bytes others : List ℕ) (n : ℕ) → 1 ≤ n → BeginsWithNatural bytes n others →
-    map number_of (line_tokens (45 ∷ bytes)) ≡ Int (neg_ℤ (pos n)) ∷ map number_of (line_tokens others)
-negative_begins bytes others zero some b = absurd (omega (arith, some))
-negative_begins bytes others (suc n) some b = negative_begins_suc bytes others n b
+pub negative_begins : (bytes left : List ℕ) (n : ℕ) → 1 ≤ n → BeginsWithNatural bytes n left →
+    map number_of (line_tokens (45 ∷ bytes)) ≡ Int (neg_ℤ (pos n)) ∷ map number_of (line_tokens left)
+negative_begins bytes left zero some b = absurd (omega (arith, some))
+negative_begins bytes left (suc n) some b = negative_begins_suc bytes left n b
 
 -- all bytes are digits
 pub leading_whole : (bytes : List ℕ) (i value : ℕ) → length bytes ≡ i → length bytes ≤ 18 → list_all is_ascii_digit (take i bytes) ≡ true →
@@ -85,20 +87,22 @@ leading_whole bytes i value whole few are is below =
     }
 
 -- what is behind the digits
-pub natural_found : (bytes first rest : List ℕ) (value count : ℕ) → first ≡ take 18 bytes → IsLeadingValue first value count → 1 ≤ count →
-    rest ≡ drop count bytes → goes_on rest ≡ false → BeginsWithNatural bytes value rest
-natural_found bytes first rest value count first_is leading some rest_is ends =
+pub natural_found : (bytes first rest left : List ℕ) (value count : ℕ) → first ≡ take 18 bytes → IsLeadingValue first value count → 1 ≤ count →
+    rest ≡ drop count bytes → goes_on rest ≡ false → line_tokens left ≡ line_tokens rest → BeginsWithNatural bytes value left
+natural_found bytes first rest left value count first_is leading some rest_is ends left_is =
     let few : count ≤ 18 = omega (arith, leading.within, ap length first_is, length-take 18 bytes) in
     let inside : count ≤ length bytes = omega (arith, leading.within, ap length first_is, length-take 18 bytes) in
     let same : take count first ≡ take count bytes = ap (take count) first_is ∙ take-take count 18 bytes few in
     record {
       digits = take count bytes;
+      others = rest;
       parts = sym (take-append-drop count bytes) ∙ ap (λ more. take count bytes ++ more) (sym rest_is);
       some = omega (arith, length-take-le count bytes inside, some);
       are = ap (list_all is_ascii_digit) (sym same) ∙ leading.are;
       value_is = ap decimal_value (sym same) ∙ sym leading.value_is;
       small = leading.small;
       ends = ends;
+      same = left_is;
     }
 
 pub all_behind : (bytes : List ℕ) (n count : ℕ) → length bytes ≡ n → take (n - count) (drop count bytes) ≡ drop count bytes

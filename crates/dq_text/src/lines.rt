@@ -132,6 +132,7 @@ impl<'a> LineTokens<'a> {
     }
 
     /// The next token as a number; none at the end, then and from then on.
+    #[inline(always)]
     pub fn next_number(&mut self) -> Option<Number>
         ensures number { MatchOption result (self.old ≡ []) (λ n. map number_of self.old ≡ n ∷ map number_of self.new) }
         ensures end { IfNone result (self.new ≡ []) }
@@ -141,6 +142,15 @@ impl<'a> LineTokens<'a> {
             self.rest = behind;
             return Some(Number::Int(number));
         }
+        self.next_any()
+    }
+
+    // The same of any token.
+    #[inline(never)]
+    fn next_any(&mut self) -> Option<Number>
+        ensures number { MatchOption result (self.old ≡ []) (λ n. map number_of self.old ≡ n ∷ map number_of self.new) }
+        ensures end { IfNone result (self.new ≡ []) }
+    {
         match self.next() {
             Some(token) => Some(read_number(token)),
             None => None,

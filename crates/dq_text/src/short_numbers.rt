@@ -1,6 +1,6 @@
 //! Numbers of few digits, read in one pass over their bytes.
 
-ghost use Rattle.std.specs.Prelude.{◌≡◌, ◌≤◌, ◌<◌, ◌^◌, ◌∷◌, pos, neg_ℤ, length, map, take, IfSome};
+ghost use Rattle.std.specs.Prelude.{◌≡◌, ◌≤◌, ◌<◌, ◌^◌, ◌∷◌, false, pos, neg_ℤ, length, map, take, IfSome};
 ghost use Rattle.dq_text.specs.Line.{line_tokens};
 ghost use Rattle.dq_text.specs.Number.{number_of};
 ghost use Rattle.dq_text.specs.ShortNumber.{BeginsWithNatural, IsLeadingValue};
@@ -59,10 +59,10 @@ fn short_natural(bytes: &[u8]) -> Option<(u64, &[u8])>
     ensures { IfSome result (λ found. BeginsWithNatural bytes.now found.0 found.1.now) }
 {
     let (value, count) = leading_value(first_bytes(bytes));
-    let behind = &bytes[count..];
-    if count == 0 || continues(behind) {
+    if count == 0 {
         return None;
     }
+    let behind = behind_token(&bytes[count..])?;
     Some((value, behind))
 }
 
@@ -91,12 +91,13 @@ fn leading_value(bytes: &[u8]) -> (u64, usize)
     (value, bytes.len())
 }
 
-// Whether a token that ends before these bytes would go on in them.
-fn continues(bytes: &[u8]) -> bool
-    ensures { result ≡ goes_on bytes.now }
+// The bytes behind the separator that ends a token here, if one does.
+fn behind_token(bytes: &[u8]) -> Option<&[u8]>
+    ensures ends { IfSome result (λ _. goes_on bytes.now ≡ false) }
+    ensures same { IfSome result (λ rest. line_tokens rest.now ≡ line_tokens bytes.now) }
 {
-    match bytes.first() {
-        Some(byte) => !separates(*byte),
-        None => false,
+    match bytes.split_first() {
+        None => Some(bytes),
+        Some((byte, rest)) => { if separates(*byte) { Some(rest) } else { None } }
     }
 }

@@ -1,5 +1,4 @@
-use Rattle.std.proofs.Common.{◌≡◌, ◌≤◌, ◌-◌, false, length, take, drop, refl, arith}
-use Rattle.dq_text.specs.Token.{goes_on}
+use Rattle.std.proofs.Common.{◌≤◌, ◌-◌, length, take, drop, refl, arith}
 use Rattle.dq_text.proofs.ShortNumbers.{natural_found, all_behind}
 use Rattle.dq_text.proofs.short_numbers.short_natural.Goals as goal
 
@@ -10,5 +9,5 @@ returns c =
     let count = c.leading_value-value.result.1 in
     let some : 1 ≤ count = omega (arith, c.if-count-eq0.false) in
     let behind = all_behind bytes (length bytes) count refl in
-    let ends : goes_on (take (length bytes - count) (drop count bytes)) ≡ false = grind (arith, c.continues.ensures, c.if-continues.false) in
-    natural_found bytes c.first_bytes.result.now (take (length bytes - count) (drop count bytes)) value count c.first_bytes.ensures c.leading_value-value.ensures some behind ends
+    natural_found bytes c.first_bytes.result.now (take (length bytes - count) (drop count bytes)) c.in_ok-behind.behind.now value count
+    c.first_bytes.ensures c.leading_value-value.ensures some behind c.in_ok-behind.ensures.ends c.in_ok-behind.ensures.same
