@@ -11,7 +11,7 @@ use crate::bases::Ground;
 use crate::lines::{needed, numbers_at};
 use crate::names::Names;
 use cert_text::{Step, StepList};
-use dq_lits::{Clause, Ids, Lit, Memory};
+use dq_lits::{Lit, Memory};
 use flat_lists::FlatLists;
 use hint_log::Log;
 use rup_core::Marks;
@@ -98,7 +98,7 @@ impl Written {
         match log.origin(id) {
             Some(origin) => self.add_given(&clause, base.id(origin)),
             None => {
-                let number = last + self.steps.items().len() as u64 + 1;
+                let number = last + self.steps.len() as u64 + 1;
                 self.add_line(alloc, marks, ids, &clause, log.hints(id), number)
             }
         }
@@ -131,9 +131,11 @@ impl Written {
     {
         let places = needed(alloc, marks, &self.clauses, ids, clause, hints)?;
         let hints = numbers_at(alloc, &self.numbers, &places)?;
-        let lits = Clause::from_slice(alloc, clause)?;
-        self.steps
-            .push(Step::new(number, lits, Ids::from_vec(hints)))?;
+        self.steps.push(Step {
+            id: number,
+            lits: clause,
+            hints: &hints,
+        })?;
         self.clauses.push(clause)?;
         self.numbers.push(number)?;
         Ok(())

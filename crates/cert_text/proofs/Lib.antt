@@ -5,6 +5,7 @@ pub mod Checks
 pub mod HeaderSpelling
 pub mod Integers
 pub mod KindSpelling
+pub mod KeptSteps
 pub mod LineTokens
 pub mod LineWords
 pub mod LinesReading
@@ -13,9 +14,11 @@ pub mod NegatedClauses
 pub mod NumberWords
 pub mod PairNumbers
 pub mod Parts
+pub mod PlainSteps
 pub mod ProofSpelling
 pub mod RefutationSpelling
 pub mod RowSpelling
+pub mod SignsTaken
 pub mod SmallNumbers
 pub mod StepSpelling
 pub mod Writing

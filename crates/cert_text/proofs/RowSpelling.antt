@@ -41,7 +41,7 @@ signs [] (b ∷ row) some whole = absurd (omega (arith, whole))
 signs (x ∷ us) [] some whole = absurd (omega (arith, whole))
 signs (x ∷ us) (b ∷ row) some whole = ap₂ (λ n ns. n ∷ ns) (sign b x some.0) (signs us row some.1 (omega (arith, whole)))
 
-chosen : (b : Bool) (row : List Bool) → b ≡ true → cond b (Ok row) (Err RowIncomplete) ≡ Ok row
+pub chosen : (b : Bool) (row : List Bool) → b ≡ true → cond b (Ok row) (Err RowIncomplete) ≡ Ok row
 chosen true row h = refl
 chosen false row h = cc
 

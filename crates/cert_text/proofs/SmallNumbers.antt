@@ -38,7 +38,7 @@ number_small false byte bytes n h =
     let value = decimal_value (byte ∷ bytes) in
     chosen value (pos value) n (not (are_digits (byte ∷ bytes))) (nat_lt value (10 ^ 18)) refl refl h
 
-token_small : (token : List ℕ) (n : ℤ) → number_of token ≡ Int n → IsSmall n
+pub token_small : (token : List ℕ) (n : ℤ) → number_of token ≡ Int n → IsSmall n
 token_small [] n h = cc
 token_small (byte ∷ bytes) n h = number_small (byte == 45) byte bytes n h
 

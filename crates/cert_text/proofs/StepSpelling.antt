@@ -170,7 +170,7 @@ positive_back (pos zero) h = cc
 positive_back (pos (suc n)) h = (refl, omega arith)
 positive_back (negsuc n) h = cc
 
-number_back : (n : ℤ) → dimacs_number (dimacs_literal n) ≡ n
+pub number_back : (n : ℤ) → dimacs_number (dimacs_literal n) ≡ n
 number_back (pos v) = refl
 number_back (negsuc n) = refl
 

@@ -21,6 +21,7 @@ mod kinds;
 pub mod laws;
 mod numbers;
 mod pairs;
+mod plain_steps;
 mod proof_reader;
 mod reader;
 mod refutations;

@@ -1,21 +1,84 @@
 //! The row lines of a refutation.
 
-ghost use Rattle.std.specs.Prelude.{◌≡◌, ◌++◌, ◌∷◌, [], nat_abs, map, IfOk};
+ghost use Rattle.std.specs.Prelude.{◌≡◌, ◌++◌, ◌∷◌, [], pos, nat_abs, length, map, Ok, IfOk, IfSome, IsTrue};
 ghost use Rattle.std.specs.Int.{is_positive};
 ghost use Rattle.std.specs.Str.{bytes_eq as same_numbers};
 ghost use Rattle.dq_text.specs.Line.{line_tokens};
-ghost use Rattle.cert_text.specs.LineStop.{IsLineOf};
+ghost use Rattle.dq_text.specs.Number.{number_of};
+ghost use Rattle.dq_text.specs.declared.numbers.Number.TheVariants.{Int};
+ghost use Rattle.cert_text.specs.LineStop.{IsLineOf, and_then};
+ghost use Rattle.cert_text.specs.Numbers.{line_integers};
 ghost use Rattle.cert_text.specs.RowLine.{row_of, row_line};
 
 use crate::faults::{CertFault, LineStop};
 use crate::numbers::take_integers;
 use crate::words::is_word;
 use dq_lits::{Memory, Row};
-use dq_text::LineTokens;
+use dq_text::{LineTokens, Number};
 use std::alloc::Global;
 
 /// Reads the line of a row over these universals.
 pub fn read_row(
+    alloc: Global,
+    universals: &[u64],
+    line: &[u8],
+    integers: &mut Vec<i64>,
+) -> Result<Row, LineStop>
+    ensures { IsLineOf (row_line universals.now (line_tokens line.now)) result }
+{
+    match plain_row(alloc, universals, line)? {
+        Some(row) => Ok(row),
+        None => take_row(alloc, universals, line, integers),
+    }
+}
+
+// The row of a line that is as it should be, read in one pass. It answers none where the line isn't such a one, and
+// maybe where it is.
+fn plain_row(alloc: Global, universals: &[u64], line: &[u8]) -> Result<Option<Row>, Memory>
+    ensures { IfOk result (λ found. IfSome found (λ row. row_line universals.now (line_tokens line.now) ≡ Ok row)) }
+{
+    let mut tokens = LineTokens::new(line);
+    match tokens.next() {
+        Some(letter) if is_word(letter, b"u") => {}
+        _ => return Ok(None),
+    }
+    let mut row = Row::new(alloc, universals.len())?;
+    Ok(if take_signs(universals, &mut tokens, &mut row) {
+        Some(row)
+    } else {
+        None
+    })
+}
+
+// Takes the universals in order, with signs, and then 0 and the end of the line; the signs are written into the row.
+fn take_signs(universals: &[u64], tokens: &mut LineTokens, row: &mut Row) -> bool
+    requires { length row.old ≡ length universals.now }
+    ensures { IsTrue result → and_then (row_of universals.now) (line_integers tokens.old) ≡ Ok row.new }
+{
+    for i in 0..universals.len() {
+        let Some(Number::Int(n)) = tokens.next_number() else {
+            return false;
+        };
+        if n.unsigned_abs() != universals[i] {
+            return false;
+        }
+        row.set(i, n > 0);
+    }
+    ends_row(tokens)
+}
+
+// Takes 0 and the end of the line.
+fn ends_row(tokens: &mut LineTokens) -> bool
+    ensures { IsTrue result → map number_of tokens.old ≡ Int (pos 0) ∷ [] }
+{
+    match tokens.next_number() {
+        Some(Number::Int(0)) => tokens.next_number().is_none(),
+        _ => false,
+    }
+}
+
+// Reads any line.
+fn take_row(
     alloc: Global,
     universals: &[u64],
     line: &[u8],

@@ -1,21 +1,21 @@
 //! Derivation lines.
 
-ghost use Rattle.std.specs.Prelude.{◌≡◌, ◌≤◌, nat_lt, nat_abs, ◌&&◌, map, Ok, Err, IfOk, MatchResult, IsTrue};
+ghost use Rattle.std.specs.Prelude.{◌≡◌, ◌≤◌, nat_lt, nat_abs, ◌&&◌, map, Ok, Err, OnOk, MatchResult, IsTrue};
 ghost use Rattle.std.specs.Int.{is_positive};
 ghost use Rattle.std.specs.List.{All, list_all, position};
 ghost use Rattle.std.specs.Option.{option_map};
 ghost use Rattle.dq_lits.specs.Literal.{dimacs_literal, variable_of};
 ghost use Rattle.dq_text.specs.Line.{line_tokens};
-ghost use Rattle.cert_text.specs.LineStop.{IsLineOf};
+ghost use Rattle.cert_text.specs.PlainStep.{IsStepOf};
 ghost use Rattle.cert_text.specs.StepLine.{is_zero, is_nil, cut_at_zero, step_of, checked_step, step_line};
 ghost use Rattle.cert_text.specs.StepNumbers.{numbered_step, maybe_step, IsLiteralNumber};
 ghost use Rattle.cert_text.specs.Variables.{is_variable};
 
 use crate::faults::{CertFault, LineStop};
 use crate::numbers::take_integers;
-use crate::steps::Step;
+use crate::plain_steps::{literal, take_plain_step};
 use crate::variables::Variables;
-use dq_lits::{Clause, Ids, Lit, Memory};
+use dq_lits::{Lit, Memory};
 use dq_text::LineTokens;
 use std::alloc::Global;
 
@@ -27,22 +27,65 @@ pub struct StepNumbers<'a> {
     pub hints: &'a [i64],
 }
 
-/// Reads a derivation line with the next id, over these variables.
+/// What is read of a line.
+#[derive(Debug, Drop)]
+pub struct StepBuffers {
+    pub integers: Vec<i64>,
+    pub literals: Vec<Lit>,
+    pub hints: Vec<u64>,
+}
+
+impl StepBuffers {
+    /// Nothing is read yet. It takes no memory.
+    pub fn new(alloc: Global) -> StepBuffers {
+        StepBuffers {
+            integers: Vec::new(alloc),
+            literals: Vec::new(alloc),
+            hints: Vec::new(alloc),
+        }
+    }
+}
+
+/// Reads a derivation line with the next id, over these variables, and answers its id; its literals and hints stand in
+/// the buffers then.
 pub fn read_step(
-    alloc: Global,
     variables: Variables,
     next: u128,
     line: &[u8],
-    integers: &mut Vec<i64>,
-) -> Result<Step, LineStop>
-    ensures { IsLineOf (step_line (is_variable variables.entry) next (line_tokens line.now)) result }
+    buffers: &mut StepBuffers,
+) -> Result<u64, LineStop>
+    ensures { IsStepOf (step_line (is_variable variables.entry) next (line_tokens line.now)) result buffers.new.literals.items buffers.new.hints.items }
 {
-    take_integers(&mut LineTokens::new(line), integers)?;
-    let Some(numbers) = step_numbers(integers) else {
+    let plain = take_plain_step(
+        variables,
+        next,
+        line,
+        &mut buffers.literals,
+        &mut buffers.hints,
+    )?;
+    match plain {
+        Some(id) => Ok(id),
+        None => take_step(variables, next, line, buffers),
+    }
+}
+
+// The same for any line.
+fn take_step(
+    variables: Variables,
+    next: u128,
+    line: &[u8],
+    buffers: &mut StepBuffers,
+) -> Result<u64, LineStop>
+    ensures { IsStepOf (step_line (is_variable variables.entry) next (line_tokens line.now)) result buffers.new.literals.items buffers.new.hints.items }
+{
+    take_integers(&mut LineTokens::new(line), &mut buffers.integers)?;
+    let Some(numbers) = step_numbers(&buffers.integers) else {
         return Err(LineStop::Fault(CertFault::BadLine));
     };
     check_step(variables, next, numbers)?;
-    Ok(kept_step(alloc, numbers)?)
+    keep_literals(numbers.literals, &mut buffers.literals)?;
+    keep_hints(numbers.hints, &mut buffers.hints)?;
+    Ok(numbers.id)
 }
 
 // A positive id, literals and 0, positive hints and 0, and nothing more.
@@ -122,40 +165,25 @@ fn are_below(hints: &[i64], id: u64) -> bool
     hints.iter().all(|n| n.unsigned_abs() < id)
 }
 
-fn kept_step(alloc: Global, numbers: StepNumbers) -> Result<Step, Memory>
-    requires { All IsLiteralNumber numbers.literals.now }
-    ensures { IfOk result (λ step. step ≡ numbered_step numbers.entry) }
-{
-    let literals = kept_literals(alloc, numbers.literals)?;
-    let hints = kept_hints(alloc, numbers.hints)?;
-    Ok(Step::new(numbers.id, literals, hints))
-}
-
-fn kept_literals(alloc: Global, numbers: &[i64]) -> Result<Clause, Memory>
+// Puts literals in place of those in the buffer.
+fn keep_literals(numbers: &[i64], literals: &mut Vec<Lit>) -> Result<(), Memory>
     requires { All IsLiteralNumber numbers.now }
-    ensures { IfOk result (λ clause. clause ≡ map dimacs_literal numbers.now) }
+    ensures { OnOk result (literals.new.items ≡ map dimacs_literal numbers.now) }
 {
-    let mut lits = Vec::with_capacity(alloc, numbers.len())?;
+    literals.clear();
     for n in numbers {
-        lits.push(literal(*n))?;
+        literals.push(literal(*n))?;
     }
-    Ok(Clause::from_vec(lits))
+    Ok(())
 }
 
-fn literal(number: i64) -> Lit
-    requires { IsLiteralNumber number }
-    ensures { result ≡ dimacs_literal number }
+// Puts hints in place of those in the buffer.
+fn keep_hints(numbers: &[i64], hints: &mut Vec<u64>) -> Result<(), Memory>
+    ensures { OnOk result (hints.new.items ≡ map nat_abs numbers.now) }
 {
-    if number < 0 {
-        Lit::neg(number.unsigned_abs())
-    } else {
-        Lit::pos(number.unsigned_abs())
+    hints.clear();
+    for n in numbers {
+        hints.push(n.unsigned_abs())?;
     }
-}
-
-fn kept_hints(alloc: Global, numbers: &[i64]) -> Result<Ids, Memory>
-    ensures { IfOk result (λ hints. hints ≡ map nat_abs numbers.now) }
-{
-    let hints = numbers.iter().map(|n| n.unsigned_abs()).collect(alloc)?;
-    Ok(Ids::from_vec(hints))
+    Ok(())
 }

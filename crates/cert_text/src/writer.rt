@@ -8,12 +8,13 @@ ghost use Rattle.cert_text.specs.CircuitProof.{circuit_proof_of};
 ghost use Rattle.cert_text.specs.Grammar.{IsDqrOf};
 ghost use Rattle.cert_text.specs.ProofGrammar.{IsDqpOf};
 ghost use Rattle.cert_text.specs.Scan.{refutation_of};
+ghost use Rattle.cert_text.specs.Steps.{step_seen};
 ghost use Rattle.dq_text.specs.Written.{number_text};
 ghost use Rattle.cert_text.specs.Canonical.{signed_text, literal_text, header_text, proof_header_text, row_text, step_text, canonical, canonical_proof};
 
 use crate::circuit_proofs::Dqp;
 use crate::refutations::Dqr;
-use crate::steps::Step;
+use crate::steps::{Step, StepList};
 use dq_formula::Formula;
 use dq_lits::{Lit, Memory, Row};
 use dq_text::{push_natural, push_spaced};
@@ -29,10 +30,9 @@ pub fn write_dqr(alloc: Global, d: &Dqr, f: &Formula) -> Result<Vec<u8>, Memory>
     f.every_formula_is_lawful();
     let mut text = Vec::new(alloc);
     let rows = d.rows.items();
-    let steps = d.steps.items();
-    write_header(rows.len(), steps.len(), &mut text)?;
+    write_header(rows.len(), d.steps.len(), &mut text)?;
     write_rows(f.universals(), rows, &mut text)?;
-    write_steps(steps, &mut text)?;
+    write_steps(&d.steps, &mut text)?;
     Ok(text)
 }
 
@@ -44,9 +44,8 @@ pub fn write_dqp(alloc: Global, d: &Dqp) -> Result<Vec<u8>, Memory>
         → IfOk result (λ text. circuit_proof_of f net text.items first ≡ Ok d.now) }
 {
     let mut text = Vec::new(alloc);
-    let steps = d.steps.items();
-    write_proof_header(steps.len(), &mut text)?;
-    write_steps(steps, &mut text)?;
+    write_proof_header(d.steps.len(), &mut text)?;
+    write_steps(&d.steps, &mut text)?;
     Ok(text)
 }
 
@@ -137,23 +136,21 @@ fn write_rows(universals: &[u64], rows: &[Row], text: &mut Vec<u8>) -> Result<()
     Ok(())
 }
 
-fn write_step(step: &Step, text: &mut Vec<u8>) -> Result<(), Memory>
-    ensures { OnOk result (text.new.items ≡ text.old.items ++ step_text step.now) }
+fn write_step(step: Step, text: &mut Vec<u8>) -> Result<(), Memory>
+    ensures { OnOk result (text.new.items ≡ text.old.items ++ step_text (step_seen step.entry)) }
 {
-    push_spaced(text, step.id())?;
-    write_literals(step.lits(), text)?;
+    push_spaced(text, step.id)?;
+    write_literals(step.lits, text)?;
     write_word(b"0 ", text)?;
-    write_hints(step.hints(), text)?;
+    write_hints(step.hints, text)?;
     write_word(b"0\n", text)
 }
 
-fn write_steps(steps: &[Step], text: &mut Vec<u8>) -> Result<(), Memory>
+fn write_steps(steps: &StepList, text: &mut Vec<u8>) -> Result<(), Memory>
     ensures { OnOk result (text.new.items ≡ text.old.items ++ flat_map step_text steps.now) }
 {
-    let mut rest = steps;
-    while let Some((first, behind)) = rest.split_first() {
-        write_step(first, text)?;
-        rest = behind;
+    for k in 0..steps.len() {
+        write_step(steps.get(k), text)?;
     }
     Ok(())
 }

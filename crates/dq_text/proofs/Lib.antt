@@ -3,4 +3,5 @@ mod FirstLine
 pub mod LineWords
 mod LongestRuns
 pub mod Numerals
+mod ShortNumbers
 mod TokenLines

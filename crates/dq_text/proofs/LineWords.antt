@@ -14,7 +14,7 @@ abbrev pub IsWord : List ℕ → Type 0
 IsWord [] = ⊥
 IsWord (byte ∷ bytes) = (kind_of byte ≡ Other) × AreOther bytes
 
-first_byte : (byte : ℕ) (bytes : List ℕ) → kind_of byte ≡ Other →
+pub first_byte : (byte : ℕ) (bytes : List ℕ) → kind_of byte ≡ Other →
     line_tokens (byte ∷ bytes) ≡ (if goes_on bytes then extend_token byte (line_tokens bytes) else (byte ∷ []) ∷ line_tokens bytes)
 first_byte byte bytes other =
     ap (λ kind. if is_separator kind then line_tokens bytes else if goes_on bytes then extend_token byte (line_tokens bytes) else (byte ∷ []) ∷ line_tokens bytes) other
@@ -90,7 +90,7 @@ words_no_feed [] are = tt
 words_no_feed (word ∷ words) are =
     both_no_feed (word ++ 32 ∷ []) (spaced words) (both_no_feed word (32 ∷ []) (word_no_feed word are.0) (refl, tt)) (words_no_feed words are.1)
 
-digits_word : (ds : List ℕ) → 0 < length ds → AreDigits ds → IsWord ds
+pub digits_word : (ds : List ℕ) → 0 < length ds → AreDigits ds → IsWord ds
 digits_word [] some are = absurd (omega (arith, some))
 digits_word (d ∷ ds) some are = digits_other (d ∷ ds) are
 

@@ -67,7 +67,7 @@ natural_value digits n are is small =
     ∙ ap (λ v. if nat_lt v (10 ^ 18) then Int (pos v) else TooBig) is
     ∙ ap (λ b. if b then Int (pos n) else TooBig) (lt-ltb n (10 ^ 18) small)
 
-digits_number : (ds : List ℕ) (n : ℕ) → n < 10 ^ 18 → AreDigitsOf n ds → number_of ds ≡ Int (pos n)
+pub digits_number : (ds : List ℕ) (n : ℕ) → n < 10 ^ 18 → AreDigitsOf n ds → number_of ds ≡ Int (pos n)
 digits_number [] n small of = let some = of.some in absurd (omega (arith, some))
 digits_number (d ∷ ds) n small of =
     let range = tells.parts d ds of.are in
@@ -77,7 +77,7 @@ digits_number (d ∷ ds) n small of =
 pub natural_is_read : (n : ℕ) → n < 10 ^ 18 → number_of (decimal n) ≡ Int (pos n)
 natural_is_read n small = digits_number (decimal n) n small (decimal_digits n small)
 
-negative_value : (digits : List ℕ) (n : ℕ) → are_digits digits ≡ true → decimal_value digits ≡ suc n → suc n < 10 ^ 18 →
+pub negative_value : (digits : List ℕ) (n : ℕ) → are_digits digits ≡ true → decimal_value digits ≡ suc n → suc n < 10 ^ 18 →
     negative_of digits ≡ Int (negsuc n)
 negative_value digits n are is small =
     ap (λ b. if not b || (decimal_value digits == 0) then NotANumber
@@ -87,7 +87,7 @@ negative_value digits n are is small =
     (ne_eqb (suc n) 0 (λ h. omega (arith, h)))
     ∙ ap (λ b. if b then Int (neg_ℤ (pos (suc n))) else TooBig) (lt-ltb (suc n) (10 ^ 18) small)
 
-are_some : (ds : List ℕ) → 0 < length ds → AreDigits ds → are_digits ds ≡ true
+pub are_some : (ds : List ℕ) → 0 < length ds → AreDigits ds → are_digits ds ≡ true
 are_some [] some are = absurd (omega (arith, some))
 are_some (d ∷ ds) some are = are
 

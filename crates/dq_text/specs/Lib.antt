@@ -5,6 +5,7 @@ pub mod LinesInside
 pub mod LongestRuns
 pub mod Number
 pub mod NumberedTokens
+pub mod ShortNumber
 pub mod TextLine
 pub mod Token
 pub mod TokensInside

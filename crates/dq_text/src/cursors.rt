@@ -79,7 +79,7 @@ pub fn skip_to_token(cursor: &mut Cursor)
     }
 }
 
-fn separates(byte: u8) -> bool
+pub fn separates(byte: u8) -> bool
     ensures { result ≡ is_separator (kind_of byte) }
 {
     match byte_kind(byte) {

@@ -12,4 +12,5 @@ mod cursors;
 pub mod laws;
 mod lines;
 mod numbers;
+mod short_numbers;
 mod tokens;

@@ -1,7 +1,11 @@
-ghost use Rattle.std.specs.Prelude.{◌≡◌, ◌+◌, ◌^◌, ◌<◌, ◌∷◌, [], length, MatchOption, IfNone, IfSome};
+ghost use Rattle.std.specs.Prelude.{◌≡◌, ◌+◌, ◌^◌, ◌<◌, ◌∷◌, [], length, map, MatchOption, IfNone, IfSome};
 ghost use Rattle.dq_text.specs.Line.{lines_from, IsFirstLine, line_tokens};
+ghost use Rattle.dq_text.specs.Number.{number_of};
 
 use crate::cursors::{separator_free_length, skip_separators};
+use crate::numbers::{Number, read_number};
+use crate::short_numbers::short_number;
+use memchr::memchr;
 use std::marker::Model;
 
 /// A line of a text without its LF, with its number.
@@ -82,7 +86,7 @@ impl<'a> Lines<'a> {
 fn cut_line(bytes: &[u8]) -> (&[u8], &[u8])
     ensures first { IsFirstLine bytes.now result.0.now result.1.now }
 {
-    match bytes.iter().position(|byte| *byte == b'\n') {
+    match memchr(b'\n', bytes) {
         None => (bytes, &bytes[bytes.len()..]),
         Some(end) => (&bytes[..end], &bytes[end + 1..]),
     }
@@ -125,5 +129,31 @@ impl<'a> LineTokens<'a> {
         let (token, rest) = rest.split_at(separator_free_length(rest));
         self.rest = rest;
         Some(token)
+    }
+
+    /// The next token as a number; none at the end, then and from then on.
+    #[inline(always)]
+    pub fn next_number(&mut self) -> Option<Number>
+        ensures number { MatchOption result (self.old ≡ []) (λ n. map number_of self.old ≡ n ∷ map number_of self.new) }
+        ensures end { IfNone result (self.new ≡ []) }
+    {
+        let rest = skip_separators(self.rest);
+        if let Some((number, behind)) = short_number(rest) {
+            self.rest = behind;
+            return Some(Number::Int(number));
+        }
+        self.next_any()
+    }
+
+    // The same of any token.
+    #[inline(never)]
+    fn next_any(&mut self) -> Option<Number>
+        ensures number { MatchOption result (self.old ≡ []) (λ n. map number_of self.old ≡ n ∷ map number_of self.new) }
+        ensures end { IfNone result (self.new ≡ []) }
+    {
+        match self.next() {
+            Some(token) => Some(read_number(token)),
+            None => None,
+        }
     }
 }

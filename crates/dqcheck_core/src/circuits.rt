@@ -29,6 +29,9 @@ use std::alloc::Global;
 /// The most universals of which all rows are tried.
 const MAX_ROW_UNIVERSALS: usize = 20;
 
+// How many bytes are counted at a time: their count fits a byte, so that many are counted side by side.
+const BLOCK: usize = 240;
+
 /// Judges a circuit, whose header line begins at a place of the text and has the number `first`.
 pub fn judge_circuit(
     alloc: Global,
@@ -104,7 +107,27 @@ fn line_ends(bytes: &[u8]) -> usize
     ensures is { result ≡ line_ends bytes.now }
     ensures bound { result ≤ length bytes.now }
 {
-    bytes.iter().filter(|byte| **byte == b'\n').count()
+    let mut count = 0;
+    let mut rest = bytes;
+    while rest.len() > BLOCK {
+        let (block, behind) = rest.split_at(BLOCK);
+        count += usize::from(block_ends(block));
+        rest = behind;
+    }
+    count + usize::from(block_ends(rest))
+}
+
+// The same of a block.
+fn block_ends(block: &[u8]) -> u8
+    requires { length block.now ≤ 240 }
+    ensures is { result ≡ line_ends block.now }
+    ensures bound { result ≤ length block.now }
+{
+    let mut count = 0;
+    for byte in block {
+        count += u8::from(*byte == b'\n');
+    }
+    count
 }
 
 // The number of the first line of a comment, which ends a text of so many line ends.

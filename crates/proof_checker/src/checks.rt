@@ -10,7 +10,7 @@ ghost use Rattle.proof_checker.specs.Lines.{AreProofLines};
 
 use crate::faults::ProofFault;
 use crate::negated::NegatedMatrix;
-use cert_text::{Dqp, Step};
+use cert_text::{Dqp, StepList};
 use dq_lits::Memory;
 use rup_core::ProofFault as LineFault;
 use skolem_checker::Bench;
@@ -28,11 +28,11 @@ pub fn by_proof(alloc: Global, bench: &Bench, p: &Dqp) -> Result<(), ProofFault>
     requires lawful { IsDqpOf bench.now.formula bench.now.circuit.netlist p.now }
     ensures { IsAnswer (circuit_proof_fault bench.now p.now.steps) result }
 {
-    let steps = p.steps.items();
-    let Some(line) = steps.first() else {
+    let steps = &p.steps;
+    if steps.len() == 0 {
         return Err(ProofFault::NoEmptyClause);
-    };
-    let fault = lines_fault(alloc, bench, line.id(), steps)?;
+    }
+    let fault = lines_fault(alloc, bench, steps.get(0).id, steps)?;
     answer(fault)
 }
 
@@ -51,7 +51,7 @@ fn lines_fault(
     alloc: Global,
     bench: &Bench,
     first: u64,
-    steps: &[Step],
+    steps: &StepList,
 ) -> Result<Option<LineFault>, Memory>
     requires { AreProofLines bench.now first steps.now }
     ensures { IfOk result (λ fault. proof_fault_in fault ≡ circuit_proof_fault bench.now steps.now) }

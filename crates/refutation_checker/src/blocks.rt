@@ -13,17 +13,24 @@ ghost use Rattle.refutation_checker.specs.Pairs.{existential_part};
 ghost use Rattle.refutation_checker.specs.PairTable.{AreBlocks};
 
 use crate::pair_tables::PairTable;
-use cert_text::Step;
+use cert_text::StepList;
 use dq_lits::{Clause, Lit, Memory};
 use number_tables::NumberSet;
 use std::alloc::Global;
+
+// The blocks that were seen. Many literals in turn stand in one block: the latest one isn't looked up again.
+#[derive(Drop)]
+struct SeenBlocks {
+    numbers: NumberSet,
+    latest: u64,
+}
 
 /// Finds and keeps the first rows of all that occurs in some derivation lines and in the instances that they hint.
 pub(crate) fn learn_steps(
     alloc: Global,
     table: &mut PairTable,
     parts: &[Clause],
-    steps: &[Step],
+    steps: &StepList,
 ) -> Result<(), Memory>
     requires parts { parts.now ≡ map (existential_part table.old.formula) table.old.formula.matrix }
     requires pairs { All (λ step. All (λ l. is_pair_number table.old.formula (length table.old.rows) (variable_of l) ≡ true) step.literals) steps.now }
@@ -38,15 +45,18 @@ fn blocks_of(
     alloc: Global,
     table: &PairTable,
     parts: &[Clause],
-    steps: &[Step],
+    steps: &StepList,
 ) -> Result<Vec<u64>, Memory>
     requires parts { parts.now ≡ map (existential_part table.now.formula) table.now.formula.matrix }
     requires pairs { All (λ step. All (λ l. is_pair_number table.now.formula (length table.now.rows) (variable_of l) ≡ true) step.literals) steps.now }
     ensures { IfOk result (λ blocks. AreBlocks table.now blocks.items) }
 {
-    let mut seen = NumberSet::new(alloc);
+    let mut seen = SeenBlocks {
+        numbers: NumberSet::new(alloc),
+        latest: 0,
+    };
     see_steps(table, parts, steps, &mut seen)?;
-    let mut blocks = Vec::from_slice(alloc, seen.items())?;
+    let mut blocks = Vec::from_slice(alloc, seen.numbers.items())?;
     blocks.sort_unstable();
     Ok(blocks)
 }
@@ -54,17 +64,18 @@ fn blocks_of(
 fn see_steps(
     table: &PairTable,
     parts: &[Clause],
-    steps: &[Step],
-    seen: &mut NumberSet,
+    steps: &StepList,
+    seen: &mut SeenBlocks,
 ) -> Result<(), Memory>
     requires parts { parts.now ≡ map (existential_part table.now.formula) table.now.formula.matrix }
     requires pairs { All (λ step. All (λ l. is_pair_number table.now.formula (length table.now.rows) (variable_of l) ≡ true) step.literals) steps.now }
-    requires seen { AreBlocks table.now seen.old }
-    ensures { OnOk result (AreBlocks table.now seen.new) }
+    requires seen { AreBlocks table.now seen.old.numbers }
+    ensures { OnOk result (AreBlocks table.now seen.new.numbers) }
 {
-    for step in steps {
-        see_hinted(table, parts, step.hints(), step.lits().len(), seen)?;
-        see_line(table, step.lits(), seen)?;
+    for i in 0..steps.len() {
+        let step = steps.get(i);
+        see_hinted(table, parts, step.hints, step.lits.len(), seen)?;
+        see_line(table, step.lits, seen)?;
     }
     Ok(())
 }
@@ -75,11 +86,11 @@ fn see_hinted(
     parts: &[Clause],
     hints: &[u64],
     line: usize,
-    seen: &mut NumberSet,
+    seen: &mut SeenBlocks,
 ) -> Result<(), Memory>
     requires parts { parts.now ≡ map (existential_part table.now.formula) table.now.formula.matrix }
-    requires seen { AreBlocks table.now seen.old }
-    ensures { OnOk result (AreBlocks table.now seen.new) }
+    requires seen { AreBlocks table.now seen.old.numbers }
+    ensures { OnOk result (AreBlocks table.now seen.new.numbers) }
 {
     for (i, hint) in hints.iter().enumerate() {
         see_instance(
@@ -99,11 +110,11 @@ fn see_instance(
     parts: &[Clause],
     id: u64,
     limit: usize,
-    seen: &mut NumberSet,
+    seen: &mut SeenBlocks,
 ) -> Result<(), Memory>
     requires parts { parts.now ≡ map (existential_part table.now.formula) table.now.formula.matrix }
-    requires seen { AreBlocks table.now seen.old }
-    ensures { OnOk result (AreBlocks table.now seen.new) }
+    requires seen { AreBlocks table.now seen.old.numbers }
+    ensures { OnOk result (AreBlocks table.now seen.new.numbers) }
 {
     match table.instance(id) {
         Some((k, j)) => see_part(table, parts[j].lits(), limit, k, seen),
@@ -117,12 +128,12 @@ fn see_part(
     part: &[Lit],
     limit: usize,
     k: usize,
-    seen: &mut NumberSet,
+    seen: &mut SeenBlocks,
 ) -> Result<(), Memory>
     requires declared { All (λ l. IsSome (existential_of table.now.formula (variable_of l))) part.now }
     requires row { k < length table.now.rows }
-    requires seen { AreBlocks table.now seen.old }
-    ensures { OnOk result (AreBlocks table.now seen.new) }
+    requires seen { AreBlocks table.now seen.old.numbers }
+    ensures { OnOk result (AreBlocks table.now seen.new.numbers) }
 {
     for (i, l) in part.iter().enumerate() {
         if i == limit {
@@ -134,10 +145,10 @@ fn see_part(
 }
 
 // The blocks of a derivation line.
-fn see_line(table: &PairTable, lits: &[Lit], seen: &mut NumberSet) -> Result<(), Memory>
+fn see_line(table: &PairTable, lits: &[Lit], seen: &mut SeenBlocks) -> Result<(), Memory>
     requires pairs { All (λ l. is_pair_number table.now.formula (length table.now.rows) (variable_of l) ≡ true) lits.now }
-    requires seen { AreBlocks table.now seen.old }
-    ensures { OnOk result (AreBlocks table.now seen.new) }
+    requires seen { AreBlocks table.now seen.old.numbers }
+    ensures { OnOk result (AreBlocks table.now seen.new.numbers) }
 {
     for l in lits {
         let (k, y) = table.named(l.var());
@@ -147,12 +158,16 @@ fn see_line(table: &PairTable, lits: &[Lit], seen: &mut NumberSet) -> Result<(),
 }
 
 // The block of an existential and the row at `k`.
-fn see(table: &PairTable, y: u64, k: usize, seen: &mut NumberSet) -> Result<(), Memory>
+fn see(table: &PairTable, y: u64, k: usize, seen: &mut SeenBlocks) -> Result<(), Memory>
     requires declared { IsSome (existential_of table.now.formula y) }
     requires row { k < length table.now.rows }
-    requires seen { AreBlocks table.now seen.old }
-    ensures { OnOk result (AreBlocks table.now seen.new) }
+    requires seen { AreBlocks table.now seen.old.numbers }
+    ensures { OnOk result (AreBlocks table.now seen.new.numbers) }
 {
-    seen.insert(table.block(y, k))?;
+    let block = table.block(y, k);
+    if block != seen.latest {
+        seen.numbers.insert(block)?;
+        seen.latest = block;
+    }
     Ok(())
 }

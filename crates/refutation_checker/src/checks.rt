@@ -18,9 +18,10 @@ use crate::instances::Instances;
 use crate::lines::{Lines, line_clauses};
 use crate::pair_tables::PairTable;
 use crate::parts::existential_parts;
-use cert_text::{Dqr, Step};
+use cert_text::{Dqr, StepList};
 use dq_formula::Formula;
-use dq_lits::{Clause, Memory};
+use dq_lits::{Clause, Lit, Memory};
+use flat_lists::FlatLists;
 use rup_core::{Marks, ProofFault, first_fault_any};
 use std::alloc::Global;
 
@@ -34,7 +35,7 @@ pub fn check(alloc: Global, f: &Formula, d: &Dqr) -> Result<(), RefFault>
     ensures { IsAnswer (refutation_fault f.now d.now) result }
 {
     let parts = existential_parts(alloc, f)?;
-    let steps = d.steps.items();
+    let steps = &d.steps;
     let mut table = PairTable::new(alloc, f, d.rows.items())?;
     learn_steps(alloc, &mut table, &parts, steps)?;
     let clauses = line_clauses(alloc, &table, steps)?;
@@ -58,8 +59,8 @@ fn lines_fault(
     marks: &mut Marks,
     table: &PairTable,
     parts: &[Clause],
-    steps: &[Step],
-    clauses: &[Clause],
+    steps: &StepList,
+    clauses: &FlatLists<Lit>,
 ) -> Result<Option<ProofFault>, Memory>
     requires parts { parts.now ≡ map (existential_part table.now.formula) table.now.formula.matrix }
     requires clauses { clauses.now ≡ line_clauses table.now steps.now }

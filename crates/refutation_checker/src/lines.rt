@@ -1,13 +1,14 @@
 //! Derivation lines, on their pairs.
 
-ghost use Rattle.std.specs.Prelude.{◌≡◌, true, length, All, IfOk};
+ghost use Rattle.std.specs.Prelude.{◌≡◌, true, length, All, IfOk, OnOk};
 ghost use Rattle.dq_lits.specs.Literal.{variable_of};
 ghost use Rattle.cert_text.specs.Pairs.{is_pair_number};
 ghost use Rattle.refutation_checker.specs.Lines.{line_clause, line_clauses, normal_steps};
 
 use crate::pair_tables::PairTable;
-use cert_text::Step;
-use dq_lits::{Clause, Lit, Memory};
+use cert_text::StepList;
+use dq_lits::{Lit, Memory};
+use flat_lists::FlatLists;
 use rup_core::Steps;
 use std::alloc::Global;
 
@@ -15,8 +16,8 @@ use std::alloc::Global;
 #[derive(Drop)]
 pub(crate) struct Lines<'f, 'r, 't, 's, 'c> {
     pub table: &'t PairTable<'f, 'r>,
-    pub steps: &'s [Step],
-    pub clauses: &'c [Clause],
+    pub steps: &'s StepList,
+    pub clauses: &'c FlatLists<Lit>,
     ghost clauses_are: { clauses.now ≡ line_clauses table.now steps.now },
 }
 
@@ -28,11 +29,11 @@ impl<'f, 'r, 't, 's, 'c> Steps for Lines<'f, 'r, 't, 's, 'c> {
     }
 
     fn lits(&self, k: usize) -> &[Lit] {
-        self.clauses[k].lits()
+        self.clauses.get(k)
     }
 
     fn hints(&self, k: usize) -> &[u64] {
-        self.steps[k].hints()
+        self.steps.get(k).hints
     }
 }
 
@@ -40,26 +41,29 @@ impl<'f, 'r, 't, 's, 'c> Steps for Lines<'f, 'r, 't, 's, 'c> {
 pub(crate) fn line_clauses(
     alloc: Global,
     table: &PairTable,
-    steps: &[Step],
-) -> Result<Vec<Clause>, Memory>
+    steps: &StepList,
+) -> Result<FlatLists<Lit>, Memory>
     requires { All (λ step. All (λ l. is_pair_number table.now.formula (length table.now.rows) (variable_of l) ≡ true) step.literals) steps.now }
-    ensures { IfOk result (λ clauses. clauses.items ≡ line_clauses table.now steps.now) }
+    ensures { IfOk result (λ clauses. clauses ≡ line_clauses table.now steps.now) }
 {
-    let mut clauses = Vec::new(alloc);
-    for step in steps {
-        clauses.push(line_clause(alloc, table, step.lits())?)?;
+    let mut clauses = FlatLists::new(alloc);
+    let mut clause = Vec::new(alloc);
+    for k in 0..steps.len() {
+        take_clause(table, steps.get(k).lits, &mut clause)?;
+        clauses.push(&clause)?;
     }
     Ok(clauses)
 }
 
-fn line_clause(alloc: Global, table: &PairTable, lits: &[Lit]) -> Result<Clause, Memory>
+// Puts a line's literals, on their pairs, in place of those in the buffer.
+fn take_clause(table: &PairTable, lits: &[Lit], clause: &mut Vec<Lit>) -> Result<(), Memory>
     requires { All (λ l. is_pair_number table.now.formula (length table.now.rows) (variable_of l) ≡ true) lits.now }
-    ensures { IfOk result (λ clause. clause ≡ line_clause table.now lits.now) }
+    ensures { OnOk result (clause.new.items ≡ line_clause table.now lits.now) }
 {
-    let mut clause = Clause::new(alloc);
+    clause.clear();
     for l in lits {
         let (k, y) = table.named(l.var());
         clause.push(table.literal(*l, y, k))?;
     }
-    Ok(clause)
+    Ok(())
 }

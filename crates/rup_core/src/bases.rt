@@ -1,4 +1,4 @@
-ghost use Rattle.std.specs.Prelude.{◌≡◌, Some, IsSome};
+ghost use Rattle.std.specs.Prelude.{◌≡◌, Some, IsSome, IfSome};
 ghost use Rattle.dq_lits.specs.Derivation.{LiveClauses};
 ghost use Rattle.rup_core.specs.Reading.{clause_size, literal_at};
 
@@ -17,4 +17,12 @@ pub trait Base {
     fn lit(&self, id: u64, i: usize) -> Lit
         requires { IsSome (literal_at (clauses self.now id) i) }
         ensures { literal_at (clauses self.now id) i ≡ Some result };
+
+    /// The literals of the clause with this id, if they lie in memory. There may be a clause where it answers none.
+    fn held(&self, id: u64) -> Option<&[Lit]>
+        ensures { IfSome result (λ literals. clauses self.now id ≡ Some literals.now) }
+    {
+        let _ = id;
+        None
+    }
 }

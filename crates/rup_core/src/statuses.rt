@@ -1,4 +1,4 @@
-ghost use Rattle.std.specs.Prelude.{◌≡◌, ℕ, true, IfSome};
+ghost use Rattle.std.specs.Prelude.{◌≡◌, ℕ, true, Some, IfSome};
 ghost use Rattle.dq_lits.specs.Literal.{same_literal};
 ghost use Rattle.dq_lits.specs.Derivation.{status_of, stuck};
 ghost use Rattle.rup_core.specs.Range.{StandsWithin};
@@ -22,6 +22,34 @@ pub(crate) enum Status {
 /// How the clause with this id stands; where no clause has it, it is of no use. A clause is read as far as that takes: no
 /// further than its second literal that isn't false.
 pub(crate) fn status_of<B: Base>(base: &B, id: u64, trail: &Trail) -> Status
+    ensures status { seen result ≡ status_of trail.now.trues (B.clauses base.now id) }
+    ensures free { UnitIsFree trail.now.trues (seen result) }
+    ensures within { (n : ℕ) → IfSome (B.clauses base.now id) (StandsWithin n) → UnitStandsWithin n (seen result) }
+{
+    match base.held(id) {
+        Some(lits) => status_among(lits, trail),
+        None => status_read(base, id, trail),
+    }
+}
+
+// The same of a clause that lies in memory.
+fn status_among(lits: &[Lit], trail: &Trail) -> Status
+    ensures status { seen result ≡ status_of trail.now.trues (Some lits.now) }
+    ensures free { UnitIsFree trail.now.trues (seen result) }
+    ensures within { (n : ℕ) → StandsWithin n lits.now → UnitStandsWithin n (seen result) }
+{
+    let mut status = Status::Falsified;
+    for l in lits {
+        status = status.with_literal(*l, trail.value(*l));
+        if status.is_stuck() {
+            return Status::Stuck;
+        }
+    }
+    status
+}
+
+// The same of a clause that is read a literal at a time.
+fn status_read<B: Base>(base: &B, id: u64, trail: &Trail) -> Status
     ensures status { seen result ≡ status_of trail.now.trues (B.clauses base.now id) }
     ensures free { UnitIsFree trail.now.trues (seen result) }
     ensures within { (n : ℕ) → IfSome (B.clauses base.now id) (StandsWithin n) → UnitStandsWithin n (seen result) }

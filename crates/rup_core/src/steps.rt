@@ -72,6 +72,18 @@ impl<'a, B: Base, S: Steps> Base for Grown<'a, B, S> {
         }
         self.steps.lits((id - self.first) as usize)[i]
     }
+
+    fn held(&self, id: u64) -> Option<&[Lit]> {
+        if id < self.first {
+            return self.base.held(id);
+        }
+        let k = (id - self.first) as usize;
+        if k < self.count {
+            Some(self.steps.lits(k))
+        } else {
+            None
+        }
+    }
 }
 
 /// The first fault of a proof whose lines have the ids from `first` on, behind those of the base; none where every line

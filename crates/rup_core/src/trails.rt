@@ -105,6 +105,8 @@ impl Trail {
         }
     }
 
+    // Few variables are so far, and what calls it is to stay small.
+    #[inline(never)]
     fn assign_far(&mut self, l: Lit) -> Result<(), Memory>
         requires far { self.old.variables < variable_of l }
         requires unassigned { literal_value self.old.trues l ≡ TruthValue.Unassigned }

@@ -4,7 +4,7 @@ ghost use Rattle.rup_core.specs.Growth.{AreNumbered};
 ghost use Rattle.rup_core.specs.ProofVerdict.{proof_fault_in};
 
 use crate::lines::Lines;
-use cert_text::Step;
+use cert_text::StepList;
 use dq_lits::Memory;
 use rup_core::{Base, Marks, ProofFault, first_fault_any};
 use std::alloc::Global;
@@ -16,7 +16,7 @@ pub fn first_fault<B: Base>(
     alloc: Global,
     base: &B,
     first: u64,
-    steps: &[Step],
+    steps: &StepList,
 ) -> Result<Option<ProofFault>, Memory>
     requires behind { (id : ℕ) → first ≤ id → B.clauses base.now id ≡ None }
     requires numbered { AreNumbered first steps.now }

@@ -1,13 +1,13 @@
 //! The lines of a proof, one by one.
 
-use cert_text::Step;
+use cert_text::StepList;
 use dq_lits::Lit;
 use rup_core::Steps;
 
 /// Derivation lines as they were read.
 #[derive(Drop)]
 pub(crate) struct Lines<'s> {
-    pub steps: &'s [Step],
+    pub steps: &'s StepList,
 }
 
 impl<'s> Steps for Lines<'s> {
@@ -18,10 +18,10 @@ impl<'s> Steps for Lines<'s> {
     }
 
     fn lits(&self, k: usize) -> &[Lit] {
-        self.steps[k].lits()
+        self.steps.get(k).lits
     }
 
     fn hints(&self, k: usize) -> &[u64] {
-        self.steps[k].hints()
+        self.steps.get(k).hints
     }
 }

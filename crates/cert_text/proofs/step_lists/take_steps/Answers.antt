@@ -3,10 +3,12 @@ use Rattle.dq_lits.specs.Derivation.{ProofStep}
 use Rattle.dq_text.specs.Line.{TextLine, lines_from}
 use Rattle.dq_text.specs.TextLine.{text_line}
 use Rattle.cert_text.specs.Grammar.{Tokens}
+use Rattle.cert_text.specs.PlainStep.{read_step}
 use Rattle.cert_text.specs.StepLine.{step_line}
 use Rattle.cert_text.specs.Variables.{is_variable}
 use Rattle.cert_text.specs.declared.faults.CertFault.{CertFault}
 use Rattle.cert_text.proofs.LinesReading.{line_missing, line_at_fault, line_read, refused_at, stopped}
+use Rattle.cert_text.proofs.PlainSteps.{step_stop}
 use Rattle.cert_text.proofs.step_lists.take_steps.Goals as goal
 
 pub returns-in_default : goal.returns-in_default
@@ -24,7 +26,9 @@ returns-in-Err c =
     let behind = c.next.new.self in
     let line : TextLine = text_line c.in-Some.line behind.rest in
     let more : c.loop-k.k < c.args.count = omega (arith, c.loop-k-test.true) in
-    stopped _ line.number _ c.in-Err.stop c.at_line.result c.loop-k.steps behind c.in-Err.ensures c.at_line.ensures
+    let buffers = c.read_step.new.buffers in
+    stopped _ line.number _ c.in-Err.stop c.at_line.result c.loop-k.steps behind
+    (step_stop _ c.in-Err.stop buffers.literals.items buffers.hints.items c.in-Err.ensures) c.at_line.ensures
     (λ name fault. c.loop-k.invariant
     ∙ line_at_fault line_at c.args.first_id c.loop-k.k c.args.count c.loop-k.steps c.loop-k.lines line (lines_from behind.number behind.rest) name more
     c.in-Some.ensures.line fault)
@@ -36,6 +40,8 @@ loop-k-preserved c =
     let line : TextLine = text_line c.in-Some.line behind.rest in
     let more : c.loop-k.k < c.args.count = omega (arith, c.loop-k-test.true) in
     let next : behind.number ≡ line.number + 1 = c.in-Some.ensures.next_number ∙ ap (λ n. n + 1) (sym c.in-Some.ensures.number) in
+    let buffers = c.read_step.new.buffers in
     c.loop-k.invariant
-    ∙ line_read line_at c.args.first_id c.loop-k.k c.args.count c.loop-k.steps c.loop-k.lines behind line c.in-Ok.step c.push.new.self more
-    c.in-Some.ensures.line next c.in-Ok.ensures c.in_ok-push-in-Ok.ensures.ok
+    ∙ line_read line_at c.args.first_id c.loop-k.k c.args.count c.loop-k.steps c.loop-k.lines behind line
+    (read_step c.in-Ok.id buffers.literals.items buffers.hints.items) c.push_step.new.steps more
+    c.in-Some.ensures.line next c.in-Ok.ensures c.in_ok-push_step-in-Ok.ensures

@@ -1,10 +1,7 @@
-use Rattle.std.proofs.Common.{◌≡◌, ◌++◌, length}
+use Rattle.std.proofs.Common.{◌≡◌, ◌++◌, drop}
 use Rattle.std.specs.List.{flat_map}
 use Rattle.cert_text.specs.Canonical.{step_text}
 use Rattle.cert_text.proofs.writer.write_steps.Given as goal
 
-abbrev pub invariant-loop-first : goal.invariant-loop-first
-invariant-loop-first l = l.text.items ++ flat_map step_text l.rest ≡ l.fn.text.items ++ flat_map step_text l.steps
-
-abbrev pub decreases-loop-first : goal.decreases-loop-first
-decreases-loop-first l = length l.rest
+abbrev pub invariant-loop-k : goal.invariant-loop-k
+invariant-loop-k l = l.text.items ++ flat_map step_text (drop l.k l.steps) ≡ l.fn.text.items ++ flat_map step_text l.steps

@@ -1,0 +1,26 @@
+-- Numbers that begin some bytes.
+use Rattle.std.specs.Prelude.{◌≡◌, ℕ, ◌<◌, ◌≤◌, ◌^◌, true, false, List, ◌++◌, length, take}
+use Rattle.std.specs.Char.{is_ascii_digit}
+use Rattle.std.specs.List.{list_all}
+use Rattle.dq_text.specs.Line.{line_tokens}
+use Rattle.dq_text.specs.Number.{decimal_value}
+use Rattle.dq_text.specs.Token.{goes_on}
+
+-- the first bytes, so many, are digits with this value
+pub record IsLeadingValue (bytes : List ℕ) (value count : ℕ) : Type 0 where
+  pub within : count ≤ length bytes
+  pub are : list_all is_ascii_digit (take count bytes) ≡ true
+  pub value_is : value ≡ decimal_value (take count bytes)
+  pub small : value < 10 ^ 18
+
+-- these bytes are digits with this value, and then others, in which the token doesn't go on, with the tokens of what is left
+pub record BeginsWithNatural (bytes : List ℕ) (value : ℕ) (left : List ℕ) : Type 0 where
+  pub digits : List ℕ
+  pub others : List ℕ
+  pub parts : bytes ≡ digits ++ others
+  pub some : 0 < length digits
+  pub are : list_all is_ascii_digit digits ≡ true
+  pub value_is : decimal_value digits ≡ value
+  pub small : value < 10 ^ 18
+  pub ends : goes_on others ≡ false
+  pub same : line_tokens left ≡ line_tokens others

@@ -1,0 +1,103 @@
+//! Numbers of few digits, read in one pass over their bytes.
+
+ghost use Rattle.std.specs.Prelude.{◌≡◌, ◌≤◌, ◌<◌, ◌^◌, ◌∷◌, false, pos, neg_ℤ, length, map, take, IfSome};
+ghost use Rattle.dq_text.specs.Line.{line_tokens};
+ghost use Rattle.dq_text.specs.Number.{number_of};
+ghost use Rattle.dq_text.specs.ShortNumber.{BeginsWithNatural, IsLeadingValue};
+ghost use Rattle.dq_text.specs.Token.{goes_on};
+ghost use Rattle.dq_text.specs.declared.numbers.Number.TheVariants.{Int};
+
+use crate::cursors::separates;
+
+// Numbers of so many digits are below 10^18.
+const MOST_DIGITS: usize = 18;
+
+/// The number that is the first token, and the bytes behind it. There may be one where it finds none: one of 19 digits
+/// or more.
+pub fn short_number(bytes: &[u8]) -> Option<(i64, &[u8])>
+    ensures { IfSome result (λ found. map number_of (line_tokens bytes.now) ≡ Int found.0 ∷ map number_of (line_tokens found.1.now)) }
+{
+    match bytes.split_first() {
+        Some((b'-', digits)) => behind_minus(digits),
+        _ => without_minus(bytes),
+    }
+}
+
+fn behind_minus(digits: &[u8]) -> Option<(i64, &[u8])>
+    ensures { IfSome result (λ found. map number_of (line_tokens (45 ∷ digits.now)) ≡ Int found.0 ∷ map number_of (line_tokens found.1.now)) }
+{
+    let (value, behind) = short_natural(digits)?;
+    if value == 0 {
+        return None;
+    }
+    Some((negated(value), behind))
+}
+
+fn without_minus(bytes: &[u8]) -> Option<(i64, &[u8])>
+    ensures { IfSome result (λ found. map number_of (line_tokens bytes.now) ≡ Int found.0 ∷ map number_of (line_tokens found.1.now)) }
+{
+    let (value, behind) = short_natural(bytes)?;
+    Some((as_signed(value), behind))
+}
+
+fn negated(value: u64) -> i64
+    requires { value < 10 ^ 18 }
+    ensures { result ≡ neg_ℤ (pos value) }
+{
+    -(value as i64)
+}
+
+fn as_signed(value: u64) -> i64
+    requires { value < 10 ^ 18 }
+    ensures { result ≡ pos value }
+{
+    value as i64
+}
+
+// The value of the digits that are the first token, at most 18, and the bytes behind them.
+fn short_natural(bytes: &[u8]) -> Option<(u64, &[u8])>
+    ensures { IfSome result (λ found. BeginsWithNatural bytes.now found.0 found.1.now) }
+{
+    let (value, count) = leading_value(first_bytes(bytes));
+    if count == 0 {
+        return None;
+    }
+    let behind = behind_token(&bytes[count..])?;
+    Some((value, behind))
+}
+
+fn first_bytes(bytes: &[u8]) -> &[u8]
+    ensures { result.now ≡ take 18 bytes.now }
+{
+    if bytes.len() > MOST_DIGITS {
+        &bytes[..MOST_DIGITS]
+    } else {
+        bytes
+    }
+}
+
+// The value of the digits before the first other byte, and how many there are.
+fn leading_value(bytes: &[u8]) -> (u64, usize)
+    requires { length bytes.now ≤ 18 }
+    ensures { IsLeadingValue bytes.now result.0 result.1 }
+{
+    let mut value = 0;
+    for (i, digit) in bytes.iter().enumerate() {
+        if !digit.is_ascii_digit() {
+            return (value, i);
+        }
+        value = value * 10 + u64::from(*digit - b'0');
+    }
+    (value, bytes.len())
+}
+
+// The bytes behind the separator that ends a token here, if one does.
+fn behind_token(bytes: &[u8]) -> Option<&[u8]>
+    ensures ends { IfSome result (λ _. goes_on bytes.now ≡ false) }
+    ensures same { IfSome result (λ rest. line_tokens rest.now ≡ line_tokens bytes.now) }
+{
+    match bytes.split_first() {
+        None => Some(bytes),
+        Some((byte, rest)) => { if separates(*byte) { Some(rest) } else { None } }
+    }
+}
