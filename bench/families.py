@@ -283,12 +283,21 @@ def parity(rng, size, is_blind=False):
     return formula, "FALSE" if is_blind else "TRUE"
 
 
+def two_below(rng, bound):
+    """Two different numbers from 1 on below a bound, which may be too large for `sample`."""
+    if bound < 1 << 62:
+        return rng.sample(range(1, bound), 2)
+    first = rng.randrange(1, bound)
+    second = rng.randrange(1, bound - 1)
+    return first, second + (second >= first)
+
+
 def controller(rng, size, is_blind=False):
     """A position of so many bits is to stay between two bounds, where wind may move it by one and the controller, which sees some of the bits
     and not the wind, may move it back by one. True where it sees a bit in which the bounds differ, and else false."""
     formula = Formula()
     position, wind = formula.word(size), formula.universal()
-    low, high = sorted(rng.sample(range(1, (1 << size) - 1), 2))
+    low, high = sorted(two_below(rng, (1 << size) - 1))
     differ = [i for i in range(size) if (low ^ high) >> i & 1]
     same = [i for i in range(size) if i not in differ]
     seen = same if is_blind else {rng.choice(differ), *rng.sample(range(size), size // 2)}

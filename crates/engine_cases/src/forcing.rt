@@ -23,15 +23,10 @@ const LIMIT: u64 = 1000;
 pub fn run(alloc: Global, f: &Formula, question: &str, printed: &mut String) -> Result<()>
     requires formula { IsWellFormed f.now }
 {
-    let mut words = question.split_whitespace();
-    let Some(y) = words.next() else {
-        return Err(anyhow!("no existential"));
-    };
-    let Some(bit) = words.next() else {
-        return Err(anyhow!("no bit"));
-    };
+    let (y, rest) = split(question)?;
+    let (bit, row) = split(rest)?;
     let y: u64 = y.parse()?;
-    let row = row_of(alloc, f, words.as_str())?;
+    let row = row_of(alloc, f, row)?;
     ask(alloc, f, y, &row, bit == "1", printed)
 }
 
