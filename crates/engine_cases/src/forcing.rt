@@ -30,6 +30,14 @@ pub fn run(alloc: Global, f: &Formula, question: &str, printed: &mut String) -> 
     ask(alloc, f, y, &row, bit == "1", printed)
 }
 
+// The first word, and what is behind it.
+fn split(text: &str) -> Result<(&str, &str)> {
+    match text.trim().split_once(' ') {
+        Some(parts) => Ok(parts),
+        None => Err(anyhow!("too few words: {text}")),
+    }
+}
+
 fn ask(alloc: Global, f: &Formula, y: u64, row: &Row, bit: bool, printed: &mut String) -> Result<()>
     requires formula { IsWellFormed f.now }
     requires row { length row.now ≡ length f.now.universals }
