@@ -1,10 +1,12 @@
 -- An answer that shows outputs to be right is exported as a proof that the checker accepts and that a text can hold.
-use Rattle.std.proofs.Common.{◌≡◌, nat_le, ℕ, ◌+◌, ◌≤◌, true, false, inl, inr, List, [], ◌∷◌, length, Option, None, Some, refl, sym, ◌∙◌, ap, subst, arith}
+use Rattle.std.proofs.Common.{◌≡◌, nat_le, ℕ, ◌+◌, ◌≤◌, true, false, inl, inr, List, [], ◌∷◌, length, get_or, Option, None, Some, refl, sym, ◌∙◌, ap, subst, arith}
+use Rattle.std.specs.List.{Contains}
 use Rattle.std.proofs.lemmas.Bool.{and_from, le-leb}
 use Rattle.std.proofs.lemmas.List.{length-map}
+use Rattle.std.proofs.lemmas.List.Elements.{All-contains}
 use Rattle.std.proofs.lemmas.List.Kept.{AllPairs-from_increasing}
 use Rattle.dq_lits.specs.Literal.{Literal}
-use Rattle.dq_lits.specs.Formula.{Dqbf, IsWellFormed}
+use Rattle.dq_lits.specs.Formula.{Dqbf, Existential, IsWellFormed}
 use Rattle.dq_lits.specs.Derivation.{is_empty}
 use Rattle.hint_log.specs.Conditions.{MayFollow, AreLogged}
 use Rattle.hint_log.specs.Deciding.{ReachesGiven, IsCircuitGiven, ReadsInput, itself, left, right, LeafReads}
@@ -20,7 +22,7 @@ use Rattle.hint_log.specs.declared.origins.Origin.TheVariants.{Instance, Gate, F
 use Rattle.cert_text.specs.CircuitProof.{is_proof_variable, first_proof_id}
 use Rattle.cert_text.specs.Grammar.{AreSteps}
 use Rattle.proof_checker.specs.CircuitProof.{negated_candidate, circuit_proof_fault}
-use Rattle.cert_export.specs.CircuitPart.{CircuitPart, circuit_number, circuit_renaming, circuit_id, IsCircuitClause, exported_candidate, exported_netlist, last_base_id, gate_of, max_number}
+use Rattle.cert_export.specs.CircuitPart.{CircuitPart, circuit_number, circuit_renaming, circuit_id, IsCircuitClause, ReadSeen, exported_candidate, exported_netlist, last_base_id, gate_of, max_number}
 use Rattle.cert_export.specs.ExportedCircuit.{IsExportedPart, IsCircuitRenaming, proof_number, proof_steps, ExportedAnswerIsAccepted, ExportedProofIsAllowed}
 use Rattle.cert_export.specs.LineOrder.{IsRenamedBase, AreLineNumbers, AreLines, AreFinished}
 use Rattle.cert_export.specs.Lines.{clause_or_empty, is_derived, derived_ids, line_clause}

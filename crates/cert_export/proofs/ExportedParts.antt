@@ -1,5 +1,5 @@
 -- What is exported of an answer that decides that a formula is true: its faults' leaves, and the gates that these and the proof rest on.
-use Rattle.std.proofs.Common.{◌≡◌, ◌≢◌, ℕ, zero, suc, ◌+◌, ◌≤◌, ◌<◌, ◌==◌, ◌&&◌, Bool, true, false, cond, List, [], ◌∷◌, ◌++◌, length, get_or, reverse, Option, None, Some, IsSome, is_some, refl, sym, ◌∙◌, ap, subst, arith}
+use Rattle.std.proofs.Common.{◌≡◌, ◌≢◌, ℕ, zero, suc, ◌+◌, ◌≤◌, ◌<◌, ◌==◌, ◌⊎◌, ◌&&◌, inl, inr, Bool, true, false, cond, List, [], ◌∷◌, ◌++◌, length, get_or, reverse, Option, None, Some, IsSome, is_some, refl, sym, ◌∙◌, ap, subst, arith}
 use Rattle.std.specs.List.{All, AllPairs, Contains}
 use Rattle.std.specs.Prelude.{slice_index_or}
 use Rattle.std.specs.Option.{option_map, option_and_then}
@@ -9,23 +9,23 @@ use Rattle.dq_lits.specs.Formula.{Dqbf, Existential}
 use Rattle.dq_lits.specs.Literal.{Literal, variable_of, negative}
 use Rattle.hint_log.specs.Conditions.{MayFollow, is_circuit_name}
 use Rattle.hint_log.specs.Deciding.{ReachesGiven, ReadsInput, itself, left, right, LeafReads, IsFaultLeaf}
-use Rattle.hint_log.specs.Entries.{Entry, Named, Given, Learned, Answer, Round, has_id, count, last_id, numbered, clause_of, hints_of, origin_of, hints_at, origin_at, name_of, names_of}
+use Rattle.hint_log.specs.Entries.{Entry, Named, Given, Learned, Answer, Round, has_id, count, last_id, numbered, clause_of, hints_of, origin_of, clause_at, hints_at, origin_at, name_of, names_of}
 use Rattle.hint_log.specs.Growth.{Each}
-use Rattle.hint_log.specs.Origins.{matrix_literal, IsOriginsClause, IsFaultRest, IsLeafOf, IsGateRest}
+use Rattle.hint_log.specs.Origins.{matrix_literal, IsOriginsClause, IsFaultOrSome, IsFaultRest, IsLeafOf, IsGateRest}
 use Rattle.hint_log.specs.ProductiveLog.{MatchesOrigin}
 use Rattle.hint_log.specs.Reached.{Reaches, itself as reaches_itself, by_hint}
 use Rattle.hint_log.specs.declared.names.Name.TheVariants.{And}
 use Rattle.hint_log.specs.declared.origins.Leaf.{Leaf}
 use Rattle.hint_log.specs.declared.origins.Leaf.TheVariants.{Constant, Literal as LeafLiteral}
 use Rattle.hint_log.specs.declared.origins.Origin.{Origin}
-use Rattle.hint_log.specs.declared.origins.Origin.TheVariants.{Gate, Fault}
+use Rattle.hint_log.specs.declared.origins.Origin.TheVariants.{Instance, Gate, Fault, Copy, Link}
 use Rattle.log_laws.proofs.Found.{split_at, each_at}
 use Rattle.log_laws.proofs.LeafFunctions.{circuit_stays}
 use Rattle.log_laws.proofs.Reaching.{name_stays, numbered_kept}
 use Rattle.number_tables.specs.Numbers.{has_number, place_of}
-use Rattle.cert_export.specs.CircuitPart.{CircuitPart, IsCircuitPart, IsInFile, IsLeafInFile}
-use Rattle.cert_export.specs.ExportedCircuit.{IsExportedPart, is_gate_name}
-use Rattle.cert_export.specs.FaultLeaves.{LeafTable, leaf_of, or_false, output_leaf, IsLeafAmong, AreLeavesAmong, HasLeavesAmong, HaveLiterals, AreOfGroup}
+use Rattle.cert_export.specs.CircuitPart.{CircuitPart, IsCircuitPart, IsInFile, IsLeafInFile, ReadSeen}
+use Rattle.cert_export.specs.ExportedCircuit.{IsDecidedTrue, IsExportedPart, is_gate_name}
+use Rattle.cert_export.specs.FaultLeaves.{LeafTable, leaf_of, or_false, output_leaf, IsLeafAt, IsLeafAmong, AreLeavesAmong, HasLeavesAmong, HasLiteral, HaveLiterals, AreOfGroup}
 use Rattle.cert_export.specs.Needed.{with_all_sides, with_gates, IsLeafNeeded, IsGateNeeded, HasRoots}
 use Rattle.cert_export.specs.Parts.{AreDecided}
 use Rattle.cert_export.proofs.Answers.{answer_there, reached_given}

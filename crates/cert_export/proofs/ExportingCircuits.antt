@@ -1,18 +1,19 @@
 -- What an answer reaches that decides that a formula is true can be exported.
-use Rattle.std.proofs.Common.{◌≡◌, nat_le, ℕ, zero, suc, ◌+◌, ◌*◌, ◌≤◌, ◌<◌, Bool, true, false, List, [], ◌∷◌, map, length, length-append, get_or, slice_index, Option, None, Some, refl, sym, ◌∙◌, ap, subst, arith}
+use Rattle.std.proofs.Common.{◌≡◌, nat_le, ℕ, zero, suc, ◌+◌, ◌*◌, ◌≤◌, ◌<◌, ◌^◌, Bool, true, false, List, [], ◌∷◌, ◌++◌, map, take, length, length-append, get_or, slice_index, Option, None, Some, refl, sym, ◌∙◌, ap, subst, arith}
 use Rattle.std.specs.List.{All, Contains, sum_by}
-use Rattle.std.specs.Option.{option_and_then}
+use Rattle.std.specs.List.Sorted.{IsStrictlyIncreasing}
+use Rattle.std.specs.Option.{option_map, option_and_then}
 use Rattle.std.proofs.lemmas.Bool.{leb-true, and_parts}
 use Rattle.std.proofs.lemmas.List.{take_all, length-map}
 use Rattle.std.proofs.lemmas.List.Elements.{All-nil, All-cons, Contains-get_or}
 use Rattle.dq_lits.specs.Derivation.{is_tautology, IsDerived, ProofStep}
-use Rattle.dq_lits.specs.Formula.{Dqbf, IsWellFormed, HasLawfulPrefix}
+use Rattle.dq_lits.specs.Formula.{Dqbf, IsWellFormed, HasLawfulPrefix, declared}
 use Rattle.dq_lits.specs.Literal.{Literal, variable_of}
 use Rattle.hint_log.specs.Conditions.{IsId, AreLogged, AreNamed}
 use Rattle.hint_log.specs.Entries.{Entry, Named, Given, Learned, Answer, Round, ProofLog, has_id, numbered, clause_of, clause_at, last_id, count, name_of}
 use Rattle.hint_log.specs.Growth.{Each}
 use Rattle.hint_log.specs.Naming.{numbered_from_one}
-use Rattle.hint_log.specs.Origins.{IsOriginsClause, IsFaultRest}
+use Rattle.hint_log.specs.Origins.{matrix_literal, IsOriginsClause, IsFaultRest}
 use Rattle.hint_log.specs.ProductiveLog.{MatchesOrigin, IsDerivedByHints, IsProductiveLog}
 use Rattle.hint_log.specs.Reached.{Reaches, by_hint, AreReached}
 use Rattle.hint_log.specs.declared.origins.Leaf.{Leaf}
@@ -27,12 +28,12 @@ use Rattle.cert_text.specs.declared.circuit_proofs.Dqp.{Dqp}
 use Rattle.aiger_text.specs.declared.files.AagFile.{AagFile}
 use Rattle.circuit_plain.specs.Netlist.{Netlist}
 use Rattle.circuit_plain.specs.declared.circuits.Gate.{Gate as FileGate}
-use Rattle.cert_export.specs.CircuitPart.{CircuitPart, circuit_renaming, circuit_id, exported_netlist, last_negated, max_number, gate_of, IsCircuitClause}
-use Rattle.cert_export.specs.ExportedCircuit.{IsDecidedTrue, IsCircuitRenaming, IsProvedCircuit, IsWritable, ExportedAnswerIsProved, ExportedFileIsSpellable, is_gate_name, proof_number}
+use Rattle.cert_export.specs.CircuitPart.{CircuitPart, circuit_renaming, circuit_id, exported_netlist, last_base_id, last_negated, max_number, gate_of, IsCircuitClause}
+use Rattle.cert_export.specs.ExportedCircuit.{IsDecidedTrue, IsExportedPart, IsCircuitRenaming, IsProvedCircuit, IsWritable, ExportedAnswerIsProved, ExportedFileIsSpellable, is_gate_name, proof_steps, proof_number}
 use Rattle.cert_export.specs.Lines.{is_derived, is_lemma, clause_or_empty, line_clause, line_number, line_steps, derived_ids}
 use Rattle.cert_export.specs.Negated.{IsOfCircuit, HasNegatedId, AreLengthsBefore}
 use Rattle.cert_export.specs.Netlists.{IsExportable}
-use Rattle.cert_export.specs.Parts.{part_of, IsSmall, AreDecided, AreCircuitIds, AreProofSteps, IsExportedCircuit}
+use Rattle.cert_export.specs.Parts.{part_of, IsSmall, AreDecided, AreCircuitIds, AreProofSteps, IsCircuitFile, IsExportedCircuit}
 use Rattle.cert_export.specs.declared.parts.Part.{Part}
 use Rattle.cert_export.specs.Renaming.{Renaming, IsInjective, renamed_clause}
 use Rattle.cert_export.specs.Written.{CanBeWritten}

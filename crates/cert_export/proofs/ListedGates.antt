@@ -1,10 +1,10 @@
 -- The needed gates of a log: each one is a gate of it, and with a gate they hold its sides.
-use Rattle.std.proofs.Common.{◌≡◌, ◌≢◌, ℕ, ◌+◌, ◌≤◌, ◌==◌, ◌⊎◌, inl, inr, Bool, true, false, cond, List, [], ◌∷◌, ◌++◌, length, length-append, reverse, None, Some, refl, sym, ◌∙◌, ap, subst, arith}
-use Rattle.std.specs.List.{AllPairs, Contains}
-use Rattle.std.proofs.lemmas.Bool.{eqb-true, eq-eqb, cond-true, true≢false}
+use Rattle.std.proofs.Common.{◌≡◌, ◌≢◌, ℕ, zero, suc, ◌+◌, ◌≤◌, ◌<◌, ◌==◌, ◌⊎◌, inl, inr, Bool, true, false, cond, List, [], ◌∷◌, ◌++◌, length, length-append, get_or, reverse, Option, None, Some, refl, sym, ◌∙◌, ap, subst, arith}
+use Rattle.std.specs.List.{All, AllPairs, Contains, list_any}
+use Rattle.std.proofs.lemmas.Bool.{eqb-true, eq-eqb, cond-true, cond-false, true≢false}
 use Rattle.std.proofs.lemmas.List.{reverse-append, get_or_default}
 use Rattle.std.proofs.lemmas.List.Quantifiers.{all_pairs_push}
-use Rattle.std.proofs.lemmas.List.Elements.{Contains-append_left, Contains-push}
+use Rattle.std.proofs.lemmas.List.Elements.{Contains-append_left, Contains-push, Contains-get_or}
 use Rattle.dq_lits.specs.Literal.{Literal, variable_of}
 use Rattle.hint_log.specs.Conditions.{is_circuit_name, HasSides, MayFollow}
 use Rattle.hint_log.specs.Entries.{Entry, Named, Given, Learned, Answer, Round, count, name_of, names_of}

@@ -14,6 +14,7 @@ use Rattle.hint_log.specs.ProductiveLog.{MatchesOrigin, IsDerivedByHints}
 use Rattle.hint_log.specs.Reached.{Reaches, AreReached}
 use Rattle.hint_log.specs.declared.names.Name.TheVariants.{And}
 use Rattle.hint_log.specs.declared.origins.Leaf.{Leaf}
+use Rattle.hint_log.specs.declared.origins.Origin.{Origin}
 use Rattle.hint_log.specs.declared.origins.Origin.TheVariants.{Gate, Fault}
 use Rattle.aiger_text.specs.Lines.{max_count}
 use Rattle.aiger_text.specs.Spellable.{IsSpellable}

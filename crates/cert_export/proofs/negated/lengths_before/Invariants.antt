@@ -1,3 +1,4 @@
+use Rattle.std.proofs.Common.{◌≡◌, ◌≤◌, ◌^◌, length}
 use Rattle.cert_export.proofs.Numbering.{LengthsSoFar}
 use Rattle.cert_export.proofs.negated.lengths_before.Given as goal
 
