@@ -1,17 +1,12 @@
 -- The numbers of pairs.
 use Rattle.std.proofs.Common.{◌≡◌, ℕ, ◌+◌, ◌-◌, ◌*◌, ◌/◌, ◌%◌, ◌≤◌, ◌<◌, ◌^◌, ◌==◌, Bool, true, false, not, ◌&&◌, cond, inl, inr, List, [], ◌∷◌, map, take, drop, length, get_or, position, Option, None, Some, IsSome, is_some, nat_lt, refl, sym, ◌∙◌, ap, subst, arith}
 use Rattle.std.specs.List.{All, list_any, find, position_or_len, filter_map}
-use Rattle.std.specs.Map.{lookup}
 use Rattle.std.proofs.Math.Nat.{mul-le-mul_left, div-add-mod, mod-lt}
 use Rattle.std.proofs.lemmas.Bool.{cases_Bool, eqb-true, and_parts, ltb-true}
 use Rattle.std.proofs.lemmas.Nat.{div-mul-add, mod-mul-add}
 use Rattle.std.proofs.lemmas.Option.{slice_get-get_or}
 use Rattle.std.proofs.lemmas.List.{get_or-map, get_or_default, get_or-take, get_or-drop, length-map, length-take, length-drop, take-map, drop-map}
 use Rattle.std.proofs.lemmas.List.Sums.{prefix_len-le-length}
-use Rattle.std.specs.BTreeMap.{insert_entry, is_at}
-use Rattle.std.proofs.Common.{Ordering, Less, Equal, Greater}
-use Rattle.std.specs.Ordering.{is_eq, match_ordering, nat_cmp}
-use Rattle.std.proofs.lemmas.Bool.Decides.{nat_tests}
 use Rattle.dq_lits.specs.Expansion.{agree_on, row_assignment, pair_number, pair_literal, universal_literal_true}
 use Rattle.dq_lits.specs.Formula.{Existential, Dqbf, existential_of}
 use Rattle.dq_lits.specs.Literal.{Literal, positive, negative, variable_of, is_negative, literal_true, on_variable}
@@ -25,7 +20,7 @@ use Rattle.cert_text.proofs.PairNumbers.{existential_in_range}
 use Rattle.refutation_checker.proofs.Standing.{same_first, stand_in_declared}
 use Rattle.refutation_checker.specs.Alike.{set_of, stand_in, AreAlike}
 use Rattle.refutation_checker.specs.Refutation.{normal_of, normal_number}
-use Rattle.refutation_checker.specs.Pairs.{first_agreeing, first_row, pair_of, blocks, block_firsts, existential_part, IsBlock, AreBlockFirsts}
+use Rattle.refutation_checker.specs.Pairs.{first_agreeing, first_row, pair_of, blocks, block_firsts, existential_part, IsBlock}
 use Rattle.refutation_checker.specs.PairTable.{instance_in, instance_literals}
 
 -- a first row is one of the rows, or behind the last
@@ -42,37 +37,6 @@ pair_small f first v variables lawful few declared is =
     let y = existential_in_range f v lawful declared in
     let product : first * variables ≤ first * 1000000 = mul-le-mul_left first (omega (arith, is, lawful.few_variables)) in
     omega (arith, product, few, y.1, lawful.few_variables)
-
--- what is kept of first rows
-same_key : (x y : ℕ) → is_eq (nat_cmp x y) ≡ true → x ≡ y
-same_key x y same = grind (arith, nat_tests, same)
-
-pub found_rows : (f : Dqbf) (rows : List (List Bool)) (number : ℕ) (entries : List (ℕ × List ℕ)) (firsts : List ℕ) → AreBlockFirsts f rows entries
-    → Some firsts ≡ lookup (is_at (nat_cmp number)) entries → firsts ≡ block_firsts f rows number
-found_rows f rows number [] firsts all found = cc
-found_rows f rows number (e ∷ entries) firsts all found =
-    elim (cases_Bool (is_eq (nat_cmp number e.0))) [
-      | inl same ↦
-          let at : Some firsts ≡ Some e.1 = found ∙ ap (λ b. cond b (Some e.1) (lookup (is_at (nat_cmp number)) entries)) same in
-          some_is firsts e.1 at ∙ all.0 ∙ ap (block_firsts f rows) (sym (same_key number e.0 same))
-      | inr other ↦ found_rows f rows number entries firsts all.1 (found ∙ ap (λ b. cond b (Some e.1) (lookup (is_at (nat_cmp number)) entries)) other)
-    ]
-  where
-    some_is : (xs ys : List ℕ) → Some xs ≡ Some ys → xs ≡ ys
-    some_is xs ys h = cc
-
-pub kept_rows : (f : Dqbf) (rows : List (List Bool)) (number : ℕ) (entries : List (ℕ × List ℕ)) (firsts : List ℕ) → AreBlockFirsts f rows entries
-    → firsts ≡ block_firsts f rows number → AreBlockFirsts f rows (insert_entry nat_cmp entries number firsts)
-kept_rows f rows number [] firsts all is = (is, tt)
-kept_rows f rows number (e ∷ entries) firsts all is =
-    by (nat_cmp number e.0) (λ same. is ∙ ap (block_firsts f rows) (same_key number e.0 same)) (kept_rows f rows number entries firsts all.1 is) refl
-  where
-    by : (o : Ordering) → (is_eq (nat_cmp number e.0) ≡ true → firsts ≡ block_firsts f rows e.0) → AreBlockFirsts f rows (insert_entry nat_cmp entries number firsts)
-        → nat_cmp number e.0 ≡ o
-        → AreBlockFirsts f rows (match_ordering o ((number, firsts) ∷ e ∷ entries) ((e.0, firsts) ∷ entries) (e ∷ insert_entry nat_cmp entries number firsts))
-    by Less here rest order = (is, all)
-    by Equal here rest order = (here (ap is_eq order), all.1)
-    by Greater here rest order = (all.0, rest)
 
 -- the existential of a variable stands on it
 found_variable : (es : List Existential) (v : ℕ) (e : Existential) → find (λ y. y.variable == v) es ≡ Some e → e.variable ≡ v

@@ -1,6 +1,7 @@
 pub mod Refutation
 pub mod Answer
 pub mod Pairs
+pub mod KnownBlocks
 pub mod PairTable
 pub mod Labels
 pub mod FirstRows

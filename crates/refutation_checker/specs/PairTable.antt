@@ -6,7 +6,8 @@ use Rattle.dq_lits.specs.Formula.{Dqbf}
 use Rattle.dq_lits.specs.Literal.{Literal, variable_of, on_variable}
 use Rattle.cert_text.specs.Header.{max_count}
 use Rattle.refutation_checker.specs.Alike.{AreAlike}
-use Rattle.refutation_checker.specs.Pairs.{pair_of, existential_part, IsBlock, AreBlockFirsts}
+use Rattle.refutation_checker.specs.KnownBlocks.{AreKnown}
+use Rattle.refutation_checker.specs.Pairs.{pair_of, existential_part, IsBlock}
 
 pub record Expanded : Type 0 where
   pub formula : Dqbf
@@ -16,11 +17,11 @@ abbrev pub expanded : Dqbf → List (List Bool) → Expanded
 expanded f rows = record { formula = f; rows = rows }
 
 -- whole rows, existentials with one dependency set, and first rows for some blocks
-pub record IsPairTable (f : Dqbf) (rows : List (List Bool)) (alike : List ℕ) (entries : List (ℕ × List ℕ)) : Type 0 where
+pub record IsPairTable (f : Dqbf) (rows : List (List Bool)) (alike : List ℕ) (lowest : ℕ) (numbers : List ℕ) (firsts : List (List ℕ)) : Type 0 where
   pub few : length rows ≤ max_count
   pub whole : All (λ row. length row ≡ length f.universals) rows
   pub stands : AreAlike f alike
-  pub first_rows : AreBlockFirsts f rows entries
+  pub first_rows : AreKnown f rows lowest numbers firsts
 
 abbrev pub row_at : Expanded → ℕ → List Bool
 row_at n k = slice_index_or n.rows k []

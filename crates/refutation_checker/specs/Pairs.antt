@@ -1,6 +1,6 @@
 -- Pairs of a row and an existential, by the existential's variable and the row.
-use Rattle.std.specs.Prelude.{◌≡◌, ℕ, ◌+◌, ◌*◌, ◌/◌, ◌%◌, Bool, List, map, take, drop, length, Option, None, Some, is_some, IsSome}
-use Rattle.std.specs.List.{AllByRecursion, filter, position_or_len}
+use Rattle.std.specs.Prelude.{ℕ, ◌+◌, ◌*◌, ◌/◌, ◌%◌, Bool, List, map, take, drop, length, Option, None, Some, is_some, IsSome}
+use Rattle.std.specs.List.{filter, position_or_len}
 use Rattle.dq_lits.specs.Expansion.{agree_on}
 use Rattle.dq_lits.specs.Formula.{Existential, Dqbf, existential_of}
 use Rattle.dq_lits.specs.Literal.{Literal, variable_of}
@@ -29,9 +29,6 @@ IsBlock f rows number = IsSome (existential_of f (number / blocks rows))
 abbrev pub block_firsts : Dqbf → List (List Bool) → ℕ → List ℕ
 block_firsts f rows number =
     map (first_row f rows (number / blocks (length rows))) (take 16 (drop (number % blocks (length rows) * 16) rows))
-
-abbrev pub AreBlockFirsts : Dqbf → List (List Bool) → List (ℕ × List ℕ) → Type 0
-AreBlockFirsts f rows entries = AllByRecursion (λ e. e.1 ≡ block_firsts f rows e.0) entries
 
 -- the existential literals of a clause
 abbrev pub existential_part : Dqbf → List Literal → List Literal

@@ -25,6 +25,8 @@ use flat_lists::FlatLists;
 use rup_core::{Marks, ProofFault, first_fault_any};
 use std::alloc::Global;
 
+const MARKS_PER_LINE: usize = 32;
+
 /// Whether a refutation shows that a formula is false: every line is derived, in order, from the instances of the
 /// clauses under the rows and from the lines before it, and the last line is the empty clause. Else it answers the
 /// first line that isn't derived, or that the empty clause is missing. A pair may stand in a line by the number of any
@@ -39,9 +41,18 @@ pub fn check(alloc: Global, f: &Formula, d: &Dqr) -> Result<(), RefFault>
     let mut table = PairTable::new(alloc, f, d.rows.items())?;
     learn_steps(alloc, &mut table, &parts, steps)?;
     let clauses = line_clauses(alloc, &table, steps)?;
-    let mut marks = Marks::new(alloc, steps.len())?;
+    let mut marks = Marks::new(alloc, near_pairs(&table, steps.len()))?;
     let fault = lines_fault(&mut marks, &table, &parts, steps, &clauses)?;
     answer(fault)
+}
+
+// How many pairs have a mark at hand: all of them where the lines are not too few, so that memory follows the lines.
+fn near_pairs(table: &PairTable, lines: usize) -> usize {
+    let pairs = table
+        .rows()
+        .len()
+        .saturating_mul(table.formula().vars() as usize);
+    pairs.min(lines.saturating_mul(MARKS_PER_LINE))
 }
 
 fn answer(fault: Option<ProofFault>) -> Result<(), RefFault>

@@ -16,6 +16,7 @@ mod checks;
 mod faults;
 mod first_rows;
 mod instances;
+mod known_blocks;
 pub mod laws;
 mod lines;
 mod pair_tables;

@@ -16,10 +16,10 @@ ghost use Rattle.refutation_checker.specs.PairTable.{expanded, row_at, instance_
 
 use crate::alike::{alike_existentials, stand_in};
 use crate::first_rows::{FirstRows, first_agreeing, first_rows};
+use crate::known_blocks::KnownBlocks;
 use dq_formula::Formula;
-use dq_lits::{Ids, Lit, Memory, Row};
+use dq_lits::{Lit, Memory, Row};
 use std::alloc::Global;
-use std::collections::BTreeMap;
 use std::marker::Model;
 
 // How many rows a block has. In larger ones a row that occurs alone takes more memory; in smaller ones rows that occur
@@ -38,7 +38,7 @@ pub(crate) struct PairTable<'f, 'r> {
     // By variable, an existential with the same dependency set.
     alike: Vec<u64>,
     // Those of each block that was learnt.
-    first_rows: BTreeMap<u64, Ids>,
+    known: KnownBlocks,
 }
 
 impl<'f, 'r> Model for PairTable<'f, 'r> {
@@ -48,7 +48,7 @@ impl<'f, 'r> Model for PairTable<'f, 'r> {
 
     ghost view = { λ t. expanded t.formula.now t.rows.now };
 
-    ghost invariant = { λ t. IsPairTable t.formula.now t.rows.now t.alike.items t.first_rows.entries };
+    ghost invariant = { λ t. IsPairTable t.formula.now t.rows.now t.alike.items t.known.lowest t.known.numbers t.known.firsts };
 }
 
 impl<'f, 'r> PairTable<'f, 'r> {
@@ -67,7 +67,7 @@ impl<'f, 'r> PairTable<'f, 'r> {
             formula,
             rows,
             alike,
-            first_rows: BTreeMap::new(alloc),
+            known: KnownBlocks::new(alloc, 0),
         })
     }
 
@@ -116,8 +116,8 @@ impl<'f, 'r> PairTable<'f, 'r> {
         ensures { IfSome result (λ first. first ≡ first_row self.now.formula self.now.rows y (row_at self.now k)) }
     {
         let block = self.block(y, k);
-        match self.first_rows.get(&block) {
-            Some(firsts) => Some(firsts.items()[k % BLOCK_ROWS]),
+        match self.known.get(block) {
+            Some(firsts) => Some(firsts[k % BLOCK_ROWS]),
             None => None,
         }
     }
@@ -149,7 +149,7 @@ impl<'f, 'r> PairTable<'f, 'r> {
         self.first_row(y, k) * f.vars() + y
     }
 
-    /// Finds and keeps the first rows of these blocks.
+    /// Finds the first rows of these blocks, and keeps them in place of those that were kept.
     ///
     /// Those of all rows are found for one dependency set at a time, and anew where the set changes: for blocks in
     /// ascending order, once for each set.
@@ -159,6 +159,7 @@ impl<'f, 'r> PairTable<'f, 'r> {
     {
         match blocks.first() {
             Some(first) => {
+                self.begin_at(alloc, *first);
                 let existential = *first / self.blocks();
                 let places = first_rows(alloc, self.formula, self.rows, existential)?;
                 let mut latest = FirstRows {
@@ -197,16 +198,21 @@ impl<'f, 'r> PairTable<'f, 'r> {
         let blocks = self.blocks();
         latest.turn_to(alloc, self.formula, self.rows, block / blocks)?;
         let place = (block % blocks) as usize;
-        let firsts = block_at(alloc, latest.places.items(), place)?;
-        self.keep(block, firsts)
+        self.keep(block, block_at(latest.places.items(), place))
     }
 
-    fn keep(&mut self, block: u64, firsts: Ids) -> Result<(), Memory>
-        requires { firsts ≡ block_firsts self.old.formula self.old.rows block }
+    fn keep(&mut self, block: u64, firsts: &[u64]) -> Result<(), Memory>
+        requires { firsts.now ≡ block_firsts self.old.formula self.old.rows block }
         ensures { self.new ≡ self.old }
     {
-        self.first_rows.insert(block, firsts)?;
-        Ok(())
+        self.known.put(block, firsts)
+    }
+
+    // Forgets what was kept; none of the blocks that will be is below this one.
+    fn begin_at(&mut self, alloc: Global, lowest: u64)
+        ensures { self.new ≡ self.old }
+    {
+        self.known = KnownBlocks::new(alloc, lowest);
     }
 
     /// A literal, on the pair of an existential and the row at `k`.
@@ -282,19 +288,16 @@ impl<'f, 'r> PairTable<'f, 'r> {
 }
 
 // The block at a place.
-fn block_at(alloc: Global, firsts: &[u64], place: usize) -> Result<Ids, Memory>
+fn block_at(firsts: &[u64], place: usize) -> &[u64]
     requires { place * 16 ≤ length firsts.now }
-    ensures { IfOk result (λ block. block ≡ take 16 (drop (place * 16) firsts.now)) }
+    ensures { result.now ≡ take 16 (drop (place * 16) firsts.now) }
 {
     let (_, rest) = firsts.split_at(place * BLOCK_ROWS);
-    Ids::from_slice(
-        alloc,
-        if rest.len() > BLOCK_ROWS {
-            &rest[..BLOCK_ROWS]
-        } else {
-            rest
-        },
-    )
+    if rest.len() > BLOCK_ROWS {
+        &rest[..BLOCK_ROWS]
+    } else {
+        rest
+    }
 }
 
 // Whether a universal literal of a clause is true under a row.

@@ -45,7 +45,7 @@ returns g c =
     let r = renaming c.args.names.now in
     let base_id = g.B.Ground.ids c.args.base.now in
     let number = c.args.last + c.len.result + 1 in
-    let steps : c.len.result ≡ length c.args.self.now.steps = c.len.ensures ∙ ap (λ (w : WrittenLines). length w.steps) c.self.view_is in
+    let steps : c.len.result ≡ length c.args.self.now.steps = c.len.ensures.value ∙ ap (λ (w : WrittenLines). length w.steps) c.self.view_is in
     on_ok_more c.add_line.result (λ is. subst (IsWritten r base_id entries (line_number c.args.last (derived_ids entries ids)) (take (i + 1) ids)) (sym is)
     (written_line r base_id (g.B.Ground.Knows c.args.base.now) entries ids c.requires.can i id c.requires.place (get_or_default ids i 0 id c.requires.place) c.args.self.now c.args.last c.requires.so_far
     clause c.clause.result.now hints number (c.origin.ensures ∙ c.in-None.is) c.clause.ensures c.hints.ensures.value (λ k d b. (c.hints.ensures.earlier _ (Contains-get_or hints k d b)).1)
