@@ -1,4 +1,5 @@
 pub mod Declared
 mod Ordering
+mod Reading
 mod Seeing
 mod Sizing

@@ -7,10 +7,12 @@ ghost use Rattle.definition_order.specs.Order.{AreInOrder, ArePlacesOfShared};
 
 use dq_formula::Formula;
 use dq_lits::Memory;
+pub use reads::may_read;
 use shared::is_shared_at;
 use sizes::{places_of, sized_places};
 use std::alloc::Global;
 
+mod reads;
 mod shared;
 mod sizes;
 

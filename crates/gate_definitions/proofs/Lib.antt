@@ -1,0 +1,5 @@
+mod Choosing
+mod Implying
+mod Making
+mod Placing
+mod Readable

@@ -1,0 +1,67 @@
+//! Definitions of existentials that the clauses state: the gates of a circuit that was written in clauses.
+//!
+//! Nothing is asked of a solver: a gate is read off the clauses on its output. Gates of other forms are not found, which costs time alone.
+#![tactic(auto)]
+
+ghost use Rattle.std.specs.Prelude.{◌≡◌, ◌+◌, length, IfOk, IsSome, Some};
+ghost use Rattle.dq_lits.specs.Formula.{Existential, existential_of};
+ghost use Rattle.aig_graph.specs.declared.nodes.Node.{Node};
+ghost use Rattle.aig_graph.specs.Made.{Extends};
+ghost use Rattle.definition_order.specs.Definitions.{IsDefinition};
+
+use aig_graph::{Graph, Node};
+use dq_formula::Formula;
+use dq_lits::Memory;
+use forms::find_gate;
+use index::Index;
+use std::alloc::Global;
+
+mod choices;
+mod clauses;
+mod conjunctions;
+mod forms;
+mod index;
+mod nodes;
+
+/// The clauses of a formula, in which gates are looked for.
+#[derive(Debug, Drop)]
+pub struct Gates {
+    index: Index,
+}
+
+impl Gates {
+    /// The clauses by their variables. It takes time and memory by the number of variables and of literals in clauses; the only error is want
+    /// of memory.
+    pub fn new(alloc: Global, f: &Formula) -> Result<Gates, Memory> {
+        Ok(Gates {
+            index: Index::new(alloc, f)?,
+        })
+    }
+
+    /// A definition of an existential that the clauses state, over what such a definition may read: a conjunction or a disjunction of
+    /// literals, one literal, a constant, a choice between two literals by a third, or an exclusive or of two. None is found where the clauses
+    /// state no such gate. Time follows the clauses on the existential. The only error is want of memory; a refused call leaves the graph as
+    /// it was, but for gates that were made.
+    pub fn read(
+        &self,
+        alloc: Global,
+        f: &Formula,
+        y: u64,
+        graph: &mut Graph,
+    ) -> Result<Option<Node>, Memory>
+        requires existential { IsSome (existential_of f.now y) }
+        requires inputs { graph.old.inputs ≡ length f.now.universals + length f.now.existentials }
+        ensures extends { Extends graph.old graph.new }
+        ensures gate { (e : Existential) → existential_of f.now y ≡ Some e → IfOk result (λ found. (node : Node) → found ≡ Some node
+            → IsDefinition f.now graph.new e node) }
+    {
+        f.every_formula_is_lawful();
+        match find_gate(alloc, f, self.index.on(y), y)? {
+            Some(gate) => {
+                let node = gate.node(alloc, f, y, graph)?;
+                Ok(Some(node))
+            }
+            None => Ok(None),
+        }
+    }
+}
