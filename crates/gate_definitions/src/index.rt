@@ -1,14 +1,14 @@
-//! Which clauses have a literal on a variable.
+//! Which clauses have a literal on an existential.
 
 use dq_formula::Formula;
 use dq_lits::{Lit, Memory};
 use std::alloc::Global;
 
-/// The numbers of the clauses on each variable, end to end. Whoever takes a clause from here reads it, so that no contract speaks of what
+/// The numbers of the clauses on each existential, by its place, end to end. Whoever takes a clause from here reads it, so that no contract speaks of what
 /// is in the index: a number that is missing costs a gate that isn't found.
 #[derive(Debug, Drop)]
 pub(crate) struct Index {
-    // Where each variable's numbers begin.
+    // Where each existential's numbers begin.
     starts: Vec<usize>,
     numbers: Vec<u32>,
 }
@@ -23,11 +23,13 @@ impl Index {
         Ok(Index { starts, numbers })
     }
 
-    /// The numbers of the clauses on a variable.
-    pub(crate) fn on(&self, variable: u64) -> &[u32] {
-        let variable = variable as usize;
-        let start = self.start(variable);
-        let end = self.start(variable.saturating_add(1));
+    /// The numbers of the clauses on an existential.
+    pub(crate) fn on(&self, f: &Formula, y: u64) -> &[u32] {
+        let Some(place) = f.existential_place(y) else {
+            return &[];
+        };
+        let start = self.start(place);
+        let end = self.start(place.saturating_add(1));
         if start <= end && end <= self.numbers.len() {
             &self.numbers[start..end]
         } else {
@@ -35,58 +37,66 @@ impl Index {
         }
     }
 
-    // Where a variable's numbers begin; the end of all behind the last variable.
-    fn start(&self, variable: usize) -> usize {
-        match self.starts.get(variable) {
+    // Where the numbers at a place begin; the end of all behind the last place.
+    fn start(&self, place: usize) -> usize {
+        match self.starts.get(place) {
             Some(start) => *start,
             None => self.numbers.len(),
         }
     }
 }
 
-// How many literals there are on each variable.
+// How many literals there are on each existential.
 fn counts(alloc: Global, f: &Formula) -> Result<Vec<usize>, Memory> {
-    let mut counts = vec![in alloc; 0usize; f.vars() as usize + 1]?;
+    let mut counts = vec![in alloc; 0usize; f.existentials().len()]?;
     for number in 0..f.clauses() {
-        count(f.clause(number), &mut counts);
+        count(f, f.clause(number), &mut counts);
     }
     Ok(counts)
 }
 
-fn count(clause: &[Lit], counts: &mut [usize]) {
+fn count(f: &Formula, clause: &[Lit], counts: &mut [usize]) {
     for l in clause {
-        let variable = l.var() as usize;
-        if variable < counts.len() {
-            counts[variable] = counts[variable].saturating_add(1);
+        let place = place_of(f, *l);
+        if place < counts.len() {
+            counts[place] = counts[place].saturating_add(1);
         }
     }
 }
 
-// Makes the counts to where each variable's numbers end.
+// The place of a literal's existential; behind all of them for a universal.
+fn place_of(f: &Formula, l: Lit) -> usize {
+    match f.existential_place(l.var()) {
+        Some(place) => place,
+        None => f.existentials().len(),
+    }
+}
+
+// Makes the counts to where each existential's numbers end.
 fn add_up(counts: &mut [usize]) -> usize {
     let mut end = 0usize;
-    for variable in 0..counts.len() {
-        end = end.saturating_add(counts[variable]);
-        counts[variable] = end;
+    for place in 0..counts.len() {
+        end = end.saturating_add(counts[place]);
+        counts[place] = end;
     }
     end
 }
 
-// Writes the numbers from the last one on, which moves each variable's end to its start.
+// Writes the numbers from the last one on, which moves each existential's end to its start.
 fn fill(f: &Formula, ends: &mut [usize], numbers: &mut [u32]) {
     for number in (0..f.clauses()).rev() {
-        put(f.clause(number), number as u32, ends, numbers);
+        put(f, f.clause(number), number as u32, ends, numbers);
     }
 }
 
-fn put(clause: &[Lit], number: u32, ends: &mut [usize], numbers: &mut [u32]) {
+fn put(f: &Formula, clause: &[Lit], number: u32, ends: &mut [usize], numbers: &mut [u32]) {
     for l in clause {
-        let variable = l.var() as usize;
-        if variable < ends.len() {
-            let place = ends[variable].saturating_sub(1);
-            ends[variable] = place;
-            if place < numbers.len() {
-                numbers[place] = number;
+        let place = place_of(f, *l);
+        if place < ends.len() {
+            let at = ends[place].saturating_sub(1);
+            ends[place] = at;
+            if at < numbers.len() {
+                numbers[at] = number;
             }
         }
     }

@@ -26,14 +26,16 @@ mod nodes;
 /// The clauses of a formula, in which gates are looked for.
 #[derive(Debug, Drop)]
 pub struct Gates {
+    alloc: Global,
     index: Index,
 }
 
 impl Gates {
-    /// The clauses by their variables. It takes time and memory by the number of variables and of literals in clauses; the only error is want
-    /// of memory.
+    /// The clauses by their existentials. It takes time and memory by the number of existentials and of literals in clauses; the only error is
+    /// want of memory.
     pub fn new(alloc: Global, f: &Formula) -> Result<Gates, Memory> {
         Ok(Gates {
+            alloc,
             index: Index::new(alloc, f)?,
         })
     }
@@ -42,13 +44,7 @@ impl Gates {
     /// literals, one literal, a constant, a choice between two literals by a third, or an exclusive or of two. None is found where the clauses
     /// state no such gate. Time follows the clauses on the existential. The only error is want of memory; a refused call leaves the graph as
     /// it was, but for gates that were made.
-    pub fn read(
-        &self,
-        alloc: Global,
-        f: &Formula,
-        y: u64,
-        graph: &mut Graph,
-    ) -> Result<Option<Node>, Memory>
+    pub fn read(&self, f: &Formula, y: u64, graph: &mut Graph) -> Result<Option<Node>, Memory>
         requires existential { IsSome (existential_of f.now y) }
         requires inputs { graph.old.inputs ≡ length f.now.universals + length f.now.existentials }
         ensures extends { Extends graph.old graph.new }
@@ -56,9 +52,9 @@ impl Gates {
             → IsDefinition f.now graph.new e node) }
     {
         f.every_formula_is_lawful();
-        match find_gate(alloc, f, self.index.on(y), y)? {
+        match find_gate(self.alloc, f, self.index.on(f, y), y)? {
             Some(gate) => {
-                let node = gate.node(alloc, f, y, graph)?;
+                let node = gate.node(self.alloc, f, y, graph)?;
                 Ok(Some(node))
             }
             None => Ok(None),

@@ -1,17 +1,20 @@
 //! The definitions that the clauses force, which are asked for before the first candidates.
 
-ghost use Rattle.std.specs.Prelude.{◌≡◌, ◌<◌, length, replicate, None, All, OnOk, IfOk, IsErrOf, slice_set};
-ghost use Rattle.dq_lits.specs.Formula.{IsWellFormed};
+ghost use Rattle.std.specs.Prelude.{◌≡◌, ◌<◌, ℕ, true, length, replicate, None, Some, All, OnOk, IfOk, IsErrOf, IsSome, slice_set};
+ghost use Rattle.dq_lits.specs.Formula.{Existential, IsWellFormed, existential_of};
 ghost use Rattle.hint_log.specs.Entries.{steps_of};
 ghost use Rattle.aig_graph.specs.Made.{Extends};
-ghost use Rattle.log_laws.specs.Engines.{copies, HasNone};
+ghost use Rattle.hint_log.specs.Growth.{Grew};
+ghost use Rattle.log_laws.specs.Engines.{copies, HasNone, IsAddedBy};
 ghost use Rattle.padoa_definitions.specs.Copies.{IsPadoa};
+ghost use Rattle.padoa_definitions.specs.Defining.{IsFound};
 ghost use Rattle.repair_loop.specs.Searching.{IsFresh, HasInputs, AreKnown, definition_in};
 
 use aig_graph::{Graph, Node};
 use definition_order::existentials_in_order;
 use dq_formula::{Formula, Rule};
 use dq_lits::Memory;
+use gate_definitions::Gates;
 use hint_log::{Log, Stop};
 use log_laws::laws::engines_leave_the_rest;
 use oracle::Oracle;
@@ -22,6 +25,7 @@ use std::alloc::Global;
 #[derive(Debug, Drop)]
 pub(crate) struct Definitions {
     pub(crate) padoa: Padoa,
+    gates: Gates,
     // The node of each existential that has a definition, in order of declaration.
     pub(crate) nodes: Vec<Option<Node>>,
     // Of each of the others two rows, with values that make the matrix true there.
@@ -32,12 +36,13 @@ pub(crate) struct Definitions {
 
 impl Definitions {
     // Nothing is known yet.
-    fn none(alloc: Global, padoa: Padoa, f: &Formula) -> Result<Definitions, Memory>
+    fn none(alloc: Global, padoa: Padoa, gates: Gates, f: &Formula) -> Result<Definitions, Memory>
         ensures padoa { IfOk result (λ d. d.padoa ≡ padoa) }
         ensures known { (graph : _) → IfOk result (λ d. AreKnown f.now graph d.nodes.items d.rules.items) }
     {
         Ok(Definitions {
             padoa,
+            gates,
             nodes: no_nodes(alloc, f.existentials().len())?,
             pairs: Vec::new(alloc),
             rules: Vec::new(alloc),
@@ -120,9 +125,37 @@ impl Definitions {
         engines_leave_the_rest();
         f.every_formula_is_lawful();
         let y = f.existentials()[place];
-        let found = self.padoa.define(oracle, graph, f, y, log)?;
+        let found = self.ask(oracle, graph, f, y, log)?;
         self.note(place, found)?;
         Ok(())
+    }
+
+    // The gate that the clauses state of an existential, else what the solver says of its definition.
+    fn ask<O: Oracle>(
+        &mut self,
+        oracle: &mut O,
+        graph: &mut Graph,
+        f: &Formula,
+        y: u64,
+        log: &mut Log,
+    ) -> Result<Found, Stop>
+        requires fit { O.Fits oracle.old log.old }
+        requires formula { IsWellFormed f.now }
+        requires padoa { IsPadoa f.now self.old.padoa log.old.entries }
+        requires existential { IsSome (existential_of f.now y) }
+        requires inputs { HasInputs f.now graph.old }
+        ensures fit { O.Fits oracle.new log.new }
+        ensures same { self.new ≡ self.old }
+        ensures padoa { IsPadoa f.now self.new.padoa log.new.entries }
+        ensures grew { (group : ℕ) → Grew (IsAddedBy f.now copies group true log.old.entries) log.old log.new }
+        ensures extends { Extends graph.old graph.new }
+        ensures found { (e : Existential) → existential_of f.now y ≡ Some e → IfOk result (IsFound f.now graph.new e) }
+        ensures limit { IsErrOf result Stop.Limit → steps_of log.new.entries ≡ log.new.limit }
+    {
+        match self.gates.read(f, y, graph)? {
+            Some(node) => Ok(Found::Defined(node)),
+            None => self.padoa.define(oracle, graph, f, y, log),
+        }
     }
 }
 
@@ -155,7 +188,8 @@ pub(crate) fn find_definitions<O: Oracle>(
 {
     engines_leave_the_rest();
     let padoa = Padoa::new(alloc, oracle, f, log)?;
-    let mut definitions = Definitions::none(alloc, padoa, f)?;
+    let gates = Gates::new(alloc, f)?;
+    let mut definitions = Definitions::none(alloc, padoa, gates, f)?;
     let order = existentials_in_order(alloc, f)?;
     definitions.find_all(oracle, graph, &order, f, log)?;
     Ok(definitions)

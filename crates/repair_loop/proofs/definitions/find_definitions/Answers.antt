@@ -42,3 +42,9 @@ returns-in_err-find_all-clause-limit_same g c = c.find_all.ensures.limit_same âˆ
 
 pub returns-clause-limit_same : goal.returns-clause-limit_same
 returns-clause-limit_same g c = c.find_all.ensures.limit_same âˆ™ (c.new.ensures.grew 0).limit
+
+pub returns-in_err-gates-clause-fresh : goal.returns-in_err-gates-clause-fresh
+returns-in_err-gates-clause-fresh g c = still_fresh c.engines_leave_the_rest.ensures c.args.f.now c.args.log.now c.new.new.log c.new.ensures.grew c.requires.fresh
+
+pub returns-in_err-gates-clause-limit_same : goal.returns-in_err-gates-clause-limit_same
+returns-in_err-gates-clause-limit_same g c = (c.new.ensures.grew 0).limit
