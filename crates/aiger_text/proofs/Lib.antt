@@ -8,6 +8,7 @@ mod LineNumbers
 mod Names
 mod NaturalTokens
 mod NumberNames
+mod PlainGates
 mod ReadIsSpelled
 mod ReadNetlist
 mod ReadSymbols

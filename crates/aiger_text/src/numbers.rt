@@ -1,7 +1,9 @@
 //! The natural numbers of a line.
 
-ghost use Rattle.std.specs.Prelude.{◌≡◌, Some, None, IfOk, if◌then◌else◌};
+ghost use Rattle.std.specs.Prelude.{◌≡◌, ◌∷◌, pos, map, Ok, Some, None, IfOk, IfSome, if◌then◌else◌};
 ghost use Rattle.dq_text.specs.Line.{line_tokens};
+ghost use Rattle.dq_text.specs.Number.{number_of};
+ghost use Rattle.dq_text.specs.declared.numbers.Number.TheVariants.{Int};
 ghost use Rattle.aiger_text.specs.Lines.{natural_of, numbers_of, one_of, three_of};
 ghost use Rattle.aiger_text.specs.LineStop.{IsLineOf};
 
@@ -54,6 +56,43 @@ pub fn one_number(line: &[u8], numbers: &mut Vec<u64>) -> Result<u64, LineStop>
 
 /// The three natural numbers of a line, as a gate whose variable stands as a literal.
 pub fn three_numbers(line: &[u8], numbers: &mut Vec<u64>) -> Result<Gate, LineStop>
+    ensures { IsLineOf (three_of (numbers_of (line_tokens line.now))) result }
+{
+    match plain_gate(line) {
+        Some(gate) => Ok(gate),
+        None => any_gate(line, numbers),
+    }
+}
+
+// The same where all three are below 10^18, read in one pass; nothing is known where it answers none.
+fn plain_gate(line: &[u8]) -> Option<Gate>
+    ensures { IfSome result (λ gate. three_of (numbers_of (line_tokens line.now)) ≡ Ok gate) }
+{
+    let mut tokens = LineTokens::new(line);
+    let variable = plain_natural(&mut tokens)?;
+    let left = plain_natural(&mut tokens)?;
+    let right = plain_natural(&mut tokens)?;
+    if tokens.next_number().is_some() {
+        return None;
+    }
+    Some(Gate {
+        variable,
+        left,
+        right,
+    })
+}
+
+fn plain_natural(tokens: &mut LineTokens) -> Option<u64>
+    ensures { IfSome result (λ n. map number_of tokens.old ≡ Int (pos n) ∷ map number_of tokens.new) }
+{
+    match tokens.next_number() {
+        Some(Number::Int(n)) if n >= 0 => Some(n as u64),
+        _ => None,
+    }
+}
+
+// The same of any line.
+fn any_gate(line: &[u8], numbers: &mut Vec<u64>) -> Result<Gate, LineStop>
     ensures { IsLineOf (three_of (numbers_of (line_tokens line.now))) result }
 {
     let all = take_numbers(&mut LineTokens::new(line), numbers)?;

@@ -1,4 +1,4 @@
-ghost use Rattle.std.specs.Prelude.{◌≡◌, ◌+◌, ◌-◌, ◌^◌, ◌<◌, ◌==◌, ℕ, true, None, OnOk, OnErr, slice_index_or, if◌then◌else◌};
+ghost use Rattle.std.specs.Prelude.{◌≡◌, ◌+◌, ◌-◌, ◌^◌, ◌<◌, ◌≤◌, ◌==◌, ℕ, true, None, OnOk, OnErr, length, slice_index_or, if◌then◌else◌};
 ghost use Rattle.number_tables.specs.Places.{place_in, Puts};
 
 use dq_lits::Memory;
@@ -15,6 +15,9 @@ pub(crate) struct Places {
 }
 
 const NOWHERE: u32 = u32::MAX;
+
+// The table's length is a multiple of this.
+const GROWTH: usize = 64;
 
 impl Places {
     /// No number has a place. It takes no memory.
@@ -48,6 +51,16 @@ impl Places {
         if is_small(number, place) {
             return write(&mut self.table, number as usize, place as u32);
         }
+        self.put_apart(number, place)
+    }
+
+    // The same of a number that isn't small. Few are, and what calls it is to stay small.
+    #[inline(never)]
+    fn put_apart(&mut self, number: u64, place: usize) -> Result<(), Memory>
+        requires { place_in self.old number ≡ None }
+        ensures ok { OnOk result (Puts (place_in self.old) (place_in self.new) number place) }
+        ensures err { OnErr result ((n : ℕ) → place_in self.new n ≡ place_in self.old n) }
+    {
         self.rest.insert(number, place)?;
         Ok(())
     }
@@ -80,8 +93,21 @@ fn write(table: &mut Vec<u32>, number: usize, place: u32) -> Result<(), Memory>
     ensures err { OnErr result (table.new.items ≡ table.old.items) }
 {
     if table.len() <= number {
-        table.resize(number + 1, NOWHERE)?;
+        grow(table, number)?;
     }
     table[number] = place;
+    Ok(())
+}
+
+// Makes the table hold a number, and some behind it, so that few calls grow it.
+#[inline(never)]
+fn grow(table: &mut Vec<u32>, number: usize) -> Result<(), Memory>
+    requires small { number < 2 ^ 40 }
+    requires past { length table.old.items ≤ number }
+    ensures within { OnOk result (number < length table.new.items) }
+    ensures same { (n : ℕ) → slice_index_or table.new.items n 4294967295 ≡ slice_index_or table.old.items n 4294967295 }
+    ensures err { OnErr result (table.new.items ≡ table.old.items) }
+{
+    table.resize((number / GROWTH + 1) * GROWTH, NOWHERE)?;
     Ok(())
 }

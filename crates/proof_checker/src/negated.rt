@@ -15,7 +15,7 @@ use crate::short_clauses::{ShortClause, short_of_three, short_of_two};
 use circuit_plain::Circuit;
 use dq_formula::Formula;
 use dq_lits::{Lit, Memory};
-use rup_core::Base;
+use rup_core::{Base, FewLiterals};
 use skolem_checker::Bench;
 use std::alloc::Global;
 use std::marker::Model;
@@ -170,6 +170,13 @@ impl<'b> Base for NegatedMatrix<'b> {
             NegatedClause::Missing => unreachable!(),
             NegatedClause::Short(clause) => clause.literal(i),
             NegatedClause::Last => self.last_literal(i),
+        }
+    }
+
+    fn few(&self, id: u64) -> Option<FewLiterals> {
+        match self.clause(id) {
+            NegatedClause::Short(clause) => Some(clause.few()),
+            NegatedClause::Missing | NegatedClause::Last => None,
         }
     }
 }

@@ -1,12 +1,13 @@
 //! Clauses of at most three of a circuit's literals, with the constants put in. They take no memory.
 
-ghost use Rattle.std.specs.Prelude.{◌≡◌, ◌≢◌, ◌==◌, ◌<◌, ◌≤◌, ◌∷◌, [], length, Some, IsSome};
+ghost use Rattle.std.specs.Prelude.{◌≡◌, ◌≢◌, ◌==◌, ◌<◌, ◌≤◌, ◌∷◌, [], length, take, Some, IsSome};
 ghost use Rattle.std.specs.List.{list_any, slice_get};
 ghost use Rattle.std.specs.Option.{option_map};
 ghost use Rattle.cert_text.specs.NegatedMatrix.{as_literal, without_constants};
 ghost use Rattle.proof_checker.specs.ShortClause.{optional, kept_literals, short_literals};
 
 use dq_lits::Lit;
+use rup_core::FewLiterals;
 
 /// The literals of a clause that aren't constant.
 #[derive(Clone, Copy, Debug)]
@@ -83,6 +84,23 @@ fn as_literal(literal: u64) -> Lit
 }
 
 impl ShortClause {
+    /// Its literals, made at once.
+    pub(crate) fn few(&self) -> FewLiterals
+        ensures clause { take result.count result.literals ≡ short_literals self.now }
+        ensures within { result.count ≤ 3 }
+    {
+        match (&self.first, &self.second, &self.third) {
+            (Some(k), Some(l), Some(m)) => three(*k, *l, *m),
+            (Some(k), Some(l), None) => two(*k, *l),
+            (Some(k), None, Some(l)) => two(*k, *l),
+            (None, Some(k), Some(l)) => two(*k, *l),
+            (Some(k), None, None) => one(*k),
+            (None, Some(k), None) => one(*k),
+            (None, None, Some(k)) => one(*k),
+            (None, None, None) => none(),
+        }
+    }
+
     /// How many literals it has.
     pub(crate) fn len(&self) -> usize
         ensures { result ≡ length (short_literals self.now) }
@@ -104,6 +122,47 @@ impl ShortClause {
         } else {
             given(&self.third)
         }
+    }
+}
+
+fn three(k: Lit, l: Lit, m: Lit) -> FewLiterals
+    ensures clause { take result.count result.literals ≡ k ∷ l ∷ m ∷ [] }
+    ensures within { result.count ≤ 3 }
+{
+    FewLiterals {
+        literals: [k, l, m],
+        count: 3,
+    }
+}
+
+fn two(k: Lit, l: Lit) -> FewLiterals
+    ensures clause { take result.count result.literals ≡ k ∷ l ∷ [] }
+    ensures within { result.count ≤ 3 }
+{
+    FewLiterals {
+        literals: [k, l, l],
+        count: 2,
+    }
+}
+
+fn one(k: Lit) -> FewLiterals
+    ensures clause { take result.count result.literals ≡ k ∷ [] }
+    ensures within { result.count ≤ 3 }
+{
+    FewLiterals {
+        literals: [k, k, k],
+        count: 1,
+    }
+}
+
+fn none() -> FewLiterals
+    ensures clause { take result.count result.literals ≡ [] }
+    ensures within { result.count ≤ 3 }
+{
+    let any = Lit::pos(1);
+    FewLiterals {
+        literals: [any, any, any],
+        count: 0,
     }
 }
 

@@ -6,7 +6,7 @@
 //! verification", 2017) without RAT, and stricter: a hint that is satisfied, or falsified before the last, is a fault.
 #![tactic(auto)]
 
-pub use bases::Base;
+pub use bases::{Base, FewLiterals};
 pub use derivation::{Derived, derive, derive_any};
 pub use marks::Marks;
 pub use steps::{ProofFault, Steps, first_fault, first_fault_any};

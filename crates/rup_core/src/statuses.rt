@@ -28,6 +28,18 @@ pub(crate) fn status_of<B: Base>(base: &B, id: u64, trail: &Trail) -> Status
 {
     match base.held(id) {
         Some(lits) => status_among(lits, trail),
+        None => status_made(base, id, trail),
+    }
+}
+
+// The same of a clause that may be made at once.
+fn status_made<B: Base>(base: &B, id: u64, trail: &Trail) -> Status
+    ensures status { seen result ≡ status_of trail.now.trues (B.clauses base.now id) }
+    ensures free { UnitIsFree trail.now.trues (seen result) }
+    ensures within { (n : ℕ) → IfSome (B.clauses base.now id) (StandsWithin n) → UnitStandsWithin n (seen result) }
+{
+    match base.few(id) {
+        Some(few) => status_among(&few.literals[..few.count], trail),
         None => status_read(base, id, trail),
     }
 }

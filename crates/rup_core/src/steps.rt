@@ -7,7 +7,7 @@ ghost use Rattle.rup_core.specs.Range.{LineStandsWithin};
 ghost use Rattle.rup_core.specs.Growth.{AreNumbered, grown};
 ghost use Rattle.rup_core.specs.ProofVerdict.{proof_fault_in};
 
-use crate::bases::Base;
+use crate::bases::{Base, FewLiterals};
 use crate::derivation::{Derived, derive_any};
 use crate::marks::Marks;
 use dq_lits::{Lit, Memory};
@@ -80,6 +80,14 @@ impl<'a, B: Base, S: Steps> Base for Grown<'a, B, S> {
         let k = (id - self.first) as usize;
         if k < self.count {
             Some(self.steps.lits(k))
+        } else {
+            None
+        }
+    }
+
+    fn few(&self, id: u64) -> Option<FewLiterals> {
+        if id < self.first {
+            self.base.few(id)
         } else {
             None
         }
