@@ -63,7 +63,7 @@ impl Checker {
         ensures few { length (fault_groups log.new.entries) ≤ rounds_of log.new.entries + 1 }
         ensures holds { (id : ℕ) → result ≡ Ok (Turn.Holds id) → HoldEverywhere f.now (outputs_of f.now graph.now outputs.now) }
         ensures shown { (id : ℕ) → result ≡ Ok (Turn.Holds id) → IsShownBy f.now graph.now outputs.now log.new.entries id }
-        ensures fails { (row values : List Bool) (j : ℕ) → result ≡ Ok (Turn.Fails row values j) → IsFailure f.now graph.now outputs.now row values j }
+        ensures fails { (row values : List Bool) (j : ℕ) → result ≡ Ok (Turn.Fails row values j) → IsFailure f.now (outputs_of f.now graph.now outputs.now) row values j }
         ensures limit { IsErrOf result Stop.Limit → steps_of log.new.entries ≡ log.new.limit }
     {
         shown_outputs_hold();
@@ -164,7 +164,7 @@ impl Checker {
         requires a_node_an_existential { length outputs.now ≡ length f.now.existentials }
         requires failing { HasFalseClause f.now (map (λ l. O.values oracle.now (variable_of l)) self.now.inputs.items)
             (map (node_value graph.now (bit_of (map (λ l. O.values oracle.now (variable_of l)) self.now.inputs.items))) outputs.now) }
-        ensures { IfOk result (IsFailing f.now graph.now outputs.now) }
+        ensures { IfOk result (IsFailing f.now (outputs_of f.now graph.now outputs.now)) }
     {
         let row = input_row(self.alloc, oracle, &self.inputs)?;
         let values = self.output_values(graph, outputs, &row)?;

@@ -14,7 +14,7 @@ use Rattle.dq_lits.specs.Expansion.{row_assignment, agree_on, pair_number, pair_
 use Rattle.hint_log.specs.ProductiveLog.{HasModelWith}
 use Rattle.expansion.specs.Table.{PointBits, ArePoints}
 use Rattle.candidate_functions.specs.Candidates.{AgreeAtPairs}
-use Rattle.repair_loop.specs.Searching.{IsCounterexample}
+use Rattle.circuit_cnf.specs.Failing.{IsFailure}
 use Rattle.repair_loop.proofs.Rows.{variable, find_sound, contains_mapped, slice_get_at}
 
 pub same_bits-refl : (bits : List Bool) → same_bits bits bits ≡ true
@@ -133,7 +133,7 @@ module _ (f : Dqbf) (lawful : HasLawfulPrefix f) (rows : List (List Bool)) (m : 
 -- the failing row's values are the bits of its pairs in a model of the table's instances
 pub extends : (f : Dqbf) → HasLawfulPrefix f → (rows : List (List Bool)) (points : PointBits) (output : Existential → OutputFunction) →
     ArePoints f rows points → AgreeAtPairs f rows points output →
-    (row values : List Bool) (j : ℕ) → IsCounterexample f output row values j → HasModelWith f rows row values
+    (row values : List Bool) (j : ℕ) → IsFailure f output row values j → HasModelWith f rows row values
 extends f lawful rows points output p agree row values j bad =
     let g : Existential → Bool = λ y. (output y).value (row_assignment f row) in
     let V = f.variables in

@@ -14,7 +14,7 @@ use Rattle.dq_lits.specs.Expansion.{row_assignment, pair_number, pair_literal, u
 use Rattle.hint_log.specs.Naming.{numbered_from_one, by_universality, round_assignment}
 use Rattle.expansion.specs.Table.{PointBits, ArePoints}
 use Rattle.candidate_functions.specs.Candidates.{AgreeAtPairs}
-use Rattle.repair_loop.specs.Searching.{IsCounterexample}
+use Rattle.circuit_cnf.specs.Failing.{IsFailure}
 
 abbrev pub variable : Existential → ℕ
 variable y = y.variable
@@ -131,7 +131,7 @@ numbered_is_element xs (suc j) c h = at xs j h where
 
 -- candidates that agree with the points fail at no row of the table
 pub no_old_row : (f : Dqbf) → HasLawfulPrefix f → (rows : List (List Bool)) (points : PointBits) (output : Existential → OutputFunction) →
-    ArePoints f rows points → AgreeAtPairs f rows points output → (row values : List Bool) (j : ℕ) → IsCounterexample f output row values j → Contains rows row → ⊥
+    ArePoints f rows points → AgreeAtPairs f rows points output → (row values : List Bool) (j : ℕ) → IsFailure f output row values j → Contains rows row → ⊥
 no_old_row f lawful rows points output p agree row values j bad inside =
     let k = inside.0 in
     let at : slice_get rows k ≡ Some row = slice_get_at rows k row inside.1 ∙ ap Some inside.2 in

@@ -1,4 +1,4 @@
-use Rattle.std.proofs.Common.{◌∙◌, get_or, refl, sym, subst}
+use Rattle.std.proofs.Common.{refl, sym, subst}
 use Rattle.repair_loop.specs.Searching.{AreKnown, definition_in}
 use Rattle.repair_loop.proofs.Defined.{still_fresh, known_at, known_stays, existential_there, found_defines}
 use Rattle.repair_loop.proofs.definitions.Definitions.find.Goals as goal
