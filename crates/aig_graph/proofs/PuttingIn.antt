@@ -1,5 +1,5 @@
 -- What becomes of nodes where others are put in for the last inputs.
-use Rattle.std.proofs.Common.{◌≡◌, ℕ, zero, suc, ◌+◌, ◌-◌, ◌<◌, Bool, false, cond, ◌&&◌, inl, inr, List, [], ◌∷◌, ◌++◌, length, get_or, slice_get, Some, refl, sym, ◌∙◌, ap, subst, arith, nat_lt}
+use Rattle.std.proofs.Common.{◌≡◌, ℕ, ◌+◌, ◌-◌, ◌<◌, Bool, false, cond, ◌&&◌, inl, inr, List, ◌++◌, length, get_or, slice_get, Some, refl, sym, ◌∙◌, ap, subst, nat_lt}
 use Rattle.std.specs.List.{All, Contains}
 use Rattle.std.proofs.lemmas.Bool.{cases_lt}
 use Rattle.std.proofs.lemmas.List.{get_or_past}
@@ -102,10 +102,6 @@ module _ (g h : AigGraph) (e : Extends g h) (subs : List Node) (are : All (IsNod
     by_right : (i : ℕ) → IsReadThrough g s.right subs i → IsReadThrough g (Gate k false) subs i
     by_right i (inl (has, below)) = inl (from_right i has, below)
     by_right i (inr t) = inr (record { place = t.place; sub = t.sub; at = t.at; put_in = from_right (first_inputs g subs + t.place) t.put_in; reads = t.reads })
-
-only : (i j : ℕ) → Contains (i ∷ []) j → i ≡ j
-only i j (zero, b, e) = e
-only i j (suc k, b, e) = absurd (omega arith)
 
 -- a node and what became of it, both negated or not
 pub signed_put : (g : AigGraph) (subs : List Node) (node signed n m : Node) (negated : Bool) → IsPutIn g g node subs n

@@ -1,10 +1,6 @@
 -- Marks, as they are set and read.
-use Rattle.std.proofs.Common.{◌≡◌, ℕ, ◌+◌, ◌<◌, Bool, true, false, ◌||◌, List, [], ◌∷◌, ◌++◌, take, reverse, length, get_or, refl, ◌∙◌, ap}
+use Rattle.std.proofs.Common.{◌≡◌, ℕ, ◌+◌, ◌<◌, List, [], ◌∷◌, ◌++◌, take, reverse, length, get_or, ◌∙◌, ap}
 use Rattle.std.proofs.lemmas.List.{take_more, reverse-append}
-
-or_false : (b : Bool) → (b || false) ≡ b
-or_false true = refl
-or_false false = refl
 
 pub taken : {X : Type 0} (xs : List X) (i : ℕ) (x : X) → i < length xs → get_or xs i x ≡ x → take (i + 1) xs ≡ take i xs ++ x ∷ []
 taken xs i x lt at = take_more xs i x lt ∙ ap (λ y. take i xs ++ y ∷ []) at

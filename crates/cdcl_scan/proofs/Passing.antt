@@ -1,9 +1,8 @@
 -- A pass over the clauses.
-use Rattle.std.proofs.Common.{◌≡◌, ℕ, zero, suc, ◌+◌, ◌<◌, ◌≤◌, Bool, true, false, inl, inr, List, [], ◌∷◌, ◌++◌, take, drop, drop-cons, IfSome, length, get_or, slice_get, Option, None, Some, refl, sym, ◌∙◌, ap, subst, arith, All, length-append}
-use Rattle.std.specs.List.{list_any}
+use Rattle.std.proofs.Common.{◌≡◌, ℕ, zero, suc, ◌+◌, ◌<◌, ◌≤◌, Bool, true, false, inl, inr, List, [], ◌∷◌, ◌++◌, drop, drop-cons, IfSome, length, get_or, slice_get, Option, None, Some, refl, sym, ◌∙◌, ap, subst, arith, All, length-append}
 use Rattle.std.proofs.lemmas.Bool.{cases_lt}
-use Rattle.std.proofs.lemmas.List.{append_assoc, take_more}
-use Rattle.std.proofs.lemmas.List.Elements.{All-cons, All-append, All-nil, All-get_or}
+use Rattle.std.proofs.lemmas.List.{append_assoc}
+use Rattle.std.proofs.lemmas.List.Elements.{All-cons, All-append, All-get_or}
 use Rattle.std.proofs.lemmas.Option.{slice_get-get_or, slice_get_within}
 use Rattle.dq_lits.specs.Literal.{Literal, variable_of}
 use Rattle.dq_lits.specs.Derivation.{LiveClauses, unit, stuck, holds, status_of}
@@ -208,13 +207,6 @@ propagating_more live old now new inv room sound grown few = record {
   grown = grown_both old.steps now.steps new.steps inv.grown grown;
   few = let n = few inv.few in omega (arith, n, room);
 }
-
-pub true_more : (trues c : List Literal) (clauses : List (List Literal)) (i : ℕ) → i < length clauses → get_or clauses i c ≡ c → list_any (holds trues) c ≡ true
-    → All (λ d. list_any (holds trues) d ≡ true) (take i clauses) → All (λ d. list_any (holds trues) d ≡ true) (take (i + 1) clauses)
-true_more trues c clauses i lt at here before =
-    let P : List Literal → Type 0 = λ d. list_any (holds trues) d ≡ true in
-    let longer : take (i + 1) clauses ≡ take i clauses ++ c ∷ [] = take_more clauses i c lt ∙ ap (λ x. take i clauses ++ x ∷ []) at in
-    subst (λ (xs : List (List Literal)). All P xs) (sym longer) (All-append P (take i clauses) (c ∷ []) before (All-cons P c [] here (All-nil P)))
 
 -- a clause by its id
 pub live_read : (clauses : List (List Literal)) (at : ℕ) (c : List Literal) → live_in clauses (at + 1) ≡ Some c → live_in clauses (suc at) ≡ Some c

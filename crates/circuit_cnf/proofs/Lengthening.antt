@@ -1,5 +1,5 @@
 -- A row of bits, and false behind them.
-use Rattle.std.proofs.Common.{◌≡◌, ℕ, zero, suc, ◌≤◌, ◌<◌, Bool, false, List, length, get_or, replicate, refl}
+use Rattle.std.proofs.Common.{◌≡◌, ℕ, ◌≤◌, ◌<◌, Bool, false, List, length}
 use Rattle.dq_lits.specs.Row.{bit_of}
 
 -- the first bits are the row's, and the others false
@@ -7,8 +7,3 @@ pub record IsLengthened (row : List Bool) (n i : ℕ) (longer : List Bool) : Typ
   pub long : length longer ≡ n
   pub same : (k : ℕ) → k < i → bit_of longer k ≡ bit_of row k
   pub behind : (k : ℕ) → i ≤ k → bit_of longer k ≡ false
-
-all_false : (n k : ℕ) → get_or (replicate n false) k false ≡ false
-all_false zero k = refl
-all_false (suc n) zero = refl
-all_false (suc n) (suc k) = all_false n k
