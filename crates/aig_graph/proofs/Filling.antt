@@ -37,13 +37,6 @@ gate_before (x ∷ more) gates g s at =
 gate_stays : (old new : AigGraph) (g : ℕ) (s : Sides) → HasMore old new → gate_at old.gates g ≡ Some s → gate_at new.gates g ≡ Some s
 gate_stays old new g s more at = ap (λ gs. gate_at gs g) more.grown ∙ gate_before more.more old.gates g s at
 
-pub none_put_in : (graph : AigGraph) (subs : List Node) (gates : List ℕ) (made : BTreeMap ℕ Node) (at : ℕ) → at ≡ length gates → HasMore graph graph → ArePutInFrom graph graph subs gates made at
-none_put_in graph subs gates made at end same = record {
-  grown = same;
-  within = omega arith;
-  each = λ k g past there. absurd (let below = slice_get_within gates k g there in omega arith);
-}
-
 module _ (old mid : AigGraph) (node : Node) (subs : List Node) (gates : List ℕ) (made : BTreeMap ℕ Node) (at g : ℕ) (lawful : IsGraph old) (cone : AreConeGates old node gates)
     (far : ArePutInFrom old mid subs gates made (at + 1)) (here : slice_get gates at ≡ Some g) where
   pub gate_within : g < length old.gates

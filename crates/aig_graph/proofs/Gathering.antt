@@ -11,7 +11,7 @@ use Rattle.std.proofs.lemmas.List.Quantifiers.{all_pairs_push}
 use Rattle.aig_graph.specs.declared.nodes.Node.{Node}
 use Rattle.aig_graph.specs.declared.nodes.Node.TheVariants.{Constant, Input, Gate}
 use Rattle.aig_graph.specs.declared.nodes.Sides.{Sides}
-use Rattle.aig_graph.specs.Graph.{AigGraph, IsEarlierNode, IsNode, AreSides, gate_at}
+use Rattle.aig_graph.specs.Graph.{AigGraph, IsEarlierNode, AreSides, gate_at}
 use Rattle.aig_graph.specs.Putting.{Has, gate_of, IsTakenLast, IsAmongGates, AreConeGates}
 
 -- if the node is a gate, it is among those to come or those that were taken
@@ -40,18 +40,6 @@ pub gate_earlier : (inputs count g : ℕ) (node : Node) → IsEarlierNode inputs
 gate_earlier inputs count g (Constant b) earlier is = cc
 gate_earlier inputs count g (Input i negated) earlier is = cc
 gate_earlier inputs count g (Gate h negated) earlier is = let same = some_is is in omega (arith, same, earlier)
-
-pub first_pending : (graph : AigGraph) (node : Node) (none pending : BTreeSet ℕ) → IsNode graph node → none.keys ≡ [] → IsAdded node none pending → AreConeSoFar graph node pending []
-first_pending graph node none pending is empty added = record {
-  within = λ k d below. absurd (omega arith);
-  pending_within = λ q has. elim ((added q).0 has) [ inl before ↦ absurd (nothing q before) | inr own ↦ gate_earlier graph.inputs (length graph.gates) q node is own ];
-  descending = λ i j d before below. absurd (omega arith);
-  later = λ q g has among. (let below = among.1 in absurd (omega arith));
-  root = λ g own. inl ((added g).1 (inr own));
-  closed = λ g sides among at. (let below = among.1 in absurd (omega arith));
-} where
-  nothing : (q : ℕ) → Has none q → ⊥
-  nothing q has = false≢true (sym (ap (λ ks. contains nat_cmp (record none { keys = ks }) q) empty) ∙ has)
 
 module _ (graph : AigGraph) (node : Node) (old taken more new : BTreeSet ℕ) (gates : List ℕ) (g : ℕ) (s : Sides) (before : AreConeSoFar graph node old gates) (last : IsTakenLast old taken g)
     (at : gate_at graph.gates g ≡ Some s) (sides : AreSides graph.inputs g s) (first : IsAdded s.left taken more) (second : IsAdded s.right more new) where

@@ -1,11 +1,11 @@
 -- What is made of what was made.
-use Rattle.std.proofs.Common.{◌≡◌, ℕ, ◌==◌, Bool, true, false, cond, not, ◌&&◌, ◌||◌, inl, inr, List, [], ◌∷◌, ◌++◌, length, Some, refl, sym, ◌∙◌, ap, subst, arith}
+use Rattle.std.proofs.Common.{◌≡◌, ℕ, ◌==◌, Bool, true, false, cond, not, ◌&&◌, ◌||◌, inl, inr, List, [], ◌∷◌, ◌++◌, length, Some, refl, sym, ◌∙◌, ap, subst}
 use Rattle.std.specs.Prelude.{Result, Ok, Err, OnOk, OnErr, IfOk}
 use Rattle.std.specs.List.{Contains, list_all}
 use Rattle.std.proofs.lemmas.Bool.{eq-eqb, cond-true}
 use Rattle.std.proofs.lemmas.List.Elements.{Contains-append_left, Contains-push}
 use Rattle.aig_graph.specs.declared.nodes.Node.{Node}
-use Rattle.aig_graph.specs.declared.nodes.Node.TheVariants.{Constant, Gate}
+use Rattle.aig_graph.specs.declared.nodes.Node.TheVariants.{Gate}
 use Rattle.aig_graph.specs.declared.nodes.Sides.{Sides}
 use Rattle.aig_graph.specs.Graph.{AigGraph, node_value, node_support, IsNode, AreSides, IsGraph, gate_at}
 use Rattle.aig_graph.specs.Joining.{AreInner}
@@ -97,10 +97,6 @@ xor_made g0 g1 g2 g3 a b na nb l r n e1 e2 e3 is_a is_b va vb left right either 
       other : (x y : Bool) → cond x (not y) y ≡ exclusive_or x y
       other true y = refl
       other false y = refl
-
--- no node yet
-pub empty_cube : (graph : AigGraph) → IsCube graph graph [] (Constant true)
-empty_cube graph = record { is_node = tt; value = λ m. refl; reads = λ i has. absurd (let b = has.1 in omega arith) }
 
 -- a node more
 pub longer_cube : (old mid new : AigGraph) (nodes : List Node) (made n next : Node) → Extends old mid → IsNode old n → IsCube old mid nodes made → IsMade (λ x y. x && y) mid new made n next → IsCube old new (nodes ++ n ∷ []) next

@@ -1,10 +1,10 @@
 -- What becomes of nodes where others are put in for the last inputs.
-use Rattle.std.proofs.Common.{◌≡◌, ℕ, zero, suc, ◌+◌, ◌-◌, ◌<◌, ◌≤◌, Bool, false, cond, ◌&&◌, inl, inr, List, [], ◌∷◌, ◌++◌, length, get_or, slice_get, Some, refl, sym, ◌∙◌, ap, subst, arith, nat_lt}
+use Rattle.std.proofs.Common.{◌≡◌, ℕ, ◌+◌, ◌-◌, ◌<◌, Bool, false, cond, ◌&&◌, inl, inr, List, ◌++◌, length, get_or, slice_get, Some, refl, sym, ◌∙◌, ap, subst, nat_lt}
 use Rattle.std.specs.List.{All, Contains}
-use Rattle.std.proofs.lemmas.Bool.{cases_lt, lt-ltb, le-ltb}
-use Rattle.std.proofs.lemmas.List.{get_or_past, get_or_default}
+use Rattle.std.proofs.lemmas.Bool.{cases_lt}
+use Rattle.std.proofs.lemmas.List.{get_or_past}
 use Rattle.std.proofs.lemmas.List.Elements.{Contains-append_left, Contains-append_right}
-use Rattle.std.proofs.lemmas.Option.{slice_get-get_or, slice_get_within, get_or_from_slice_get}
+use Rattle.std.proofs.lemmas.Option.{slice_get_within, get_or_from_slice_get}
 use Rattle.aig_graph.specs.declared.nodes.Node.{Node}
 use Rattle.aig_graph.specs.declared.nodes.Node.TheVariants.{Constant, Input, Gate}
 use Rattle.aig_graph.specs.declared.nodes.Sides.{Sides}
@@ -102,42 +102,6 @@ module _ (g h : AigGraph) (e : Extends g h) (subs : List Node) (are : All (IsNod
     by_right : (i : ℕ) → IsReadThrough g s.right subs i → IsReadThrough g (Gate k false) subs i
     by_right i (inl (has, below)) = inl (from_right i has, below)
     by_right i (inr t) = inr (record { place = t.place; sub = t.sub; at = t.at; put_in = from_right (first_inputs g subs + t.place) t.put_in; reads = t.reads })
-
-pub constant_put : (g : AigGraph) (subs : List Node) (b : Bool) → IsPutIn g g (Constant b) subs (Constant b)
-constant_put g subs b = record { is_node = tt; value = λ inputs. refl; reads = λ i has. absurd (let below = has.1 in omega arith) }
-
-only : (i j : ℕ) → Contains (i ∷ []) j → i ≡ j
-only i j (zero, b, e) = e
-only i j (suc k, b, e) = absurd (omega arith)
-
--- an input before those that nodes stand for
-pub first_put : (g : AigGraph) (subs : List Node) (i : ℕ) → i < g.inputs → i < first_inputs g subs → IsPutIn g g (Input i false) subs (Input i false)
-first_put g subs i inside below = record {
-  is_node = inside;
-  value = λ inputs. sym (ap (λ b. cond b (inputs i) (node_value g inputs (get_or subs (i - first_inputs g subs) (Constant false)))) (lt-ltb i (first_inputs g subs) below));
-  reads = λ j has. inl (has, subst (λ k. k < first_inputs g subs) (only i j has) below);
-}
-
--- an input that a node stands for
-pub last_put : (g : AigGraph) (subs : List Node) (i : ℕ) (d : Node) → All (IsNode g) subs → length subs ≤ g.inputs → i < g.inputs → first_inputs g subs ≤ i
-    → IsPutIn g g (Input i false) subs (get_or subs (i - first_inputs g subs) d)
-last_put g subs i d are few inside past = record {
-  is_node = are (i - first_inputs g subs) d within;
-  value = λ inputs. ap (node_value g inputs) (get_or_default subs (i - first_inputs g subs) d (Constant false) within)
-      ∙ sym (ap (λ b. cond b (inputs i) (node_value g inputs (get_or subs (i - first_inputs g subs) (Constant false)))) (le-ltb i (first_inputs g subs) past));
-  reads = λ j has. inr (record {
-    place = i - first_inputs g subs;
-    sub = get_or subs (i - first_inputs g subs) d;
-    at = slice_get-get_or subs (i - first_inputs g subs) d within;
-    put_in = (0, omega arith, there);
-    reads = has;
-  });
-} where
-  within : i - first_inputs g subs < length subs
-  within = omega arith
-
-  there : i ≡ first_inputs g subs + (i - first_inputs g subs)
-  there = omega arith
 
 -- a node and what became of it, both negated or not
 pub signed_put : (g : AigGraph) (subs : List Node) (node signed n m : Node) (negated : Bool) → IsPutIn g g node subs n

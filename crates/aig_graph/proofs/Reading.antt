@@ -147,10 +147,3 @@ marks_go_on graph n old marks more g before step long = record {
   within = let w = before.within in omega (arith, w);
   same_length = long ∙ before.same_length;
 }
-
--- no gate is left
-pub all_marked : (graph : AigGraph) (n : Node) (old marks : List Bool) → AreMarks graph n old marks 0 → (i : ℕ) → i < graph.inputs → ((bit_of marks i ≡ true) ↔ Contains (node_support graph n) i)
-all_marked graph n old marks before i small = ((λ h. (before.reached i small).0 (inl h)), (λ has. first ((before.reached i small).1 has))) where
-  first : IsReached graph 0 marks i → bit_of marks i ≡ true
-  first (inl h) = h
-  first (inr r) = let below = r.below in absurd (omega (arith, below))

@@ -1,6 +1,5 @@
 -- Bits that are written from the first place on.
-use Rattle.std.proofs.Common.{◌≡◌, ℕ, zero, suc, ◌+◌, ◌≤◌, ◌<◌, Bool, List, [], ◌∷◌, ◌++◌, map, take, drop, set, length, get_or, refl, sym, ◌∙◌, ap, arith}
-use Rattle.std.proofs.lemmas.List.{append-nil, take_all}
+use Rattle.std.proofs.Common.{◌≡◌, ℕ, zero, suc, ◌+◌, ◌<◌, Bool, List, [], ◌∷◌, ◌++◌, map, take, drop, set, length, get_or, refl, sym, ◌∙◌, ap, arith}
 
 abbrev pub written : {X : Type 0} → (X → Bool) → List X → List Bool → ℕ → List Bool
 written f xs old i = map f (take i xs) ++ drop i old
@@ -17,13 +16,3 @@ pub written_more : {X : Type 0} (f : X → Bool) (xs : List X) (old out next : L
 written_more f xs old out next i d below long is next_is =
     let behind : i + 1 ≡ suc i = omega arith in
     next_is ∙ ap (λ r. set r i (f (get_or xs i d))) is ∙ one_more f xs old i d below long ∙ ap (written f xs old) (sym behind)
-
-drop_past : (i : ℕ) (old : List Bool) → length old ≤ i → drop i old ≡ []
-drop_past zero [] most = refl
-drop_past zero (b ∷ old) most = absurd (omega (arith, most))
-drop_past (suc i) [] most = refl
-drop_past (suc i) (b ∷ old) most = drop_past i old (omega (arith, most))
-
-pub written_all : {X : Type 0} (f : X → Bool) (xs : List X) (old out : List Bool) (i : ℕ) → length xs ≤ i → length old ≡ length xs → out ≡ written f xs old i → out ≡ map f xs
-written_all f xs old out i past long is =
-    is ∙ ap (λ bits. map f (take i xs) ++ bits) (drop_past i old (omega (arith, past, long))) ∙ append-nil (map f (take i xs)) ∙ ap (map f) (take_all i xs past)

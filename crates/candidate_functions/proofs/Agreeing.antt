@@ -92,10 +92,6 @@ other_bit : (a : Bool) → same_bit (not a) a ≡ false
 other_bit true = refl
 other_bit false = refl
 
-same_itself : (a : Bool) → same_bit a a ≡ true
-same_itself true = refl
-same_itself false = refl
-
 patched_one : (b o : Bool) (ones zeros : Bool) → (b ≡ true → ones ≡ true) → (b ≡ false → ones ≡ false) → (b ≡ false → zeros ≡ true) → (ones || (o && not zeros)) ≡ b
 patched_one true o ones zeros h k l = ap (λ c. c || (o && not zeros)) (h refl)
 patched_one false o ones zeros h k l = ap (λ c. c || (o && not zeros)) (k refl) ∙ ap (λ c. o && not c) (l refl) ∙ none o

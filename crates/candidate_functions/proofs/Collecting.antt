@@ -37,14 +37,6 @@ pub record OutputsSoFar (f : Dqbf) (rows : List (List Bool)) (points : PointBits
   pub are_classes : All (IsClass f rows mid) classes
   pub outputs : (rules : List Rule) → AreByRules f old rules others → AreFirstOutputs f rows points rules definitions mid count nodes
 
-pub no_outputs : (f : Dqbf) (rows : List (List Bool)) (points : PointBits) (definitions : List (Option Node)) (others : List Node) (g : AigGraph) (classes : List Class) (nodes : List Node)
-    → Extends g g → classes ≡ [] → nodes ≡ [] → OutputsSoFar f rows points definitions others g g classes nodes 0
-no_outputs f rows points definitions others g classes nodes same none empty = record {
-  grown = same;
-  are_classes = subst (All (IsClass f rows g)) (sym none) (λ k d below. absurd (omega (arith, below)));
-  outputs = λ rules by. record { one_each = ap length empty; each = λ p y below at. absurd (omega arith) };
-}
-
 pub output_added : (f : Dqbf) (rows : List (List Bool)) (points : PointBits) (definitions : List (Option Node)) (others : List Node) (old mid new : AigGraph)
     (classes after : List Class) (nodes : List Node) (count : ℕ) (other node : Node)
     → OutputsSoFar f rows points definitions others old mid classes nodes count → Extends mid new → All (IsClass f rows new) after → other ≡ get_or others count (Constant false)

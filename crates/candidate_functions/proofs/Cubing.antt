@@ -123,10 +123,3 @@ pub pushed_round : (rows : List (List Bool)) (old new : AigGraph) (places : List
 pushed_round rows old new places round pairs row p one grown at is cube are =
     let back : (round - 1) + 1 ≡ round = omega arith in
     subst (λ n. ArePairs rows new places n (pairs ++ p ∷ [])) back (pushed rows old new places (round - 1) pairs row p grown at (is ∙ sym back) cube are)
-
-pub met_round : (rows : List (List Bool)) (g : AigGraph) (places : List ℕ) (round : ℕ) (pairs : List Pair) (row : List Bool)
-    → 1 ≤ round → slice_get rows (round - 1) ≡ Some row → HasPair rows places pairs row
-    → ArePairs rows g places (round - 1) pairs → ArePairs rows g places round pairs
-met_round rows g places round pairs row one at has are =
-    let back : (round - 1) + 1 ≡ round = omega arith in
-    subst (λ n. ArePairs rows g places n pairs) back (one_more rows g places (round - 1) pairs row at are has)

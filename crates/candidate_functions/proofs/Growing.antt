@@ -12,7 +12,7 @@ use Rattle.aig_graph.specs.Outputs.{node_output}
 use Rattle.aig_graph.specs.declared.nodes.Node.{Node}
 use Rattle.expansion.specs.Table.{PointBits}
 use Rattle.candidate_functions.specs.Candidates.{AreDefinitions}
-use Rattle.candidate_functions.specs.Pairs.{IsRowCube, IsPair, ArePairs, universal_places, IsClass, IsByRules, AreByRules, IsCandidate, IsFirstOutput}
+use Rattle.candidate_functions.specs.Pairs.{IsRowCube, IsPair, ArePairs, universal_places, IsClass, IsByRules, IsCandidate, IsFirstOutput}
 use Rattle.candidate_functions.specs.declared.classes.Class.{Class}
 use Rattle.candidate_functions.specs.declared.cubes.Pair.{Pair}
 
@@ -66,12 +66,6 @@ module _ (old new : AigGraph) (h : Extends old new) where
     is_node = h.nodes n by.is_node;
     value = λ m. h.values n by.is_node (λ i. m (slice_index f.universals i)) ∙ by.value m;
     reads = support_stays f n by.is_node (Contains y.sees) by.reads;
-  }
-
-  pub rule_nodes_stay : (f : Dqbf) (rules : List Rule) (nodes : List Node) → AreByRules f old rules nodes → AreByRules f new rules nodes
-  rule_nodes_stay f rules nodes are = record {
-    one_each = are.one_each;
-    each = λ p y at. rule_node_stays f rules y _ (are.each p y at);
   }
 
   pub definition_stays : (f : Dqbf) (y : Existential) (n : Node) → IsDefinition f old y n → IsDefinition f new y n

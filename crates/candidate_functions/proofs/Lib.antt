@@ -6,6 +6,7 @@ pub mod Ruling
 pub mod Classing
 pub mod Agreeing
 pub mod Outputting
+pub mod AtRows
 pub mod Defining
 pub mod Collecting
 pub mod Settling

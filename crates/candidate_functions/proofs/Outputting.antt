@@ -1,21 +1,19 @@
 -- The output of an existential without a definition.
-use Rattle.std.proofs.Common.{◌≡◌, ℕ, Bool, List, length, get_or, Some, IsSome, Result, Ok, Err, OnOk, sym, ◌∙◌, ap, subst}
+use Rattle.std.proofs.Common.{◌≡◌, ℕ, Bool, List, length, get_or, Some, Result, Ok, Err, OnOk, sym, ◌∙◌, ap, subst}
 use Rattle.std.specs.List.{All}
-use Rattle.std.proofs.lemmas.List.Elements.{All-weaker}
 use Rattle.std.proofs.lemmas.Option.{get_or_from_slice_get}
 use Rattle.dq_lits.specs.Formula.{Existential, Dqbf, existential_of}
 use Rattle.dq_formula.specs.Prefix.{IsLawful}
 use Rattle.dq_formula.specs.declared.rules.Rule.{Rule}
-use Rattle.aig_graph.specs.Graph.{AigGraph, IsNode}
+use Rattle.aig_graph.specs.Graph.{AigGraph}
 use Rattle.aig_graph.specs.Made.{Extends}
 use Rattle.aig_graph.specs.declared.nodes.Node.{Node}
 use Rattle.expansion.specs.Table.{PointBits, ArePoints}
-use Rattle.candidate_functions.specs.Pairs.{universal_places, AreRounds, IsPair, AreSeenPairs, HasClass, IsPatched, IsByRules, IsCandidate}
+use Rattle.candidate_functions.specs.Pairs.{AreSeenPairs, HasClass, IsPatched, IsByRules, IsCandidate}
 use Rattle.candidate_functions.specs.declared.classes.Class.{Class}
 use Rattle.candidate_functions.specs.declared.cubes.Pair.{Pair}
 use Rattle.candidate_functions.proofs.Agreeing.{AtExistential, same_point, patched_is_candidate}
-use Rattle.candidate_functions.proofs.Cubing.{rounds_within}
-use Rattle.definition_order.proofs.Declared.{at_contained, find_sound, sees_universals, some_existential}
+use Rattle.definition_order.proofs.Declared.{at_contained, find_sound, sees_universals}
 use Rattle.candidate_functions.proofs.Growing.{rule_node_stays}
 
 at_existential : (f : Dqbf) → IsLawful f → (rows : List (List Bool)) (points : PointBits) → All (λ row. length row ≡ length f.universals) rows → ArePoints f rows points
@@ -43,15 +41,6 @@ pub pairs_there : (f : Dqbf) (rows : List (List Bool)) (g : AigGraph) (cs : List
 pairs_there f rows g cs place v c pairs has at is y found =
     let same : c ≡ has.class = at ∙ get_or_from_slice_get cs place has.class c has.at in
     subst (AreSeenPairs f rows g y.sees) (sym (is ∙ ap (λ (d : Class). d.pairs.items) same)) (has.are_pairs y found)
-
-pub rounds_there : (f : Dqbf) (rows : List (List Bool)) (g : AigGraph) (v n : ℕ) (pairs : List Pair) → n ≡ length rows → IsSome (existential_of f v)
-    → ((y : Existential) → existential_of f v ≡ Some y → AreSeenPairs f rows g y.sees pairs) → AreRounds n pairs × All (λ p. IsNode g p.cube) pairs
-rounds_there f rows g v n pairs size is each = some_existential f v (AreRounds n pairs × All (λ p. IsNode g p.cube) pairs) is (λ y found.
-    let all = (each y found).each in
-    let places = universal_places f y.sees in (
-      subst (λ k. AreRounds k pairs) (sym size) (rounds_within rows g places pairs all),
-      All-weaker (IsPair rows g places) (λ p. IsNode g p.cube) (λ p pair. pair.cube.is_node) pairs all,
-    ))
 
 pub on_ok : {T E : Type 0} (r : Result T E) (P : Type 0) → P → OnOk r P
 on_ok (Ok x) P p = p

@@ -7,28 +7,16 @@ use Rattle.std.proofs.lemmas.List.Elements.{Contains-append_left, Contains-push}
 use Rattle.aig_graph.specs.Graph.{AigGraph, node_value, node_support, IsNode}
 use Rattle.aig_graph.specs.Made.{Extends, IsMade}
 use Rattle.aig_graph.specs.declared.nodes.Node.{Node}
-use Rattle.aig_graph.specs.declared.nodes.Node.TheVariants.{Constant}
 use Rattle.expansion.specs.Table.{PointBits}
 use Rattle.candidate_functions.specs.Pairs.{at_pair, has_bit, IsReadByPair, IsWith, IsAtPair, IsMasked, IsPatched}
 use Rattle.candidate_functions.specs.declared.cubes.Pair.{Pair}
 use Rattle.candidate_functions.proofs.Growing.{extends-trans}
-
-or_false : (b : Bool) → b ≡ (b || false)
-or_false true = refl
-or_false false = refl
 
 pub with_one : (old new : AigGraph) (made : Node) (bit : Bool) (cube node : Node) → bit ≡ true → IsMade (λ x y. x || y) old new made cube node → IsWith old new made bit cube node
 with_one old new made bit cube node is one = record {
   is_node = one.is_node;
   value = λ inputs. one.value inputs ∙ ap (λ b. node_value old inputs made || (b && node_value old inputs cube)) (sym is);
   reads = one.reads;
-}
-
-pub with_none : (g : AigGraph) (made : Node) (bit : Bool) (cube : Node) → bit ≡ false → IsNode g made → IsWith g g made bit cube made
-with_none g made bit cube is node = record {
-  is_node = node;
-  value = λ inputs. or_false (node_value g inputs made) ∙ ap (λ b. node_value g inputs made || (b && node_value g inputs cube)) (sym is);
-  reads = λ i has. inl has;
 }
 
 -- how far a walk over the pairs has come
@@ -67,14 +55,6 @@ one_pair_more old mid new bits pairs i d made node bit below cube is far grown w
       };
     }
 
--- before the first pair
-pub no_pair_yet : (g : AigGraph) (bits : ℕ → Bool) → Extends g g → IsAtPair g g bits [] (Constant false)
-no_pair_yet g bits same = record {
-  is_node = tt;
-  value = λ inputs. refl;
-  reads = λ i (k, below, is). absurd (omega (arith, below));
-}
-
 pub masked_by : (old mid new : AigGraph) (bits : ℕ → Bool) (pairs : List Pair) (other zeros negated node : Node)
     → Extends old mid → IsNode old other → IsAtPair old mid bits pairs zeros
     → ((inputs : ℕ → Bool) → node_value mid inputs negated ≡ not (node_value mid inputs zeros)) → node_support mid negated ≡ node_support mid zeros
@@ -89,13 +69,6 @@ masked_by old mid new bits pairs other zeros negated node grown is at turned sam
     | inl left ↦ inl (subst (λ s. Contains s i) (grown.supports other is) left)
     | inr right ↦ inr (at.reads i (subst (λ s. Contains s i) same right))
   ];
-}
-
-pub nothing_masked : (g : AigGraph) (bits : ℕ → Bool) (pairs : List Pair) (other : Node) → other ≡ Constant false → IsMasked g g bits pairs other other
-nothing_masked g bits pairs other is = record {
-  is_node = subst (IsNode g) (sym is) tt;
-  value = λ inputs. subst (λ n. node_value g inputs n ≡ (node_value g inputs n && not (at_pair g bits pairs inputs))) (sym is) refl;
-  reads = λ i has. inl has;
 }
 
 module _ (a b : AigGraph) (h : Extends a b) where

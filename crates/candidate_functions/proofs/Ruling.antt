@@ -1,10 +1,10 @@
 -- Nodes for cubes of rules, and for what the rules say of each existential.
-use Rattle.std.proofs.Common.{◌≡◌, ℕ, zero, suc, ◌+◌, ◌<◌, ◌≤◌, ◌==◌, false, cond, not, ◌&&◌, List, [], ◌∷◌, map, length, get_or, set, drop, replicate, slice_get, slice_index, None, Some, position, refl, sym, ◌∙◌, ap, subst, inl, inr, arith, eq-eqb}
+use Rattle.std.proofs.Common.{◌≡◌, ℕ, zero, suc, ◌+◌, ◌<◌, ◌≤◌, ◌==◌, false, cond, not, ◌&&◌, List, [], ◌∷◌, map, length, get_or, set, drop, slice_get, slice_index, None, Some, position, refl, sym, ◌∙◌, ap, subst, inl, inr, arith, eq-eqb}
 use Rattle.std.specs.List.{All, Contains, list_all}
 use Rattle.std.proofs.lemmas.List.{length-set}
 use Rattle.std.proofs.Math.Seq.{drop-cons}
 use Rattle.std.proofs.lemmas.Bool.{cases_eq, ne_eqb}
-use Rattle.std.proofs.lemmas.List.{get_or-set_same, get_or-set_other, get_or-replicate, get_or_default, length-replicate}
+use Rattle.std.proofs.lemmas.List.{get_or-set_same, get_or-set_other, get_or_default}
 use Rattle.std.proofs.lemmas.List.Elements.{All-contains}
 use Rattle.std.proofs.lemmas.Option.{slice_get_within, get_or_from_slice_get}
 use Rattle.dq_lits.specs.Literal.{Assignment, Literal, positive, negative, variable_of, literal_true}
@@ -128,15 +128,6 @@ pub rule_of_none : (f : Dqbf) (g : AigGraph) (rule : Rule) (later : List Rule) (
 rule_of_none f g rule later nodes none are = record {
   one_each = are.one_each;
   each = λ p y at. by_other_rule f g rule later y (get_or nodes p (Constant false)) (unplaced f.existentials rule.y p y none at) (are.each p y at);
-}
-
-pub no_rules : (f : Dqbf) (g : AigGraph) (nodes : List Node) (n : ℕ) → n ≡ length f.existentials → nodes ≡ replicate n (Constant false) → AreByRules f g [] nodes
-no_rules f g nodes n size is = record {
-  one_each = ap length is ∙ length-replicate n (Constant false) ∙ size;
-  each = λ p y at.
-      let within = slice_get_within f.existentials p y at in
-      let here : get_or nodes p (Constant false) ≡ Constant false = ap (λ ns. get_or ns p (Constant false)) is ∙ get_or-replicate n p (Constant false) (Constant false) (omega arith) in
-      subst (IsByRules f g [] y) (sym here) (record { is_node = tt; value = λ m. refl; reads = λ k d lt. absurd (omega (arith, lt)) });
 }
 
 known_there : (f : Dqbf) → IsLawful f → (w p : ℕ) → position (λ v. v == w) (existential_variables f) ≡ Some p → Existential → (y : Existential) × (slice_get f.existentials p ≡ Some y) × (existential_of f w ≡ Some y)

@@ -33,22 +33,6 @@ pub record AreSettledSoFar (f : Dqbf) (definitions : List (Option Node)) (old mi
   pub outputs : (rows : List (List Bool)) (points : PointBits) (rules : List Rule) → ArePoints f rows points → AreFirstOutputs f rows points rules definitions old (length f.existentials) before
       → AreSettled f rows points rules definitions mid done nodes
 
-pub none_settled : (f : Dqbf) (definitions : List (Option Node)) (g : AigGraph) (nodes : List Node) → Extends g g → length nodes ≡ length f.existentials → All (IsNode g) nodes
-    → AreSettledSoFar f definitions g g nodes nodes []
-none_settled f definitions g nodes same long are = record {
-  grown = same;
-  one_each = long;
-  are_nodes = are;
-  outputs = λ rows points rules model first. record {
-    each = λ p y at settled. elim settled [
-      | inl none ↦ (
-          let o = (first.each p y (slice_get_within f.existentials p y at) at).undefined none in
-          record { reads = o.reads; at_pairs = o.at_pairs; by_rules = λ _. o.by_rules; defined = λ d is. cc })
-      | inr among ↦ absurd (let below = among.1 in omega arith)
-    ];
-  };
-}
-
 -- what was gone through has with each place those that come before it
 pub record IsClosed (f : Dqbf) (done : List ℕ) : Type 0 where
   pub earlier : (p q : ℕ) (y z : Existential) → Contains done p → slice_get f.existentials p ≡ Some y → slice_get f.existentials q ≡ Some z → ComesBefore f z y → Contains done q

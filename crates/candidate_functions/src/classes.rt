@@ -109,7 +109,8 @@ fn seen_pairs(
     requires inputs { length f.now.universals ≤ graph.old.inputs }
     requires whole { All (λ row. length row ≡ length f.now.universals) table.now.rows }
     ensures extends { Extends graph.old graph.new }
-    ensures pairs { (e : Existential) → existential_of f.now y ≡ Some e → IfOk result (λ pairs. AreSeenPairs f.now table.now.rows graph.new e.sees pairs.items) }
+    ensures pairs { (e : Existential) → existential_of f.now y ≡ Some e
+        → IfOk result (λ pairs. AreSeenPairs f.now table.now.rows graph.new e.sees pairs.items) }
 {
     f.every_formula_is_lawful();
     let places = seen_places(alloc, f, y)?;

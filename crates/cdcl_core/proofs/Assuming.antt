@@ -1,9 +1,7 @@
 -- Which assumptions are true.
-use Rattle.std.proofs.Common.{◌≡◌, ℕ, zero, suc, ◌+◌, ◌-◌, ◌≤◌, ◌<◌, Bool, true, false, ◌||◌, List, [], ◌∷◌, ◌++◌, map, take, length, slice_get, get_or, Some, None, Option, refl, sym, ◌∙◌, ap, subst, arith, inl, inr}
+use Rattle.std.proofs.Common.{◌≡◌, ℕ, zero, suc, ◌+◌, Bool, true, false, ◌||◌, List, [], ◌∷◌, take, slice_get, Some, None, Option, refl, sym, ◌∙◌, subst, arith, inl, inr}
 use Rattle.std.specs.List.{list_any}
 use Rattle.std.proofs.lemmas.Bool.{false≢true}
-use Rattle.std.proofs.lemmas.List.Elements.{All-head, All-tail}
-use Rattle.std.proofs.Common.{All}
 use Rattle.dq_lits.specs.Literal.{Literal, same_literal}
 use Rattle.dq_lits.specs.Derivation.{holds}
 use Rattle.oracle.specs.declared.groups.Group.{Group}
@@ -53,14 +51,6 @@ true_all (x ∷ xs) trues (suc i) at before =
       | inr later ↦ rest a later
     ]
 
-pub at_within : (P : Literal → Type 0) (xs : List Literal) (i : ℕ) (l : Literal) → slice_get xs i ≡ Some l → All P xs → P l
-at_within P [] i l at all = let n : None ≡ Some l = at in cc
-at_within P (x ∷ xs) zero l at all = subst P (same at) (All-head P x xs all)
-  where
-    same : Some x ≡ Some l → x ≡ l
-    same e = cc
-at_within P (x ∷ xs) (suc i) l at all = at_within P xs i l at (All-tail P x xs all)
-
 pub at_holds : (xs : List Literal) (i : ℕ) (l : Literal) → slice_get xs i ≡ Some l → holds xs l ≡ true
 at_holds [] i l at = let n : None ≡ Some l = at in cc
 at_holds (x ∷ xs) zero l at = subst (λ k. holds (x ∷ xs) k ≡ true) (same at) (holds_first x xs)
@@ -68,18 +58,6 @@ at_holds (x ∷ xs) zero l at = subst (λ k. holds (x ∷ xs) k ≡ true) (same 
     same : Some x ≡ Some l → x ≡ l
     same e = cc
 at_holds (x ∷ xs) (suc i) l at = holds_later x xs l (at_holds xs i l at)
-
--- selectors come first
-pub selector_at : (active : List Group) (literals : List Literal) (i : ℕ) (d : Group) → i < length active → slice_get (assumed active literals) i ≡ Some ((get_or active i d).selector)
-selector_at [] literals i d lt = absurd (omega (arith, lt))
-selector_at (g ∷ active) literals zero d lt = refl
-selector_at (g ∷ active) literals (suc i) d lt = selector_at active literals i d (omega (arith, lt))
-
-pub literal_behind : (active : List Group) (literals : List Literal) (i : ℕ) → length active ≤ i → slice_get (assumed active literals) i ≡ slice_get literals (i - length active)
-literal_behind [] literals i le = let same : i ≡ i - 0 = omega arith in ap (slice_get literals) same
-literal_behind (g ∷ active) literals zero le = absurd (omega (arith, le))
-literal_behind (g ∷ active) literals (suc i) le =
-    let same : i - length active ≡ suc i - length (g ∷ active) = omega arith in literal_behind active literals i (omega (arith, le)) ∙ ap (slice_get literals) same
 
 pub among_assumed : (active : List Group) (literals : List Literal) (l : Literal) → holds (assumed active literals) l ≡ (list_any (λ g. same_literal l g.selector) active || holds literals l)
 among_assumed [] literals l = refl

@@ -1,5 +1,5 @@
 -- Clauses that begin with the same literal.
-use Rattle.std.proofs.Common.{◌≡◌, ℕ, zero, suc, ◌+◌, ◌-◌, ◌<◌, ◌≤◌, true, ◌⊎◌, inl, inr, List, [], ◌∷◌, ◌++◌, length, get_or, slice_get, Option, Some, None, is_some, MatchOption, false, refl, sym, ◌∙◌, ap, subst, arith, length-append}
+use Rattle.std.proofs.Common.{◌≡◌, ℕ, zero, suc, ◌-◌, ◌<◌, ◌≤◌, true, ◌⊎◌, inl, inr, List, [], ◌∷◌, ◌++◌, length, get_or, slice_get, Option, Some, None, is_some, MatchOption, false, refl, sym, ◌∙◌, ap, subst, arith, length-append}
 use Rattle.std.specs.List.{list_any}
 use Rattle.std.proofs.lemmas.Bool.{cases_lt, false≢true}
 use Rattle.std.proofs.lemmas.Option.{slice_get_within}
@@ -23,9 +23,6 @@ get_last (x ∷ cs) c = get_last cs c
 
 same_some : {A : Type 0} (a b : A) → Some a ≡ Some b → a ≡ b
 same_some a b e = cc
-
-pub no_starts : AreStarts [] []
-no_starts i lt = absurd (omega (arith, lt))
 
 -- behind all others
 pub start_behind : (clauses : List (List Literal)) (clause : List Literal) (start : ℕ) → start ≡ length clauses → IsNextStart clauses clause start

@@ -203,9 +203,6 @@ guards_visited trues these others processed l guards done i apart is_false =
       | inr t ↦ guards i apart t
     ]
 
-pub moved_none : (trues old others : List Literal) → AreMoved trues old old others
-moved_none trues old others i = inl refl
-
 -- moves behind one another
 pub moved_both : (trues now_trues old now new others : List Literal) → Among trues now_trues → AreMoved trues old now others → AreMoved now_trues now new others
     → ((i : ℕ) → IsMove now_trues (watch_at now i) (watch_at new i) (watch_at others i) → holds trues (opposite (watch_at now i)) ≡ true)

@@ -3,7 +3,7 @@ use Rattle.std.proofs.Common.{◌≡◌, ◌≢◌, ℕ, suc, ◌+◌, ◌-◌, 
 use Rattle.std.specs.List.{AllByRecursion, IsDistinct}
 use Rattle.std.proofs.Math.Dec.{eqb}
 use Rattle.std.proofs.Math.Seq.{get_or-append_seam}
-use Rattle.std.proofs.lemmas.Bool.{cases_Bool, cases_eq, cases_lt, false≢true, or_cases, or_left, or_right, or_parts, eq-eqb, ne_eqb, eqb-true}
+use Rattle.std.proofs.lemmas.Bool.{cases_Bool, cases_eq, false≢true, or_cases, or_left, or_right, or_parts, eq-eqb, ne_eqb, eqb-true}
 use Rattle.std.proofs.lemmas.List.{length-set, take_more, get_or_default, get_or_past, get_or_append_left}
 use Rattle.std.proofs.lemmas.List.Elements.{All-cons, All-append, All-nil}
 use Rattle.std.proofs.lemmas.Map.Steps.{length-le_from_distinct_below}
@@ -331,20 +331,6 @@ linked_more heads nexts literals l id k lt is =
           ];
     }
 
--- empty lists more
-pub linked_wider : (heads heads' nexts : List ℕ) (literals : List Literal) (left : ℕ) (rest : List ℕ) → AddsLists heads heads' → AreLinked heads nexts literals left rest → AreLinked heads' nexts literals left rest
-linked_wider heads heads' nexts literals left rest adds k = record {
-  count = k.count;
-  lists = k.lists;
-  chains = λ p. subst (λ s. IsChain nexts s (k.lists p)) (sym (adds.same p)) (k.chains p);
-  once = k.once;
-  on_list = k.on_list;
-  rest_chain = k.rest_chain;
-  rest_once = k.rest_once;
-  rest_apart = k.rest_apart;
-  whole = k.whole;
-}
-
 pub linked_none : AreLinked [] [] [] 0 []
 linked_none = record {
   count = refl;
@@ -358,23 +344,8 @@ linked_none = record {
   whole = λ x low up. absurd (omega (arith, low, up));
 }
 
-pub added_none : (heads : List ℕ) → AddsLists heads heads
-added_none heads = record { more = omega arith; same = λ p. refl }
-
 pub added_both : (a b c : List ℕ) → AddsLists a b → AddsLists b c → AddsLists a c
 added_both a b c f g = record { more = let m = f.more in let n = g.more in omega (arith, m, n); same = λ p. g.same p ∙ f.same p }
-
-pub added_one : (heads heads' : List ℕ) → heads' ≡ heads ++ 0 ∷ [] → AddsLists heads heads'
-added_one heads heads' is = record {
-  more = omega (arith, ap length is, length-append heads (0 ∷ []));
-  same = λ p. ap (λ hs. get_or hs p 0) is ∙ elim (cases_lt p (length heads)) [
-    | inl lt ↦ get_or_append_left heads (0 ∷ []) 0 p lt
-    | inr past ↦ elim (cases_eq p (length heads)) [
-      | inl e ↦ ap (λ n. get_or (heads ++ 0 ∷ []) n 0) e ∙ get_or-append_seam heads 0 [] 0 ∙ sym (get_or_past heads p 0 past)
-      | inr n ↦ get_or_past (heads ++ 0 ∷ []) p 0 (omega (arith, past, n, length-append heads (0 ∷ []))) ∙ sym (get_or_past heads p 0 past)
-    ]
-  ];
-}
 
 pub listed_more : (n m : ℕ) (lits : List Literal) (l : Literal) (i : ℕ) → i < length lits → get_or lits i l ≡ l → variable_of l * 2 + 2 ≤ m → n ≤ m
     → All (λ k. place_of k + 1 ≤ n) (take i lits) → All (λ k. place_of k + 1 ≤ m) (take (i + 1) lits)

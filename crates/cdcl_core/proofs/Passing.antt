@@ -1,12 +1,11 @@
 -- Clauses by their ids, and a trail that grows.
-use Rattle.std.proofs.Common.{◌≡◌, ℕ, zero, suc, ◌+◌, ◌<◌, ◌≤◌, true, false, inl, inr, List, [], ◌∷◌, ◌++◌, take, MatchOption, length, get_or, Option, None, Some, refl, sym, ◌∙◌, ap, subst, arith, All, length-append, Contains}
+use Rattle.std.proofs.Common.{◌≡◌, ℕ, zero, suc, ◌<◌, ◌≤◌, true, false, inl, inr, List, [], ◌∷◌, ◌++◌, MatchOption, length, get_or, Option, None, Some, refl, sym, ◌∙◌, ap, subst, arith, All, Contains}
 use Rattle.std.specs.List.{list_any}
-use Rattle.std.proofs.lemmas.List.{append_assoc, take_more}
+use Rattle.std.proofs.lemmas.List.{append_assoc}
 use Rattle.std.proofs.lemmas.List.Elements.{All-cons, All-append, All-nil, All-get_or, Contains-get_or}
 use Rattle.std.proofs.lemmas.Option.{slice_get-get_or, slice_get_within}
 use Rattle.dq_lits.specs.Literal.{Literal, variable_of}
-use Rattle.dq_lits.specs.Derivation.{stuck, holds, status_of}
-use Rattle.hint_log.specs.ProductiveLog.{IsClosed}
+use Rattle.dq_lits.specs.Derivation.{holds}
 use Rattle.oracle.specs.Fit.{live_in}
 use Rattle.cdcl_core.specs.declared.trails.Step.{Step}
 use Rattle.cdcl_core.specs.Steps.{is_decision, IsFree, Grown}
@@ -50,28 +49,6 @@ grown_both a b c f g = record {
   is = g.is ∙ ap (λ xs. g.more ++ xs) f.is ∙ sym (append_assoc g.more f.more a);
   implied = All-append (λ s. is_decision s ≡ false) g.more f.more g.implied f.implied;
 }
-
-grown_longer : (old new : List Step) → Grown old new → length old ≤ length new
-grown_longer old new g = omega (arith, ap length g.is, length-append g.more old)
-
-pub closed_at : (clauses : List (List Literal)) (trues c : List Literal) (i : ℕ) → i < length clauses → get_or clauses i c ≡ c → IsClosed (live_in clauses) trues
-    → status_of trues (Some c) ≡ stuck
-closed_at clauses trues c i lt at closed = sym (ap (status_of trues) (clause_read clauses i c lt at)) ∙ closed (suc i)
-
-pub true_more : (trues c : List Literal) (clauses : List (List Literal)) (i : ℕ) → i < length clauses → get_or clauses i c ≡ c → list_any (holds trues) c ≡ true
-    → All (λ d. list_any (holds trues) d ≡ true) (take i clauses) → All (λ d. list_any (holds trues) d ≡ true) (take (i + 1) clauses)
-true_more trues c clauses i lt at here before =
-    let P : List Literal → Type 0 = λ d. list_any (holds trues) d ≡ true in
-    let longer : take (i + 1) clauses ≡ take i clauses ++ c ∷ [] = take_more clauses i c lt ∙ ap (λ x. take i clauses ++ x ∷ []) at in
-    subst (λ (xs : List (List Literal)). All P xs) (sym longer) (All-append P (take i clauses) (c ∷ []) before (All-cons P c [] here (All-nil P)))
-
-pub opening_at : (clauses : List (List Literal)) (trues c : List Literal) (l : Literal) (i : ℕ) → i < length clauses → get_or clauses i c ≡ c → IsFree trues l → holds c l ≡ true
-    → IsOpening clauses trues (Some l)
-opening_at clauses trues c l i lt at free h = (free, c, subst (Contains clauses) at (Contains-get_or clauses i c lt), h)
-
--- a clause by its id
-pub live_read : (clauses : List (List Literal)) (at : ℕ) (c : List Literal) → live_in clauses (at + 1) ≡ Some c → live_in clauses (suc at) ≡ Some c
-live_read clauses at c is = let one : suc at ≡ at + 1 = omega arith in ap (live_in clauses) one ∙ is
 
 pub live_within : (clauses : List (List Literal)) (room id : ℕ) (c : List Literal) → live_in clauses id ≡ Some c → AreWithin room clauses → All (λ l. variable_of l ≤ room) c
 live_within clauses room zero c is within = let n : None ≡ Some c = is in cc

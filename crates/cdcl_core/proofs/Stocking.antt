@@ -1,8 +1,8 @@
 -- One clause more, with its watches.
-use Rattle.std.proofs.Common.{◌≡◌, ℕ, suc, ◌+◌, ◌-◌, ◌<◌, ◌≤◌, Bool, true, false, cond, ◌⊎◌, inl, inr, List, [], ◌∷◌, ◌++◌, length, take, get_or, Some, slice_get, All, Contains, refl, sym, ◌∙◌, ap, subst, arith, length-append}
+use Rattle.std.proofs.Common.{◌≡◌, ℕ, suc, ◌+◌, ◌-◌, ◌<◌, ◌≤◌, Bool, true, false, cond, ◌⊎◌, inl, inr, List, [], ◌∷◌, ◌++◌, length, Some, slice_get, All, Contains, refl, sym, ◌∙◌, ap, subst, arith, length-append}
 use Rattle.std.proofs.Math.Seq.{get_or-append_seam}
-use Rattle.std.proofs.lemmas.Bool.{cases_lt, false≢true, or_cases}
-use Rattle.std.proofs.lemmas.List.{get_or_append_left, take_more}
+use Rattle.std.proofs.lemmas.Bool.{cases_lt, false≢true}
+use Rattle.std.proofs.lemmas.List.{get_or_append_left}
 use Rattle.std.proofs.lemmas.Option.{slice_get_within}
 use Rattle.dq_lits.specs.Literal.{Literal, positive, same_literal}
 use Rattle.dq_lits.specs.Derivation.{holds}
@@ -11,7 +11,6 @@ use Rattle.cdcl_core.specs.Chains.{watch_at, place_of}
 use Rattle.cdcl_core.specs.Watching.{IsWatched, AreWatched, AreShort, NotesShort}
 use Rattle.cdcl_core.specs.Visits.{AreListed}
 use Rattle.cdcl_core.specs.Storage.{Stored, IsListed, HasLists}
-use Rattle.cdcl_core.proofs.Holding.{holds-append, holds_cases}
 use Rattle.cdcl_core.proofs.Valuing.{of_all}
 use Rattle.cdcl_core.proofs.Lessons.{live_more}
 use Rattle.cdcl_core.proofs.Visiting.{contains_last}
@@ -101,16 +100,6 @@ short_more clauses first second old new c k l id notes count count' last noted =
             | inr g ↦ absurd (false≢true (sym e ∙ sym (here i (omega (arith, g, lt, long))) ∙ same))
           ]);
         }
-
--- literals that are all one
-pub same_more : (lits : List Literal) (k l : Literal) (i : ℕ) → i < length lits → get_or lits i k ≡ k → k ≡ l → ((x : Literal) → holds (take i lits) x ≡ true → x ≡ l)
-    → (x : Literal) → holds (take (i + 1) lits) x ≡ true → x ≡ l
-same_more lits k l i lt at same before x h =
-    let longer : take (i + 1) lits ≡ take i lits ++ k ∷ [] = take_more lits i k lt ∙ ap (λ y. take i lits ++ y ∷ []) at in
-    elim (or_cases (holds (take i lits) x) (holds (k ∷ []) x) (sym (holds-append (take i lits) (k ∷ []) x) ∙ ap (λ xs. holds xs x) (sym longer) ∙ h)) [
-      | inl e ↦ before x e
-      | inr e ↦ elim (holds_cases k [] x e) [ inl s ↦ s ∙ same | inr n ↦ absurd (false≢true n) ]
-    ]
 
 -- of all literals of the clause there is a list
 pub list_of : (n : ℕ) (c : List Literal) → All (λ l. place_of l + 1 ≤ n) c → (l : Literal) → holds c l ≡ true → place_of l + 1 ≤ n

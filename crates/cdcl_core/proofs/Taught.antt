@@ -118,6 +118,3 @@ module _ (assumptions : List Literal) (s : Searcher) (log : ProofLog) (new : Tra
 
 pub learned_one : (log new : ProofLog) (clause : List Literal) (hints : List ℕ) → new ≡ with_entry log (Learned clause hints) → HasLearned log new
 learned_one log new clause hints is = subst (HasLearned log) (sym is) (record { more = Learned clause hints ∷ []; grown = refl; each = (tt, tt); limit = refl })
-
-pub learned_none : (log new : ProofLog) → new ≡ log → HasLearned log new
-learned_none log new is = subst (HasLearned log) (sym is) (record { more = []; grown = refl; each = tt; limit = refl })

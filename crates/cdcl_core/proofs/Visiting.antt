@@ -199,10 +199,6 @@ pub none_left : (w : Watches) (at : ℕ) (rest : List ℕ) → IsLinked w at res
 none_left w at [] k e = refl
 none_left w at (id ∷ later) k e = let c = k.rest_chain in let s = c.0 in let low = c.1 in absurd (omega (arith, s, low, e))
 
-pub all_left : (w : Watches) (at : ℕ) (rest : List ℕ) → IsLinked w at rest → length rest ≤ 0 → (at ≡ 0) × (rest ≡ [])
-all_left w at [] k e = (k.rest_chain, refl)
-all_left w at (id ∷ later) k e = absurd (omega (arith, e))
-
 pub linked_end : (w : Watches) (at : ℕ) (rest : List ℕ) → IsLinked w at rest → at ≡ 0 → IsLinked w 0 []
 linked_end w at rest k e = subst (λ xs. IsLinked w 0 xs) (none_left w at rest k e) (subst (λ n. IsLinked w n rest) e k)
 
@@ -288,9 +284,6 @@ visiting_end clauses old new was now others l at i p e =
       ];
     }
 
-done_later : (old new : List Literal) (these others : List Literal) (l : Literal) (i : ℕ) → Among old new → IsDone old these others l i → IsDone new these others l i
-done_later old new these others l i among d apart e = among (watch_at others i) (d apart e)
-
 module _ (clauses : List (List Literal)) (old now_trail new_trail : Trailed) (was now new others : Watches) (l : Literal) (at i : ℕ) (found : Option ℕ)
     (p : IsVisiting clauses old now_trail was now others l at i) (f : IsFirstLeft now at p.rest) (s : IsVisited clauses now_trail new_trail now new others l at found)
     (false_now : holds (literals_of old.steps) (opposite l) ≡ true) where
@@ -362,13 +355,6 @@ module _ (clauses : List (List Literal)) (old now_trail new_trail : Trailed) (wa
         linked = linked;
         ended = ends.1;
       }
-
-  -- what a falsified clause leaves
-  pub conflict_left : found ≡ None → IsLeft new at l
-  conflict_left is =
-      let ends = subst (λ (o : Option ℕ). MatchOption o ((new ≡ now) × (status_of (literals_of new_trail.steps) (live_in clauses at) ≡ falsified))
-      (λ _. IsDone (literals_of new_trail.steps) new.literals.items others.literals.items l (at - 1))) is s.ended in
-      subst (λ w. IsLeft w at l) (sym ends.0) (record { rest = p.rest; linked = p.linked; watched = p.watched })
 
 -- both sides
 pub both_conflict : (clauses : List (List Literal)) (old new : Trailed) (was now second : Watches) (l : Literal) (id : ℕ) → IsSound (live_in clauses) old.steps → IsLinked second 0 []
@@ -508,40 +494,6 @@ module _ (clauses : List (List Literal)) (old now_trail new_trail : Trailed) (wa
         };
       }
 
-pub trail_end : (clauses : List (List Literal)) (old new : Trailed) (was now was_second now_second : Watches) (at : ℕ) → AreOnTrail clauses old new was now was_second now_second at
-    → length new.steps ≤ at → IsTrailVisited clauses old new was now was_second now_second None
-trail_end clauses old new was now was_second now_second at p all =
-    let done = p.processed in
-    let count = done.count in
-    let none : done.newer ≡ [] = empty done.newer (omega (arith, all, count, ap length done.is, length-append done.newer done.older)) in
-    let whole : done.older ≡ new.steps = sym (done.is ∙ ap (λ xs. xs ++ done.older) none) in
-    record {
-      visitable = p.visitable;
-      linked = p.linked;
-      second_linked = p.second_linked;
-      room = p.room;
-      grown = p.grown;
-      short = p.short;
-      levels = done.levels;
-      ended = subst (λ (xs : List Step). IsGuarded clauses now.literals.items now_second.literals.items (literals_of xs) (literals_of new.steps)) whole done.guarded;
-    }
-  where
-    empty : (xs : List Step) → length xs ≤ 0 → xs ≡ []
-    empty [] h = refl
-    empty (x ∷ xs) h = absurd (omega (arith, h))
-
-pub trail_first : (clauses : List (List Literal)) (trail : Trailed) (first second : Watches) (at : ℕ) → IsVisitable clauses trail first second → IsLinked first 0 [] → IsLinked second 0 []
-    → IsProcessed clauses first.literals.items second.literals.items trail.steps at → AreOnTrail clauses trail trail first first second second at
-trail_first clauses trail first second at v linked second_linked done = record {
-  visitable = v;
-  linked = linked;
-  second_linked = second_linked;
-  room = refl;
-  grown = grown_none trail.steps;
-  short = λ short notes. notes;
-  processed = done;
-}
-
 -- a trail without literals, and the short clauses
 pub visitable_passed : (clauses : List (List Literal)) (old new : Trailed) (first second : Watches) → IsVisitable clauses old first second → new.room ≡ old.room → IsSound (live_in clauses) new.steps
     → length new.steps ≤ new.room → IsVisitable clauses new first second
@@ -590,19 +542,6 @@ processed_top clauses first second (s ∷ earlier) at n is ready = record {
   count = omega (arith, is);
   guarded = ready.top;
   levels = ready.levels;
-}
-
-pub trail_later : (clauses : List (List Literal)) (old mid new : Trailed) (was now was_second now_second : Watches) (found : Option ℕ) → mid.room ≡ old.room → Grown old.steps mid.steps
-    → IsTrailVisited clauses mid new was now was_second now_second found → IsTrailVisited clauses old new was now was_second now_second found
-trail_later clauses old mid new was now was_second now_second found room grown t = record {
-  visitable = t.visitable;
-  linked = t.linked;
-  second_linked = t.second_linked;
-  room = t.room ∙ room;
-  grown = grown_both old.steps mid.steps new.steps grown t.grown;
-  short = t.short;
-  levels = t.levels;
-  ended = t.ended;
 }
 
 contains_first : (x : ℕ) (xs : List ℕ) → Contains (x ∷ xs) x

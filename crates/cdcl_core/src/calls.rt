@@ -105,7 +105,8 @@ pub(crate) fn find(
     requires marks { HasRoom s.old }
     requires few { s.old.variables < 2 ^ 62 }
     requires model { length model.old ≡ s.old.variables }
-    ensures sat { result ≡ Ok Answer.Sat → HasLearned log.old log.new × IsModelUnder (λ v. slice_index_or model.new (v - 1) false) (clause_at log.new.entries) (assumed active.now assume.now) }
+    ensures sat { result ≡ Ok Answer.Sat → HasLearned log.old log.new
+        × IsModelUnder (λ v. slice_index_or model.new (v - 1) false) (clause_at log.new.entries) (assumed active.now assume.now) }
     ensures unsat { (id : ℕ) → result ≡ Ok (Answer.Unsat id) → IsRefutedUnder log.old log.new (assumed active.now assume.now) id }
     ensures fit { Fit s.new.clauses.clauses s.new.variables log.new.entries }
     ensures bare { s.new.trail.steps ≡ [] }
@@ -137,7 +138,8 @@ fn search_and_keep(
     requires assumptions { AreAssumptions log.old assumptions.now }
     requires few { s.old.variables < 2 ^ 62 }
     requires model { length model.old ≡ s.old.variables }
-    ensures sat { result ≡ Ok Answer.Sat → HasLearned log.old log.new × IsModelUnder (λ v. slice_index_or model.new (v - 1) false) (clause_at log.new.entries) assumptions.now }
+    ensures sat { result ≡ Ok Answer.Sat → HasLearned log.old log.new
+        × IsModelUnder (λ v. slice_index_or model.new (v - 1) false) (clause_at log.new.entries) assumptions.now }
     ensures unsat { (id : ℕ) → result ≡ Ok (Answer.Unsat id) → IsRefutedUnder log.old log.new assumptions.now id }
     ensures fit { Fit s.new.clauses.clauses s.new.variables log.new.entries }
     ensures places { KeepsPlaces s.old s.new }
@@ -159,7 +161,8 @@ fn keep_values(model: &mut [bool], trail: &Trail)
     requires room { length model.old ≤ trail.now.room }
     requires few { length model.old < 2 ^ 62 }
     ensures len { length model.new ≡ length model.old }
-    ensures values { (i : ℕ) → i < length model.old → (slice_index_or model.new i false ≡ true → literal_value (literals_of trail.now.steps) (positive (suc i)) ≡ True)
+    ensures values { (i : ℕ) → i < length model.old
+        → (slice_index_or model.new i false ≡ true → literal_value (literals_of trail.now.steps) (positive (suc i)) ≡ True)
         × (literal_value (literals_of trail.now.steps) (positive (suc i)) ≡ True → slice_index_or model.new i false ≡ true) }
 {
     for i in 0..model.len() {

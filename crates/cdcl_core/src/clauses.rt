@@ -165,7 +165,8 @@ impl ClauseStore {
         ensures grown { Grown trail.old.steps trail.new.steps }
         ensures few { length trail.new.steps ≤ trail.new.room }
         ensures levels { AreLevelsGuarded self.new.clauses self.new.first self.new.second trail.new.steps }
-        ensures guarded { result ≡ None → IsGuarded self.new.clauses self.new.first self.new.second (literals_of trail.new.steps) (literals_of trail.new.steps) }
+        ensures guarded { result ≡ None
+            → IsGuarded self.new.clauses self.new.first self.new.second (literals_of trail.new.steps) (literals_of trail.new.steps) }
         ensures ended { IsPropagated (live_in self.new.clauses) trail.new result }
     {
         self.spare = 0;

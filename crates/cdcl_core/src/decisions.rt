@@ -36,7 +36,8 @@ pub(crate) fn open_clause(
 ) -> Option<Open>
     requires in_range { AreWithin trail.now.room clauses.now.clauses }
     requires closed { IsClosed (live_in clauses.now.clauses) (literals_of trail.now.steps) }
-    ensures { MatchOption result (IsOpening clauses.now.clauses (literals_of trail.now.steps) None) (λ open'. IsOpening clauses.now.clauses (literals_of trail.now.steps) (Some open'.literal)) }
+    ensures { MatchOption result (IsOpening clauses.now.clauses (literals_of trail.now.steps) None)
+        (λ open'. IsOpening clauses.now.clauses (literals_of trail.now.steps) (Some open'.literal)) }
 {
     for span in [positions.newest(), positions.rest()] {
         let open = newest_open(trail, clauses, activities, span);
@@ -61,7 +62,8 @@ fn newest_open(
 ) -> Option<Open>
     requires in_range { AreWithin trail.now.room clauses.now.clauses }
     requires closed { IsClosed (live_in clauses.now.clauses) (literals_of trail.now.steps) }
-    ensures { MatchOption result (AreTrueWithin span.from span.down_to clauses.now.clauses (literals_of trail.now.steps)) (λ open'. IsOpening clauses.now.clauses (literals_of trail.now.steps) (Some open'.literal)) }
+    ensures { MatchOption result (AreTrueWithin span.from span.down_to clauses.now.clauses (literals_of trail.now.steps))
+        (λ open'. IsOpening clauses.now.clauses (literals_of trail.now.steps) (Some open'.literal)) }
 {
     let mut id = span.from.min(clauses.len());
     while id > span.down_to {
@@ -109,7 +111,8 @@ fn newest_in(
     requires in_range { AreWithin trail.now.room clauses.now.clauses }
     requires closed { IsClosed (live_in clauses.now.clauses) (literals_of trail.now.steps) }
     requires ids { span.from ≤ length clauses.now.clauses }
-    ensures { MatchOption result (AreTrueWithin span.from span.down_to clauses.now.clauses (literals_of trail.now.steps)) (λ open'. IsOpening clauses.now.clauses (literals_of trail.now.steps) (Some open'.literal)) }
+    ensures { MatchOption result (AreTrueWithin span.from span.down_to clauses.now.clauses (literals_of trail.now.steps))
+        (λ open'. IsOpening clauses.now.clauses (literals_of trail.now.steps) (Some open'.literal)) }
 {
     let mut id = span.from;
     while id > span.down_to {
@@ -139,7 +142,8 @@ fn open_in(trail: &Trail, clauses: &ClauseStore, activities: &Activities, id: u6
 
 // Whether one of two literals is true, where they differ.
 fn is_watch_true(trail: &Trail, watched: Watched) -> bool
-    requires { same_literal watched.first watched.second ≡ false → (variable_of watched.first ≤ trail.now.room) × (variable_of watched.second ≤ trail.now.room) }
+    requires { same_literal watched.first watched.second ≡ false → (variable_of watched.first ≤ trail.now.room)
+        × (variable_of watched.second ≤ trail.now.room) }
     ensures { result ≡ true → (same_literal watched.first watched.second ≡ false)
         × ((holds (literals_of trail.now.steps) watched.first ≡ true) ⊎ (holds (literals_of trail.now.steps) watched.second ≡ true)) }
 {

@@ -115,7 +115,8 @@ fn hold(clauses: &mut ClauseStore, notes: &Notes, first: &Step, level: &Option<L
     requires spare { length notes.now.literals < clauses.old.spare }
     requires lists { HasLists clauses.old notes.now.literals }
     requires first { holds notes.now.literals (opposite first.now.literal) ≡ true }
-    requires second { IfSome level.now (λ l. (holds notes.now.literals (opposite l) ≡ true) × (same_literal (opposite first.now.literal) (opposite l) ≡ false)) }
+    requires second { IfSome level.now (λ l. (holds notes.now.literals (opposite l) ≡ true)
+        × (same_literal (opposite first.now.literal) (opposite l) ≡ false)) }
     ensures held { clauses.new.clauses ≡ clauses.old.clauses ++ notes.now.literals ∷ [] }
     ensures watched { IfSome level.now (λ l. IsHeldWatched clauses.old clauses.new (opposite first.now.literal) (opposite l)) }
 {

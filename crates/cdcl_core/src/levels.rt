@@ -47,7 +47,8 @@ pub(crate) fn last_decision(steps: &[Step]) -> Option<Lit>
 // The newest marked literal of the newest level; of all literals, where nothing was decided.
 fn marked_in_level(notes: &Notes, steps: &[Step]) -> Option<Lit>
     requires { All (λ s. variable_of s.literal < length notes.now.marks) steps.now }
-    ensures { MatchOption result (is_level_marked notes.now.marks (reverse steps.now) ≡ false) (λ l. IsMarkedInLevel notes.now.marks (reverse steps.now) l) }
+    ensures { MatchOption result (is_level_marked notes.now.marks (reverse steps.now) ≡ false)
+        (λ l. IsMarkedInLevel notes.now.marks (reverse steps.now) l) }
 {
     let mut at = steps.len();
     while at > 0 {

@@ -59,7 +59,8 @@ fn pass_short(trail: &mut Trail, arena: &Arena, short: &[u64]) -> Option<u64>
     ensures grown { Grown trail.old.steps trail.new.steps }
     ensures few { length trail.new.steps ≤ trail.new.room }
     ensures passed { MatchOption result
-        ((id : ℕ) (c : List Literal) → Contains short.now id → live_in arena.now.clauses id ≡ Some c → AreSame c → list_any (holds (literals_of trail.new.steps)) c ≡ true)
+        ((id : ℕ) (c : List Literal) → Contains short.now id → live_in arena.now.clauses id ≡ Some c → AreSame c
+        → list_any (holds (literals_of trail.new.steps)) c ≡ true)
         (λ id. status_of (literals_of trail.new.steps) (live_in arena.now.clauses id) ≡ falsified) }
 {
     for id in short {
@@ -257,7 +258,8 @@ fn look_at(trail: &mut Trail, lits: &[Lit], other: Lit, id: u64) -> Look
 // A literal that isn't false, beside the other watched literal.
 fn other_literal(trail: &Trail, lits: &[Lit], other: Lit) -> Option<Lit>
     requires { All (λ l. variable_of l ≤ trail.now.room) lits.now }
-    ensures { MatchOption result (AreOthersFalse (literals_of trail.now.steps) lits.now other) (λ k. IsOther (literals_of trail.now.steps) lits.now other k) }
+    ensures { MatchOption result (AreOthersFalse (literals_of trail.now.steps) lits.now other)
+        (λ k. IsOther (literals_of trail.now.steps) lits.now other k) }
 {
     for l in lits {
         if *l != other && !is_false(trail, *l) {

@@ -64,7 +64,8 @@ fn turn(
     requires assumptions { AreAssumptions log.old assumptions.now }
     requires made { AreTrue (take made.old assumptions.now) (literals_of s.old.trail.steps) }
     ensures made { AreTrue (take made.new assumptions.now) (literals_of s.new.trail.steps) }
-    ensures ok { IfOk result (λ found. MatchOption found (IsTurn assumptions.now s.old s.new log.old log.new) (λ f. IsFound assumptions.now s.new log.old log.new f)) }
+    ensures ok { IfOk result (λ found. MatchOption found (IsTurn assumptions.now s.old s.new log.old log.new)
+        (λ f. IsFound assumptions.now s.new log.old log.new f)) }
     ensures fit { Fit s.new.clauses.clauses s.new.variables log.new.entries }
     ensures places { KeepsPlaces s.old s.new }
     ensures stop { OnErr result (HasLearned log.old log.new) }
@@ -93,7 +94,8 @@ fn conflict(
     requires few { length s.old.trail.steps ≤ s.old.trail.room }
     requires assumptions { AreAssumptions log.old assumptions.now }
     requires conflict { status_of (literals_of s.old.trail.steps) (live_in s.old.clauses.clauses id) ≡ falsified }
-    ensures ok { IfOk result (λ found. MatchOption found (IsTurn assumptions.now s.old s.new log.old log.new) (λ f. IsFound assumptions.now s.new log.old log.new f)) }
+    ensures ok { IfOk result (λ found. MatchOption found (IsTurn assumptions.now s.old s.new log.old log.new)
+        (λ f. IsFound assumptions.now s.new log.old log.new f)) }
     ensures fit { Fit s.new.clauses.clauses s.new.variables log.new.entries }
     ensures places { KeepsPlaces s.old s.new }
     ensures stop { OnErr result (HasLearned log.old log.new) }
@@ -126,7 +128,8 @@ fn go_on(
     requires assumptions { AreAssumptions log.old assumptions.now }
     requires made { AreTrue (take made.old assumptions.now) (literals_of s.old.trail.steps) }
     ensures made { AreTrue (take made.new assumptions.now) (literals_of s.new.trail.steps) }
-    ensures ok { IfOk result (λ found. MatchOption found (IsTurn assumptions.now s.old s.new log.old log.new) (λ f. IsFound assumptions.now s.new log.old log.new f)) }
+    ensures ok { IfOk result (λ found. MatchOption found (IsTurn assumptions.now s.old s.new log.old log.new)
+        (λ f. IsFound assumptions.now s.new log.old log.new f)) }
     ensures fit { Fit s.new.clauses.clauses s.new.variables log.new.entries }
     ensures places { KeepsPlaces s.old s.new }
     ensures err { OnErr result (log.new ≡ log.old) }

@@ -92,9 +92,6 @@ within_literal was now after old new s l w is = subst (λ (n : Noted). IsWithin 
   literals = let k = w.literals in omega (arith, k, length-append now.literals (l ∷ []));
 })
 
-pub within_first : (was : Noted) (old : List Step) → IsWithin was was old old
-within_first was old = record { len = refl; hints = omega arith; literals = omega arith }
-
 -- the analysis, past a literal that isn't marked, one that is resolved, and one that is kept
 pub leads_past_step : (live : LiveClauses) (old new : List Step) (was now : Noted) (s : Step) → LeadsOn live old (s ∷ new) was now → marked now.marks (variable_of s.literal) ≡ false → LeadsOn live old new was now
 leads_past_step live old new was now s inv unmarked entries stand first =
@@ -177,18 +174,6 @@ backing_next clauses old now new was noted after s id inv popped room reason sta
       analysis = leads_resolved clauses old.steps new.steps was noted after s id (subst (λ (xs : List Step). LeadsOn live old.steps xs was noted) popped inv.analysis) sound status mark hints literals marks_are;
     }
 
-pub backing_first : (live : LiveClauses) (old : Trailed) (was : Noted) → IsSound live old.steps → is_level_marked was.marks old.steps ≡ true → IsBacking live old old was was
-backing_first live old was sound some = record {
-  within = within_first was old.steps;
-  literals = refl;
-  room = refl;
-  sound = sound;
-  shrunk = record { popped = []; is = refl };
-  some = some;
-  level = refl;
-  analysis = λ entries stand first. first;
-}
-
 pub backing_ends : (live : LiveClauses) (old now new : Trailed) (was noted : Noted) (s : Step) → IsBacking live old now was noted → now.steps ≡ s ∷ new.steps → new.room ≡ now.room
     → marked noted.marks (variable_of s.literal) ≡ true → (is_decision s ≡ false → is_level_marked noted.marks new.steps ≡ false) → IsFirstPoint live old new s was noted
 backing_ends live old now new was noted s inv popped room mark first = record {
@@ -255,15 +240,6 @@ keeping_decision live old now new was noted after s inv popped room decided is =
           );
       analysis = leads_noted live old.steps new.steps was noted after s (subst (λ (xs : List Step). LeadsOn live old.steps xs was noted) popped inv.analysis) sound is;
     }
-
-pub keeping_first : (live : LiveClauses) (old : Trailed) (was : Noted) → IsSound live old.steps → IsKeeping live old old was was
-keeping_first live old was sound = record {
-  within = within_first was old.steps;
-  room = refl;
-  sound = sound;
-  negated = λ assumptions assumed negs. (assumed, negs);
-  analysis = λ entries stand first. first;
-}
 
 pub reason_at : (live : LiveClauses) (now : List Step) (rest : List Step) (s : Step) (id : ℕ) → IsSound live now → now ≡ s ∷ rest → s.reason ≡ Some id → status_of (literals_of rest) (live id) ≡ unit s.literal
 reason_at live now rest s id sound popped reason =

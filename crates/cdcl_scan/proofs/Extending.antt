@@ -1,7 +1,7 @@
 -- A clause's status, as its literals are read one by one.
-use Rattle.std.proofs.Common.{◌≡◌, ℕ, ◌+◌, ◌<◌, ◌≤◌, Bool, true, false, not, cond, ◌&&◌, ◌||◌, inl, inr, List, [], ◌∷◌, ◌++◌, take, drop, length, get_or, Some, refl, sym, ◌∙◌, ap}
+use Rattle.std.proofs.Common.{◌≡◌, ℕ, ◌+◌, ◌<◌, ◌≤◌, Bool, true, false, not, cond, ◌&&◌, inl, inr, List, [], ◌∷◌, ◌++◌, take, drop, length, get_or, Some, refl, sym, ◌∙◌, ap}
 use Rattle.std.specs.List.{list_all, list_any}
-use Rattle.std.proofs.lemmas.Bool.{cases_Bool, false≢true, or_cases}
+use Rattle.std.proofs.lemmas.Bool.{cases_Bool}
 use Rattle.std.proofs.lemmas.List.{append-nil, take_all, take_more, take-append-drop, append_assoc}
 use Rattle.std.proofs.lemmas.List.Elements.{filter-append}
 use Rattle.std.proofs.lemmas.List.Folds.{list_all-append, list_any_at}
@@ -11,7 +11,7 @@ use Rattle.cdcl_scan.specs.Extension.{with_free, with_literal}
 use Rattle.cdcl_scan.specs.Steps.{literal_value}
 use Rattle.cdcl_scan.specs.declared.trails.TruthValue.{TruthValue}
 use Rattle.cdcl_scan.specs.declared.trails.TruthValue.TheVariants.{True, False, Unassigned}
-use Rattle.cdcl_scan.proofs.Holding.{same_literal-sound, same_literal-refl, value_true, holds-append, holds_cases}
+use Rattle.cdcl_scan.proofs.Holding.{same_literal-sound, value_true}
 use Rattle.cdcl_scan.proofs.Standing.{not_false, is_falsified}
 
 -- with one more true literal
@@ -95,21 +95,6 @@ status_whole trues clause i s all h = h ∙ ap (λ c. status_of trues (Some c)) 
 pub true_at : (trues clause : List Literal) (l : Literal) (i : ℕ) → i < length clause → get_or clause i l ≡ l → literal_value trues l ≡ True → list_any (holds trues) clause ≡ true
 true_at trues clause l i lt at value = list_any_at (holds trues) clause i l lt (ap (holds trues) at ∙ value_true trues l value)
 
--- literals that are all false, and one more
-pub false_more : (trues clause : List Literal) (l : Literal) (i : ℕ) → i < length clause → get_or clause i l ≡ l → holds trues (opposite l) ≡ true
-    → ((k : Literal) → holds (take i clause) k ≡ true → holds trues (opposite k) ≡ true)
-    → (k : Literal) → holds (take (i + 1) clause) k ≡ true → holds trues (opposite k) ≡ true
-false_more trues clause l i lt at is_false before k h =
-    let longer : take (i + 1) clause ≡ take i clause ++ l ∷ [] = take_more clause i l lt ∙ ap (λ x. take i clause ++ x ∷ []) at in
-    let both : (holds (take i clause) k || holds (l ∷ []) k) ≡ true = sym (holds-append (take i clause) (l ∷ []) k) ∙ ap (λ xs. holds xs k) (sym longer) ∙ h in
-    elim (or_cases (holds (take i clause) k) (holds (l ∷ []) k) both) [
-      | inl early ↦ before k early
-      | inr here ↦ elim (holds_cases l [] k here) [
-        | inl e ↦ ap (λ x. holds trues (opposite x)) e ∙ is_false
-        | inr none ↦ absurd (false≢true none)
-      ]
-    ]
-
 -- not all literals of a stuck clause are false
 pub all_false : (trues clause : List Literal) (i : ℕ) → length clause ≤ i → status_of trues (Some clause) ≡ stuck
     → ((k : Literal) → holds (take i clause) k ≡ true → holds trues (opposite k) ≡ true) → ⊥
@@ -117,6 +102,3 @@ all_false trues clause i all is_stuck is_false =
     let f = is_falsified trues clause (λ k h. is_false k (ap (λ xs. holds xs k) (take_all i clause all) ∙ h)) in
     let clash : falsified ≡ stuck = sym f ∙ is_stuck in
     cc
-
-pub holds_at : (clause : List Literal) (l : Literal) (i : ℕ) → i < length clause → get_or clause i l ≡ l → holds clause l ≡ true
-holds_at clause l i lt at = list_any_at (same_literal l) clause i l lt (ap (same_literal l) at ∙ same_literal-refl l)

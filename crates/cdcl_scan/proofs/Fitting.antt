@@ -1,19 +1,17 @@
 -- The solver goes with the log, as clauses are added to both.
 use Rattle.std.proofs.lemmas.Option.{slice_get_past}
-use Rattle.std.proofs.Common.{◌<◌, ◌^◌, zero, is_some, not, ◌≡◌, ◌≢◌, ℕ, suc, ◌+◌, ◌==◌, true, false, cond, ◌&&◌, inl, inr, List, [], ◌∷◌, ◌++◌, length, Option, Some, None, IsSome, refl, sym, ◌∙◌, ap, subst, arith, length-append}
+use Rattle.std.proofs.Common.{zero, is_some, not, ◌≡◌, ◌≢◌, ℕ, suc, ◌+◌, ◌==◌, true, false, cond, ◌&&◌, inl, inr, List, [], ◌∷◌, ◌++◌, length, Some, None, refl, sym, ◌∙◌, ap, subst, arith, length-append}
 use Rattle.std.specs.Option.{option_and_then}
 use Rattle.std.proofs.lemmas.Bool.{false≢true, cases_eq, eq-eqb, ne_eqb, and_from}
 use Rattle.dq_lits.specs.Literal.{Literal, positive, negative, variable_of, is_negative, opposite}
 use Rattle.dq_lits.specs.Derivation.{holds, IsDerived}
 use Rattle.hint_log.specs.Entries.{Entry}
-use Rattle.hint_log.specs.Entries.{Named, Given, Learned, Answer}
+use Rattle.hint_log.specs.Entries.{Given, Learned, Answer}
 use Rattle.hint_log.specs.declared.origins.Origin.{Origin}
-use Rattle.hint_log.specs.Conditions.{AreNamed, AreIds, HasSides}
+use Rattle.hint_log.specs.Conditions.{AreNamed, AreIds}
 use Rattle.hint_log.specs.Entries.{clause_at, clause_of, name_of, last_id, has_id, numbered}
-use Rattle.hint_log.specs.Naming.{is_selector_name}
 use Rattle.hint_log.specs.ProductiveLog.{IsNewByPropagation}
 use Rattle.oracle.specs.Fit.{HoldsHintedSelectors}
-use Rattle.hint_log.specs.declared.names.Name.{Name}
 use Rattle.hint_log.specs.declared.names.Name.TheVariants.{Selector}
 use Rattle.oracle.specs.declared.groups.Group.{Group}
 use Rattle.oracle.specs.Calls.{IsMade, IsPlain}
@@ -104,70 +102,6 @@ fit_given held variables es o c fit are_named stands grouped = record {
   hinted = (tt, fit.hinted);
   kept = (tt, fit.kept);
 }
-
--- a variable more
-module _ (held : List (List Literal)) (variables : ℕ) (es : List Entry) (v : ℕ) (name : Name) (next : v ≡ variables + 1) (fit : Fit held variables es) where
-  name_new : (w : ℕ) → w ≡ v → name_of (Named v name ∷ es) w ≡ Some name
-  name_new w e = ap (λ b. cond b (Some name) (name_of es w)) (eq-eqb w v e)
-
-  name_old : (w : ℕ) → w ≢ v → name_of (Named v name ∷ es) w ≡ name_of es w
-  name_old w n = ap (λ b. cond b (Some name) (name_of es w)) (ne_eqb w v n)
-
-  not_named : IsSome (name_of es v) → ⊥
-  not_named some = let high = (fit.in_range v some).1 in absurd (omega (arith, high, next))
-
-  pub unnamed_next : name_of es v ≡ None
-  unnamed_next = by (name_of es v) refl
-    where
-      by : (o : Option Name) → name_of es v ≡ o → o ≡ None
-      by None e = refl
-      by (Some x) e = absurd (not_named (ap is_some e))
-
-  other_than : (l : Literal) → IsSome (name_of es (variable_of l)) → variable_of l ≢ v
-  other_than l some e = not_named (subst (λ w. IsSome (name_of es w)) e some)
-
-  pub stands_named : (l : Literal) → Stands es l → Stands (Named v name ∷ es) l
-  stands_named l s =
-      let same = name_old (variable_of l) (other_than l s.named) in
-      record { named = ap is_some same ∙ s.named; negated = λ sel. s.negated (sym (ap is_selector_name same) ∙ sel) }
-
-  pub fit_named : v < 2 ^ 62 → ((g : ℕ) → name ≡ Selector g → g ≡ v) → ((w : ℕ) → name_of es w ≡ Some name → ⊥) → HasSides es name → Fit held v (Named v name ∷ es)
-  fit_named in_range selector fresh sides = record {
-    count = fit.count;
-    same = fit.same;
-    in_range = λ w some. elim (cases_eq w v) [
-      | inl e ↦ (omega (arith, e, next), omega (arith, e))
-      | inr n ↦
-          let r = fit.in_range w (sym (ap is_some (name_old w n)) ∙ some) in
-          let low = r.0 in
-          let high = r.1 in
-          (low, omega (arith, high, next))
-    ];
-    all_named = λ w low high. elim (cases_eq w v) [
-      | inl e ↦ ap is_some (name_new w e)
-      | inr n ↦ ap is_some (name_old w n) ∙ fit.all_named w low (omega (arith, high, next, n))
-    ];
-    selectors = λ w g is. elim (cases_eq w v) [
-      | inl e ↦
-          let s : Some name ≡ Some (Selector g) = sym (name_new w e) ∙ is in
-          let n : name ≡ Selector g = cc in
-          selector g n ∙ sym e
-      | inr n ↦ fit.selectors w g (sym (name_old w n) ∙ is)
-    ];
-    logged = (record { from_one = omega (arith, next); in_range = in_range; unnamed = unnamed_next; fresh = fresh; sides = sides }, fit.logged);
-    grouped = (tt, fit.grouped);
-    negated = λ id c l at h. stands_named l (fit.negated id c l at h);
-    derived = (tt, fit.derived);
-    new = (tt, fit.new);
-    hinted = (tt, fit.hinted);
-    kept = (tt, fit.kept);
-  }
-
-pub plain_no_selector : (name : Name) (v : ℕ) → is_selector_name (Some name) ≡ false → (g : ℕ) → name ≡ Selector g → g ≡ v
-plain_no_selector name v plain g is = absurd (false≢true (sym plain ∙ ap (λ n. is_selector_name (Some n)) is))
-
-pub own_selector : (name : Name) (v : ℕ) → name ≡ Selector v → (g : ℕ) → name ≡ Selector g → g ≡ v
-own_selector name v first g is = let e : Selector v ≡ Selector g = sym first ∙ is in cc
 
 -- a group's clause stands
 pub given_stands : (es : List Entry) (g : Group) (lits : List Literal) → IsMade es g → ((l : Literal) → holds lits l ≡ true → IsPlain es l) → (l : Literal)

@@ -39,9 +39,6 @@ same_opposite (positive v) (negative w) = refl
 same_opposite (negative v) (positive w) = refl
 same_opposite (negative v) (negative w) = refl
 
-pub same_literal-sym : (k l : Literal) → same_literal k l ≡ true → same_literal l k ≡ true
-same_literal-sym k l h = ap (λ x. same_literal l x) (same_literal-sound k l h) ∙ same_literal-refl l
-
 -- literals of one variable
 pub one_variable : (k l : Literal) → variable_of k ≡ variable_of l → (k ≡ l) ⊎ (k ≡ opposite l)
 one_variable (positive v) (positive w) h = inl (ap positive h)
@@ -112,21 +109,6 @@ any_gives p (k ∷ line) h =
 pub no_tautology : (line : List Literal) → ((l : Literal) → holds line l ≡ true → holds line (opposite l) ≡ true → ⊥) → is_tautology line ≡ false
 no_tautology line apart = false_from_ne_true (is_tautology line) (λ h. let r = any_gives (λ l. holds line (opposite l)) line h in apart r.0 r.1 r.2)
 
--- what a value says
-pub value_free : (trues : List Literal) (l : Literal) → literal_value trues l ≡ Unassigned → IsFree trues l
-value_free trues l h =
-    elim (cases_Bool (holds trues (opposite l))) [
-      | inl is_false ↦ let e = ap (λ b. cond b False (cond (holds trues l) True Unassigned)) is_false in let n : False ≡ Unassigned = sym e ∙ h in cc
-      | inr other ↦ elim (cases_Bool (holds trues l)) [
-        | inl is_true ↦
-            let e = ap (λ b. cond b False (cond (holds trues l) True Unassigned)) other in
-            let f = ap (λ b. cond b True Unassigned) is_true in
-            let n : True ≡ Unassigned = sym f ∙ sym e ∙ h in
-            cc
-        | inr free ↦ (free, other)
-      ]
-    ]
-
 pub value_true : (trues : List Literal) (l : Literal) → literal_value trues l ≡ True → holds trues l ≡ true
 value_true trues l h =
     elim (cases_Bool (holds trues l)) [
@@ -140,24 +122,6 @@ value_true trues l h =
             cc
       ]
     ]
-
-pub value_false : (trues : List Literal) (l : Literal) → literal_value trues l ≡ False → holds trues (opposite l) ≡ true
-value_false trues l h =
-    elim (cases_Bool (holds trues (opposite l))) [
-      | inl is_false ↦ is_false
-      | inr other ↦
-          let e = ap (λ b. cond b False (cond (holds trues l) True Unassigned)) other in
-          let n : cond (holds trues l) True Unassigned ≡ False = sym e ∙ h in
-          elim (cases_Bool (holds trues l)) [
-            | inl is_true ↦ let m : True ≡ False = sym (ap (λ b. cond b True Unassigned) is_true) ∙ n in cc
-            | inr free ↦ let m : Unassigned ≡ False = sym (ap (λ b. cond b True Unassigned) free) ∙ n in cc
-          ]
-    ]
-
--- a free literal has no value
-pub free_value : (trues : List Literal) (l : Literal) → IsFree trues l → literal_value trues l ≡ Unassigned
-free_value trues l free =
-    ap (λ b. cond b False (cond (holds trues l) True Unassigned)) free.1 ∙ ap (λ b. cond b True Unassigned) free.0
 
 pub all_give : (p : Literal → Bool) (line : List Literal) (l : Literal) → list_all p line ≡ true → holds line l ≡ true → p l ≡ true
 all_give p [] l all h = absurd (false≢true h)

@@ -1,5 +1,5 @@
 -- Levels are taken back.
-use Rattle.std.proofs.Common.{◌≡◌, ℕ, suc, ◌<◌, ◌≤◌, Bool, true, false, cond, ◌⊎◌, List, [], ◌∷◌, ◌++◌, length, Option, Some, None, IsSome, is_none, zero, slice_get, refl, sym, ◌∙◌, ap, subst, arith}
+use Rattle.std.proofs.Common.{◌≡◌, ℕ, suc, ◌<◌, ◌≤◌, Bool, true, false, cond, List, [], ◌∷◌, ◌++◌, length, Option, Some, None, IsSome, zero, slice_get, refl, sym, ◌∙◌, ap, subst, arith}
 use Rattle.std.proofs.lemmas.Bool.{false≢true, true_from_ne_false}
 use Rattle.std.proofs.lemmas.List.{append_assoc}
 use Rattle.std.proofs.lemmas.Option.{slice_get_within}
@@ -51,9 +51,6 @@ on_jump_level old now new marks inv none room steps =
       kept = λ t on m. subst (λ (xs : List Step). holds (literals_of xs) t ≡ true) (sym steps) (below_marked marks now.steps t none (inv.kept t on m) m);
     }
 
-pub jump_end : (old new : Trailed) (marks : List Bool) → IsOnJump old new marks → ((decision_of new.steps ≡ None) ⊎ (is_level_marked marks new.steps ≡ true)) → IsJump old new marks
-jump_end old new marks inv ended = record { room = inv.room; shrunk = inv.shrunk; kept = inv.kept; ended = ended }
-
 pub jump_both : (old now new : Trailed) (marks : List Bool) → IsOnJump old now marks → IsJump now new marks → IsJump old new marks
 jump_both old now new marks a b = record {
   room = b.room ∙ a.room;
@@ -94,7 +91,3 @@ conflict_of clauses (suc i) trues h = by (slice_get clauses i) refl
 pub is_some_of : {X : Type 0} (o : Option X) → IsSome o → (x : X) × (o ≡ Some x)
 is_some_of None h = absurd (false≢true h)
 is_some_of (Some x) h = (x, refl)
-
-pub none_of : {X : Type 0} (o : Option X) → is_none o ≡ true → o ≡ None
-none_of None h = refl
-none_of (Some x) h = absurd (false≢true h)

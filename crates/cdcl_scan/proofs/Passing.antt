@@ -1,18 +1,17 @@
 -- A pass over the clauses.
-use Rattle.std.proofs.Common.{◌≡◌, ℕ, zero, suc, ◌+◌, ◌<◌, ◌≤◌, Bool, true, false, inl, inr, List, [], ◌∷◌, ◌++◌, take, drop, drop-cons, IfSome, length, get_or, slice_get, Option, None, Some, refl, sym, ◌∙◌, ap, subst, arith, All, length-append, Contains}
-use Rattle.std.specs.List.{list_any}
+use Rattle.std.proofs.Common.{◌≡◌, ℕ, zero, suc, ◌+◌, ◌<◌, ◌≤◌, Bool, true, false, inl, inr, List, [], ◌∷◌, ◌++◌, drop, drop-cons, IfSome, length, get_or, slice_get, Option, None, Some, refl, sym, ◌∙◌, ap, subst, arith, All, length-append}
 use Rattle.std.proofs.lemmas.Bool.{cases_lt}
-use Rattle.std.proofs.lemmas.List.{append_assoc, take_more}
-use Rattle.std.proofs.lemmas.List.Elements.{All-cons, All-append, All-nil, All-get_or, Contains-get_or}
+use Rattle.std.proofs.lemmas.List.{append_assoc}
+use Rattle.std.proofs.lemmas.List.Elements.{All-cons, All-append, All-get_or}
 use Rattle.std.proofs.lemmas.Option.{slice_get-get_or, slice_get_within}
 use Rattle.dq_lits.specs.Literal.{Literal, variable_of}
 use Rattle.dq_lits.specs.Derivation.{LiveClauses, unit, stuck, holds, status_of}
 use Rattle.hint_log.specs.ProductiveLog.{IsClosed}
 use Rattle.oracle.specs.Fit.{live_in}
 use Rattle.cdcl_scan.specs.declared.trails.Step.{Step}
-use Rattle.cdcl_scan.specs.Steps.{Trailed, literals_of, is_decision, IsFree, Grown}
+use Rattle.cdcl_scan.specs.Steps.{Trailed, literals_of, is_decision, Grown}
 use Rattle.cdcl_scan.specs.Sound.{IsSound}
-use Rattle.cdcl_scan.specs.Passes.{AreWithin, IsOpening}
+use Rattle.cdcl_scan.specs.Passes.{AreWithin}
 use Rattle.cdcl_scan.specs.Scanning.{IsScanned, IsPropagating}
 use Rattle.cdcl_scan.proofs.Holding.{holds_cases}
 use Rattle.cdcl_scan.specs.declared.clauses.Run.{Run}
@@ -41,9 +40,6 @@ literal_within room c l all h = by c (λ k lt. All-get_or (λ (x : Literal). var
       | inr later ↦ by xs (λ k lt. at (suc k) (omega arith)) later
     ]
 
-pub grown_none : (xs : List Step) → Grown xs xs
-grown_none xs = record { more = []; is = refl; implied = All-nil (λ s. is_decision s ≡ false) }
-
 pub grown_one : (old new : List Step) (l : Literal) (id : ℕ) → Grown old new → Grown old (implied_step l id ∷ new)
 grown_one old new l id g = record {
   more = implied_step l id ∷ g.more;
@@ -60,16 +56,6 @@ grown_both a b c f g = record {
 
 grown_longer : (old new : List Step) → Grown old new → length old ≤ length new
 grown_longer old new g = omega (arith, ap length g.is, length-append g.more old)
-
-pub scanned_first : (live : LiveClauses) (old : Trailed) (first : ℕ) → IsSound live old.steps → IsScanned live old old true first first
-scanned_first live old first sound = record {
-  room = refl;
-  sound = sound;
-  grown = grown_none old.steps;
-  few = λ h. h;
-  still = λ _. (refl, λ j low lt. absurd (omega (arith, low, lt)));
-  moved = λ h. cc;
-}
 
 pub scanned_unit : (live : LiveClauses) (old now new : Trailed) (quiet : Bool) (first i id : ℕ) (c : List Literal) (l : Literal) → live id ≡ Some c
     → IsScanned live old now quiet first i → status_of (literals_of now.steps) (Some c) ≡ unit l
@@ -221,21 +207,6 @@ propagating_more live old now new inv room sound grown few = record {
   grown = grown_both old.steps now.steps new.steps inv.grown grown;
   few = let n = few inv.few in omega (arith, n, room);
 }
-
-pub closed_at : (clauses : List (List Literal)) (trues c : List Literal) (i : ℕ) → i < length clauses → get_or clauses i c ≡ c → IsClosed (live_in clauses) trues
-    → status_of trues (Some c) ≡ stuck
-closed_at clauses trues c i lt at closed = sym (ap (status_of trues) (clause_read clauses i c lt at)) ∙ closed (suc i)
-
-pub true_more : (trues c : List Literal) (clauses : List (List Literal)) (i : ℕ) → i < length clauses → get_or clauses i c ≡ c → list_any (holds trues) c ≡ true
-    → All (λ d. list_any (holds trues) d ≡ true) (take i clauses) → All (λ d. list_any (holds trues) d ≡ true) (take (i + 1) clauses)
-true_more trues c clauses i lt at here before =
-    let P : List Literal → Type 0 = λ d. list_any (holds trues) d ≡ true in
-    let longer : take (i + 1) clauses ≡ take i clauses ++ c ∷ [] = take_more clauses i c lt ∙ ap (λ x. take i clauses ++ x ∷ []) at in
-    subst (λ (xs : List (List Literal)). All P xs) (sym longer) (All-append P (take i clauses) (c ∷ []) before (All-cons P c [] here (All-nil P)))
-
-pub opening_at : (clauses : List (List Literal)) (trues c : List Literal) (l : Literal) (i : ℕ) → i < length clauses → get_or clauses i c ≡ c → IsFree trues l → holds c l ≡ true
-    → IsOpening clauses trues (Some l)
-opening_at clauses trues c l i lt at free h = (free, c, subst (Contains clauses) at (Contains-get_or clauses i c lt), h)
 
 -- a clause by its id
 pub live_read : (clauses : List (List Literal)) (at : ℕ) (c : List Literal) → live_in clauses (at + 1) ≡ Some c → live_in clauses (suc at) ≡ Some c

@@ -13,7 +13,7 @@ use Rattle.cdcl_scan.specs.Noting.{Noted}
 use Rattle.cdcl_scan.specs.Backing.{IsTrimmed, IsRedundant}
 use Rattle.cdcl_scan.proofs.Holding.{holds_cases, holds_first, holds-append, opposite-opposite, opposite-variable, free_variable, any_gives}
 use Rattle.cdcl_scan.proofs.Lessons.{sound_later}
-use Rattle.cdcl_scan.proofs.Backing.{within_first, within_past, within_hint, within_literal, leads_past_step, leads_resolved, leads_noted, reason_of, reason_at}
+use Rattle.cdcl_scan.proofs.Backing.{within_past, within_hint, within_literal, leads_past_step, leads_resolved, leads_noted, reason_of, reason_at}
 use Rattle.cdcl_scan.proofs.Marking.{turned}
 
 literals-append : (a b : List Step) → literals_of (a ++ b) ≡ literals_of a ++ literals_of b
@@ -54,18 +54,6 @@ other_variable live (d ∷ done) rest s t sound h =
 
 split_more : (steps done rest : List Step) (s : Step) → steps ≡ done ++ s ∷ rest → steps ≡ (done ++ s ∷ []) ++ rest
 split_more steps done rest s is = is ∙ sym (append_assoc done (s ∷ []) rest)
-
-pub trimmed_first : (live : LiveClauses) (steps : List Step) (was : Noted) → IsTrimmed live steps steps was was
-trimmed_first live steps was = record {
-  within = within_first was steps;
-  done = [];
-  split = refl;
-  fewer = λ v m. m;
-  keeps = λ l h. h;
-  has = λ t h m. absurd (false≢true h);
-  only = λ l h. inl h;
-  analysis = λ entries stand first. first;
-}
 
 pub trimmed_past : (live : LiveClauses) (steps rest : List Step) (was now : Noted) (s : Step) → IsTrimmed live steps (s ∷ rest) was now → marked now.marks (variable_of s.literal) ≡ false
     → IsTrimmed live steps rest was now

@@ -54,10 +54,6 @@ decided_assumed entries live assumptions (s ∷ steps) sound guided chosen =
         (λ _. a, assumed_before entries assumptions steps s.literal guided.1 a sound.0.free.0)
     by false e rest = (λ h. absurd (false≢true (sym e ∙ h)), rest (λ d is. chosen d (ap (λ b. cond b (Some s.literal) (decision_of steps)) e ∙ is)))
 
-pub assumed_later : (assumptions : List Literal) (popped steps : List Step) → AreAssumed assumptions (popped ++ steps) → AreAssumed assumptions steps
-assumed_later assumptions [] steps assumed = assumed
-assumed_later assumptions (s ∷ popped) steps assumed = assumed_later assumptions popped steps assumed.1
-
 -- implied steps are guided
 guided_more : (entries : List Entry) (assumptions : List Literal) (more steps : List Step) → All (λ s. is_decision s ≡ false) more → IsGuided entries assumptions steps
     → IsGuided entries assumptions (more ++ steps)
@@ -81,10 +77,6 @@ clauses_in_room held variables room es fit low =
     by : (c : List Literal) → ((l : Literal) → holds c l ≡ true → variable_of l ≤ room) → All (λ l. variable_of l ≤ room) c
     by [] h = All-nil (λ (l : Literal). variable_of l ≤ room)
     by (x ∷ c) h = All-cons (λ (l : Literal). variable_of l ≤ room) x c (h x (holds_first x c)) (by c (λ l m. h l (holds_later x c l m)))
-
-pub all_in_room : (assumptions : List Literal) (room : ℕ) → ((l : Literal) → holds assumptions l ≡ true → variable_of l ≤ room) → All (λ l. variable_of l ≤ room) assumptions
-all_in_room [] room h = All-nil (λ (l : Literal). variable_of l ≤ room)
-all_in_room (x ∷ c) room h = All-cons (λ (l : Literal). variable_of l ≤ room) x c (h x (holds_first x c)) (all_in_room c room (λ l m. h l (holds_later x c l m)))
 
 -- an open literal of a clause
 pub opening_stands : (held : List (List Literal)) (variables : ℕ) (es : List Entry) (trues : List Literal) (l : Literal) → Fit held variables es → IsOpening held trues (Some l) → Stands es l

@@ -51,7 +51,8 @@ fn turn(s: &mut Searcher, assumptions: &[Lit], log: &mut Log) -> Result<Option<F
     requires searching { IsSearching assumptions.now s.old log.old }
     requires few { length s.old.trail.steps ≤ s.old.trail.room }
     requires assumptions { AreAssumptions log.old assumptions.now }
-    ensures ok { IfOk result (λ found. MatchOption found (IsTurn assumptions.now s.old s.new log.old log.new) (λ f. IsFound assumptions.now s.new log.old log.new f)) }
+    ensures ok { IfOk result (λ found. MatchOption found (IsTurn assumptions.now s.old s.new log.old log.new)
+        (λ f. IsFound assumptions.now s.new log.old log.new f)) }
     ensures fit { Fit s.new.clauses.clauses s.new.variables log.new.entries }
     ensures places { KeepsPlaces s.old s.new }
     ensures stop { OnErr result (HasLearned log.old log.new) }
@@ -77,7 +78,8 @@ fn conflict(
     requires few { length s.old.trail.steps ≤ s.old.trail.room }
     requires assumptions { AreAssumptions log.old assumptions.now }
     requires conflict { status_of (literals_of s.old.trail.steps) (live_in s.old.clauses.clauses id) ≡ falsified }
-    ensures ok { IfOk result (λ found. MatchOption found (IsTurn assumptions.now s.old s.new log.old log.new) (λ f. IsFound assumptions.now s.new log.old log.new f)) }
+    ensures ok { IfOk result (λ found. MatchOption found (IsTurn assumptions.now s.old s.new log.old log.new)
+        (λ f. IsFound assumptions.now s.new log.old log.new f)) }
     ensures fit { Fit s.new.clauses.clauses s.new.variables log.new.entries }
     ensures places { KeepsPlaces s.old s.new }
     ensures stop { OnErr result (HasLearned log.old log.new) }
@@ -102,7 +104,8 @@ fn go_on(s: &mut Searcher, assumptions: &[Lit], log: &mut Log) -> Result<Option<
     requires few { length s.old.trail.steps ≤ s.old.trail.room }
     requires closed { IsClosed (live_in s.old.clauses.clauses) (literals_of s.old.trail.steps) }
     requires assumptions { AreAssumptions log.old assumptions.now }
-    ensures ok { IfOk result (λ found. MatchOption found (IsTurn assumptions.now s.old s.new log.old log.new) (λ f. IsFound assumptions.now s.new log.old log.new f)) }
+    ensures ok { IfOk result (λ found. MatchOption found (IsTurn assumptions.now s.old s.new log.old log.new)
+        (λ f. IsFound assumptions.now s.new log.old log.new f)) }
     ensures fit { Fit s.new.clauses.clauses s.new.variables log.new.entries }
     ensures places { KeepsPlaces s.old s.new }
     ensures err { OnErr result (log.new ≡ log.old) }

@@ -1,5 +1,5 @@
 -- Faults of all clauses, one clause after the other.
-use Rattle.std.proofs.Common.{◌≡◌, ℕ, ◌+◌, ◌<◌, true, inl, inr, ◌⊎◌, List, [], ◌∷◌, ◌++◌, length, get_or, None, refl, sym, ◌∙◌, subst, arith}
+use Rattle.std.proofs.Common.{◌≡◌, ℕ, ◌+◌, ◌<◌, true, inl, inr, ◌⊎◌, List, [], ◌∷◌, ◌++◌, length, get_or, None, refl, sym, ◌∙◌, subst}
 use Rattle.std.proofs.lemmas.List.Elements.{Contains-append_right}
 use Rattle.dq_lits.specs.Literal.{Literal, positive, negative, variable_of}
 use Rattle.dq_lits.specs.Formula.{Dqbf}
@@ -10,7 +10,7 @@ use Rattle.hint_log.specs.declared.origins.Origin.TheVariants.{Fault}
 use Rattle.hint_log.specs.Entries.{ProofLog, name_of}
 use Rattle.hint_log.specs.Growth.{Grew}
 use Rattle.log_laws.specs.Engines.{circuits, IsAddedBy}
-use Rattle.log_laws.proofs.Growing.{grown_by_none, grown_then}
+use Rattle.log_laws.proofs.Growing.{grown_then}
 use Rattle.aig_graph.proofs.Staying.{below_or_here}
 use Rattle.circuit_cnf.specs.Faults.{HasFault, HaveFaults, HaveAllFaults, HaveOneLeaf, AreFewWith}
 
@@ -21,15 +21,6 @@ pub record AllSoFar (f : Dqbf) (group : ℕ) (bads : List Literal) (leaf : ℕ �
   pub few : AreFewWith group log.entries
   pub one_leaf : HaveOneLeaf f group leaf log.entries
   pub given : HaveAllFaults f group bads leaf j log.entries
-
-pub none_so_far : (f : Dqbf) (group : ℕ) (bads : List Literal) (leaf : ℕ → Leaf) (old : ProofLog) → AreFewWith group old.entries → HaveOneLeaf f group leaf old.entries → AllSoFar f group bads leaf old old 0
-none_so_far f group bads leaf old few one = record {
-  grew = λ standing start unnamed. grown_by_none (IsAddedBy f circuits standing true start) old old refl;
-  names = λ v. refl;
-  few = few;
-  one_leaf = one;
-  given = λ j below. absurd (omega arith);
-}
 
 pub fault_in_more : (group bad j i : ℕ) (l : Literal) (out : Leaf) (more es : List Entry) → HasFault group bad j i l out es → HasFault group bad j i l out (more ++ es)
 fault_in_more group bad j i l out more es (inl none) = inl none

@@ -18,7 +18,7 @@ use Rattle.hint_log.specs.Origins.{matrix_literal, IsLeafOf}
 use Rattle.log_laws.proofs.Found.{slice_get_at}
 use Rattle.hint_log.specs.ProductiveLog.{fault_groups, with_group}
 use Rattle.log_laws.specs.Engines.{circuits, IsAddedBy}
-use Rattle.log_laws.proofs.Growing.{grown_by_none, grown_then}
+use Rattle.log_laws.proofs.Growing.{grown_then}
 use Rattle.aig_graph.proofs.Staying.{below_or_here}
 use Rattle.circuit_cnf.specs.Faults.{HasFault, HaveFaults, HaveOneLeaf, AreFewWith}
 use Rattle.circuit_cnf.proofs.Giving.{contains_cases, contains_more}
@@ -30,15 +30,6 @@ pub record FaultsSoFar (f : Dqbf) (group bad j : ℕ) (leaf : ℕ → Leaf) (cla
   pub few : AreFewWith group log.entries
   pub one_leaf : HaveOneLeaf f group leaf log.entries
   pub given : HaveFaults f group bad j leaf clause i log.entries
-
-pub no_faults : (f : Dqbf) (group bad j : ℕ) (leaf : ℕ → Leaf) (clause : List Literal) (old : ProofLog) → AreFewWith group old.entries → HaveOneLeaf f group leaf old.entries → FaultsSoFar f group bad j leaf clause old old 0
-no_faults f group bad j leaf clause old few one = record {
-  grew = λ standing start unnamed. grown_by_none (IsAddedBy f circuits standing true start) old old refl;
-  names = λ v. refl;
-  few = few;
-  one_leaf = one;
-  given = λ i l below at. absurd (omega arith);
-}
 
 -- a group counts once
 group_twice : (group : ℕ) (r s : List Literal) (groups : List ℕ) → with_group (negative group ∷ r) (with_group (negative group ∷ s) groups) ≡ with_group (negative group ∷ s) groups

@@ -1,5 +1,5 @@
 -- Literals of gates, one after the other.
-use Rattle.std.proofs.Common.{◌≡◌, ℕ, ◌+◌, ◌≤◌, ◌<◌, Bool, true, false, inl, inr, ◌⊎◌, List, [], ◌∷◌, ◌++◌, map, length, get_or, None, refl, sym, ◌∙◌, ap, subst, arith}
+use Rattle.std.proofs.Common.{◌≡◌, ℕ, ◌+◌, ◌≤◌, ◌<◌, Bool, true, false, inl, inr, ◌⊎◌, List, [], ◌∷◌, ◌++◌, map, length, get_or, None, sym, ◌∙◌, ap, subst, arith}
 use Rattle.std.proofs.lemmas.List.{length-append, get_or_append_left}
 use Rattle.std.proofs.Math.Seq.{get_or-append_seam}
 use Rattle.dq_lits.specs.Literal.{Literal, positive, variable_of}
@@ -15,7 +15,7 @@ use Rattle.hint_log.specs.Growth.{Grew}
 use Rattle.hint_log.specs.Naming.{named_literal}
 use Rattle.hint_log.specs.ProductiveLog.{fault_groups}
 use Rattle.log_laws.specs.Engines.{circuits, IsAddedBy, LeavesRest}
-use Rattle.log_laws.proofs.Growing.{leaves_rest, grown_by_none, grown_then}
+use Rattle.log_laws.proofs.Growing.{leaves_rest, grown_then}
 use Rattle.circuit_cnf.specs.declared.gates.Gates.{Gates}
 use Rattle.oracle.specs.declared.groups.Group.{Group}
 use Rattle.circuit_cnf.specs.Checking.{AreInputs}
@@ -36,21 +36,6 @@ pub record LiteralsSoFar (f : Dqbf) (graph : AigGraph) (inputs : List Literal) (
   pub inputs_are : AreInputs f.universals inputs log.entries
   pub have : HaveLeaves f graph marks literals log.entries
   pub count : length literals ≡ i
-
-pub no_literals : (f : Dqbf) (graph : AigGraph) (inputs : List Literal) (marks : List Bool) (first : Gates) (old : ProofLog) → AreKnown first old.entries → first.unfinished ≡ None → length (fault_groups old.entries) ≤ rounds_of old.entries + 1 →
-    AreInputs f.universals inputs old.entries → LiteralsSoFar f graph inputs marks first old first old [] 0
-no_literals f graph inputs marks first old known ready few inputs_are = record {
-  grew = λ h start. grown_by_none (IsAddedBy h circuits (variable_of first.group.selector) true start) old old refl;
-  group = refl;
-  faults = refl;
-  few = few;
-  bads = λ v group j is. is;
-  known = known;
-  ready = ready;
-  inputs_are = inputs_are;
-  have = λ g below marked. absurd (omega arith);
-  count = refl;
-}
 
 -- what follows one more
 pub record IsNextLiteral (f : Dqbf) (graph : AigGraph) (marks : List Bool) (gates : Gates) (log : ProofLog) (more : Gates) (new : ProofLog) (l : Literal) (i : ℕ) : Type 0 where

@@ -7,7 +7,7 @@ use Rattle.hint_log.specs.declared.origins.Origin.TheVariants.{Gate}
 use Rattle.hint_log.specs.Entries.{ProofLog, with_entry, name_of, rounds_of}
 use Rattle.hint_log.specs.ProductiveLog.{fault_groups}
 use Rattle.log_laws.specs.Engines.{circuits, IsAddedBy}
-use Rattle.log_laws.proofs.Growing.{grown_by, grown_by_none, grown_then}
+use Rattle.log_laws.proofs.Growing.{grown_by, grown_then}
 use Rattle.circuit_cnf.specs.declared.gates.Gates.{Gates}
 use Rattle.circuit_cnf.specs.declared.gates.Unfinished.{Unfinished}
 use Rattle.circuit_cnf.specs.Gates.{IsUnfinished, AreKnown, IsPartGiven, GrewByGates}
@@ -23,18 +23,6 @@ pub record PartsSoFar (first : Gates) (old : ProofLog) (gate : Unfinished) (gate
   pub few : length (fault_groups log.entries) ≤ rounds_of log.entries + 1
   pub known : AreKnown gates log.entries
   pub last : gates.unfinished ≡ Some (record gate { parts = parts })
-
-pub no_parts : (first : Gates) (old : ProofLog) (gate : Unfinished) → AreKnown first old.entries → first.unfinished ≡ Some gate → length (fault_groups old.entries) ≤ rounds_of old.entries + 1 →
-    PartsSoFar first old gate first old gate.parts
-no_parts first old gate known last few = record {
-  grew = λ h start. grown_by_none (IsAddedBy h circuits (variable_of first.group.selector) true start) old old refl;
-  group = refl;
-  names = λ v. refl;
-  faults = refl;
-  few = few;
-  known = known;
-  last = last;
-}
 
 pub part_given : (first : Gates) (old : ProofLog) (gate : Unfinished) (gates : Gates) (log new : ProofLog) (parts : ℕ) → PartsSoFar first old gate gates log parts → parts < 3 →
     IsPartGiven log new (variable_of gates.group.selector) (parts + 1) gate → PartsSoFar first old gate (record gates { unfinished = Some (record gate { parts = parts + 1 }) }) new (parts + 1)

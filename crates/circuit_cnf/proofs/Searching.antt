@@ -122,13 +122,6 @@ few_learned old new g few =
 pub few_answered : (assumptions : List Literal) (old new : ProofLog) (id : ℕ) → IsRefutedUnder old new assumptions id → AreFewFaults old.entries → AreFewFaults new.entries
 few_answered assumptions old new id r few = subst (λ (l : ProofLog). AreFewFaults l.entries) (sym r.answered) (few_learned old r.before r.learned few)
 
--- a group more or none
-pub few_with : (group : ℕ) (es : List Entry) → length (fault_groups es) ≤ rounds_of es → AreFewWith group es
-few_with group es few j i out rest = by (list_any (λ g. same_literal (negative g) (negative group)) (fault_groups es)) where
-  by : (b : Bool) → length (cond b (fault_groups es) (group ∷ fault_groups es)) ≤ rounds_of es + 1
-  by true = omega (arith, few)
-  by false = omega (arith, few)
-
 pub few_without : (group : ℕ) (es : List Entry) → AreFewWith group es → AreFewFaults es
 few_without group es few = by (list_any (λ g. same_literal (negative g) (negative group)) (fault_groups es)) (few 0 0 (Constant false) []) where
   by : (b : Bool) → length (cond b (fault_groups es) (group ∷ fault_groups es)) ≤ rounds_of es + 1 → length (fault_groups es) ≤ rounds_of es + 1

@@ -24,7 +24,7 @@ use Rattle.circuit_cnf.proofs.Leaving.{checker_stays, leaves_elsewhere, group_le
 use Rattle.std.specs.List.{Contains}
 use Rattle.circuit_cnf.proofs.Knowing.{LeavesGates}
 use Rattle.circuit_cnf.proofs.Naming.{NamesStay, name_stays_by}
-use Rattle.circuit_cnf.proofs.Searching.{any_silence, group_grew, learned_grew, answered_grew, few_with}
+use Rattle.circuit_cnf.proofs.Searching.{any_silence, group_grew, learned_grew, answered_grew}
 
 -- a group was made for the turn
 pub record IsGroupMade (f : Dqbf) (checker : Checker) (old log : ProofLog) (group : Group) : Type 0 where
@@ -76,9 +76,6 @@ module _ (f : Dqbf) (checker : Checker) (leaf : ℕ → Leaf) (old first : Proof
   pub group_checker : IsChecker f checker first.entries
   group_checker = checker_stays f checker old.entries first.entries
       (subst (LeavesGates checker.gates old.entries) (sym entries_are) (leaves_elsewhere checker.gates old.entries (Named sel (Selector sel)) (m.unnamed, refl))) m.before
-
-  pub group_few : AreFewWith sel first.entries
-  group_few = subst (AreFewWith sel) (sym entries_are) (few_with sel (Named sel (Selector sel) ∷ old.entries) m.few)
 
   pub group_one_leaf : HaveOneLeaf f sel leaf first.entries
   group_one_leaf j i v out rest inside own =

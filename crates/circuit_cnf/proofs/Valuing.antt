@@ -159,7 +159,7 @@ output_values f graph nodes row lawful count long =
       there y = (outputs_of f graph nodes y).value (row_assignment f row)
 
 pub failure_is : (f : Dqbf) (graph : AigGraph) (nodes : List Node) (row values : List Bool) (j : ℕ) → HasLawfulPrefix f → length nodes ≡ length f.existentials → length row ≡ length f.universals →
-    values ≡ map (node_value graph (bit_of row)) nodes → IsFalseClause f row values j → IsFailure f graph nodes row values j
+    values ≡ map (node_value graph (bit_of row)) nodes → IsFalseClause f row values j → IsFailure f (outputs_of f graph nodes) row values j
 failure_is f graph nodes row values j lawful count long are false_there = record {
   row_length = long;
   values_are = are ∙ output_values f graph nodes row lawful count long;
@@ -169,9 +169,9 @@ failure_is f graph nodes row values j lawful count long are false_there = record
 }
 
 pub failures_refute_rows : FailuresRefuteRows
-failures_refute_rows f graph nodes entries row values j failure untried = record {
+failures_refute_rows f output entries row values j failure untried = record {
   row_length = failure.row_length;
-  values_length = ap length failure.values_are ∙ mapped_long (λ y. (outputs_of f graph nodes y).value (row_assignment f row)) f.existentials;
+  values_length = ap length failure.values_are ∙ mapped_long (λ y. (output y).value (row_assignment f row)) f.existentials;
   untried = untried;
   clause = failure.clause;
   clause_is = failure.clause_is;

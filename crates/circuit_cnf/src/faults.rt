@@ -129,13 +129,18 @@ pub(crate) fn give_fault<O: Oracle>(
     requires leaf { IsLeafOf f.now log.old.entries (variable_of literal) output.now }
     requires bad { name_of log.old.entries (variable_of bad) ≡ Some (Bad (variable_of group.now.selector) clause) }
     requires positive { is_negative bad ≡ false }
-    requires few { (rest : List Literal) → length (fault_groups (Given (Fault clause place output.now) (negative (variable_of group.now.selector) ∷ rest) ∷ log.old.entries)) ≤ rounds_of log.old.entries + 1 }
-    requires one_leaf { (j i v : ℕ) (out : OriginLeaf) (rest : List Literal) → Contains log.old.entries (Given (Fault j i out) (negative (variable_of group.now.selector) ∷ rest))
+    requires few { (rest : List Literal)
+        → length (fault_groups (Given (Fault clause place output.now) (negative (variable_of group.now.selector) ∷ rest) ∷ log.old.entries))
+        ≤ rounds_of log.old.entries + 1 }
+    requires one_leaf { (j i v : ℕ) (out : OriginLeaf) (rest : List Literal)
+        → Contains log.old.entries (Given (Fault j i out) (negative (variable_of group.now.selector) ∷ rest))
         → option_map variable_of (matrix_literal f.now j i) ≡ Some v → v ≡ variable_of literal → out ≡ output.now }
     ensures fit { O.Fits oracle.new log.new }
     ensures grew { GrewByGroup f.now (variable_of group.now.selector) log.old log.new }
     ensures given { OnOk result (HasFault (variable_of group.now.selector) (variable_of bad) clause place literal output.now log.new.entries) }
-    ensures at_most { (log.new ≡ log.old) ⊎ ((rest : List Literal) × (log.new ≡ with_entry log.old (Given (Fault clause place output.now) (negative (variable_of group.now.selector) ∷ rest)))) }
+    ensures at_most { (log.new ≡ log.old)
+        ⊎ ((rest : List Literal)
+        × (log.new ≡ with_entry log.old (Given (Fault clause place output.now) (negative (variable_of group.now.selector) ∷ rest)))) }
 {
     match signed_leaf(output, !literal.is_neg()) {
         Leaf::Constant(true) => Ok(()),
@@ -196,7 +201,8 @@ pub(crate) fn clause_faults<O: Oracle>(
     ensures names { (v : ℕ) → name_of log.new.entries v ≡ name_of log.old.entries v }
     ensures few { AreFewWith (variable_of group.now.selector) log.new.entries }
     ensures one_leaf { HaveOneLeaf f.now (variable_of group.now.selector) (leaf_of f.now inputs.now outputs.now) log.new.entries }
-    ensures given { OnOk result (HaveFaults f.now (variable_of group.now.selector) (variable_of bad) (j + 1) (leaf_of f.now inputs.now outputs.now) (slice_index_or f.now.matrix j [])
+    ensures given { OnOk result (HaveFaults f.now (variable_of group.now.selector) (variable_of bad) (j + 1)
+        (leaf_of f.now inputs.now outputs.now) (slice_index_or f.now.matrix j [])
         (length (slice_index_or f.now.matrix j [])) log.new.entries) }
 {
     f.every_formula_is_lawful();
@@ -256,7 +262,8 @@ pub(crate) fn all_faults<O: Oracle>(
     ensures names { (v : ℕ) → name_of log.new.entries v ≡ name_of log.old.entries v }
     ensures few { AreFewWith (variable_of group.now.selector) log.new.entries }
     ensures one_leaf { HaveOneLeaf f.now (variable_of group.now.selector) (leaf_of f.now inputs.now outputs.now) log.new.entries }
-    ensures given { OnOk result (HaveAllFaults f.now (variable_of group.now.selector) bads.now (leaf_of f.now inputs.now outputs.now) (length f.now.matrix) log.new.entries) }
+    ensures given { OnOk result (HaveAllFaults f.now (variable_of group.now.selector) bads.now
+        (leaf_of f.now inputs.now outputs.now) (length f.now.matrix) log.new.entries) }
 {
     for j in 0..f.clauses() {
         clause_faults(oracle, group, f, inputs, outputs, bads[j], j, log)?;
@@ -278,7 +285,8 @@ pub(crate) fn some_fault<O: Oracle>(
     requires few { AreFewWith (variable_of group.now.selector) log.old.entries }
     ensures fit { O.Fits oracle.new log.new }
     ensures grew { GrewByGroup f.now (variable_of group.now.selector) log.old log.new }
-    ensures ok { OnOk result (log.new ≡ with_entry log.old (Given (Fault 0 0 (OriginLeaf.Constant false)) (negative (variable_of group.now.selector) ∷ bads.now))) }
+    ensures ok { OnOk result (log.new ≡ with_entry log.old
+        (Given (Fault 0 0 (OriginLeaf.Constant false)) (negative (variable_of group.now.selector) ∷ bads.now))) }
     ensures err { OnErr result (log.new ≡ log.old) }
 {
     let _ = f.clauses();

@@ -15,7 +15,7 @@ use std::collections::BTreeMap;
 
 /// The gates that were given to the oracle, by their sides.
 #[derive(Debug, Drop)]
-pub struct Gates {
+pub(crate) struct Gates {
     pub(crate) group: Group,
     pub(crate) variables: BTreeMap<(u64, u64), u64>,
     // The gate that was named last, where memory was refused before it had all its clauses.
@@ -24,7 +24,7 @@ pub struct Gates {
 
 /// A gate that was named, and how many of its clauses were given.
 #[derive(Clone, Copy, Debug)]
-pub struct Unfinished {
+pub(crate) struct Unfinished {
     pub(crate) left: Lit,
     pub(crate) right: Lit,
     pub(crate) variable: u64,

@@ -2,7 +2,6 @@
 #![tactic(auto)]
 
 pub use checkers::Checker;
-pub use gates::Gates;
 pub use turns::Turn;
 
 mod checkers;

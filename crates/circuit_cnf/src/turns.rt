@@ -63,7 +63,8 @@ impl Checker {
         ensures few { length (fault_groups log.new.entries) ≤ rounds_of log.new.entries + 1 }
         ensures holds { (id : ℕ) → result ≡ Ok (Turn.Holds id) → HoldEverywhere f.now (outputs_of f.now graph.now outputs.now) }
         ensures shown { (id : ℕ) → result ≡ Ok (Turn.Holds id) → IsShownBy f.now graph.now outputs.now log.new.entries id }
-        ensures fails { (row values : List Bool) (j : ℕ) → result ≡ Ok (Turn.Fails row values j) → IsFailure f.now graph.now outputs.now row values j }
+        ensures fails { (row values : List Bool) (j : ℕ) → result ≡ Ok (Turn.Fails row values j)
+            → IsFailure f.now (outputs_of f.now graph.now outputs.now) row values j }
         ensures limit { IsErrOf result Stop.Limit → steps_of log.new.entries ≡ log.new.limit }
     {
         shown_outputs_hold();
@@ -128,13 +129,15 @@ impl Checker {
         requires ready { self.now.gates.unfinished ≡ None }
         requires formula { IsWellFormed f.now }
         requires output_count { length leaves.now ≡ length f.now.existentials }
-        requires leaves { (v : ℕ) → Contains (declared f.now) v → IsLeafOf f.now log.old.entries v (leaf_of f.now self.now.inputs.items leaves.now v) }
+        requires leaves { (v : ℕ) → Contains (declared f.now) v
+            → IsLeafOf f.now log.old.entries v (leaf_of f.now self.now.inputs.items leaves.now v) }
         requires few { length (fault_groups log.old.entries) ≤ rounds_of log.old.entries }
         ensures fit { O.Fits oracle.new log.new }
         ensures checker { IsChecker f.now self.now log.new.entries }
         ensures grew { Grew (IsAddedBy f.now circuits (group_of self.now) (is_silent_search result) log.old.entries) log.old log.new }
         ensures few { length (fault_groups log.new.entries) ≤ rounds_of log.new.entries + 1 }
-        ensures held { (id : ℕ) → result ≡ Ok (Some id) → IsHeldBy f.now (leaf_of f.now self.now.inputs.items leaves.now) log.old.entries log.new.entries id }
+        ensures held { (id : ℕ) → result ≡ Ok (Some id)
+            → IsHeldBy f.now (leaf_of f.now self.now.inputs.items leaves.now) log.old.entries log.new.entries id }
         ensures told { result ≡ Ok None → O.is_told oracle.new ≡ true }
         ensures failing { result ≡ Ok None → AreFailing f.now (leaf_of f.now self.now.inputs.items leaves.now) log.old.entries (O.values oracle.new) }
         ensures limit { IsErrOf result Stop.Limit → steps_of log.new.entries ≡ log.new.limit }
@@ -164,7 +167,7 @@ impl Checker {
         requires a_node_an_existential { length outputs.now ≡ length f.now.existentials }
         requires failing { HasFalseClause f.now (map (λ l. O.values oracle.now (variable_of l)) self.now.inputs.items)
             (map (node_value graph.now (bit_of (map (λ l. O.values oracle.now (variable_of l)) self.now.inputs.items))) outputs.now) }
-        ensures { IfOk result (IsFailing f.now graph.now outputs.now) }
+        ensures { IfOk result (IsFailing f.now (outputs_of f.now graph.now outputs.now)) }
     {
         let row = input_row(self.alloc, oracle, &self.inputs)?;
         let values = self.output_values(graph, outputs, &row)?;

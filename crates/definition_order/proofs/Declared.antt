@@ -1,5 +1,5 @@
 -- Existentials by their variables and by their places.
-use Rattle.std.proofs.Common.{◌≡◌, ℕ, suc, ◌+◌, ◌<◌, ◌==◌, Bool, true, false, cond, List, [], ◌∷◌, ◌++◌, map, length, get_or, slice_get, Option, None, Some, IsSome, IfSome, position, refl, sym, ◌∙◌, ap, subst, inl, inr, arith, eq-eqb, length-append}
+use Rattle.std.proofs.Common.{◌≡◌, ℕ, suc, ◌+◌, ◌<◌, ◌==◌, Bool, true, false, cond, List, [], ◌∷◌, ◌++◌, map, length, get_or, slice_get, Option, None, Some, IsSome, position, refl, sym, ◌∙◌, ap, subst, inl, inr, arith, eq-eqb, length-append}
 use Rattle.std.specs.List.{All, Contains, find, position_or_len}
 use Rattle.std.proofs.lemmas.Bool.{cases_lt, eqb-true, ne_eqb}
 use Rattle.std.proofs.lemmas.List.{get_or-append-add, get_or-map, length-map}
@@ -36,9 +36,6 @@ some_existential f v P is use_it = by (existential_of f v) refl is
     by : (o : Option Existential) → existential_of f v ≡ o → IsSome o → P
     by None e h = cc
     by (Some y) e h = use_it y e
-
-pub seen_is : (f : Dqbf) (v : ℕ) (xs : List ℕ) (y : Existential) → existential_of f v ≡ Some y → IfSome (existential_of f v) (λ z. xs ≡ z.sees) → xs ≡ y.sees
-seen_is f v xs y found h = subst (λ o. IfSome o (λ z. xs ≡ z.sees)) found h
 
 pub sees_universals : (f : Dqbf) → IsLawful f → (v : ℕ) (y : Existential) → existential_of f v ≡ Some y → All (Contains f.universals) y.sees
 sees_universals f lawful v y found = All-contains (λ z. All (Contains f.universals) z.sees) f.existentials y lawful.prefix.sees_universals (find_sound v f.existentials y found).0

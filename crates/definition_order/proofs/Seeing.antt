@@ -1,5 +1,5 @@
 -- Which universals are seen.
-use Rattle.std.proofs.Common.{◌≡◌, ℕ, ◌+◌, ◌≤◌, ◌<◌, Bool, true, false, List, length, take, get_or, Some, IsTrue, IfSome, refl, sym, ◌∙◌, subst, arith, get_or-take}
+use Rattle.std.proofs.Common.{◌≡◌, ℕ, ◌+◌, ◌≤◌, ◌<◌, Bool, true, List, length, take, get_or, Some, IsTrue, IfSome, refl, sym, ◌∙◌, subst, arith, get_or-take}
 use Rattle.std.specs.Prelude.{◌↔◌}
 use Rattle.std.specs.List.{All, Contains}
 use Rattle.std.proofs.lemmas.List.{length-take, take_more, take_all, get_or_default}
@@ -30,10 +30,6 @@ sees_more f y xs i seen before below tells is = record {
 
 pub sees_whole : (f : Dqbf) (y : ℕ) (xs : List ℕ) (i : ℕ) → SeesFirst f y xs i → length xs ≤ i → (e : Existential) → existential_of f y ≡ Some e → (IsTrue true ↔ All (Contains e.sees) xs)
 sees_whole f y xs i all past e known = ((λ t. subst (All (Contains e.sees)) (take_all i xs past) (all.each e known)), (λ h. refl))
-
-pub not_all_seen : (f : Dqbf) (y : ℕ) (xs : List ℕ) (i : ℕ) (seen : Bool) → i < length xs → IfSome (existential_of f y) (λ e. IsTrue seen ↔ Contains e.sees (get_or xs i 0))
-    → seen ≡ false → (e : Existential) → existential_of f y ≡ Some e → (IsTrue false ↔ All (Contains e.sees) xs)
-not_all_seen f y xs i seen below tells is e known = ((λ t. cc), (λ h. sym is ∙ (subst (λ o. IfSome o (λ z. IsTrue seen ↔ Contains z.sees (get_or xs i 0))) known tells).1 (h i 0 below)))
 
 -- the universals that are seen, by the sets
 pub seen_as : (f : Dqbf) (y : ℕ) (xs : List ℕ) → IfSome (existential_of f y) (λ z. xs ≡ z.sees) → (e : Existential) → existential_of f y ≡ Some e → xs ≡ e.sees

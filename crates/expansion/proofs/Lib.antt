@@ -2,10 +2,10 @@ mod Looking
 mod Beginning
 mod Refuting
 mod Modelling
-mod Pointing
+pub mod Pointing
 mod Writing
 mod Told
-mod Firsts
+pub mod Firsts
 mod Adding
 mod TrueUniversals
 mod Arbiting

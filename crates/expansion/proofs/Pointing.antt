@@ -27,7 +27,7 @@ same_sign a m p (positive v) (negative w) e h = absurd (true≢false (sym e))
 same_sign a m p (negative v) (positive w) e h = absurd (true≢false e)
 same_sign a m p (negative v) (negative w) e h = ap not h
 
-find_own : (ys : List Existential) (k : ℕ) (d : Existential) → k < length ys → AllPairs (λ v w. v ≢ w) (map variable ys) →
+pub find_own : (ys : List Existential) (k : ℕ) (d : Existential) → k < length ys → AllPairs (λ v w. v ≢ w) (map variable ys) →
     find (λ z. z.variable == (get_or ys k d).variable) ys ≡ Some (get_or ys k d)
 find_own [] k d below once = absurd (omega arith)
 find_own (y ∷ ys) zero d below once = cond-true (y.variable == y.variable) (Some y) _ (eq-eqb y.variable y.variable refl)

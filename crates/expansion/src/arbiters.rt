@@ -55,10 +55,12 @@ impl Table {
     ) -> Result<u64, Memory>
         requires fit { O.Fits oracle.old log.old }
         requires place { place < length self.now.existentials }
-        requires adding { (f : Dqbf) × IsWellFormed f × IsAdding f self.now row.now place 0 log.old.entries × IsFirstRow f self.now.rows row.now place first }
+        requires adding { (f : Dqbf) × IsWellFormed f × IsAdding f self.now row.now place 0 log.old.entries
+            × IsFirstRow f self.now.rows row.now place first }
         ensures fit { O.Fits oracle.new log.new }
         ensures err { OnErr result (log.new ≡ log.old) }
-        ensures named { (f : Dqbf) → IsWellFormed f → IsAdding f self.now row.now place 0 log.old.entries → IsFirstRow f self.now.rows row.now place first
+        ensures named { (f : Dqbf) → IsWellFormed f → IsAdding f self.now row.now place 0 log.old.entries
+            → IsFirstRow f self.now.rows row.now place first
             → IfOk result (λ v. IsNamedNext f self.now row.now place v log.old log.new) }
     {
         if first < self.pairs.len() {

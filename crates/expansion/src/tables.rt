@@ -204,7 +204,8 @@ impl Table {
         ensures point_rows { (points : PointState) → result ≡ Ok (Exp.Model points) → length points.rows ≡ length self.old.rows }
         ensures model { (f : Dqbf) (points : PointState) → IsFullTable f self.old log.old.entries → result ≡ Ok (Exp.Model points)
             → ArePoints f self.old.rows (point_bits points) }
-        ensures refuted { (f : Dqbf) (id : ℕ) → IsFullTable f self.old log.old.entries → result ≡ Ok (Exp.Refuted id) → IsExpansionUnsatisfiable f self.old.rows }
+        ensures refuted { (f : Dqbf) (id : ℕ) → IsFullTable f self.old log.old.entries → result ≡ Ok (Exp.Refuted id)
+            → IsExpansionUnsatisfiable f self.old.rows }
         ensures shown { (id : ℕ) → result ≡ Ok (Exp.Refuted id) → IsRefutedBy log.new.entries id }
         ensures limit { IsErrOf result Stop.Limit → steps_of log.new.entries ≡ log.new.limit }
     {

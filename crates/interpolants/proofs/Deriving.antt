@@ -1,6 +1,5 @@
 -- Entries that are derived one by one are derived by the clauses of the whole log.
-use Rattle.std.proofs.Common.{◌≡◌, ℕ, ◌+◌, ◌==◌, Bool, true, false, ◌&&◌, cond, inl, inr, List, [], ◌∷◌, Some, None, sym, ◌∙◌, ap, subst}
-use Rattle.std.specs.List.{Contains}
+use Rattle.std.proofs.Common.{◌≡◌, ℕ, ◌+◌, ◌==◌, ◌&&◌, cond, inl, inr, List, [], ◌∷◌, Some, None, sym, ◌∙◌, ap, subst}
 use Rattle.std.specs.Option.{option_and_then}
 use Rattle.std.proofs.lemmas.Bool.{cases_Bool}
 use Rattle.dq_lits.specs.Literal.{Literal}
@@ -8,7 +7,7 @@ use Rattle.dq_lits.specs.Derivation.{IsDerived}
 use Rattle.hint_log.specs.Conditions.{IsId, AreIds, AreLogged}
 use Rattle.hint_log.specs.Entries.{Entry}
 use Rattle.hint_log.specs.Entries.{Named, Given, Learned, Answer, Round}
-use Rattle.hint_log.specs.Entries.{has_id, last_id, numbered, clause_of, hints_of, origin_of, clause_at, hints_at, origin_at}
+use Rattle.hint_log.specs.Entries.{has_id, last_id, numbered, clause_of, hints_of, origin_of, clause_at, hints_at}
 use Rattle.hint_log.specs.Growth.{Each}
 use Rattle.hint_log.specs.ProductiveLog.{IsDerivedByHints}
 use Rattle.hint_log.specs.Reached.{Reaches, itself, by_hint}

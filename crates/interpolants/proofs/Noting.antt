@@ -1,5 +1,5 @@
 -- Partial interpolants, noted id by id.
-use Rattle.std.proofs.Common.{◌≡◌, ℕ, ◌+◌, ◌==◌, ◌<◌, ◌≤◌, Bool, cond, inl, inr, List, map, length, get_or, Some, Contains, refl, sym, ◌∙◌, ap, subst, arith}
+use Rattle.std.proofs.Common.{◌≡◌, ℕ, ◌+◌, ◌==◌, ◌<◌, ◌≤◌, Bool, cond, inl, inr, List, map, length, get_or, Some, Contains, refl, ◌∙◌, ap, subst, arith}
 use Rattle.std.specs.List.{AllPairs}
 use Rattle.std.proofs.lemmas.List.{get_or_default}
 use Rattle.std.proofs.lemmas.List.Kept.{AllPairs-from_increasing}
@@ -12,18 +12,12 @@ use Rattle.aig_graph.specs.declared.nodes.Node.{Node}
 use Rattle.interpolants.specs.Interpolant.{Partition, node_of, AreNodes}
 use Rattle.interpolants.specs.Parts.{IsPartOf, HasPart, AreNoted}
 use Rattle.interpolants.proofs.Interpolating.{part_kept, nodes_after}
-use Rattle.interpolants.proofs.Steps.{extends_same, extends_both}
+use Rattle.interpolants.proofs.Steps.{extends_both}
 
 -- those of the first ids
 pub record AreSomeNoted (q : Partition) (local : ℕ → Bool) (initial g : AigGraph) (ids : List ℕ) (i : ℕ) (notes : List (ℕ × Node)) : Type 0 where
   pub extends : Extends initial g
   pub parts : (k : ℕ) → k < i → k < length ids → HasPart q local g notes (get_or ids k 0)
-
-pub none_noted : (q : Partition) (local : ℕ → Bool) (g : AigGraph) (ids : List ℕ) (notes : List (ℕ × Node)) → AreSomeNoted q local g g ids 0 notes
-none_noted q local g ids notes = record { extends = extends_same g; parts = λ k lt. absurd (no_less k lt) }
-  where
-    no_less : (k : ℕ) → k < 0 → ⊥
-    no_less k lt = omega (arith, lt)
 
 -- each id is below the later ones
 rises : (ids : List ℕ) → AllPairs (λ x y. x < y) ids → (i k : ℕ) → i < k → k < length ids → get_or ids i 0 < get_or ids k 0

@@ -74,7 +74,8 @@ fn resolve(
     requires parts { HaveParts (split log.now.entries id side.now shared.now) (locals side.now shared.now) graph.old notes.now hints.now }
     requires replay { IsReplay (clause_at log.now.entries) (map opposite clause.now) hints.now chain.old last }
     ensures extends { Extends graph.old graph.new }
-    ensures part { IfOk result (IsPart (split log.now.entries id side.now shared.now) (locals side.now shared.now) graph.new (map opposite clause.now)) }
+    ensures part { IfOk result
+        (IsPart (split log.now.entries id side.now shared.now) (locals side.now shared.now) graph.new (map opposite clause.now)) }
 {
     let mut node = notes.at(last);
     while let Some(link) = chain.pop() {

@@ -1,25 +1,23 @@
 -- What a search leaves and shows.
-use Rattle.std.proofs.Common.{◌≡◌, ◌≢◌, ℕ, zero, suc, ◌+◌, ◌<◌, ◌==◌, Bool, true, false, ◌||◌, List, [], ◌∷◌, ◌++◌, map, length, get_or, Option, Some, IsSome, slice_get, refl, sym, ◌∙◌, ap, subst, arith}
+use Rattle.std.proofs.Common.{◌≡◌, ◌≢◌, ℕ, zero, suc, ◌+◌, ◌<◌, Bool, true, false, List, [], ◌∷◌, ◌++◌, map, length, get_or, Some, IsSome, slice_get, refl, sym, ◌∙◌, ap, subst, arith}
 use Rattle.std.specs.List.{All, Contains}
-use Rattle.std.proofs.lemmas.Bool.{ne_eqb}
 use Rattle.std.proofs.lemmas.List.{get_or_default}
 use Rattle.std.proofs.lemmas.List.Elements.{All-cons, All-nil, Contains-get_or, Contains-append_right}
 use Rattle.std.proofs.lemmas.Option.{slice_get_within, slice_get-get_or}
-use Rattle.dq_lits.specs.Literal.{Literal, positive, negative, variable_of, is_negative, opposite}
-use Rattle.dq_lits.specs.Derivation.{is_tautology}
+use Rattle.dq_lits.specs.Literal.{Literal, variable_of, opposite}
 use Rattle.dq_lits.specs.Formula.{Dqbf, Existential, existential_of, declared}
 use Rattle.definition_order.specs.Order.{MayRead}
 use Rattle.hint_log.specs.Conditions.{IsId, AreLogged}
 use Rattle.hint_log.specs.Entries.{Entry, Named, Given, Learned, Answer, Round, ProofLog, has_id, numbered, last_id, name_of}
 use Rattle.hint_log.specs.Deciding.{DecidesNothing}
 use Rattle.hint_log.specs.Growth.{EachOf, Grew}
-use Rattle.hint_log.specs.Naming.{named_literal, name_literal, is_selector_name}
+use Rattle.hint_log.specs.Naming.{named_literal, name_literal}
 use Rattle.hint_log.specs.Reached.{Reaches}
 use Rattle.hint_log.specs.declared.names.Name.{Name}
 use Rattle.hint_log.specs.declared.names.Name.TheVariants.{Copy as CopyOf}
 use Rattle.log_laws.specs.Engines.{copies, IsAddedBy}
 use Rattle.log_laws.proofs.Found.{named_variable}
-use Rattle.oracle.specs.Calls.{IsMade, IsPlain, IsLearnedEntry, IsRefutedUnder, assumed}
+use Rattle.oracle.specs.Calls.{IsMade, IsLearnedEntry, IsRefutedUnder, assumed}
 use Rattle.oracle.specs.Searched.{IsSearched}
 use Rattle.oracle.specs.declared.groups.Group.{Group}
 use Rattle.oracle.specs.declared.oracles.Answer.{Answer as AnswerOf}
@@ -32,7 +30,7 @@ use Rattle.padoa_definitions.proofs.Keeping.{Keeps, NamesStay, IsNamed, keeps_by
 use Rattle.padoa_definitions.proofs.Standing.{groups_named}
 use Rattle.padoa_definitions.proofs.Reached.{LinesAreImplied, undecided_answer}
 use Rattle.padoa_definitions.proofs.Dividing.{divides, only_copies}
-use Rattle.padoa_definitions.proofs.SeenPlaces.{find_sound, some_existential}
+use Rattle.definition_order.proofs.Declared.{find_sound, some_existential}
 
 each_weaker : (P Q : List Entry → Entry → Type 0) → ((earlier : List Entry) (e : Entry) → P earlier e → Q earlier e) → (more old : List Entry) → EachOf P more old → EachOf Q more old
 each_weaker P Q weaker [] old h = tt
@@ -74,36 +72,6 @@ padoa_learned f p old new grew padoa = padoa_stays f (IsNamed old.entries) old.e
 
 all_plain : (xs : List ℕ) → All (λ x. Unit {0}) xs
 all_plain xs i d lt = tt
-
--- what is asked of the existential's copies
-pub copies_plain : (es : List Entry) (y : ℕ) (one other : Literal) → name_literal es one ≡ Some (named_literal (CopyOf 1 y) false) → name_literal es other ≡ Some (named_literal (CopyOf 2 y) false) →
-    All (IsPlain es) (one ∷ opposite other ∷ [])
-copies_plain es y one other one_is other_is =
-    let a = named_variable es one (CopyOf 1 y) false (name_of es (variable_of one)) refl one_is in
-    let b = named_variable es other (CopyOf 2 y) false (name_of es (variable_of other)) refl other_is in
-    let other_named : name_of es (variable_of (opposite other)) ≡ Some (CopyOf 2 y) = ap (name_of es) (same_variable other) ∙ b.0 in
-    All-cons (IsPlain es) one (opposite other ∷ []) (record { named = subst IsSome (sym a.0) refl; no_selector = ap is_selector_name a.0 })
-    (All-cons (IsPlain es) (opposite other) [] (record { named = subst IsSome (sym other_named) refl; no_selector = ap is_selector_name other_named }) (All-nil (IsPlain es)))
-  where
-    same_variable : (l : Literal) → variable_of (opposite l) ≡ variable_of l
-    same_variable (positive v) = refl
-    same_variable (negative v) = refl
-
-copies_differ : (o : Option Name) (x y : ℕ) → o ≡ Some (CopyOf 1 x) → o ≡ Some (CopyOf 2 y) → ⊥
-copies_differ o x y a b = let e : Some (CopyOf 1 x) ≡ Some (CopyOf 2 y) = sym a ∙ b in cc
-
-pub copies_apart : (es : List Entry) (y : ℕ) (one other : Literal) → name_literal es one ≡ Some (named_literal (CopyOf 1 y) false) → name_literal es other ≡ Some (named_literal (CopyOf 2 y) false) →
-    is_tautology (one ∷ opposite other ∷ []) ≡ false
-copies_apart es y one other one_is other_is =
-    let a = named_variable es one (CopyOf 1 y) false (name_of es (variable_of one)) refl one_is in
-    let b = named_variable es other (CopyOf 2 y) false (name_of es (variable_of other)) refl other_is in
-    by one other a.1 b.1 (λ same. copies_differ (name_of es (variable_of one)) y y a.0 (ap (name_of es) same ∙ b.0))
-  where
-    by : (k l : Literal) → is_negative k ≡ false → is_negative l ≡ false → (variable_of k ≡ variable_of l → ⊥) → is_tautology (k ∷ opposite l ∷ []) ≡ false
-    by (positive v) (positive w) k l apart =
-        ap (λ b. (b || false) || ((w == v || (false || false)) || false)) (ne_eqb v w apart) ∙ ap (λ b. (b || (false || false)) || false) (ne_eqb w v (λ same. apart (sym same)))
-    by (positive v) (negative w) k l apart = cc
-    by (negative v) l k m apart = cc
 
 pub places_within : (f : Dqbf) (p : Padoa) (es : List Entry) (y : ℕ) (places : List ℕ) → IsPadoa f p es → IsSome (existential_of f y) →
     ((e : Existential) → existential_of f y ≡ Some e → ArePlaces (declared f) (MayRead f e) places) → All (λ k. k < length p.links.items) places

@@ -19,7 +19,7 @@ use Rattle.padoa_definitions.specs.Copies.{AreCopiesOf, copies_of}
 use Rattle.padoa_definitions.specs.Seeing.{ArePlaces}
 use Rattle.padoa_definitions.specs.declared.copies.MatrixCopy.{MatrixCopy}
 use Rattle.padoa_definitions.proofs.Copying.{element_at, named_length}
-use Rattle.padoa_definitions.proofs.SeenPlaces.{find_sound}
+use Rattle.definition_order.proofs.Declared.{find_sound}
 
 any_inside : (q : ℕ) (xs : List ℕ) → list_any (eqb q) xs ≡ true → Contains xs q
 any_inside q [] h = cc

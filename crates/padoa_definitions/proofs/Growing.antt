@@ -2,7 +2,7 @@
 use Rattle.std.proofs.Common.{◌≡◌, ◌≢◌, ◌⊎◌, ℕ, suc, ◌+◌, ◌≤◌, ◌==◌, Bool, true, false, cond, inl, inr, List, [], ◌∷◌, map, length, Option, Some, None, IsSome, slice_get, refl, sym, ◌∙◌, ap, subst, arith}
 use Rattle.std.specs.List.{All, AllPairs, Contains}
 use Rattle.std.proofs.lemmas.List.{length-append, get_or_append_left, get_or-append-add}
-use Rattle.std.proofs.lemmas.List.Elements.{All-head, All-cons, Contains-append_left, Contains-append_right}
+use Rattle.std.proofs.lemmas.List.Elements.{All-head, All-cons, Contains-append_right}
 use Rattle.std.proofs.lemmas.Option.{slice_get_within}
 use Rattle.std.proofs.lemmas.Bool.{eq-eqb, cases_lt}
 use Rattle.dq_lits.specs.Literal.{Literal, positive, negative, variable_of, is_negative, opposite}
@@ -279,9 +279,6 @@ module _ (f : Dqbf) (side : ℕ) (old first second : ProofLog) (lawful : HasLawf
       let whole = length-append f.universals ys in
       lawful.declared_once i (length f.universals + j) x (omega (arith, i_lt)) (omega (arith, j_lt, whole))
       (get_or_append_left f.universals ys x i i_lt ∙ i_at ∙ sym (get_or-append-add f.universals ys j x ∙ j_at))
-
-  pub universals_fresh : AreUncopied side f.universals old.entries
-  universals_fresh v x among is = uncopied v x (Contains-append_left f.universals ys x among) is
 
   pub existentials_fresh : AreUncopied side ys first.entries
   existentials_fresh v x among is = elim (first_only.names v (CopyOf side x) is) [

@@ -16,7 +16,7 @@ use Rattle.log_laws.proofs.Growing.{each_grown, name_kept}
 use Rattle.oracle.specs.Calls.{IsMade}
 use Rattle.oracle.specs.declared.groups.Group.{Group}
 use Rattle.padoa_definitions.specs.Copies.{IsGroupGiven, IsGivenIn, IsMatrixCopy, IsLink, IsPadoa, group_variable, groups_of}
-use Rattle.padoa_definitions.specs.Growing.{GrewAnew, GrewIn}
+use Rattle.padoa_definitions.specs.Growing.{GrewAnew}
 use Rattle.padoa_definitions.specs.declared.copies.MatrixCopy.{MatrixCopy}
 use Rattle.padoa_definitions.specs.declared.padoa.Padoa.{Padoa}
 
@@ -84,9 +84,6 @@ keeps_anew f old new grew =
       contains = (by 0).contains;
       groups = λ test mine named. (by (mine + 1)).groups test mine (next_differs mine, named);
     }
-
-pub keeps_in : (f : Dqbf) (group : ℕ) (old new : ProofLog) → GrewIn f group old new → Keeps f (λ mine. (mine ≢ group) × IsNamed old.entries mine) old.entries new.entries
-keeps_in f group old new grew = keeps_by_engine f copies group true old new (grew group old.entries (inl refl))
 
 -- entries that neither name nor give
 pub keeps_entry : (f : Dqbf) (e : Entry) (es : List Entry) → NamesStay es (e ∷ es) → ((test : Origin → Bool) (mine : ℕ) → IsGroupGiven f test mine es e) →

@@ -1,32 +1,14 @@
 -- The places of what an existential sees, one by one.
-use Rattle.std.proofs.Common.{◌≡◌, ℕ, zero, suc, ◌+◌, ◌≤◌, ◌==◌, Bool, true, false, cond, inl, inr, List, [], ◌∷◌, ◌++◌, length, slice_get, Option, Some, None, IsSome, IfSome, refl, sym, ◌∙◌, ap, subst, arith}
-use Rattle.std.specs.List.{All, Contains, find}
-use Rattle.std.proofs.lemmas.Bool.{eqb-true, cases_lt}
-use Rattle.std.proofs.lemmas.List.Elements.{All-contains, Contains-append_left, Contains-push, Contains-append_cases}
+use Rattle.std.proofs.Common.{◌≡◌, ℕ, zero, suc, ◌+◌, ◌≤◌, inl, inr, List, [], ◌∷◌, ◌++◌, length, slice_get, Some, IsSome, IfSome, sym, ◌∙◌, ap, subst, arith}
+use Rattle.std.specs.List.{All, Contains}
+use Rattle.std.proofs.lemmas.Bool.{cases_lt}
+use Rattle.std.proofs.lemmas.List.Elements.{Contains-append_left, Contains-push, Contains-append_cases}
 use Rattle.std.proofs.lemmas.Option.{slice_get-get_or}
 use Rattle.dq_lits.specs.Formula.{Existential, Dqbf, existential_of}
 use Rattle.dq_formula.specs.Prefix.{IsLawful}
+use Rattle.definition_order.proofs.Declared.{sees_universals, some_existential}
 use Rattle.padoa_definitions.specs.Seeing.{ArePlaces, ArePlacesSoFar}
 use Rattle.padoa_definitions.proofs.Copying.{element_at}
-
--- what is found is an element that passes
-pub find_sound : (v : ℕ) (ys : List Existential) (y : Existential) → find (λ z. z.variable == v) ys ≡ Some y → Contains ys y × (y.variable ≡ v)
-find_sound v [] y h = cc
-find_sound v (x ∷ xs) y h = by_bit (find_sound v xs y) (x.variable == v) refl h where
-  by_bit : (find (λ z. z.variable == v) xs ≡ Some y → Contains xs y × (y.variable ≡ v)) → (b : Bool) → (x.variable == v) ≡ b
-      → cond b (Some x) (find (λ z. z.variable == v) xs) ≡ Some y → Contains (x ∷ xs) y × (y.variable ≡ v)
-  by_bit later true e h = let same : x ≡ y = cc in let is = eqb-true x.variable v e in ((0, omega arith, same), sym (ap (λ (z : Existential). z.variable) same) ∙ is)
-  by_bit later false e h = let r = later h in let b = r.0.1 in ((suc r.0.0, omega (arith, b), r.0.2), r.1)
-
-pub sees_universals : (f : Dqbf) → IsLawful f → (v : ℕ) (y : Existential) → existential_of f v ≡ Some y → All (Contains f.universals) y.sees
-sees_universals f lawful v y found = All-contains (λ z. All (Contains f.universals) z.sees) f.existentials y lawful.prefix.sees_universals (find_sound v f.existentials y found).0
-
-pub some_existential : (f : Dqbf) (v : ℕ) (P : Type 0) → IsSome (existential_of f v) → ((y : Existential) → existential_of f v ≡ Some y → P) → P
-some_existential f v P is use_it = by (existential_of f v) refl is
-  where
-    by : (o : Option Existential) → existential_of f v ≡ o → IsSome o → P
-    by None e h = cc
-    by (Some y) e h = use_it y e
 
 pub seen_among : (f : Dqbf) → IsLawful f → (v : ℕ) (xs : List ℕ) → IsSome (existential_of f v) → IfSome (existential_of f v) (λ y. xs ≡ y.sees) → All (Contains f.universals) xs
 seen_among f lawful v xs is h = some_existential f v (All (Contains f.universals) xs) is (λ y found.

@@ -23,7 +23,7 @@ use Rattle.padoa_definitions.proofs.Answering.{found_declared, found_variable, m
 use Rattle.padoa_definitions.proofs.Asking.{AreAsked, are_asked, asked_apart, asked_copies, own_name, universal_differs}
 use Rattle.padoa_definitions.proofs.Cubing.{forced_by, literal_names}
 use Rattle.padoa_definitions.proofs.Loosening.{loose}
-use Rattle.padoa_definitions.proofs.SeenPlaces.{find_sound, sees_universals}
+use Rattle.definition_order.proofs.Declared.{find_sound, sees_universals}
 
 -- places of what an existential sees are places of universals
 pub seen_within : (f : Dqbf) (sees places : List ℕ) (n : ℕ) → ArePlaces f.universals (Contains sees) places → n ≡ length f.universals → All (λ k. k < n) places

@@ -1,9 +1,8 @@
 -- A row that isn't in the table extends the model of its instances: its new pairs are free.
-use Rattle.std.proofs.Common.{◌≡◌, ◌≢◌, ℕ, zero, suc, ◌+◌, ◌-◌, ◌*◌, ◌≤◌, ◌<◌, ◌==◌, ltb, Bool, true, false, cond, not, ◌||◌, inl, inr, List, [], ◌∷◌, ◌++◌, map, length, get_or, Option, Some, None, refl, sym, ◌∙◌, ap, arith, length-append, mul-le-mul_right, add-mul, one-mul}
-use Rattle.std.specs.List.{All, AllPairs, Contains, find, list_any, filter_map, cons_option, position_or_len}
+use Rattle.std.proofs.Common.{◌≡◌, ℕ, suc, ◌+◌, ◌-◌, ◌*◌, ◌≤◌, ◌<◌, ltb, Bool, true, false, cond, not, ◌||◌, inl, inr, List, [], ◌∷◌, map, length, get_or, Option, Some, None, refl, sym, ◌∙◌, ap, arith, mul-le-mul_right, add-mul, one-mul}
+use Rattle.std.specs.List.{All, Contains, list_any, filter_map, cons_option, position_or_len}
 use Rattle.std.specs.Option.{option_map}
-use Rattle.std.proofs.lemmas.Bool.{cases_lt, eq-eqb, ne_eqb, cond-true, cond-false, lt-ltb, le-ltb}
-use Rattle.std.proofs.lemmas.List.{get_or-append-add, get_or-map, length-map}
+use Rattle.std.proofs.lemmas.Bool.{cases_lt, cond-true, cond-false, lt-ltb, le-ltb}
 use Rattle.std.proofs.lemmas.List.Elements.{All-contains, All-head, All-tail, Contains-append_right, Contains-get_or}
 use Rattle.std.proofs.lemmas.List.Sums.{passes_at_first}
 use Rattle.dq_lits.specs.Literal.{Assignment, Literal, positive, negative, variable_of, on_variable, literal_true, clause_true}
@@ -14,49 +13,11 @@ use Rattle.dq_lits.specs.Expansion.{row_assignment, agree_on, pair_number, pair_
 use Rattle.hint_log.specs.ProductiveLog.{HasModelWith}
 use Rattle.expansion.specs.Table.{PointBits, ArePoints}
 use Rattle.candidate_functions.specs.Candidates.{AgreeAtPairs}
-use Rattle.repair_loop.specs.Searching.{IsCounterexample}
-use Rattle.repair_loop.proofs.Rows.{variable, find_sound, contains_mapped, slice_get_at}
-
-pub same_bits-refl : (bits : List Bool) → same_bits bits bits ≡ true
-same_bits-refl [] = refl
-same_bits-refl (true ∷ bits) = same_bits-refl bits
-same_bits-refl (false ∷ bits) = same_bits-refl bits
-
-pub same_bits-sound : (xs ys : List Bool) → same_bits xs ys ≡ true → xs ≡ ys
-same_bits-sound [] [] h = refl
-same_bits-sound [] (y ∷ ys) h = cc
-same_bits-sound (x ∷ xs) [] h = cc
-same_bits-sound (true ∷ xs) (true ∷ ys) h = ap (λ zs. true ∷ zs) (same_bits-sound xs ys h)
-same_bits-sound (true ∷ xs) (false ∷ ys) h = cc
-same_bits-sound (false ∷ xs) (true ∷ ys) h = cc
-same_bits-sound (false ∷ xs) (false ∷ ys) h = ap (λ zs. false ∷ zs) (same_bits-sound xs ys h)
-
-find_own : (ys : List Existential) (k : ℕ) (d : Existential) → k < length ys → AllPairs (λ v w. v ≢ w) (map variable ys) →
-    find (λ z. z.variable == (get_or ys k d).variable) ys ≡ Some (get_or ys k d)
-find_own [] k d below once = absurd (omega arith)
-find_own (y ∷ ys) zero d below once = cond-true (y.variable == y.variable) (Some y) _ (eq-eqb y.variable y.variable refl)
-find_own (y ∷ ys) (suc k) d below once =
-    let here : k < length ys = omega arith in
-    let v = get_or ys k d in
-    let in_map : k < length (map variable ys) = rw (length-map ys variable) here in
-    let at : get_or (map variable ys) k 0 ≡ v.variable = get_or-map variable ys k d 0 here in
-    let other : y.variable ≢ v.variable = λ e. once 0 (suc k) 0 (omega arith) (omega (arith, in_map)) (e ∙ sym at) in
-    cond-false (y.variable == v.variable) (Some y) _ (ne_eqb y.variable v.variable other)
-    ∙ find_own ys k d here (λ i j e below' inside. once (suc i) (suc j) e (omega arith) (omega arith))
-
-existentials_once : (us : List ℕ) (ys : List Existential) → AllPairs (λ v w. v ≢ w) (us ++ map variable ys) → AllPairs (λ v w. v ≢ w) (map variable ys)
-existentials_once us ys once i j d order inside e =
-    let es = map variable ys in
-    once (length us + i) (length us + j) d (omega arith) (omega (arith, length-append us es))
-    (get_or-append-add us es i d ∙ e ∙ sym (get_or-append-add us es j d))
-
-pub position_small : (p : List Bool → Bool) (xs : List (List Bool)) (k : ℕ) (d : List Bool) → k < length xs → p (get_or xs k d) ≡ true → position_or_len p xs < length xs
-position_small p [] k d below h = absurd (omega arith)
-position_small p (x ∷ xs) zero d below h = rw h (omega arith)
-position_small p (x ∷ xs) (suc k) d below h = by_bit (p x) (let b : k < length xs = omega arith in position_small p xs k d b h) where
-  by_bit : (b : Bool) → position_or_len p xs < length xs → cond (not b) (1 + position_or_len p xs) 0 < suc (length xs)
-  by_bit true l = omega arith
-  by_bit false l = omega arith
+use Rattle.circuit_cnf.specs.Failing.{IsFailure}
+use Rattle.candidate_functions.proofs.AtRows.{contains_mapped}
+use Rattle.expansion.proofs.Firsts.{same_bits-sound}
+use Rattle.expansion.proofs.Pointing.{find_own, existentials_once}
+use Rattle.log_laws.proofs.Found.{variable, find_sound, slice_get_at, same_bits-refl, position_small}
 
 position_most : (p : List Bool → Bool) (xs : List (List Bool)) → position_or_len p xs ≤ length xs
 position_most p [] = omega arith
@@ -133,7 +94,7 @@ module _ (f : Dqbf) (lawful : HasLawfulPrefix f) (rows : List (List Bool)) (m : 
 -- the failing row's values are the bits of its pairs in a model of the table's instances
 pub extends : (f : Dqbf) → HasLawfulPrefix f → (rows : List (List Bool)) (points : PointBits) (output : Existential → OutputFunction) →
     ArePoints f rows points → AgreeAtPairs f rows points output →
-    (row values : List Bool) (j : ℕ) → IsCounterexample f output row values j → HasModelWith f rows row values
+    (row values : List Bool) (j : ℕ) → IsFailure f output row values j → HasModelWith f rows row values
 extends f lawful rows points output p agree row values j bad =
     let g : Existential → Bool = λ y. (output y).value (row_assignment f row) in
     let V = f.variables in

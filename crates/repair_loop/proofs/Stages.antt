@@ -5,7 +5,6 @@ use Rattle.std.proofs.lemmas.List.{get_or-map, length-map}
 use Rattle.std.proofs.lemmas.List.Elements.{All-cons}
 use Rattle.std.proofs.lemmas.Option.{slice_get-get_or}
 use Rattle.dq_lits.specs.Formula.{Dqbf, IsWellFormed, declared}
-use Rattle.dq_lits.specs.Expansion.{row_assignment}
 use Rattle.hint_log.specs.Entries.{Entry, Round, ProofLog, with_entry, name_of, rounds_of, steps_of, is_counted}
 use Rattle.hint_log.specs.Deciding.{IsUndecided}
 use Rattle.hint_log.specs.Growth.{Grew}
@@ -17,7 +16,7 @@ use Rattle.dq_lits.specs.Skolem.{IsSupported}
 use Rattle.aig_graph.specs.declared.nodes.Node.{Node}
 use Rattle.aig_graph.specs.Graph.{AigGraph}
 use Rattle.aig_graph.specs.Outputs.{OutputsAreSupported, output_node, outputs_of}
-use Rattle.circuit_cnf.specs.Failing.{IsFailure}
+use Rattle.circuit_cnf.specs.Failing.{IsFailure, FailuresRefuteRows}
 use Rattle.circuit_cnf.specs.declared.checkers.Checker.{Checker}
 use Rattle.circuit_cnf.specs.Checking.{IsChecker, group_of, CheckersStay, CheckersStayWithRounds}
 use Rattle.expansion.specs.Table.{TableState, IsTable, IsFullTable}
@@ -27,7 +26,7 @@ use Rattle.padoa_definitions.specs.Copies.{IsPadoa, groups_of, group_variable}
 use Rattle.padoa_definitions.specs.Standing.{EnginesLeaveCopies, RoundsLeaveCopies}
 use Rattle.padoa_definitions.specs.declared.padoa.Padoa.{Padoa}
 use Rattle.hint_log.specs.declared.names.Name.TheVariants.{Selector}
-use Rattle.repair_loop.specs.Searching.{LogGrew, IsKept, IsFresh, HasInputs, AreApart, IsSearch, GoesOn, AreCandidates, IsCounterexample, AreRefuted, IsRoundLogged}
+use Rattle.repair_loop.specs.Searching.{LogGrew, IsKept, IsFresh, HasInputs, AreApart, IsSearch, GoesOn, AreCandidates, AreRefuted, IsRoundLogged}
 use Rattle.repair_loop.proofs.Rows.{no_old_row}
 use Rattle.repair_loop.proofs.Extends.{extends}
 
@@ -37,11 +36,6 @@ on_err (Err e) P p = p
 
 pub outputs_supported : OutputsAreSupported → (f : Dqbf) (graph : AigGraph) (nodes : List Node) → All (λ y. IsSupported (outputs_of f graph nodes y)) f.existentials
 outputs_supported law f graph nodes k d below = law f graph (output_node f nodes (slice_index_or f.existentials k d))
-
-pub counterexample : (f : Dqbf) (graph : AigGraph) (nodes : List Node) (row values : List Bool) (j : ℕ) → IsFailure f graph nodes row values j
-    → IsCounterexample f (outputs_of f graph nodes) row values j
-counterexample f graph nodes row values j bad =
-    record { row_length = bad.row_length; values_are = bad.values_are; clause = bad.clause; clause_is = bad.clause_is; is_false = bad.is_false }
 
 -- whatever an engine's call added, the log keeps its points
 pub still_kept : EnginesLeaveRest → (f : Dqbf) (engine : Engine) (group : ℕ) (silent : Bool) (old new : ProofLog) → Grew (IsAddedBy f engine group silent old.entries) old new
@@ -131,20 +125,14 @@ after_turn law tables copies_stay f graph t c d p silent old new quiet s grew sa
 }
 
 -- after the round is logged
-pub after_round : RoundsLeaveTables → CheckersStayWithRounds → RoundsLeaveCopies → (f : Dqbf) (t : TableState) (c : Checker) (p : Padoa) (old new : ProofLog) (output : _)
-    → AreRefuted f t c p old.entries → AreCandidates f t.rows output → (row values : List Bool) (j : ℕ) → IsCounterexample f output row values j
+pub after_round : FailuresRefuteRows → RoundsLeaveTables → CheckersStayWithRounds → RoundsLeaveCopies → (f : Dqbf) (t : TableState) (c : Checker) (p : Padoa) (old new : ProofLog) (output : _)
+    → AreRefuted f t c p old.entries → AreCandidates f t.rows output → (row values : List Bool) (j : ℕ) → IsFailure f output row values j
     → new ≡ with_entry old (Round row values j) → IsRoundLogged f t c p row new.entries
-after_round tables checkers copies_stay f t c p old new output a are row values j bad is =
+after_round refute tables checkers copies_stay f t c p old new output a are row values j bad is =
     let entries = old.entries in
     let well = a.table.formula in
-    let failure : IsNewFailure f entries row values j = record {
-      row_length = bad.row_length;
-      values_length = ap length bad.values_are ∙ length-map f.existentials (λ y. (output y).value (row_assignment f row));
-      untried = λ inside. no_old_row f well.prefix t.rows are.points output are.are_points are.agree row values j bad (subst (λ rows. Contains rows row) a.table.rows inside);
-      clause = bad.clause;
-      clause_is = bad.clause_is;
-      is_false = bad.is_false;
-    } in
+    let failure : IsNewFailure f entries row values j = refute f output entries row values j bad
+    (λ inside. no_old_row f well.prefix t.rows are.points output are.are_points are.agree row values j bad (subst (λ rows. Contains rows row) a.table.rows inside)) in
     let modelled : HasModelWith f (rows_of entries) row values =
     subst (λ rows. HasModelWith f rows row values) (sym a.table.rows)
     (extends f well.prefix t.rows are.points output are.are_points are.agree row values j bad) in

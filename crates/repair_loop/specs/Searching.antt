@@ -1,14 +1,13 @@
 -- What the loop keeps from turn to turn, and what its verdicts say.
-use Rattle.std.specs.Prelude.{◌≡◌, ◌≢◌, ◌+◌, ◌≤◌, ◌++◌, ◌∷◌, [], ℕ, Bool, false, List, map, length, Option, None, Some}
+use Rattle.std.specs.Prelude.{◌≡◌, ◌≢◌, ◌+◌, ◌≤◌, ◌++◌, ◌∷◌, [], ℕ, Bool, List, length, Option, None, Some}
 use Rattle.std.specs.List.{All}
-use Rattle.dq_lits.specs.Literal.{Literal, clause_true}
 use Rattle.dq_lits.specs.Formula.{Dqbf, Existential}
-use Rattle.dq_lits.specs.Expansion.{row_assignment, IsExpansionUnsatisfiable}
+use Rattle.dq_lits.specs.Expansion.{IsExpansionUnsatisfiable}
 use Rattle.dq_lits.specs.Skolem.{OutputFunction, AreSkolemFunctions}
 use Rattle.hint_log.specs.Deciding.{IsUndecided}
 use Rattle.hint_log.specs.Entries.{Entry, ProofLog, rounds_of, steps_of}
 use Rattle.hint_log.specs.Growth.{Each}
-use Rattle.hint_log.specs.Naming.{numbered_from_one, rows_of, round_assignment}
+use Rattle.hint_log.specs.Naming.{rows_of}
 use Rattle.hint_log.specs.ProductiveLog.{MatchesOrigin, RefutesNewRow, FollowsModel, IsNotRepeated, fault_groups}
 use Rattle.aig_graph.specs.declared.nodes.Node.{Node}
 use Rattle.aig_graph.specs.Graph.{AigGraph, IsNode}
@@ -95,14 +94,6 @@ GoesOn f t p old new = (graph : AigGraph) (c : Checker) → IsSearch f graph t c
 pub record LogGrew (old new : ProofLog) : Type 0 where
   pub steps : steps_of old.entries ≤ steps_of new.entries
   pub limit : new.limit ≡ old.limit
-
--- under this row, with the outputs' values, the clause is false
-pub record IsCounterexample (f : Dqbf) (output : Existential → OutputFunction) (row values : List Bool) (j : ℕ) : Type 0 where
-  pub row_length : length row ≡ length f.universals
-  pub values_are : values ≡ map (λ y. (output y).value (row_assignment f row)) f.existentials
-  pub clause : List Literal
-  pub clause_is : numbered_from_one f.matrix j ≡ Some clause
-  pub is_false : clause_true (round_assignment f row values) clause ≡ false
 
 -- after candidates failed, before the round
 pub record AreRefuted (f : Dqbf) (t : TableState) (c : Checker) (p : Padoa) (entries : List Entry) : Type 0 where

@@ -48,7 +48,8 @@ pub(crate) fn find_candidates<O: Oracle>(
     ensures refuted { (id : ℕ) → result ≡ Ok (Found.Refuted id) → IsShownFalse f.now log.new id }
     ensures search { (outputs : _) → result ≡ Ok (Found.Candidates outputs)
         → IsSearch f.now graph.new table.new checker.now definitions.new.padoa log.new.entries }
-    ensures known { (outputs : _) → result ≡ Ok (Found.Candidates outputs) → AreKnown f.now graph.new definitions.new.nodes.items definitions.new.rules.items }
+    ensures known { (outputs : _) → result ≡ Ok (Found.Candidates outputs)
+        → AreKnown f.now graph.new definitions.new.nodes.items definitions.new.rules.items }
     ensures candidates { (outputs : _) → result ≡ Ok (Found.Candidates outputs) → AreBuilt f.now graph.new table.new.rows outputs }
     ensures undecided { OnErr result (IsUndecided f.now log.new.entries) }
     ensures limit { IsErrOf result Stop.Limit → steps_of log.new.entries ≡ log.new.limit }

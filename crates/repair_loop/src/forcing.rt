@@ -136,7 +136,8 @@ impl Definitions {
     fn keep(&mut self, forced: Forced) -> Result<(), Memory>
         ensures padoa { self.new.padoa ≡ self.old.padoa }
         ensures nodes { self.new.nodes.items ≡ self.old.nodes.items }
-        ensures rules { (f : Dqbf) → ((r : RuleState) → forced ≡ Forced.Rule r → IsRule f r) → All (IsRule f) self.old.rules.items → All (IsRule f) self.new.rules.items }
+        ensures rules { (f : Dqbf) → ((r : RuleState) → forced ≡ Forced.Rule r → IsRule f r)
+            → All (IsRule f) self.old.rules.items → All (IsRule f) self.new.rules.items }
     {
         match forced {
             Forced::Rule(rule) => {

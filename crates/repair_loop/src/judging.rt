@@ -8,7 +8,7 @@ ghost use Rattle.repair_loop.specs.Searching.{IsKept, IsSearch, AreBuilt, LogGre
 use aig_graph::Graph;
 use aig_graph::laws::outputs_are_supported;
 use candidate_functions::Outputs;
-use circuit_cnf::laws::checkers_stay_with_rounds;
+use circuit_cnf::laws::{checkers_stay_with_rounds, failures_refute_rows};
 use circuit_cnf::{Checker, Turn};
 use dq_formula::Formula;
 use dq_lits::Row;
@@ -55,6 +55,7 @@ pub(crate) fn judge<O: Oracle>(
     engines_leave_tables();
     rounds_leave_tables();
     checkers_stay_with_rounds();
+    failures_refute_rows();
     engines_leave_copies();
     rounds_leave_copies();
     outputs_are_supported();

@@ -3,12 +3,11 @@ use Rattle.std.proofs.Common.{◌≡◌, ℕ, ◌+◌, ◌*◌, ◌/◌, ◌<◌
 use Rattle.std.specs.Prelude.{Contains, slice_index}
 use Rattle.std.proofs.lemmas.List.{take_more, map_more}
 use Rattle.std.proofs.lemmas.List.Elements.{Contains-get_or}
-use Rattle.circuit_plain.specs.declared.circuits.Gate.{Gate}
 use Rattle.circuit_plain.specs.Netlist.{Netlist, IsNetlist, IsDefined, IsVariable, IsLiteral, literal_variable, gate_at}
 use Rattle.circuit_plain.proofs.NetlistLaws.{gate_at_member}
-use Rattle.skolem_checker.specs.Renaming.{renamed_literal, renamed_gate, known_variables, number_in, dense_number, renumbered_first}
+use Rattle.skolem_checker.specs.Renaming.{renamed_literal, known_variables, number_in, dense_number, renumbered_first}
 use Rattle.skolem_checker.specs.SkolemCircuit.{IsComplete}
-use Rattle.skolem_checker.proofs.NumberingLaws.{not_before, known_length, gate_among, known_once, literal_fits, input_is_variable, input_is_new, input_copied, gate_is_variable, gate_is_new, gate_copied}
+use Rattle.skolem_checker.proofs.NumberingLaws.{not_before, known_length, gate_among, known_once, literal_fits, input_is_variable, input_is_new, input_copied, gate_is_variable, gate_is_new}
 use Rattle.skolem_checker.proofs.TablesLaws.{half-even}
 use Rattle.skolem_checker.proofs.RenamingLaws.{renamed_variable, known_input, known_gate, grounded_known, sides_grounded}
 
@@ -110,21 +109,6 @@ module _ (net : Netlist) (kept : IsNetlist net) (complete : IsComplete net) (j :
     next_gate_undefined defined =
         gate_is_new net kept j below
         (subst (IsDefined (renumbered_first net (length net.inputs) j 0)) gate_number_is (subst (λ c. IsDefined c (v / 2)) so_far defined))
-
-    pub next_gate_copied : (l r : ℕ) (new : Netlist) → l ≡ renamed_literal (dense_number net) (gate_at net j).left
-        → r ≡ renamed_literal (dense_number net) (gate_at net j).right
-        → new ≡ record copy { gates = copy.gates ++ record { variable = v / 2; left = l; right = r } ∷ [] }
-        → new ≡ renumbered_first net (length net.inputs) (j + 1) 0
-    next_gate_copied l r new l_is r_is added =
-        let gate : Gate = record { variable = v / 2; left = l; right = r } in
-        let gate_is : gate ≡ renamed_gate (dense_number net) (gate_at net j) =
-        λ k. record { variable = gate_number_is k; left = l_is k; right = r_is k } in
-        added
-        ∙ ap (λ (c : Netlist). record c { gates = c.gates ++ gate ∷ [] }) so_far
-        ∙ ap {B = Netlist} (λ (g : Gate). record (renumbered_first net (length net.inputs) j 0) {
-          gates = map (renamed_gate (dense_number net)) (take j net.gates) ++ g ∷ [];
-        }) gate_is
-        ∙ gate_copied net kept j below
 
 -- the next output to be copied
 module _ (net : Netlist) (complete : IsComplete net) (items : List ℕ) (items_are : items ≡ net.outputs) (o : ℕ) (below : o < length items) where

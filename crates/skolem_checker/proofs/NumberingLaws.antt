@@ -184,11 +184,3 @@ module _ (net : Netlist) (kept : IsNetlist net) where
   gate_is_new j below (inl among) =
       no_input_yet (length net.inputs) _ (omega arith) (let number = number_of_gate j below in omega (arith, number)) among
   gate_is_new j below (inr among) = no_gate_yet j _ (omega arith) (let number = number_of_gate j below in omega (arith, number)) among
-
-  pub gate_copied : (j : ℕ) → j < length net.gates
-      → record (renumbered_first net (length net.inputs) j 0) {
-        gates = map (renamed_gate (dense_number net)) (take j net.gates) ++ renamed_gate (dense_number net) (gate_at net j) ∷ [];
-      } ≡ renumbered_first net (length net.inputs) (j + 1) 0
-  gate_copied j below =
-      ap (λ gs. record (renumbered_first net (length net.inputs) j 0) { gates = gs })
-      (sym (map_more (renamed_gate (dense_number net)) net.gates j _ below))

@@ -1,8 +1,7 @@
 -- Reads by marks, by tables and by the mapping.
-use Rattle.std.proofs.Common.{◌≡◌, ℕ, ◌+◌, ◌<◌, Bool, List, length, inl, inr, sym, ap, ◌∙◌, subst, arith, Some, IsTrue, ◌↔◌}
+use Rattle.std.proofs.Common.{◌≡◌, ℕ, ◌<◌, Bool, List, length, ap, ◌∙◌, arith, Some, IsTrue, ◌↔◌}
 use Rattle.std.specs.Prelude.{slice_index, slice_index_or}
 use Rattle.std.specs.List.{All}
-use Rattle.std.proofs.lemmas.Bool.{cases_order}
 use Rattle.std.proofs.lemmas.List.{get_or-map, length-map}
 use Rattle.dq_lits.specs.Formula.{Existential, Dqbf, existential_of}
 use Rattle.dq_formula.specs.Prefix.{existential_variables}
@@ -47,13 +46,3 @@ first-from_marks f net literals places marks e x reached h = record {
   undeclared = h.undeclared;
   first = before-from_marks f net literals places marks e h.place reached h.first;
 }
-
-pub before-more : (Reads : ℕ → ℕ → Type 0) (f : Dqbf) (n k : ℕ)
-    → ((p : ℕ) → p < k → ReadsDeclaredBefore Reads f (existential_at f p) n) → ReadsDeclaredBefore Reads f (existential_at f k) n
-    → (p : ℕ) → p < k + 1 → ReadsDeclaredBefore Reads f (existential_at f p) n
-before-more Reads f n k before this p below =
-    elim (cases_order p k) [
-      | inl same ↦ subst (λ i. ReadsDeclaredBefore Reads f (existential_at f i) n) (sym same) this
-      | inr (inl earlier) ↦ before p earlier
-      | inr (inr later) ↦ absurd (omega arith)
-    ]

@@ -1,10 +1,10 @@
 -- Words of bits, and what they tell of dependency sets.
-use Rattle.std.proofs.Common.{◌≡◌, ◌≢◌, ℕ, ◌+◌, ◌*◌, ◌%◌, ◌^◌, ◌-◌, ◌<◌, ◌≤◌, ◌==◌, ◌⊎◌, inl, inr, Bool, true, false, not, ◌&&◌, ◌||◌, List, ◌++◌, length, get_or, set, take, drop, min, bit_or, bit_and, nat_lt, Option, Some, None, IfSome, w64, refl, sym, ap, ◌∙◌, subst, arith, eq-eqb}
+use Rattle.std.proofs.Common.{◌≡◌, ℕ, ◌+◌, ◌*◌, ◌%◌, ◌^◌, ◌-◌, ◌<◌, ◌≤◌, ◌==◌, ◌⊎◌, inl, inr, Bool, true, false, not, ◌&&◌, ◌||◌, List, ◌++◌, length, get_or, set, take, drop, min, bit_or, bit_and, Option, Some, None, IfSome, w64, refl, sym, ap, ◌∙◌, subst, arith, eq-eqb}
 use Rattle.std.specs.Prelude.{slice_index, Contains, IsTrue, ◌↔◌, MatchOption, IsSome, slice_index_or}
 use Rattle.std.specs.Int.{bit_at, bit_not}
 use Rattle.std.specs.List.{All, position}
 use Rattle.std.proofs.Math.Bool.{or-false}
-use Rattle.std.proofs.lemmas.Bool.{cases_eq, cases_lt, ne_eqb, or_right, or_cases, and_parts, and_from, eqb-true, lt-ltb, le-ltb, false≢true}
+use Rattle.std.proofs.lemmas.Bool.{cases_eq, cases_lt, ne_eqb, or_right, or_cases, and_parts, and_from, eqb-true, false≢true}
 use Rattle.std.proofs.lemmas.Bool.Decides.{nat_tests}
 use Rattle.std.proofs.lemmas.List.{get_or-set_same, get_or-set_other, get_or_past, take_all, get_or-take, get_or_default, length-take, length-drop, length-map, get_or-drop, drop_all, append-nil}
 use Rattle.std.proofs.lemmas.List.Quantifiers.{position-Some}
@@ -16,9 +16,9 @@ use Rattle.dq_formula.specs.Prefix.{existential_variables}
 use Rattle.dq_formula.specs.declared.dependencies.Deps.{Deps}
 use Rattle.circuit_plain.specs.Netlist.{Netlist}
 use Rattle.circuit_plain.specs.Reach.{Reaches}
-use Rattle.circuit_plain.specs.Words.{marked, WordsReach}
+use Rattle.circuit_plain.specs.Words.{marked}
 use Rattle.skolem_checker.specs.Checks.{ReadsDeclaredBefore, existential_at, IsFirstUndeclared}
-use Rattle.skolem_checker.specs.Reads.{has_bit, root_of, AreRoots, AreReached, IsAt, AreDeclared, IsSetNoted, IsNoted, IsAllowed, AreSameAt, IsFirstIn, IsBatchAnswer}
+use Rattle.skolem_checker.specs.Reads.{has_bit, root_of, AreReached, IsAt, AreDeclared, IsSetNoted, IsNoted, IsAllowed, AreSameAt, IsFirstIn, IsBatchAnswer}
 use Rattle.skolem_checker.specs.Tables.{ReadsByTables}
 use Rattle.skolem_checker.proofs.ReadsLaws.{variable_at, places-below, named_at, before-from_marks, first-from_marks}
 
@@ -63,38 +63,6 @@ bits_without word other i fits small =
     by : (a b : ℕ) → a < 2 → b < 2 → (min a (1 - b) == 1) ≡ ((a == 1) && not (b == 1))
     by a b a_bit b_bit = grind (arith, nat_tests)
 
--- a root more
-pub root_more : (net : Netlist) (places ys old new : List ℕ) (n root : ℕ) → root ≡ root_of net places (get_or ys n 0)
-    → AreRoots net places ys n old → ((i v : ℕ) → marked new i v ≡ (marked old i v || ((n == i) && (root == v)))) → AreRoots net places ys (n + 1) new
-root_more net places ys old new n root is before set i v =
-    let test = root_of net places (get_or ys i 0) == v in
-    set i v ∙ ap (λ b. b || ((n == i) && (root == v))) (before i v)
-    ∙ elim (cases_eq i n) [
-      | inl same ↦
-          let here : (root == v) ≡ test = ap (λ r. r == v) (is ∙ ap (λ j. root_of net places (get_or ys j 0)) (sym same)) in
-          ap (λ b. (b && test) || ((n == i) && (root == v))) (le-ltb i n (omega (arith, same)))
-          ∙ ap (λ b. b && (root == v)) (eq-eqb n i (sym same)) ∙ here
-          ∙ sym (ap (λ b. b && test) (lt-ltb i (n + 1) (omega (arith, same))))
-      | inr other ↦
-          ap (λ b. (nat_lt i n && test) || (b && (root == v))) (ne_eqb n i (λ e. other (sym e))) ∙ or-false (nat_lt i n && test)
-          ∙ ap (λ b. b && test) (elim (cases_lt i n) [
-            | inl below ↦ lt-ltb i n below ∙ sym (lt-ltb i (n + 1) (omega (arith, below)))
-            | inr above ↦ le-ltb i n above ∙ sym (le-ltb i (n + 1) (omega (arith, above, other)))
-          ])
-    ]
-
-pub no_roots : (net : Netlist) (places ys words : List ℕ) → ((i v : ℕ) → marked words i v ≡ false) → AreRoots net places ys 0 words
-no_roots net places ys words none i v = none i v ∙ sym (ap (λ b. b && (root_of net places (get_or ys i 0) == v)) (le-ltb i 0 (omega arith)))
-
-pub roots_reached : (net : Netlist) (places ys old new : List ℕ) → AreRoots net places ys (length ys) old → WordsReach net old new
-    → AreReached net places ys new
-roots_reached net places ys old new roots reach i below v =
-    let root = root_of net places (get_or ys i 0) in
-    let only : (u : ℕ) → marked old i u ≡ (root == u) = λ u. roots i u ∙ ap (λ b. b && (root == u)) (lt-ltb i (length ys) below) in (
-      λ on. let from = (reach i v).0 on in subst (λ u. Reaches net u v) (sym (eqb-true root from.0 (sym (only from.0) ∙ from.1))) from.2,
-      λ r. (reach i v).1 (root, only root ∙ eq-eqb root root refl, r),
-    )
-
 -- a dependency set of all universals
 pub sees_whole : (universals sees : List ℕ) (n q : ℕ) → take n universals ≡ sees → length universals ≤ n → q < length universals
     → Contains sees (slice_index universals q)
@@ -136,10 +104,6 @@ listed_more us old new i place x q found set on =
           let at = position-Some (λ u. u == x) us place 0 found in
           inr (ap (λ p. slice_index us p) (sym (eqb-true place q (and_parts (i == i) (place == q) here).1)) ∙ eqb-true (slice_index us place) x at.1)
     ]
-
-pub other_bits : (old new : List ℕ) (i place j : ℕ) → j ≢ i → ((k v : ℕ) → marked new k v ≡ (marked old k v || ((i == k) && (place == v)))) → AreSameAt old new j
-other_bits old new i place j other set v =
-    set j v ∙ ap (λ b. marked old j v || (b && (place == v))) (ne_eqb i j (λ e. other (sym e))) ∙ or-false (marked old j v)
 
 pub own_bit : (old new : List ℕ) (i place : ℕ) → ((k v : ℕ) → marked new k v ≡ (marked old k v || ((i == k) && (place == v)))) → marked new i place ≡ true
 own_bit old new i place set =

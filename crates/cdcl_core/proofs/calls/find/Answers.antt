@@ -1,4 +1,4 @@
-use Rattle.std.proofs.Common.{◌∙◌, subst, sym, List}
+use Rattle.std.proofs.Common.{subst, sym, List}
 use Rattle.dq_lits.specs.Literal.{Literal}
 use Rattle.oracle.specs.Calls.{IsRefutedUnder}
 use Rattle.cdcl_core.specs.Searching.{AreAssumptions}

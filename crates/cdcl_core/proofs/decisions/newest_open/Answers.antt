@@ -1,7 +1,4 @@
-use Rattle.std.proofs.Common.{◌≡◌, ◌≤◌, ◌<◌, ◌⊎◌, ℕ, Some, true, List, length, slice_get, arith, sym, ◌∙◌}
-use Rattle.std.specs.List.{list_any}
-use Rattle.dq_lits.specs.Literal.{Literal}
-use Rattle.dq_lits.specs.Derivation.{holds}
+use Rattle.std.proofs.Common.{arith, sym, ◌∙◌}
 use Rattle.cdcl_core.specs.Steps.{literals_of}
 use Rattle.cdcl_core.proofs.Beginning.{true_alike, true_within, true_further, seen_none}
 use Rattle.cdcl_core.proofs.decisions.newest_open.Goals as goal

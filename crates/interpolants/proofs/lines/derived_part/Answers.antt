@@ -1,4 +1,3 @@
-use Rattle.std.specs.List.{Contains}
 use Rattle.hint_log.specs.Reached.{itself, by_hint}
 use Rattle.interpolants.specs.Interpolant.{partition}
 use Rattle.interpolants.specs.Sides.{is_local}

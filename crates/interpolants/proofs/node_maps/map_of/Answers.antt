@@ -1,4 +1,4 @@
-use Rattle.std.proofs.Common.{◌≡◌, ◌+◌, ◌∙◌, ℕ, false, take, get_or, refl, sym, ap}
+use Rattle.std.proofs.Common.{◌∙◌, false, get_or, ap}
 use Rattle.std.proofs.lemmas.List.{get_or_default}
 use Rattle.aig_graph.specs.declared.nodes.Node.TheVariants.{Constant}
 use Rattle.interpolants.specs.Interpolant.{node_of}

@@ -1,6 +1,4 @@
-use Rattle.std.proofs.Common.{take, ◌+◌, sym, ◌∙◌, ap, subst, Some}
-use Rattle.dq_lits.specs.Literal.{variable_of}
-use Rattle.hint_log.specs.Entries.{name_of}
+use Rattle.std.proofs.Common.{take, ◌+◌, sym, ◌∙◌, ap, subst}
 use Rattle.hint_log.specs.Naming.{is_selector, is_selector_name}
 use Rattle.interpolants.specs.Sides.{AreSelectors}
 use Rattle.interpolants.proofs.Sets.{selector_more, selector_past}

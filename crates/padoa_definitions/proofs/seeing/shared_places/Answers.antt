@@ -1,7 +1,7 @@
 use Rattle.std.proofs.Common.{◌+◌, ◌<◌, ◌++◌, length, map, sym, ◌∙◌, ap, subst}
 use Rattle.std.specs.List.{All}
 use Rattle.padoa_definitions.proofs.Declaring.{shared_are_places, shared_within}
-use Rattle.padoa_definitions.proofs.SeenPlaces.{some_existential}
+use Rattle.definition_order.proofs.Declared.{some_existential}
 use Rattle.padoa_definitions.proofs.seeing.shared_places.Goals as goal
 
 pub push_existentials-requires : goal.push_existentials-requires

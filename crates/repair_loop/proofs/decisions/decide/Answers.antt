@@ -1,4 +1,4 @@
-use Rattle.std.proofs.Common.{◌∙◌, refl, sym, subst, true}
+use Rattle.std.proofs.Common.{◌∙◌, refl, true}
 use Rattle.log_laws.specs.Engines.{circuits, instances, copies}
 use Rattle.repair_loop.proofs.Stages.{on_err, still_kept, still_undecided, none_stays, begun, productive}
 use Rattle.repair_loop.proofs.Defined.{empty_is_fresh, empty_has_none}

@@ -5,7 +5,7 @@ use Rattle.circuit_cnf.specs.Failing.{is_silent, IsFailure}
 use Rattle.circuit_cnf.specs.Shown.{HoldEverywhere, IsShownBy}
 use Rattle.aig_graph.specs.Outputs.{ReadsUniversals, outputs_of}
 use Rattle.repair_loop.specs.Searching.{IsRoundLogged, IsShownTrue}
-use Rattle.repair_loop.proofs.Stages.{outputs_supported, counterexample, after_turn, after_round, log_grew, log_same, log_then, round_grew, round_counts, steps_left}
+use Rattle.repair_loop.proofs.Stages.{outputs_supported, after_turn, after_round, log_grew, log_same, log_then, round_grew, round_counts, steps_left}
 use Rattle.repair_loop.proofs.UniversalInputs.{outputs_read_universals}
 use Rattle.repair_loop.proofs.judging.judge.Goals as goal
 
@@ -38,16 +38,15 @@ returns-in-Holds-clause-hold g c id e =
 
 pub returns-in_ok-round-in-Fails-clause-kept : goal.returns-in_ok-round-in-Fails-clause-kept
 returns-in_ok-round-in-Fails-clause-kept g c =
-    let logged = after_round c.rounds_leave_tables.ensures c.checkers_stay_with_rounds.ensures c.rounds_leave_copies.ensures c.args.f.now c.args.table.now c.turn.new.self c.args.padoa.now c.turn.new.log c.round.new.self
+    let logged = after_round c.failures_refute_rows.ensures c.rounds_leave_tables.ensures c.checkers_stay_with_rounds.ensures c.rounds_leave_copies.ensures c.args.f.now c.args.table.now c.turn.new.self c.args.padoa.now c.turn.new.log c.round.new.self
     (outputs_of c.args.f.now c.args.graph.now c.args.outputs.now)
     (after_turn c.engines_leave_the_rest.ensures c.engines_leave_tables.ensures c.engines_leave_copies.ensures c.args.f.now c.args.graph.now c.args.table.now c.args.checker.now c.turn.new.self
     c.args.padoa.now
     (is_silent c.turn.result) c.args.log.now c.turn.new.log (ap is_silent (c.in_ok-id.was ∙ ap Ok c.in-Fails.is)) c.requires.search c.turn.ensures.grew c.turn.ensures.group
     c.turn.ensures.checker c.turn.ensures.few)
     c.requires.candidates.candidates c.in-Fails.row c.in-Fails.values c.in-Fails.j
-    (counterexample c.args.f.now c.args.graph.now c.args.outputs.now c.in-Fails.row c.in-Fails.values c.in-Fails.j
-    (subst (λ ns. IsFailure c.args.f.now c.args.graph.now ns c.in-Fails.row c.in-Fails.values c.in-Fails.j) c.items.ensures
-    (c.turn.ensures.fails c.in-Fails.row c.in-Fails.values c.in-Fails.j (c.in_ok-id.was ∙ ap Ok c.in-Fails.is))))
+    (subst (λ ns. IsFailure c.args.f.now (outputs_of c.args.f.now c.args.graph.now ns) c.in-Fails.row c.in-Fails.values c.in-Fails.j) c.items.ensures
+    (c.turn.ensures.fails c.in-Fails.row c.in-Fails.values c.in-Fails.j (c.in_ok-id.was ∙ ap Ok c.in-Fails.is)))
     c.in_ok-round-in-Fails.ensures.ok in
     logged.kept
 
@@ -58,16 +57,15 @@ returns-in_ok-round-in-Fails-clause-grew g c =
 
 pub returns-in_ok-round-in-Fails-clause-fail : goal.returns-in_ok-round-in-Fails-clause-fail
 returns-in_ok-round-in-Fails-clause-fail g c row e =
-    let logged = after_round c.rounds_leave_tables.ensures c.checkers_stay_with_rounds.ensures c.rounds_leave_copies.ensures c.args.f.now c.args.table.now c.turn.new.self c.args.padoa.now c.turn.new.log c.round.new.self
+    let logged = after_round c.failures_refute_rows.ensures c.rounds_leave_tables.ensures c.checkers_stay_with_rounds.ensures c.rounds_leave_copies.ensures c.args.f.now c.args.table.now c.turn.new.self c.args.padoa.now c.turn.new.log c.round.new.self
     (outputs_of c.args.f.now c.args.graph.now c.args.outputs.now)
     (after_turn c.engines_leave_the_rest.ensures c.engines_leave_tables.ensures c.engines_leave_copies.ensures c.args.f.now c.args.graph.now c.args.table.now c.args.checker.now c.turn.new.self
     c.args.padoa.now
     (is_silent c.turn.result) c.args.log.now c.turn.new.log (ap is_silent (c.in_ok-id.was ∙ ap Ok c.in-Fails.is)) c.requires.search c.turn.ensures.grew c.turn.ensures.group
     c.turn.ensures.checker c.turn.ensures.few)
     c.requires.candidates.candidates c.in-Fails.row c.in-Fails.values c.in-Fails.j
-    (counterexample c.args.f.now c.args.graph.now c.args.outputs.now c.in-Fails.row c.in-Fails.values c.in-Fails.j
-    (subst (λ ns. IsFailure c.args.f.now c.args.graph.now ns c.in-Fails.row c.in-Fails.values c.in-Fails.j) c.items.ensures
-    (c.turn.ensures.fails c.in-Fails.row c.in-Fails.values c.in-Fails.j (c.in_ok-id.was ∙ ap Ok c.in-Fails.is))))
+    (subst (λ ns. IsFailure c.args.f.now (outputs_of c.args.f.now c.args.graph.now ns) c.in-Fails.row c.in-Fails.values c.in-Fails.j) c.items.ensures
+    (c.turn.ensures.fails c.in-Fails.row c.in-Fails.values c.in-Fails.j (c.in_ok-id.was ∙ ap Ok c.in-Fails.is)))
     c.in_ok-round-in-Fails.ensures.ok in
     let same : c.in-Fails.row ≡ row = cc in
     subst (λ r. IsRoundLogged c.args.f.now c.args.table.now c.turn.new.self c.args.padoa.now r c.round.new.self.entries) same logged

@@ -1,4 +1,4 @@
-use Rattle.std.proofs.Common.{◌≡◌, refl, ap, arith, length}
+use Rattle.std.proofs.Common.{refl, ap, arith, length}
 use Rattle.cdcl_core.proofs.Beginning.{arranged_same}
 use Rattle.cdcl_core.proofs.arenas.Arena.reserve.Goals as goal
 

@@ -1,5 +1,4 @@
-use Rattle.std.proofs.Common.{◌≤◌, ◌≡◌, ◌-◌, length, get_or, sym, ◌∙◌, ap, subst, refl, arith, List}
-use Rattle.dq_lits.specs.Literal.{Literal}
+use Rattle.std.proofs.Common.{◌≤◌, ◌≡◌, ◌-◌, length, get_or, ap, subst, refl, arith}
 use Rattle.cdcl_core.specs.ArenaInside.{Arranged}
 use Rattle.cdcl_core.specs.Runs.{BeginAlike}
 use Rattle.cdcl_core.proofs.Beginning.{start_at}

@@ -2,7 +2,7 @@ use Rattle.std.proofs.Common.{◌∷◌, [], length, sym, ◌∙◌, subst}
 use Rattle.interpolants.specs.Interpolant.{partition, SharesAll, AreNodes}
 use Rattle.padoa_definitions.specs.Dividing.{AreSharedCopies}
 use Rattle.padoa_definitions.proofs.Answering.{places_below}
-use Rattle.padoa_definitions.proofs.SeenPlaces.{some_existential}
+use Rattle.definition_order.proofs.Declared.{some_existential}
 use Rattle.padoa_definitions.proofs.Declaring.{copies_declared, copies_long, declared_long}
 use Rattle.padoa_definitions.specs.Copies.{copies_of}
 use Rattle.dq_lits.specs.Formula.{declared}

@@ -8,7 +8,7 @@ use Rattle.padoa_definitions.specs.Dividing.{values_at}
 use Rattle.padoa_definitions.specs.Ruling.{AreFirstCopies, IsLiteralName}
 use Rattle.padoa_definitions.proofs.Answering.{existential_declared, copies_told}
 use Rattle.padoa_definitions.proofs.Declaring.{copies_long}
-use Rattle.padoa_definitions.proofs.SeenPlaces.{some_existential}
+use Rattle.definition_order.proofs.Declared.{some_existential}
 use Rattle.padoa_definitions.proofs.Settling.{seen_within, copies_asked, apart_asked, names_shown, rule_shown, loose_shown}
 use Rattle.padoa_definitions.proofs.padoa.Padoa.force.Goals as goal
 

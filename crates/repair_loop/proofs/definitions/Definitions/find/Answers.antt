@@ -1,4 +1,4 @@
-use Rattle.std.proofs.Common.{◌∙◌, get_or, set, refl, sym, subst}
+use Rattle.std.proofs.Common.{set, refl, sym, subst}
 use Rattle.repair_loop.specs.declared.definitions.Definitions.{Definitions}
 use Rattle.repair_loop.specs.Searching.{AreKnown, definition_in}
 use Rattle.repair_loop.proofs.Defined.{still_fresh, known_at, known_stays, existential_there, found_defines}

@@ -1,6 +1,6 @@
-use Rattle.std.proofs.Common.{◌∙◌, refl, subst}
+use Rattle.std.proofs.Common.{◌∙◌, subst}
 use Rattle.repair_loop.specs.Searching.{GoesOn}
-use Rattle.repair_loop.proofs.Stages.{log_same, log_then}
+use Rattle.repair_loop.proofs.Stages.{log_then}
 use Rattle.repair_loop.proofs.definitions.Definitions.force_all.Goals as goal
 
 pub returns-in_err-force-clause-goes_on : goal.returns-in_err-force-clause-goes_on

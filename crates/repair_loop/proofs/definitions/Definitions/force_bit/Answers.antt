@@ -1,6 +1,4 @@
-use Rattle.std.proofs.Common.{true}
 use Rattle.dq_lits.specs.Formula.{existential_of}
-use Rattle.log_laws.specs.Engines.{copies, IsAddedBy}
 use Rattle.repair_loop.proofs.Defined.{some_existential, forced_rule}
 use Rattle.repair_loop.proofs.Stages.{after_copies, log_grew}
 use Rattle.repair_loop.proofs.definitions.Definitions.force_bit.Goals as goal
