@@ -38,6 +38,3 @@ not_all_seen f y xs i seen below tells is e known = ((λ t. cc), (λ h. sym is �
 -- the universals that are seen, by the sets
 pub seen_as : (f : Dqbf) (y : ℕ) (xs : List ℕ) → IfSome (existential_of f y) (λ z. xs ≡ z.sees) → (e : Existential) → existential_of f y ≡ Some e → xs ≡ e.sees
 seen_as f y xs h e known = subst (λ o. IfSome o (λ z. xs ≡ z.sees)) known h
-
-pub sets_tell : (zs ys ds es : List ℕ) (shorter : Bool) → zs ≡ ds → ys ≡ es → shorter ≡ true → All (Contains ys) zs → (IsTrue shorter ↔ All (Contains es) ds)
-sets_tell zs ys ds es shorter first second is within = ((λ h. subst (λ xs. All (Contains xs) ds) second (subst (All (Contains ys)) first within)), (λ h. is))
