@@ -1,6 +1,6 @@
 //! Which existentials a definition may read.
 
-ghost use Rattle.std.specs.Prelude.{◌≡◌, ◌<◌, ◌≤◌, ◌⊎◌, ◌↔◌, length, take, All, Contains, IsSome, IsTrue, IfSome, Some, slice_get};
+ghost use Rattle.std.specs.Prelude.{◌≡◌, ◌<◌, ◌≤◌, ◌⊎◌, ◌↔◌, length, take, All, Contains, IsSome, IsTrue, Some, slice_get};
 ghost use Rattle.dq_lits.specs.Formula.{Existential, existential_of};
 ghost use Rattle.dq_formula.specs.Dependencies.{listed_universals};
 ghost use Rattle.definition_order.specs.Order.{existential_place, ComesBefore, IsShared};

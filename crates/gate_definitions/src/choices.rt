@@ -1,11 +1,11 @@
 //! Gates that choose between two inputs by a third one; with opposite inputs they are exclusive ors.
 
-ghost use Rattle.std.specs.Prelude.{◌≡◌, ◌<◌, ◌≤◌, ◌^◌, true, ℕ, IfOk, IfSome, IsSome, Some};
+ghost use Rattle.std.specs.Prelude.{◌≡◌, ◌<◌, ◌≤◌, ◌^◌, true, IfOk, IfSome, IsSome, Some};
 ghost use Rattle.dq_lits.specs.Formula.{Existential, existential_of};
 ghost use Rattle.gate_definitions.specs.Stating.{IsHalf, IsChoice};
 
 use crate::clauses::{clause_at, implies};
-use crate::conjunctions::{all_readable, key};
+use crate::literals::{all_readable, key};
 use dq_formula::Formula;
 use dq_lits::{Lit, Memory};
 use std::alloc::Global;

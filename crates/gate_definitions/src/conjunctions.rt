@@ -1,12 +1,11 @@
 //! Gates with one output that is true where all inputs are: a long clause, and for each of its other literals a short one.
 
-ghost use Rattle.std.specs.Prelude.{◌≡◌, ◌∷◌, [], ℕ, List, true, IfOk, IfSome, IsSome, Some, All};
-ghost use Rattle.dq_lits.specs.Literal.{Literal};
+ghost use Rattle.std.specs.Prelude.{◌≡◌, ◌∷◌, [], true, IfOk, IfSome, IsSome, Some, All};
 ghost use Rattle.dq_lits.specs.Formula.{Existential, existential_of};
-ghost use Rattle.gate_definitions.specs.Stating.{AreReadable, Implies, IsConjunction};
+ghost use Rattle.gate_definitions.specs.Stating.{Implies, IsConjunction};
 
 use crate::clauses::{clause_at, implies, premises};
-use definition_order::may_read;
+use crate::literals::{all_readable, key};
 use dq_formula::Formula;
 use dq_lits::{Lit, Memory};
 use std::alloc::Global;
@@ -95,11 +94,6 @@ fn beside(f: &Formula, number: u32, l: Lit) -> Option<Lit> {
     }
 }
 
-/// A literal as the key of a map.
-pub(crate) fn key(l: Lit) -> (u64, bool) {
-    (l.var(), l.is_neg())
-}
-
 // Whether there is a short clause for each other literal; a clause that is longer than that isn't read through.
 fn has_shorts(clause: &[Lit], l: Lit, shorts: &Consequences) -> bool {
     clause.len() <= shorts.len() + 1
@@ -127,17 +121,4 @@ fn follows(f: &Formula, k: Lit, l: Lit, shorts: &Consequences) -> bool
         Some(number) => implies(f, *number, &[l], k),
         None => false,
     }
-}
-
-/// Whether a definition may read all of these literals' variables.
-pub(crate) fn all_readable(f: &Formula, y: u64, lits: &[Lit]) -> bool
-    requires existential { IsSome (existential_of f.now y) }
-    ensures { result ≡ true → (e : Existential) → existential_of f.now y ≡ Some e → AreReadable f.now e lits.now }
-{
-    for l in lits {
-        if !may_read(f, y, l.var()) {
-            return false;
-        }
-    }
-    true
 }
