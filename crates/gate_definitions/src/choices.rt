@@ -12,7 +12,7 @@ use std::alloc::Global;
 use std::collections::BTreeMap;
 
 /// The literal whose value the output has where the condition is true, and the two clauses that are to say so.
-#[derive(Clone, Copy, Debug)]
+#[derive(Clone, Copy)]
 pub(crate) struct Half {
     pub(crate) condition: Lit,
     pub(crate) value: Lit,
@@ -21,7 +21,7 @@ pub(crate) struct Half {
 }
 
 /// A gate with the value of the second literal where the first is true, else of the third.
-#[derive(Clone, Copy, Debug)]
+#[derive(Clone, Copy)]
 pub(crate) struct Choice {
     pub(crate) condition: Lit,
     pub(crate) then_value: Lit,

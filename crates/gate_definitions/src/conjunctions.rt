@@ -28,8 +28,24 @@ pub(crate) fn find_conjunction(
         IsConjunction f.now e l cube.items)) }
 {
     let shorts = consequences(alloc, f, numbers, l)?;
+    first_conjunction(alloc, f, numbers, y, l, &shorts)
+}
+
+// The same, by the first clause that serves as the long one.
+fn first_conjunction(
+    alloc: Global,
+    f: &Formula,
+    numbers: &[u32],
+    y: u64,
+    l: Lit,
+    shorts: &Consequences,
+) -> Result<Option<Vec<Lit>>, Memory>
+    requires existential { IsSome (existential_of f.now y) }
+    ensures { (e : Existential) → existential_of f.now y ≡ Some e → IfOk result (λ found. IfSome found (λ cube.
+        IsConjunction f.now e l cube.items)) }
+{
     for number in numbers {
-        let found = conjunction_at(alloc, f, *number, y, l, &shorts)?;
+        let found = conjunction_at(alloc, f, *number, y, l, shorts)?;
         if found.is_some() {
             return Ok(found);
         }
@@ -37,7 +53,7 @@ pub(crate) fn find_conjunction(
     Ok(None)
 }
 
-// The same, by one clause as the long one.
+// The same, by one clause as the long one, if it serves.
 fn conjunction_at(
     alloc: Global,
     f: &Formula,

@@ -18,7 +18,7 @@ use dq_lits::{Lit, Memory};
 use std::alloc::Global;
 
 /// What the clauses say of an existential.
-#[derive(Debug, Drop)]
+#[derive(Drop)]
 pub(crate) enum Gate {
     /// This literal on it is true where all of these are.
     Conjunction(Lit, Vec<Lit>),
