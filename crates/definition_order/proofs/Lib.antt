@@ -1,4 +1,5 @@
 pub mod Declared
+mod Firsts
 mod Ordering
 mod Reading
 mod Seeing

@@ -34,6 +34,3 @@ sees_whole f y xs i all past e known = ((λ t. subst (All (Contains e.sees)) (ta
 -- the universals that are seen, by the sets
 pub seen_as : (f : Dqbf) (y : ℕ) (xs : List ℕ) → IfSome (existential_of f y) (λ z. xs ≡ z.sees) → (e : Existential) → existential_of f y ≡ Some e → xs ≡ e.sees
 seen_as f y xs h e known = subst (λ o. IfSome o (λ z. xs ≡ z.sees)) known h
-
-pub sets_tell : (zs ys ds es : List ℕ) (shorter : Bool) → zs ≡ ds → ys ≡ es → shorter ≡ true → All (Contains ys) zs → (IsTrue shorter ↔ All (Contains es) ds)
-sets_tell zs ys ds es shorter first second is within = ((λ h. subst (λ xs. All (Contains xs) ds) second (subst (All (Contains ys)) first within)), (λ h. is))

@@ -1,8 +1,8 @@
 //! Which existentials a definition may read.
 
-ghost use Rattle.std.specs.Prelude.{◌≡◌, ◌<◌, ◌⊎◌, ◌↔◌, ℕ, List, true, length, All, Contains, IsSome, IsTrue, IfSome, Some, slice_get};
+ghost use Rattle.std.specs.Prelude.{◌≡◌, ◌<◌, ◌≤◌, ◌⊎◌, ◌↔◌, length, take, All, Contains, IsSome, IsTrue, Some, slice_get};
 ghost use Rattle.dq_lits.specs.Formula.{Existential, existential_of};
-ghost use Rattle.dq_formula.specs.Dependencies.{dependencies};
+ghost use Rattle.dq_formula.specs.Dependencies.{listed_universals};
 ghost use Rattle.definition_order.specs.Order.{existential_place, ComesBefore, IsShared};
 
 use crate::sizes::seen;
@@ -58,20 +58,66 @@ fn sees_no_more(f: &Formula, z: u64, y: u64) -> bool
     ensures { (d e : Existential) → existential_of f.now z ≡ Some d → existential_of f.now y ≡ Some e
         → (IsTrue result ↔ All (Contains e.sees) d.sees) }
 {
-    is_shorter(f.deps_of(z), f.deps_of(y)) || sees_all(f, y, seen(f, z))
+    match f.deps_of(z) {
+        Deps::FirstOf(count) => sees_first(f, y, *count),
+        Deps::Listed(xs) => sees_listed(f, y, xs.items()),
+    }
 }
 
-// Whether both are the universals declared first, and the second has no fewer.
-fn is_shorter(a: &Deps, b: &Deps) -> bool
-    ensures { result ≡ true → (universals : List ℕ) → All (Contains (dependencies universals b.now)) (dependencies universals a.now) }
+// Whether an existential sees the first universals, so many of them.
+fn sees_first(f: &Formula, y: u64, count: usize) -> bool
+    requires existential { IsSome (existential_of f.now y) }
+    requires few { count ≤ length f.now.universals }
+    ensures { (e : Existential) → existential_of f.now y ≡ Some e → (IsTrue result ↔ All (Contains e.sees) (take count f.now.universals)) }
 {
-    match a {
-        Deps::FirstOf(m) => match b {
-            Deps::FirstOf(n) => *m <= *n,
-            Deps::Listed(_) => false,
-        },
-        Deps::Listed(_) => false,
+    f.every_formula_is_lawful();
+    match f.deps_of(y) {
+        Deps::FirstOf(n) => count <= *n,
+        Deps::Listed(vars) => begins_with_first(f, vars.items(), count),
     }
+}
+
+// Whether an existential sees these universals, which stand in order of declaration.
+fn sees_listed(f: &Formula, y: u64, xs: &[u64]) -> bool
+    requires existential { IsSome (existential_of f.now y) }
+    requires ordered { xs.now ≡ listed_universals f.now.universals xs.now }
+    ensures { (e : Existential) → existential_of f.now y ≡ Some e → (IsTrue result ↔ All (Contains e.sees) xs.now) }
+{
+    match f.deps_of(y) {
+        Deps::FirstOf(n) => ends_within(f, xs, *n),
+        Deps::Listed(_) => sees_all(f, y, xs),
+    }
+}
+
+// Whether universals in order of declaration are all among the first ones: whether the last of them is.
+fn ends_within(f: &Formula, xs: &[u64], count: usize) -> bool
+    requires ordered { xs.now ≡ listed_universals f.now.universals xs.now }
+    ensures { IsTrue result ↔ All (Contains (take count f.now.universals)) xs.now }
+{
+    f.every_formula_is_lawful();
+    if xs.is_empty() {
+        return true;
+    }
+    match f.universal_place(xs[xs.len() - 1]) {
+        Some(place) => place < count,
+        None => unreachable!(),
+    }
+}
+
+// Whether the first universals are all among some in order of declaration: whether the last of them has the same place there.
+fn begins_with_first(f: &Formula, vars: &[u64], count: usize) -> bool
+    requires few { count ≤ length f.now.universals }
+    requires ordered { vars.now ≡ listed_universals f.now.universals vars.now }
+    ensures { IsTrue result ↔ All (Contains vars.now) (take count f.now.universals) }
+{
+    f.every_formula_is_lawful();
+    if count == 0 {
+        return true;
+    }
+    if count > vars.len() {
+        return false;
+    }
+    vars[count - 1] == f.universals()[count - 1]
 }
 
 fn sees_all(f: &Formula, y: u64, xs: &[u64]) -> bool

@@ -1,18 +1,18 @@
 //! Gates that choose between two inputs by a third one; with opposite inputs they are exclusive ors.
 
-ghost use Rattle.std.specs.Prelude.{◌≡◌, ◌<◌, ◌≤◌, ◌^◌, true, ℕ, IfOk, IfSome, IsSome, Some};
+ghost use Rattle.std.specs.Prelude.{◌≡◌, ◌<◌, ◌≤◌, ◌^◌, true, IfOk, IfSome, IsSome, Some};
 ghost use Rattle.dq_lits.specs.Formula.{Existential, existential_of};
 ghost use Rattle.gate_definitions.specs.Stating.{IsHalf, IsChoice};
 
 use crate::clauses::{clause_at, implies};
-use crate::conjunctions::{all_readable, key};
+use crate::literals::{all_readable, key};
 use dq_formula::Formula;
 use dq_lits::{Lit, Memory};
 use std::alloc::Global;
 use std::collections::BTreeMap;
 
 /// The literal whose value the output has where the condition is true, and the two clauses that are to say so.
-#[derive(Clone, Copy, Debug)]
+#[derive(Clone, Copy)]
 pub(crate) struct Half {
     pub(crate) condition: Lit,
     pub(crate) value: Lit,
@@ -21,7 +21,7 @@ pub(crate) struct Half {
 }
 
 /// A gate with the value of the second literal where the first is true, else of the third.
-#[derive(Clone, Copy, Debug)]
+#[derive(Clone, Copy)]
 pub(crate) struct Choice {
     pub(crate) condition: Lit,
     pub(crate) then_value: Lit,

@@ -1,6 +1,6 @@
 //! What single clauses say.
 
-ghost use Rattle.std.specs.Prelude.{◌≡◌, ◌<◌, ◌||◌, true, not, length, map, filter, IfOk, IfSome};
+ghost use Rattle.std.specs.Prelude.{◌≡◌, ◌||◌, true, not, map, filter, IfOk, IfSome};
 ghost use Rattle.std.specs.List.{list_any, list_all};
 ghost use Rattle.dq_lits.specs.Literal.{opposite, same_literal};
 ghost use Rattle.gate_definitions.specs.Stating.{IsImplied, Implies};

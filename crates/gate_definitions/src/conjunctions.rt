@@ -1,12 +1,11 @@
 //! Gates with one output that is true where all inputs are: a long clause, and for each of its other literals a short one.
 
-ghost use Rattle.std.specs.Prelude.{◌≡◌, ◌∷◌, [], ℕ, List, true, IfOk, IfSome, IsSome, Some, All};
-ghost use Rattle.dq_lits.specs.Literal.{Literal};
+ghost use Rattle.std.specs.Prelude.{◌≡◌, ◌∷◌, [], true, IfOk, IfSome, IsSome, Some, All};
 ghost use Rattle.dq_lits.specs.Formula.{Existential, existential_of};
-ghost use Rattle.gate_definitions.specs.Stating.{AreReadable, Implies, IsConjunction};
+ghost use Rattle.gate_definitions.specs.Stating.{Implies, IsConjunction};
 
 use crate::clauses::{clause_at, implies, premises};
-use definition_order::may_read;
+use crate::literals::{all_readable, key};
 use dq_formula::Formula;
 use dq_lits::{Lit, Memory};
 use std::alloc::Global;
@@ -29,8 +28,24 @@ pub(crate) fn find_conjunction(
         IsConjunction f.now e l cube.items)) }
 {
     let shorts = consequences(alloc, f, numbers, l)?;
+    first_conjunction(alloc, f, numbers, y, l, &shorts)
+}
+
+// The same, by the first clause that serves as the long one.
+fn first_conjunction(
+    alloc: Global,
+    f: &Formula,
+    numbers: &[u32],
+    y: u64,
+    l: Lit,
+    shorts: &Consequences,
+) -> Result<Option<Vec<Lit>>, Memory>
+    requires existential { IsSome (existential_of f.now y) }
+    ensures { (e : Existential) → existential_of f.now y ≡ Some e → IfOk result (λ found. IfSome found (λ cube.
+        IsConjunction f.now e l cube.items)) }
+{
     for number in numbers {
-        let found = conjunction_at(alloc, f, *number, y, l, &shorts)?;
+        let found = conjunction_at(alloc, f, *number, y, l, shorts)?;
         if found.is_some() {
             return Ok(found);
         }
@@ -38,7 +53,7 @@ pub(crate) fn find_conjunction(
     Ok(None)
 }
 
-// The same, by one clause as the long one.
+// The same, by one clause as the long one, if it serves.
 fn conjunction_at(
     alloc: Global,
     f: &Formula,
@@ -95,11 +110,6 @@ fn beside(f: &Formula, number: u32, l: Lit) -> Option<Lit> {
     }
 }
 
-/// A literal as the key of a map.
-pub(crate) fn key(l: Lit) -> (u64, bool) {
-    (l.var(), l.is_neg())
-}
-
 // Whether there is a short clause for each other literal; a clause that is longer than that isn't read through.
 fn has_shorts(clause: &[Lit], l: Lit, shorts: &Consequences) -> bool {
     clause.len() <= shorts.len() + 1
@@ -127,17 +137,4 @@ fn follows(f: &Formula, k: Lit, l: Lit, shorts: &Consequences) -> bool
         Some(number) => implies(f, *number, &[l], k),
         None => false,
     }
-}
-
-/// Whether a definition may read all of these literals' variables.
-pub(crate) fn all_readable(f: &Formula, y: u64, lits: &[Lit]) -> bool
-    requires existential { IsSome (existential_of f.now y) }
-    ensures { result ≡ true → (e : Existential) → existential_of f.now y ≡ Some e → AreReadable f.now e lits.now }
-{
-    for l in lits {
-        if !may_read(f, y, l.var()) {
-            return false;
-        }
-    }
-    true
 }

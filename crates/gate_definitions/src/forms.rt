@@ -11,14 +11,14 @@ ghost use Rattle.gate_definitions.specs.Finding.{IsGate};
 
 use crate::choices::{Choice, find_choice};
 use crate::conjunctions::find_conjunction;
-use crate::nodes::{node_of, nodes_of};
+use crate::literals::{node_of, nodes_of};
 use aig_graph::{Graph, Node};
 use dq_formula::Formula;
 use dq_lits::{Lit, Memory};
 use std::alloc::Global;
 
 /// What the clauses say of an existential.
-#[derive(Debug, Drop)]
+#[derive(Drop)]
 pub(crate) enum Gate {
     /// This literal on it is true where all of these are.
     Conjunction(Lit, Vec<Lit>),

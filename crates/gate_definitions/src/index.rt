@@ -18,7 +18,7 @@ impl Index {
     pub(crate) fn new(alloc: Global, f: &Formula) -> Result<Index, Memory> {
         let mut starts = counts(alloc, f)?;
         let total = add_up(&mut starts);
-        let mut numbers = vec![in alloc; 0u32; total]?;
+        let mut numbers = zeros(alloc, total)?;
         fill(f, &mut starts, &mut numbers);
         Ok(Index { starts, numbers })
     }
@@ -44,6 +44,10 @@ impl Index {
             None => self.numbers.len(),
         }
     }
+}
+
+fn zeros(alloc: Global, count: usize) -> Result<Vec<u32>, Memory> {
+    Ok(vec![in alloc; 0u32; count]?)
 }
 
 // How many literals there are on each existential.

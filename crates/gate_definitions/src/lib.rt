@@ -21,7 +21,7 @@ mod clauses;
 mod conjunctions;
 mod forms;
 mod index;
-mod nodes;
+mod literals;
 
 /// The clauses of a formula, in which gates are looked for.
 #[derive(Debug, Drop)]

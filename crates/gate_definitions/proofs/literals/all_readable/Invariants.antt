@@ -1,7 +1,7 @@
 use Rattle.std.proofs.Common.{◌≡◌, Some, take}
 use Rattle.dq_lits.specs.Formula.{Existential, existential_of}
 use Rattle.gate_definitions.specs.Stating.{AreReadable}
-use Rattle.gate_definitions.proofs.conjunctions.all_readable.Given as goal
+use Rattle.gate_definitions.proofs.literals.all_readable.Given as goal
 
 abbrev pub invariant-loop-l : goal.invariant-loop-l
 invariant-loop-l l = (e : Existential) → existential_of l.f l.y ≡ Some e → AreReadable l.f e (take l.l-index l.lits)

@@ -1,15 +1,34 @@
-//! Nodes of literals.
+//! Literals: as keys of maps, whether a definition may read them, and their nodes.
 
-ghost use Rattle.std.specs.Prelude.{◌≡◌, ◌<◌, ◌==◌, ◌+◌, ◌^◌, None, position, ℕ, length, map, IfOk, All, Contains};
+ghost use Rattle.std.specs.Prelude.{◌≡◌, ◌<◌, ◌==◌, ◌+◌, ◌^◌, true, None, Some, IsSome, position, length, map, IfOk, All, Contains};
 ghost use Rattle.std.specs.List.{position_or_len};
 ghost use Rattle.dq_lits.specs.Literal.{variable_of};
-ghost use Rattle.dq_lits.specs.Formula.{declared};
-ghost use Rattle.gate_definitions.specs.Stating.{literal_node};
+ghost use Rattle.dq_lits.specs.Formula.{Existential, declared, existential_of};
+ghost use Rattle.gate_definitions.specs.Stating.{AreReadable, literal_node};
 
 use aig_graph::Node;
+use definition_order::may_read;
 use dq_formula::Formula;
 use dq_lits::{Lit, Memory};
 use std::alloc::Global;
+
+/// A literal as the key of a map.
+pub(crate) fn key(l: Lit) -> (u64, bool) {
+    (l.var(), l.is_neg())
+}
+
+/// Whether a definition may read all of these literals' variables.
+pub(crate) fn all_readable(f: &Formula, y: u64, lits: &[Lit]) -> bool
+    requires existential { IsSome (existential_of f.now y) }
+    ensures { result ≡ true → (e : Existential) → existential_of f.now y ≡ Some e → AreReadable f.now e lits.now }
+{
+    for l in lits {
+        if !may_read(f, y, l.var()) {
+            return false;
+        }
+    }
+    true
+}
 
 /// The nodes of these literals, in order.
 pub(crate) fn nodes_of(alloc: Global, f: &Formula, lits: &[Lit]) -> Result<Vec<Node>, Memory>

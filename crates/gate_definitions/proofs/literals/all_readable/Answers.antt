@@ -1,7 +1,7 @@
 use Rattle.std.proofs.Common.{subst}
 use Rattle.definition_order.specs.Order.{MayRead}
 use Rattle.gate_definitions.proofs.Readable.{readable_more, readable_whole}
-use Rattle.gate_definitions.proofs.conjunctions.all_readable.Goals as goal
+use Rattle.gate_definitions.proofs.literals.all_readable.Goals as goal
 
 pub loop-l-preserved : goal.loop-l-preserved
 loop-l-preserved c = λ e known.
