@@ -38,20 +38,8 @@ pub fn take_line(alloc: Global, settings: &mut Settings, line: &str) -> Result<O
             let taken = reading(alloc, settings, rest.parse()?)?;
             return Ok(Some(format!(in alloc; "at most {rest}: {taken}")?));
         }
-        "canonical" => {
-            let taken = shown(alloc, &canonical(alloc, settings)?)?;
-            return Ok(Some(format!(in alloc; "{rest}: {taken}")?));
-        }
-        "refutation" => {
-            let taken = shown(alloc, &canonical_refutation(alloc, settings)?)?;
-            return Ok(Some(format!(in alloc; "{rest}: {taken}")?));
-        }
-        "proof" => {
-            let taken = shown(alloc, &canonical_proof(alloc, settings)?)?;
-            return Ok(Some(format!(in alloc; "{rest}: {taken}")?));
-        }
-        "circuit" => {
-            let taken = shown(alloc, &canonical_circuit(alloc, settings)?)?;
+        "canonical" | "refutation" | "proof" | "circuit" => {
+            let taken = shown(alloc, &canonical_text(alloc, settings, word)?)?;
             return Ok(Some(format!(in alloc; "{rest}: {taken}")?));
         }
         _ => return Err(anyhow!("no setting: {line}")),
@@ -69,8 +57,18 @@ fn reading(alloc: Global, settings: &Settings, limit: u64) -> Result<String> {
     }
 }
 
+// The canonical text of the formula, or of what this word says of the certificate.
+fn canonical_text(alloc: Global, settings: &Settings, word: &str) -> Result<Vec<u8>> {
+    match word {
+        "refutation" => canonical_refutation(alloc, settings),
+        "proof" => canonical_proof(alloc, settings),
+        "circuit" => canonical_circuit(alloc, settings),
+        _ => canonical_formula(alloc, settings),
+    }
+}
+
 // The canonical text of the formula.
-fn canonical(alloc: Global, settings: &Settings) -> Result<Vec<u8>> {
+fn canonical_formula(alloc: Global, settings: &Settings) -> Result<Vec<u8>> {
     let Some(text) = &settings.formula else {
         return Err(anyhow!("no formula"));
     };

@@ -1,10 +1,11 @@
 -- A literal's key tells it from the others.
-use Rattle.std.proofs.Common.{◌≡◌, ℕ, ◌+◌, ◌*◌, ◌==◌, Bool, true, false, not, cond, ◌||◌, inl, inr, List, [], ◌∷◌, ◌++◌, map, refl, sym, ◌∙◌, ap, arith}
+use Rattle.std.proofs.Common.{◌≡◌, ℕ, Result, Ok, Err, IfOk, OnOk, ◌+◌, ◌*◌, ◌==◌, Bool, true, false, not, cond, ◌||◌, inl, inr, List, [], ◌∷◌, ◌++◌, map, refl, sym, ◌∙◌, ap, arith}
 use Rattle.std.specs.List.{list_any}
-use Rattle.std.proofs.lemmas.Bool.{cases_eq, eq-eqb, ne_eqb}
+use Rattle.std.proofs.lemmas.Bool.{false≢true, cases_eq, eq-eqb, ne_eqb}
 use Rattle.dq_lits.specs.Literal.{Literal, positive, negative, same_literal}
 use Rattle.dqdimacs_reader.specs.Building.{add_literal}
-use Rattle.dqdimacs_reader.specs.LiteralKey.{literal_key}
+use Rattle.number_tables.specs.Numbers.{has_number}
+use Rattle.dqdimacs_reader.specs.LiteralKey.{literal_key, AreKeysOf}
 
 same_test : (a b c d : ℕ) → (c ≡ d → a ≡ b) → (a ≡ b → c ≡ d) → (a == b) ≡ (c == d)
 same_test a b c d to from =
@@ -25,13 +26,64 @@ keys_tell l (k ∷ literals) =
     ap (λ b. b || list_any (λ j. j == literal_key l) (map literal_key literals)) (key_same k l)
     ∙ ap (λ b. same_literal l k || b) (keys_tell l literals)
 
--- where the keys of literals hold a literal's key, and where they don't
-pub adds_new : (l : Literal) (literals : List Literal) (keys : List ℕ) (is_new : Bool) → keys ≡ map literal_key literals →
-    is_new ≡ not (list_any (λ k. k == literal_key l) keys) → add_literal literals l ≡ cond is_new (literals ++ l ∷ []) literals
-adds_new l literals keys is_new are is =
-    turned (list_any (same_literal l) literals) is_new
-    (is ∙ ap (λ ks. not (list_any (λ k. k == literal_key l) ks)) are ∙ ap not (keys_tell l literals))
+or_false : (b : Bool) → (b || false) ≡ b
+or_false true = refl
+or_false false = refl
+
+or_assoc : (a b c : Bool) → (a || (b || c)) ≡ ((a || b) || c)
+or_assoc true b c = refl
+or_assoc false b c = refl
+
+one_more : (l : Literal) (literals : List Literal) (n : ℕ)
+    → has_number (map literal_key (literals ++ l ∷ [])) n ≡ (has_number (map literal_key literals) n || (literal_key l == n))
+one_more l [] n = or_false (literal_key l == n)
+one_more l (k ∷ literals) n =
+    ap (λ b. (literal_key k == n) || b) (one_more l literals n)
+    ∙ or_assoc (literal_key k == n) (has_number (map literal_key literals) n) (literal_key l == n)
+
+none_more : (l : Literal) (literals : List Literal) (n : ℕ) → list_any (same_literal l) literals ≡ true
+    → has_number (map literal_key literals) n ≡ (has_number (map literal_key literals) n || (literal_key l == n))
+none_more l literals n there =
+    elim (cases_eq (literal_key l) n) [
+      | inl same ↦ held (has_number (map literal_key literals) n) (literal_key l == n)
+          (ap (has_number (map literal_key literals)) (sym same) ∙ keys_tell l literals ∙ there)
+      | inr other ↦ sym (or_false (has_number (map literal_key literals) n))
+          ∙ ap (λ b. has_number (map literal_key literals) n || b) (sym (ne_eqb (literal_key l) n other))
+    ]
   where
-    turned : (b n : Bool) → n ≡ not b → cond b literals (literals ++ l ∷ []) ≡ cond n (literals ++ l ∷ []) literals
-    turned true n h = ap (λ c. cond c (literals ++ l ∷ []) literals) (sym h)
-    turned false n h = ap (λ c. cond c (literals ++ l ∷ []) literals) (sym h)
+    held : (a b : Bool) → a ≡ true → a ≡ (a || b)
+    held true b h = refl
+    held false b h = absurd (false≢true h)
+
+-- a literal is new where its key is
+new_key : (l : Literal) (literals : List Literal) (keys : List ℕ) → AreKeysOf literals keys
+    → not (has_number keys (literal_key l)) ≡ not (list_any (same_literal l) literals)
+new_key l literals keys are = ap not (are (literal_key l) ∙ keys_tell l literals)
+
+-- the keys with a literal's key are those of the literals with it
+keys_more : (l : Literal) (literals : List Literal) (keys more : List ℕ) → AreKeysOf literals keys
+    → ((n : ℕ) → has_number more n ≡ (has_number keys n || (literal_key l == n)))
+    → AreKeysOf (add_literal literals l) more
+keys_more l literals keys more are grown n =
+    grown n ∙ ap (λ b. b || (literal_key l == n)) (are n) ∙ by_test (list_any (same_literal l) literals) refl
+  where
+    by_test : (b : Bool) → list_any (same_literal l) literals ≡ b
+        → (has_number (map literal_key literals) n || (literal_key l == n))
+        ≡ has_number (map literal_key (cond b literals (literals ++ l ∷ []))) n
+    by_test true h = sym (none_more l literals n h)
+    by_test false h = sym (one_more l literals n)
+
+pub if_new : {E : Type 0} (r : Result Bool E) (l : Literal) (literals : List Literal) (keys : List ℕ) (key : ℕ)
+    → key ≡ literal_key l → AreKeysOf literals keys → IfOk r (λ is_new. is_new ≡ not (has_number keys key))
+    → IfOk r (λ is_new. is_new ≡ not (list_any (same_literal l) literals))
+if_new (Ok is_new) l literals keys key is are h =
+    h ∙ ap (λ k. not (has_number keys k)) is ∙ new_key l literals keys are
+if_new (Err e) l literals keys key is are h = h
+
+pub if_more : {E : Type 0} (r : Result Bool E) (l : Literal) (literals : List Literal) (keys more : List ℕ) (key : ℕ)
+    → key ≡ literal_key l → AreKeysOf literals keys
+    → OnOk r ((n : ℕ) → has_number more n ≡ (has_number keys n || (key == n)))
+    → OnOk r (AreKeysOf (add_literal literals l) more)
+if_more (Ok is_new) l literals keys more key is are h =
+    keys_more l literals keys more are (λ n. h n ∙ ap (λ k. has_number keys n || (k == n)) is)
+if_more (Err e) l literals keys more key is are h = h

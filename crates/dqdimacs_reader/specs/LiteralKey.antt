@@ -1,6 +1,7 @@
 -- A number of its own for each literal: twice the variable, and one more for a negated variable (as in AIGER).
-use Rattle.std.specs.Prelude.{◌≡◌, ℕ, ◌+◌, ◌*◌, List, map}
+use Rattle.std.specs.Prelude.{◌≡◌, ℕ, ◌+◌, ◌*◌, List, map, IfSome}
 use Rattle.dq_lits.specs.Literal.{Literal, positive, negative}
+use Rattle.number_tables.specs.Numbers.{has_number}
 use Rattle.dqdimacs_reader.specs.declared.distinct.DistinctLiterals.TheInside.{Inside}
 
 abbrev pub literal_key : Literal → ℕ
@@ -10,6 +11,9 @@ literal_key (negative v) = 2 * v + 1
 abbrev pub literals_inside : Inside → List Literal
 literals_inside d = d.literals.items
 
--- the keys of the literals, in order
+-- the same numbers as the keys of these literals
+abbrev pub AreKeysOf : List Literal → List ℕ → Type 0
+AreKeysOf literals keys = (n : ℕ) → has_number keys n ≡ has_number (map literal_key literals) n
+
 abbrev pub HasKeys : Inside → Type 0
-HasKeys d = d.keys ≡ map literal_key d.literals.items
+HasKeys d = IfSome d.keys (AreKeysOf d.literals.items)

@@ -1,18 +1,25 @@
-ghost use Rattle.std.specs.Prelude.{◌≡◌, [], OnOk, OnErr};
+ghost use Rattle.std.specs.Prelude.{◌≡◌, [], IfOk, IfSome, OnOk, OnErr, not};
+ghost use Rattle.std.specs.List.{list_any};
+ghost use Rattle.dq_lits.specs.Literal.{same_literal};
 ghost use Rattle.dqdimacs_reader.specs.Building.{add_literal};
-ghost use Rattle.dqdimacs_reader.specs.LiteralKey.{literal_key};
+ghost use Rattle.dqdimacs_reader.specs.LiteralKey.{literal_key, AreKeysOf};
 
 use dq_lits::{Lit, Memory};
 use number_tables::NumberSet;
 use std::alloc::Global;
 use std::marker::Model;
 
+/// Up to so many literals are looked through one by one.
+const FEW: usize = 16;
+
 /// The distinct literals of a clause, in order of first occurrence.
 #[derive(Debug, Drop)]
 pub struct DistinctLiterals {
+    alloc: Global,
     literals: Vec<Lit>,
-    // A literal's key stands here from its first occurrence on, so that a long clause is read in linear time.
-    keys: NumberSet,
+    // The literals' keys, once there are too many literals to look through, so that a long clause is read in linear
+    // time. Most clauses are short, and have none.
+    keys: Option<NumberSet>,
 }
 
 impl Model for DistinctLiterals {
@@ -34,8 +41,9 @@ impl DistinctLiterals {
         ensures { result ≡ [] }
     {
         DistinctLiterals {
+            alloc,
             literals: Vec::new(alloc),
-            keys: NumberSet::new(alloc),
+            keys: None,
         }
     }
 
@@ -44,12 +52,10 @@ impl DistinctLiterals {
         ensures ok { OnOk result (self.new ≡ add_literal self.old literal) }
         ensures err { OnErr result (self.new ≡ self.old) }
     {
-        self.literals.reserve(1)?;
-        let is_new = self.keys.insert(key_of(literal))?;
-        if is_new {
-            self.literals.push(literal).unwrap();
+        if self.keys.is_none() && self.literals.len() < FEW {
+            return add_to_few(&mut self.literals, literal);
         }
-        Ok(())
+        add_by_key(self.alloc, &mut self.literals, &mut self.keys, literal)
     }
 
     /// The literals.
@@ -58,6 +64,80 @@ impl DistinctLiterals {
     {
         &self.literals
     }
+}
+
+fn add_to_few(literals: &mut Vec<Lit>, literal: Lit) -> Result<(), Memory>
+    ensures ok { OnOk result (literals.new.items ≡ add_literal literals.old.items literal) }
+    ensures err { OnErr result (literals.new.items ≡ literals.old.items) }
+{
+    if !is_among(literals, literal) {
+        literals.push(literal)?;
+    }
+    Ok(())
+}
+
+fn is_among(literals: &[Lit], literal: Lit) -> bool
+    ensures { result ≡ list_any (same_literal literal) literals.now }
+{
+    literals.iter().any(|l| *l == literal)
+}
+
+fn add_by_key(
+    alloc: Global,
+    literals: &mut Vec<Lit>,
+    keys: &mut Option<NumberSet>,
+    literal: Lit,
+) -> Result<(), Memory>
+    requires keys { IfSome keys.old (AreKeysOf literals.old.items) }
+    ensures keys { IfSome keys.new (AreKeysOf literals.new.items) }
+    ensures ok { OnOk result (literals.new.items ≡ add_literal literals.old.items literal) }
+    ensures err { OnErr result (literals.new.items ≡ literals.old.items) }
+{
+    literals.reserve(1)?;
+    if insert_key(alloc, literals, keys, literal)? {
+        literals.push(literal).unwrap();
+    }
+    Ok(())
+}
+
+// Whether a literal is new, and its key among those of these literals.
+fn insert_key(
+    alloc: Global,
+    literals: &[Lit],
+    keys: &mut Option<NumberSet>,
+    literal: Lit,
+) -> Result<bool, Memory>
+    requires keys { IfSome keys.old (AreKeysOf literals.now) }
+    ensures is_new { IfOk result (λ is_new. is_new ≡ not (list_any (same_literal literal) literals.now)) }
+    ensures keys { OnOk result (IfSome keys.new (AreKeysOf (add_literal literals.now literal))) }
+    ensures err { OnErr result (IfSome keys.new (AreKeysOf literals.now)) }
+{
+    if keys.is_none() {
+        *keys = Some(keys_of(alloc, literals)?);
+    }
+    let Some(keys) = keys else { unreachable!() };
+    insert_into(literals, keys, literal)
+}
+
+// The same where there are keys.
+fn insert_into(literals: &[Lit], keys: &mut NumberSet, literal: Lit) -> Result<bool, Memory>
+    requires keys { AreKeysOf literals.now keys.old }
+    ensures is_new { IfOk result (λ is_new. is_new ≡ not (list_any (same_literal literal) literals.now)) }
+    ensures keys { OnOk result (AreKeysOf (add_literal literals.now literal) keys.new) }
+    ensures err { OnErr result (keys.new ≡ keys.old) }
+{
+    let _ = literals;
+    keys.insert(key_of(literal))
+}
+
+fn keys_of(alloc: Global, literals: &[Lit]) -> Result<NumberSet, Memory>
+    ensures { IfOk result (AreKeysOf literals.now) }
+{
+    let mut keys = NumberSet::new(alloc);
+    for literal in literals {
+        keys.insert(key_of(*literal))?;
+    }
+    Ok(keys)
 }
 
 // A number of its own for each literal.
