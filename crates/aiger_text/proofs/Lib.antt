@@ -8,7 +8,6 @@ mod LineNumbers
 mod Names
 mod NaturalTokens
 mod NumberNames
-mod PlainGates
 mod ReadIsSpelled
 mod ReadNetlist
 mod ReadSymbols

@@ -4,7 +4,8 @@ use Rattle.std.specs.List.{AllZip, position}
 use Rattle.std.proofs.lemmas.Bool.{cases_Bool}
 use Rattle.circuit_plain.specs.Netlist.{Netlist}
 use Rattle.dq_text.specs.Line.{TextLine, line_tokens, extend_line, lines_from}
-use Rattle.aiger_text.specs.Lines.{header_of, numbers_of, input_line, output_line, gate_line, symbol_of, symbol_line, is_blank_line, begins_comment}
+use Rattle.dq_text.specs.BlankLine.{is_blank_line}
+use Rattle.aiger_text.specs.Lines.{header_of, numbers_of, input_line, output_line, gate_line, symbol_of, symbol_line, begins_comment}
 use Rattle.aiger_text.specs.Scan.{Body, LineFault, next_part, start, go_on, with_symbol, stands_on_defined, reads_defined, or_gate, unless_undefined, finish, read_line, at_end, behind_header, read_lines, read_body, scan}
 use Rattle.aiger_text.specs.Symbol.{SymbolTable}
 use Rattle.aiger_text.specs.declared.headers.Header.{Header}

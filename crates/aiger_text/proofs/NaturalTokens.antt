@@ -1,21 +1,14 @@
 -- Tokens that are natural numbers, as a line's reader takes them and as the grammar spells them.
-use Rattle.std.proofs.Common.{◌≡◌, ℕ, ◌<◌, ◌^◌, Bool, true, false, pos, negsuc, List, [], ◌∷◌, map, Option, None, Some, refl, sym, ◌∙◌, ap, ap₂, arith, subst, option_and_then, option_map}
+use Rattle.std.proofs.Common.{◌≡◌, ℕ, ◌<◌, ◌^◌, pos, List, [], ◌∷◌, map, Option, None, Some, refl, sym, ◌∙◌, ap, ap₂, arith, subst, option_and_then, option_map}
 use Rattle.std.specs.List.{AllByRecursion}
-use Rattle.dq_text.specs.Number.{number_of}
-use Rattle.dq_text.specs.declared.numbers.Number.{Number}
-use Rattle.dq_text.specs.declared.numbers.Number.TheVariants.{Int, NotANumber, TooBig as TooBigNumber}
+use Rattle.dq_text.proofs.Naturals.{natural_spelled, natural_taken}
+use Rattle.dq_text.specs.Number.{natural_of, number_of}
+use Rattle.dq_text.specs.declared.numbers.Number.TheVariants.{Int}
 use Rattle.aiger_text.specs.Grammar.{naturals}
-use Rattle.aiger_text.specs.Lines.{begins_with_minus, natural_number, natural_of, numbers_of}
+use Rattle.aiger_text.specs.Lines.{numbers_of}
 
 abbrev pub IsSmallNumber : ℕ → Type 0
 IsSmallNumber n = n < 10 ^ 18
-
-pub natural_is : (minus : Bool) (number : Number) (n : ℕ) → natural_number minus number ≡ Some n → n < 10 ^ 18 → number ≡ Int (pos n)
-natural_is minus NotANumber n h small = cc
-natural_is true TooBigNumber n h small = cc
-natural_is false TooBigNumber n h small = let e : 10 ^ 18 ≡ n = cc in absurd (omega arith)
-natural_is minus (Int (pos m)) n h small = let e : m ≡ n = cc in ap (λ k. Int (pos k)) e
-natural_is minus (Int (negsuc m)) n h small = cc
 
 numbers_parts : (o : Option ℕ) (os : Option (List ℕ)) (ns : List ℕ) → option_and_then (λ n. option_map (λ rest. n ∷ rest) os) o ≡ Some ns →
     (n : ℕ) × (rest : List ℕ) × (o ≡ Some n) × (os ≡ Some rest) × (ns ≡ n ∷ rest)
@@ -28,7 +21,7 @@ numbers_are [] ns h small = let e : [] ≡ ns = cc in ap naturals e
 numbers_are (token ∷ tokens) ns h small =
     let parts = numbers_parts (natural_of token) (numbers_of tokens) ns h in
     let all = subst (AllByRecursion IsSmallNumber) parts.4 small in
-    ap₂ (λ x xs. x ∷ xs) (natural_is (begins_with_minus token) (number_of token) parts.0 parts.2 all.0) (numbers_are tokens parts.1 parts.3 all.1)
+    ap₂ (λ x xs. x ∷ xs) (natural_spelled token parts.0 parts.2 all.0) (numbers_are tokens parts.1 parts.3 all.1)
     ∙ ap naturals (sym parts.4)
 
 pub numbers_from : (tokens : List (List ℕ)) (ns : List ℕ) → map number_of tokens ≡ naturals ns → numbers_of tokens ≡ Some ns
@@ -38,6 +31,6 @@ numbers_from (token ∷ tokens) [] h = cc
 numbers_from (token ∷ tokens) (n ∷ ns) h =
     let head : number_of token ≡ Int (pos n) = cc in
     let tail : map number_of tokens ≡ naturals ns = cc in
-    let here : natural_of token ≡ Some n = ap (natural_number (begins_with_minus token)) head in
+    let here : natural_of token ≡ Some n = natural_taken token n head in
     ap (λ o. option_and_then (λ m. option_map (λ rest. m ∷ rest) (numbers_of tokens)) o) here
     ∙ ap (λ os. option_map (λ rest. n ∷ rest) os) (numbers_from tokens ns tail)

@@ -10,6 +10,7 @@ use Rattle.aiger_text.specs.Lines.{is_too_big, is_positive, is_literal, is_defin
 use Rattle.aiger_text.specs.ReaderState.{IsNewVariable, IsNewGate}
 use Rattle.aiger_text.specs.Scan.{Body, LineFault, go_on, at_end, read_body}
 use Rattle.aiger_text.specs.declared.headers.Header.{Header}
+use Rattle.aiger_text.specs.declared.numbers.GateNumbers.{GateNumbers}
 use Rattle.aiger_text.specs.declared.files.AagFile.{AagFile}
 use Rattle.aiger_text.specs.declared.faults.AagFault.{AagFault}
 use Rattle.aiger_text.specs.declared.faults.AagFault.TheVariants.{TooBig, Range, DefinedTwice}
@@ -84,23 +85,23 @@ reads_output net made l h =
     let same : with_output net l ≡ made = cc in
     record { small = leb-false (10 ^ 18) l small.0; range = leb-true l (2 * net.max_var + 1) (not-false (is_literal net.max_var l) range.0); made_is = same }
 
-record ReadsGate (net made : Netlist) (g : Gate) : Type 0 where
-  small : (g.variable < 10 ^ 18) × (g.left < 10 ^ 18) × (g.right < 10 ^ 18)
+record ReadsGate (net made : Netlist) (g : GateNumbers) : Type 0 where
+  small : (g.lhs < 10 ^ 18) × (g.left < 10 ^ 18) × (g.right < 10 ^ 18)
   in_range : gate_in_range net.max_var g ≡ true
-  fresh : is_defined net (g.variable / 2) ≡ false
-  made_is : with_gate net (record { variable = g.variable / 2; left = g.left; right = g.right }) ≡ made
+  fresh : is_defined net (g.lhs / 2) ≡ false
+  made_is : with_gate net (record { variable = g.lhs / 2; left = g.left; right = g.right }) ≡ made
 
-reads_gate : (net made : Netlist) (g : Gate) → gate_of net g.variable g.left g.right ≡ Ok made → ReadsGate net made g
+reads_gate : (net made : Netlist) (g : GateNumbers) → gate_of net g.lhs g.left g.right ≡ Ok made → ReadsGate net made g
 reads_gate net made g h =
-    let small = unless_error (is_too_big g.variable || (is_too_big g.left || is_too_big g.right)) TooBig _ made h in
+    let small = unless_error (is_too_big g.lhs || (is_too_big g.left || is_too_big g.right)) TooBig _ made h in
     let range = unless_error (not (gate_in_range net.max_var g)) Range _ made small.1 in
-    let added = with_gate net (record { variable = g.variable / 2; left = g.left; right = g.right }) in
-    let fresh = unless_error (is_defined net (g.variable / 2)) DefinedTwice (Ok added) made range.1 in
-    let first = or_parts (is_too_big g.variable) (is_too_big g.left || is_too_big g.right) small.0 in
+    let added = with_gate net (record { variable = g.lhs / 2; left = g.left; right = g.right }) in
+    let fresh = unless_error (is_defined net (g.lhs / 2)) DefinedTwice (Ok added) made range.1 in
+    let first = or_parts (is_too_big g.lhs) (is_too_big g.left || is_too_big g.right) small.0 in
     let sides = or_parts (is_too_big g.left) (is_too_big g.right) first.1 in
     let same : added ≡ made = cc in
     record {
-      small = (leb-false (10 ^ 18) g.variable first.0, leb-false (10 ^ 18) g.left sides.0, leb-false (10 ^ 18) g.right sides.1);
+      small = (leb-false (10 ^ 18) g.lhs first.0, leb-false (10 ^ 18) g.left sides.0, leb-false (10 ^ 18) g.right sides.1);
       in_range = not-false (gate_in_range net.max_var g) range.0;
       fresh = fresh.0;
       made_is = same;
@@ -197,7 +198,7 @@ module _ (header_line : ℕ) (h : Header) (file : AagFile) where
           let on = goes_on line.number b (gate_line b.netlist (numbers_of tokens)) next file
           (sym (on_part GateLine b line lines number (at_gate header_line h no_symbols is os done all_inputs all_outputs below)) ∙ read) in
           let found = gate_number b.netlist on.net (numbers_of tokens) on.line_is in
-          let written : Gate = record { variable = found.0; left = found.1; right = found.2 } in
+          let written : GateNumbers = record { lhs = found.0; left = found.1; right = found.2 } in
           let v = found.0 / 2 in
           let reads = reads_gate b.netlist on.net written found.4 in
           let new : IsNewGate b.netlist written v = is_new_gate b.netlist written reads.in_range reads.fresh in

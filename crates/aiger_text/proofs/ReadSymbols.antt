@@ -8,7 +8,8 @@ use Rattle.std.proofs.lemmas.Map.{none_passes_from_lookup}
 use Rattle.circuit_plain.specs.declared.circuits.Gate.{Gate}
 use Rattle.dq_text.specs.Line.{TextLine}
 use Rattle.aiger_text.specs.Grammar.{AreNames, SpellsSymbol, SpellSymbols, IsComment, EndsWith}
-use Rattle.aiger_text.specs.Lines.{SymbolLine, max_count, symbol_of, add_symbol, symbol_line, is_blank_line, begins_comment}
+use Rattle.dq_text.specs.BlankLine.{is_blank_line}
+use Rattle.aiger_text.specs.Lines.{SymbolLine, max_count, symbol_of, add_symbol, symbol_line, begins_comment}
 use Rattle.aiger_text.specs.Scan.{Body, LineFault, finish, at_end, with_symbol, behind_gates, read_body}
 use Rattle.aiger_text.specs.Symbol.{SymbolTable, name_at}
 use Rattle.aiger_text.specs.declared.headers.Header.{Header}

@@ -6,7 +6,8 @@ use Rattle.std.proofs.lemmas.List.Elements.{All-from_recursion}
 use Rattle.dq_text.specs.Line.{TextLine, extend_line, lines_from}
 use Rattle.dq_text.proofs.LineWords.{AreNoFeed}
 use Rattle.aiger_text.specs.Grammar.{names, SpellsSymbol, SpellSymbols, SpellsCircuit}
-use Rattle.aiger_text.specs.Lines.{SymbolLine, is_blank_line, keep_byte, without_end_crs}
+use Rattle.dq_text.specs.BlankLine.{is_blank_line}
+use Rattle.aiger_text.specs.Lines.{SymbolLine, keep_byte, without_end_crs}
 use Rattle.aiger_text.specs.Spellable.{IsName, IsSpellable}
 use Rattle.aiger_text.specs.Symbol.{SymbolTable}
 use Rattle.aiger_text.specs.declared.files.AagFile.{AagFile}

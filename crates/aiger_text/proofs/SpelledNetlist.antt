@@ -13,6 +13,7 @@ use Rattle.aiger_text.specs.Lines.{max_count, is_too_big, is_positive, is_litera
 use Rattle.aiger_text.specs.Scan.{Body, LineFault, next_part, go_on, read_line, read_body}
 use Rattle.aiger_text.specs.Symbol.{SymbolTable}
 use Rattle.aiger_text.specs.declared.headers.Header.{Header}
+use Rattle.aiger_text.specs.declared.numbers.GateNumbers.{GateNumbers}
 use Rattle.aiger_text.specs.declared.files.AagFile.{AagFile}
 use Rattle.aiger_text.specs.declared.faults.AagFault.TheVariants.{TooBig, Range}
 use Rattle.aiger_text.specs.declared.body.Part.{Part}
@@ -96,9 +97,9 @@ output_passes net l small range =
     cond-false (is_too_big l) (Err TooBig) _ small
     ∙ cond-false (not (is_literal net.max_var l)) (Err Range) _ (ap not range)
 
--- a gate with the positive literal of its variable, as its line spells it
-abbrev spelled_gate : Gate → Gate
-spelled_gate g = record { variable = 2 * g.variable; left = g.left; right = g.right }
+-- the numbers of a gate, as its line spells it
+abbrev spelled_gate : Gate → GateNumbers
+spelled_gate g = record { lhs = 2 * g.variable; left = g.left; right = g.right }
 
 module _ (net : Netlist) (lawful : IsNetlist net) (few : net.max_var ≤ max_count) (header_line : ℕ) (file : AagFile) where
   abbrev with_inputs : List ℕ → Body

@@ -9,7 +9,8 @@ use Rattle.dq_text.specs.Bytes.{kind_of}
 use Rattle.dq_text.specs.Line.{TextLine, line_tokens, extend_token}
 use Rattle.dq_text.specs.Token.{is_separator}
 use Rattle.aiger_text.specs.Grammar.{names, AreNames, letter_of, SpellsSymbol, SpellSymbols, EndsWith}
-use Rattle.aiger_text.specs.Lines.{SymbolLine, add_symbol, symbol_line, has_no_token, is_blank_line, begins_comment}
+use Rattle.dq_text.specs.BlankLine.{has_no_token, is_blank_line}
+use Rattle.aiger_text.specs.Lines.{SymbolLine, add_symbol, symbol_line, begins_comment}
 use Rattle.aiger_text.specs.Scan.{Body, LineFault, finish, at_end, with_symbol, behind_gates, read_body}
 use Rattle.aiger_text.specs.Symbol.{SymbolTable, name_at}
 use Rattle.aiger_text.specs.declared.headers.Header.{Header}

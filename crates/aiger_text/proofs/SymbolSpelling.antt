@@ -3,11 +3,11 @@ use Rattle.std.proofs.Common.{◌≡◌, ℕ, suc, ◌+◌, ◌<◌, ◌≤◌, 
 use Rattle.std.specs.Char.{is_ascii_digit}
 use Rattle.std.specs.List.{list_all}
 use Rattle.std.proofs.lemmas.Bool.{and_from, and_parts, or_left, or_right, or_cases, eq-eqb, eqb-true, cases_Bool, cond-true, cond-false}
-use Rattle.dq_text.specs.Number.{number_of}
+use Rattle.dq_text.proofs.Naturals.{natural_spelled, natural_taken}
+use Rattle.dq_text.specs.Number.{natural_of, number_of}
 use Rattle.dq_text.specs.declared.numbers.Number.TheVariants.{Int}
 use Rattle.aiger_text.specs.Grammar.{letter_of, SpellsSymbol}
-use Rattle.aiger_text.specs.Lines.{SymbolLine, natural_of, natural_number, begins_with_minus, if_named, behind_place, digits_end, behind_kind, symbol_of, without_end_crs}
-use Rattle.aiger_text.proofs.NaturalTokens.{natural_is}
+use Rattle.aiger_text.specs.Lines.{SymbolLine, if_named, behind_place, digits_end, behind_kind, symbol_of, without_end_crs}
 
 -- digits, and a byte that is none
 digits_stop : (digits : List ℕ) (byte : ℕ) (rest : List ℕ) → list_all is_ascii_digit digits ≡ true → is_ascii_digit byte ≡ false →
@@ -54,7 +54,7 @@ behind_kind_from b s digits separator rest are place separated name named =
     let stop = digits_stop digits separator rest are apart.1 in
     let behind : ℕ → Option SymbolLine = λ n. behind_place b n (drop (digits_end bytes) bytes) in
     ap (λ xs. option_and_then behind (natural_of xs)) stop.0
-    ∙ ap (λ number. option_and_then behind (natural_number (begins_with_minus digits) number)) place
+    ∙ ap (option_and_then behind) (natural_taken digits s.place place)
     ∙ ap (behind_place b s.place) stop.1
     ∙ cond-true (separator == 32 || separator == 9) (if_named b s.place (without_end_crs rest)) None apart.0
     ∙ ap (if_named b s.place) (sym name)
@@ -102,7 +102,7 @@ kind_is b bytes s h small =
     let number = number_parts (natural_of (take end bytes)) (λ n. behind_place b n (drop end bytes)) s h in
     let behind = place_parts b number.0 (drop end bytes) s number.2 in
     let named = named_is b number.0 (without_end_crs behind.1) s behind.4 in
-    let natural : number_of (take end bytes) ≡ Int (pos number.0) = natural_is (begins_with_minus (take end bytes)) (number_of (take end bytes)) number.0 number.1 (omega arith) in
+    let natural : number_of (take end bytes) ≡ Int (pos number.0) = natural_spelled (take end bytes) number.0 number.1 (omega arith) in
     record {
       digits = take end bytes;
       separator = behind.0;

@@ -9,6 +9,7 @@ use Rattle.circuit_plain.specs.declared.circuits.Gate.{Gate}
 use Rattle.aiger_text.specs.Lines.{is_too_big, is_positive, is_literal, is_defined, with_input, with_gate, input_of, gate_of}
 use Rattle.aiger_text.specs.ReaderState.{IsNewVariable, IsNewGate}
 use Rattle.aiger_text.specs.declared.faults.AagFault.TheVariants.{TooBig, Range, DefinedTwice}
+use Rattle.aiger_text.specs.declared.numbers.GateNumbers.{GateNumbers}
 
 no_gate : Gate
 no_gate = record { variable = 0; left = 0; right = 0 }
@@ -50,27 +51,27 @@ input_passes net l small positive undefined =
     ∙ second (is_defined net (l / 2)) (Err DefinedTwice) (Ok (with_input net (l / 2))) undefined
 
 -- the checks of a gate's range
-abbrev pub gate_in_range : ℕ → Gate → Bool
-gate_in_range max_var g = is_positive max_var g.variable && (is_literal max_var g.left && is_literal max_var g.right)
+abbrev pub gate_in_range : ℕ → GateNumbers → Bool
+gate_in_range max_var g = is_positive max_var g.lhs && (is_literal max_var g.left && is_literal max_var g.right)
 
-pub gate_passes : (net : Netlist) (g : Gate) → is_too_big g.variable ≡ false → is_too_big g.left ≡ false → is_too_big g.right ≡ false →
-    gate_in_range net.max_var g ≡ true → is_defined net (g.variable / 2) ≡ false →
-    gate_of net g.variable g.left g.right ≡ Ok (with_gate net (record { variable = g.variable / 2; left = g.left; right = g.right }))
+pub gate_passes : (net : Netlist) (g : GateNumbers) → is_too_big g.lhs ≡ false → is_too_big g.left ≡ false → is_too_big g.right ≡ false →
+    gate_in_range net.max_var g ≡ true → is_defined net (g.lhs / 2) ≡ false →
+    gate_of net g.lhs g.left g.right ≡ Ok (with_gate net (record { variable = g.lhs / 2; left = g.left; right = g.right }))
 gate_passes net g lhs left right range undefined =
-    second (is_too_big g.variable || (is_too_big g.left || is_too_big g.right)) (Err TooBig) _
-    (or_from (is_too_big g.variable) (is_too_big g.left || is_too_big g.right) lhs (or_from (is_too_big g.left) (is_too_big g.right) left right))
+    second (is_too_big g.lhs || (is_too_big g.left || is_too_big g.right)) (Err TooBig) _
+    (or_from (is_too_big g.lhs) (is_too_big g.left || is_too_big g.right) lhs (or_from (is_too_big g.left) (is_too_big g.right) left right))
     ∙ second (not (gate_in_range net.max_var g)) (Err Range) _ (ap not range)
-    ∙ second (is_defined net (g.variable / 2)) (Err DefinedTwice) _ undefined
+    ∙ second (is_defined net (g.lhs / 2)) (Err DefinedTwice) _ undefined
 
-pub is_new_gate : (net : Netlist) (g : Gate) → gate_in_range net.max_var g ≡ true → is_defined net (g.variable / 2) ≡ false → IsNewGate net g (g.variable / 2)
+pub is_new_gate : (net : Netlist) (g : GateNumbers) → gate_in_range net.max_var g ≡ true → is_defined net (g.lhs / 2) ≡ false → IsNewGate net g (g.lhs / 2)
 is_new_gate net g range undefined =
-    let parts = and_parts (is_positive net.max_var g.variable) (is_literal net.max_var g.left && is_literal net.max_var g.right) range in
+    let parts = and_parts (is_positive net.max_var g.lhs) (is_literal net.max_var g.left && is_literal net.max_var g.right) range in
     let sides = and_parts (is_literal net.max_var g.left) (is_literal net.max_var g.right) parts.1 in
-    let even = and_parts (g.variable % 2 == 0) (nat_le 2 g.variable && nat_le g.variable (2 * net.max_var)) parts.0 in
+    let even = and_parts (g.lhs % 2 == 0) (nat_le 2 g.lhs && nat_le g.lhs (2 * net.max_var)) parts.0 in
     record {
       variable = refl;
-      even = eqb-true (g.variable % 2) 0 even.0;
-      new = is_new net g.variable parts.0 undefined;
+      even = eqb-true (g.lhs % 2) 0 even.0;
+      new = is_new net g.lhs parts.0 undefined;
       left = leb-true g.left (2 * net.max_var + 1) sides.0;
       right = leb-true g.right (2 * net.max_var + 1) sides.1;
     }

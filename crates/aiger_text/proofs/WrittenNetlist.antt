@@ -8,9 +8,9 @@ use Rattle.std.proofs.lemmas.List.{map-append}
 use Rattle.std.proofs.lemmas.List.Elements.{recursion_from_All}
 use Rattle.circuit_plain.specs.Netlist.{Netlist, IsNetlist, IsVariable, IsLiteral, IsGate}
 use Rattle.circuit_plain.specs.declared.circuits.Gate.{Gate}
-use Rattle.dq_text.specs.Written.{number_text}
+use Rattle.dq_text.specs.Written.{number_text, number_line}
 use Rattle.dq_text.proofs.LineWords.{AreWords, AreNoFeed}
-use Rattle.aiger_text.specs.Canonical.{number_line, header_text, input_text, gate_text, netlist_text}
+use Rattle.aiger_text.specs.Canonical.{header_text, input_text, gate_text, netlist_text}
 use Rattle.aiger_text.specs.Grammar.{input_numbers, output_numbers, gate_numbers, netlist_numbers, SpellsHeader, counts_in}
 use Rattle.aiger_text.specs.Lines.{max_count}
 use Rattle.aiger_text.specs.Spellable.{IsSpellable}

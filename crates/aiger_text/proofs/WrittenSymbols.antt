@@ -9,7 +9,8 @@ use Rattle.dq_text.proofs.LineWords.{AreNoFeed, both_no_feed, word_no_feed, natu
 use Rattle.dq_text.proofs.Numerals.{decimal_digits, natural_is_read}
 use Rattle.aiger_text.specs.Canonical.{symbol_text, comment_text}
 use Rattle.aiger_text.specs.Grammar.{letter_of, names, table_of, SpellsSymbol, SpellSymbols, EndsWith}
-use Rattle.aiger_text.specs.Lines.{SymbolLine, is_blank_line}
+use Rattle.dq_text.specs.BlankLine.{is_blank_line}
+use Rattle.aiger_text.specs.Lines.{SymbolLine}
 use Rattle.aiger_text.specs.Spellable.{IsName, IsSpellable}
 use Rattle.aiger_text.specs.Symbol.{SymbolTable}
 use Rattle.aiger_text.specs.declared.files.AagFile.{AagFile}

@@ -1,15 +1,10 @@
 -- The canonical text of a circuit file: one space between tokens, and LF at the end of each line but for the comment's.
 use Rattle.std.specs.Prelude.{ℕ, ◌*◌, List, [], ◌∷◌, ◌++◌, length, Option, None, Some, codes}
-use Rattle.std.specs.Fmt.{decimal}
 use Rattle.std.specs.List.{flat_map}
 use Rattle.circuit_plain.specs.Netlist.{Netlist}
 use Rattle.circuit_plain.specs.declared.circuits.Gate.{Gate}
-use Rattle.dq_text.specs.Written.{number_text}
+use Rattle.dq_text.specs.Written.{number_text, number_line}
 use Rattle.aiger_text.specs.declared.files.AagFile.{AagFile}
-
--- a number and the end of the line
-abbrev pub number_line : ℕ → List ℕ
-number_line n = decimal n ++ 10 ∷ []
 
 -- `aag M I 0 O A`
 abbrev pub header_text : Netlist → List ℕ

@@ -10,7 +10,8 @@ use Rattle.dq_text.specs.Line.{TextLine, line_tokens, lines_from}
 use Rattle.dq_text.specs.Number.{number_of}
 use Rattle.dq_text.specs.declared.numbers.Number.{Number}
 use Rattle.dq_text.specs.declared.numbers.Number.TheVariants.{Int}
-use Rattle.aiger_text.specs.Lines.{SymbolLine, is_blank_line, max_count, without_end_crs}
+use Rattle.dq_text.specs.BlankLine.{is_blank_line}
+use Rattle.aiger_text.specs.Lines.{SymbolLine, max_count, without_end_crs}
 use Rattle.aiger_text.specs.Scan.{AllGrounded}
 use Rattle.aiger_text.specs.Symbol.{SymbolTable}
 use Rattle.aiger_text.specs.declared.files.AagFile.{AagFile}

@@ -1,33 +1,18 @@
 -- What a line of a circuit file holds (AIGER 1.9, ASCII form).
-use Rattle.std.specs.Prelude.{ℕ, ◌+◌, ◌*◌, ◌/◌, ◌%◌, ◌^◌, ◌==◌, nat_lt, nat_le, pos, negsuc, Bool, true, false, not, ◌&&◌, ◌||◌, List, [], ◌∷◌, ◌++◌, length, take, drop, slice_index, Option, None, Some, Result, Ok, Err, codes, if◌then◌else◌}
+use Rattle.std.specs.Prelude.{ℕ, ◌+◌, ◌*◌, ◌/◌, ◌%◌, ◌^◌, ◌==◌, nat_lt, nat_le, Bool, true, false, not, ◌&&◌, ◌||◌, List, [], ◌∷◌, ◌++◌, length, take, drop, slice_index, Option, None, Some, Result, Ok, Err, codes, if◌then◌else◌}
 use Rattle.std.specs.Char.{is_ascii_digit}
 use Rattle.std.specs.List.{list_any, position_or_len}
 use Rattle.std.specs.Option.{option_map, option_and_then, is_none}
 use Rattle.std.specs.Str.{bytes_eq}
 use Rattle.circuit_plain.specs.Netlist.{Netlist}
 use Rattle.circuit_plain.specs.declared.circuits.Gate.{Gate}
-use Rattle.dq_text.specs.Line.{line_tokens}
-use Rattle.dq_text.specs.Number.{number_of}
-use Rattle.dq_text.specs.declared.numbers.Number.{Number}
-use Rattle.dq_text.specs.declared.numbers.Number.TheVariants.{Int, NotANumber, TooBig as TooBigNumber}
+use Rattle.dq_text.specs.BlankLine.{is_blank_line}
+use Rattle.dq_text.specs.Number.{natural_of}
 use Rattle.aiger_text.specs.Symbol.{SymbolTable, name_at}
 use Rattle.aiger_text.specs.declared.headers.Header.{Header}
+use Rattle.aiger_text.specs.declared.numbers.GateNumbers.{GateNumbers}
 use Rattle.aiger_text.specs.declared.faults.AagFault.{AagFault}
 use Rattle.aiger_text.specs.declared.faults.AagFault.TheVariants.{BadHeader, NotCombinational, BadLine, TooBig, Range, DefinedTwice, BadSymbol}
-
-abbrev pub begins_with_minus : List ℕ → Bool
-begins_with_minus [] = false
-begins_with_minus (byte ∷ _) = byte == 45
-
-abbrev pub natural_number : Bool → Number → Option ℕ
-natural_number minus NotANumber = None
-natural_number minus TooBigNumber = if minus then None else Some (10 ^ 18)
-natural_number minus (Int (pos n)) = Some n
-natural_number minus (Int (negsuc n)) = None
-
--- a token as a natural number, where 10^18 stands for every larger one
-abbrev pub natural_of : List ℕ → Option ℕ
-natural_of token = natural_number (begins_with_minus token) (number_of token)
 
 -- the natural numbers that these tokens are, if all are
 abbrev pub numbers_of : List (List ℕ) → Option (List ℕ)
@@ -104,9 +89,9 @@ abbrev pub one_of : Option (List ℕ) → Result ℕ AagFault
 one_of (Some (l ∷ [])) = Ok l
 one_of _ = Err BadLine
 
--- three of them: the gate that they are, with a literal for its variable
-abbrev pub three_of : Option (List ℕ) → Result Gate AagFault
-three_of (Some (lhs ∷ left ∷ right ∷ [])) = Ok (record { variable = lhs; left = left; right = right })
+-- three of them: the literal of a gate's variable, and the two that the gate reads
+abbrev pub three_of : Option (List ℕ) → Result GateNumbers AagFault
+three_of (Some (lhs ∷ left ∷ right ∷ [])) = Ok (record { lhs = lhs; left = left; right = right })
 three_of _ = Err BadLine
 
 abbrev pub input_from : Netlist → Result ℕ AagFault → Result Netlist AagFault
@@ -117,8 +102,8 @@ abbrev pub output_from : Netlist → Result ℕ AagFault → Result Netlist AagF
 output_from net (Ok l) = output_of net l
 output_from net (Err name) = Err name
 
-abbrev pub gate_from : Netlist → Result Gate AagFault → Result Netlist AagFault
-gate_from net (Ok g) = gate_of net g.variable g.left g.right
+abbrev pub gate_from : Netlist → Result GateNumbers AagFault → Result Netlist AagFault
+gate_from net (Ok g) = gate_of net g.lhs g.left g.right
 gate_from net (Err name) = Err name
 
 abbrev pub input_line : Netlist → Option (List ℕ) → Result Netlist AagFault
@@ -178,13 +163,6 @@ add_symbol header table s =
 abbrev pub symbol_line : Header → SymbolTable → Option SymbolLine → Result SymbolTable AagFault
 symbol_line header table None = Err BadSymbol
 symbol_line header table (Some s) = add_symbol header table s
-
-abbrev pub has_no_token : List (List ℕ) → Bool
-has_no_token [] = true
-has_no_token (_ ∷ _) = false
-
-abbrev pub is_blank_line : List ℕ → Bool
-is_blank_line text = has_no_token (line_tokens text)
 
 -- `c`, and blanks behind it
 abbrev pub begins_comment : List ℕ → Bool

@@ -2,13 +2,13 @@
 use Rattle.std.specs.Prelude.{◌≡◌, ℕ, ◌/◌, ◌%◌, ◌^◌, ◌<◌, ◌≤◌, length, Result, Ok, Err}
 use Rattle.number_tables.specs.Numbers.{has_number}
 use Rattle.circuit_plain.specs.Netlist.{Netlist, IsVariable, IsLiteral, IsDefined}
-use Rattle.circuit_plain.specs.declared.circuits.Gate.{Gate}
 use Rattle.aiger_text.specs.Lines.{is_defined}
 use Rattle.aiger_text.specs.Scan.{Body}
 use Rattle.aiger_text.specs.Symbol.{SymbolTable}
 use Rattle.aiger_text.specs.declared.body.Reader.{Reader}
 use Rattle.aiger_text.specs.declared.headers.Header.{Header}
 use Rattle.aiger_text.specs.declared.headers.TheConstants.{MAX_COUNT}
+use Rattle.aiger_text.specs.declared.numbers.GateNumbers.{GateNumbers}
 use Rattle.aiger_text.specs.declared.faults.AagFault.{AagFault}
 use Rattle.aiger_text.specs.declared.faults.LineStop.{LineStop}
 use Rattle.aiger_text.specs.declared.faults.LineStop.TheVariants.{Fault, Memory}
@@ -38,9 +38,9 @@ pub record IsNewVariable (net : Netlist) (v : ℕ) : Type 0 where
   pub undefined : ¬ IsDefined net v
 
 -- three numbers that are a gate whose variable is new
-pub record IsNewGate (net : Netlist) (numbers : Gate) (v : ℕ) : Type 0 where
-  pub variable : v ≡ numbers.variable / 2
-  pub even : numbers.variable % 2 ≡ 0
+pub record IsNewGate (net : Netlist) (numbers : GateNumbers) (v : ℕ) : Type 0 where
+  pub variable : v ≡ numbers.lhs / 2
+  pub even : numbers.lhs % 2 ≡ 0
   pub new : IsNewVariable net v
   pub left : IsLiteral net.max_var numbers.left
   pub right : IsLiteral net.max_var numbers.right

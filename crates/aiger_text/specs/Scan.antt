@@ -5,7 +5,8 @@ use Rattle.circuit_plain.specs.Ground.{IsGrounded, IsFirstUngrounded}
 use Rattle.circuit_plain.specs.Netlist.{Netlist}
 use Rattle.circuit_plain.specs.declared.circuits.Gate.{Gate}
 use Rattle.dq_text.specs.Line.{TextLine, line_tokens, lines_from}
-use Rattle.aiger_text.specs.Lines.{header_of, is_defined, numbers_of, input_line, output_line, gate_line, symbol_of, symbol_line, is_blank_line, begins_comment}
+use Rattle.dq_text.specs.BlankLine.{is_blank_line}
+use Rattle.aiger_text.specs.Lines.{header_of, is_defined, numbers_of, input_line, output_line, gate_line, symbol_of, symbol_line, begins_comment}
 use Rattle.aiger_text.specs.Symbol.{SymbolTable}
 use Rattle.aiger_text.specs.declared.headers.Header.{Header}
 use Rattle.aiger_text.specs.declared.faults.AagFault.{AagFault}

@@ -1,7 +1,8 @@
 -- What one line does to the reading.
 use Rattle.std.specs.Prelude.{◌≡◌, ℕ, false, List, Result, Ok, Err}
 use Rattle.dq_text.specs.Line.{TextLine}
-use Rattle.aiger_text.specs.Lines.{is_blank_line, begins_comment}
+use Rattle.dq_text.specs.BlankLine.{is_blank_line}
+use Rattle.aiger_text.specs.Lines.{begins_comment}
 use Rattle.aiger_text.specs.Scan.{Body, LineFault, next_part, read_line}
 use Rattle.aiger_text.specs.declared.body.Part.{Part}
 use Rattle.aiger_text.specs.declared.body.Part.TheVariants.{InputLine, OutputLine, GateLine, SymbolLine}

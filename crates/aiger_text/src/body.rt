@@ -9,9 +9,10 @@ ghost use Rattle.aiger_text.specs.ReaderState.{body_of, IsSmall, IsReady, IsNetl
 
 use crate::faults::{AagFault, LineStop};
 use crate::headers::Header;
-use crate::numbers::{TOO_BIG, one_number, three_numbers};
+use crate::numbers::{GateNumbers, one_number, three_numbers};
 use crate::symbols::Symbols;
-use circuit_plain::{Circuit, Gate};
+use circuit_plain::Circuit;
+use dq_text::TOO_BIG;
 use number_tables::NumberSet;
 use std::alloc::Global;
 
@@ -135,20 +136,16 @@ pub fn take_output(reader: &mut Reader, line: &[u8]) -> Result<(), LineStop>
     Ok(())
 }
 
-// The gate of three numbers, of which the first is the literal of its variable.
-fn gate_variable(reader: &Reader, numbers: Gate) -> Result<u64, AagFault>
+// The variable of the gate that a line's numbers are.
+fn gate_variable(reader: &Reader, numbers: GateNumbers) -> Result<u64, AagFault>
     requires { IsReady reader.now }
     ensures { MatchResult result
-        (λ v. (gate_of reader.now.circuit numbers.variable numbers.left numbers.right
+        (λ v. (gate_of reader.now.circuit numbers.lhs numbers.left numbers.right
         ≡ Ok (with_gate reader.now.circuit (record { variable = v; left = numbers.left; right = numbers.right })))
         × IsNewGate reader.now.circuit numbers v)
-        (λ name. gate_of reader.now.circuit numbers.variable numbers.left numbers.right ≡ Err name) }
+        (λ name. gate_of reader.now.circuit numbers.lhs numbers.left numbers.right ≡ Err name) }
 {
-    let Gate {
-        variable: lhs,
-        left,
-        right,
-    } = numbers;
+    let GateNumbers { lhs, left, right } = numbers;
     if lhs >= TOO_BIG || left >= TOO_BIG || right >= TOO_BIG {
         return Err(AagFault::TooBig);
     }
@@ -163,11 +160,12 @@ fn gate_variable(reader: &Reader, numbers: Gate) -> Result<u64, AagFault>
 }
 
 // Whether three numbers are a gate's in range.
-fn is_gate_in_range(max_var: u64, numbers: Gate) -> bool
+fn is_gate_in_range(max_var: u64, numbers: GateNumbers) -> bool
     requires { max_var < 2 ^ 62 }
-    ensures { result ≡ (is_positive max_var numbers.variable && (is_literal max_var numbers.left && is_literal max_var numbers.right)) }
+    ensures { result ≡ (is_positive max_var numbers.lhs
+        && (is_literal max_var numbers.left && is_literal max_var numbers.right)) }
 {
-    is_positive_literal(max_var, numbers.variable)
+    is_positive_literal(max_var, numbers.lhs)
         && is_literal_in_range(max_var, numbers.left)
         && is_literal_in_range(max_var, numbers.right)
 }
@@ -184,7 +182,7 @@ pub fn take_gate(reader: &mut Reader, line: &[u8]) -> Result<(), LineStop>
     let variable = gate_variable(reader, numbers)?;
     reader
         .circuit
-        .add_gate(numbers.variable, numbers.left, numbers.right)?;
+        .add_gate(numbers.lhs, numbers.left, numbers.right)?;
     reader.defined.insert(variable)?;
     Ok(())
 }

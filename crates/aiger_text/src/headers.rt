@@ -10,7 +10,7 @@ ghost use Rattle.aiger_text.specs.ReaderState.{IsSmall};
 
 use crate::faults::{AagFault, LineStop};
 use crate::numbers::take_numbers;
-use dq_text::LineTokens;
+use dq_text::{LineTokens, is_word};
 
 /// The header's counts: the largest variable, inputs, outputs and gates. The reader knows no latches.
 #[derive(Clone, Copy, Debug, PartialEq, Eq)]
@@ -44,12 +44,6 @@ fn is_aag(word: &[u8]) -> bool
     ensures { result ≡ bytes_eq word.now (codes "aag") }
 {
     is_word(word, b"aag")
-}
-
-fn is_word(text: &[u8], word: &[u8]) -> bool
-    ensures { result ≡ bytes_eq text.now word.now }
-{
-    text == word
 }
 
 // The header of these numbers, if all its tokens are natural numbers.

@@ -4,29 +4,12 @@ ghost use Rattle.std.specs.Prelude.{◌≡◌, ◌∷◌, pos, map, Ok, Some, No
 ghost use Rattle.dq_text.specs.Line.{line_tokens};
 ghost use Rattle.dq_text.specs.Number.{number_of};
 ghost use Rattle.dq_text.specs.declared.numbers.Number.TheVariants.{Int};
-ghost use Rattle.aiger_text.specs.Lines.{natural_of, numbers_of, one_of, three_of};
+ghost use Rattle.aiger_text.specs.Lines.{numbers_of, one_of, three_of};
 ghost use Rattle.aiger_text.specs.LineStop.{IsLineOf};
 
 use crate::faults::{AagFault, LineStop};
-use circuit_plain::Gate;
 use dq_lits::Memory;
-use dq_text::{LineTokens, Number, read_number};
-
-/// Stands for every number of 10^18 or more.
-pub const TOO_BIG: u64 = 1_000_000_000_000_000_000;
-
-/// A token as a natural number, where 10^18 stands for every larger one.
-pub fn natural(token: &[u8]) -> Option<u64>
-    ensures { result ≡ natural_of token.now }
-{
-    match read_number(token) {
-        Number::NotANumber => None,
-        Number::TooBig if matches!(token.first(), Some(b'-')) => None,
-        Number::TooBig => Some(TOO_BIG),
-        Number::Int(n) if n < 0 => None,
-        Number::Int(n) => Some(n.unsigned_abs()),
-    }
-}
+use dq_text::{LineTokens, Number, natural};
 
 /// Puts the numbers that the tokens are in place of those in the buffer, and says whether all tokens
 /// are natural numbers.
@@ -54,32 +37,37 @@ pub fn one_number(line: &[u8], numbers: &mut Vec<u64>) -> Result<u64, LineStop>
     }
 }
 
-/// The three natural numbers of a line, as a gate whose variable stands as a literal.
-pub fn three_numbers(line: &[u8], numbers: &mut Vec<u64>) -> Result<Gate, LineStop>
+/// The three natural numbers of a gate's line, of which nothing is known yet: the literal of the
+/// gate's variable, and the two that the gate reads.
+#[derive(Clone, Copy, Debug)]
+pub struct GateNumbers {
+    pub lhs: u64,
+    pub left: u64,
+    pub right: u64,
+}
+
+/// The three natural numbers of a line.
+pub fn three_numbers(line: &[u8], numbers: &mut Vec<u64>) -> Result<GateNumbers, LineStop>
     ensures { IsLineOf (three_of (numbers_of (line_tokens line.now))) result }
 {
-    match plain_gate(line) {
-        Some(gate) => Ok(gate),
-        None => any_gate(line, numbers),
+    match plain_numbers(line) {
+        Some(plain) => Ok(plain),
+        None => any_numbers(line, numbers),
     }
 }
 
 // The same where all three are below 10^18, read in one pass; nothing is known where it answers none.
-fn plain_gate(line: &[u8]) -> Option<Gate>
-    ensures { IfSome result (λ gate. three_of (numbers_of (line_tokens line.now)) ≡ Ok gate) }
+fn plain_numbers(line: &[u8]) -> Option<GateNumbers>
+    ensures { IfSome result (λ plain. three_of (numbers_of (line_tokens line.now)) ≡ Ok plain) }
 {
     let mut tokens = LineTokens::new(line);
-    let variable = plain_natural(&mut tokens)?;
+    let lhs = plain_natural(&mut tokens)?;
     let left = plain_natural(&mut tokens)?;
     let right = plain_natural(&mut tokens)?;
     if tokens.next_number().is_some() {
         return None;
     }
-    Some(Gate {
-        variable,
-        left,
-        right,
-    })
+    Some(GateNumbers { lhs, left, right })
 }
 
 fn plain_natural(tokens: &mut LineTokens) -> Option<u64>
@@ -92,13 +80,13 @@ fn plain_natural(tokens: &mut LineTokens) -> Option<u64>
 }
 
 // The same of any line.
-fn any_gate(line: &[u8], numbers: &mut Vec<u64>) -> Result<Gate, LineStop>
+fn any_numbers(line: &[u8], numbers: &mut Vec<u64>) -> Result<GateNumbers, LineStop>
     ensures { IsLineOf (three_of (numbers_of (line_tokens line.now))) result }
 {
     let all = take_numbers(&mut LineTokens::new(line), numbers)?;
     match numbers.as_slice() {
-        [lhs, left, right] if all => Ok(Gate {
-            variable: *lhs,
+        [lhs, left, right] if all => Ok(GateNumbers {
+            lhs: *lhs,
             left: *left,
             right: *right,
         }),

@@ -13,13 +13,13 @@ use crate::faults::{AagFault, AagStop, LineStop};
 use crate::files::{AagFile, Text};
 use crate::headers::read_header;
 use crate::laws::circuit_or_first_fault;
-use crate::symbol_lines::{is_blank, is_comment_mark};
+use crate::symbol_lines::is_comment_mark;
 use crate::symbol_steps::take_symbol;
 use crate::undefined::first_undefined_line;
 use circuit_plain::laws::orders_ground;
 use circuit_plain::{Circuit, OrderStop};
 use dq_lits::Memory;
-use dq_text::Lines;
+use dq_text::{Lines, is_blank};
 use std::alloc::Global;
 
 /// Reads an ASCII AIGER file whose first line has the number `first`: exactly the circuit file that it

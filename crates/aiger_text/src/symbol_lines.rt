@@ -3,11 +3,10 @@
 ghost use Rattle.std.specs.Prelude.{◌≡◌, not};
 ghost use Rattle.std.specs.Char.{is_ascii_digit};
 ghost use Rattle.std.specs.List.{position};
-ghost use Rattle.aiger_text.specs.Lines.{digits_end, without_end_crs, behind_place, behind_kind, symbol_of, is_blank_line, begins_comment};
+ghost use Rattle.aiger_text.specs.Lines.{digits_end, without_end_crs, behind_place, behind_kind, symbol_of, begins_comment};
 ghost use Rattle.aiger_text.specs.SymbolEntry.{entry_line};
 
-use crate::numbers::natural;
-use dq_text::LineTokens;
+use dq_text::{is_blank, natural};
 
 /// A symbol line: the place of an input or an output, and its name. The place of 10^18 stands for every larger one.
 #[derive(Clone, Copy, Debug)]
@@ -81,13 +80,6 @@ fn cut_end_crs(bytes: &[u8]) -> &[u8]
         rest = front;
     }
     rest
-}
-
-/// Whether a line has no token.
-pub fn is_blank(line: &[u8]) -> bool
-    ensures { result ≡ is_blank_line line.now }
-{
-    LineTokens::new(line).next().is_none()
 }
 
 /// Whether a line is `c` with blanks behind it.

@@ -2,7 +2,8 @@
 
 ghost use Rattle.std.specs.Prelude.{◌≡◌, ◌++◌, ℕ, Ok, IfOk, OnOk};
 ghost use Rattle.std.specs.List.{flat_map};
-ghost use Rattle.aiger_text.specs.Canonical.{number_line, header_text, input_text, gate_text, symbol_text, comment_text, netlist_text, canonical_circuit};
+ghost use Rattle.dq_text.specs.Written.{number_line};
+ghost use Rattle.aiger_text.specs.Canonical.{header_text, input_text, gate_text, symbol_text, comment_text, netlist_text, canonical_circuit};
 ghost use Rattle.aiger_text.specs.Scan.{scan};
 ghost use Rattle.aiger_text.specs.Spellable.{IsSpellable};
 
@@ -10,7 +11,7 @@ use crate::files::{AagFile, Text};
 use crate::laws::canonical_text_spells;
 use circuit_plain::Circuit;
 use dq_lits::Memory;
-use dq_text::{push_natural, push_spaced};
+use dq_text::{push_last, push_spaced, push_word};
 use indexmap::IndexMap;
 use std::alloc::Global;
 
@@ -31,31 +32,15 @@ pub fn write(alloc: Global, file: &AagFile) -> Result<Vec<u8>, Memory>
     Ok(text)
 }
 
-fn write_word(word: &[u8], text: &mut Vec<u8>) -> Result<(), Memory>
-    ensures { OnOk result (text.new.items ≡ text.old.items ++ word.now) }
-{
-    text.extend_from_slice(word)?;
-    Ok(())
-}
-
-// A number and the end of the line.
-fn write_last_number(n: u64, text: &mut Vec<u8>) -> Result<(), Memory>
-    ensures { OnOk result (text.new.items ≡ text.old.items ++ number_line n) }
-{
-    push_natural(text, n)?;
-    text.push(b'\n')?;
-    Ok(())
-}
-
 fn write_header(circuit: &Circuit, text: &mut Vec<u8>) -> Result<(), Memory>
     ensures { OnOk result (text.new.items ≡ text.old.items ++ header_text circuit.now) }
 {
-    write_word(b"aag ", text)?;
+    push_word(text, b"aag ")?;
     push_spaced(text, circuit.max_var())?;
     push_spaced(text, circuit.inputs().len() as u64)?;
-    write_word(b"0 ", text)?;
+    push_word(text, b"0 ")?;
     push_spaced(text, circuit.outputs().len() as u64)?;
-    write_last_number(circuit.gates() as u64, text)
+    push_last(text, circuit.gates() as u64)
 }
 
 fn write_netlist(circuit: &Circuit, text: &mut Vec<u8>) -> Result<(), Memory>
@@ -73,7 +58,7 @@ fn write_inputs(circuit: &Circuit, text: &mut Vec<u8>) -> Result<(), Memory>
     circuit.every_circuit_is_a_netlist();
     let inputs = circuit.inputs();
     for i in 0..inputs.len() {
-        write_last_number(2 * inputs[i], text)?;
+        push_last(text, 2 * inputs[i])?;
     }
     Ok(())
 }
@@ -83,7 +68,7 @@ fn write_outputs(outputs: &[u64], text: &mut Vec<u8>) -> Result<(), Memory>
 {
     let mut rest = outputs;
     while let Some((first, behind)) = rest.split_first() {
-        write_last_number(*first, text)?;
+        push_last(text, *first)?;
         rest = behind;
     }
     Ok(())
@@ -96,7 +81,7 @@ fn write_gates(circuit: &Circuit, text: &mut Vec<u8>) -> Result<(), Memory>
         let (variable, left, right) = circuit.gate(i);
         push_spaced(text, variable)?;
         push_spaced(text, left)?;
-        write_last_number(right, text)?;
+        push_last(text, right)?;
     }
     Ok(())
 }
@@ -107,7 +92,7 @@ fn write_symbol(letter: u8, place: u64, name: &[u8], text: &mut Vec<u8>) -> Resu
 {
     text.push(letter)?;
     push_spaced(text, place)?;
-    write_word(name, text)?;
+    push_word(text, name)?;
     text.push(b'\n')?;
     Ok(())
 }
@@ -131,8 +116,8 @@ fn write_comment(comment: &Option<Text>, text: &mut Vec<u8>) -> Result<(), Memor
     match comment {
         None => Ok(()),
         Some(bytes) => {
-            write_word(b"c\n", text)?;
-            write_word(bytes.items(), text)
+            push_word(text, b"c\n")?;
+            push_word(text, bytes.items())
         }
     }
 }

@@ -11,8 +11,8 @@ use Rattle.dq_lits.specs.Literal.{Literal, positive, negative, variable_of, is_n
 use Rattle.dq_formula.specs.Prefix.{IsLawful}
 use Rattle.dq_text.specs.Number.{number_of}
 use Rattle.dq_text.specs.declared.numbers.Number.TheVariants.{Int}
-use Rattle.dq_text.specs.Written.{number_text}
-use Rattle.cert_text.specs.Canonical.{signed_text, literal_text, line_end, header_text, row_text, step_text, canonical}
+use Rattle.dq_text.specs.Written.{number_text, line_end}
+use Rattle.cert_text.specs.Canonical.{signed_text, literal_text, header_text, row_text, step_text, canonical}
 use Rattle.cert_text.specs.Grammar.{Tokens, integers, row_numbers, SpellsRow, SpellsStep, AreSteps, IsDqrOf, SpellsRefutation}
 use Rattle.cert_text.specs.Header.{max_count}
 use Rattle.cert_text.specs.Pairs.{is_pair_number}

@@ -5,11 +5,12 @@ use Rattle.std.proofs.lemmas.Bool.{and_parts, or_from, or_parts, le-ltb, ltb-fal
 use Rattle.std.proofs.lemmas.Slice.Eq.{bytes_eq-Decides}
 use Rattle.cert_text.specs.Grammar.{Tokens, SpellsHeader}
 use Rattle.cert_text.specs.Header.{max_count, counts_of, header_of}
-use Rattle.cert_text.specs.Numbers.{natural_of}
+use Rattle.dq_text.proofs.Naturals.{natural_taken, natural_spelled}
+use Rattle.dq_text.specs.Number.{natural_of}
 use Rattle.cert_text.specs.declared.faults.CertFault.{CertFault}
 use Rattle.cert_text.specs.declared.faults.CertFault.TheVariants.{BadHeader, TooBig}
 use Rattle.cert_text.specs.declared.headers.Counts.{Counts}
-use Rattle.cert_text.proofs.Integers.{passed, natural_taken, natural_spelled}
+use Rattle.cert_text.proofs.Integers.{passed}
 
 pub header_taken : (tokens : Tokens) (rows steps : ℕ) → SpellsHeader tokens rows steps → rows ≤ max_count → steps ≤ max_count →
     header_of tokens ≡ Ok (record { rows = rows; steps = steps })

@@ -1,12 +1,12 @@
 -- Tokens that are numbers, as a line's reader takes them and as the grammar spells them.
-use Rattle.std.proofs.Common.{◌≡◌, ℕ, ◌<◌, ◌^◌, ℤ, pos, negsuc, Bool, true, false, cond, List, [], ◌∷◌, map, Some, Result, Ok, Err, refl, ◌∙◌, ap, arith}
+use Rattle.std.proofs.Common.{◌≡◌, ℕ, ℤ, Bool, true, false, cond, List, [], ◌∷◌, map, Result, Ok, Err, refl, ◌∙◌, ap}
 use Rattle.std.specs.List.{filter_map, list_any}
 use Rattle.std.proofs.lemmas.Bool.{cond-false}
 use Rattle.dq_text.specs.Number.{number_of}
 use Rattle.dq_text.specs.declared.numbers.Number.{Number}
 use Rattle.dq_text.specs.declared.numbers.Number.TheVariants.{Int, NotANumber, TooBig as TooBigNumber}
 use Rattle.cert_text.specs.Grammar.{integers}
-use Rattle.cert_text.specs.Numbers.{begins_with_minus, natural_number, natural_of, is_no_number, is_too_big, integer, integers_of, line_integers}
+use Rattle.cert_text.specs.Numbers.{is_no_number, is_too_big, integer, integers_of, line_integers}
 use Rattle.cert_text.specs.declared.faults.CertFault.{CertFault}
 use Rattle.cert_text.specs.declared.faults.CertFault.TheVariants.{BadLine, TooBig}
 
@@ -52,16 +52,3 @@ integers_spelled tokens ns taken =
     let second = passed (list_any is_too_big xs) TooBig kept ns first.1 in
     let is : filter_map integer xs ≡ ns = cc in
     are_integers xs first.0 second.0 ∙ ap integers is
-
-pub natural_taken : (token : List ℕ) (n : ℕ) → number_of token ≡ Int (pos n) → natural_of token ≡ Some n
-natural_taken token n is = ap (natural_number (begins_with_minus token)) is
-
-natural_is : (minus : Bool) (number : Number) (n : ℕ) → natural_number minus number ≡ Some n → n < 10 ^ 18 → number ≡ Int (pos n)
-natural_is minus NotANumber n h small = cc
-natural_is true TooBigNumber n h small = cc
-natural_is false TooBigNumber n h small = let e : 10 ^ 18 ≡ n = cc in absurd (omega arith)
-natural_is minus (Int (pos m)) n h small = let e : m ≡ n = cc in ap (λ k. Int (pos k)) e
-natural_is minus (Int (negsuc m)) n h small = cc
-
-pub natural_spelled : (token : List ℕ) (n : ℕ) → natural_of token ≡ Some n → n < 10 ^ 18 → number_of token ≡ Int (pos n)
-natural_spelled token n is small = natural_is (begins_with_minus token) (number_of token) n is small

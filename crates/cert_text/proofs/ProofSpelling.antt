@@ -7,13 +7,14 @@ use Rattle.std.proofs.lemmas.List.Elements.{All-from_recursion}
 use Rattle.std.proofs.lemmas.Slice.Eq.{bytes_eq-Decides}
 use Rattle.dq_lits.specs.Derivation.{ProofStep}
 use Rattle.dq_lits.specs.Formula.{Dqbf}
+use Rattle.dq_text.proofs.Naturals.{natural_taken, natural_spelled}
 use Rattle.dq_text.specs.Line.{TextLine, line_tokens, lines_from}
+use Rattle.dq_text.specs.Number.{natural_of}
 use Rattle.circuit_plain.specs.Netlist.{Netlist}
 use Rattle.cert_text.specs.CircuitProof.{is_proof_variable, first_proof_id, read_proof, circuit_proof_of}
 use Rattle.cert_text.specs.Grammar.{Tokens, SpellsStep, HasSmallNumbers}
 use Rattle.cert_text.specs.Header.{max_count, count_of, proof_header}
 use Rattle.cert_text.specs.Lines.{IsReading, LinesRead, and_read, at_line, read_some}
-use Rattle.cert_text.specs.Numbers.{natural_of}
 use Rattle.cert_text.specs.ProofGrammar.{SpellsProofHeader, IsDqpOf, SpellsProof}
 use Rattle.cert_text.specs.StepLine.{step_line}
 use Rattle.cert_text.specs.Variables.{is_up_to}
@@ -22,7 +23,7 @@ use Rattle.cert_text.specs.declared.faults.CertFault.{CertFault}
 use Rattle.cert_text.specs.declared.faults.CertFault.TheVariants.{BadHeader, TooBig}
 use Rattle.cert_text.specs.declared.faults.CertRefusal.{CertRefusal}
 use Rattle.cert_text.specs.declared.faults.CertStop.{CertStop}
-use Rattle.cert_text.proofs.Integers.{passed, natural_taken, natural_spelled}
+use Rattle.cert_text.proofs.Integers.{passed}
 use Rattle.cert_text.proofs.LineTokens.{by_tokens, same_tokens}
 use Rattle.cert_text.proofs.LinesSpelling.{AreStepLines, IsReadFrom, all_read, read_from_lines, steps_taken, steps_spelled}
 

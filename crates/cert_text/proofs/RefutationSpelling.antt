@@ -12,7 +12,8 @@ use Rattle.cert_text.specs.Kind.{refusal}
 use Rattle.cert_text.specs.Lines.{IsReading, LinesRead, and_read, at_line, read_some}
 use Rattle.cert_text.specs.Pairs.{is_pair_number}
 use Rattle.cert_text.specs.RowLine.{row_line}
-use Rattle.cert_text.specs.Scan.{first_id, has_no_token, blank_lines, read_body, read_lines, refutation_of}
+use Rattle.dq_text.specs.BlankLine.{has_no_token}
+use Rattle.cert_text.specs.Scan.{first_id, blank_lines, read_body, read_lines, refutation_of}
 use Rattle.cert_text.specs.StepLine.{step_line}
 use Rattle.cert_text.specs.declared.faults.CertFault.{CertFault}
 use Rattle.cert_text.specs.declared.faults.CertFault.TheVariants.{BadLine}

@@ -5,7 +5,7 @@ use Rattle.std.proofs.lemmas.Bool.{ltb-true}
 use Rattle.std.proofs.lemmas.List.Elements.{All-from_recursion, recursion_from_All}
 use Rattle.dq_lits.specs.Derivation.{ProofStep}
 use Rattle.dq_lits.specs.Literal.{Literal, positive, negative, dimacs_literal, dimacs_number, variable_of}
-use Rattle.dq_text.specs.Number.{are_digits, decimal_value, natural_of, negative_of, number_of}
+use Rattle.dq_text.specs.Number.{are_digits, decimal_value, unsigned_of, negative_of, number_of}
 use Rattle.dq_text.specs.declared.numbers.Number.TheVariants.{Int, NotANumber, TooBig}
 use Rattle.cert_text.specs.Grammar.{Tokens, integers, step_numbers, SpellsStep, HasSmallNumbers}
 use Rattle.cert_text.specs.Numbers.{line_integers}
@@ -30,7 +30,7 @@ negated_magnitude : (value : ℕ) → nat_abs (neg_ℤ (pos value)) ≡ value
 negated_magnitude zero = refl
 negated_magnitude (suc value) = refl
 
-number_small : (minus : Bool) (byte : ℕ) (bytes : List ℕ) (n : ℤ) → cond minus (negative_of bytes) (natural_of (byte ∷ bytes)) ≡ Int n → IsSmall n
+number_small : (minus : Bool) (byte : ℕ) (bytes : List ℕ) (n : ℤ) → cond minus (negative_of bytes) (unsigned_of (byte ∷ bytes)) ≡ Int n → IsSmall n
 number_small true byte bytes n h =
     let value = decimal_value bytes in
     chosen value (neg_ℤ (pos value)) n (not (are_digits bytes) || (value == 0)) (nat_lt value (10 ^ 18)) (negated_magnitude value) refl h

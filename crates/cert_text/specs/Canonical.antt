@@ -1,10 +1,9 @@
 -- The canonical texts of refutations and of circuits' proofs: one space between tokens, and LF at the end of each line.
 use Rattle.std.specs.Prelude.{ℕ, Bool, true, false, not, List, [], ◌∷◌, ◌++◌, length, codes}
-use Rattle.std.specs.Fmt.{decimal}
 use Rattle.std.specs.List.{flat_map, zip}
 use Rattle.dq_lits.specs.Derivation.{ProofStep}
 use Rattle.dq_lits.specs.Literal.{Literal, variable_of, is_negative}
-use Rattle.dq_text.specs.Written.{number_text}
+use Rattle.dq_text.specs.Written.{number_text, number_line, line_end}
 use Rattle.cert_text.specs.declared.circuit_proofs.Dqp.{Dqp}
 use Rattle.cert_text.specs.declared.refutations.Dqr.{Dqr}
 
@@ -16,12 +15,8 @@ signed_text false v = 45 ∷ number_text v
 abbrev pub literal_text : Literal → List ℕ
 literal_text l = signed_text (not (is_negative l)) (variable_of l)
 
--- `0` and the end of the line
-abbrev pub line_end : List ℕ
-line_end = 48 ∷ 10 ∷ []
-
 abbrev pub header_text : ℕ → ℕ → List ℕ
-header_text rows steps = codes "p dqr " ++ (number_text rows ++ (decimal steps ++ 10 ∷ []))
+header_text rows steps = codes "p dqr " ++ (number_text rows ++ number_line steps)
 
 -- `u`, each universal with its bit as its sign, and `0`
 abbrev pub row_text : List ℕ → List Bool → List ℕ
@@ -37,7 +32,7 @@ canonical universals d =
     header_text (length d.rows) (length d.steps) ++ (flat_map (row_text universals) d.rows ++ flat_map step_text d.steps)
 
 abbrev pub proof_header_text : ℕ → List ℕ
-proof_header_text steps = codes "dqp " ++ (decimal steps ++ 10 ∷ [])
+proof_header_text steps = codes "dqp " ++ number_line steps
 
 -- the header, a line for each derivation line
 abbrev pub canonical_proof : Dqp → List ℕ

@@ -1,7 +1,7 @@
 -- The header lines of refutations and of circuits' proofs, in this project's own formats: `p dqr` and two counts, `dqp` and one.
 use Rattle.std.specs.Prelude.{ℕ, nat_lt, ◌&&◌, ◌||◌, List, [], ◌∷◌, Option, None, Some, Result, Ok, Err, codes, if◌then◌else◌}
 use Rattle.std.specs.Str.{bytes_eq}
-use Rattle.cert_text.specs.Numbers.{natural_of}
+use Rattle.dq_text.specs.Number.{natural_of}
 use Rattle.cert_text.specs.declared.faults.CertFault.{CertFault}
 use Rattle.cert_text.specs.declared.faults.CertFault.TheVariants.{BadHeader, TooBig}
 use Rattle.cert_text.specs.declared.headers.Counts.{Counts}

@@ -1,25 +1,11 @@
 -- The numbers of a certificate's line.
-use Rattle.std.specs.Prelude.{ℕ, ◌^◌, ◌==◌, ℤ, pos, negsuc, Bool, true, false, List, [], ◌∷◌, map, Option, None, Some, Result, Ok, Err, if◌then◌else◌}
+use Rattle.std.specs.Prelude.{ℕ, ℤ, Bool, true, false, List, map, Option, None, Some, Result, Ok, Err, if◌then◌else◌}
 use Rattle.std.specs.List.{filter_map, list_any}
 use Rattle.dq_text.specs.Number.{number_of}
 use Rattle.dq_text.specs.declared.numbers.Number.{Number}
 use Rattle.dq_text.specs.declared.numbers.Number.TheVariants.{Int, NotANumber, TooBig as TooBigNumber}
 use Rattle.cert_text.specs.declared.faults.CertFault.{CertFault}
 use Rattle.cert_text.specs.declared.faults.CertFault.TheVariants.{BadLine, TooBig}
-
-abbrev pub begins_with_minus : List ℕ → Bool
-begins_with_minus [] = false
-begins_with_minus (byte ∷ _) = byte == 45
-
-abbrev pub natural_number : Bool → Number → Option ℕ
-natural_number minus NotANumber = None
-natural_number minus TooBigNumber = if minus then None else Some (10 ^ 18)
-natural_number minus (Int (pos n)) = Some n
-natural_number minus (Int (negsuc n)) = None
-
--- a token as a natural number, where 10^18 stands for every larger one
-abbrev pub natural_of : List ℕ → Option ℕ
-natural_of token = natural_number (begins_with_minus token) (number_of token)
 
 abbrev pub is_no_number : Number → Bool
 is_no_number NotANumber = true

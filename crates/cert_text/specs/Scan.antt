@@ -1,6 +1,7 @@
 -- The first fault of a refutation's text, line by line, or the refutation: this project's own format.
-use Rattle.std.specs.Prelude.{ℕ, ◌+◌, ◌*◌, Bool, true, false, List, [], ◌∷◌, length, Result, Ok, Err, if◌then◌else◌}
+use Rattle.std.specs.Prelude.{ℕ, ◌+◌, ◌*◌, List, [], ◌∷◌, length, Result, Ok, Err, if◌then◌else◌}
 use Rattle.dq_lits.specs.Formula.{Dqbf}
+use Rattle.dq_text.specs.BlankLine.{is_blank_line}
 use Rattle.dq_text.specs.Line.{TextLine, line_tokens, lines_from}
 use Rattle.cert_text.specs.Header.{header_of}
 use Rattle.cert_text.specs.Kind.{refusal}
@@ -17,14 +18,10 @@ use Rattle.cert_text.specs.declared.refutations.Dqr.{Dqr}
 abbrev pub first_id : Dqbf → ℕ → ℕ
 first_id f rows = rows * length f.matrix + 1
 
-abbrev pub has_no_token : List (List ℕ) → Bool
-has_no_token [] = true
-has_no_token (_ ∷ _) = false
-
 -- only lines of blanks
 abbrev pub blank_lines : List TextLine → Result (Unit {0}) CertRefusal
 blank_lines [] = Ok tt
-blank_lines (line ∷ lines) = if has_no_token (line_tokens line.text) then blank_lines lines else Err (refusal line.number BadLine)
+blank_lines (line ∷ lines) = if is_blank_line line.text then blank_lines lines else Err (refusal line.number BadLine)
 
 -- the rows, the derivation lines, and nothing behind them
 abbrev pub read_body : Dqbf → Counts → List TextLine → ℕ → Result Dqr CertRefusal

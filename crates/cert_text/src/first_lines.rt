@@ -7,8 +7,7 @@ ghost use Rattle.cert_text.specs.Kind.{verdict_of_word, stated_verdict, shown_ve
 
 use crate::faults::{CertFault, CertRefusal};
 use crate::kinds::{Kind, Verdict};
-use crate::words::is_word;
-use dq_text::{LineTokens, Lines};
+use dq_text::{LineTokens, Lines, is_word};
 
 /// Which kind a certificate is, and where its header line begins. It takes no memory.
 ///

@@ -6,9 +6,7 @@ ghost use Rattle.cert_text.specs.Header.{count_of, counts_of, header_of, proof_h
 ghost use Rattle.cert_text.specs.HeaderCounts.{AreSmall};
 
 use crate::faults::CertFault;
-use crate::numbers::natural;
-use crate::words::is_word;
-use dq_text::LineTokens;
+use dq_text::{LineTokens, is_word, natural};
 
 /// How many rows and derivation lines a header announces.
 #[derive(Clone, Copy, Debug, PartialEq, Eq)]

@@ -31,5 +31,4 @@ mod step_lines;
 mod step_lists;
 mod steps;
 mod variables;
-mod words;
 mod writer;

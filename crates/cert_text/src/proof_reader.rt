@@ -10,7 +10,7 @@ ghost use Rattle.cert_text.specs.ProofGrammar.{IsDqpOf};
 use crate::circuit_proofs::Dqp;
 use crate::faults::{CertFault, CertStop, refused};
 use crate::headers::read_proof_header;
-use crate::step_lists::read_steps;
+use crate::step_lists::{Announced, read_steps};
 use crate::variables::Variables;
 use circuit_plain::Circuit;
 use dq_formula::Formula;
@@ -55,8 +55,12 @@ fn read_proof_lines(
 ) -> Result<Dqp, CertStop>
     ensures { IsReading (read_proof_lines f.now c.now count (lines_from lines.old.number lines.old.rest) lines.old.number) result }
 {
-    let variables = Variables::UpTo(last_variable(f, c));
-    let steps = read_steps(alloc, variables, first_id(f, c), count, lines)?;
+    let announced = Announced {
+        variables: Variables::UpTo(last_variable(f, c)),
+        first_id: first_id(f, c),
+        count,
+    };
+    let steps = read_steps(alloc, &announced, lines)?;
     Ok(Dqp { steps })
 }
 

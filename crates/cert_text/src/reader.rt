@@ -12,10 +12,10 @@ use crate::headers::{Counts, MAX_COUNT, read_header};
 use crate::pairs::Pairs;
 use crate::refutations::Dqr;
 use crate::row_lists::read_rows;
-use crate::step_lists::read_steps;
+use crate::step_lists::{Announced, read_steps};
 use crate::variables::Variables;
 use dq_formula::Formula;
-use dq_text::{LineTokens, Lines};
+use dq_text::{Lines, is_blank};
 use std::alloc::Global;
 
 /// Reads an expansion refutation for a formula, from its header line on, which has the number `first`:
@@ -47,7 +47,12 @@ fn read_body(alloc: Global, f: &Formula, counts: Counts, lines: &mut Lines) -> R
         rows: counts.rows,
     });
     let id = first_id(f, counts.rows);
-    let steps = read_steps(alloc, variables, id, counts.steps, lines)?;
+    let announced = Announced {
+        variables,
+        first_id: id,
+        count: counts.steps,
+    };
+    let steps = read_steps(alloc, &announced, lines)?;
     check_blank(lines)?;
     Ok(Dqr { rows, steps })
 }
@@ -66,7 +71,7 @@ fn check_blank(lines: &mut Lines) -> Result<(), CertRefusal>
     ensures { result ≡ blank_lines (lines_from lines.old.number lines.old.rest) }
 {
     while let Some(line) = lines.next() {
-        if LineTokens::new(line.text).next().is_some() {
+        if !is_blank(line.text) {
             return Err(CertRefusal {
                 line: line.number,
                 name: CertFault::BadLine,

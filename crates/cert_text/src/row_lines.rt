@@ -12,9 +12,8 @@ ghost use Rattle.cert_text.specs.RowLine.{row_of, row_line};
 
 use crate::faults::{CertFault, LineStop};
 use crate::numbers::take_integers;
-use crate::words::is_word;
 use dq_lits::{Memory, Row};
-use dq_text::{LineTokens, Number};
+use dq_text::{LineTokens, Number, is_word};
 use std::alloc::Global;
 
 /// Reads the line of a row over these universals.

@@ -14,41 +14,50 @@ use dq_lits::Memory;
 use dq_text::Lines;
 use std::alloc::Global;
 
-/// Reads the next lines, so many, as derivation lines over these variables, of which the first one has this id.
+/// The derivation lines that are to come, as a header announces them.
+#[derive(Clone, Copy, Debug)]
+pub struct Announced<'a> {
+    /// The variables that the literals may stand on.
+    pub variables: Variables<'a>,
+    /// The id of the first line; each further one has the next id.
+    pub first_id: u128,
+    pub count: u64,
+}
+
+/// Reads the next lines as the derivation lines that are announced.
 pub fn read_steps(
     alloc: Global,
-    variables: Variables,
-    first_id: u128,
-    count: u64,
+    announced: &Announced,
     lines: &mut Lines,
 ) -> Result<StepList, CertStop>
-    requires { first_id < 2 ^ 127 }
-    ensures { IsReadingUpTo (read_from (step_line (is_variable variables.entry)) first_id count lines.old) result lines.new }
+    requires { announced.now.first_id < 2 ^ 127 }
+    ensures { IsReadingUpTo (read_from (step_line (is_variable announced.now.variables))
+        announced.now.first_id announced.now.count lines.old) result lines.new }
 {
     let mut steps = StepList::new(alloc);
     let mut buffers = StepBuffers::new(alloc);
-    take_steps(variables, first_id, count, lines, &mut buffers, &mut steps)?;
+    take_steps(announced, lines, &mut buffers, &mut steps)?;
     Ok(steps)
 }
 
 // Puts the lines behind those that were read.
 fn take_steps(
-    variables: Variables,
-    first_id: u128,
-    count: u64,
+    announced: &Announced,
     lines: &mut Lines,
     buffers: &mut StepBuffers,
     steps: &mut StepList,
 ) -> Result<(), CertStop>
-    requires { first_id < 2 ^ 127 }
-    ensures { IsReadInto (put_behind steps.old (read_from (step_line (is_variable variables.entry)) first_id count lines.old)) result steps.new lines.new }
+    requires { announced.now.first_id < 2 ^ 127 }
+    ensures { IsReadInto (put_behind steps.old
+        (read_from (step_line (is_variable announced.now.variables)) announced.now.first_id
+        announced.now.count lines.old)) result steps.new lines.new }
 {
-    for k in 0..count {
+    for k in 0..announced.count {
         let Some(line) = lines.next() else {
             return Err(refused(lines.number(), CertFault::Truncated));
         };
-        let next = first_id + k as u128;
-        match read_step(variables, next, line.text, buffers) {
+        let next = announced.first_id + k as u128;
+        match read_step(announced.variables, next, line.text, buffers) {
             Ok(id) => push_step(id, buffers, steps)?,
             Err(stop) => return Err(at_line(line.number, stop)),
         }

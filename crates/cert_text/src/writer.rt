@@ -9,7 +9,6 @@ ghost use Rattle.cert_text.specs.Grammar.{IsDqrOf};
 ghost use Rattle.cert_text.specs.ProofGrammar.{IsDqpOf};
 ghost use Rattle.cert_text.specs.Scan.{refutation_of};
 ghost use Rattle.cert_text.specs.Steps.{step_seen};
-ghost use Rattle.dq_text.specs.Written.{number_text};
 ghost use Rattle.cert_text.specs.Canonical.{signed_text, literal_text, header_text, proof_header_text, row_text, step_text, canonical, canonical_proof};
 
 use crate::circuit_proofs::Dqp;
@@ -17,7 +16,7 @@ use crate::refutations::Dqr;
 use crate::steps::{Step, StepList};
 use dq_formula::Formula;
 use dq_lits::{Lit, Memory, Row};
-use dq_text::{push_natural, push_spaced};
+use dq_text::{push_all_spaced, push_last, push_spaced, push_word};
 use std::alloc::Global;
 
 /// The canonical text of a refutation for a formula: the header `p dqr K N`; for each row `u`, the universals
@@ -52,27 +51,16 @@ pub fn write_dqp(alloc: Global, d: &Dqp) -> Result<Vec<u8>, Memory>
 fn write_header(rows: usize, steps: usize, text: &mut Vec<u8>) -> Result<(), Memory>
     ensures { OnOk result (text.new.items ≡ text.old.items ++ header_text rows steps) }
 {
-    text.extend_from_slice(b"p dqr ")?;
+    push_word(text, b"p dqr ")?;
     push_spaced(text, rows as u64)?;
-    push_natural(text, steps as u64)?;
-    text.push(b'\n')?;
-    Ok(())
+    push_last(text, steps as u64)
 }
 
 fn write_proof_header(steps: usize, text: &mut Vec<u8>) -> Result<(), Memory>
     ensures { OnOk result (text.new.items ≡ text.old.items ++ proof_header_text steps) }
 {
-    text.extend_from_slice(b"dqp ")?;
-    push_natural(text, steps as u64)?;
-    text.push(b'\n')?;
-    Ok(())
-}
-
-fn write_word(word: &[u8], text: &mut Vec<u8>) -> Result<(), Memory>
-    ensures { OnOk result (text.new.items ≡ text.old.items ++ word.now) }
-{
-    text.extend_from_slice(word)?;
-    Ok(())
+    push_word(text, b"dqp ")?;
+    push_last(text, steps as u64)
 }
 
 // A variable, behind a minus where it is negated, and a space.
@@ -96,17 +84,6 @@ fn write_literals(literals: &[Lit], text: &mut Vec<u8>) -> Result<(), Memory>
     Ok(())
 }
 
-fn write_hints(hints: &[u64], text: &mut Vec<u8>) -> Result<(), Memory>
-    ensures { OnOk result (text.new.items ≡ text.old.items ++ flat_map number_text hints.now) }
-{
-    let mut rest = hints;
-    while let Some((first, behind)) = rest.split_first() {
-        push_spaced(text, *first)?;
-        rest = behind;
-    }
-    Ok(())
-}
-
 // The universals, as far as the row has bits.
 fn write_bits(universals: &[u64], row: &Row, text: &mut Vec<u8>) -> Result<(), Memory>
     ensures { OnOk result (text.new.items ≡ text.old.items ++ flat_map (λ x. signed_text x.1 x.0) (zip universals.now row.now)) }
@@ -120,9 +97,9 @@ fn write_bits(universals: &[u64], row: &Row, text: &mut Vec<u8>) -> Result<(), M
 fn write_row(universals: &[u64], row: &Row, text: &mut Vec<u8>) -> Result<(), Memory>
     ensures { OnOk result (text.new.items ≡ text.old.items ++ row_text universals.now row.now) }
 {
-    write_word(b"u ", text)?;
+    push_word(text, b"u ")?;
     write_bits(universals, row, text)?;
-    write_word(b"0\n", text)
+    push_word(text, b"0\n")
 }
 
 fn write_rows(universals: &[u64], rows: &[Row], text: &mut Vec<u8>) -> Result<(), Memory>
@@ -141,9 +118,9 @@ fn write_step(step: Step, text: &mut Vec<u8>) -> Result<(), Memory>
 {
     push_spaced(text, step.id)?;
     write_literals(step.lits, text)?;
-    write_word(b"0 ", text)?;
-    write_hints(step.hints, text)?;
-    write_word(b"0\n", text)
+    push_word(text, b"0 ")?;
+    push_all_spaced(text, step.hints)?;
+    push_word(text, b"0\n")
 }
 
 fn write_steps(steps: &StepList, text: &mut Vec<u8>) -> Result<(), Memory>

@@ -2,6 +2,7 @@ mod Cutting
 mod FirstLine
 pub mod LineWords
 mod LongestRuns
+pub mod Naturals
 pub mod Numerals
 mod ShortNumbers
 mod TokenLines

@@ -7,7 +7,7 @@ use Rattle.std.proofs.lemmas.Bool.{and_from, and_parts, ne_eqb, leb-true, le-leb
 use Rattle.std.proofs.lemmas.Fmt.{decimal_nonempty, digits_decimal, digits_value-decimal}
 use Rattle.std.proofs.lemmas.Str.Parse.{IsDigitsTest, IsNumeralModel, FoldsDigits, numerals_by_fold}
 use Rattle.dq_text.specs.Bytes.{kind_of}
-use Rattle.dq_text.specs.Number.{are_digits, decimal_value, natural_of, negative_of, number_of}
+use Rattle.dq_text.specs.Number.{are_digits, decimal_value, unsigned_of, negative_of, number_of}
 use Rattle.dq_text.specs.declared.bytes.ByteKind.TheVariants.{Blank, LineFeed, LetterC, Other}
 use Rattle.dq_text.specs.declared.numbers.Number.TheVariants.{Int, NotANumber, TooBig}
 
@@ -61,7 +61,7 @@ decimal_digits n small =
       value = digits_value-decimal model n wide;
     }
 
-natural_value : (digits : List ℕ) (n : ℕ) → are_digits digits ≡ true → decimal_value digits ≡ n → n < 10 ^ 18 → natural_of digits ≡ Int (pos n)
+natural_value : (digits : List ℕ) (n : ℕ) → are_digits digits ≡ true → decimal_value digits ≡ n → n < 10 ^ 18 → unsigned_of digits ≡ Int (pos n)
 natural_value digits n are is small =
     ap (λ b. if not b then NotANumber else if nat_lt (decimal_value digits) (10 ^ 18) then Int (pos (decimal_value digits)) else TooBig) are
     ∙ ap (λ v. if nat_lt v (10 ^ 18) then Int (pos v) else TooBig) is
@@ -71,7 +71,7 @@ pub digits_number : (ds : List ℕ) (n : ℕ) → n < 10 ^ 18 → AreDigitsOf n 
 digits_number [] n small of = let some = of.some in absurd (omega (arith, some))
 digits_number (d ∷ ds) n small of =
     let range = tells.parts d ds of.are in
-    ap (λ minus. if minus then negative_of ds else natural_of (d ∷ ds)) (ne_eqb d 45 (λ h. omega (arith, range.0.0)))
+    ap (λ minus. if minus then negative_of ds else unsigned_of (d ∷ ds)) (ne_eqb d 45 (λ h. omega (arith, range.0.0)))
     ∙ natural_value (d ∷ ds) n of.are of.value small
 
 pub natural_is_read : (n : ℕ) → n < 10 ^ 18 → number_of (decimal n) ≡ Int (pos n)

@@ -1,3 +1,4 @@
+pub mod BlankLine
 pub mod Bytes
 pub mod Cursor
 pub mod Line

@@ -1,7 +1,8 @@
 ghost use Rattle.std.specs.Prelude.{◌≡◌, ◌++◌, ◌^◌, min, Some, None, OnOk, OnErr, if◌then◌else◌};
 ghost use Rattle.std.specs.Fmt.{decimal, signed_decimal};
-ghost use Rattle.dq_text.specs.Number.{are_digits, decimal_value, number_of};
-ghost use Rattle.dq_text.specs.Written.{number_text};
+ghost use Rattle.std.specs.List.{flat_map};
+ghost use Rattle.dq_text.specs.Number.{are_digits, decimal_value, number_of, begins_with_minus, natural_of};
+ghost use Rattle.dq_text.specs.Written.{number_text, number_line};
 
 use dq_lits::Memory;
 use itoa::Buffer;
@@ -17,7 +18,8 @@ pub enum Number {
     TooBig,
 }
 
-const LIMIT: u64 = 1_000_000_000_000_000_000;
+/// Stands for every natural number of 10^18 or more.
+pub const TOO_BIG: u64 = 1_000_000_000_000_000_000;
 
 /// Reads a token as a number. Leading zeros are lawful, `+` isn't.
 pub fn read_number(text: &[u8]) -> Number
@@ -27,14 +29,34 @@ pub fn read_number(text: &[u8]) -> Number
         None => Number::NotANumber,
         Some((b'-', digits)) => match capped_value(digits) {
             None | Some(0) => Number::NotANumber,
-            Some(LIMIT) => Number::TooBig,
+            Some(TOO_BIG) => Number::TooBig,
             Some(value) => Number::Int(-(value as i64)),
         },
         Some(_) => match capped_value(text) {
             None => Number::NotANumber,
-            Some(LIMIT) => Number::TooBig,
+            Some(TOO_BIG) => Number::TooBig,
             Some(value) => Number::Int(value as i64),
         },
+    }
+}
+
+/// Whether a token begins with a minus; so the sign of a number that is too big is known.
+pub fn has_minus(token: &[u8]) -> bool
+    ensures { result ≡ begins_with_minus token.now }
+{
+    matches!(token.first(), Some(b'-'))
+}
+
+/// A token as a natural number, where 10^18 stands for every larger one.
+pub fn natural(token: &[u8]) -> Option<u64>
+    ensures { result ≡ natural_of token.now }
+{
+    match read_number(token) {
+        Number::NotANumber => None,
+        Number::TooBig if has_minus(token) => None,
+        Number::TooBig => Some(TOO_BIG),
+        Number::Int(n) if n < 0 => None,
+        Number::Int(n) => Some(n.unsigned_abs()),
     }
 }
 
@@ -50,7 +72,7 @@ fn capped_value(digits: &[u8]) -> Option<u64>
         if !digit.is_ascii_digit() {
             return None;
         }
-        value = (value * 10 + u64::from(*digit - b'0')).min(LIMIT);
+        value = (value * 10 + u64::from(*digit - b'0')).min(TOO_BIG);
     }
     Some(value)
 }
@@ -81,5 +103,26 @@ pub fn push_spaced(buf: &mut Vec<u8>, n: u64) -> Result<(), Memory>
 {
     push_natural(buf, n)?;
     buf.push(b' ')?;
+    Ok(())
+}
+
+/// Appends natural numbers, each with a space behind it.
+pub fn push_all_spaced(buf: &mut Vec<u8>, numbers: &[u64]) -> Result<(), Memory>
+    ensures { OnOk result (buf.new.items ≡ buf.old.items ++ flat_map number_text numbers.now) }
+{
+    let mut rest = numbers;
+    while let Some((first, behind)) = rest.split_first() {
+        push_spaced(buf, *first)?;
+        rest = behind;
+    }
+    Ok(())
+}
+
+/// Appends the decimal text of a natural number and the end of the line.
+pub fn push_last(buf: &mut Vec<u8>, n: u64) -> Result<(), Memory>
+    ensures { OnOk result (buf.new.items ≡ buf.old.items ++ number_line n) }
+{
+    push_natural(buf, n)?;
+    buf.push(b'\n')?;
     Ok(())
 }

@@ -11,8 +11,8 @@ use Rattle.dq_text.specs.Token.{TextToken, tokens_of}
 use Rattle.dq_text.specs.declared.bytes.ByteKind.TheVariants.{Other}
 use Rattle.dq_text.specs.declared.cursors.LinePlace.{LinePlace}
 use Rattle.dq_text.specs.declared.cursors.LinePlace.TheVariants.{LineStart, InLine}
-use Rattle.dq_text.specs.Written.{number_text}
-use Rattle.dqdimacs_reader.specs.Canonical.{literal_text, line_end, numbers_line, header_text, universals_text, existential_text, clause_text, canonical}
+use Rattle.dq_text.specs.Written.{number_text, line_end}
+use Rattle.dqdimacs_reader.specs.Canonical.{literal_text, numbers_line, header_text, universals_text, existential_text, clause_text, canonical}
 use Rattle.dqdimacs_reader.specs.Grammar.{Part, numbers, part_lexemes, clause_lexemes, literal_lexeme, header}
 use Rattle.dqdimacs_reader.specs.Lexeme.{lexeme_of}
 use Rattle.dqdimacs_reader.specs.declared.lexemes.Lexeme.{Lexeme}

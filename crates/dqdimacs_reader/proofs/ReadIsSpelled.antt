@@ -10,12 +10,12 @@ use Rattle.dq_formula.specs.Prefix.{is_declared}
 use Rattle.dqdimacs_reader.specs.Building.{empty_formula, add_universal, add_first, add_listed, add_clause, add_literal, distinct, with_free}
 use Rattle.dqdimacs_reader.specs.Grammar.{Part, universals, existentials, dependent, numbers, part_lexemes, literal_lexeme, clause_lexemes, header, IsNew, AreNew, IsSeen, IsLawfulPart, declare, AreLawfulParts, add_spelled, InRange, AllInRange, SpellsFormula}
 use Rattle.dqdimacs_reader.specs.Machine.{Reading, State, before_header, before_format, before_variables, before_clauses, at_part, in_universals, in_existentials, at_dependent, in_dependencies, in_clause, max_variables, max_clauses, fault_if, check_limit, check_natural, check_entry, check_signed, check_range, check_declared, check_dependent, check_dependency, check_clause, with_formula, check, advance, at_start, inside_clause, natural_or, at_end, is_empty, wanted, is_p, is_cnf, reading}
-use Rattle.dq_text.specs.Number.{number_of}
+use Rattle.dq_text.specs.Number.{number_of, begins_with_minus}
 use Rattle.dq_text.specs.declared.numbers.Number.{Number}
 use Rattle.dq_text.specs.declared.numbers.Number.TheVariants.{Int, NotANumber, TooBig as TooBigNumber}
 use Rattle.std.specs.Prelude.{pos, negsuc, codes}
 use Rattle.std.specs.Str.{bytes_eq}
-use Rattle.dqdimacs_reader.specs.Lexeme.{lexeme_of, number_lexeme, begins_with_minus}
+use Rattle.dqdimacs_reader.specs.Lexeme.{lexeme_of, number_lexeme}
 use Rattle.dqdimacs_reader.specs.declared.faults.FormulaFault.{FormulaFault}
 use Rattle.dqdimacs_reader.specs.declared.faults.FormulaFault.TheVariants.{VarRange, DeclaredTwice, NotUniversal, EmptyD, TooManyClauses, TooFewClauses, PrefixLate, Limit}
 use Rattle.dqdimacs_reader.specs.declared.lexemes.Lexeme.{Lexeme}

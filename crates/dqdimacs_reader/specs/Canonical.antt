@@ -1,25 +1,21 @@
 -- The canonical text of a formula (DQDIMACS).
 use Rattle.std.specs.Prelude.{ℕ, ◌==◌, List, [], ◌∷◌, ◌++◌, length, codes, if◌then◌else◌}
-use Rattle.std.specs.Fmt.{decimal, signed_decimal}
+use Rattle.std.specs.Fmt.{signed_decimal}
 use Rattle.std.specs.List.{flat_map}
 use Rattle.dq_lits.specs.Literal.{Literal, dimacs_number}
 use Rattle.dq_lits.specs.Formula.{Existential, Dqbf}
-use Rattle.dq_text.specs.Written.{number_text}
+use Rattle.dq_text.specs.Written.{number_text, number_line, line_end}
 
 -- a literal as DIMACS writes it, and a space
 abbrev pub literal_text : Literal → List ℕ
 literal_text l = signed_decimal (dimacs_number l) ++ 32 ∷ []
-
--- `0` and the end of the line
-abbrev pub line_end : List ℕ
-line_end = 48 ∷ 10 ∷ []
 
 -- a letter, numbers and `0`
 abbrev pub numbers_line : ℕ → List ℕ → List ℕ
 numbers_line letter numbers = letter ∷ 32 ∷ (flat_map number_text numbers ++ line_end)
 
 abbrev pub header_text : Dqbf → List ℕ
-header_text f = codes "p cnf " ++ (number_text f.variables ++ (decimal (length f.matrix) ++ 10 ∷ []))
+header_text f = codes "p cnf " ++ (number_text f.variables ++ number_line (length f.matrix))
 
 -- one line `a` with all universals, where there are any
 abbrev pub universals_text : List ℕ → List ℕ

@@ -1,15 +1,11 @@
 -- What a token is to the grammar.
-use Rattle.std.specs.Prelude.{ℕ, suc, ◌==◌, pos, negsuc, Bool, false, List, [], ◌∷◌, codes, if◌then◌else◌}
+use Rattle.std.specs.Prelude.{ℕ, suc, pos, negsuc, Bool, List, codes, if◌then◌else◌}
 use Rattle.std.specs.Str.{bytes_eq}
-use Rattle.dq_text.specs.Number.{number_of}
+use Rattle.dq_text.specs.Number.{begins_with_minus, number_of}
 use Rattle.dq_text.specs.declared.numbers.Number.{Number}
 use Rattle.dq_text.specs.declared.numbers.Number.TheVariants.{Int, NotANumber, TooBig}
 use Rattle.dqdimacs_reader.specs.declared.lexemes.Lexeme.{Lexeme}
 use Rattle.dqdimacs_reader.specs.declared.lexemes.Lexeme.TheVariants.{P, Cnf, A, D, E, Natural, Negative, Large, NegativeLarge, Other}
-
-abbrev pub begins_with_minus : List ℕ → Bool
-begins_with_minus [] = false
-begins_with_minus (byte ∷ _) = byte == 45
 
 abbrev pub number_lexeme : Bool → Number → Lexeme
 number_lexeme minus NotANumber = Other

@@ -1,9 +1,8 @@
 ghost use Rattle.std.specs.Prelude.{◌≡◌};
-ghost use Rattle.dqdimacs_reader.specs.Lexeme.{begins_with_minus, number_lexeme, lexeme_of};
-ghost use Rattle.std.specs.Str.{bytes_eq};
-ghost use Rattle.dq_text.specs.Number.{number_of};
+ghost use Rattle.dqdimacs_reader.specs.Lexeme.{number_lexeme, lexeme_of};
+ghost use Rattle.dq_text.specs.Number.{begins_with_minus, number_of};
 
-use dq_text::{Number, read_number};
+use dq_text::{Number, has_minus, is_word, read_number};
 
 /// What a token is to the grammar.
 #[derive(Clone, Copy, Debug, PartialEq, Eq)]
@@ -48,12 +47,6 @@ pub fn classify(text: &[u8]) -> Lexeme
     }
 }
 
-fn is_word(text: &[u8], word: &[u8]) -> bool
-    ensures { result ≡ bytes_eq text.now word.now }
-{
-    text == word
-}
-
 fn number(text: &[u8]) -> Lexeme
     ensures { result ≡ number_lexeme (begins_with_minus text.now) (number_of text.now) }
 {
@@ -64,10 +57,4 @@ fn number(text: &[u8]) -> Lexeme
         Number::Int(n) if n < 0 => Lexeme::Negative(n.unsigned_abs()),
         Number::Int(n) => Lexeme::Natural(n.unsigned_abs()),
     }
-}
-
-fn has_minus(text: &[u8]) -> bool
-    ensures { result ≡ begins_with_minus text.now }
-{
-    matches!(text.first(), Some(b'-'))
 }

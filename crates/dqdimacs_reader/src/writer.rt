@@ -3,12 +3,11 @@
 ghost use Rattle.std.specs.Prelude.{◌≡◌, ◌++◌, Some, IfOk, OnOk, IsSome};
 ghost use Rattle.std.specs.List.{flat_map};
 ghost use Rattle.dq_lits.specs.Formula.{Existential, existential_of};
-ghost use Rattle.dq_text.specs.Written.{number_text};
 ghost use Rattle.dqdimacs_reader.specs.Canonical.{canonical, literal_text, header_text, numbers_line, existential_line, universals_text, existential_text, clause_text};
 
 use dq_formula::{Deps, Formula};
 use dq_lits::{Lit, Memory};
-use dq_text::{push_natural, push_number, push_spaced};
+use dq_text::{push_all_spaced, push_last, push_number, push_spaced, push_word};
 use std::alloc::Global;
 
 /// The canonical text of a formula: the header; a line `a` with all universals, where there are any; for each
@@ -27,39 +26,18 @@ pub fn write(alloc: Global, f: &Formula) -> Result<Vec<u8>, Memory>
 fn write_header(f: &Formula, text: &mut Vec<u8>) -> Result<(), Memory>
     ensures { OnOk result (text.new.items ≡ text.old.items ++ header_text f.now) }
 {
-    text.extend_from_slice(b"p cnf ")?;
+    push_word(text, b"p cnf ")?;
     push_spaced(text, f.vars())?;
-    push_natural(text, f.clauses() as u64)?;
-    text.push(b'\n')?;
-    Ok(())
-}
-
-// Numbers, each with a space behind it.
-fn write_numbers(numbers: &[u64], text: &mut Vec<u8>) -> Result<(), Memory>
-    ensures { OnOk result (text.new.items ≡ text.old.items ++ flat_map number_text numbers.now) }
-{
-    let mut rest = numbers;
-    while let Some((first, behind)) = rest.split_first() {
-        push_spaced(text, *first)?;
-        rest = behind;
-    }
-    Ok(())
-}
-
-fn write_word(word: &[u8], text: &mut Vec<u8>) -> Result<(), Memory>
-    ensures { OnOk result (text.new.items ≡ text.old.items ++ word.now) }
-{
-    text.extend_from_slice(word)?;
-    Ok(())
+    push_last(text, f.clauses() as u64)
 }
 
 // A letter, numbers and `0`.
 fn write_line(letter: u8, numbers: &[u64], text: &mut Vec<u8>) -> Result<(), Memory>
     ensures { OnOk result (text.new.items ≡ text.old.items ++ numbers_line letter numbers.now) }
 {
-    write_word(&[letter, b' '], text)?;
-    write_numbers(numbers, text)?;
-    write_word(b"0\n", text)?;
+    push_word(text, &[letter, b' '])?;
+    push_all_spaced(text, numbers)?;
+    push_word(text, b"0\n")?;
     Ok(())
 }
 
@@ -84,10 +62,10 @@ fn write_dependency(
     if seen.len() == universals {
         return write_line(b'e', &[y], text);
     }
-    write_word(b"d ", text)?;
+    push_word(text, b"d ")?;
     push_spaced(text, y)?;
-    write_numbers(seen, text)?;
-    write_word(b"0\n", text)?;
+    push_all_spaced(text, seen)?;
+    push_word(text, b"0\n")?;
     Ok(())
 }
 
@@ -140,7 +118,7 @@ fn write_clause(literals: &[Lit], text: &mut Vec<u8>) -> Result<(), Memory>
         write_literal(*first, text)?;
         rest = behind;
     }
-    write_word(b"0\n", text)?;
+    push_word(text, b"0\n")?;
     Ok(())
 }
 

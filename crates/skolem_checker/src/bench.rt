@@ -11,6 +11,7 @@ use crate::reads::{ReadWords, undeclared_read};
 use crate::renumbering::renumbered;
 use crate::rows::first_bad_row;
 use crate::tables::{literal_table, place_table, universal_places};
+use crate::tested::Tested;
 use aiger_text::AagFile;
 use circuit_plain::{Block, Circuit, Order, OrderStop};
 use dq_formula::Formula;
@@ -149,14 +150,13 @@ impl<'a> Bench<'a> {
         ensures same { self.new ≡ self.old }
         ensures answer { IsReadsAnswer (ReadsUniversal self.old.circuit) self.old.formula result }
     {
-        undeclared_read(
-            self.formula,
-            &self.copy,
-            &self.order,
-            &self.literals,
-            &self.places,
-            &mut self.words,
-        )
+        let tested = Tested {
+            formula: self.formula,
+            circuit: &self.copy,
+            order: &self.order,
+            literals: &self.literals,
+        };
+        undeclared_read(&tested, &self.places, &mut self.words)
     }
 
     /// Whether every clause is true under every row of the universals, with the outputs' values; else the number of
@@ -167,13 +167,12 @@ impl<'a> Bench<'a> {
         ensures same { self.new ≡ self.old }
         ensures answer { IsRowsAnswer self.old.formula self.old.circuit result }
     {
-        first_bad_row(
-            self.formula,
-            &self.copy,
-            &self.order,
-            &self.literals,
-            &self.universal_places,
-            &mut self.values,
-        )
+        let tested = Tested {
+            formula: self.formula,
+            circuit: &self.copy,
+            order: &self.order,
+            literals: &self.literals,
+        };
+        first_bad_row(&tested, &self.universal_places, &mut self.values)
     }
 }

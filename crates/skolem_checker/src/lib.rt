@@ -16,4 +16,5 @@ mod renumbering;
 mod rows;
 mod sights;
 mod tables;
+mod tested;
 mod words;

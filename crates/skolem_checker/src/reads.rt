@@ -12,6 +12,7 @@ ghost use Rattle.skolem_checker.specs.Tables.{ReadsByTables, ReadsByMarks, HasLi
 
 use crate::sights::{all_see_all, are_declared};
 use crate::tables::zeros;
+use crate::tested::Tested;
 use crate::words::{bit, clear, set_bit};
 use circuit_plain::{Circuit, Order};
 use dq_formula::Formula;
@@ -83,26 +84,25 @@ fn first_read_one_by_one(
 }
 
 // The same, where whole words are looked at first.
-fn first_read(
-    f: &Formula,
-    literals: &[u64],
-    ys: &[u64],
-    words: &mut ReadWords,
-) -> Option<(usize, u64)>
-    requires declared { All (λ y. IsSome (existential_of f.now y)) ys.now }
+fn first_read(tested: &Tested, ys: &[u64], words: &mut ReadWords) -> Option<(usize, u64)>
+    requires declared { All (λ y. IsSome (existential_of tested.now.formula.now y)) ys.now }
     requires few { length ys.now ≤ 64 }
-    requires fit { All (HasLiteral literals.now (length words.old.reached.items)) f.now.universals }
-    requires listed_words { length words.old.listed.items ≡ length f.now.universals }
-    requires stops_words { length words.old.stops.items ≡ length f.now.universals + 1 }
+    requires fit { All (HasLiteral tested.now.literals.now (length words.old.reached.items))
+        tested.now.formula.now.universals }
+    requires listed_words { length words.old.listed.items
+        ≡ length tested.now.formula.now.universals }
+    requires stops_words { length words.old.stops.items
+        ≡ length tested.now.formula.now.universals + 1 }
     ensures reached { length words.new.reached.items ≡ length words.old.reached.items }
     ensures listed { length words.new.listed.items ≡ length words.old.listed.items }
     ensures stops { length words.new.stops.items ≡ length words.old.stops.items }
-    ensures answer { MatchOption result (AreDeclared f.now literals.now ys.now words.old.reached.items)
-        (λ read. IsFirstIn f.now literals.now ys.now words.old.reached.items read.0 read.1) }
+    ensures answer { MatchOption result
+        (AreDeclared tested.now.formula.now tested.now.literals.now ys.now words.old.reached.items)
+        (λ read. IsFirstIn tested.now.formula.now tested.now.literals.now ys.now
+        words.old.reached.items read.0 read.1) }
 {
     if are_declared(
-        f,
-        literals,
+        tested,
         ys,
         &words.reached,
         &mut words.listed,
@@ -110,7 +110,7 @@ fn first_read(
     ) {
         return None;
     }
-    first_read_one_by_one(f, literals, ys, &words.reached)
+    first_read_one_by_one(tested.formula, tested.literals, ys, &words.reached)
 }
 
 // Marks the roots of these existentials' outputs, each at its bit.
@@ -147,55 +147,62 @@ fn mark_reached(circuit: &Circuit, order: &Order, places: &[u64], ys: &[u64], wo
 // The first of a batch of existentials whose output reaches an input for a universal that it may not see, and the first
 // such universal.
 fn undeclared_in_batch(
-    f: &Formula,
-    circuit: &Circuit,
-    order: &Order,
-    literals: &[u64],
+    tested: &Tested,
     places: &[u64],
     ys: &[u64],
     words: &mut ReadWords,
 ) -> Option<(usize, u64)>
-    requires ordered { IsOrder circuit.now order.now }
-    requires declared { All (λ y. IsSome (existential_of f.now y)) ys.now }
+    requires ordered { IsOrder tested.now.circuit.now tested.now.order.now }
+    requires declared { All (λ y. IsSome (existential_of tested.now.formula.now y)) ys.now }
     requires few { length ys.now ≤ 64 }
-    requires words { HasWords circuit.now f.now words.old }
-    requires universals_fit { All (HasLiteral literals.now (circuit.now.max_var + 1)) f.now.universals }
+    requires words { HasWords tested.now.circuit.now tested.now.formula.now words.old }
+    requires universals_fit { All
+        (HasLiteral tested.now.literals.now (tested.now.circuit.now.max_var + 1))
+        tested.now.formula.now.universals }
     requires places_fit { All (λ y. y < length places.now) ys.now }
-    requires outputs_fit { All (λ y. slice_index places.now y < length circuit.now.outputs) ys.now }
-    ensures words { HasWords circuit.now f.now words.new }
-    ensures answer { IsBatchAnswer (ReadsByTables circuit.now literals.now places.now) f.now ys.now result }
+    requires outputs_fit { All
+        (λ y. slice_index places.now y < length tested.now.circuit.now.outputs)
+        ys.now }
+    ensures words { HasWords tested.now.circuit.now tested.now.formula.now words.new }
+    ensures answer { IsBatchAnswer
+        (ReadsByTables tested.now.circuit.now tested.now.literals.now places.now)
+        tested.now.formula.now ys.now result }
 {
-    if all_see_all(f, ys) {
+    if all_see_all(tested.formula, ys) {
         return None;
     }
-    mark_reached(circuit, order, places, ys, &mut words.reached);
-    first_read(f, literals, ys, words)
+    mark_reached(tested.circuit, tested.order, places, ys, &mut words.reached);
+    first_read(tested, ys, words)
 }
 
 /// The first existential whose output reaches an input for a universal that it may not see, and the first such
 /// universal.
 pub(crate) fn undeclared_read(
-    f: &Formula,
-    circuit: &Circuit,
-    order: &Order,
-    literals: &[u64],
+    tested: &Tested,
     places: &[u64],
     words: &mut ReadWords,
 ) -> Result<(), (u64, u64)>
-    requires ordered { IsOrder circuit.now order.now }
-    requires words { HasWords circuit.now f.now words.old }
-    requires universals_fit { All (HasLiteral literals.now (circuit.now.max_var + 1)) f.now.universals }
-    requires places_fit { All (λ y. y < length places.now) (existential_variables f.now) }
-    requires outputs_fit { All (λ y. slice_index places.now y < length circuit.now.outputs) (existential_variables f.now) }
-    ensures words { HasWords circuit.now f.now words.new }
-    ensures answer { IsReadsAnswer (ReadsByTables circuit.now literals.now places.now) f.now result }
+    requires ordered { IsOrder tested.now.circuit.now tested.now.order.now }
+    requires words { HasWords tested.now.circuit.now tested.now.formula.now words.old }
+    requires universals_fit { All
+        (HasLiteral tested.now.literals.now (tested.now.circuit.now.max_var + 1))
+        tested.now.formula.now.universals }
+    requires places_fit { All (λ y. y < length places.now)
+        (existential_variables tested.now.formula.now) }
+    requires outputs_fit { All
+        (λ y. slice_index places.now y < length tested.now.circuit.now.outputs)
+        (existential_variables tested.now.formula.now) }
+    ensures words { HasWords tested.now.circuit.now tested.now.formula.now words.new }
+    ensures answer { IsReadsAnswer
+        (ReadsByTables tested.now.circuit.now tested.now.literals.now places.now)
+        tested.now.formula.now result }
 {
-    f.every_formula_is_lawful();
-    let ys = f.existentials();
+    tested.formula.every_formula_is_lawful();
+    let ys = tested.formula.existentials();
     for batch in 0..ys.len().div_ceil(64) {
         let start = batch * 64;
         let end = start + (ys.len() - start).min(64);
-        let read = undeclared_in_batch(f, circuit, order, literals, places, &ys[start..end], words);
+        let read = undeclared_in_batch(tested, places, &ys[start..end], words);
         if let Some((i, x)) = read {
             return Err((ys[start + i], x));
         }

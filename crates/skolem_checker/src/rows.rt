@@ -9,8 +9,9 @@ ghost use Rattle.circuit_plain.specs.Order.{IsOrder};
 ghost use Rattle.skolem_checker.specs.Checks.{IsFirstBad};
 ghost use Rattle.skolem_checker.specs.Tables.{HasLiteral, RowTest, circuit_assignment, row_bit};
 
+use crate::tested::Tested;
 use circuit_plain::lanes::{both, either};
-use circuit_plain::{Block, Circuit, Order, literal_lanes};
+use circuit_plain::{Block, literal_lanes};
 use dq_formula::Formula;
 use dq_lits::Lit;
 use std::simd::u64x4;
@@ -110,28 +111,31 @@ fn rows_in_block(rows: u32, first: u32) -> u32
 
 /// The number of the first row under which a clause is false.
 pub(crate) fn first_bad_row(
-    f: &Formula,
-    circuit: &Circuit,
-    order: &Order,
-    literals: &[u64],
+    tested: &Tested,
     places: &[usize],
     values: &mut Block,
 ) -> Result<(), u32>
-    requires ordered { IsOrder circuit.now order.now }
-    requires few { length f.now.universals ≤ 20 }
-    requires a_place_an_input { length places.now ≡ length circuit.now.inputs }
+    requires ordered { IsOrder tested.now.circuit.now tested.now.order.now }
+    requires few { length tested.now.formula.now.universals ≤ 20 }
+    requires a_place_an_input { length places.now ≡ length tested.now.circuit.now.inputs }
     requires places_fit { All (λ place. place < 20) places.now }
-    requires a_value_a_variable { length values.old ≡ circuit.now.max_var + 1 }
-    requires literals_fit { All (All (λ l. HasLiteral literals.now (circuit.now.max_var + 1) (variable_of l))) f.now.matrix }
+    requires a_value_a_variable { length values.old ≡ tested.now.circuit.now.max_var + 1 }
+    requires literals_fit { All (All (λ l. HasLiteral tested.now.literals.now
+        (tested.now.circuit.now.max_var + 1) (variable_of l))) tested.now.formula.now.matrix }
     ensures values_length { length values.new ≡ length values.old }
-    ensures first { IsFirstBad (λ k. RowTest f.now circuit.now literals.now places.now k true)
-        (λ k. RowTest f.now circuit.now literals.now places.now k false) (2 ^ length f.now.universals) result }
+    ensures first { IsFirstBad
+        (λ k. RowTest tested.now.formula.now tested.now.circuit.now tested.now.literals.now
+        places.now k true)
+        (λ k. RowTest tested.now.formula.now tested.now.circuit.now tested.now.literals.now
+        places.now k false) (2 ^ length tested.now.formula.now.universals) result }
 {
-    let rows = count_rows(f);
+    let rows = count_rows(tested.formula);
     for block in 0..rows.div_ceil(BLOCK_ROWS) {
         let first = BLOCK_ROWS * block;
-        circuit.eval_block_by(order, places, first as u64, values);
-        let hold = matrix_lanes(f, literals, values);
+        tested
+            .circuit
+            .eval_block_by(tested.order, places, first as u64, values);
+        let hold = matrix_lanes(tested.formula, tested.literals, values);
         if let Some(row) = first_false(hold, rows_in_block(rows, first)) {
             return Err(first + row);
         }

@@ -7,6 +7,7 @@ ghost use Rattle.circuit_plain.specs.Words.{marked};
 ghost use Rattle.skolem_checker.specs.Reads.{IsAt, AreDeclared, IsNoted, IsSetNoted, IsUnnoted, AreSameAt, IsAllowed};
 ghost use Rattle.skolem_checker.specs.Tables.{HasLiteral, ReadsByMarks};
 
+use crate::tested::Tested;
 use crate::words::{clear, set_bit, without};
 use dq_formula::{Deps, Formula};
 
@@ -38,24 +39,25 @@ fn sees_all(f: &Formula, y: u64) -> bool
 
 /// Whether, by the marks, each of these existentials reads declared universals alone. It may say no where they do.
 pub(crate) fn are_declared(
-    f: &Formula,
-    literals: &[u64],
+    tested: &Tested,
     ys: &[u64],
     reached: &[u64],
     listed: &mut [u64],
     stops: &mut [u64],
 ) -> bool
-    requires declared { All (λ y. IsSome (existential_of f.now y)) ys.now }
+    requires declared { All (λ y. IsSome (existential_of tested.now.formula.now y)) ys.now }
     requires few { length ys.now ≤ 64 }
-    requires fit { All (HasLiteral literals.now (length reached.now)) f.now.universals }
-    requires listed_words { length listed.old ≡ length f.now.universals }
-    requires stops_words { length stops.old ≡ length f.now.universals + 1 }
+    requires fit { All (HasLiteral tested.now.literals.now (length reached.now))
+        tested.now.formula.now.universals }
+    requires listed_words { length listed.old ≡ length tested.now.formula.now.universals }
+    requires stops_words { length stops.old ≡ length tested.now.formula.now.universals + 1 }
     ensures listed_length { length listed.new ≡ length listed.old }
     ensures stops_length { length stops.new ≡ length stops.old }
-    ensures declared { result ≡ true → AreDeclared f.now literals.now ys.now reached.now }
+    ensures declared { result ≡ true
+        → AreDeclared tested.now.formula.now tested.now.literals.now ys.now reached.now }
 {
-    note_sets(f, ys, listed, stops);
-    are_allowed(f, literals, reached, listed, stops)
+    note_sets(tested.formula, ys, listed, stops);
+    are_allowed(tested.formula, tested.literals, reached, listed, stops)
 }
 
 // Notes the dependency sets of these existentials, each at its bit.

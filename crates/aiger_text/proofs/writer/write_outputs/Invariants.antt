@@ -1,6 +1,6 @@
 use Rattle.std.proofs.Common.{◌≡◌, ◌++◌, length}
 use Rattle.std.specs.List.{flat_map}
-use Rattle.aiger_text.specs.Canonical.{number_line}
+use Rattle.dq_text.specs.Written.{number_line}
 use Rattle.aiger_text.proofs.writer.write_outputs.Given as goal
 
 abbrev pub invariant-loop-first : goal.invariant-loop-first

@@ -6,7 +6,7 @@ use Rattle.skolem_checker.proofs.reads.undeclared_read.Given as goal
 
 abbrev pub invariant-loop-batch : goal.invariant-loop-batch
 invariant-loop-batch l = record {
-  words : HasWords l.circuit l.f l.words;
-  first : (p : ℕ) → p < l.batch * 64 → p < length l.f.existentials
-      → ReadsDeclaredBefore (ReadsByTables l.circuit l.literals l.places) l.f (existential_at l.f p) (length l.f.universals);
+  words : HasWords l.tested.circuit.now l.tested.formula.now l.words;
+  first : (p : ℕ) → p < l.batch * 64 → p < length l.tested.formula.now.existentials
+      → ReadsDeclaredBefore (ReadsByTables l.tested.circuit.now l.tested.literals.now l.places) l.tested.formula.now (existential_at l.tested.formula.now p) (length l.tested.formula.now.universals);
 }

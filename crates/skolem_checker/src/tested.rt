@@ -1,0 +1,13 @@
+use circuit_plain::{Circuit, Order};
+use dq_formula::Formula;
+
+/// What the tests look at: a formula, and the circuit that is tested against it.
+#[derive(Drop)]
+pub(crate) struct Tested<'f, 'c, 'o, 'l> {
+    pub(crate) formula: &'f Formula,
+    pub(crate) circuit: &'c Circuit,
+    /// An order of the circuit's gates.
+    pub(crate) order: &'o Order,
+    /// By variable of the formula, the literal of a universal's input or an existential's output.
+    pub(crate) literals: &'l [u64],
+}
