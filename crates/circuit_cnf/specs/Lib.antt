@@ -6,3 +6,4 @@ pub mod Checking
 pub mod Faults
 pub mod Turning
 pub mod Failing
+pub mod Saying

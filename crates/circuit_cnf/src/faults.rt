@@ -1,5 +1,5 @@
-ghost use Rattle.std.specs.Prelude.{◌≡◌, ◌≤◌, ◌<◌, ◌+◌, ◌∷◌, ◌⊎◌, ℕ, true, false, List, length, Contains, All, slice_index_or, [], IfOk, OnOk, OnErr, Some, None};
-ghost use Rattle.dq_lits.specs.Formula.{Dqbf, declared};
+ghost use Rattle.std.specs.Prelude.{◌≡◌, ◌≤◌, ◌<◌, ◌+◌, ◌∷◌, ◌⊎◌, ℕ, true, false, List, length, slice_index_or, [], IfOk, OnOk, OnErr, Some, Contains};
+ghost use Rattle.dq_lits.specs.Formula.{Dqbf};
 ghost use Rattle.std.specs.Option.{option_map};
 ghost use Rattle.dq_lits.specs.Literal.{Literal, negative, is_negative, variable_of};
 ghost use Rattle.hint_log.specs.Entries.{Entry};
@@ -13,7 +13,8 @@ ghost use Rattle.hint_log.specs.Origins.{leaf_with_sign, matrix_literal, IsLeafO
 ghost use Rattle.hint_log.specs.ProductiveLog.{fault_groups};
 ghost use Rattle.log_laws.specs.Engines.{circuits, IsAddedBy};
 ghost use Rattle.oracle.specs.Calls.{IsMade};
-ghost use Rattle.circuit_cnf.specs.Faults.{HasFault, HaveFaults, HaveOneLeaf, AreFewWith, leaf_of, IsBadAt, HaveAllFaults, IsNamingBads, NamesBadsAlone, AreGiven, GrewByGroup, AreBads};
+ghost use Rattle.circuit_cnf.specs.Faults.{HasFault, HaveFaults, HaveOneLeaf, AreFewWith, IsBadAt, HaveAllFaults, IsNamingBads, NamesBadsAlone, AreGiven, GrewByGroup, AreBads};
+ghost use Rattle.circuit_cnf.specs.Saying.{AreBound, AreLeaves, HasNoBads, leaf_in, selector_in};
 
 use dq_formula::Formula;
 use dq_lits::{Lit, Memory};
@@ -21,137 +22,273 @@ use hint_log::{Leaf, Log, Name, Origin};
 use oracle::{Group, Oracle};
 use std::alloc::Global;
 
-// Says in a new group which clauses are false under the leaves, and that one is.
-pub(crate) fn give_faults<O: Oracle>(
-    alloc: Global,
-    oracle: &mut O,
-    group: &Group,
-    f: &Formula,
-    inputs: &[Lit],
-    outputs: &[Leaf],
-    log: &mut Log,
-) -> Result<(), Memory>
-    requires fit { O.Fits oracle.old log.old }
-    requires made { IsMade log.old.entries group.now }
-    requires fresh { (v j : ℕ) → name_of log.old.entries v ≡ Some (Bad (variable_of group.now.selector) j) → ⊥ }
-    requires input_count { length inputs.now ≡ length f.now.universals }
-    requires output_count { length outputs.now ≡ length f.now.existentials }
-    requires leaves { (v : ℕ) → Contains (declared f.now) v → IsLeafOf f.now log.old.entries v (leaf_of f.now inputs.now outputs.now v) }
-    requires bound { All (All (λ l. Contains (declared f.now) (variable_of l))) f.now.matrix }
-    requires few { AreFewWith (variable_of group.now.selector) log.old.entries }
-    requires one_leaf { HaveOneLeaf f.now (variable_of group.now.selector) (leaf_of f.now inputs.now outputs.now) log.old.entries }
-    ensures fit { O.Fits oracle.new log.new }
-    ensures grew { GrewByGroup f.now (variable_of group.now.selector) log.old log.new }
-    ensures names { NamesBadsAlone (variable_of group.now.selector) log.old.entries log.new.entries }
-    ensures few { AreFewWith (variable_of group.now.selector) log.new.entries }
-    ensures one_leaf { HaveOneLeaf f.now (variable_of group.now.selector) (leaf_of f.now inputs.now outputs.now) log.new.entries }
-    ensures given { OnOk result (AreGiven f.now (variable_of group.now.selector) (leaf_of f.now inputs.now outputs.now) log.new.entries) }
-{
-    let bads = name_bads(alloc, oracle, group, f, log)?;
-    say_faults(oracle, group, f, inputs, outputs, &bads, log)
+/// What a group is to say: which clauses are false under the leaves of the variables, and that one
+/// is. A universal's leaf is its input, and an existential's its output.
+#[derive(Drop)]
+pub(crate) struct Faults<'g, 'f, 'l> {
+    pub group: &'g Group,
+    pub f: &'f Formula,
+    pub inputs: &'l [Lit],
+    pub outputs: &'l [Leaf],
 }
 
-// The same by the variables that say it.
-fn say_faults<O: Oracle>(
-    oracle: &mut O,
-    group: &Group,
-    f: &Formula,
-    inputs: &[Lit],
-    outputs: &[Leaf],
-    bads: &[Lit],
-    log: &mut Log,
-) -> Result<(), Memory>
-    requires fit { O.Fits oracle.old log.old }
-    requires made { IsMade log.old.entries group.now }
-    requires input_count { length inputs.now ≡ length f.now.universals }
-    requires output_count { length outputs.now ≡ length f.now.existentials }
-    requires leaves { (v : ℕ) → Contains (declared f.now) v → IsLeafOf f.now log.old.entries v (leaf_of f.now inputs.now outputs.now v) }
-    requires bound { All (All (λ l. Contains (declared f.now) (variable_of l))) f.now.matrix }
-    requires bads { AreBads f.now (variable_of group.now.selector) bads.now log.old.entries }
-    requires few { AreFewWith (variable_of group.now.selector) log.old.entries }
-    requires one_leaf { HaveOneLeaf f.now (variable_of group.now.selector) (leaf_of f.now inputs.now outputs.now) log.old.entries }
-    ensures fit { O.Fits oracle.new log.new }
-    ensures grew { GrewByGroup f.now (variable_of group.now.selector) log.old log.new }
-    ensures names { (v : ℕ) → name_of log.new.entries v ≡ name_of log.old.entries v }
-    ensures few { AreFewWith (variable_of group.now.selector) log.new.entries }
-    ensures one_leaf { HaveOneLeaf f.now (variable_of group.now.selector) (leaf_of f.now inputs.now outputs.now) log.new.entries }
-    ensures given { OnOk result (AreGiven f.now (variable_of group.now.selector) (leaf_of f.now inputs.now outputs.now) log.new.entries) }
-{
-    all_faults(oracle, group, f, inputs, outputs, bads, log)?;
-    some_fault(oracle, group, f, bads, log)?;
-    Ok(())
+/// A literal of the matrix, by the numbers of its clause and of its place there, both from 1 on,
+/// and the leaf of its variable.
+#[derive(Clone, Copy, Debug)]
+pub(crate) struct Occurrence {
+    pub clause: u64,
+    pub place: u64,
+    pub literal: Lit,
+    pub leaf: Leaf,
 }
 
-// Names a variable for each clause, which says that the clause is false in the group.
-pub(crate) fn name_bads<O: Oracle>(
-    alloc: Global,
-    oracle: &mut O,
-    group: &Group,
-    f: &Formula,
-    log: &mut Log,
-) -> Result<Vec<Lit>, Memory>
-    requires fit { O.Fits oracle.old log.old }
-    requires fresh { (v j : ℕ) → name_of log.old.entries v ≡ Some (Bad (variable_of group.now.selector) j) → ⊥ }
-    ensures fit { O.Fits oracle.new log.new }
-    ensures grew { (h : Dqbf) (standing : ℕ) (start : List Entry) → Grew (IsAddedBy h circuits standing true start) log.old log.new }
-    ensures faults { fault_groups log.new.entries ≡ fault_groups log.old.entries }
-    ensures alone { IsNamingBads (variable_of group.now.selector) log.old.entries log.new.entries }
-    ensures named { IfOk result (λ bads. AreBads f.now (variable_of group.now.selector) bads.items log.new.entries) }
-{
-    let mut bads = Vec::new(alloc);
-    for j in 0..f.clauses() {
-        let name = Name::Bad {
-            group: group.selector().var(),
-            clause: j as u64 + 1,
-        };
-        let v = oracle.new_var(name, log)?;
-        bads.push(Lit::pos(v))?;
+impl<'g, 'f, 'l> Faults<'g, 'f, 'l> {
+    // Gives the group, which has nothing yet, all that it is to say.
+    pub(crate) fn give<O: Oracle>(
+        &self,
+        alloc: Global,
+        oracle: &mut O,
+        log: &mut Log,
+    ) -> Result<(), Memory>
+        requires fit { O.Fits oracle.old log.old }
+        requires made { IsMade log.old.entries self.now.group.now }
+        requires fresh { HasNoBads (selector_in self.now) log.old.entries }
+        requires input_count { length self.now.inputs.now ≡ length self.now.f.now.universals }
+        requires output_count { length self.now.outputs.now ≡ length self.now.f.now.existentials }
+        requires leaves { AreLeaves self.now.f.now (leaf_in self.now) log.old.entries }
+        requires bound { AreBound self.now.f.now }
+        requires few { AreFewWith (selector_in self.now) log.old.entries }
+        requires one_leaf { HaveOneLeaf self.now.f.now (selector_in self.now) (leaf_in self.now)
+            log.old.entries }
+        ensures fit { O.Fits oracle.new log.new }
+        ensures grew { GrewByGroup self.now.f.now (selector_in self.now) log.old log.new }
+        ensures names { NamesBadsAlone (selector_in self.now) log.old.entries log.new.entries }
+        ensures few { AreFewWith (selector_in self.now) log.new.entries }
+        ensures one_leaf { HaveOneLeaf self.now.f.now (selector_in self.now) (leaf_in self.now)
+            log.new.entries }
+        ensures given { OnOk result (AreGiven self.now.f.now (selector_in self.now)
+            (leaf_in self.now) log.new.entries) }
+    {
+        let bads = self.name_bads(alloc, oracle, log)?;
+        self.say(oracle, &bads, log)
     }
-    Ok(bads)
-}
 
-// Gives the fault of a literal of a clause, unless it is true anyway.
-pub(crate) fn give_fault<O: Oracle>(
-    oracle: &mut O,
-    group: &Group,
-    f: &Formula,
-    bad: Lit,
-    literal: Lit,
-    output: &Leaf,
-    clause: u64,
-    place: u64,
-    log: &mut Log,
-) -> Result<(), Memory>
-    requires fit { O.Fits oracle.old log.old }
-    requires made { IsMade log.old.entries group.now }
-    requires clause_from_one { 1 ≤ clause }
-    requires literal { matrix_literal f.now clause place ≡ Some literal }
-    requires leaf { IsLeafOf f.now log.old.entries (variable_of literal) output.now }
-    requires bad { name_of log.old.entries (variable_of bad) ≡ Some (Bad (variable_of group.now.selector) clause) }
-    requires positive { is_negative bad ≡ false }
-    requires few { (rest : List Literal)
-        → length (fault_groups (Given (Fault clause place output.now) (negative (variable_of group.now.selector) ∷ rest) ∷ log.old.entries))
-        ≤ rounds_of log.old.entries + 1 }
-    requires one_leaf { (j i v : ℕ) (out : OriginLeaf) (rest : List Literal)
-        → Contains log.old.entries (Given (Fault j i out) (negative (variable_of group.now.selector) ∷ rest))
-        → option_map variable_of (matrix_literal f.now j i) ≡ Some v → v ≡ variable_of literal → out ≡ output.now }
-    ensures fit { O.Fits oracle.new log.new }
-    ensures grew { GrewByGroup f.now (variable_of group.now.selector) log.old log.new }
-    ensures given { OnOk result (HasFault (variable_of group.now.selector) (variable_of bad) clause place literal output.now log.new.entries) }
-    ensures at_most { (log.new ≡ log.old)
-        ⊎ ((rest : List Literal)
-        × (log.new ≡ with_entry log.old (Given (Fault clause place output.now) (negative (variable_of group.now.selector) ∷ rest)))) }
-{
-    match signed_leaf(output, !literal.is_neg()) {
-        Leaf::Constant(true) => Ok(()),
-        Leaf::Constant(false) => {
-            oracle.add(group, &[bad.not()], fault(clause, place, output), log)?;
-            Ok(())
+    // The same by the variables that say it.
+    fn say<O: Oracle>(&self, oracle: &mut O, bads: &[Lit], log: &mut Log) -> Result<(), Memory>
+        requires fit { O.Fits oracle.old log.old }
+        requires made { IsMade log.old.entries self.now.group.now }
+        requires input_count { length self.now.inputs.now ≡ length self.now.f.now.universals }
+        requires output_count { length self.now.outputs.now ≡ length self.now.f.now.existentials }
+        requires leaves { AreLeaves self.now.f.now (leaf_in self.now) log.old.entries }
+        requires bound { AreBound self.now.f.now }
+        requires bads { AreBads self.now.f.now (selector_in self.now) bads.now log.old.entries }
+        requires few { AreFewWith (selector_in self.now) log.old.entries }
+        requires one_leaf { HaveOneLeaf self.now.f.now (selector_in self.now) (leaf_in self.now)
+            log.old.entries }
+        ensures fit { O.Fits oracle.new log.new }
+        ensures grew { GrewByGroup self.now.f.now (selector_in self.now) log.old log.new }
+        ensures names { (v : ℕ) → name_of log.new.entries v ≡ name_of log.old.entries v }
+        ensures few { AreFewWith (selector_in self.now) log.new.entries }
+        ensures one_leaf { HaveOneLeaf self.now.f.now (selector_in self.now) (leaf_in self.now)
+            log.new.entries }
+        ensures given { OnOk result (AreGiven self.now.f.now (selector_in self.now)
+            (leaf_in self.now) log.new.entries) }
+    {
+        self.all_faults(oracle, bads, log)?;
+        self.some_fault(oracle, bads, log)?;
+        Ok(())
+    }
+
+    // Names a variable for each clause, which says that the clause is false in the group.
+    fn name_bads<O: Oracle>(
+        &self,
+        alloc: Global,
+        oracle: &mut O,
+        log: &mut Log,
+    ) -> Result<Vec<Lit>, Memory>
+        requires fit { O.Fits oracle.old log.old }
+        requires fresh { HasNoBads (selector_in self.now) log.old.entries }
+        ensures fit { O.Fits oracle.new log.new }
+        ensures grew { (h : Dqbf) (standing : ℕ) (start : List Entry)
+            → Grew (IsAddedBy h circuits standing true start) log.old log.new }
+        ensures faults { fault_groups log.new.entries ≡ fault_groups log.old.entries }
+        ensures alone { IsNamingBads (selector_in self.now) log.old.entries log.new.entries }
+        ensures named { IfOk result (λ bads.
+            AreBads self.now.f.now (selector_in self.now) bads.items log.new.entries) }
+    {
+        let mut bads = Vec::new(alloc);
+        for j in 0..self.f.clauses() {
+            let name = Name::Bad {
+                group: self.group.selector().var(),
+                clause: j as u64 + 1,
+            };
+            let v = oracle.new_var(name, log)?;
+            bads.push(Lit::pos(v))?;
         }
-        Leaf::Literal(l) => {
-            oracle.add(group, &[bad.not(), l], fault(clause, place, output), log)?;
-            Ok(())
+        Ok(bads)
+    }
+
+    // Gives the faults of all clauses.
+    fn all_faults<O: Oracle>(
+        &self,
+        oracle: &mut O,
+        bads: &[Lit],
+        log: &mut Log,
+    ) -> Result<(), Memory>
+        requires fit { O.Fits oracle.old log.old }
+        requires made { IsMade log.old.entries self.now.group.now }
+        requires input_count { length self.now.inputs.now ≡ length self.now.f.now.universals }
+        requires output_count { length self.now.outputs.now ≡ length self.now.f.now.existentials }
+        requires leaves { AreLeaves self.now.f.now (leaf_in self.now) log.old.entries }
+        requires bound { AreBound self.now.f.now }
+        requires bad_count { length bads.now ≡ length self.now.f.now.matrix }
+        requires bads { (j : ℕ) → j < length self.now.f.now.matrix
+            → IsBadAt (selector_in self.now) j bads.now log.old.entries }
+        requires few { AreFewWith (selector_in self.now) log.old.entries }
+        requires one_leaf { HaveOneLeaf self.now.f.now (selector_in self.now) (leaf_in self.now)
+            log.old.entries }
+        ensures fit { O.Fits oracle.new log.new }
+        ensures grew { GrewByGroup self.now.f.now (selector_in self.now) log.old log.new }
+        ensures names { (v : ℕ) → name_of log.new.entries v ≡ name_of log.old.entries v }
+        ensures few { AreFewWith (selector_in self.now) log.new.entries }
+        ensures one_leaf { HaveOneLeaf self.now.f.now (selector_in self.now) (leaf_in self.now)
+            log.new.entries }
+        ensures given { OnOk result (HaveAllFaults self.now.f.now (selector_in self.now)
+            bads.now (leaf_in self.now) (length self.now.f.now.matrix) log.new.entries) }
+    {
+        for j in 0..self.f.clauses() {
+            self.clause_faults(oracle, bads[j], j, log)?;
         }
+        Ok(())
+    }
+
+    // Gives the faults of a clause, by its number from 0 on.
+    fn clause_faults<O: Oracle>(
+        &self,
+        oracle: &mut O,
+        bad: Lit,
+        j: usize,
+        log: &mut Log,
+    ) -> Result<(), Memory>
+        requires fit { O.Fits oracle.old log.old }
+        requires made { IsMade log.old.entries self.now.group.now }
+        requires clause { j < length self.now.f.now.matrix }
+        requires input_count { length self.now.inputs.now ≡ length self.now.f.now.universals }
+        requires output_count { length self.now.outputs.now ≡ length self.now.f.now.existentials }
+        requires leaves { AreLeaves self.now.f.now (leaf_in self.now) log.old.entries }
+        requires bound { AreBound self.now.f.now }
+        requires bad { name_of log.old.entries (variable_of bad)
+            ≡ Some (Bad (selector_in self.now) (j + 1)) }
+        requires positive { is_negative bad ≡ false }
+        requires few { AreFewWith (selector_in self.now) log.old.entries }
+        requires one_leaf { HaveOneLeaf self.now.f.now (selector_in self.now) (leaf_in self.now)
+            log.old.entries }
+        ensures fit { O.Fits oracle.new log.new }
+        ensures grew { GrewByGroup self.now.f.now (selector_in self.now) log.old log.new }
+        ensures names { (v : ℕ) → name_of log.new.entries v ≡ name_of log.old.entries v }
+        ensures few { AreFewWith (selector_in self.now) log.new.entries }
+        ensures one_leaf { HaveOneLeaf self.now.f.now (selector_in self.now) (leaf_in self.now)
+            log.new.entries }
+        ensures given { OnOk result (HaveFaults self.now.f.now (selector_in self.now)
+            (variable_of bad) (j + 1) (leaf_in self.now) (slice_index_or self.now.f.now.matrix j [])
+            (length (slice_index_or self.now.f.now.matrix j [])) log.new.entries) }
+    {
+        self.f.every_formula_is_lawful();
+        let clause = self.f.clause(j);
+        for i in 0..clause.len() {
+            let occurrence = Occurrence {
+                clause: j as u64 + 1,
+                place: i as u64 + 1,
+                literal: clause[i],
+                leaf: self.leaf(clause[i].var()),
+            };
+            self.give_fault(oracle, bad, occurrence, log)?;
+        }
+        Ok(())
+    }
+
+    // The leaf of a variable that is declared.
+    fn leaf(&self, v: u64) -> Leaf
+        requires input_count { length self.now.inputs.now ≡ length self.now.f.now.universals }
+        requires output_count { length self.now.outputs.now ≡ length self.now.f.now.existentials }
+        ensures { result ≡ leaf_in self.now v }
+    {
+        match (self.f.universal_place(v), self.f.existential_place(v)) {
+            (Some(i), _) => Leaf::Literal(self.inputs[i]),
+            (None, Some(k)) => self.outputs[k],
+            (None, None) => Leaf::Constant(false),
+        }
+    }
+
+    // Gives the fault of a literal of a clause, unless it is true anyway.
+    fn give_fault<O: Oracle>(
+        &self,
+        oracle: &mut O,
+        bad: Lit,
+        at: Occurrence,
+        log: &mut Log,
+    ) -> Result<(), Memory>
+        requires fit { O.Fits oracle.old log.old }
+        requires made { IsMade log.old.entries self.now.group.now }
+        requires clause_from_one { 1 ≤ at.clause }
+        requires literal { matrix_literal self.now.f.now at.clause at.place ≡ Some at.literal }
+        requires leaf { IsLeafOf self.now.f.now log.old.entries (variable_of at.literal) at.leaf }
+        requires bad { name_of log.old.entries (variable_of bad)
+            ≡ Some (Bad (selector_in self.now) at.clause) }
+        requires positive { is_negative bad ≡ false }
+        requires few { (rest : List Literal)
+            → length (fault_groups (Given (Fault at.clause at.place at.leaf)
+            (negative (selector_in self.now) ∷ rest) ∷ log.old.entries))
+            ≤ rounds_of log.old.entries + 1 }
+        requires one_leaf { (j i v : ℕ) (out : OriginLeaf) (rest : List Literal)
+            → Contains log.old.entries
+            (Given (Fault j i out) (negative (selector_in self.now) ∷ rest))
+            → option_map variable_of (matrix_literal self.now.f.now j i) ≡ Some v
+            → v ≡ variable_of at.literal → out ≡ at.leaf }
+        ensures fit { O.Fits oracle.new log.new }
+        ensures grew { GrewByGroup self.now.f.now (selector_in self.now) log.old log.new }
+        ensures given { OnOk result (HasFault (selector_in self.now) (variable_of bad)
+            at.clause at.place at.literal at.leaf log.new.entries) }
+        ensures at_most { (log.new ≡ log.old)
+            ⊎ ((rest : List Literal)
+            × (log.new ≡ with_entry log.old (Given (Fault at.clause at.place at.leaf)
+            (negative (selector_in self.now) ∷ rest)))) }
+    {
+        match signed_leaf(&at.leaf, !at.literal.is_neg()) {
+            Leaf::Constant(true) => Ok(()),
+            Leaf::Constant(false) => {
+                let origin = fault(at.clause, at.place, &at.leaf);
+                oracle.add(self.group, &[bad.not()], origin, log)?;
+                Ok(())
+            }
+            Leaf::Literal(l) => {
+                let origin = fault(at.clause, at.place, &at.leaf);
+                oracle.add(self.group, &[bad.not(), l], origin, log)?;
+                Ok(())
+            }
+        }
+    }
+
+    // Gives the clause that some clause is false.
+    fn some_fault<O: Oracle>(
+        &self,
+        oracle: &mut O,
+        bads: &[Lit],
+        log: &mut Log,
+    ) -> Result<(), Memory>
+        requires fit { O.Fits oracle.old log.old }
+        requires made { IsMade log.old.entries self.now.group.now }
+        requires bads { AreBads self.now.f.now (selector_in self.now) bads.now log.old.entries }
+        requires few { AreFewWith (selector_in self.now) log.old.entries }
+        ensures fit { O.Fits oracle.new log.new }
+        ensures grew { GrewByGroup self.now.f.now (selector_in self.now) log.old log.new }
+        ensures ok { OnOk result (log.new ≡ with_entry log.old (Given
+            (Fault 0 0 (OriginLeaf.Constant false)) (negative (selector_in self.now) ∷ bads.now))) }
+        ensures err { OnErr result (log.new ≡ log.old) }
+    {
+        let output = Leaf::Constant(false);
+        oracle.add(self.group, bads, fault(0, 0, &output), log)?;
+        Ok(())
     }
 }
 
@@ -172,125 +309,4 @@ fn signed_leaf(leaf: &Leaf, negated: bool) -> Leaf
         Leaf::Constant(b) => Leaf::Constant(b != negated),
         Leaf::Literal(l) => Leaf::Literal(if negated { l.not() } else { l }),
     }
-}
-
-// Gives the faults of a clause, by its number from 0 on.
-pub(crate) fn clause_faults<O: Oracle>(
-    oracle: &mut O,
-    group: &Group,
-    f: &Formula,
-    inputs: &[Lit],
-    outputs: &[Leaf],
-    bad: Lit,
-    j: usize,
-    log: &mut Log,
-) -> Result<(), Memory>
-    requires fit { O.Fits oracle.old log.old }
-    requires made { IsMade log.old.entries group.now }
-    requires clause { j < length f.now.matrix }
-    requires input_count { length inputs.now ≡ length f.now.universals }
-    requires output_count { length outputs.now ≡ length f.now.existentials }
-    requires leaves { (v : ℕ) → Contains (declared f.now) v → IsLeafOf f.now log.old.entries v (leaf_of f.now inputs.now outputs.now v) }
-    requires bound { All (All (λ l. Contains (declared f.now) (variable_of l))) f.now.matrix }
-    requires bad { name_of log.old.entries (variable_of bad) ≡ Some (Bad (variable_of group.now.selector) (j + 1)) }
-    requires positive { is_negative bad ≡ false }
-    requires few { AreFewWith (variable_of group.now.selector) log.old.entries }
-    requires one_leaf { HaveOneLeaf f.now (variable_of group.now.selector) (leaf_of f.now inputs.now outputs.now) log.old.entries }
-    ensures fit { O.Fits oracle.new log.new }
-    ensures grew { GrewByGroup f.now (variable_of group.now.selector) log.old log.new }
-    ensures names { (v : ℕ) → name_of log.new.entries v ≡ name_of log.old.entries v }
-    ensures few { AreFewWith (variable_of group.now.selector) log.new.entries }
-    ensures one_leaf { HaveOneLeaf f.now (variable_of group.now.selector) (leaf_of f.now inputs.now outputs.now) log.new.entries }
-    ensures given { OnOk result (HaveFaults f.now (variable_of group.now.selector) (variable_of bad) (j + 1)
-        (leaf_of f.now inputs.now outputs.now) (slice_index_or f.now.matrix j [])
-        (length (slice_index_or f.now.matrix j [])) log.new.entries) }
-{
-    f.every_formula_is_lawful();
-    let clause = f.clause(j);
-    for i in 0..clause.len() {
-        let output = variable_leaf(f, inputs, outputs, clause[i].var());
-        give_fault(
-            oracle,
-            group,
-            f,
-            bad,
-            clause[i],
-            &output,
-            j as u64 + 1,
-            i as u64 + 1,
-            log,
-        )?;
-    }
-    Ok(())
-}
-
-// The leaf of a variable that is declared.
-fn variable_leaf(f: &Formula, inputs: &[Lit], outputs: &[Leaf], v: u64) -> Leaf
-    requires input_count { length inputs.now ≡ length f.now.universals }
-    requires output_count { length outputs.now ≡ length f.now.existentials }
-    ensures { result ≡ leaf_of f.now inputs.now outputs.now v }
-{
-    match (f.universal_place(v), f.existential_place(v)) {
-        (Some(i), _) => Leaf::Literal(inputs[i]),
-        (None, Some(k)) => outputs[k],
-        (None, None) => Leaf::Constant(false),
-    }
-}
-
-// Gives the faults of all clauses.
-pub(crate) fn all_faults<O: Oracle>(
-    oracle: &mut O,
-    group: &Group,
-    f: &Formula,
-    inputs: &[Lit],
-    outputs: &[Leaf],
-    bads: &[Lit],
-    log: &mut Log,
-) -> Result<(), Memory>
-    requires fit { O.Fits oracle.old log.old }
-    requires made { IsMade log.old.entries group.now }
-    requires input_count { length inputs.now ≡ length f.now.universals }
-    requires output_count { length outputs.now ≡ length f.now.existentials }
-    requires leaves { (v : ℕ) → Contains (declared f.now) v → IsLeafOf f.now log.old.entries v (leaf_of f.now inputs.now outputs.now v) }
-    requires bound { All (All (λ l. Contains (declared f.now) (variable_of l))) f.now.matrix }
-    requires bad_count { length bads.now ≡ length f.now.matrix }
-    requires bads { (j : ℕ) → j < length f.now.matrix → IsBadAt (variable_of group.now.selector) j bads.now log.old.entries }
-    requires few { AreFewWith (variable_of group.now.selector) log.old.entries }
-    requires one_leaf { HaveOneLeaf f.now (variable_of group.now.selector) (leaf_of f.now inputs.now outputs.now) log.old.entries }
-    ensures fit { O.Fits oracle.new log.new }
-    ensures grew { GrewByGroup f.now (variable_of group.now.selector) log.old log.new }
-    ensures names { (v : ℕ) → name_of log.new.entries v ≡ name_of log.old.entries v }
-    ensures few { AreFewWith (variable_of group.now.selector) log.new.entries }
-    ensures one_leaf { HaveOneLeaf f.now (variable_of group.now.selector) (leaf_of f.now inputs.now outputs.now) log.new.entries }
-    ensures given { OnOk result (HaveAllFaults f.now (variable_of group.now.selector) bads.now
-        (leaf_of f.now inputs.now outputs.now) (length f.now.matrix) log.new.entries) }
-{
-    for j in 0..f.clauses() {
-        clause_faults(oracle, group, f, inputs, outputs, bads[j], j, log)?;
-    }
-    Ok(())
-}
-
-// Gives the clause that some clause is false.
-pub(crate) fn some_fault<O: Oracle>(
-    oracle: &mut O,
-    group: &Group,
-    f: &Formula,
-    bads: &[Lit],
-    log: &mut Log,
-) -> Result<(), Memory>
-    requires fit { O.Fits oracle.old log.old }
-    requires made { IsMade log.old.entries group.now }
-    requires bads { AreBads f.now (variable_of group.now.selector) bads.now log.old.entries }
-    requires few { AreFewWith (variable_of group.now.selector) log.old.entries }
-    ensures fit { O.Fits oracle.new log.new }
-    ensures grew { GrewByGroup f.now (variable_of group.now.selector) log.old log.new }
-    ensures ok { OnOk result (log.new ≡ with_entry log.old
-        (Given (Fault 0 0 (OriginLeaf.Constant false)) (negative (variable_of group.now.selector) ∷ bads.now))) }
-    ensures err { OnErr result (log.new ≡ log.old) }
-{
-    let _ = f.clauses();
-    let output = Leaf::Constant(false);
-    oracle.add(group, bads, fault(0, 0, &output), log)?;
-    Ok(())
 }

@@ -18,27 +18,35 @@ use hint_log::{Leaf, Log};
 use oracle::Oracle;
 use std::alloc::Global;
 
-// Names the marked gates, and gives their clauses where they weren't given: a literal for each gate of the graph, in order. Those of gates
-// without a mark are never looked at.
+/// The cone of some nodes of a graph, whose inputs there are a formula's universals.
+#[derive(Drop)]
+pub(crate) struct Cone<'g, 'm, 'f, 'i> {
+    pub graph: &'g Graph,
+    // Which nodes of the graph are in the cone.
+    pub marks: &'m Row,
+    pub f: &'f Formula,
+    // The literals of the universals, in order.
+    pub inputs: &'i [Lit],
+    ghost a_place_a_node: { length marks.now ≡ size_of graph.now },
+    ghost closed: { AreClosed graph.now marks.now },
+    ghost universals: { AreMarkedUniversals f.now graph.now marks.now },
+    ghost input_count: { length inputs.now ≡ length f.now.universals },
+}
+
+// Names the gates of a cone, and gives their clauses where they weren't given: a literal for each
+// gate of the graph, in order. Those of gates outside the cone are never looked at.
 pub(crate) fn cone_literals<O: Oracle>(
     alloc: Global,
     gates: &mut Gates,
     oracle: &mut O,
-    graph: &Graph,
-    f: &Formula,
-    inputs: &[Lit],
-    marks: &Row,
+    cone: &Cone,
     log: &mut Log,
 ) -> Result<Vec<Lit>, Memory>
     requires fit { O.Fits oracle.old log.old }
     requires known { AreKnown gates.old log.old.entries }
     requires ready { gates.old.unfinished ≡ None }
     requires few { length (fault_groups log.old.entries) ≤ rounds_of log.old.entries + 1 }
-    requires universals { AreMarkedUniversals f.now graph.now marks.now }
-    requires inputs { AreInputs f.now.universals inputs.now log.old.entries }
-    requires input_count { length inputs.now ≡ length f.now.universals }
-    requires a_place_a_node { length marks.now ≡ size_of graph.now }
-    requires closed { AreClosed graph.now marks.now }
+    requires inputs { AreInputs cone.now.f.now.universals cone.now.inputs.now log.old.entries }
     ensures fit { O.Fits oracle.new log.new }
     ensures grew { GrewByGates (variable_of gates.old.group.selector) log.old log.new }
     ensures group { gates.new.group ≡ gates.old.group }
@@ -46,41 +54,38 @@ pub(crate) fn cone_literals<O: Oracle>(
     ensures bads { AreBadsStill log.old.entries log.new.entries }
     ensures known { AreKnown gates.new log.new.entries }
     ensures ready { OnOk result (gates.new.unfinished ≡ None) }
-    ensures count { IfOk result (λ literals. length literals.items ≡ length graph.now.gates) }
-    ensures leaves { IfOk result (λ literals. HaveLeaves f.now graph.now marks.now literals.items log.new.entries) }
+    ensures count { IfOk result (λ literals.
+        length literals.items ≡ length cone.now.graph.now.gates) }
+    ensures leaves { IfOk result (λ literals. HaveLeaves cone.now.f.now cone.now.graph.now
+        cone.now.marks.now literals.items log.new.entries) }
 {
+    let graph = cone.graph;
     graph.every_graph_is_lawful();
     let count = graph.len() - graph.inputs();
     let mut literals = Vec::new(alloc);
     for _ in 0..count {
-        let l = next_literal(gates, oracle, graph, f, inputs, &literals, marks, log)?;
+        let l = next_literal(gates, oracle, cone, &literals, log)?;
         literals.push(l)?;
     }
     Ok(literals)
 }
 
-// The literal of the next gate, where it is marked.
+// The literal of the next gate, where it is in the cone.
 fn next_literal<O: Oracle>(
     gates: &mut Gates,
     oracle: &mut O,
-    graph: &Graph,
-    f: &Formula,
-    inputs: &[Lit],
+    cone: &Cone,
     literals: &[Lit],
-    marks: &Row,
     log: &mut Log,
 ) -> Result<Lit, Memory>
     requires fit { O.Fits oracle.old log.old }
     requires known { AreKnown gates.old log.old.entries }
     requires ready { gates.old.unfinished ≡ None }
     requires few { length (fault_groups log.old.entries) ≤ rounds_of log.old.entries + 1 }
-    requires universals { AreMarkedUniversals f.now graph.now marks.now }
-    requires inputs { AreInputs f.now.universals inputs.now log.old.entries }
-    requires input_count { length inputs.now ≡ length f.now.universals }
-    requires a_place_a_node { length marks.now ≡ size_of graph.now }
-    requires closed { AreClosed graph.now marks.now }
-    requires leaves { HaveLeaves f.now graph.now marks.now literals.now log.old.entries }
-    requires gate { length literals.now < length graph.now.gates }
+    requires inputs { AreInputs cone.now.f.now.universals cone.now.inputs.now log.old.entries }
+    requires leaves { HaveLeaves cone.now.f.now cone.now.graph.now cone.now.marks.now literals.now
+        log.old.entries }
+    requires gate { length literals.now < length cone.now.graph.now.gates }
     ensures fit { O.Fits oracle.new log.new }
     ensures grew { GrewByGates (variable_of gates.old.group.selector) log.old log.new }
     ensures group { gates.new.group ≡ gates.old.group }
@@ -88,38 +93,37 @@ fn next_literal<O: Oracle>(
     ensures bads { AreBadsStill log.old.entries log.new.entries }
     ensures known { AreKnown gates.new log.new.entries }
     ensures ready { OnOk result (gates.new.unfinished ≡ None) }
-    ensures leaf { IfOk result (λ l. bit_of marks.now (graph.now.inputs + length literals.now) ≡ true
-        → HasLeaf f.now graph.now log.new.entries (Node.Gate (length literals.now) false) (LeafLiteral l)) }
+    ensures leaf { IfOk result (λ l.
+        bit_of cone.now.marks.now (cone.now.graph.now.inputs + length literals.now) ≡ true
+        → HasLeaf cone.now.f.now cone.now.graph.now log.new.entries
+        (Node.Gate (length literals.now) false) (LeafLiteral l)) }
 {
+    let graph = cone.graph;
     graph.every_graph_is_lawful();
-    if !marks.get(graph.inputs() + literals.len()) {
+    if !cone.marks.get(graph.inputs() + literals.len()) {
         return Ok(gates.group.selector);
     }
-    gate_literal(gates, oracle, graph, f, inputs, literals, marks, log)
+    gate_literal(gates, oracle, cone, literals, log)
 }
 
-// The literal of a marked gate, whose earlier ones are known.
-pub(crate) fn gate_literal<O: Oracle>(
+// The literal of a gate of the cone, whose earlier ones are known.
+fn gate_literal<O: Oracle>(
     gates: &mut Gates,
     oracle: &mut O,
-    graph: &Graph,
-    f: &Formula,
-    inputs: &[Lit],
+    cone: &Cone,
     literals: &[Lit],
-    marks: &Row,
     log: &mut Log,
 ) -> Result<Lit, Memory>
     requires fit { O.Fits oracle.old log.old }
     requires known { AreKnown gates.old log.old.entries }
     requires ready { gates.old.unfinished ≡ None }
     requires few { length (fault_groups log.old.entries) ≤ rounds_of log.old.entries + 1 }
-    requires universals { AreMarkedUniversals f.now graph.now marks.now }
-    requires inputs { AreInputs f.now.universals inputs.now log.old.entries }
-    requires input_count { length inputs.now ≡ length f.now.universals }
-    requires closed { AreClosed graph.now marks.now }
-    requires leaves { HaveLeaves f.now graph.now marks.now literals.now log.old.entries }
-    requires gate { length literals.now < length graph.now.gates }
-    requires marked { bit_of marks.now (graph.now.inputs + length literals.now) ≡ true }
+    requires inputs { AreInputs cone.now.f.now.universals cone.now.inputs.now log.old.entries }
+    requires leaves { HaveLeaves cone.now.f.now cone.now.graph.now cone.now.marks.now literals.now
+        log.old.entries }
+    requires gate { length literals.now < length cone.now.graph.now.gates }
+    requires marked { bit_of cone.now.marks.now (cone.now.graph.now.inputs + length literals.now)
+        ≡ true }
     ensures fit { O.Fits oracle.new log.new }
     ensures grew { GrewByGates (variable_of gates.old.group.selector) log.old log.new }
     ensures group { gates.new.group ≡ gates.old.group }
@@ -127,12 +131,13 @@ pub(crate) fn gate_literal<O: Oracle>(
     ensures bads { AreBadsStill log.old.entries log.new.entries }
     ensures known { AreKnown gates.new log.new.entries }
     ensures ready { OnOk result (gates.new.unfinished ≡ None) }
-    ensures leaf { IfOk result (λ l. HasLeaf f.now graph.now log.new.entries (Node.Gate (length literals.now) false) (LeafLiteral l)) }
+    ensures leaf { IfOk result (λ l. HasLeaf cone.now.f.now cone.now.graph.now log.new.entries
+        (Node.Gate (length literals.now) false) (LeafLiteral l)) }
 {
-    match graph.look(Node::Gate(literals.len(), false)) {
+    match cone.graph.look(Node::Gate(literals.len(), false)) {
         Look::Gate(a, b, _) => {
-            let a = side_literal(inputs, literals, a);
-            let b = side_literal(inputs, literals, b);
+            let a = side_literal(cone.inputs, literals, a);
+            let b = side_literal(cone.inputs, literals, b);
             let v = gates.variable(oracle, a, b, log)?;
             Ok(Lit::pos(v))
         }

@@ -18,9 +18,9 @@ ghost use Rattle.circuit_cnf.specs.Turning.{AreLeavesOf, IsHeldBy, AreFailing, i
 
 use crate::checkers::Checker;
 use crate::failures::false_clause;
-use crate::faults::give_faults;
+use crate::faults::Faults;
 use crate::laws::shown_outputs_hold;
-use crate::leaves::{cone_literals, node_leaves};
+use crate::leaves::{Cone, cone_literals, node_leaves};
 use aig_graph::{Graph, Node};
 use dq_formula::Formula;
 use dq_lits::{Lit, Memory, Row};
@@ -35,6 +35,16 @@ pub enum Turn {
     Holds(u64),
     /// They don't: a row, the outputs' values there, and the number, from 1 on, of a clause that is false with them.
     Fails { row: Row, values: Row, j: u64 },
+}
+
+/// A circuit of a graph for a formula: a node for each existential, in order.
+#[derive(Drop)]
+struct Circuit<'g, 'f, 'o> {
+    graph: &'g Graph,
+    f: &'f Formula,
+    outputs: &'o [Node],
+    ghost an_input_a_universal: { length f.now.universals ≤ graph.now.inputs },
+    ghost a_node_an_existential: { length outputs.now ≡ length f.now.existentials },
 }
 
 impl Checker {
@@ -68,10 +78,11 @@ impl Checker {
         ensures limit { IsErrOf result Stop.Limit → steps_of log.new.entries ≡ log.new.limit }
     {
         shown_outputs_hold();
-        let leaves = self.output_leaves(oracle, graph, f, outputs, log)?;
+        let circuit = Circuit { graph, f, outputs };
+        let leaves = self.output_leaves(oracle, &circuit, log)?;
         match self.search(oracle, f, &leaves, log)? {
             Some(id) => Ok(Turn::Holds(id)),
-            None => Ok(self.failure(oracle, graph, f, outputs)?),
+            None => Ok(self.failure(oracle, &circuit)?),
         }
     }
 
@@ -79,40 +90,38 @@ impl Checker {
     fn output_leaves<O: Oracle>(
         &mut self,
         oracle: &mut O,
-        graph: &Graph,
-        f: &Formula,
-        outputs: &[Node],
+        circuit: &Circuit,
         log: &mut Log,
     ) -> Result<Vec<Leaf>, Memory>
         requires fit { O.Fits oracle.old log.old }
-        requires checker { IsChecker f.now self.old log.old.entries }
-        requires nodes { All (IsNode graph.now) outputs.now }
-        requires read_universals { All (ReadsUniversals f.now graph.now) outputs.now }
+        requires checker { IsChecker circuit.now.f.now self.old log.old.entries }
+        requires nodes { All (IsNode circuit.now.graph.now) circuit.now.outputs.now }
+        requires read_universals { All (ReadsUniversals circuit.now.f.now circuit.now.graph.now)
+            circuit.now.outputs.now }
         requires few { length (fault_groups log.old.entries) ≤ rounds_of log.old.entries }
         ensures fit { O.Fits oracle.new log.new }
-        ensures checker { IsChecker f.now self.new log.new.entries }
+        ensures checker { IsChecker circuit.now.f.now self.new log.new.entries }
         ensures group { group_of self.new ≡ group_of self.old }
         ensures grew { GrewByGates (group_of self.old) log.old log.new }
         ensures faults { fault_groups log.new.entries ≡ fault_groups log.old.entries }
         ensures inputs { self.new.inputs ≡ self.old.inputs }
         ensures ready { OnOk result (self.new.gates.unfinished ≡ None) }
-        ensures leaves { IfOk result (λ leaves. AreLeavesOf f.now graph.now log.new.entries outputs.now leaves.items) }
+        ensures leaves { IfOk result (λ leaves. AreLeavesOf circuit.now.f.now circuit.now.graph.now
+            log.new.entries circuit.now.outputs.now leaves.items) }
     {
+        let graph = circuit.graph;
         graph.every_graph_is_lawful();
         self.gates.finish(oracle, log)?;
         let mut marks = Row::new(self.alloc, graph.len())?;
-        graph.cones(outputs, &mut marks);
-        let literals = cone_literals(
-            self.alloc,
-            &mut self.gates,
-            oracle,
+        graph.cones(circuit.outputs, &mut marks);
+        let cone = Cone {
             graph,
-            f,
-            &self.inputs,
-            &marks,
-            log,
-        )?;
-        let leaves = node_leaves(self.alloc, &self.inputs, &literals, outputs)?;
+            marks: &marks,
+            f: circuit.f,
+            inputs: &self.inputs,
+        };
+        let literals = cone_literals(self.alloc, &mut self.gates, oracle, &cone, log)?;
+        let leaves = node_leaves(self.alloc, &self.inputs, &literals, circuit.outputs)?;
         Ok(leaves)
     }
 
@@ -143,7 +152,13 @@ impl Checker {
         ensures limit { IsErrOf result Stop.Limit → steps_of log.new.entries ≡ log.new.limit }
     {
         let group = oracle.group(&self.tenant, log)?;
-        give_faults(self.alloc, oracle, &group, f, &self.inputs, leaves, log)?;
+        let faults = Faults {
+            group: &group,
+            f,
+            inputs: &self.inputs,
+            outputs: leaves,
+        };
+        faults.give(self.alloc, oracle, log)?;
         match oracle.solve(&[self.gates.group, group], &[], log)? {
             Answer::Unsat(id) => Ok(Some(id)),
             Answer::Sat => Ok(None),
@@ -151,42 +166,40 @@ impl Checker {
     }
 
     // The row that a search found, the outputs' values there, and a clause that is false with them.
-    fn failure<O: Oracle>(
-        &self,
-        oracle: &O,
-        graph: &Graph,
-        f: &Formula,
-        outputs: &[Node],
-    ) -> Result<Turn, Memory>
+    fn failure<O: Oracle>(&self, oracle: &O, circuit: &Circuit) -> Result<Turn, Memory>
         requires told { O.is_told oracle.now ≡ true }
         requires made { All (λ l. O.HasVariable oracle.now (variable_of l)) self.now.inputs.items }
-        requires formula { IsWellFormed f.now }
-        requires input_count { length self.now.inputs.items ≡ length f.now.universals }
-        requires an_input_a_universal { length f.now.universals ≤ graph.now.inputs }
-        requires nodes { All (IsNode graph.now) outputs.now }
-        requires a_node_an_existential { length outputs.now ≡ length f.now.existentials }
-        requires failing { HasFalseClause f.now (map (λ l. O.values oracle.now (variable_of l)) self.now.inputs.items)
-            (map (node_value graph.now (bit_of (map (λ l. O.values oracle.now (variable_of l)) self.now.inputs.items))) outputs.now) }
-        ensures { IfOk result (IsFailing f.now (outputs_of f.now graph.now outputs.now)) }
+        requires formula { IsWellFormed circuit.now.f.now }
+        requires nodes { All (IsNode circuit.now.graph.now) circuit.now.outputs.now }
+        requires input_count { length self.now.inputs.items ≡ length circuit.now.f.now.universals }
+        requires failing { HasFalseClause circuit.now.f.now
+            (map (λ l. O.values oracle.now (variable_of l)) self.now.inputs.items)
+            (map (node_value circuit.now.graph.now
+            (bit_of (map (λ l. O.values oracle.now (variable_of l)) self.now.inputs.items)))
+            circuit.now.outputs.now) }
+        ensures { IfOk result (IsFailing circuit.now.f.now
+            (outputs_of circuit.now.f.now circuit.now.graph.now circuit.now.outputs.now)) }
     {
         let row = input_row(self.alloc, oracle, &self.inputs)?;
-        let values = self.output_values(graph, outputs, &row)?;
-        match false_clause(f, &row, &values) {
+        let values = self.output_values(circuit, &row)?;
+        match false_clause(circuit.f, &row, &values) {
             Some(j) => Ok(Turn::Fails { row, values, j }),
             None => unreachable!(),
         }
     }
 
     // The outputs' values at a row of the universals.
-    fn output_values(&self, graph: &Graph, outputs: &[Node], row: &Row) -> Result<Row, Memory>
-        requires room { length row.now ≤ graph.now.inputs }
-        requires nodes { All (IsNode graph.now) outputs.now }
-        ensures { IfOk result (λ values. values ≡ map (node_value graph.now (bit_of row.now)) outputs.now) }
+    fn output_values(&self, circuit: &Circuit, row: &Row) -> Result<Row, Memory>
+        requires room { length row.now ≤ circuit.now.graph.now.inputs }
+        requires nodes { All (IsNode circuit.now.graph.now) circuit.now.outputs.now }
+        ensures { IfOk result (λ values. values
+            ≡ map (node_value circuit.now.graph.now (bit_of row.now)) circuit.now.outputs.now) }
     {
+        let graph = circuit.graph;
         let inputs = lengthened(self.alloc, row, graph.inputs())?;
         let mut buf = Row::new(self.alloc, graph.len())?;
-        let mut values = Row::new(self.alloc, outputs.len())?;
-        graph.values(outputs, &inputs, &mut buf, &mut values);
+        let mut values = Row::new(self.alloc, circuit.outputs.len())?;
+        graph.values(circuit.outputs, &inputs, &mut buf, &mut values);
         Ok(values)
     }
 }

@@ -4,6 +4,7 @@ ghost use Rattle.std.specs.Prelude.{◌≡◌, ◌<◌, [], All, length, replica
 ghost use Rattle.expansion.specs.FirstRows.{IsRowIndex, IsFirstRow, AreFirstRows, no_order};
 
 use crate::leaders::leaders;
+use crate::new_rows::NewRow;
 use crate::orders::Order;
 use dq_formula::Formula;
 use dq_lits::{Memory, Row};
@@ -36,24 +37,24 @@ impl FirstRows {
         Ok(FirstRows { leaders, orders })
     }
 
-    /// For each existential, the place of the first row that agrees with this one on what it sees; the number of rows where none does.
-    /// Which rows were looked at may grow also where memory is wanting.
+    /// For each existential, the place of the first row that agrees with the new one on what it
+    /// sees; the number of rows where none does. Which rows were looked at may grow also where
+    /// memory is wanting.
     pub(crate) fn find_all(
         &mut self,
         alloc: Global,
-        f: &Formula,
+        new: &NewRow,
         rows: &[Row],
-        row: &Row,
     ) -> Result<Vec<usize>, Memory>
-        requires whole { All (λ r. length r ≡ length f.now.universals) rows.now }
-        requires row_length { length row.now ≡ length f.now.universals }
-        requires index { IsRowIndex f.now rows.now self.old }
-        ensures index { IsRowIndex f.now rows.now self.new }
-        ensures firsts { IfOk result (λ firsts. AreFirstRows f.now rows.now row.now (length f.now.existentials) firsts.items) }
+        requires whole { All (λ r. length r ≡ length new.now.f.now.universals) rows.now }
+        requires index { IsRowIndex new.now.f.now rows.now self.old }
+        ensures index { IsRowIndex new.now.f.now rows.now self.new }
+        ensures firsts { IfOk result (λ firsts. AreFirstRows new.now.f.now rows.now
+            new.now.row.now (length new.now.f.now.existentials) firsts.items) }
     {
         let mut firsts = Vec::new(alloc);
-        for place in 0..f.existentials().len() {
-            let first = self.find_at(f, rows, row, place, &firsts)?;
+        for place in 0..new.f.existentials().len() {
+            let first = self.find_at(new, rows, place, &firsts)?;
             firsts.push(first)?;
         }
         Ok(firsts)
@@ -62,26 +63,26 @@ impl FirstRows {
     // The same for one existential, where those before it have theirs.
     fn find_at(
         &mut self,
-        f: &Formula,
+        new: &NewRow,
         rows: &[Row],
-        row: &Row,
         place: usize,
         firsts: &[usize],
     ) -> Result<usize, Memory>
-        requires whole { All (λ r. length r ≡ length f.now.universals) rows.now }
-        requires row_length { length row.now ≡ length f.now.universals }
-        requires place { place < length f.now.existentials }
-        requires index { IsRowIndex f.now rows.now self.old }
-        requires firsts { AreFirstRows f.now rows.now row.now place firsts.now }
-        ensures index { IsRowIndex f.now rows.now self.new }
-        ensures first { IfOk result (λ first. IsFirstRow f.now rows.now row.now place first) }
+        requires whole { All (λ r. length r ≡ length new.now.f.now.universals) rows.now }
+        requires place { place < length new.now.f.now.existentials }
+        requires index { IsRowIndex new.now.f.now rows.now self.old }
+        requires firsts { AreFirstRows new.now.f.now rows.now new.now.row.now place firsts.now }
+        ensures index { IsRowIndex new.now.f.now rows.now self.new }
+        ensures first { IfOk result (λ first.
+            IsFirstRow new.now.f.now rows.now new.now.row.now place first) }
     {
+        let f = new.f;
         f.every_formula_is_lawful();
         let leader = self.leaders[place];
         if leader < place {
             return Ok(firsts[leader]);
         }
-        self.orders[place].find(f, f.existentials()[place], rows, row)
+        self.orders[place].find(f, f.existentials()[place], rows, new.row)
     }
 }
 

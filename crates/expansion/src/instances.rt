@@ -11,10 +11,11 @@ ghost use Rattle.log_laws.specs.Engines.{instances, part, IsAddedBy};
 ghost use Rattle.expansion.specs.Adding.{IsAdding, AreNewArbiters, IsGivenNext, AreInRange, signed};
 ghost use Rattle.expansion.specs.Table.{AreArbiters};
 
+use crate::new_rows::PairedRow;
 use crate::tables::Table;
 use crate::universals::has_true_universal;
 use dq_formula::Formula;
-use dq_lits::{Lit, Memory, Row};
+use dq_lits::{Lit, Memory};
 use hint_log::{Log, Origin};
 use oracle::Oracle;
 use std::alloc::Global;
@@ -24,22 +25,27 @@ impl Table {
     pub(crate) fn give_instances<O: Oracle>(
         &self,
         oracle: &mut O,
-        f: &Formula,
-        row: &Row,
-        variables: &[u64],
+        new: &PairedRow,
         log: &mut Log,
     ) -> Result<(), Memory>
         requires fit { O.Fits oracle.old log.old }
-        requires adding { IsAdding f.now self.now row.now (length f.now.existentials) 0 log.old.entries }
-        requires formula { IsWellFormed f.now }
-        requires variables { AreNewArbiters f.now self.now row.now log.old.entries variables.now }
+        requires adding { IsAdding new.now.f.now self.now new.now.row.now
+            (length new.now.f.now.existentials) 0 log.old.entries }
+        requires formula { IsWellFormed new.now.f.now }
+        requires variables { AreNewArbiters new.now.f.now self.now new.now.row.now
+            log.old.entries new.now.variables.now }
         ensures fit { O.Fits oracle.new log.new }
-        ensures grew { (first : List Entry) → Grew (IsAddedBy f.now instances self.now.group true first) log.old log.new }
-        ensures adding { OnOk result (IsAdding f.now self.now row.now (length f.now.existentials) (length f.now.matrix) log.new.entries) }
-        ensures variables { OnOk result (AreNewArbiters f.now self.now row.now log.new.entries variables.now) }
+        ensures grew { (first : List Entry)
+            → Grew (IsAddedBy new.now.f.now instances self.now.group true first) log.old
+            log.new }
+        ensures adding { OnOk result (IsAdding new.now.f.now self.now new.now.row.now
+            (length new.now.f.now.existentials) (length new.now.f.now.matrix)
+            log.new.entries) }
+        ensures variables { OnOk result (AreNewArbiters new.now.f.now self.now new.now.row.now
+            log.new.entries new.now.variables.now) }
     {
-        for j in 0..f.clauses() {
-            self.give_instance(oracle, f, row, variables, j, log)?;
+        for j in 0..new.f.clauses() {
+            self.give_instance(oracle, new, j, log)?;
         }
         Ok(())
     }
@@ -48,26 +54,28 @@ impl Table {
     fn give_instance<O: Oracle>(
         &self,
         oracle: &mut O,
-        f: &Formula,
-        row: &Row,
-        variables: &[u64],
+        new: &PairedRow,
         j: usize,
         log: &mut Log,
     ) -> Result<(), Memory>
         requires fit { O.Fits oracle.old log.old }
-        requires clause { j < length f.now.matrix }
-        requires adding { IsAdding f.now self.now row.now (length f.now.existentials) j log.old.entries }
-        requires variables { AreNewArbiters f.now self.now row.now log.old.entries variables.now }
+        requires clause { j < length new.now.f.now.matrix }
+        requires adding { IsAdding new.now.f.now self.now new.now.row.now
+            (length new.now.f.now.existentials) j log.old.entries }
+        requires variables { AreNewArbiters new.now.f.now self.now new.now.row.now
+            log.old.entries new.now.variables.now }
         ensures fit { O.Fits oracle.new log.new }
         ensures err { OnErr result (log.new ≡ log.old) }
-        ensures given { OnOk result (IsGivenNext f.now self.now row.now j log.old log.new) }
+        ensures given { OnOk result (IsGivenNext new.now.f.now self.now new.now.row.now j
+            log.old log.new) }
     {
+        let f = new.f;
         f.every_formula_is_lawful();
         let clause = f.clause(j);
-        if has_true_universal(f, row, clause) {
+        if has_true_universal(f, new.row, clause) {
             return Ok(());
         }
-        let literals = on_arbiters(self.alloc, f, variables, clause)?;
+        let literals = on_arbiters(self.alloc, f, new.variables, clause)?;
         let origin = Origin::Instance {
             round: self.next_round(),
             clause: j as u64 + 1,

@@ -10,6 +10,7 @@ mod first_rows;
 mod instances;
 pub mod laws;
 mod leaders;
+mod new_rows;
 mod orders;
 mod points;
 mod tables;

@@ -12,6 +12,7 @@ ghost use Rattle.expansion.specs.FirstRows.{IsRowIndex, AreFirstRows};
 ghost use Rattle.expansion.specs.Silence.{is_silent};
 
 use crate::first_rows::FirstRows;
+use crate::new_rows::{NewRow, PairedRow};
 use crate::points::{Points, places_in_order};
 use dq_formula::Formula;
 use dq_lits::{Memory, Row, RowList};
@@ -127,50 +128,56 @@ impl Table {
         ensures rows { OnOk result (self.new.rows ≡ self.old.rows ++ row.now ∷ []) }
         ensures err { OnErr result (self.new ≡ record self.old { first_rows = self.new.first_rows }) }
     {
-        let firsts = self.find_rows(f, row)?;
-        self.add_found(oracle, f, row, &firsts, log)
+        let new = NewRow { f, row };
+        let firsts = self.find_rows(&new)?;
+        self.add_found(oracle, &new, &firsts, log)
     }
 
     // The same, where the first rows that agree with it are found.
     fn add_found<O: Oracle>(
         &mut self,
         oracle: &mut O,
-        f: &Formula,
-        row: &Row,
+        new: &NewRow,
         firsts: &[usize],
         log: &mut Log,
     ) -> Result<(), Memory>
         requires fit { O.Fits oracle.old log.old }
-        requires formula { IsWellFormed f.now }
-        requires table { IsTable f.now self.old log.old.entries }
-        requires rows { rows_of log.old.entries ≡ self.old.rows ++ row.now ∷ [] }
-        requires row_length { length row.now ≡ length f.now.universals }
+        requires formula { IsWellFormed new.now.f.now }
+        requires table { IsTable new.now.f.now self.old log.old.entries }
+        requires rows { rows_of log.old.entries ≡ self.old.rows ++ new.now.row.now ∷ [] }
         requires few { length (fault_groups log.old.entries) ≤ rounds_of log.old.entries + 1 }
-        requires firsts { AreFirstRows f.now self.old.rows row.now (length f.now.existentials) firsts.now }
+        requires firsts { AreFirstRows new.now.f.now self.old.rows new.now.row.now
+            (length new.now.f.now.existentials) firsts.now }
         ensures fit { O.Fits oracle.new log.new }
-        ensures grew { (first : List Entry) → Grew (IsAddedBy f.now instances self.old.group true first) log.old log.new }
+        ensures grew { (first : List Entry)
+            → Grew (IsAddedBy new.now.f.now instances self.old.group true first) log.old
+            log.new }
         ensures group { self.new.group ≡ self.old.group }
-        ensures table { OnOk result (IsFullTable f.now self.new log.new.entries) }
-        ensures rows { OnOk result (self.new.rows ≡ self.old.rows ++ row.now ∷ []) }
+        ensures table { OnOk result (IsFullTable new.now.f.now self.new log.new.entries) }
+        ensures rows { OnOk result (self.new.rows ≡ self.old.rows ++ new.now.row.now ∷ []) }
         ensures err { OnErr result (self.new ≡ self.old) }
     {
-        let copy = row.copy()?;
-        let variables = self.row_pairs(oracle, f, row, firsts, log)?;
-        self.give_instances(oracle, f, row, &variables, log)?;
+        let copy = new.row.copy()?;
+        let variables = self.row_pairs(oracle, new, firsts, log)?;
+        let paired = PairedRow {
+            f: new.f,
+            row: new.row,
+            variables: &variables,
+        };
+        self.give_instances(oracle, &paired, log)?;
         self.push(copy, &variables)
     }
 
     // For each existential, the place of the first row that agrees with this one on what it sees.
-    fn find_rows(&mut self, f: &Formula, row: &Row) -> Result<Vec<usize>, Memory>
-        requires whole { All (λ r. length r ≡ length f.now.universals) self.old.rows }
-        requires row_length { length row.now ≡ length f.now.universals }
-        requires index { IsRowIndex f.now self.old.rows self.old.first_rows }
+    fn find_rows(&mut self, new: &NewRow) -> Result<Vec<usize>, Memory>
+        requires whole { All (λ r. length r ≡ length new.now.f.now.universals) self.old.rows }
+        requires index { IsRowIndex new.now.f.now self.old.rows self.old.first_rows }
         ensures same { self.new ≡ record self.old { first_rows = self.new.first_rows } }
-        ensures index { IsRowIndex f.now self.new.rows self.new.first_rows }
-        ensures firsts { IfOk result (λ firsts. AreFirstRows f.now self.new.rows row.now (length f.now.existentials) firsts.items) }
+        ensures index { IsRowIndex new.now.f.now self.new.rows self.new.first_rows }
+        ensures firsts { IfOk result (λ firsts. AreFirstRows new.now.f.now self.new.rows
+            new.now.row.now (length new.now.f.now.existentials) firsts.items) }
     {
-        self.first_rows
-            .find_all(self.alloc, f, self.rows.items(), row)
+        self.first_rows.find_all(self.alloc, new, self.rows.items())
     }
 
     // Adds a row with the variables of its pairs.

@@ -1,11 +1,12 @@
 //! Gates that choose between two inputs by a third one; with opposite inputs they are exclusive ors.
 
-ghost use Rattle.std.specs.Prelude.{◌≡◌, ◌<◌, ◌≤◌, ◌^◌, true, IfOk, IfSome, IsSome, Some};
+ghost use Rattle.std.specs.Prelude.{◌≡◌, ◌<◌, ◌≤◌, ◌^◌, true, IfOk, IfSome, Some};
 ghost use Rattle.dq_lits.specs.Formula.{Existential, existential_of};
 ghost use Rattle.gate_definitions.specs.Stating.{IsHalf, IsChoice};
 
 use crate::clauses::{clause_at, implies};
 use crate::literals::{all_readable, key};
+use crate::outputs::Output;
 use dq_formula::Formula;
 use dq_lits::{Lit, Memory};
 use std::alloc::Global;
@@ -28,29 +29,41 @@ pub(crate) struct Choice {
     pub(crate) else_value: Lit,
 }
 
+// A clause of three literals, by its number, and the two beside the one that it was looked up for.
+#[derive(Clone, Copy)]
+struct Triple {
+    number: u32,
+    one: Lit,
+    other: Lit,
+}
+
+impl Triple {
+    // The two literals in the other order.
+    fn turned(&self) -> Triple {
+        Triple {
+            number: self.number,
+            one: self.other,
+            other: self.one,
+        }
+    }
+}
+
 // Clauses of three literals that have some literal, each by its two other ones. Whoever uses such a clause reads it, as it does a half: no
 // contract speaks of what is in these maps.
 type Thirds = BTreeMap<((u64, bool), (u64, bool)), u32>;
 
 type Halves = BTreeMap<(u64, bool), Half>;
 
-/// The choice that the clauses with these numbers say the literal on `y` to be.
-pub(crate) fn find_choice(
-    alloc: Global,
-    f: &Formula,
-    numbers: &[u32],
-    y: u64,
-) -> Result<Option<Choice>, Memory>
-    requires existential { IsSome (existential_of f.now y) }
-    requires from_one { 1 ≤ y }
-    requires in_range { y < 2 ^ 62 }
-    ensures { (e : Existential) → existential_of f.now y ≡ Some e → IfOk result (λ found. IfSome found (IsChoice f.now e)) }
+/// The choice that the clauses on an output say it to be.
+pub(crate) fn find_choice(alloc: Global, output: &Output) -> Result<Option<Choice>, Memory>
+    ensures { (e : Existential) → existential_of output.now.f.now output.now.y ≡ Some e
+        → IfOk result (λ found. IfSome found (IsChoice output.now.f.now e)) }
 {
-    let thirds = thirds_of(alloc, f, numbers, Lit::neg(y))?;
+    let thirds = thirds_of(alloc, output, Lit::neg(output.y))?;
     let mut halves = BTreeMap::new(alloc);
-    for number in numbers {
-        if let Some((a, b)) = beside_two(f, *number, Lit::pos(y)) {
-            let found = choice_by(f, y, *number, a, b, &thirds, &mut halves)?;
+    for number in output.numbers {
+        if let Some(triple) = triple_at(output.f, *number, Lit::pos(output.y)) {
+            let found = choice_by(output, &triple, &thirds, &mut halves)?;
             if found.is_some() {
                 return Ok(found);
             }
@@ -59,68 +72,60 @@ pub(crate) fn find_choice(
     Ok(None)
 }
 
-// The choice that is whole with a clause of three, whose other literals are the negations of a condition and of a value, in one order or
-// the other; else the halves that there are by it are noted.
+// The choice that is whole with a clause of three, whose other literals are the negations of a
+// condition and of a value, in one order or the other; else the halves that there are by it are
+// noted.
 fn choice_by(
-    f: &Formula,
-    y: u64,
-    number: u32,
-    a: Lit,
-    b: Lit,
+    output: &Output,
+    triple: &Triple,
     thirds: &Thirds,
     halves: &mut Halves,
 ) -> Result<Option<Choice>, Memory>
-    requires existential { IsSome (existential_of f.now y) }
-    requires from_one { 1 ≤ y }
-    requires in_range { y < 2 ^ 62 }
-    ensures { (e : Existential) → existential_of f.now y ≡ Some e → IfOk result (λ found. IfSome found (IsChoice f.now e)) }
+    ensures { (e : Existential) → existential_of output.now.f.now output.now.y ≡ Some e
+        → IfOk result (λ found. IfSome found (IsChoice output.now.f.now e)) }
 {
-    let found = choice_with(f, y, half_by(number, a, b, thirds), halves)?;
+    let found = choice_with(output, half_by(triple, thirds), halves)?;
     if found.is_some() {
         return Ok(found);
     }
-    choice_with(f, y, half_by(number, b, a, thirds), halves)
+    choice_with(output, half_by(&triple.turned(), thirds), halves)
 }
 
-// The half whose condition and value are the negations of these literals.
-fn half_by(number: u32, a: Lit, b: Lit, thirds: &Thirds) -> Option<Half> {
-    let negative = *thirds.get(&(key(a), key(b.not())))?;
+// The half whose condition and value are the negations of a clause's other literals, in order.
+fn half_by(triple: &Triple, thirds: &Thirds) -> Option<Half> {
+    let negative = *thirds.get(&(key(triple.one), key(triple.other.not())))?;
     Some(Half {
-        condition: a.not(),
-        value: b.not(),
-        positive: number,
+        condition: triple.one.not(),
+        value: triple.other.not(),
+        positive: triple.number,
         negative,
     })
 }
 
 // The choice of this half and the one that was noted for the opposite condition; else this one is noted.
 fn choice_with(
-    f: &Formula,
-    y: u64,
+    output: &Output,
     half: Option<Half>,
     halves: &mut Halves,
 ) -> Result<Option<Choice>, Memory>
-    requires existential { IsSome (existential_of f.now y) }
-    requires from_one { 1 ≤ y }
-    requires in_range { y < 2 ^ 62 }
-    ensures { (e : Existential) → existential_of f.now y ≡ Some e → IfOk result (λ found. IfSome found (IsChoice f.now e)) }
+    ensures { (e : Existential) → existential_of output.now.f.now output.now.y ≡ Some e
+        → IfOk result (λ found. IfSome found (IsChoice output.now.f.now e)) }
 {
     let Some(half) = half else {
         return Ok(None);
     };
     if let Some(other) = halves.get(&key(half.condition.not())) {
-        return Ok(choice_of(f, y, &half, other));
+        return Ok(choice_of(output, &half, other));
     }
     halves.insert(key(half.condition), half)?;
     Ok(None)
 }
 
-fn choice_of(f: &Formula, y: u64, half: &Half, other: &Half) -> Option<Choice>
-    requires existential { IsSome (existential_of f.now y) }
-    requires from_one { 1 ≤ y }
-    requires in_range { y < 2 ^ 62 }
-    ensures { (e : Existential) → existential_of f.now y ≡ Some e → IfSome result (IsChoice f.now e) }
+fn choice_of(output: &Output, half: &Half, other: &Half) -> Option<Choice>
+    ensures { (e : Existential) → existential_of output.now.f.now output.now.y ≡ Some e
+        → IfSome result (IsChoice output.now.f.now e) }
 {
+    let (f, y) = (output.f, output.y);
     if other.condition != half.condition.not() {
         return None;
     }
@@ -152,20 +157,25 @@ fn is_half(f: &Formula, y: u64, half: &Half) -> bool
         )
 }
 
-fn thirds_of(alloc: Global, f: &Formula, numbers: &[u32], l: Lit) -> Result<Thirds, Memory> {
+fn thirds_of(alloc: Global, output: &Output, l: Lit) -> Result<Thirds, Memory> {
     let mut thirds = BTreeMap::new(alloc);
-    for number in numbers {
-        if let Some((a, b)) = beside_two(f, *number, l) {
-            thirds.insert((key(a), key(b)), *number)?;
-            thirds.insert((key(b), key(a)), *number)?;
+    for number in output.numbers {
+        if let Some(triple) = triple_at(output.f, *number, l) {
+            thirds.insert((key(triple.one), key(triple.other)), *number)?;
+            thirds.insert((key(triple.other), key(triple.one)), *number)?;
         }
     }
     Ok(thirds)
 }
 
+// A clause of three literals that has this one.
+fn triple_at(f: &Formula, number: u32, l: Lit) -> Option<Triple> {
+    let (one, other) = beside_two(clause_at(f, number)?, l)?;
+    Some(Triple { number, one, other })
+}
+
 // The other literals of a clause of three.
-fn beside_two(f: &Formula, number: u32, l: Lit) -> Option<(Lit, Lit)> {
-    let clause = clause_at(f, number)?;
+fn beside_two(clause: &[Lit], l: Lit) -> Option<(Lit, Lit)> {
     if clause.len() != 3 {
         return None;
     }

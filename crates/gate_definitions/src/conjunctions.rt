@@ -1,11 +1,12 @@
 //! Gates with one output that is true where all inputs are: a long clause, and for each of its other literals a short one.
 
-ghost use Rattle.std.specs.Prelude.{◌≡◌, ◌∷◌, [], true, IfOk, IfSome, IsSome, Some, All};
+ghost use Rattle.std.specs.Prelude.{◌≡◌, ◌∷◌, [], true, IfOk, IfSome, Some, All};
 ghost use Rattle.dq_lits.specs.Formula.{Existential, existential_of};
 ghost use Rattle.gate_definitions.specs.Stating.{Implies, IsConjunction};
 
 use crate::clauses::{clause_at, implies, premises};
 use crate::literals::{all_readable, key};
+use crate::outputs::Output;
 use dq_formula::Formula;
 use dq_lits::{Lit, Memory};
 use std::alloc::Global;
@@ -15,37 +16,33 @@ use std::collections::BTreeMap;
 // no contract speaks of what is in the map.
 type Consequences = BTreeMap<(u64, bool), u32>;
 
-/// Literals that are all true where `l` is, and nowhere else, by the clauses with these numbers.
+/// Literals that are all true where `l` is, and nowhere else, by the clauses on an output.
 pub(crate) fn find_conjunction(
     alloc: Global,
-    f: &Formula,
-    numbers: &[u32],
-    y: u64,
+    output: &Output,
     l: Lit,
 ) -> Result<Option<Vec<Lit>>, Memory>
-    requires existential { IsSome (existential_of f.now y) }
-    ensures { (e : Existential) → existential_of f.now y ≡ Some e → IfOk result (λ found. IfSome found (λ cube.
-        IsConjunction f.now e l cube.items)) }
+    ensures { (e : Existential) → existential_of output.now.f.now output.now.y ≡ Some e
+        → IfOk result (λ found. IfSome found (λ cube.
+        IsConjunction output.now.f.now e l cube.items)) }
 {
-    let shorts = consequences(alloc, f, numbers, l)?;
-    first_conjunction(alloc, f, numbers, y, l, &shorts)
+    let shorts = consequences(alloc, output, l)?;
+    first_conjunction(alloc, output, l, &shorts)
 }
 
 // The same, by the first clause that serves as the long one.
 fn first_conjunction(
     alloc: Global,
-    f: &Formula,
-    numbers: &[u32],
-    y: u64,
+    output: &Output,
     l: Lit,
     shorts: &Consequences,
 ) -> Result<Option<Vec<Lit>>, Memory>
-    requires existential { IsSome (existential_of f.now y) }
-    ensures { (e : Existential) → existential_of f.now y ≡ Some e → IfOk result (λ found. IfSome found (λ cube.
-        IsConjunction f.now e l cube.items)) }
+    ensures { (e : Existential) → existential_of output.now.f.now output.now.y ≡ Some e
+        → IfOk result (λ found. IfSome found (λ cube.
+        IsConjunction output.now.f.now e l cube.items)) }
 {
-    for number in numbers {
-        let found = conjunction_at(alloc, f, *number, y, l, shorts)?;
+    for number in output.numbers {
+        let found = conjunction_at(alloc, output, *number, l, shorts)?;
         if found.is_some() {
             return Ok(found);
         }
@@ -56,16 +53,16 @@ fn first_conjunction(
 // The same, by one clause as the long one, if it serves.
 fn conjunction_at(
     alloc: Global,
-    f: &Formula,
+    output: &Output,
     number: u32,
-    y: u64,
     l: Lit,
     shorts: &Consequences,
 ) -> Result<Option<Vec<Lit>>, Memory>
-    requires existential { IsSome (existential_of f.now y) }
-    ensures { (e : Existential) → existential_of f.now y ≡ Some e → IfOk result (λ found. IfSome found (λ cube.
-        IsConjunction f.now e l cube.items)) }
+    ensures { (e : Existential) → existential_of output.now.f.now output.now.y ≡ Some e
+        → IfOk result (λ found. IfSome found (λ cube.
+        IsConjunction output.now.f.now e l cube.items)) }
 {
+    let f = output.f;
     let Some(clause) = clause_at(f, number) else {
         return Ok(None);
     };
@@ -73,22 +70,17 @@ fn conjunction_at(
         return Ok(None);
     }
     let cube = premises(alloc, clause, l)?;
-    if all_follow(f, &cube, l, shorts) && all_readable(f, y, &cube) {
+    if all_follow(f, &cube, l, shorts) && all_readable(f, output.y, &cube) {
         Ok(Some(cube))
     } else {
         Ok(None)
     }
 }
 
-fn consequences(
-    alloc: Global,
-    f: &Formula,
-    numbers: &[u32],
-    l: Lit,
-) -> Result<Consequences, Memory> {
+fn consequences(alloc: Global, output: &Output, l: Lit) -> Result<Consequences, Memory> {
     let mut shorts = BTreeMap::new(alloc);
-    for number in numbers {
-        if let Some(other) = beside(f, *number, l.not()) {
+    for number in output.numbers {
+        if let Some(other) = beside(output.f, *number, l.not()) {
             shorts.insert(key(other), *number)?;
         }
     }

@@ -1,6 +1,6 @@
 //! Gates, and their nodes.
 
-ghost use Rattle.std.specs.Prelude.{◌≡◌, ◌+◌, ◌<◌, ◌≤◌, ◌^◌, ℕ, Bool, length, IfOk, IfSome, IsSome, Some};
+ghost use Rattle.std.specs.Prelude.{◌≡◌, ◌+◌, ℕ, Bool, length, IfOk, IfSome, Some};
 ghost use Rattle.dq_lits.specs.Literal.{variable_of};
 ghost use Rattle.dq_lits.specs.Formula.{Existential, existential_of};
 ghost use Rattle.aig_graph.specs.Graph.{AigGraph, IsNode, node_value, node_support, with_sign};
@@ -12,8 +12,8 @@ ghost use Rattle.gate_definitions.specs.Finding.{IsGate};
 use crate::choices::{Choice, find_choice};
 use crate::conjunctions::find_conjunction;
 use crate::literals::{node_of, nodes_of};
+use crate::outputs::Output;
 use aig_graph::{Graph, Node};
-use dq_formula::Formula;
 use dq_lits::{Lit, Memory};
 use std::alloc::Global;
 
@@ -25,58 +25,38 @@ pub(crate) enum Gate {
     Choice(Choice),
 }
 
-/// The gate that the clauses with these numbers say an existential to be.
-pub(crate) fn find_gate(
-    alloc: Global,
-    f: &Formula,
-    numbers: &[u32],
-    y: u64,
-) -> Result<Option<Gate>, Memory>
-    requires existential { IsSome (existential_of f.now y) }
-    requires from_one { 1 ≤ y }
-    requires in_range { y < 2 ^ 62 }
-    ensures { (e : Existential) → existential_of f.now y ≡ Some e → IfOk result (λ found. IfSome found (IsGate f.now y e)) }
+/// The gate that the clauses on an output say it to be.
+pub(crate) fn find_gate(alloc: Global, output: &Output) -> Result<Option<Gate>, Memory>
+    ensures { (e : Existential) → existential_of output.now.f.now output.now.y ≡ Some e
+        → IfOk result (λ found. IfSome found (IsGate output.now.f.now output.now.y e)) }
 {
-    let found = find_conjunction_gate(alloc, f, numbers, y, Lit::pos(y))?;
+    let found = find_conjunction_gate(alloc, output, Lit::pos(output.y))?;
     if found.is_some() {
         return Ok(found);
     }
-    let found = find_conjunction_gate(alloc, f, numbers, y, Lit::neg(y))?;
+    let found = find_conjunction_gate(alloc, output, Lit::neg(output.y))?;
     if found.is_some() {
         return Ok(found);
     }
-    find_choice_gate(alloc, f, numbers, y)
+    find_choice_gate(alloc, output)
 }
 
-fn find_conjunction_gate(
-    alloc: Global,
-    f: &Formula,
-    numbers: &[u32],
-    y: u64,
-    l: Lit,
-) -> Result<Option<Gate>, Memory>
-    requires existential { IsSome (existential_of f.now y) }
-    requires on_existential { variable_of l ≡ y }
-    ensures { (e : Existential) → existential_of f.now y ≡ Some e → IfOk result (λ found. IfSome found (IsGate f.now y e)) }
+fn find_conjunction_gate(alloc: Global, output: &Output, l: Lit) -> Result<Option<Gate>, Memory>
+    requires on_existential { variable_of l ≡ output.now.y }
+    ensures { (e : Existential) → existential_of output.now.f.now output.now.y ≡ Some e
+        → IfOk result (λ found. IfSome found (IsGate output.now.f.now output.now.y e)) }
 {
-    match find_conjunction(alloc, f, numbers, y, l)? {
+    match find_conjunction(alloc, output, l)? {
         Some(cube) => Ok(Some(Gate::Conjunction(l, cube))),
         None => Ok(None),
     }
 }
 
-fn find_choice_gate(
-    alloc: Global,
-    f: &Formula,
-    numbers: &[u32],
-    y: u64,
-) -> Result<Option<Gate>, Memory>
-    requires existential { IsSome (existential_of f.now y) }
-    requires from_one { 1 ≤ y }
-    requires in_range { y < 2 ^ 62 }
-    ensures { (e : Existential) → existential_of f.now y ≡ Some e → IfOk result (λ found. IfSome found (IsGate f.now y e)) }
+fn find_choice_gate(alloc: Global, output: &Output) -> Result<Option<Gate>, Memory>
+    ensures { (e : Existential) → existential_of output.now.f.now output.now.y ≡ Some e
+        → IfOk result (λ found. IfSome found (IsGate output.now.f.now output.now.y e)) }
 {
-    match find_choice(alloc, f, numbers, y)? {
+    match find_choice(alloc, output)? {
         Some(choice) => Ok(Some(Gate::Choice(choice))),
         None => Ok(None),
     }
@@ -87,38 +67,44 @@ impl Gate {
     pub(crate) fn node(
         &self,
         alloc: Global,
-        f: &Formula,
-        y: u64,
+        output: &Output,
         graph: &mut Graph,
     ) -> Result<Node, Memory>
-        requires existential { IsSome (existential_of f.now y) }
-        requires inputs { graph.old.inputs ≡ length f.now.universals + length f.now.existentials }
-        requires gate { (e : Existential) → existential_of f.now y ≡ Some e → IsGate f.now y e self.now }
+        requires inputs { graph.old.inputs
+            ≡ length output.now.f.now.universals + length output.now.f.now.existentials }
+        requires gate { (e : Existential) → existential_of output.now.f.now output.now.y
+            ≡ Some e
+            → IsGate output.now.f.now output.now.y e self.now }
         ensures extends { Extends graph.old graph.new }
-        ensures defines { (e : Existential) → existential_of f.now y ≡ Some e → IfOk result (IsDefinition f.now graph.new e) }
+        ensures defines { (e : Existential)
+            → existential_of output.now.f.now output.now.y ≡ Some e
+            → IfOk result (IsDefinition output.now.f.now graph.new e) }
     {
         match self {
-            Gate::Conjunction(l, cube) => conjunction_node(alloc, f, y, *l, cube, graph),
-            Gate::Choice(choice) => choice_node(f, y, choice, graph),
+            Gate::Conjunction(l, cube) => conjunction_node(alloc, output, *l, cube, graph),
+            Gate::Choice(choice) => choice_node(output, choice, graph),
         }
     }
 }
 
 fn conjunction_node(
     alloc: Global,
-    f: &Formula,
-    y: u64,
+    output: &Output,
     l: Lit,
     cube: &[Lit],
     graph: &mut Graph,
 ) -> Result<Node, Memory>
-    requires existential { IsSome (existential_of f.now y) }
-    requires inputs { graph.old.inputs ≡ length f.now.universals + length f.now.existentials }
-    requires on_existential { variable_of l ≡ y }
-    requires gate { (e : Existential) → existential_of f.now y ≡ Some e → IsConjunction f.now e l cube.now }
+    requires inputs { graph.old.inputs
+        ≡ length output.now.f.now.universals + length output.now.f.now.existentials }
+    requires on_existential { variable_of l ≡ output.now.y }
+    requires gate { (e : Existential) → existential_of output.now.f.now output.now.y ≡ Some e
+        → IsConjunction output.now.f.now e l cube.now }
     ensures extends { Extends graph.old graph.new }
-    ensures defines { (e : Existential) → existential_of f.now y ≡ Some e → IfOk result (IsDefinition f.now graph.new e) }
+    ensures defines { (e : Existential) → existential_of output.now.f.now output.now.y
+        ≡ Some e
+        → IfOk result (IsDefinition output.now.f.now graph.new e) }
 {
+    let f = output.f;
     f.every_formula_is_lawful();
     graph.every_graph_is_lawful();
     let nodes = nodes_of(alloc, f, cube)?;
@@ -126,13 +112,17 @@ fn conjunction_node(
     Ok(signed(made, l.is_neg()))
 }
 
-fn choice_node(f: &Formula, y: u64, choice: &Choice, graph: &mut Graph) -> Result<Node, Memory>
-    requires existential { IsSome (existential_of f.now y) }
-    requires inputs { graph.old.inputs ≡ length f.now.universals + length f.now.existentials }
-    requires gate { (e : Existential) → existential_of f.now y ≡ Some e → IsChoice f.now e choice.now }
+fn choice_node(output: &Output, choice: &Choice, graph: &mut Graph) -> Result<Node, Memory>
+    requires inputs { graph.old.inputs
+        ≡ length output.now.f.now.universals + length output.now.f.now.existentials }
+    requires gate { (e : Existential) → existential_of output.now.f.now output.now.y ≡ Some e
+        → IsChoice output.now.f.now e choice.now }
     ensures extends { Extends graph.old graph.new }
-    ensures defines { (e : Existential) → existential_of f.now y ≡ Some e → IfOk result (IsDefinition f.now graph.new e) }
+    ensures defines { (e : Existential) → existential_of output.now.f.now output.now.y
+        ≡ Some e
+        → IfOk result (IsDefinition output.now.f.now graph.new e) }
 {
+    let f = output.f;
     f.every_formula_is_lawful();
     graph.every_graph_is_lawful();
     let c = node_of(f, choice.condition);

@@ -14,6 +14,7 @@ use dq_formula::Formula;
 use dq_lits::Memory;
 use forms::find_gate;
 use index::Index;
+use outputs::Output;
 use std::alloc::Global;
 
 mod choices;
@@ -22,6 +23,7 @@ mod conjunctions;
 mod forms;
 mod index;
 mod literals;
+mod outputs;
 
 /// The clauses of a formula, in which gates are looked for.
 #[derive(Debug, Drop)]
@@ -52,9 +54,14 @@ impl Gates {
             → IsDefinition f.now graph.new e node) }
     {
         f.every_formula_is_lawful();
-        match find_gate(self.alloc, f, self.index.on(f, y), y)? {
+        let output = Output {
+            f,
+            y,
+            numbers: self.index.on(f, y),
+        };
+        match find_gate(self.alloc, &output)? {
             Some(gate) => {
-                let node = gate.node(self.alloc, f, y, graph)?;
+                let node = gate.node(self.alloc, &output, graph)?;
                 Ok(Some(node))
             }
             None => Ok(None),

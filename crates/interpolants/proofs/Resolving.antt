@@ -1,5 +1,5 @@
 -- A line's hinted clauses, resolved the last one first.
-use Rattle.std.proofs.Common.{◌≡◌, ℕ, ◌≤◌, ◌<◌, Bool, true, false, not, ◌||◌, ◌&&◌, inl, inr, List, ◌∷◌, map, Option, Some, IsSome, Contains, sym, ◌∙◌, ap, subst}
+use Rattle.std.proofs.Common.{◌≡◌, ℕ, ◌≤◌, ◌<◌, Bool, true, false, not, ◌||◌, ◌&&◌, inl, inr, List, [], ◌∷◌, map, Option, Some, IsSome, Contains, sym, ◌∙◌, ap, subst}
 use Rattle.std.specs.Option.{is_some}
 use Rattle.std.proofs.lemmas.Bool.{cases_Bool}
 use Rattle.dq_lits.specs.Literal.{Assignment, Literal, variable_of, is_negative, positive, negative, opposite, literal_true}
@@ -95,6 +95,11 @@ resolving_next q local first hints notes initial g new links rest link node r ma
                 resolve_other q local g new (trues_of first rest) leads.clause link.pivot node r made now e here there leads.leads (sym b_is ∙ is_false) (and is_false)
           ];
     }
+
+-- where no link is left, the partial interpolant is that of the line
+pub all_resolved : (q : Partition) (local : ℕ → Bool) (first : List Literal) (hints : List ℕ) (initial g : AigGraph) (links : List Link) (node : Node) →
+    IsResolving q local first hints initial g links node → links ≡ [] → IsPart q local g first node
+all_resolved q local first hints initial g links node resolved none = subst (λ ls. IsPart q local g (trues_of first ls) node) none resolved.part
 
 pub noted_hints : (q : Partition) (local : ℕ → Bool) (g : AigGraph) (notes : List (ℕ × Node)) (at : ℕ) (hints : List ℕ) → Reaches q.entries q.id at →
     hints_at q.entries at ≡ Some hints → ((hint : ℕ) → Contains hints hint → (1 ≤ hint) × (hint < at)) → AreNoted q local g notes at → HaveParts q local g notes hints

@@ -15,3 +15,4 @@ mod reading;
 mod replaying;
 mod shared;
 mod sides;
+mod splits;

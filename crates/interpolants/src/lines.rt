@@ -1,14 +1,15 @@
 //! The partial interpolant of a derived clause: its hints are replayed, and their clauses are resolved, the last one first.
 
-ghost use Rattle.std.specs.Prelude.{◌≡◌, ◌&&◌, ◌||◌, true, false, map, IfOk, None};
-ghost use Rattle.dq_lits.specs.Literal.{variable_of, opposite};
+ghost use Rattle.std.specs.Prelude.{◌≡◌, ◌&&◌, ◌||◌, ℕ, List, true, false, IfOk, None};
+ghost use Rattle.dq_lits.specs.Literal.{Literal, variable_of};
 ghost use Rattle.hint_log.specs.Conditions.{IsId};
 ghost use Rattle.hint_log.specs.Entries.{clause_at, origin_at};
 ghost use Rattle.hint_log.specs.Reached.{Reaches};
 ghost use Rattle.aig_graph.specs.Graph.{IsNode};
 ghost use Rattle.aig_graph.specs.Made.{Extends, IsMade};
 ghost use Rattle.interpolants.specs.Interpolant.{AreNodes};
-ghost use Rattle.interpolants.specs.Sides.{is_local, split, locals};
+ghost use Rattle.interpolants.specs.Sides.{is_local};
+ghost use Rattle.interpolants.specs.Splits.{partition_of, local_of};
 ghost use Rattle.interpolants.specs.Parts.{IsPart, IsPartOf, HaveParts, AreNoted};
 ghost use Rattle.interpolants.specs.Replay.{AreDerived, IsReplay};
 
@@ -17,32 +18,31 @@ use crate::literal_sets::LiteralSet;
 use crate::node_maps::NodeMap;
 use crate::replaying::{assume_false, propagate};
 use crate::sides::Side;
+use crate::splits::Split;
 use aig_graph::{Graph, Node};
 use dq_lits::{Lit, Memory};
-use hint_log::Log;
 use hint_log::laws::reached_are_ids;
 use std::alloc::Global;
 
 /// The partial interpolant of a derived clause, by those of its hints.
 pub(crate) fn derived_part(
     alloc: Global,
-    log: &Log,
-    id: u64,
+    split: &Split,
     at: u64,
-    side: &Side,
-    shared: &NodeMap,
     notes: &NodeMap,
     graph: &mut Graph,
 ) -> Result<Node, Memory>
-    requires id { IsId log.now.entries at }
-    requires reached { Reaches log.now.entries id at }
-    requires derived { AreDerived log.now.entries }
-    requires not_given { origin_at log.now.entries at ≡ None }
-    requires nodes { AreNodes shared.now graph.old }
-    requires parts { AreNoted (split log.now.entries id side.now shared.now) (locals side.now shared.now) graph.old notes.now at }
+    requires id { IsId split.now.log.now.entries at }
+    requires derived { AreDerived split.now.log.now.entries }
+    requires reached { Reaches split.now.log.now.entries split.now.id at }
+    requires not_given { origin_at split.now.log.now.entries at ≡ None }
+    requires nodes { AreNodes split.now.shared.now graph.old }
+    requires parts { AreNoted (partition_of split.now) (local_of split.now) graph.old notes.now at }
     ensures extends { Extends graph.old graph.new }
-    ensures part { IfOk result (IsPartOf (split log.now.entries id side.now shared.now) (locals side.now shared.now) graph.new at) }
+    ensures part { IfOk result
+        (IsPartOf (partition_of split.now) (local_of split.now) graph.new at) }
 {
+    let log = split.log;
     log.every_log_is_lawful();
     reached_are_ids();
     let clause = log.clause(at);
@@ -51,35 +51,31 @@ pub(crate) fn derived_part(
     let mut trues = LiteralSet::new(alloc);
     assume_false(&mut trues, clause)?;
     let last = propagate(log, &mut trues, &mut chain, clause, hints)?;
-    let node = resolve(
-        log, id, side, shared, notes, clause, hints, &mut chain, last, graph,
-    )?;
+    let node = resolve(split, notes, &mut chain, last, graph)?;
     Ok(node)
 }
 
 // Resolves a line's hinted clauses, the last one first.
 fn resolve(
-    log: &Log,
-    id: u64,
-    side: &Side,
-    shared: &NodeMap,
+    split: &Split,
     notes: &NodeMap,
-    clause: &[Lit],
-    hints: &[u64],
     chain: &mut Chain,
     last: u64,
     graph: &mut Graph,
 ) -> Result<Node, Memory>
-    requires nodes { AreNodes shared.now graph.old }
-    requires parts { HaveParts (split log.now.entries id side.now shared.now) (locals side.now shared.now) graph.old notes.now hints.now }
-    requires replay { IsReplay (clause_at log.now.entries) (map opposite clause.now) hints.now chain.old last }
+    requires nodes { AreNodes split.now.shared.now graph.old }
+    requires replay { (first : List Literal) × (hints : List ℕ)
+        × HaveParts (partition_of split.now) (local_of split.now) graph.old notes.now hints
+        × IsReplay (clause_at split.now.log.now.entries) first hints chain.old last }
     ensures extends { Extends graph.old graph.new }
-    ensures part { IfOk result
-        (IsPart (split log.now.entries id side.now shared.now) (locals side.now shared.now) graph.new (map opposite clause.now)) }
+    ensures part { IfOk result (λ node. (first : List Literal) (hints : List ℕ)
+        → HaveParts (partition_of split.now) (local_of split.now) graph.old notes.now hints
+        → IsReplay (clause_at split.now.log.now.entries) first hints chain.old last
+        → IsPart (partition_of split.now) (local_of split.now) graph.new first node) }
 {
     let mut node = notes.at(last);
     while let Some(link) = chain.pop() {
-        let local = is_local(side, shared, link.pivot);
+        let local = is_local(split.side, split.shared, link.pivot);
         node = resolved(graph, local, node, notes.at(link.hint))?;
     }
     Ok(node)

@@ -6,12 +6,14 @@ ghost use Rattle.hint_log.specs.Reached.{AreReached};
 ghost use Rattle.aig_graph.specs.Made.{Extends};
 ghost use Rattle.interpolants.specs.Interpolant.{partition, AreNodes, SharesAll, IsInterpolant};
 ghost use Rattle.interpolants.specs.Replay.{AreDerived};
-ghost use Rattle.interpolants.specs.Sides.{IsSide, split};
+ghost use Rattle.interpolants.specs.Sides.{IsSide};
+ghost use Rattle.interpolants.specs.Splits.{partition_of};
 
 use crate::node_maps::{NodeMap, map_of};
 use crate::parts::note_all;
 use crate::shared::with_asked;
-use crate::sides::{Side, side_of};
+use crate::sides::side_of;
+use crate::splits::Split;
 use aig_graph::{Graph, Node};
 use dq_lits::{Lit, Memory};
 use hint_log::Log;
@@ -45,32 +47,31 @@ pub fn from_log(
     let ids = log.trim(id)?;
     let side = side_of(alloc, log, id, ids.items(), a_side)?;
     let shared = map_of(alloc, shared)?;
-    let node = interpolant(alloc, log, id, ids.items(), &side, &shared, graph)?;
+    let split = Split {
+        log,
+        id,
+        side: &side,
+        shared: &shared,
+    };
+    let node = interpolant(alloc, &split, ids.items(), graph)?;
     Ok(node)
 }
 
 // The interpolant, by the partial ones.
-fn interpolant(
-    alloc: Global,
-    log: &Log,
-    id: u64,
-    ids: &[u64],
-    side: &Side,
-    shared: &NodeMap,
-    graph: &mut Graph,
-) -> Result<Node, Memory>
-    requires id { IsId log.now.entries id }
-    requires derived { AreDerived log.now.entries }
-    requires ids { AreReached log.now.entries id ids.now }
-    requires side { IsSide (split log.now.entries id side.now shared.now) side.now }
-    requires shares { SharesAll (split log.now.entries id side.now shared.now) }
-    requires nodes { AreNodes shared.now graph.old }
+fn interpolant(alloc: Global, split: &Split, ids: &[u64], graph: &mut Graph) -> Result<Node, Memory>
+    requires id { IsId split.now.log.now.entries split.now.id }
+    requires derived { AreDerived split.now.log.now.entries }
+    requires side { IsSide (partition_of split.now) split.now.side.now }
+    requires shares { SharesAll (partition_of split.now) }
+    requires ids { AreReached split.now.log.now.entries split.now.id ids.now }
+    requires nodes { AreNodes split.now.shared.now graph.old }
     ensures extends { Extends graph.old graph.new }
-    ensures interpolant { IfOk result (IsInterpolant (split log.now.entries id side.now shared.now) graph.new) }
+    ensures interpolant { IfOk result (IsInterpolant (partition_of split.now) graph.new) }
 {
     let mut notes = NodeMap::new(alloc);
-    note_all(alloc, log, id, ids, side, shared, &mut notes, graph)?;
-    let part = notes.at(id);
-    let node = with_asked(graph, &side.assumed, shared, log.clause(id), part)?;
+    note_all(alloc, split, ids, &mut notes, graph)?;
+    let part = notes.at(split.id);
+    let clause = split.log.clause(split.id);
+    let node = with_asked(graph, &split.side.assumed, split.shared, clause, part)?;
     Ok(node)
 }

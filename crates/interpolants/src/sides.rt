@@ -2,7 +2,7 @@
 
 ghost use Rattle.std.specs.Prelude.{◌≡◌, ◌||◌, ℕ, List, IfOk, OnOk, Some};
 ghost use Rattle.std.specs.List.{list_any};
-ghost use Rattle.dq_lits.specs.Literal.{positive, opposite};
+ghost use Rattle.dq_lits.specs.Literal.{Literal, positive, opposite};
 ghost use Rattle.dq_lits.specs.Derivation.{holds};
 ghost use Rattle.hint_log.specs.Conditions.{AreNamed, IsId};
 ghost use Rattle.hint_log.specs.Naming.{is_selector_name};
@@ -51,7 +51,7 @@ pub(crate) fn side_of(
     let selectors = selectors_of(alloc, log, a_side)?;
     let mut variables = LiteralSet::new(alloc);
     add_variables(&mut variables, a_side)?;
-    add_given(log, id, ids, &assumed, &selectors, &mut variables)?;
+    add_given(log, id, ids, &selectors, &mut variables)?;
     Ok(Side {
         assumed,
         selectors,
@@ -96,19 +96,18 @@ fn add_given(
     log: &Log,
     id: u64,
     ids: &[u64],
-    assumed: &LiteralSet,
     selectors: &LiteralSet,
     variables: &mut LiteralSet,
 ) -> Result<(), Memory>
     requires id { IsId log.now.entries id }
     requires ids { AreReached log.now.entries id ids.now }
-    requires selectors { AreSelectors log.now.entries assumed.now selectors.now }
-    requires assumed { (v : ℕ) → holds variables.old (positive v) ≡ stands_on assumed.now v }
-    ensures { OnOk result ((shared : List (ℕ × NodeValue)) → AreOfA (partition log.now.entries id assumed.now shared) variables.new) }
+    ensures { OnOk result ((assumed : List Literal) (shared : List (ℕ × NodeValue))
+        → AreSelectors log.now.entries assumed selectors.now
+        → ((v : ℕ) → holds variables.old (positive v) ≡ stands_on assumed v)
+        → AreOfA (partition log.now.entries id assumed shared) variables.new) }
 {
     log.every_log_is_lawful();
     reached_are_ids();
-    let _ = assumed;
     for at in ids {
         if log.origin(*at).is_some() {
             let clause = log.clause(*at);

@@ -6,7 +6,7 @@ use Rattle.dq_lits.specs.Formula.{Dqbf, declared}
 use Rattle.dq_formula.specs.Prefix.{existential_variables}
 use Rattle.hint_log.specs.Entries.{Entry, Given}
 use Rattle.hint_log.specs.Growth.{Each}
-use Rattle.hint_log.specs.Naming.{NamedLiteral, named_literal, AreNamedAs}
+use Rattle.hint_log.specs.Naming.{NamedLiteral, named_literal, name_literal, AreNamedAs}
 use Rattle.hint_log.specs.Origins.{link_names}
 use Rattle.hint_log.specs.ProductiveLog.{MatchesOrigin}
 use Rattle.hint_log.specs.declared.names.Name.TheVariants.{Copy as CopyOf}
@@ -16,6 +16,7 @@ use Rattle.log_laws.specs.Engines.{IsInGroup}
 use Rattle.oracle.specs.Calls.{IsMade}
 use Rattle.oracle.specs.declared.groups.Group.{Group}
 use Rattle.padoa_definitions.specs.declared.copies.MatrixCopy.{MatrixCopy}
+use Rattle.padoa_definitions.specs.declared.copies.Twins.{Twins}
 use Rattle.padoa_definitions.specs.declared.padoa.Padoa.{Padoa}
 
 abbrev pub is_copy_of : ℕ → Origin → Bool
@@ -43,6 +44,12 @@ pub record IsGivenIn (entries : List Entry) (group : ℕ) (origin : Origin) (nam
 -- positive literals on the copies of these variables
 abbrev pub AreCopiesOf : List Entry → ℕ → List ℕ → List Literal → Type 0
 AreCopiesOf entries side variables copies = AreNamedAs entries copies (map (λ v. named_literal (CopyOf side v) false) variables)
+
+-- both copies of a variable are named for it
+abbrev pub AreTwins : List Entry → Twins → Type 0
+AreTwins entries twins = (name_literal entries twins.first
+    ≡ Some (named_literal (CopyOf 1 twins.variable) false))
+    × (name_literal entries twins.second ≡ Some (named_literal (CopyOf 2 twins.variable) false))
 
 -- the copies of the universals, and then those of the existentials
 abbrev pub copies_of : MatrixCopy → List Literal

@@ -40,6 +40,14 @@ impl MatrixCopy {
     }
 }
 
+/// A variable with its copies, the first and the second.
+#[derive(Clone, Copy, Debug)]
+pub(crate) struct Twins {
+    pub variable: u64,
+    pub first: Lit,
+    pub second: Lit,
+}
+
 /// Names a copy of each of these variables.
 pub(crate) fn name_copies<O: Oracle>(
     alloc: Global,

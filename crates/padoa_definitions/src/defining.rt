@@ -7,7 +7,7 @@ ghost use Rattle.log_laws.specs.Engines.{copies, IsAddedBy};
 ghost use Rattle.padoa_definitions.specs.Copies.{IsPadoa};
 ghost use Rattle.padoa_definitions.specs.Defining.{IsFound};
 
-use crate::copies::copied_variable;
+use crate::copies::{Twins, copied_variable};
 use crate::padoa::Padoa;
 use crate::seeing::shared_places;
 use aig_graph::{Graph, Node};
@@ -34,6 +34,15 @@ pub enum Found {
     Defined(Node),
     /// It has none.
     Free(Pair),
+}
+
+/// Whether an existential is defined by what its definition may read: the declared variables at
+/// these places, universals first.
+#[derive(Drop)]
+pub(crate) struct Question<'f, 'p> {
+    pub f: &'f Formula,
+    pub twins: Twins,
+    pub places: &'p [usize],
 }
 
 impl Padoa {
@@ -64,9 +73,18 @@ impl Padoa {
         let places = shared_places(self.alloc, f, y)?;
         let one = copied_variable(&self.first, f, y);
         let other = copied_variable(&self.second, f, y);
-        match self.search(oracle, f, y, &places, &one, &other, log)? {
+        let question = Question {
+            f,
+            twins: Twins {
+                variable: y,
+                first: one,
+                second: other,
+            },
+            places: &places,
+        };
+        match self.search(oracle, &question, log)? {
             Answer::Unsat(id) => {
-                let node = self.definition(graph, f, y, &places, &one, id, log)?;
+                let node = self.definition(graph, &question, id, log)?;
                 Ok(Found::Defined(node))
             }
             Answer::Sat => {

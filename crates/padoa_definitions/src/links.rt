@@ -1,75 +1,80 @@
 //! Equations between the copies of the variables.
 
-ghost use Rattle.std.specs.Prelude.{◌≡◌, ◌⊎◌, ◌<◌, ℕ, List, true, false, Contains, IfOk, OnOk, None, Some, length};
+ghost use Rattle.std.specs.Prelude.{◌≡◌, ◌⊎◌, ℕ, List, true, Contains, IfOk, OnOk, None, length};
 ghost use Rattle.dq_lits.specs.Literal.{Literal};
 ghost use Rattle.dq_lits.specs.Formula.{Dqbf, declared};
 ghost use Rattle.hint_log.specs.Entries.{Given, name_of};
 ghost use Rattle.hint_log.specs.Growth.{Each};
-ghost use Rattle.hint_log.specs.Naming.{named_literal, name_literal};
-ghost use Rattle.hint_log.specs.declared.names.Name.TheVariants.{Copy as CopyOf};
 ghost use Rattle.hint_log.specs.declared.origins.Origin.{Origin as OriginValue};
 ghost use Rattle.oracle.specs.Calls.{IsMade};
-ghost use Rattle.padoa_definitions.specs.Copies.{is_link_of, group_variable, IsGroupGiven, AreCopiesOf, copies_of, IsLink};
+ghost use Rattle.padoa_definitions.specs.Copies.{is_link_of, group_variable, IsGroupGiven, AreCopiesOf, AreTwins, copies_of, IsLink};
 ghost use Rattle.padoa_definitions.specs.Growing.{GrewIn, HasFewFaults, Adds, is_any_link, IsUnlinked, AreLinkedSoFar};
 
-use crate::copies::MatrixCopy;
+use crate::copies::{MatrixCopy, Twins};
+use crate::giving::Setup;
 use crate::seeing::{declared_at, declared_count};
-use dq_formula::Formula;
-use dq_lits::{Lit, Memory};
+use dq_lits::Memory;
 use hint_log::{Log, Origin};
 use oracle::{Group, Oracle, Tenant};
-use std::alloc::Global;
 
-/// Gives the equation of each declared variable, universals first, to a group of its own.
-pub(crate) fn link_copies<O: Oracle>(
-    alloc: Global,
-    oracle: &mut O,
-    who: &Tenant,
-    f: &Formula,
-    first: &MatrixCopy,
-    second: &MatrixCopy,
-    log: &mut Log,
-) -> Result<Vec<Group>, Memory>
-    requires fit { O.Fits oracle.old log.old }
-    requires first { AreCopiesOf log.old.entries 1 (declared f.now) (copies_of first.now) }
-    requires second { AreCopiesOf log.old.entries 2 (declared f.now) (copies_of second.now) }
-    requires few { HasFewFaults log.old.entries }
-    requires unlinked { (x : ℕ) → IsUnlinked x log.old.entries }
-    ensures fit { O.Fits oracle.new log.new }
-    ensures adds { Adds f.now 0 is_any_link log.old log.new }
-    ensures links { IfOk result (λ groups. AreLinkedSoFar f.now (length (declared f.now)) log.old log.new groups.items) }
-{
-    f.every_formula_is_lawful();
-    let mut groups = Vec::new(alloc);
-    for i in 0..declared_count(f) {
-        let (one, other) = (first.copy_at(i), second.copy_at(i));
-        let group = link(oracle, who, declared_at(f, i), &one, &other, log)?;
-        groups.push(group)?;
+impl<'t, 'f> Setup<'t, 'f> {
+    /// Gives the equation of each declared variable, universals first, to a group of its own.
+    pub(crate) fn link_copies<O: Oracle>(
+        &self,
+        oracle: &mut O,
+        first: &MatrixCopy,
+        second: &MatrixCopy,
+        log: &mut Log,
+    ) -> Result<Vec<Group>, Memory>
+        requires fit { O.Fits oracle.old log.old }
+        requires first { AreCopiesOf log.old.entries 1 (declared self.now.f.now)
+            (copies_of first.now) }
+        requires second { AreCopiesOf log.old.entries 2 (declared self.now.f.now)
+            (copies_of second.now) }
+        requires few { HasFewFaults log.old.entries }
+        requires unlinked { (x : ℕ) → IsUnlinked x log.old.entries }
+        ensures fit { O.Fits oracle.new log.new }
+        ensures adds { Adds self.now.f.now 0 is_any_link log.old log.new }
+        ensures links { IfOk result (λ groups. AreLinkedSoFar self.now.f.now
+            (length (declared self.now.f.now)) log.old log.new groups.items) }
+    {
+        let f = self.f;
+        f.every_formula_is_lawful();
+        let mut groups = Vec::new(self.alloc);
+        for i in 0..declared_count(f) {
+            let (one, other) = (first.copy_at(i), second.copy_at(i));
+            let twins = Twins {
+                variable: declared_at(f, i),
+                first: one,
+                second: other,
+            };
+            let group = link(oracle, self.who, twins, log)?;
+            groups.push(group)?;
+        }
+        Ok(groups)
     }
-    Ok(groups)
 }
 
-// Gives the equation of a variable to a new group.
+// Gives the equation of a variable's copies to a new group.
 fn link<O: Oracle>(
     oracle: &mut O,
     who: &Tenant,
-    x: u64,
-    one: &Lit,
-    other: &Lit,
+    twins: Twins,
     log: &mut Log,
 ) -> Result<Group, Memory>
     requires fit { O.Fits oracle.old log.old }
-    requires one { name_literal log.old.entries one.now ≡ Some (named_literal (CopyOf 1 x) false) }
-    requires other { name_literal log.old.entries other.now ≡ Some (named_literal (CopyOf 2 x) false) }
+    requires twins { AreTwins log.old.entries twins }
     requires few { HasFewFaults log.old.entries }
-    requires unlinked { IsUnlinked x log.old.entries }
+    requires unlinked { IsUnlinked twins.variable log.old.entries }
     ensures fit { O.Fits oracle.new log.new }
-    ensures adds { (f : Dqbf) → Adds f 0 (is_link_of x) log.old log.new }
-    ensures link { IfOk result (λ group. (f : Dqbf) → IsLink f x group log.new.entries) }
-    ensures fresh { IfOk result (λ group. name_of log.old.entries (group_variable group) ≡ None) }
+    ensures adds { (f : Dqbf) → Adds f 0 (is_link_of twins.variable) log.old log.new }
+    ensures link { IfOk result (λ group. (f : Dqbf)
+        → IsLink f twins.variable group log.new.entries) }
+    ensures fresh { IfOk result (λ group.
+        name_of log.old.entries (group_variable group) ≡ None) }
 {
     let group = oracle.group(who, log)?;
-    give_equation(oracle, &group, x, one, other, log)?;
+    give_equation(oracle, &group, twins, log)?;
     Ok(group)
 }
 
@@ -77,34 +82,32 @@ fn link<O: Oracle>(
 fn give_equation<O: Oracle>(
     oracle: &mut O,
     group: &Group,
-    x: u64,
-    one: &Lit,
-    other: &Lit,
+    twins: Twins,
     log: &mut Log,
 ) -> Result<(), Memory>
     requires fit { O.Fits oracle.old log.old }
     requires made { IsMade log.old.entries group.now }
-    requires one { name_literal log.old.entries one.now ≡ Some (named_literal (CopyOf 1 x) false) }
-    requires other { name_literal log.old.entries other.now ≡ Some (named_literal (CopyOf 2 x) false) }
+    requires twins { AreTwins log.old.entries twins }
     requires few { HasFewFaults log.old.entries }
-    requires unlinked { IsUnlinked x log.old.entries }
-    requires own { (f : Dqbf) → Each (IsGroupGiven f (is_link_of x) (group_variable group.now)) log.old.entries }
+    requires unlinked { IsUnlinked twins.variable log.old.entries }
+    requires own { (f : Dqbf) → Each (IsGroupGiven f (is_link_of twins.variable)
+        (group_variable group.now)) log.old.entries }
     ensures fit { O.Fits oracle.new log.new }
     ensures grew { (f : Dqbf) → GrewIn f (group_variable group.now) log.old log.new }
     ensures names { (v : ℕ) → name_of log.new.entries v ≡ name_of log.old.entries v }
     ensures givens { (o : OriginValue) (c : List Literal) → Contains log.new.entries (Given o c)
-        → Contains log.old.entries (Given o c) ⊎ (is_link_of x o ≡ true) }
-    ensures link { OnOk result ((f : Dqbf) → IsLink f x group.now log.new.entries) }
+        → Contains log.old.entries (Given o c) ⊎ (is_link_of twins.variable o ≡ true) }
+    ensures link { OnOk result ((f : Dqbf) → IsLink f twins.variable group.now log.new.entries) }
 {
     let downwards = Origin::Link {
-        variable: x,
+        variable: twins.variable,
         part: 1,
     };
-    oracle.add(group, &[one.not(), *other], downwards, log)?;
+    oracle.add(group, &[twins.first.not(), twins.second], downwards, log)?;
     let upwards = Origin::Link {
-        variable: x,
+        variable: twins.variable,
         part: 2,
     };
-    oracle.add(group, &[*one, other.not()], upwards, log)?;
+    oracle.add(group, &[twins.first, twins.second.not()], upwards, log)?;
     Ok(())
 }

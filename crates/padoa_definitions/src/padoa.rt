@@ -7,8 +7,7 @@ ghost use Rattle.padoa_definitions.specs.Copies.{IsPadoa, groups_of};
 ghost use Rattle.padoa_definitions.specs.Growing.{HasFewFaults};
 
 use crate::copies::MatrixCopy;
-use crate::giving::copy_matrix;
-use crate::links::link_copies;
+use crate::giving::Setup;
 use dq_formula::Formula;
 use dq_lits::Memory;
 use hint_log::Log;
@@ -42,9 +41,14 @@ impl Padoa {
         ensures fresh { IfOk result (λ p. All (λ g. name_of log.old.entries g ≡ None) (groups_of p)) }
     {
         let who = oracle.tenant()?;
-        let first = copy_matrix(alloc, oracle, &who, 1, f, log)?;
-        let second = copy_matrix(alloc, oracle, &who, 2, f, log)?;
-        let links = link_copies(alloc, oracle, &who, f, &first, &second, log)?;
+        let setup = Setup {
+            alloc,
+            who: &who,
+            f,
+        };
+        let first = setup.copy_matrix(oracle, 1, log)?;
+        let second = setup.copy_matrix(oracle, 2, log)?;
+        let links = setup.link_copies(oracle, &first, &second, log)?;
         Ok(Padoa {
             alloc,
             first,

@@ -1,21 +1,18 @@
 //! What a search found: a definition, or values of both copies.
 
-ghost use Rattle.std.specs.Prelude.{◌≡◌, ◌<◌, ◌+◌, true, false, All, length, IfOk, IsSome, Some};
+ghost use Rattle.std.specs.Prelude.{◌≡◌, ◌<◌, ◌+◌, true, All, length, IfOk, IsSome, Some};
 ghost use Rattle.dq_lits.specs.Literal.{variable_of};
 ghost use Rattle.dq_lits.specs.Formula.{Existential, declared, existential_of};
-ghost use Rattle.hint_log.specs.Naming.{named_literal, name_literal};
-ghost use Rattle.hint_log.specs.declared.names.Name.TheVariants.{Copy as CopyOf};
 ghost use Rattle.aig_graph.specs.Made.{Extends};
 ghost use Rattle.definition_order.specs.Definitions.{IsDefinition};
 ghost use Rattle.definition_order.specs.Order.{MayRead};
-ghost use Rattle.padoa_definitions.specs.Copies.{IsPadoa, copies_of};
-ghost use Rattle.padoa_definitions.specs.Dividing.{ShowsDefinition, IsPairOf, shared_pairs, values_at};
+ghost use Rattle.padoa_definitions.specs.Copies.{AreTwins, IsPadoa, copies_of};
 ghost use Rattle.padoa_definitions.specs.Seeing.{ArePlaces};
+ghost use Rattle.padoa_definitions.specs.Dividing.{ShowsDefinition, IsPairOf, shared_pairs, values_at};
 
-use crate::defining::Pair;
+use crate::defining::{Pair, Question};
 use crate::padoa::Padoa;
 use aig_graph::{Graph, Node};
-use dq_formula::Formula;
 use dq_lits::{Lit, Memory, Row};
 use hint_log::Log;
 use hint_log::laws::names_are_unique;
@@ -28,31 +25,37 @@ impl Padoa {
     pub(crate) fn definition(
         &self,
         graph: &mut Graph,
-        f: &Formula,
-        y: u64,
-        places: &[usize],
-        one: &Lit,
+        question: &Question,
         id: u64,
         log: &Log,
     ) -> Result<Node, Memory>
-        requires padoa { IsPadoa f.now self.now log.now.entries }
-        requires existential { IsSome (existential_of f.now y) }
-        requires places { (e : Existential) → existential_of f.now y ≡ Some e → ArePlaces (declared f.now) (MayRead f.now e) places.now }
-        requires one { name_literal log.now.entries one.now ≡ Some (named_literal (CopyOf 1 y) false) }
-        requires shown { (e : Existential) → existential_of f.now y ≡ Some e → ShowsDefinition f.now e self.now one.now log.now.entries id }
-        requires inputs { graph.old.inputs ≡ length f.now.universals + length f.now.existentials }
+        requires padoa { IsPadoa question.now.f.now self.now log.now.entries }
+        requires existential { IsSome (existential_of question.now.f.now
+            question.now.twins.variable) }
+        requires places { (e : Existential)
+            → existential_of question.now.f.now question.now.twins.variable ≡ Some e
+            → ArePlaces (declared question.now.f.now) (MayRead question.now.f.now e)
+            question.now.places.now }
+        requires twins { AreTwins log.now.entries question.now.twins }
+        requires shown { (e : Existential)
+            → existential_of question.now.f.now question.now.twins.variable ≡ Some e
+            → ShowsDefinition question.now.f.now e self.now question.now.twins.first
+            log.now.entries id }
+        requires inputs { graph.old.inputs ≡ length question.now.f.now.universals
+            + length question.now.f.now.existentials }
         ensures extends { Extends graph.old graph.new }
-        ensures defined { (e : Existential) → existential_of f.now y ≡ Some e → IfOk result (IsDefinition f.now graph.new e) }
+        ensures defined { (e : Existential)
+            → existential_of question.now.f.now question.now.twins.variable ≡ Some e
+            → IfOk result (IsDefinition question.now.f.now graph.new e) }
     {
         names_are_unique();
         log.every_log_is_lawful();
-        let _ = f.vars();
-        let shared = self.shared(graph, places)?;
+        let shared = self.shared(graph, question.places)?;
         let node = from_log(
             self.alloc,
             log,
             id,
-            &[self.first.group.selector, *one],
+            &[self.first.group.selector, question.twins.first],
             &shared,
             graph,
         )?;

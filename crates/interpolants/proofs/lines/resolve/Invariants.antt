@@ -1,13 +1,16 @@
-use Rattle.std.proofs.Common.{map, length}
-use Rattle.dq_lits.specs.Literal.{opposite}
-use Rattle.interpolants.specs.Interpolant.{partition}
-use Rattle.interpolants.specs.Sides.{is_local}
+use Rattle.std.proofs.Common.{ℕ, List, length}
+use Rattle.dq_lits.specs.Literal.{Literal}
+use Rattle.hint_log.specs.Entries.{clause_at}
+use Rattle.interpolants.specs.Parts.{HaveParts}
+use Rattle.interpolants.specs.Replay.{IsReplay}
+use Rattle.interpolants.specs.Splits.{partition_of, local_of}
 use Rattle.interpolants.proofs.Resolving.{IsResolving}
 use Rattle.interpolants.proofs.lines.resolve.Given as goal
 
 abbrev pub invariant-loop-link : goal.invariant-loop-link
 invariant-loop-link l =
-    IsResolving (partition l.log.entries l.id l.side.assumed l.shared) (is_local l.shared l.side.variables) (map opposite l.clause) l.hints l.fn.graph l.graph l.chain l.node
+    (first : List Literal) (hints : List ℕ) → HaveParts (partition_of l.split) (local_of l.split) l.fn.graph l.notes hints
+    → IsReplay (clause_at l.split.log.now.entries) first hints l.fn.chain l.last → IsResolving (partition_of l.split) (local_of l.split) first hints l.fn.graph l.graph l.chain l.node
 
 abbrev pub decreases-loop-link : goal.decreases-loop-link
 decreases-loop-link l = length l.chain

@@ -1,26 +1,25 @@
 use Rattle.hint_log.specs.Reached.{itself}
-use Rattle.interpolants.specs.Interpolant.{partition}
-use Rattle.interpolants.specs.Sides.{is_local}
+use Rattle.interpolants.specs.Splits.{partition_of, local_of}
 use Rattle.interpolants.proofs.Interpolating.{nodes_after, answer_part}
 use Rattle.interpolants.proofs.Resolving.{is_noted, noted_part}
 use Rattle.interpolants.proofs.Steps.{extends_both}
 use Rattle.interpolants.proofs.reading.interpolant.Goals as goal
 
 pub at-part-requires : goal.at-part-requires
-at-part-requires c = is_noted (partition c.args.log.now.entries c.args.id c.args.side.now.assumed c.args.shared.now) (is_local c.args.shared.now c.args.side.now.variables) c.note_all.new.graph c.note_all.new.notes c.args.id (c.in_ok-note_all.ensures.parts c.args.id itself)
+at-part-requires c = is_noted (partition_of c.args.split.now) (local_of c.args.split.now) c.note_all.new.graph c.note_all.new.notes c.args.split.now.id (c.in_ok-note_all.ensures.parts c.args.split.now.id itself)
 
 pub with_asked-requires-clause-node : goal.with_asked-requires-clause-node
 with_asked-requires-clause-node c =
     let part =
-    noted_part (partition c.args.log.now.entries c.args.id c.args.side.now.assumed c.args.shared.now) (is_local c.args.shared.now c.args.side.now.variables) c.note_all.new.graph c.note_all.new.notes
-    c.args.id c.at-part.result (c.in_ok-note_all.ensures.parts c.args.id itself) c.at-part.ensures c.clause.result.now c.clause.ensures in
+    noted_part (partition_of c.args.split.now) (local_of c.args.split.now) c.note_all.new.graph c.note_all.new.notes
+    c.args.split.now.id c.at-part.result (c.in_ok-note_all.ensures.parts c.args.split.now.id itself) c.at-part.ensures c.clause-clause.result.now c.clause-clause.ensures in
     part.is_node
 
 pub with_asked-requires-clause-reads : goal.with_asked-requires-clause-reads
 with_asked-requires-clause-reads c =
     let part =
-    noted_part (partition c.args.log.now.entries c.args.id c.args.side.now.assumed c.args.shared.now) (is_local c.args.shared.now c.args.side.now.variables) c.note_all.new.graph c.note_all.new.notes
-    c.args.id c.at-part.result (c.in_ok-note_all.ensures.parts c.args.id itself) c.at-part.ensures c.clause.result.now c.clause.ensures in
+    noted_part (partition_of c.args.split.now) (local_of c.args.split.now) c.note_all.new.graph c.note_all.new.notes
+    c.args.split.now.id c.at-part.result (c.in_ok-note_all.ensures.parts c.args.split.now.id itself) c.at-part.ensures c.clause-clause.result.now c.clause-clause.ensures in
     part.reads
 
 pub returns-in_err-node-clause-extends : goal.returns-in_err-node-clause-extends
@@ -31,10 +30,10 @@ returns-clause-extends c = extends_both c.args.graph.now c.note_all.new.graph c.
 
 pub returns-clause-interpolant : goal.returns-clause-interpolant
 returns-clause-interpolant c =
-    let q = partition c.args.log.now.entries c.args.id c.args.side.now.assumed c.args.shared.now in
+    let q = partition_of c.args.split.now in
     let part =
-    noted_part (partition c.args.log.now.entries c.args.id c.args.side.now.assumed c.args.shared.now) (is_local c.args.shared.now c.args.side.now.variables) c.note_all.new.graph c.note_all.new.notes
-    c.args.id c.at-part.result (c.in_ok-note_all.ensures.parts c.args.id itself) c.at-part.ensures c.clause.result.now c.clause.ensures in
-    answer_part q c.args.side.now.variables c.note_all.new.graph c.with_asked.new.graph c.clause.result.now c.at-part.result c.in_ok-node.node c.requires.side.variables c.requires.shares
-    (nodes_after c.args.shared.now c.args.graph.now c.note_all.new.graph c.note_all.ensures.extends c.requires.nodes) c.with_asked.ensures.extends c.clause.ensures part
+    noted_part (partition_of c.args.split.now) (local_of c.args.split.now) c.note_all.new.graph c.note_all.new.notes
+    c.args.split.now.id c.at-part.result (c.in_ok-note_all.ensures.parts c.args.split.now.id itself) c.at-part.ensures c.clause-clause.result.now c.clause-clause.ensures in
+    answer_part q c.args.split.now.side.now.variables c.note_all.new.graph c.with_asked.new.graph c.clause-clause.result.now c.at-part.result c.in_ok-node.node c.requires.side.variables c.requires.shares
+    (nodes_after c.args.split.now.shared.now c.args.graph.now c.note_all.new.graph c.note_all.ensures.extends c.requires.nodes) c.with_asked.ensures.extends c.clause-clause.ensures part
     c.in_ok-node.ensures.asked

@@ -19,25 +19,25 @@ clause-clause-requires c =
     (c.requires.ids.sound (get_or ids c.loop-at.at-index 0) (contains_place ids c.loop-at.at-index c.loop-at-test.true))
 
 pub loop-at-preserved : goal.loop-at-preserved
-loop-at-preserved c = λ shared.
-    let q = partition c.args.log.now.entries c.args.id c.args.assumed.now shared in
+loop-at-preserved c = λ assumed shared selectors first.
+    let q = partition c.args.log.now.entries c.args.id assumed shared in
     let ids = c.args.ids.now in
     let i = c.loop-at.at-index in
     let at = get_or ids i 0 in
-    let before = c.loop-at.invariant shared in
+    let before = c.loop-at.invariant assumed shared selectors first in
     let reached = c.requires.ids.sound at (contains_place ids i c.loop-at-test.true) in
     elim c.if-is_some.branch [
       | then-is_some+then-is_on_side+in_ok-add_variables w ↦
           let given : IsReachedGiven q at w.clause-clause.result.now =
           record { reached = reached; given = is_given (origin_at q.entries at) c.origin.result c.origin.ensures (sym c.is_some.ensures ∙ w.if-is_some.true); clause_is = w.clause-clause.ensures } in
           subst (AreOfSome q (take (i + 1) ids)) (sym w.variables-is)
-          (some_more q ids i c.loop-at.variables w.add_variables.new.set w.clause-clause.result.now before c.loop-at-test.true given (sym (on_a_by_selectors q c.args.selectors.now c.requires.selectors w.clause-clause.result.now) ∙ sym w.is_on_side.ensures ∙ w.if-is_on_side.true)
+          (some_more q ids i c.loop-at.variables w.add_variables.new.set w.clause-clause.result.now before c.loop-at-test.true given (sym (on_a_by_selectors q c.args.selectors.now selectors w.clause-clause.result.now) ∙ sym w.is_on_side.ensures ∙ w.if-is_on_side.true)
           w.in_ok-add_variables.ensures)
       | then-is_some+else-is_on_side w ↦
           subst (AreOfSome q (take (i + 1) ids)) (sym w.variables-is)
           (some_past q ids i c.loop-at.variables before c.loop-at-test.true (λ clause given on_a.
           let same : clause ≡ w.clause-clause.result.now = some_is clause w.clause-clause.result.now (sym given.clause_is ∙ w.clause-clause.ensures) in
-          true≢false (sym on_a ∙ ap (is_on_a q) same ∙ sym (on_a_by_selectors q c.args.selectors.now c.requires.selectors w.clause-clause.result.now) ∙ sym w.is_on_side.ensures ∙ w.if-is_on_side.false)))
+          true≢false (sym on_a ∙ ap (is_on_a q) same ∙ sym (on_a_by_selectors q c.args.selectors.now selectors w.clause-clause.result.now) ∙ sym w.is_on_side.ensures ∙ w.if-is_on_side.false)))
       | else-is_some w ↦
           subst (AreOfSome q (take (i + 1) ids)) (sym w.variables-is)
           (some_past q ids i c.loop-at.variables before c.loop-at-test.true (λ clause given on_a.
@@ -45,9 +45,9 @@ loop-at-preserved c = λ shared.
     ]
 
 pub returns : goal.returns
-returns c = λ shared.
-    some_all (partition c.args.log.now.entries c.args.id c.args.assumed.now shared) c.args.ids.now c.loop-at.at-index c.loop-at.variables c.requires.ids c.loop-at-test.false
-    (c.loop-at.invariant shared)
+returns c = λ assumed shared selectors first.
+    some_all (partition c.args.log.now.entries c.args.id assumed shared) c.args.ids.now c.loop-at.at-index c.loop-at.variables c.requires.ids c.loop-at-test.false
+    (c.loop-at.invariant assumed shared selectors first)
 
 pub loop-at-init : goal.loop-at-init
-loop-at-init c = λ shared. some_first (partition c.args.log.now.entries c.args.id c.args.assumed.now shared) c.args.variables.now c.requires.assumed
+loop-at-init c = λ assumed shared selectors first. some_first (partition c.args.log.now.entries c.args.id assumed shared) c.args.variables.now first

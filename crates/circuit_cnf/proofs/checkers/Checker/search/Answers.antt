@@ -11,8 +11,8 @@ use Rattle.circuit_cnf.proofs.Searching.{few_without, few_learned, few_answered}
 use Rattle.circuit_cnf.proofs.Turning.{IsGroupMade, AreFaultsSaid, group_one_leaf, faults_checker, faults_grew, faults_made, faults_two_groups, learned_all, answered_all, learned_checker, answered_checker, switch_is}
 use Rattle.circuit_cnf.proofs.checkers.Checker.search.Goals as goal
 
-pub give_faults-requires-clause-one_leaf : goal.give_faults-requires-clause-one_leaf
-give_faults-requires-clause-one_leaf g c =
+pub give-requires-clause-one_leaf : goal.give-requires-clause-one_leaf
+give-requires-clause-one_leaf g c =
     let leaf = leaf_of c.args.f.now c.deref.result.now c.args.leaves.now in
     let m : IsGroupMade c.args.f.now c.args.self.now c.args.log.now c.group.new.log c.in_ok-group.group = record {
       before = c.requires.checker;
@@ -25,8 +25,8 @@ give_faults-requires-clause-one_leaf g c =
     } in
     group_one_leaf c.args.f.now c.args.self.now leaf c.args.log.now c.group.new.log c.in_ok-group.group m
 
-pub returns-in_err-give_faults-clause-checker : goal.returns-in_err-give_faults-clause-checker
-returns-in_err-give_faults-clause-checker g c =
+pub returns-in_err-give-clause-checker : goal.returns-in_err-give-clause-checker
+returns-in_err-give-clause-checker g c =
     let leaf = leaf_of c.args.f.now c.deref.result.now c.args.leaves.now in
     let m : IsGroupMade c.args.f.now c.args.self.now c.args.log.now c.group.new.log c.in_ok-group.group = record {
       before = c.requires.checker;
@@ -37,12 +37,12 @@ returns-in_err-give_faults-clause-checker g c =
       grouped = (g.met.O.Oracle.searched c.args.oracle.now c.args.log.now c.requires.fit).grouped;
       few = c.requires.few;
     } in
-    let s : AreFaultsSaid c.args.f.now leaf (variable_of c.in_ok-group.group.selector) c.group.new.log c.give_faults.new.log =
-    record { grew = c.give_faults.ensures.grew; names = c.give_faults.ensures.names; few = c.give_faults.ensures.few; one_leaf = c.give_faults.ensures.one_leaf } in
-    faults_checker c.args.f.now c.args.self.now leaf c.args.log.now c.group.new.log c.in_ok-group.group m c.give_faults.new.log s
+    let s : AreFaultsSaid c.args.f.now leaf (variable_of c.in_ok-group.group.selector) c.group.new.log c.give.new.log =
+    record { grew = c.give.ensures.grew; names = c.give.ensures.names; few = c.give.ensures.few; one_leaf = c.give.ensures.one_leaf } in
+    faults_checker c.args.f.now c.args.self.now leaf c.args.log.now c.group.new.log c.in_ok-group.group m c.give.new.log s
 
-pub returns-in_err-give_faults-clause-grew : goal.returns-in_err-give_faults-clause-grew
-returns-in_err-give_faults-clause-grew g c =
+pub returns-in_err-give-clause-grew : goal.returns-in_err-give-clause-grew
+returns-in_err-give-clause-grew g c =
     let leaf = leaf_of c.args.f.now c.deref.result.now c.args.leaves.now in
     let m : IsGroupMade c.args.f.now c.args.self.now c.args.log.now c.group.new.log c.in_ok-group.group = record {
       before = c.requires.checker;
@@ -53,12 +53,12 @@ returns-in_err-give_faults-clause-grew g c =
       grouped = (g.met.O.Oracle.searched c.args.oracle.now c.args.log.now c.requires.fit).grouped;
       few = c.requires.few;
     } in
-    let s : AreFaultsSaid c.args.f.now leaf (variable_of c.in_ok-group.group.selector) c.group.new.log c.give_faults.new.log =
-    record { grew = c.give_faults.ensures.grew; names = c.give_faults.ensures.names; few = c.give_faults.ensures.few; one_leaf = c.give_faults.ensures.one_leaf } in
-    faults_grew c.args.f.now c.args.self.now leaf c.args.log.now c.group.new.log c.in_ok-group.group m c.give_faults.new.log s _
+    let s : AreFaultsSaid c.args.f.now leaf (variable_of c.in_ok-group.group.selector) c.group.new.log c.give.new.log =
+    record { grew = c.give.ensures.grew; names = c.give.ensures.names; few = c.give.ensures.few; one_leaf = c.give.ensures.one_leaf } in
+    faults_grew c.args.f.now c.args.self.now leaf c.args.log.now c.group.new.log c.in_ok-group.group m c.give.new.log s _
 
-pub returns-in_err-give_faults-clause-few : goal.returns-in_err-give_faults-clause-few
-returns-in_err-give_faults-clause-few g c =
+pub returns-in_err-give-clause-few : goal.returns-in_err-give-clause-few
+returns-in_err-give-clause-few g c =
     let leaf = leaf_of c.args.f.now c.deref.result.now c.args.leaves.now in
     let m : IsGroupMade c.args.f.now c.args.self.now c.args.log.now c.group.new.log c.in_ok-group.group = record {
       before = c.requires.checker;
@@ -69,9 +69,9 @@ returns-in_err-give_faults-clause-few g c =
       grouped = (g.met.O.Oracle.searched c.args.oracle.now c.args.log.now c.requires.fit).grouped;
       few = c.requires.few;
     } in
-    let s : AreFaultsSaid c.args.f.now leaf (variable_of c.in_ok-group.group.selector) c.group.new.log c.give_faults.new.log =
-    record { grew = c.give_faults.ensures.grew; names = c.give_faults.ensures.names; few = c.give_faults.ensures.few; one_leaf = c.give_faults.ensures.one_leaf } in
-    few_without (variable_of c.in_ok-group.group.selector) c.give_faults.new.log.entries s.few
+    let s : AreFaultsSaid c.args.f.now leaf (variable_of c.in_ok-group.group.selector) c.group.new.log c.give.new.log =
+    record { grew = c.give.ensures.grew; names = c.give.ensures.names; few = c.give.ensures.few; one_leaf = c.give.ensures.one_leaf } in
+    few_without (variable_of c.in_ok-group.group.selector) c.give.new.log.entries s.few
 
 pub returns-in_err-id-clause-checker : goal.returns-in_err-id-clause-checker
 returns-in_err-id-clause-checker g c =
@@ -85,9 +85,9 @@ returns-in_err-id-clause-checker g c =
       grouped = (g.met.O.Oracle.searched c.args.oracle.now c.args.log.now c.requires.fit).grouped;
       few = c.requires.few;
     } in
-    let s : AreFaultsSaid c.args.f.now leaf (variable_of c.in_ok-group.group.selector) c.group.new.log c.give_faults.new.log =
-    record { grew = c.give_faults.ensures.grew; names = c.give_faults.ensures.names; few = c.give_faults.ensures.few; one_leaf = c.give_faults.ensures.one_leaf } in
-    learned_checker c.args.f.now c.args.self.now leaf c.args.log.now c.group.new.log c.in_ok-group.group m c.give_faults.new.log s c.solve.new.log c.in_err-id.ensures.stop
+    let s : AreFaultsSaid c.args.f.now leaf (variable_of c.in_ok-group.group.selector) c.group.new.log c.give.new.log =
+    record { grew = c.give.ensures.grew; names = c.give.ensures.names; few = c.give.ensures.few; one_leaf = c.give.ensures.one_leaf } in
+    learned_checker c.args.f.now c.args.self.now leaf c.args.log.now c.group.new.log c.in_ok-group.group m c.give.new.log s c.solve.new.log c.in_err-id.ensures.stop
 
 pub returns-in_err-id-clause-grew : goal.returns-in_err-id-clause-grew
 returns-in_err-id-clause-grew g c =
@@ -101,9 +101,9 @@ returns-in_err-id-clause-grew g c =
       grouped = (g.met.O.Oracle.searched c.args.oracle.now c.args.log.now c.requires.fit).grouped;
       few = c.requires.few;
     } in
-    let s : AreFaultsSaid c.args.f.now leaf (variable_of c.in_ok-group.group.selector) c.group.new.log c.give_faults.new.log =
-    record { grew = c.give_faults.ensures.grew; names = c.give_faults.ensures.names; few = c.give_faults.ensures.few; one_leaf = c.give_faults.ensures.one_leaf } in
-    learned_all c.args.f.now c.args.self.now leaf c.args.log.now c.group.new.log c.in_ok-group.group m c.give_faults.new.log s _ c.solve.new.log c.in_err-id.ensures.stop
+    let s : AreFaultsSaid c.args.f.now leaf (variable_of c.in_ok-group.group.selector) c.group.new.log c.give.new.log =
+    record { grew = c.give.ensures.grew; names = c.give.ensures.names; few = c.give.ensures.few; one_leaf = c.give.ensures.one_leaf } in
+    learned_all c.args.f.now c.args.self.now leaf c.args.log.now c.group.new.log c.in_ok-group.group m c.give.new.log s _ c.solve.new.log c.in_err-id.ensures.stop
 
 pub returns-in_err-id-clause-few : goal.returns-in_err-id-clause-few
 returns-in_err-id-clause-few g c =
@@ -117,9 +117,9 @@ returns-in_err-id-clause-few g c =
       grouped = (g.met.O.Oracle.searched c.args.oracle.now c.args.log.now c.requires.fit).grouped;
       few = c.requires.few;
     } in
-    let s : AreFaultsSaid c.args.f.now leaf (variable_of c.in_ok-group.group.selector) c.group.new.log c.give_faults.new.log =
-    record { grew = c.give_faults.ensures.grew; names = c.give_faults.ensures.names; few = c.give_faults.ensures.few; one_leaf = c.give_faults.ensures.one_leaf } in
-    few_learned c.give_faults.new.log c.solve.new.log c.in_err-id.ensures.stop (few_without (variable_of c.in_ok-group.group.selector) c.give_faults.new.log.entries s.few)
+    let s : AreFaultsSaid c.args.f.now leaf (variable_of c.in_ok-group.group.selector) c.group.new.log c.give.new.log =
+    record { grew = c.give.ensures.grew; names = c.give.ensures.names; few = c.give.ensures.few; one_leaf = c.give.ensures.one_leaf } in
+    few_learned c.give.new.log c.solve.new.log c.in_err-id.ensures.stop (few_without (variable_of c.in_ok-group.group.selector) c.give.new.log.entries s.few)
 
 pub returns-in-Unsat-clause-checker : goal.returns-in-Unsat-clause-checker
 returns-in-Unsat-clause-checker g c =
@@ -133,10 +133,10 @@ returns-in-Unsat-clause-checker g c =
       grouped = (g.met.O.Oracle.searched c.args.oracle.now c.args.log.now c.requires.fit).grouped;
       few = c.requires.few;
     } in
-    let s : AreFaultsSaid c.args.f.now leaf (variable_of c.in_ok-group.group.selector) c.group.new.log c.give_faults.new.log =
-    record { grew = c.give_faults.ensures.grew; names = c.give_faults.ensures.names; few = c.give_faults.ensures.few; one_leaf = c.give_faults.ensures.one_leaf } in
+    let s : AreFaultsSaid c.args.f.now leaf (variable_of c.in_ok-group.group.selector) c.group.new.log c.give.new.log =
+    record { grew = c.give.ensures.grew; names = c.give.ensures.names; few = c.give.ensures.few; one_leaf = c.give.ensures.one_leaf } in
     let r = c.solve.ensures.unsat c.in-Unsat.id (c.in_ok-id.was ∙ ap Ok c.in-Unsat.is) in
-    answered_checker c.args.f.now c.args.self.now leaf c.args.log.now c.group.new.log c.in_ok-group.group m c.give_faults.new.log s _ c.solve.new.log c.in-Unsat.id r
+    answered_checker c.args.f.now c.args.self.now leaf c.args.log.now c.group.new.log c.in_ok-group.group m c.give.new.log s _ c.solve.new.log c.in-Unsat.id r
 
 pub returns-in-Unsat-clause-grew : goal.returns-in-Unsat-clause-grew
 returns-in-Unsat-clause-grew g c =
@@ -150,10 +150,10 @@ returns-in-Unsat-clause-grew g c =
       grouped = (g.met.O.Oracle.searched c.args.oracle.now c.args.log.now c.requires.fit).grouped;
       few = c.requires.few;
     } in
-    let s : AreFaultsSaid c.args.f.now leaf (variable_of c.in_ok-group.group.selector) c.group.new.log c.give_faults.new.log =
-    record { grew = c.give_faults.ensures.grew; names = c.give_faults.ensures.names; few = c.give_faults.ensures.few; one_leaf = c.give_faults.ensures.one_leaf } in
+    let s : AreFaultsSaid c.args.f.now leaf (variable_of c.in_ok-group.group.selector) c.group.new.log c.give.new.log =
+    record { grew = c.give.ensures.grew; names = c.give.ensures.names; few = c.give.ensures.few; one_leaf = c.give.ensures.one_leaf } in
     let r = c.solve.ensures.unsat c.in-Unsat.id (c.in_ok-id.was ∙ ap Ok c.in-Unsat.is) in
-    answered_all c.args.f.now c.args.self.now leaf c.args.log.now c.group.new.log c.in_ok-group.group m c.give_faults.new.log s _ c.solve.new.log c.in-Unsat.id r
+    answered_all c.args.f.now c.args.self.now leaf c.args.log.now c.group.new.log c.in_ok-group.group m c.give.new.log s _ c.solve.new.log c.in-Unsat.id r
 
 pub returns-in-Unsat-clause-few : goal.returns-in-Unsat-clause-few
 returns-in-Unsat-clause-few g c =
@@ -167,10 +167,10 @@ returns-in-Unsat-clause-few g c =
       grouped = (g.met.O.Oracle.searched c.args.oracle.now c.args.log.now c.requires.fit).grouped;
       few = c.requires.few;
     } in
-    let s : AreFaultsSaid c.args.f.now leaf (variable_of c.in_ok-group.group.selector) c.group.new.log c.give_faults.new.log =
-    record { grew = c.give_faults.ensures.grew; names = c.give_faults.ensures.names; few = c.give_faults.ensures.few; one_leaf = c.give_faults.ensures.one_leaf } in
+    let s : AreFaultsSaid c.args.f.now leaf (variable_of c.in_ok-group.group.selector) c.group.new.log c.give.new.log =
+    record { grew = c.give.ensures.grew; names = c.give.ensures.names; few = c.give.ensures.few; one_leaf = c.give.ensures.one_leaf } in
     let r = c.solve.ensures.unsat c.in-Unsat.id (c.in_ok-id.was ∙ ap Ok c.in-Unsat.is) in
-    few_answered _ c.give_faults.new.log c.solve.new.log c.in-Unsat.id r (few_without (variable_of c.in_ok-group.group.selector) c.give_faults.new.log.entries s.few)
+    few_answered _ c.give.new.log c.solve.new.log c.in-Unsat.id r (few_without (variable_of c.in_ok-group.group.selector) c.give.new.log.entries s.few)
 
 pub returns-in-Sat-clause-checker : goal.returns-in-Sat-clause-checker
 returns-in-Sat-clause-checker g c =
@@ -184,10 +184,10 @@ returns-in-Sat-clause-checker g c =
       grouped = (g.met.O.Oracle.searched c.args.oracle.now c.args.log.now c.requires.fit).grouped;
       few = c.requires.few;
     } in
-    let s : AreFaultsSaid c.args.f.now leaf (variable_of c.in_ok-group.group.selector) c.group.new.log c.give_faults.new.log =
-    record { grew = c.give_faults.ensures.grew; names = c.give_faults.ensures.names; few = c.give_faults.ensures.few; one_leaf = c.give_faults.ensures.one_leaf } in
+    let s : AreFaultsSaid c.args.f.now leaf (variable_of c.in_ok-group.group.selector) c.group.new.log c.give.new.log =
+    record { grew = c.give.ensures.grew; names = c.give.ensures.names; few = c.give.ensures.few; one_leaf = c.give.ensures.one_leaf } in
     let found = c.solve.ensures.sat (c.in_ok-id.was ∙ ap Ok c.in-Sat.is) in
-    learned_checker c.args.f.now c.args.self.now leaf c.args.log.now c.group.new.log c.in_ok-group.group m c.give_faults.new.log s c.solve.new.log found.0
+    learned_checker c.args.f.now c.args.self.now leaf c.args.log.now c.group.new.log c.in_ok-group.group m c.give.new.log s c.solve.new.log found.0
 
 pub returns-in-Sat-clause-grew : goal.returns-in-Sat-clause-grew
 returns-in-Sat-clause-grew g c =
@@ -201,10 +201,10 @@ returns-in-Sat-clause-grew g c =
       grouped = (g.met.O.Oracle.searched c.args.oracle.now c.args.log.now c.requires.fit).grouped;
       few = c.requires.few;
     } in
-    let s : AreFaultsSaid c.args.f.now leaf (variable_of c.in_ok-group.group.selector) c.group.new.log c.give_faults.new.log =
-    record { grew = c.give_faults.ensures.grew; names = c.give_faults.ensures.names; few = c.give_faults.ensures.few; one_leaf = c.give_faults.ensures.one_leaf } in
+    let s : AreFaultsSaid c.args.f.now leaf (variable_of c.in_ok-group.group.selector) c.group.new.log c.give.new.log =
+    record { grew = c.give.ensures.grew; names = c.give.ensures.names; few = c.give.ensures.few; one_leaf = c.give.ensures.one_leaf } in
     let found = c.solve.ensures.sat (c.in_ok-id.was ∙ ap Ok c.in-Sat.is) in
-    learned_all c.args.f.now c.args.self.now leaf c.args.log.now c.group.new.log c.in_ok-group.group m c.give_faults.new.log s _ c.solve.new.log found.0
+    learned_all c.args.f.now c.args.self.now leaf c.args.log.now c.group.new.log c.in_ok-group.group m c.give.new.log s _ c.solve.new.log found.0
 
 pub returns-in-Sat-clause-few : goal.returns-in-Sat-clause-few
 returns-in-Sat-clause-few g c =
@@ -218,10 +218,10 @@ returns-in-Sat-clause-few g c =
       grouped = (g.met.O.Oracle.searched c.args.oracle.now c.args.log.now c.requires.fit).grouped;
       few = c.requires.few;
     } in
-    let s : AreFaultsSaid c.args.f.now leaf (variable_of c.in_ok-group.group.selector) c.group.new.log c.give_faults.new.log =
-    record { grew = c.give_faults.ensures.grew; names = c.give_faults.ensures.names; few = c.give_faults.ensures.few; one_leaf = c.give_faults.ensures.one_leaf } in
+    let s : AreFaultsSaid c.args.f.now leaf (variable_of c.in_ok-group.group.selector) c.group.new.log c.give.new.log =
+    record { grew = c.give.ensures.grew; names = c.give.ensures.names; few = c.give.ensures.few; one_leaf = c.give.ensures.one_leaf } in
     let found = c.solve.ensures.sat (c.in_ok-id.was ∙ ap Ok c.in-Sat.is) in
-    few_learned c.give_faults.new.log c.solve.new.log found.0 (few_without (variable_of c.in_ok-group.group.selector) c.give_faults.new.log.entries s.few)
+    few_learned c.give.new.log c.solve.new.log found.0 (few_without (variable_of c.in_ok-group.group.selector) c.give.new.log.entries s.few)
 
 pub solve-requires-clause-made : goal.solve-requires-clause-made
 solve-requires-clause-made g c =
@@ -235,10 +235,10 @@ solve-requires-clause-made g c =
       grouped = (g.met.O.Oracle.searched c.args.oracle.now c.args.log.now c.requires.fit).grouped;
       few = c.requires.few;
     } in
-    let s : AreFaultsSaid c.args.f.now leaf (variable_of c.in_ok-group.group.selector) c.group.new.log c.give_faults.new.log =
-    record { grew = c.give_faults.ensures.grew; names = c.give_faults.ensures.names; few = c.give_faults.ensures.few; one_leaf = c.give_faults.ensures.one_leaf } in
-    let both = All-cons (IsMade c.give_faults.new.log.entries) c.in_ok-group.group [] (faults_made c.args.f.now c.args.self.now leaf c.args.log.now c.group.new.log c.in_ok-group.group m c.give_faults.new.log s) (All-nil (IsMade c.give_faults.new.log.entries)) in
-    All-cons (IsMade c.give_faults.new.log.entries) c.args.self.now.gates.group (c.in_ok-group.group ∷ []) (faults_checker c.args.f.now c.args.self.now leaf c.args.log.now c.group.new.log c.in_ok-group.group m c.give_faults.new.log s).gates.made both
+    let s : AreFaultsSaid c.args.f.now leaf (variable_of c.in_ok-group.group.selector) c.group.new.log c.give.new.log =
+    record { grew = c.give.ensures.grew; names = c.give.ensures.names; few = c.give.ensures.few; one_leaf = c.give.ensures.one_leaf } in
+    let both = All-cons (IsMade c.give.new.log.entries) c.in_ok-group.group [] (faults_made c.args.f.now c.args.self.now leaf c.args.log.now c.group.new.log c.in_ok-group.group m c.give.new.log s) (All-nil (IsMade c.give.new.log.entries)) in
+    All-cons (IsMade c.give.new.log.entries) c.args.self.now.gates.group (c.in_ok-group.group ∷ []) (faults_checker c.args.f.now c.args.self.now leaf c.args.log.now c.group.new.log c.in_ok-group.group m c.give.new.log s).gates.made both
 
 pub returns-in-Unsat-clause-held : goal.returns-in-Unsat-clause-held
 returns-in-Unsat-clause-held g c id e =
@@ -252,16 +252,16 @@ returns-in-Unsat-clause-held g c id e =
       grouped = (g.met.O.Oracle.searched c.args.oracle.now c.args.log.now c.requires.fit).grouped;
       few = c.requires.few;
     } in
-    let s : AreFaultsSaid c.args.f.now leaf (variable_of c.in_ok-group.group.selector) c.group.new.log c.give_faults.new.log =
-    record { grew = c.give_faults.ensures.grew; names = c.give_faults.ensures.names; few = c.give_faults.ensures.few; one_leaf = c.give_faults.ensures.one_leaf } in
+    let s : AreFaultsSaid c.args.f.now leaf (variable_of c.in_ok-group.group.selector) c.group.new.log c.give.new.log =
+    record { grew = c.give.ensures.grew; names = c.give.ensures.names; few = c.give.ensures.few; one_leaf = c.give.ensures.one_leaf } in
     let r = c.solve.ensures.unsat c.in-Unsat.id (c.in_ok-id.was ∙ ap Ok c.in-Unsat.is) in
     let gates = c.args.self.now.gates.group.selector in
     let faults = c.in_ok-group.group.selector in
     let switches : gates ∷ faults ∷ [] ≡ positive (variable_of gates) ∷ positive (variable_of faults) ∷ [] =
     ap (λ l. l ∷ faults ∷ []) (switch_is gates c.requires.checker.gates.made.positive) ∙ ap (λ l. positive (variable_of gates) ∷ l ∷ []) (switch_is faults c.in_ok-group.ensures.made.positive) in
-    let mine = subst (λ ls. IsRefutedUnder c.give_faults.new.log c.solve.new.log ls c.in-Unsat.id) switches r in
-    let two = faults_two_groups c.args.f.now c.args.self.now leaf c.args.log.now c.group.new.log c.in_ok-group.group m c.give_faults.new.log s in
-    let held = held_by c.args.f.now leaf (variable_of gates) (variable_of faults) c.args.log.now.entries c.give_faults.new.log c.solve.new.log c.in-Unsat.id two
+    let mine = subst (λ ls. IsRefutedUnder c.give.new.log c.solve.new.log ls c.in-Unsat.id) switches r in
+    let two = faults_two_groups c.args.f.now c.args.self.now leaf c.args.log.now c.group.new.log c.in_ok-group.group m c.give.new.log s in
+    let held = held_by c.args.f.now leaf (variable_of gates) (variable_of faults) c.args.log.now.entries c.give.new.log c.solve.new.log c.in-Unsat.id two
     (g.met.O.Oracle.searched c.solve.new.self c.solve.new.log c.solve.ensures.fit) mine in
     let same : c.in-Unsat.id ≡ id = cc in
     subst (λ i. IsHeldBy c.args.f.now (leaf_of c.args.f.now c.args.self.now.inputs.items c.args.leaves.now) c.args.log.now.entries c.solve.new.log.entries i) same
@@ -279,14 +279,14 @@ returns-in-Sat-clause-failing g c e =
       grouped = (g.met.O.Oracle.searched c.args.oracle.now c.args.log.now c.requires.fit).grouped;
       few = c.requires.few;
     } in
-    let s : AreFaultsSaid c.args.f.now leaf (variable_of c.in_ok-group.group.selector) c.group.new.log c.give_faults.new.log =
-    record { grew = c.give_faults.ensures.grew; names = c.give_faults.ensures.names; few = c.give_faults.ensures.few; one_leaf = c.give_faults.ensures.one_leaf } in
+    let s : AreFaultsSaid c.args.f.now leaf (variable_of c.in_ok-group.group.selector) c.group.new.log c.give.new.log =
+    record { grew = c.give.ensures.grew; names = c.give.ensures.names; few = c.give.ensures.few; one_leaf = c.give.ensures.one_leaf } in
     let found = c.solve.ensures.sat (c.in_ok-id.was ∙ ap Ok c.in-Sat.is) in
     let values = g.O.Oracle.values c.solve.new.self in
     let gates = c.args.self.now.gates.group.selector in
     let faults = c.in_ok-group.group.selector in
     let on = switched_on values (clause_at c.solve.new.log.entries) gates faults c.requires.checker.gates.made.positive c.in_ok-group.ensures.made.positive found.1 in
-    let two = faults_two_groups c.args.f.now c.args.self.now leaf c.args.log.now c.group.new.log c.in_ok-group.group m c.give_faults.new.log s in
+    let two = faults_two_groups c.args.f.now c.args.self.now leaf c.args.log.now c.group.new.log c.in_ok-group.group m c.give.new.log s in
     subst (λ xs. AreFailing c.args.f.now (leaf_of c.args.f.now xs c.args.leaves.now) c.args.log.now.entries values) c.deref.ensures.value
-    (are_failing c.args.f.now c.args.self.now.gates leaf (variable_of faults) values c.args.log.now.entries c.give_faults.new.log c.solve.new.log found.0 found.1.clauses on.0 on.1
-    (faults_checker c.args.f.now c.args.self.now leaf c.args.log.now c.group.new.log c.in_ok-group.group m c.give_faults.new.log s).gates c.requires.ready two.names c.in_ok-give_faults.ensures.given)
+    (are_failing c.args.f.now c.args.self.now.gates leaf (variable_of faults) values c.args.log.now.entries c.give.new.log c.solve.new.log found.0 found.1.clauses on.0 on.1
+    (faults_checker c.args.f.now c.args.self.now leaf c.args.log.now c.group.new.log c.in_ok-group.group m c.give.new.log s).gates c.requires.ready two.names c.in_ok-give.ensures.given)

@@ -15,6 +15,18 @@ copied_variable-one-requires-clause-bound g c = existential_declared c.args.f.no
 pub copied_variable-other-requires-clause-bound : goal.copied_variable-other-requires-clause-bound
 copied_variable-other-requires-clause-bound g c = existential_declared c.args.f.now c.args.y c.requires.existential
 
+pub search-requires-clause-twins : goal.search-requires-clause-twins
+search-requires-clause-twins g c =
+    let es = c.args.log.now.entries in
+    let padoa = c.requires.padoa in
+    (c.copied_variable-one.ensures es 1 padoa.first.universals padoa.first.existentials, c.copied_variable-other.ensures es 2 padoa.second.universals padoa.second.existentials)
+
+pub definition-requires-clause-twins : goal.definition-requires-clause-twins
+definition-requires-clause-twins g c =
+    let es = c.search.new.log.entries in
+    let padoa = c.search.ensures.padoa in
+    (c.copied_variable-one.ensures es 1 padoa.first.universals padoa.first.existentials, c.copied_variable-other.ensures es 2 padoa.second.universals padoa.second.existentials)
+
 pub definition-requires-clause-shown : goal.definition-requires-clause-shown
 definition-requires-clause-shown g c = λ e found. c.search.ensures.unsat c.in-Unsat.id e found (c.in_ok-id.was ∙ ap Ok c.in-Unsat.is)
 

@@ -1,0 +1,31 @@
+-- What a group is to say.
+use Rattle.std.specs.Prelude.{◌≡◌, ℕ, List, Some}
+use Rattle.std.specs.List.{All, Contains}
+use Rattle.dq_lits.specs.Literal.{variable_of}
+use Rattle.dq_lits.specs.Formula.{Dqbf, declared}
+use Rattle.hint_log.specs.Entries.{Entry, name_of}
+use Rattle.hint_log.specs.declared.names.Name.TheVariants.{Bad}
+use Rattle.hint_log.specs.declared.origins.Leaf.{Leaf}
+use Rattle.hint_log.specs.Origins.{IsLeafOf}
+use Rattle.circuit_cnf.specs.Faults.{leaf_of}
+use Rattle.circuit_cnf.specs.declared.faults.Faults.{Faults}
+
+-- the variable of the group
+abbrev pub selector_in : Faults → ℕ
+selector_in faults = variable_of faults.group.now.selector
+
+-- the leaf of a variable
+abbrev pub leaf_in : Faults → ℕ → Leaf
+leaf_in faults = leaf_of faults.f.now faults.inputs.now faults.outputs.now
+
+-- each declared variable has this leaf
+abbrev pub AreLeaves : Dqbf → (ℕ → Leaf) → List Entry → Type 0
+AreLeaves f leaf entries = (v : ℕ) → Contains (declared f) v → IsLeafOf f entries v (leaf v)
+
+-- the prefix declares the variables of the matrix
+abbrev pub AreBound : Dqbf → Type 0
+AreBound f = All (All (λ l. Contains (declared f) (variable_of l))) f.matrix
+
+-- no variable says of a clause that it is false in the group
+abbrev pub HasNoBads : ℕ → List Entry → Type 0
+HasNoBads group entries = (v j : ℕ) → name_of entries v ≡ Some (Bad group j) → ⊥

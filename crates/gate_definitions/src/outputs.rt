@@ -1,0 +1,17 @@
+//! Existentials whose gates are looked for.
+
+ghost use Rattle.std.specs.Prelude.{◌≤◌, ◌<◌, ◌^◌, IsSome};
+ghost use Rattle.dq_lits.specs.Formula.{existential_of};
+
+use dq_formula::Formula;
+
+/// An existential of a formula, which is to be a gate's output, with the numbers of clauses on it.
+#[derive(Drop)]
+pub(crate) struct Output<'f, 'n> {
+    pub f: &'f Formula,
+    pub y: u64,
+    pub numbers: &'n [u32],
+    ghost existential: { IsSome (existential_of f.now y) },
+    ghost from_one: { 1 ≤ y },
+    ghost in_range: { y < 2 ^ 62 },
+}
