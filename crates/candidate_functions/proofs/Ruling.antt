@@ -1,5 +1,5 @@
 -- Nodes for cubes of rules, and for what the rules say of each existential.
-use Rattle.std.proofs.Common.{◌≡◌, ℕ, zero, suc, ◌+◌, ◌<◌, ◌≤◌, ◌==◌, false, cond, not, ◌&&◌, List, [], ◌∷◌, map, length, get_or, set, drop, slice_get, slice_index, None, Some, position, refl, sym, ◌∙◌, ap, subst, inl, inr, arith, eq-eqb}
+use Rattle.std.proofs.Common.{◌≡◌, ℕ, zero, suc, ◌+◌, ◌-◌, ◌<◌, ◌≤◌, ◌==◌, false, cond, not, ◌&&◌, List, [], ◌∷◌, map, length, get_or, set, drop, slice_get, slice_index, None, Some, position, refl, sym, ◌∙◌, ap, subst, inl, inr, arith, eq-eqb}
 use Rattle.std.specs.List.{All, Contains, list_all}
 use Rattle.std.proofs.lemmas.List.{length-set}
 use Rattle.std.proofs.Math.Seq.{drop-cons}
@@ -146,18 +146,26 @@ rule_over_universals f lawful rule p is found k d lt =
     let sees = All-contains (λ z. All (Contains f.universals) z.sees) f.existentials y.0 lawful.prefix.sees_universals (p, within, at) in
     All-contains (Contains f.universals) y.0.sees (variable_of (get_or rule.cube k d)) sees (is.over_seen y.0 y.2 k d lt)
 
-pub rule_node_there : (f : Dqbf) (g : AigGraph) (later : List Rule) (nodes : List Node) (w p : ℕ) → position (λ v. v == w) (existential_variables f) ≡ Some p → AreByRules f g later nodes
-    → (p < length nodes) × IsNode g (get_or nodes p (Constant false))
-rule_node_there f g later nodes w p found are =
+pub rule_node_there : (f : Dqbf) (g : AigGraph) (nodes : List Node) (w p : ℕ) → position (λ v. v == w) (existential_variables f) ≡ Some p
+    → length nodes ≡ length f.existentials → All (IsNode g) nodes → (p < length nodes) × IsNode g (get_or nodes p (Constant false))
+rule_node_there f g nodes w p found each are =
     let y = placed f.existentials w p (record { variable = 0; sees = [] }) found in
     let within = slice_get_within f.existentials p y.0 y.1 in
-    let each = are.one_each in
-    (omega arith, (are.each p y.0 y.1).is_node)
+    let lt : p < length nodes = omega arith in
+    (lt, are p (Constant false) lt)
 
-pub from_the_rule : (rules : List Rule) (at : ℕ) (rule : Rule) → at < length rules → rule ≡ get_or rules at rule → drop at rules ≡ rule ∷ drop (at + 1) rules
+from_the_rule : (rules : List Rule) (at : ℕ) (rule : Rule) → at < length rules → rule ≡ get_or rules at rule → drop at rules ≡ rule ∷ drop (at + 1) rules
 from_the_rule rules at rule lt is =
     let next : suc at ≡ at + 1 = omega arith in
     drop-cons rules at rule lt ∙ ap (λ r. r ∷ drop (suc at) rules) (sym is) ∙ ap (λ n. rule ∷ drop n rules) next
+
+-- the rule at a place before those behind it
+pub with_rule : (f : Dqbf) (g : AigGraph) (rules : List Rule) (at : ℕ) (rule : Rule) (nodes : List Node) → 0 < at → at ≤ length rules → rule ≡ get_or rules (at - 1) rule
+    → AreByRules f g (rule ∷ drop at rules) nodes → AreByRules f g (drop (at - 1) rules) nodes
+with_rule f g rules at rule nodes some within is are =
+    let lt : at - 1 < length rules = omega arith in
+    let back : at - 1 + 1 ≡ at = omega arith in
+    subst (λ rs. AreByRules f g rs nodes) (sym (from_the_rule rules (at - 1) rule lt is ∙ ap (λ n. rule ∷ drop n rules) back)) are
 
 pub same_beyond : (nodes : List Node) (p : ℕ) (d : Node) → p < length nodes → get_or nodes p d ≡ get_or nodes p (Constant false)
 same_beyond nodes p d lt = get_or_default nodes p d (Constant false) lt

@@ -8,7 +8,7 @@ ghost use Rattle.expansion.specs.Table.{ArePoints, point_bits};
 ghost use Rattle.candidate_functions.specs.Candidates.{AreDefinitions, AgreeAtPairs, FollowRules, AreDefined};
 
 use crate::definitions::put_definitions;
-use crate::outputs::first_outputs;
+use crate::outputs::{Known, first_outputs};
 use crate::rules::by_rules;
 use aig_graph::{Graph, Node};
 use dq_formula::{Formula, Rule};
@@ -74,7 +74,13 @@ pub fn build(
 {
     f.every_formula_is_lawful();
     let others = by_rules(alloc, f, rules, graph)?;
-    let mut nodes = first_outputs(alloc, f, table, points, definitions, &others, graph)?;
+    let known = Known {
+        f,
+        table,
+        points,
+        definitions,
+    };
+    let mut nodes = first_outputs(alloc, &known, &others, graph)?;
     put_definitions(alloc, f, definitions, &mut nodes, graph)?;
     Ok(Outputs { nodes })
 }

@@ -24,6 +24,7 @@ pub(crate) struct Class {
 // The classes so far, and what is known of where each dependency set has its class.
 #[derive(Drop)]
 pub(crate) struct Classes {
+    pub alloc: Global,
     pub classes: Vec<Class>,
     pub known: KnownSets,
 }
@@ -61,6 +62,7 @@ pub(crate) fn no_classes(alloc: Global) -> Classes
     ensures { result.classes.items ≡ [] }
 {
     Classes {
+        alloc,
         classes: Vec::new(alloc),
         known: KnownSets {
             prefixes: BTreeMap::new(alloc),
@@ -73,7 +75,6 @@ impl Classes {
     // The place of the class of an existential's dependency set. It is made where the set wasn't met yet.
     pub(crate) fn class_of(
         &mut self,
-        alloc: Global,
         f: &Formula,
         table: &Table,
         y: u64,
@@ -88,11 +89,11 @@ impl Classes {
         ensures place { IfOk result (λ place. HasClass f.now table.now.rows graph.new self.new.classes.items place y) }
     {
         let next = self.classes.len();
-        let first = self.known.first_with(alloc, f.deps_of(y), next)?;
+        let first = self.known.first_with(self.alloc, f.deps_of(y), next)?;
         if is_class_of(f, &self.classes, first, y) {
             return Ok(first);
         }
-        let pairs = seen_pairs(alloc, f, table, y, graph)?;
+        let pairs = seen_pairs(self.alloc, f, table, y, graph)?;
         self.classes.push(Class { y, pairs })?;
         Ok(next)
     }

@@ -30,40 +30,54 @@ pub(crate) fn all_pairs(
     ensures extends { Extends graph.old graph.new }
     ensures pairs { IfOk result (λ pairs. ArePairs table.now.rows graph.new places.now (length table.now.rows) pairs.items) }
 {
-    let mut known = BTreeMap::new(alloc);
-    let mut pairs = Vec::new(alloc);
+    let mut pairs = PairList {
+        alloc,
+        pairs: Vec::new(alloc),
+        known: BTreeMap::new(alloc),
+    };
     for k in 0..table.rows() {
-        add_pair(alloc, table, k + 1, places, &mut known, &mut pairs, graph)?;
+        pairs.add(table, k + 1, places, graph)?;
     }
-    Ok(pairs)
+    Ok(pairs.pairs)
 }
 
-// Adds the pair of a round's row, unless an earlier row has the same bits at these places.
-fn add_pair(
+// The pairs so far, and what is known of where the bits of a row have their pair.
+#[derive(Drop)]
+struct PairList {
     alloc: Global,
-    table: &Table,
-    round: u64,
-    places: &[usize],
-    known: &mut BTreeMap<Vec<u64>, usize>,
-    pairs: &mut Vec<Pair>,
-    graph: &mut Graph,
-) -> Result<(), Memory>
-    requires from_one { 1 ≤ round }
-    requires last { round ≤ length table.now.rows }
-    requires whole { All (HasPlaces places.now) table.now.rows }
-    requires places { All (λ p. p < graph.old.inputs) places.now }
-    requires pairs { ArePairs table.now.rows graph.old places.now (round - 1) pairs.old.items }
-    ensures extends { Extends graph.old graph.new }
-    ensures pairs { OnOk result (ArePairs table.now.rows graph.new places.now round pairs.new.items) }
-{
-    let row = table.row(round);
-    let first = first_with(known, key(alloc, places, row)?, pairs.len())?;
-    if is_pair_of(table, places, pairs, first, row) {
-        return Ok(());
+    pairs: Vec<Pair>,
+    known: BTreeMap<Vec<u64>, usize>,
+}
+
+impl PairList {
+    // Adds the pair of a round's row, unless an earlier row has the same bits at these places.
+    fn add(
+        &mut self,
+        table: &Table,
+        round: u64,
+        places: &[usize],
+        graph: &mut Graph,
+    ) -> Result<(), Memory>
+        requires from_one { 1 ≤ round }
+        requires last { round ≤ length table.now.rows }
+        requires whole { All (HasPlaces places.now) table.now.rows }
+        requires places { All (λ p. p < graph.old.inputs) places.now }
+        requires pairs { ArePairs table.now.rows graph.old places.now (round - 1)
+            self.old.pairs.items }
+        ensures extends { Extends graph.old graph.new }
+        ensures pairs { OnOk result (ArePairs table.now.rows graph.new places.now round
+            self.new.pairs.items) }
+    {
+        let row = table.row(round);
+        let next = self.pairs.len();
+        let first = first_with(&mut self.known, key(self.alloc, places, row)?, next)?;
+        if is_pair_of(table, places, &self.pairs, first, row) {
+            return Ok(());
+        }
+        let cube = row_cube(self.alloc, places, row, graph)?;
+        self.pairs.push(Pair { round, cube })?;
+        Ok(())
     }
-    let cube = row_cube(alloc, places, row, graph)?;
-    pairs.push(Pair { round, cube })?;
-    Ok(())
 }
 
 // What is known of a key; else the key is known as the next one. It promises nothing of what it finds, since each answer is compared.

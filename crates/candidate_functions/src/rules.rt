@@ -1,8 +1,10 @@
 //! What the rules say of each existential, as nodes.
 
-ghost use Rattle.std.specs.Prelude.{◌≡◌, ◌≤◌, ◌<◌, ◌+◌, false, length, map, drop, replicate, All, Contains, IfOk, OnOk};
+ghost use Rattle.std.specs.Prelude.{◌≡◌, ◌≤◌, ◌∷◌, false, length, map, replicate, List, All, Contains, IfOk, OnOk};
 ghost use Rattle.dq_lits.specs.Literal.{variable_of};
 ghost use Rattle.dq_formula.specs.Rules.{IsRule};
+ghost use Rattle.dq_formula.specs.declared.rules.Rule.{Rule as RuleState};
+ghost use Rattle.aig_graph.specs.Graph.{IsNode};
 ghost use Rattle.aig_graph.specs.Made.{Extends};
 ghost use Rattle.candidate_functions.specs.Pairs.{input_literal, IsCubeNode, AreByRules};
 
@@ -28,7 +30,7 @@ pub(crate) fn by_rules(
     let mut at = rules.len();
     while at > 0 {
         at -= 1;
-        put_rule(alloc, f, rules, at, &mut nodes, graph)?;
+        put_rule(alloc, f, &rules[at], &mut nodes, graph)?;
     }
     Ok(nodes)
 }
@@ -43,20 +45,19 @@ fn all_false(alloc: Global, n: usize) -> Result<Vec<Node>, Memory>
 fn put_rule(
     alloc: Global,
     f: &Formula,
-    rules: &[Rule],
-    at: usize,
+    rule: &Rule,
     nodes: &mut Vec<Node>,
     graph: &mut Graph,
 ) -> Result<(), Memory>
     requires inputs { length f.now.universals ≤ graph.old.inputs }
-    requires rules { All (IsRule f.now) rules.now }
-    requires at { at < length rules.now }
-    requires nodes { AreByRules f.now graph.old (drop (at + 1) rules.now) nodes.old.items }
+    requires rule { IsRule f.now rule.now }
+    requires one_each { length nodes.old.items ≡ length f.now.existentials }
+    requires nodes { All (IsNode graph.old) nodes.old.items }
     ensures extends { Extends graph.old graph.new }
-    ensures nodes { OnOk result (AreByRules f.now graph.new (drop at rules.now) nodes.new.items) }
+    ensures nodes { (later : List RuleState) → AreByRules f.now graph.old later nodes.old.items
+        → OnOk result (AreByRules f.now graph.new (rule.now ∷ later) nodes.new.items) }
 {
     f.every_formula_is_lawful();
-    let rule = &rules[at];
     if let Some(place) = f.existential_place(rule.y) {
         let cube = cube_node(alloc, f, rule.cube.lits(), graph)?;
         nodes[place] = graph.mux(cube, Node::constant(rule.bit), nodes[place])?;

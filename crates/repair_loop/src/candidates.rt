@@ -6,7 +6,8 @@ ghost use Rattle.hint_log.specs.Deciding.{IsUndecided};
 ghost use Rattle.hint_log.specs.Entries.{steps_of};
 ghost use Rattle.repair_loop.specs.Searching.{IsKept, AreKnown, IsSearch, AreBuilt, LogGrew, IsShownFalse};
 
-use crate::definitions::Definitions;
+use crate::decisions::Engines;
+use crate::forcing::TableModel;
 use aig_graph::Graph;
 use candidate_functions::{Outputs, build};
 use circuit_cnf::Checker;
@@ -26,51 +27,61 @@ pub(crate) enum Found {
     Refuted(u64),
 }
 
-// Candidates from a model of the instances, what it forces at the newest row, and the definitions that there are.
-pub(crate) fn find_candidates<O: Oracle>(
-    alloc: Global,
-    oracle: &mut O,
-    graph: &mut Graph,
-    table: &mut Table,
-    checker: &Checker,
-    definitions: &mut Definitions,
-    f: &Formula,
-    log: &mut Log,
-) -> Result<Found, Stop>
-    requires fit { O.Fits oracle.old log.old }
-    requires search { IsSearch f.now graph.old table.old checker.now definitions.old.padoa log.old.entries }
-    requires known { AreKnown f.now graph.old definitions.old.nodes.items definitions.old.rules.items }
-    ensures fit { O.Fits oracle.new log.new }
-    ensures extends { Extends graph.old graph.new }
-    ensures padoa { definitions.new.padoa ≡ definitions.old.padoa }
-    ensures kept { IsKept f.now log.new.entries }
-    ensures grew { LogGrew log.old log.new }
-    ensures refuted { (id : ℕ) → result ≡ Ok (Found.Refuted id) → IsShownFalse f.now log.new id }
-    ensures search { (outputs : _) → result ≡ Ok (Found.Candidates outputs)
-        → IsSearch f.now graph.new table.new checker.now definitions.new.padoa log.new.entries }
-    ensures known { (outputs : _) → result ≡ Ok (Found.Candidates outputs)
-        → AreKnown f.now graph.new definitions.new.nodes.items definitions.new.rules.items }
-    ensures candidates { (outputs : _) → result ≡ Ok (Found.Candidates outputs) → AreBuilt f.now graph.new table.new.rows outputs }
-    ensures undecided { OnErr result (IsUndecided f.now log.new.entries) }
-    ensures limit { IsErrOf result Stop.Limit → steps_of log.new.entries ≡ log.new.limit }
-{
-    engines_leave_the_rest();
-    checkers_stay();
-    engines_leave_copies();
-    match table.solve(oracle, log)? {
-        Exp::Refuted(id) => Ok(Found::Refuted(id)),
-        Exp::Model(points) => {
-            definitions.force_all(oracle, f, table, &points, log)?;
-            let outputs = build(
-                alloc,
-                f,
-                table,
-                &points,
-                &definitions.rules,
-                &definitions.nodes,
-                graph,
-            )?;
-            Ok(Found::Candidates(outputs))
+impl Engines {
+    // Candidates from a model of the instances, what it forces at the newest row, and the
+    // definitions that there are.
+    pub(crate) fn find_candidates<O: Oracle>(
+        &mut self,
+        oracle: &mut O,
+        graph: &mut Graph,
+        f: &Formula,
+        log: &mut Log,
+    ) -> Result<Found, Stop>
+        requires fit { O.Fits oracle.old log.old }
+        requires search { IsSearch f.now graph.old self.old.table self.old.checker
+            self.old.definitions.padoa log.old.entries }
+        requires known { AreKnown f.now graph.old self.old.definitions.nodes.items
+            self.old.definitions.rules.items }
+        ensures fit { O.Fits oracle.new log.new }
+        ensures extends { Extends graph.old graph.new }
+        ensures padoa { self.new.definitions.padoa ≡ self.old.definitions.padoa }
+        ensures kept { IsKept f.now log.new.entries }
+        ensures grew { LogGrew log.old log.new }
+        ensures refuted { (id : ℕ) → result ≡ Ok (Found.Refuted id)
+            → IsShownFalse f.now log.new id }
+        ensures search { (outputs : _) → result ≡ Ok (Found.Candidates outputs)
+            → IsSearch f.now graph.new self.new.table self.new.checker self.new.definitions.padoa
+            log.new.entries }
+        ensures known { (outputs : _) → result ≡ Ok (Found.Candidates outputs)
+            → AreKnown f.now graph.new self.new.definitions.nodes.items
+            self.new.definitions.rules.items }
+        ensures candidates { (outputs : _) → result ≡ Ok (Found.Candidates outputs)
+            → AreBuilt f.now graph.new self.new.table.rows outputs }
+        ensures undecided { OnErr result (IsUndecided f.now log.new.entries) }
+        ensures limit { IsErrOf result Stop.Limit → steps_of log.new.entries ≡ log.new.limit }
+    {
+        engines_leave_the_rest();
+        checkers_stay();
+        engines_leave_copies();
+        match self.table.solve(oracle, log)? {
+            Exp::Refuted(id) => Ok(Found::Refuted(id)),
+            Exp::Model(points) => {
+                let model = TableModel {
+                    table: &self.table,
+                    points: &points,
+                };
+                self.definitions.force_all(oracle, f, &model, log)?;
+                let outputs = build(
+                    self.alloc,
+                    f,
+                    &self.table,
+                    &points,
+                    &self.definitions.rules,
+                    &self.definitions.nodes,
+                    graph,
+                )?;
+                Ok(Found::Candidates(outputs))
+            }
         }
     }
 }

@@ -5,9 +5,9 @@ ghost use Rattle.hint_log.specs.Entries.{steps_of};
 ghost use Rattle.hint_log.specs.ProductiveLog.{IsProductiveLog};
 ghost use Rattle.repair_loop.specs.Searching.{IsKept, HasInputs, AreKnown, IsSearch, IsShownTrue, IsShownFalse};
 
-use crate::candidates::{Found, find_candidates};
+use crate::candidates::Found;
 use crate::definitions::{Definitions, find_definitions};
-use crate::judging::{Judged, judge};
+use crate::judging::{Candidates, Judged};
 use aig_graph::Graph;
 use candidate_functions::Outputs;
 use circuit_cnf::Checker;
@@ -56,73 +56,69 @@ pub fn decide<O: Oracle>(
     engines_leave_the_rest();
     engines_leave_tables();
     engines_leave_copies();
-    let mut definitions = find_definitions(alloc, oracle, graph, f, log)?;
-    let mut table = Table::new(alloc, oracle, f, log)?;
-    let mut checker = Checker::new(alloc, oracle, f, log)?;
-    all_rounds(
+    let definitions = find_definitions(alloc, oracle, graph, f, log)?;
+    let table = Table::new(alloc, oracle, f, log)?;
+    let checker = Checker::new(alloc, oracle, f, log)?;
+    let mut engines = Engines {
         alloc,
-        oracle,
-        graph,
-        &mut table,
-        &mut checker,
-        &mut definitions,
-        f,
-        log,
-    )
+        table,
+        checker,
+        definitions,
+    };
+    engines.all_rounds(oracle, graph, f, log)
 }
 
-// Turns until there is a verdict or a stop.
-fn all_rounds<O: Oracle>(
-    alloc: Global,
-    oracle: &mut O,
-    graph: &mut Graph,
-    table: &mut Table,
-    checker: &mut Checker,
-    definitions: &mut Definitions,
-    f: &Formula,
-    log: &mut Log,
-) -> Result<Verdict, Stop>
-    requires fit { O.Fits oracle.old log.old }
-    requires search { IsSearch f.now graph.old table.old checker.old definitions.old.padoa log.old.entries }
-    requires known { AreKnown f.now graph.old definitions.old.nodes.items definitions.old.rules.items }
-    ensures fit { O.Fits oracle.new log.new }
-    ensures inputs { graph.new.inputs ≡ graph.old.inputs }
-    ensures kept { IsKept f.now log.new.entries }
-    ensures limit_same { log.new.limit ≡ log.old.limit }
-    ensures shown_true { (nodes : _) (id : ℕ) → result ≡ Ok (Verdict.True nodes id) → IsShownTrue f.now graph.new nodes log.new id }
-    ensures shown_false { (id : ℕ) → result ≡ Ok (Verdict.False id) → IsShownFalse f.now log.new id }
-    ensures undecided { OnErr result (IsUndecided f.now log.new.entries) }
-    ensures limit { IsErrOf result Stop.Limit → steps_of log.new.entries ≡ log.new.limit }
-{
-    engines_leave_the_rest();
-    checkers_stay();
-    engines_leave_copies();
-    loop {
-        let outputs = match find_candidates(
-            alloc,
-            oracle,
-            graph,
-            table,
-            checker,
-            definitions,
-            f,
-            log,
-        )? {
-            Found::Candidates(outputs) => outputs,
-            Found::Refuted(id) => return Ok(Verdict::False(id)),
-        };
-        match judge(
-            oracle,
-            graph,
-            table,
-            checker,
-            &definitions.padoa,
-            f,
-            &outputs,
-            log,
-        )? {
-            Judged::Hold(id) => return Ok(Verdict::True(outputs, id)),
-            Judged::Fail(row) => table.add_row(oracle, f, &row, log)?,
+// The engines that the search goes round: the table that has the rows so far, what checks the
+// candidates, and what is known of the existentials.
+#[derive(Drop)]
+pub(crate) struct Engines {
+    pub(crate) alloc: Global,
+    pub(crate) table: Table,
+    pub(crate) checker: Checker,
+    pub(crate) definitions: Definitions,
+}
+
+impl Engines {
+    // Turns until there is a verdict or a stop.
+    fn all_rounds<O: Oracle>(
+        &mut self,
+        oracle: &mut O,
+        graph: &mut Graph,
+        f: &Formula,
+        log: &mut Log,
+    ) -> Result<Verdict, Stop>
+        requires fit { O.Fits oracle.old log.old }
+        requires search { IsSearch f.now graph.old self.old.table self.old.checker
+            self.old.definitions.padoa log.old.entries }
+        requires known { AreKnown f.now graph.old self.old.definitions.nodes.items
+            self.old.definitions.rules.items }
+        ensures fit { O.Fits oracle.new log.new }
+        ensures inputs { graph.new.inputs ≡ graph.old.inputs }
+        ensures kept { IsKept f.now log.new.entries }
+        ensures limit_same { log.new.limit ≡ log.old.limit }
+        ensures shown_true { (nodes : _) (id : ℕ) → result ≡ Ok (Verdict.True nodes id)
+            → IsShownTrue f.now graph.new nodes log.new id }
+        ensures shown_false { (id : ℕ) → result ≡ Ok (Verdict.False id)
+            → IsShownFalse f.now log.new id }
+        ensures undecided { OnErr result (IsUndecided f.now log.new.entries) }
+        ensures limit { IsErrOf result Stop.Limit → steps_of log.new.entries ≡ log.new.limit }
+    {
+        engines_leave_the_rest();
+        checkers_stay();
+        engines_leave_copies();
+        loop {
+            let outputs = match self.find_candidates(oracle, graph, f, log)? {
+                Found::Candidates(outputs) => outputs,
+                Found::Refuted(id) => return Ok(Verdict::False(id)),
+            };
+            let candidates = Candidates {
+                graph,
+                outputs: &outputs,
+            };
+            match self.judge(oracle, f, &candidates, log)? {
+                Judged::Hold(id) => return Ok(Verdict::True(outputs, id)),
+                Judged::Fail(row) => self.table.add_row(oracle, f, &row, log)?,
+            }
         }
     }
 }

@@ -1,7 +1,7 @@
 //! The definitions that the clauses force, which are asked for before the first candidates.
 
-ghost use Rattle.std.specs.Prelude.{◌≡◌, ◌<◌, ℕ, true, length, replicate, None, Some, All, OnOk, IfOk, IsErrOf, IsSome, slice_set};
-ghost use Rattle.dq_lits.specs.Formula.{Existential, IsWellFormed, existential_of};
+ghost use Rattle.std.specs.Prelude.{◌≡◌, ◌<◌, ℕ, true, length, replicate, None, Some, All, OnOk, IfOk, IsErrOf, slice_get, slice_set};
+ghost use Rattle.dq_lits.specs.Formula.{Existential, IsWellFormed};
 ghost use Rattle.hint_log.specs.Entries.{steps_of};
 ghost use Rattle.aig_graph.specs.Made.{Extends};
 ghost use Rattle.hint_log.specs.Growth.{Grew};
@@ -32,6 +32,20 @@ pub(crate) struct Definitions {
     pub(crate) pairs: Vec<Pair>,
     // Bits that those without a definition are forced to have.
     pub(crate) rules: Vec<Rule>,
+}
+
+// An existential of a formula, by its place in order of declaration.
+#[derive(Drop)]
+pub(crate) struct ExistentialAt<'f> {
+    pub f: &'f Formula,
+    pub place: usize,
+}
+
+// A formula's existentials in the order in which they are asked for, by their places.
+#[derive(Drop)]
+struct Order<'f, 'p> {
+    f: &'f Formula,
+    places: &'p [usize],
 }
 
 impl Definitions {
@@ -68,65 +82,67 @@ impl Definitions {
         Ok(())
     }
 
-    // Asks for definitions of the existentials at these places.
+    // Asks for definitions of the existentials in this order.
     fn find_all<O: Oracle>(
         &mut self,
         oracle: &mut O,
         graph: &mut Graph,
-        places: &[usize],
-        f: &Formula,
+        order: &Order,
         log: &mut Log,
     ) -> Result<(), Stop>
         requires fit { O.Fits oracle.old log.old }
-        requires formula { IsWellFormed f.now }
-        requires fresh { IsFresh f.now log.old.entries }
-        requires padoa { IsPadoa f.now self.old.padoa log.old.entries }
-        requires inputs { HasInputs f.now graph.old }
-        requires known { AreKnown f.now graph.old self.old.nodes.items self.old.rules.items }
-        requires places { All (λ p. p < length f.now.existentials) places.now }
+        requires formula { IsWellFormed order.now.f.now }
+        requires fresh { IsFresh order.now.f.now log.old.entries }
+        requires padoa { IsPadoa order.now.f.now self.old.padoa log.old.entries }
+        requires inputs { HasInputs order.now.f.now graph.old }
+        requires known { AreKnown order.now.f.now graph.old self.old.nodes.items
+            self.old.rules.items }
+        requires places { All (λ p. p < length order.now.f.now.existentials) order.now.places.now }
         ensures fit { O.Fits oracle.new log.new }
-        ensures fresh { IsFresh f.now log.new.entries }
+        ensures fresh { IsFresh order.now.f.now log.new.entries }
         ensures limit_same { log.new.limit ≡ log.old.limit }
         ensures extends { Extends graph.old graph.new }
-        ensures padoa { OnOk result (IsPadoa f.now self.new.padoa log.new.entries) }
-        ensures known { OnOk result (AreKnown f.now graph.new self.new.nodes.items self.new.rules.items) }
+        ensures padoa { OnOk result (IsPadoa order.now.f.now self.new.padoa log.new.entries) }
+        ensures known { OnOk result (AreKnown order.now.f.now graph.new self.new.nodes.items
+            self.new.rules.items) }
         ensures limit { IsErrOf result Stop.Limit → steps_of log.new.entries ≡ log.new.limit }
     {
-        for place in places {
-            self.find(oracle, graph, *place, f, log)?;
+        let f = order.f;
+        for place in order.places {
+            self.find(oracle, graph, &ExistentialAt { f, place: *place }, log)?;
         }
         Ok(())
     }
 
-    // Asks for a definition of the existential at a place.
+    // Asks for a definition of an existential.
     fn find<O: Oracle>(
         &mut self,
         oracle: &mut O,
         graph: &mut Graph,
-        place: usize,
-        f: &Formula,
+        existential: &ExistentialAt,
         log: &mut Log,
     ) -> Result<(), Stop>
         requires fit { O.Fits oracle.old log.old }
-        requires formula { IsWellFormed f.now }
-        requires fresh { IsFresh f.now log.old.entries }
-        requires padoa { IsPadoa f.now self.old.padoa log.old.entries }
-        requires inputs { HasInputs f.now graph.old }
-        requires known { AreKnown f.now graph.old self.old.nodes.items self.old.rules.items }
-        requires place { place < length f.now.existentials }
+        requires formula { IsWellFormed existential.now.f.now }
+        requires fresh { IsFresh existential.now.f.now log.old.entries }
+        requires padoa { IsPadoa existential.now.f.now self.old.padoa log.old.entries }
+        requires inputs { HasInputs existential.now.f.now graph.old }
+        requires known { AreKnown existential.now.f.now graph.old self.old.nodes.items
+            self.old.rules.items }
+        requires place { existential.now.place < length existential.now.f.now.existentials }
         ensures fit { O.Fits oracle.new log.new }
-        ensures fresh { IsFresh f.now log.new.entries }
+        ensures fresh { IsFresh existential.now.f.now log.new.entries }
         ensures limit_same { log.new.limit ≡ log.old.limit }
         ensures extends { Extends graph.old graph.new }
-        ensures padoa { OnOk result (IsPadoa f.now self.new.padoa log.new.entries) }
-        ensures known { OnOk result (AreKnown f.now graph.new self.new.nodes.items self.new.rules.items) }
+        ensures padoa { OnOk result (IsPadoa existential.now.f.now self.new.padoa log.new.entries) }
+        ensures known { OnOk result (AreKnown existential.now.f.now graph.new self.new.nodes.items
+            self.new.rules.items) }
         ensures limit { IsErrOf result Stop.Limit → steps_of log.new.entries ≡ log.new.limit }
     {
         engines_leave_the_rest();
-        f.every_formula_is_lawful();
-        let y = f.existentials()[place];
-        let found = self.ask(oracle, graph, f, y, log)?;
-        self.note(place, found)?;
+        existential.f.every_formula_is_lawful();
+        let found = self.ask(oracle, graph, existential, log)?;
+        self.note(existential.place, found)?;
         Ok(())
     }
 
@@ -135,23 +151,29 @@ impl Definitions {
         &mut self,
         oracle: &mut O,
         graph: &mut Graph,
-        f: &Formula,
-        y: u64,
+        existential: &ExistentialAt,
         log: &mut Log,
     ) -> Result<Found, Stop>
         requires fit { O.Fits oracle.old log.old }
-        requires formula { IsWellFormed f.now }
-        requires padoa { IsPadoa f.now self.old.padoa log.old.entries }
-        requires existential { IsSome (existential_of f.now y) }
-        requires inputs { HasInputs f.now graph.old }
+        requires formula { IsWellFormed existential.now.f.now }
+        requires padoa { IsPadoa existential.now.f.now self.old.padoa log.old.entries }
+        requires place { existential.now.place < length existential.now.f.now.existentials }
+        requires inputs { HasInputs existential.now.f.now graph.old }
         ensures fit { O.Fits oracle.new log.new }
         ensures same { self.new ≡ self.old }
-        ensures padoa { IsPadoa f.now self.new.padoa log.new.entries }
-        ensures grew { (group : ℕ) → Grew (IsAddedBy f.now copies group true log.old.entries) log.old log.new }
+        ensures padoa { IsPadoa existential.now.f.now self.new.padoa log.new.entries }
+        ensures grew { (group : ℕ)
+            → Grew (IsAddedBy existential.now.f.now copies group true log.old.entries)
+            log.old log.new }
         ensures extends { Extends graph.old graph.new }
-        ensures found { (e : Existential) → existential_of f.now y ≡ Some e → IfOk result (IsFound f.now graph.new e) }
+        ensures found { (e : Existential)
+            → slice_get existential.now.f.now.existentials existential.now.place ≡ Some e
+            → IfOk result (IsFound existential.now.f.now graph.new e) }
         ensures limit { IsErrOf result Stop.Limit → steps_of log.new.entries ≡ log.new.limit }
     {
+        let f = existential.f;
+        f.every_formula_is_lawful();
+        let y = f.existentials()[existential.place];
         match self.gates.read(f, y, graph)? {
             Some(node) => Ok(Found::Defined(node)),
             None => self.padoa.define(oracle, graph, f, y, log),
@@ -191,6 +213,6 @@ pub(crate) fn find_definitions<O: Oracle>(
     let gates = Gates::new(alloc, f)?;
     let mut definitions = Definitions::none(alloc, padoa, gates, f)?;
     let order = existentials_in_order(alloc, f)?;
-    definitions.find_all(oracle, graph, &order, f, log)?;
+    definitions.find_all(oracle, graph, &Order { f, places: &order }, log)?;
     Ok(definitions)
 }

@@ -1,7 +1,7 @@
 //! The rules that the clauses force, which are asked for at each new row.
 
-ghost use Rattle.std.specs.Prelude.{◌≡◌, ◌<◌, ◌≤◌, length, All, IsErrOf, IsSome};
-ghost use Rattle.dq_lits.specs.Formula.{Dqbf, IsWellFormed, existential_of};
+ghost use Rattle.std.specs.Prelude.{◌≡◌, ◌<◌, ◌≤◌, length, All, IsErrOf};
+ghost use Rattle.dq_lits.specs.Formula.{Dqbf, IsWellFormed};
 ghost use Rattle.dq_formula.specs.Prefix.{existential_variables};
 ghost use Rattle.dq_formula.specs.Rules.{IsRule};
 ghost use Rattle.dq_formula.specs.declared.rules.Rule.{Rule as RuleState};
@@ -9,7 +9,7 @@ ghost use Rattle.hint_log.specs.Entries.{steps_of};
 ghost use Rattle.padoa_definitions.specs.Copies.{IsPadoa};
 ghost use Rattle.repair_loop.specs.Searching.{GoesOn, LogGrew};
 
-use crate::definitions::Definitions;
+use crate::definitions::{Definitions, ExistentialAt};
 use circuit_cnf::laws::checkers_stay;
 use dq_formula::Formula;
 use dq_lits::Memory;
@@ -20,14 +20,20 @@ use log_laws::laws::engines_leave_the_rest;
 use oracle::Oracle;
 use padoa_definitions::Forced;
 
+// A model of the instances of a table's rows.
+#[derive(Drop)]
+pub(crate) struct TableModel<'t, 'p> {
+    pub table: &'t Table,
+    pub points: &'p Points,
+}
+
 impl Definitions {
     // Asks what the newest row forces, of each existential without a definition at its point's bit.
     pub(crate) fn force_all<O: Oracle>(
         &mut self,
         oracle: &mut O,
         f: &Formula,
-        table: &Table,
-        points: &Points,
+        model: &TableModel,
         log: &mut Log,
     ) -> Result<(), Stop>
         requires fit { O.Fits oracle.old log.old }
@@ -35,99 +41,105 @@ impl Definitions {
         requires padoa { IsPadoa f.now self.old.padoa log.old.entries }
         requires as_many { length self.old.nodes.items ≡ length f.now.existentials }
         requires rules { All (IsRule f.now) self.old.rules.items }
-        requires whole { All (λ row. length row ≡ length f.now.universals) table.now.rows }
-        requires variables { points.now.variables ≡ existential_variables f.now }
-        requires point_rows { length points.now.rows ≡ length table.now.rows }
+        requires whole { All (λ row. length row ≡ length f.now.universals)
+            model.now.table.now.rows }
+        requires variables { model.now.points.now.variables ≡ existential_variables f.now }
+        requires point_rows { length model.now.points.now.rows ≡ length model.now.table.now.rows }
         ensures fit { O.Fits oracle.new log.new }
         ensures same { self.new.padoa ≡ self.old.padoa }
         ensures nodes { self.new.nodes.items ≡ self.old.nodes.items }
         ensures rules { All (IsRule f.now) self.new.rules.items }
-        ensures goes_on { GoesOn f.now table.now self.old.padoa log.old.entries log.new.entries }
+        ensures goes_on { GoesOn f.now model.now.table.now self.old.padoa log.old.entries
+            log.new.entries }
         ensures grew { LogGrew log.old log.new }
         ensures limit { IsErrOf result Stop.Limit → steps_of log.new.entries ≡ log.new.limit }
     {
-        let newest = table.rows();
-        if newest == 0 {
+        if model.table.rows() == 0 {
             return Ok(());
         }
         for place in 0..f.existentials().len() {
-            self.force(oracle, f, place, table, points, newest, log)?;
+            self.force(oracle, &ExistentialAt { f, place }, model, log)?;
         }
         Ok(())
     }
 
-    // Asks the same of the existential at a place, at the row of this number.
+    // Asks the same of an existential.
     fn force<O: Oracle>(
         &mut self,
         oracle: &mut O,
-        f: &Formula,
-        place: usize,
-        table: &Table,
-        points: &Points,
-        newest: u64,
+        existential: &ExistentialAt,
+        model: &TableModel,
         log: &mut Log,
     ) -> Result<(), Stop>
+        requires as_many { length self.old.nodes.items
+            ≡ length existential.now.f.now.existentials }
         requires fit { O.Fits oracle.old log.old }
-        requires formula { IsWellFormed f.now }
-        requires padoa { IsPadoa f.now self.old.padoa log.old.entries }
-        requires as_many { length self.old.nodes.items ≡ length f.now.existentials }
-        requires place { place < length f.now.existentials }
-        requires rules { All (IsRule f.now) self.old.rules.items }
-        requires whole { All (λ row. length row ≡ length f.now.universals) table.now.rows }
-        requires variables { points.now.variables ≡ existential_variables f.now }
-        requires point_rows { length points.now.rows ≡ length table.now.rows }
-        requires from_one { 1 ≤ newest }
-        requires last { newest ≤ length table.now.rows }
-        ensures fit { O.Fits oracle.new log.new }
-        ensures padoa { IsPadoa f.now self.new.padoa log.new.entries }
-        ensures same { self.new.padoa ≡ self.old.padoa }
+        requires formula { IsWellFormed existential.now.f.now }
+        requires padoa { IsPadoa existential.now.f.now self.old.padoa log.old.entries }
+        requires place { existential.now.place < length existential.now.f.now.existentials }
+        requires rules { All (IsRule existential.now.f.now) self.old.rules.items }
+        requires some { 1 ≤ length model.now.table.now.rows }
+        requires whole { All (λ row. length row ≡ length existential.now.f.now.universals)
+            model.now.table.now.rows }
+        requires variables { model.now.points.now.variables
+            ≡ existential_variables existential.now.f.now }
+        requires point_rows { length model.now.points.now.rows ≡ length model.now.table.now.rows }
         ensures nodes { self.new.nodes.items ≡ self.old.nodes.items }
-        ensures rules { All (IsRule f.now) self.new.rules.items }
-        ensures goes_on { GoesOn f.now table.now self.old.padoa log.old.entries log.new.entries }
+        ensures fit { O.Fits oracle.new log.new }
+        ensures padoa { IsPadoa existential.now.f.now self.new.padoa log.new.entries }
+        ensures same { self.new.padoa ≡ self.old.padoa }
+        ensures rules { All (IsRule existential.now.f.now) self.new.rules.items }
+        ensures goes_on { GoesOn existential.now.f.now model.now.table.now self.old.padoa
+            log.old.entries log.new.entries }
         ensures grew { LogGrew log.old log.new }
         ensures limit { IsErrOf result Stop.Limit → steps_of log.new.entries ≡ log.new.limit }
     {
-        f.every_formula_is_lawful();
-        if let Some(_) = self.nodes[place] {
+        if let Some(_) = self.nodes[existential.place] {
             return Ok(());
         }
-        let y = f.existentials()[place];
-        let bit = points.bit(y, newest);
-        self.force_bit(oracle, f, y, table, newest, bit, log)
+        self.force_bit(oracle, existential, model, log)
     }
 
-    // Asks for a rule that gives an existential this bit at the row of this number.
+    // Asks for a rule that gives an existential its point's bit at the newest row.
     fn force_bit<O: Oracle>(
         &mut self,
         oracle: &mut O,
-        f: &Formula,
-        y: u64,
-        table: &Table,
-        newest: u64,
-        bit: bool,
+        existential: &ExistentialAt,
+        model: &TableModel,
         log: &mut Log,
     ) -> Result<(), Stop>
         requires fit { O.Fits oracle.old log.old }
-        requires formula { IsWellFormed f.now }
-        requires padoa { IsPadoa f.now self.old.padoa log.old.entries }
-        requires existential { IsSome (existential_of f.now y) }
-        requires rules { All (IsRule f.now) self.old.rules.items }
-        requires whole { All (λ row. length row ≡ length f.now.universals) table.now.rows }
-        requires from_one { 1 ≤ newest }
-        requires last { newest ≤ length table.now.rows }
-        ensures fit { O.Fits oracle.new log.new }
-        ensures padoa { IsPadoa f.now self.new.padoa log.new.entries }
-        ensures same { self.new.padoa ≡ self.old.padoa }
+        requires formula { IsWellFormed existential.now.f.now }
+        requires padoa { IsPadoa existential.now.f.now self.old.padoa log.old.entries }
+        requires place { existential.now.place < length existential.now.f.now.existentials }
+        requires rules { All (IsRule existential.now.f.now) self.old.rules.items }
+        requires some { 1 ≤ length model.now.table.now.rows }
+        requires whole { All (λ row. length row ≡ length existential.now.f.now.universals)
+            model.now.table.now.rows }
+        requires variables { model.now.points.now.variables
+            ≡ existential_variables existential.now.f.now }
+        requires point_rows { length model.now.points.now.rows ≡ length model.now.table.now.rows }
         ensures nodes { self.new.nodes.items ≡ self.old.nodes.items }
-        ensures rules { All (IsRule f.now) self.new.rules.items }
-        ensures goes_on { GoesOn f.now table.now self.old.padoa log.old.entries log.new.entries }
+        ensures fit { O.Fits oracle.new log.new }
+        ensures padoa { IsPadoa existential.now.f.now self.new.padoa log.new.entries }
+        ensures same { self.new.padoa ≡ self.old.padoa }
+        ensures rules { All (IsRule existential.now.f.now) self.new.rules.items }
+        ensures goes_on { GoesOn existential.now.f.now model.now.table.now self.old.padoa
+            log.old.entries log.new.entries }
         ensures grew { LogGrew log.old log.new }
         ensures limit { IsErrOf result Stop.Limit → steps_of log.new.entries ≡ log.new.limit }
     {
         engines_leave_the_rest();
         engines_leave_tables();
         checkers_stay();
-        let forced = self.padoa.force(oracle, f, y, table.row(newest), bit, log)?;
+        let f = existential.f;
+        f.every_formula_is_lawful();
+        let y = f.existentials()[existential.place];
+        let newest = model.table.rows();
+        let bit = model.points.bit(y, newest);
+        let forced = self
+            .padoa
+            .force(oracle, f, y, model.table.row(newest), bit, log)?;
         self.keep(forced)?;
         Ok(())
     }

@@ -5,6 +5,7 @@ ghost use Rattle.hint_log.specs.Deciding.{IsUndecided};
 ghost use Rattle.hint_log.specs.Entries.{steps_of};
 ghost use Rattle.repair_loop.specs.Searching.{IsKept, IsSearch, AreBuilt, LogGrew, IsRoundLogged, IsShownTrue};
 
+use crate::decisions::Engines;
 use aig_graph::Graph;
 use aig_graph::laws::outputs_are_supported;
 use candidate_functions::Outputs;
@@ -27,44 +28,59 @@ pub(crate) enum Judged {
     Fail(Row),
 }
 
-// Checks candidates, and logs a round where they fail.
-pub(crate) fn judge<O: Oracle>(
-    oracle: &mut O,
-    graph: &Graph,
-    table: &Table,
-    checker: &mut Checker,
-    padoa: &Padoa,
-    f: &Formula,
-    outputs: &Outputs,
-    log: &mut Log,
-) -> Result<Judged, Stop>
-    requires fit { O.Fits oracle.old log.old }
-    requires search { IsSearch f.now graph.now table.now checker.old padoa.now log.old.entries }
-    requires candidates { AreBuilt f.now graph.now table.now.rows outputs.now }
-    ensures fit { O.Fits oracle.new log.new }
-    ensures kept { IsKept f.now log.new.entries }
-    ensures grew { LogGrew log.old log.new }
-    ensures hold { (id : ℕ) → result ≡ Ok (Judged.Hold id) → IsShownTrue f.now graph.now outputs.now log.new id }
-    ensures fail { (row : List Bool) → result ≡ Ok (Judged.Fail row) → IsRoundLogged f.now table.now checker.new padoa.now row log.new.entries }
-    ensures step { (row : List Bool) → result ≡ Ok (Judged.Fail row) → steps_of log.old.entries < steps_of log.new.entries }
-    ensures within { (row : List Bool) → result ≡ Ok (Judged.Fail row) → steps_of log.old.entries < log.old.limit }
-    ensures undecided { OnErr result (IsUndecided f.now log.new.entries) }
-    ensures limit { IsErrOf result Stop.Limit → steps_of log.new.entries ≡ log.new.limit }
-{
-    engines_leave_the_rest();
-    engines_leave_tables();
-    rounds_leave_tables();
-    checkers_stay_with_rounds();
-    failures_refute_rows();
-    engines_leave_copies();
-    rounds_leave_copies();
-    outputs_are_supported();
-    match checker.turn(oracle, graph, f, outputs.items(), log)? {
-        Turn::Holds(id) => Ok(Judged::Hold(id)),
-        Turn::Fails { row, values, j } => {
-            let _ = log.steps();
-            log.round(&row, &values, j)?;
-            Ok(Judged::Fail(row))
+// Candidates for the existentials' functions, in their graph.
+#[derive(Drop)]
+pub(crate) struct Candidates<'g, 'o> {
+    pub graph: &'g Graph,
+    pub outputs: &'o Outputs,
+}
+
+impl Engines {
+    // Checks candidates, and logs a round where they fail.
+    pub(crate) fn judge<O: Oracle>(
+        &mut self,
+        oracle: &mut O,
+        f: &Formula,
+        candidates: &Candidates,
+        log: &mut Log,
+    ) -> Result<Judged, Stop>
+        requires fit { O.Fits oracle.old log.old }
+        requires search { IsSearch f.now candidates.now.graph.now self.old.table self.old.checker
+            self.old.definitions.padoa log.old.entries }
+        requires candidates { AreBuilt f.now candidates.now.graph.now self.old.table.rows
+            candidates.now.outputs.now }
+        ensures fit { O.Fits oracle.new log.new }
+        ensures definitions { self.new.definitions ≡ self.old.definitions }
+        ensures kept { IsKept f.now log.new.entries }
+        ensures grew { LogGrew log.old log.new }
+        ensures hold { (id : ℕ) → result ≡ Ok (Judged.Hold id)
+            → IsShownTrue f.now candidates.now.graph.now candidates.now.outputs.now log.new id }
+        ensures fail { (row : List Bool) → result ≡ Ok (Judged.Fail row)
+            → IsRoundLogged f.now self.new.table self.new.checker self.new.definitions.padoa row
+            log.new.entries }
+        ensures step { (row : List Bool) → result ≡ Ok (Judged.Fail row)
+            → steps_of log.old.entries < steps_of log.new.entries }
+        ensures within { (row : List Bool) → result ≡ Ok (Judged.Fail row)
+            → steps_of log.old.entries < log.old.limit }
+        ensures undecided { OnErr result (IsUndecided f.now log.new.entries) }
+        ensures limit { IsErrOf result Stop.Limit → steps_of log.new.entries ≡ log.new.limit }
+    {
+        engines_leave_the_rest();
+        engines_leave_tables();
+        rounds_leave_tables();
+        checkers_stay_with_rounds();
+        failures_refute_rows();
+        engines_leave_copies();
+        rounds_leave_copies();
+        outputs_are_supported();
+        let nodes = candidates.outputs.items();
+        match self.checker.turn(oracle, candidates.graph, f, nodes, log)? {
+            Turn::Holds(id) => Ok(Judged::Hold(id)),
+            Turn::Fails { row, values, j } => {
+                let _ = log.steps();
+                log.round(&row, &values, j)?;
+                Ok(Judged::Fail(row))
+            }
         }
     }
 }

@@ -14,18 +14,18 @@ returns-in_err-push-clause-extends c = extends-trans c.args.graph.now c.loop-pla
 
 pub loop-place-preserved : goal.loop-place-preserved
 loop-place-preserved c =
-    let f = c.args.f.now in
-    let rows = c.args.table.now.rows in
-    let points = point_bits c.args.points.now in
+    let f = c.args.known.now.f.now in
+    let rows = c.args.known.now.table.now.rows in
+    let points = point_bits c.args.known.now.points.now in
     let place = c.loop-place.place in
-    subst (λ ns. OutputsSoFar f rows points c.args.definitions.now c.args.others.now c.args.graph.now c.first_output.new.graph c.first_output.new.classes.classes.items ns (place + 1))
+    subst (λ ns. OutputsSoFar f rows points c.args.known.now.definitions.now c.args.others.now c.args.graph.now c.first_output.new.graph c.first_output.new.self.classes.items ns (place + 1))
     (sym c.in_ok-push.ensures.items)
-    (output_added f rows points c.args.definitions.now c.args.others.now c.args.graph.now c.loop-place.graph c.first_output.new.graph c.loop-place.classes.classes.items
-    c.first_output.new.classes.classes.items c.loop-place.nodes.items place (get_or c.args.others.now place (Constant false)) c.in_ok-node.node c.loop-place.invariant c.in_ok-node.ensures.extends
+    (output_added f rows points c.args.known.now.definitions.now c.args.others.now c.args.graph.now c.loop-place.graph c.first_output.new.graph c.loop-place.classes.classes.items
+    c.first_output.new.self.classes.items c.loop-place.nodes.items place (get_or c.args.others.now place (Constant false)) c.in_ok-node.node c.loop-place.invariant c.in_ok-node.ensures.extends
     c.in_ok-node.ensures.classes refl c.in_ok-node.ensures.output)
 
 pub returns-clause-outputs : goal.returns-clause-outputs
 returns-clause-outputs c = λ rules by.
-    let all : c.loop-place.place ≡ length c.args.f.now.existentials = omega arith in
-    subst (λ n. AreFirstOutputs c.args.f.now c.args.table.now.rows (point_bits c.args.points.now) rules c.args.definitions.now c.loop-place.graph n c.loop-place.nodes.items) all
+    let all : c.loop-place.place ≡ length c.args.known.now.f.now.existentials = omega arith in
+    subst (λ n. AreFirstOutputs c.args.known.now.f.now c.args.known.now.table.now.rows (point_bits c.args.known.now.points.now) rules c.args.known.now.definitions.now c.loop-place.graph n c.loop-place.nodes.items) all
     (c.loop-place.invariant.outputs rules by)

@@ -1,8 +1,28 @@
+use Rattle.std.proofs.Common.{refl}
 use Rattle.candidate_functions.proofs.Growing.{extends-trans}
+use Rattle.definition_order.proofs.Declared.{known_at}
+use Rattle.repair_loop.proofs.Defined.{existential_there}
 use Rattle.repair_loop.proofs.definitions.Definitions.ask.Goals as goal
 
+pub read-requires-clause-existential : goal.read-requires-clause-existential
+read-requires-clause-existential g c =
+    let here = existential_there c.args.existential.now.f.now c.every_formula_is_lawful.ensures c.existentials.result.now c.existentials.ensures c.args.existential.now.place c.requires.place in
+    rw here.2 refl
+
+pub define-requires-clause-existential : goal.define-requires-clause-existential
+define-requires-clause-existential g c =
+    let here = existential_there c.args.existential.now.f.now c.every_formula_is_lawful.ensures c.existentials.result.now c.existentials.ensures c.args.existential.now.place c.requires.place in
+    rw here.2 refl
+
 pub returns-in-Some-clause-found : goal.returns-in-Some-clause-found
-returns-in-Some-clause-found g c e at = c.in_ok-node.ensures.gate e at c.in-Some.node c.in-Some.is
+returns-in-Some-clause-found g c e at =
+    let known = known_at c.args.existential.now.f.now c.every_formula_is_lawful.ensures c.existentials.result.now c.args.existential.now.place e c.existentials.ensures at in
+    c.in_ok-node.ensures.gate e known c.in-Some.node c.in-Some.is
+
+pub returns-in-None-clause-found : goal.returns-in-None-clause-found
+returns-in-None-clause-found g c e at =
+    let known = known_at c.args.existential.now.f.now c.every_formula_is_lawful.ensures c.existentials.result.now c.args.existential.now.place e c.existentials.ensures at in
+    c.define.ensures.found e known
 
 pub returns-in-None-clause-extends : goal.returns-in-None-clause-extends
 returns-in-None-clause-extends g c = extends-trans c.args.graph.now c.read.new.graph c.define.new.graph c.read.ensures.extends c.define.ensures.extends

@@ -1,43 +1,39 @@
 use Rattle.std.proofs.Common.{set, refl, sym, subst}
+use Rattle.dq_formula.specs.Prefix.{existential_variables}
 use Rattle.repair_loop.specs.declared.definitions.Definitions.{Definitions}
 use Rattle.repair_loop.specs.Searching.{AreKnown, definition_in}
 use Rattle.repair_loop.proofs.Defined.{still_fresh, known_at, known_stays, existential_there, found_defines}
 use Rattle.repair_loop.proofs.definitions.Definitions.find.Goals as goal
 
-pub ask-requires-clause-existential : goal.ask-requires-clause-existential
-ask-requires-clause-existential g c =
-    let here = existential_there c.args.f.now c.every_formula_is_lawful.ensures c.existentials.result.now c.existentials.ensures c.args.place c.requires.place in
-    rw here.2 refl
-
 pub returns-in_err-found-clause-fresh : goal.returns-in_err-found-clause-fresh
-returns-in_err-found-clause-fresh g c = still_fresh c.engines_leave_the_rest.ensures c.args.f.now c.args.log.now c.ask.new.log c.ask.ensures.grew c.requires.fresh
+returns-in_err-found-clause-fresh g c = still_fresh c.engines_leave_the_rest.ensures c.args.existential.now.f.now c.args.log.now c.ask.new.log c.ask.ensures.grew c.requires.fresh
 
 pub returns-in_err-found-clause-limit_same : goal.returns-in_err-found-clause-limit_same
 returns-in_err-found-clause-limit_same g c = (c.ask.ensures.grew 0).limit
 
 pub returns-in_err-note-clause-fresh : goal.returns-in_err-note-clause-fresh
-returns-in_err-note-clause-fresh g c = still_fresh c.engines_leave_the_rest.ensures c.args.f.now c.args.log.now c.ask.new.log c.ask.ensures.grew c.requires.fresh
+returns-in_err-note-clause-fresh g c = still_fresh c.engines_leave_the_rest.ensures c.args.existential.now.f.now c.args.log.now c.ask.new.log c.ask.ensures.grew c.requires.fresh
 
 pub returns-in_err-note-clause-limit_same : goal.returns-in_err-note-clause-limit_same
 returns-in_err-note-clause-limit_same g c = (c.ask.ensures.grew 0).limit
 
 pub returns-clause-fresh : goal.returns-clause-fresh
-returns-clause-fresh g c = still_fresh c.engines_leave_the_rest.ensures c.args.f.now c.args.log.now c.ask.new.log c.ask.ensures.grew c.requires.fresh
+returns-clause-fresh g c = still_fresh c.engines_leave_the_rest.ensures c.args.existential.now.f.now c.args.log.now c.ask.new.log c.ask.ensures.grew c.requires.fresh
 
 pub returns-clause-limit_same : goal.returns-clause-limit_same
 returns-clause-limit_same g c = (c.ask.ensures.grew 0).limit
 
 pub returns-clause-known : goal.returns-clause-known
 returns-clause-known g c =
-    let f = c.args.f.now in
+    let f = c.args.existential.now.f.now in
     let before = c.args.self.now.nodes.items in
     let rules = c.args.self.now.rules.items in
     let found = c.in_ok-found.found in
     let lawful = c.every_formula_is_lawful.ensures in
-    let here = existential_there f lawful c.existentials.result.now c.existentials.ensures c.args.place c.requires.place in
+    let here = existential_there f lawful (existential_variables f) refl c.args.existential.now.place c.requires.place in
     let still = known_stays f c.args.graph.now c.ask.new.graph before rules c.ask.ensures.extends c.requires.known in
-    let known = known_at f lawful.prefix c.ask.new.graph c.args.place here.0 before (definition_in found) rules here.1
-    (found_defines f c.ask.new.graph here.0 found (c.in_ok-found.ensures.found here.0 here.2)) still in
-    let kept = subst (λ (d : Definitions). AreKnown f c.ask.new.graph (set d.nodes.items c.args.place (definition_in found)) d.rules.items) (sym c.ask.ensures.same) known in
+    let known = known_at f lawful.prefix c.ask.new.graph c.args.existential.now.place here.0 before (definition_in found) rules here.1
+    (found_defines f c.ask.new.graph here.0 found (c.in_ok-found.ensures.found here.0 here.1)) still in
+    let kept = subst (λ (d : Definitions). AreKnown f c.ask.new.graph (set d.nodes.items c.args.existential.now.place (definition_in found)) d.rules.items) (sym c.ask.ensures.same) known in
     subst (λ ns. AreKnown f c.ask.new.graph ns c.note.new.self.rules.items) (sym c.in_ok-note.ensures.nodes)
     (subst (AreKnown f c.ask.new.graph _) (sym c.note.ensures.rules) kept)

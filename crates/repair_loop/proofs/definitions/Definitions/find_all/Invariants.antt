@@ -7,9 +7,9 @@ use Rattle.repair_loop.proofs.definitions.Definitions.find_all.Given as goal
 abbrev pub invariant-loop-place : goal.invariant-loop-place
 invariant-loop-place g l = record {
   fit : g.O.Oracle.Fits l.oracle l.log;
-  fresh : IsFresh l.f l.log.entries;
-  padoa : IsPadoa l.f l.self.padoa l.log.entries;
+  fresh : IsFresh l.order.f.now l.log.entries;
+  padoa : IsPadoa l.order.f.now l.self.padoa l.log.entries;
   limit : l.log.limit ≡ l.fn.log.limit;
   extends : Extends l.fn.graph l.graph;
-  known : AreKnown l.f l.graph l.self.nodes.items l.self.rules.items;
+  known : AreKnown l.order.f.now l.graph l.self.nodes.items l.self.rules.items;
 }

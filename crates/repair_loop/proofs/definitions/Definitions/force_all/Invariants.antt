@@ -12,6 +12,6 @@ invariant-loop-place g l = record {
   same : l.self.padoa ≡ l.fn.self.padoa;
   nodes : l.self.nodes.items ≡ l.fn.self.nodes.items;
   rules : All (IsRule l.f) l.self.rules.items;
-  goes_on : GoesOn l.f l.table l.fn.self.padoa l.fn.log.entries l.log.entries;
+  goes_on : GoesOn l.f l.model.table.now l.fn.self.padoa l.fn.log.entries l.log.entries;
   grew : LogGrew l.fn.log l.log;
 }

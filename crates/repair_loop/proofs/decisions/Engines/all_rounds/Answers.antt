@@ -1,8 +1,9 @@
-use Rattle.std.proofs.Common.{◌≡◌, ◌∙◌, refl, ap, subst, Ok, arith, true}
+use Rattle.std.proofs.Common.{◌≡◌, ◌∙◌, refl, sym, ap, subst, Ok, arith, true}
 use Rattle.log_laws.specs.Engines.{instances}
-use Rattle.repair_loop.specs.Searching.{IsShownTrue, IsShownFalse}
+use Rattle.repair_loop.specs.declared.definitions.Definitions.{Definitions}
+use Rattle.repair_loop.specs.Searching.{AreKnown, IsShownTrue, IsShownFalse}
 use Rattle.repair_loop.proofs.Stages.{on_err, after_row, still_kept, still_undecided, log_grew, fewer_left}
-use Rattle.repair_loop.proofs.decisions.all_rounds.Goals as goal
+use Rattle.repair_loop.proofs.decisions.Engines.all_rounds.Goals as goal
 
 pub returns-in-Refuted-clause-shown_false : goal.returns-in-Refuted-clause-shown_false
 returns-in-Refuted-clause-shown_false g c id e =
@@ -28,7 +29,7 @@ add_row-requires-clause-few g c = let faults = (c.judge.ensures.fail c.in-Fail.r
 
 pub returns-in_err-add_row-in-Fail-clause-kept : goal.returns-in_err-add_row-in-Fail-clause-kept
 returns-in_err-add_row-in-Fail-clause-kept g c =
-    still_kept c.engines_leave_the_rest.ensures c.args.f.now instances c.find_candidates.new.table.group true c.judge.new.log c.add_row.new.log
+    still_kept c.engines_leave_the_rest.ensures c.args.f.now instances c.judge.new.self.table.group true c.judge.new.log c.add_row.new.log
     (c.add_row.ensures.grew c.judge.new.log.entries) (c.judge.ensures.fail c.in-Fail.row (c.in_ok-id.was ∙ ap Ok c.in-Fail.is)).kept
 
 pub returns-in_err-add_row-in-Fail-clause-limit_same : goal.returns-in_err-add_row-in-Fail-clause-limit_same
@@ -37,7 +38,7 @@ returns-in_err-add_row-in-Fail-clause-limit_same g c =
 
 pub returns-in_err-add_row-in-Fail-clause-undecided : goal.returns-in_err-add_row-in-Fail-clause-undecided
 returns-in_err-add_row-in-Fail-clause-undecided g c =
-    on_err _ _ (still_undecided c.engines_leave_the_rest.ensures c.args.f.now instances c.find_candidates.new.table.group true c.judge.new.log c.add_row.new.log refl
+    on_err _ _ (still_undecided c.engines_leave_the_rest.ensures c.args.f.now instances c.judge.new.self.table.group true c.judge.new.log c.add_row.new.log refl
     (c.add_row.ensures.grew c.judge.new.log.entries) (c.judge.ensures.fail c.in-Fail.row (c.in_ok-id.was ∙ ap Ok c.in-Fail.is)).undecided)
 
 pub loop-outputs-smaller : goal.loop-outputs-smaller
@@ -53,10 +54,11 @@ loop-outputs-preserved g c =
     let found = c.find_candidates.ensures.search c.in-Candidates.outputs (c.in_ok-outputs.was ∙ ap Ok c.in-Candidates.is) in
     record {
       fit = c.add_row.ensures.fit;
-      search = after_row c.engines_leave_the_rest.ensures c.checkers_stay.ensures c.engines_leave_copies.ensures c.args.f.now c.find_candidates.new.graph c.find_candidates.new.table c.add_row.new.self
-          c.judge.new.checker c.find_candidates.new.definitions.padoa c.in-Fail.row c.judge.new.log c.add_row.new.log (c.judge.ensures.fail c.in-Fail.row was) (c.add_row.ensures.grew c.judge.new.log.entries)
+      search = after_row c.engines_leave_the_rest.ensures c.checkers_stay.ensures c.engines_leave_copies.ensures c.args.f.now c.find_candidates.new.graph c.judge.new.self.table c.add_row.new.self
+          c.judge.new.self.checker c.judge.new.self.definitions.padoa c.in-Fail.row c.judge.new.log c.add_row.new.log (c.judge.ensures.fail c.in-Fail.row was) (c.add_row.ensures.grew c.judge.new.log.entries)
           c.in_ok-add_row-in-Fail.ensures.table c.add_row.ensures.group found.inputs;
-      known = c.find_candidates.ensures.known c.in-Candidates.outputs (c.in_ok-outputs.was ∙ ap Ok c.in-Candidates.is);
+      known = subst (λ (d : Definitions). AreKnown c.args.f.now c.find_candidates.new.graph d.nodes.items d.rules.items) (sym c.judge.ensures.definitions)
+          (c.find_candidates.ensures.known c.in-Candidates.outputs (c.in_ok-outputs.was ∙ ap Ok c.in-Candidates.is));
       inputs = c.find_candidates.ensures.extends.inputs ∙ c.loop-outputs.invariant.inputs;
       limit = (c.add_row.ensures.grew c.judge.new.log.entries).limit ∙ c.judge.ensures.grew.limit ∙ c.find_candidates.ensures.grew.limit ∙ c.loop-outputs.invariant.limit;
     }

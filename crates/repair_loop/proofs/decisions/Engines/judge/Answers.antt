@@ -7,7 +7,7 @@ use Rattle.aig_graph.specs.Outputs.{ReadsUniversals, outputs_of}
 use Rattle.repair_loop.specs.Searching.{IsRoundLogged, IsShownTrue}
 use Rattle.repair_loop.proofs.Stages.{outputs_supported, after_turn, after_round, log_grew, log_same, log_then, round_grew, round_counts, steps_left}
 use Rattle.repair_loop.proofs.UniversalInputs.{outputs_read_universals}
-use Rattle.repair_loop.proofs.judging.judge.Goals as goal
+use Rattle.repair_loop.proofs.decisions.Engines.judge.Goals as goal
 
 pub returns-in_err-id-clause-grew : goal.returns-in_err-id-clause-grew
 returns-in_err-id-clause-grew g c = log_grew _ c.args.log.now c.turn.new.log c.turn.ensures.grew
@@ -22,10 +22,10 @@ returns-in-Holds-clause-grew g c = log_grew _ c.args.log.now c.turn.new.log c.tu
 pub returns-in-Holds-clause-hold : goal.returns-in-Holds-clause-hold
 returns-in-Holds-clause-hold g c id e =
     let f = c.args.f.now in
-    let graph = c.args.graph.now in
-    let nodes = c.args.outputs.now in
+    let graph = c.args.candidates.now.graph.now in
+    let nodes = c.args.candidates.now.outputs.now in
     let was = c.in_ok-id.was ∙ ap Ok c.in-Holds.is in
-    let items : c.items.result.now ≡ nodes = c.items.ensures in
+    let items : c.items-nodes.result.now ≡ nodes = c.items-nodes.ensures in
     let holds = subst (λ ns. HoldEverywhere f (outputs_of f graph ns)) items (c.turn.ensures.holds c.in-Holds.id was) in
     let shown = subst (λ ns. IsShownBy f graph ns c.turn.new.log.entries c.in-Holds.id) items (c.turn.ensures.shown c.in-Holds.id was) in
     let same : c.in-Holds.id ≡ id = cc in
@@ -38,14 +38,14 @@ returns-in-Holds-clause-hold g c id e =
 
 pub returns-in_ok-round-in-Fails-clause-kept : goal.returns-in_ok-round-in-Fails-clause-kept
 returns-in_ok-round-in-Fails-clause-kept g c =
-    let logged = after_round c.failures_refute_rows.ensures c.rounds_leave_tables.ensures c.checkers_stay_with_rounds.ensures c.rounds_leave_copies.ensures c.args.f.now c.args.table.now c.turn.new.self c.args.padoa.now c.turn.new.log c.round.new.self
-    (outputs_of c.args.f.now c.args.graph.now c.args.outputs.now)
-    (after_turn c.engines_leave_the_rest.ensures c.engines_leave_tables.ensures c.engines_leave_copies.ensures c.args.f.now c.args.graph.now c.args.table.now c.args.checker.now c.turn.new.self
-    c.args.padoa.now
+    let logged = after_round c.failures_refute_rows.ensures c.rounds_leave_tables.ensures c.checkers_stay_with_rounds.ensures c.rounds_leave_copies.ensures c.args.f.now c.args.self.now.table c.turn.new.self c.args.self.now.definitions.padoa c.turn.new.log c.round.new.self
+    (outputs_of c.args.f.now c.args.candidates.now.graph.now c.args.candidates.now.outputs.now)
+    (after_turn c.engines_leave_the_rest.ensures c.engines_leave_tables.ensures c.engines_leave_copies.ensures c.args.f.now c.args.candidates.now.graph.now c.args.self.now.table c.args.self.now.checker c.turn.new.self
+    c.args.self.now.definitions.padoa
     (is_silent c.turn.result) c.args.log.now c.turn.new.log (ap is_silent (c.in_ok-id.was ∙ ap Ok c.in-Fails.is)) c.requires.search c.turn.ensures.grew c.turn.ensures.group
     c.turn.ensures.checker c.turn.ensures.few)
     c.requires.candidates.candidates c.in-Fails.row c.in-Fails.values c.in-Fails.j
-    (subst (λ ns. IsFailure c.args.f.now (outputs_of c.args.f.now c.args.graph.now ns) c.in-Fails.row c.in-Fails.values c.in-Fails.j) c.items.ensures
+    (subst (λ ns. IsFailure c.args.f.now (outputs_of c.args.f.now c.args.candidates.now.graph.now ns) c.in-Fails.row c.in-Fails.values c.in-Fails.j) c.items-nodes.ensures
     (c.turn.ensures.fails c.in-Fails.row c.in-Fails.values c.in-Fails.j (c.in_ok-id.was ∙ ap Ok c.in-Fails.is)))
     c.in_ok-round-in-Fails.ensures.ok in
     logged.kept
@@ -57,18 +57,18 @@ returns-in_ok-round-in-Fails-clause-grew g c =
 
 pub returns-in_ok-round-in-Fails-clause-fail : goal.returns-in_ok-round-in-Fails-clause-fail
 returns-in_ok-round-in-Fails-clause-fail g c row e =
-    let logged = after_round c.failures_refute_rows.ensures c.rounds_leave_tables.ensures c.checkers_stay_with_rounds.ensures c.rounds_leave_copies.ensures c.args.f.now c.args.table.now c.turn.new.self c.args.padoa.now c.turn.new.log c.round.new.self
-    (outputs_of c.args.f.now c.args.graph.now c.args.outputs.now)
-    (after_turn c.engines_leave_the_rest.ensures c.engines_leave_tables.ensures c.engines_leave_copies.ensures c.args.f.now c.args.graph.now c.args.table.now c.args.checker.now c.turn.new.self
-    c.args.padoa.now
+    let logged = after_round c.failures_refute_rows.ensures c.rounds_leave_tables.ensures c.checkers_stay_with_rounds.ensures c.rounds_leave_copies.ensures c.args.f.now c.args.self.now.table c.turn.new.self c.args.self.now.definitions.padoa c.turn.new.log c.round.new.self
+    (outputs_of c.args.f.now c.args.candidates.now.graph.now c.args.candidates.now.outputs.now)
+    (after_turn c.engines_leave_the_rest.ensures c.engines_leave_tables.ensures c.engines_leave_copies.ensures c.args.f.now c.args.candidates.now.graph.now c.args.self.now.table c.args.self.now.checker c.turn.new.self
+    c.args.self.now.definitions.padoa
     (is_silent c.turn.result) c.args.log.now c.turn.new.log (ap is_silent (c.in_ok-id.was ∙ ap Ok c.in-Fails.is)) c.requires.search c.turn.ensures.grew c.turn.ensures.group
     c.turn.ensures.checker c.turn.ensures.few)
     c.requires.candidates.candidates c.in-Fails.row c.in-Fails.values c.in-Fails.j
-    (subst (λ ns. IsFailure c.args.f.now (outputs_of c.args.f.now c.args.graph.now ns) c.in-Fails.row c.in-Fails.values c.in-Fails.j) c.items.ensures
+    (subst (λ ns. IsFailure c.args.f.now (outputs_of c.args.f.now c.args.candidates.now.graph.now ns) c.in-Fails.row c.in-Fails.values c.in-Fails.j) c.items-nodes.ensures
     (c.turn.ensures.fails c.in-Fails.row c.in-Fails.values c.in-Fails.j (c.in_ok-id.was ∙ ap Ok c.in-Fails.is)))
     c.in_ok-round-in-Fails.ensures.ok in
     let same : c.in-Fails.row ≡ row = cc in
-    subst (λ r. IsRoundLogged c.args.f.now c.args.table.now c.turn.new.self c.args.padoa.now r c.round.new.self.entries) same logged
+    subst (λ r. IsRoundLogged c.args.f.now c.args.self.now.table c.turn.new.self c.args.self.now.definitions.padoa r c.round.new.self.entries) same logged
 
 pub returns-in_ok-round-in-Fails-clause-step : goal.returns-in_ok-round-in-Fails-clause-step
 returns-in_ok-round-in-Fails-clause-step g c row e =
@@ -85,5 +85,5 @@ returns-in_ok-round-in-Fails-clause-within g c row e =
 
 pub turn-requires-clause-read_universals : goal.turn-requires-clause-read_universals
 turn-requires-clause-read_universals g c =
-    subst (All (ReadsUniversals c.args.f.now c.args.graph.now)) (sym c.items.ensures)
-    (outputs_read_universals c.args.f.now c.requires.search.table.formula.prefix c.args.graph.now c.args.outputs.now c.requires.candidates.one_each c.requires.candidates.reads)
+    subst (All (ReadsUniversals c.args.f.now c.args.candidates.now.graph.now)) (sym c.items-nodes.ensures)
+    (outputs_read_universals c.args.f.now c.requires.search.table.formula.prefix c.args.candidates.now.graph.now c.args.candidates.now.outputs.now c.requires.candidates.one_each c.requires.candidates.reads)

@@ -5,27 +5,27 @@ use Rattle.candidate_functions.specs.Pairs.{IsClass, IsPatched, IsCandidate}
 use Rattle.candidate_functions.proofs.Growing.{extends-trans, classes_stay}
 use Rattle.candidate_functions.proofs.Outputting.{undefined_is_candidate, pairs_there, on_ok}
 use Rattle.definition_order.proofs.Declared.{is_variable}
-use Rattle.candidate_functions.proofs.outputs.undefined_output.Goals as goal
+use Rattle.candidate_functions.proofs.classes.Classes.undefined_output.Goals as goal
 
 pub patched-requires-clause-existential : goal.patched-requires-clause-existential
-patched-requires-clause-existential c = subst (λ vs. Contains vs c.args.y) (sym c.requires.variables) (is_variable c.args.f.now c.args.y c.requires.declared)
+patched-requires-clause-existential c = subst (λ vs. Contains vs c.args.y) (sym c.requires.variables) (is_variable c.args.known.now.f.now c.args.y c.requires.declared)
 
 pub returns-clause-extends : goal.returns-clause-extends
 returns-clause-extends c = extends-trans c.args.graph.now c.class_of.new.graph c.patched.new.graph c.in_ok-place.ensures.extends c.patched.ensures.extends
 
 pub returns-clause-classes : goal.returns-clause-classes
 returns-clause-classes c =
-    let f = c.args.f.now in
-    let rows = c.args.table.now.rows in
+    let f = c.args.known.now.f.now in
+    let rows = c.args.known.now.table.now.rows in
     let new = c.patched.new.graph in
     let classes = c.class_of.new.self.classes.items in
     on_ok c.patched.result (All (IsClass f rows new) classes) (classes_stay c.class_of.new.graph new c.patched.ensures.extends f rows classes c.in_ok-place.ensures.classes)
 
 pub returns-clause-output : goal.returns-clause-output
 returns-clause-output c = λ rules e known by.
-    let f = c.args.f.now in
-    let rows = c.args.table.now.rows in
-    let points = point_bits c.args.points.now in
+    let f = c.args.known.now.f.now in
+    let rows = c.args.known.now.table.now.rows in
+    let points = point_bits c.args.known.now.points.now in
     let mid = c.class_of.new.graph in
     let new = c.patched.new.graph in
     IfOk-weaker c.patched.result (IsPatched mid new points c.args.y c.deref.result.now c.args.other) (IsCandidate f rows points rules new e)

@@ -7,7 +7,7 @@ use Rattle.expansion.specs.Table.{TableState, point_bits, ArePoints}
 use Rattle.repair_loop.specs.Searching.{IsSearch, AreBuilt, IsShownFalse}
 use Rattle.repair_loop.proofs.Stages.{on_err, after_solve, after_build, log_grew, log_then}
 use Rattle.repair_loop.proofs.Defined.{known_stays}
-use Rattle.repair_loop.proofs.candidates.find_candidates.Goals as goal
+use Rattle.repair_loop.proofs.decisions.Engines.find_candidates.Goals as goal
 
 pub returns-in_err-id-clause-grew : goal.returns-in_err-id-clause-grew
 returns-in_err-id-clause-grew g c = log_grew _ c.args.log.now c.solve.new.log (c.solve.ensures.grew c.args.f.now c.requires.search.table)
@@ -29,8 +29,8 @@ force_all-requires-clause-padoa g c =
     let s = c.requires.search in
     let f = c.args.f.now in
     let was = c.in_ok-id.was ∙ ap Ok c.in-Model.is in
-    let found = after_solve c.engines_leave_the_rest.ensures c.checkers_stay.ensures c.engines_leave_copies.ensures f c.args.graph.now c.args.table.now c.solve.new.self c.args.checker.now
-    c.args.definitions.now.padoa (is_silent c.solve.result) c.args.log.now c.solve.new.log (ap is_silent was) s (c.solve.ensures.grew f s.table) c.solve.ensures.same (c.solve.ensures.table f s.table) in
+    let found = after_solve c.engines_leave_the_rest.ensures c.checkers_stay.ensures c.engines_leave_copies.ensures f c.args.graph.now c.args.self.now.table c.solve.new.self c.args.self.now.checker
+    c.args.self.now.definitions.padoa (is_silent c.solve.result) c.args.log.now c.solve.new.log (ap is_silent was) s (c.solve.ensures.grew f s.table) c.solve.ensures.same (c.solve.ensures.table f s.table) in
     found.copied
 
 pub returns-in_err-force_all-in-Model-clause-kept : goal.returns-in_err-force_all-in-Model-clause-kept
@@ -38,45 +38,45 @@ returns-in_err-force_all-in-Model-clause-kept g c =
     let s = c.requires.search in
     let f = c.args.f.now in
     let was = c.in_ok-id.was ∙ ap Ok c.in-Model.is in
-    let found = after_solve c.engines_leave_the_rest.ensures c.checkers_stay.ensures c.engines_leave_copies.ensures f c.args.graph.now c.args.table.now c.solve.new.self c.args.checker.now
-    c.args.definitions.now.padoa (is_silent c.solve.result) c.args.log.now c.solve.new.log (ap is_silent was) s (c.solve.ensures.grew f s.table) c.solve.ensures.same (c.solve.ensures.table f s.table) in
-    (c.force_all.ensures.goes_on c.args.graph.now c.args.checker.now found).kept
+    let found = after_solve c.engines_leave_the_rest.ensures c.checkers_stay.ensures c.engines_leave_copies.ensures f c.args.graph.now c.args.self.now.table c.solve.new.self c.args.self.now.checker
+    c.args.self.now.definitions.padoa (is_silent c.solve.result) c.args.log.now c.solve.new.log (ap is_silent was) s (c.solve.ensures.grew f s.table) c.solve.ensures.same (c.solve.ensures.table f s.table) in
+    (c.force_all.ensures.goes_on c.args.graph.now c.args.self.now.checker found).kept
 
 pub returns-in_err-force_all-in-Model-clause-undecided : goal.returns-in_err-force_all-in-Model-clause-undecided
 returns-in_err-force_all-in-Model-clause-undecided g c =
     let s = c.requires.search in
     let f = c.args.f.now in
     let was = c.in_ok-id.was ∙ ap Ok c.in-Model.is in
-    let found = after_solve c.engines_leave_the_rest.ensures c.checkers_stay.ensures c.engines_leave_copies.ensures f c.args.graph.now c.args.table.now c.solve.new.self c.args.checker.now
-    c.args.definitions.now.padoa (is_silent c.solve.result) c.args.log.now c.solve.new.log (ap is_silent was) s (c.solve.ensures.grew f s.table) c.solve.ensures.same (c.solve.ensures.table f s.table) in
-    on_err _ _ (c.force_all.ensures.goes_on c.args.graph.now c.args.checker.now found).undecided
+    let found = after_solve c.engines_leave_the_rest.ensures c.checkers_stay.ensures c.engines_leave_copies.ensures f c.args.graph.now c.args.self.now.table c.solve.new.self c.args.self.now.checker
+    c.args.self.now.definitions.padoa (is_silent c.solve.result) c.args.log.now c.solve.new.log (ap is_silent was) s (c.solve.ensures.grew f s.table) c.solve.ensures.same (c.solve.ensures.table f s.table) in
+    on_err _ _ (c.force_all.ensures.goes_on c.args.graph.now c.args.self.now.checker found).undecided
 
 pub returns-in_err-outputs-in-Model-clause-kept : goal.returns-in_err-outputs-in-Model-clause-kept
 returns-in_err-outputs-in-Model-clause-kept g c =
     let s = c.requires.search in
     let f = c.args.f.now in
     let was = c.in_ok-id.was ∙ ap Ok c.in-Model.is in
-    let found = after_solve c.engines_leave_the_rest.ensures c.checkers_stay.ensures c.engines_leave_copies.ensures f c.args.graph.now c.args.table.now c.solve.new.self c.args.checker.now
-    c.args.definitions.now.padoa (is_silent c.solve.result) c.args.log.now c.solve.new.log (ap is_silent was) s (c.solve.ensures.grew f s.table) c.solve.ensures.same (c.solve.ensures.table f s.table) in
-    (c.force_all.ensures.goes_on c.args.graph.now c.args.checker.now found).kept
+    let found = after_solve c.engines_leave_the_rest.ensures c.checkers_stay.ensures c.engines_leave_copies.ensures f c.args.graph.now c.args.self.now.table c.solve.new.self c.args.self.now.checker
+    c.args.self.now.definitions.padoa (is_silent c.solve.result) c.args.log.now c.solve.new.log (ap is_silent was) s (c.solve.ensures.grew f s.table) c.solve.ensures.same (c.solve.ensures.table f s.table) in
+    (c.force_all.ensures.goes_on c.args.graph.now c.args.self.now.checker found).kept
 
 pub returns-in_err-outputs-in-Model-clause-undecided : goal.returns-in_err-outputs-in-Model-clause-undecided
 returns-in_err-outputs-in-Model-clause-undecided g c =
     let s = c.requires.search in
     let f = c.args.f.now in
     let was = c.in_ok-id.was ∙ ap Ok c.in-Model.is in
-    let found = after_solve c.engines_leave_the_rest.ensures c.checkers_stay.ensures c.engines_leave_copies.ensures f c.args.graph.now c.args.table.now c.solve.new.self c.args.checker.now
-    c.args.definitions.now.padoa (is_silent c.solve.result) c.args.log.now c.solve.new.log (ap is_silent was) s (c.solve.ensures.grew f s.table) c.solve.ensures.same (c.solve.ensures.table f s.table) in
-    on_err _ _ (c.force_all.ensures.goes_on c.args.graph.now c.args.checker.now found).undecided
+    let found = after_solve c.engines_leave_the_rest.ensures c.checkers_stay.ensures c.engines_leave_copies.ensures f c.args.graph.now c.args.self.now.table c.solve.new.self c.args.self.now.checker
+    c.args.self.now.definitions.padoa (is_silent c.solve.result) c.args.log.now c.solve.new.log (ap is_silent was) s (c.solve.ensures.grew f s.table) c.solve.ensures.same (c.solve.ensures.table f s.table) in
+    on_err _ _ (c.force_all.ensures.goes_on c.args.graph.now c.args.self.now.checker found).undecided
 
 pub returns-in_ok-outputs-in-Model-clause-kept : goal.returns-in_ok-outputs-in-Model-clause-kept
 returns-in_ok-outputs-in-Model-clause-kept g c =
     let s = c.requires.search in
     let f = c.args.f.now in
     let was = c.in_ok-id.was ∙ ap Ok c.in-Model.is in
-    let found = after_solve c.engines_leave_the_rest.ensures c.checkers_stay.ensures c.engines_leave_copies.ensures f c.args.graph.now c.args.table.now c.solve.new.self c.args.checker.now
-    c.args.definitions.now.padoa (is_silent c.solve.result) c.args.log.now c.solve.new.log (ap is_silent was) s (c.solve.ensures.grew f s.table) c.solve.ensures.same (c.solve.ensures.table f s.table) in
-    (c.force_all.ensures.goes_on c.args.graph.now c.args.checker.now found).kept
+    let found = after_solve c.engines_leave_the_rest.ensures c.checkers_stay.ensures c.engines_leave_copies.ensures f c.args.graph.now c.args.self.now.table c.solve.new.self c.args.self.now.checker
+    c.args.self.now.definitions.padoa (is_silent c.solve.result) c.args.log.now c.solve.new.log (ap is_silent was) s (c.solve.ensures.grew f s.table) c.solve.ensures.same (c.solve.ensures.table f s.table) in
+    (c.force_all.ensures.goes_on c.args.graph.now c.args.self.now.checker found).kept
 
 pub build-requires-clause-definitions : goal.build-requires-clause-definitions
 build-requires-clause-definitions g c =
@@ -98,7 +98,7 @@ returns-in-Refuted-clause-refuted g c id e =
     let s = c.requires.search in
     let f = c.args.f.now in
     let was = c.in_ok-id.was ∙ ap Ok c.in-Refuted.is in
-    let left = c.engines_leave_the_rest.ensures f instances c.args.table.now.group (is_silent c.solve.result) c.args.log.now c.solve.new.log (c.solve.ensures.grew f s.table) in
+    let left = c.engines_leave_the_rest.ensures f instances c.args.self.now.table.group (is_silent c.solve.result) c.args.log.now c.solve.new.log (c.solve.ensures.grew f s.table) in
     let rows = left.rows ∙ s.table.rows in
     let same : c.in-Refuted.id ≡ id = cc in
     subst (λ i. IsShownFalse f c.solve.new.log i) same (record {
@@ -115,11 +115,11 @@ returns-in_ok-outputs-in-Model-clause-search g c outputs e =
     let s = c.requires.search in
     let f = c.args.f.now in
     let was = c.in_ok-id.was ∙ ap Ok c.in-Model.is in
-    let found = after_solve c.engines_leave_the_rest.ensures c.checkers_stay.ensures c.engines_leave_copies.ensures f c.args.graph.now c.args.table.now c.solve.new.self c.args.checker.now
-    c.args.definitions.now.padoa (is_silent c.solve.result) c.args.log.now c.solve.new.log (ap is_silent was) s (c.solve.ensures.grew f s.table) c.solve.ensures.same (c.solve.ensures.table f s.table) in
-    let here = c.force_all.ensures.goes_on c.args.graph.now c.args.checker.now found in
-    subst (λ p. IsSearch f c.build.new.graph c.solve.new.self c.args.checker.now p c.force_all.new.log.entries) (sym c.force_all.ensures.same)
-    (after_build f c.args.graph.now c.build.new.graph c.solve.new.self c.args.checker.now c.args.definitions.now.padoa c.force_all.new.log.entries c.build.ensures.extends.inputs here)
+    let found = after_solve c.engines_leave_the_rest.ensures c.checkers_stay.ensures c.engines_leave_copies.ensures f c.args.graph.now c.args.self.now.table c.solve.new.self c.args.self.now.checker
+    c.args.self.now.definitions.padoa (is_silent c.solve.result) c.args.log.now c.solve.new.log (ap is_silent was) s (c.solve.ensures.grew f s.table) c.solve.ensures.same (c.solve.ensures.table f s.table) in
+    let here = c.force_all.ensures.goes_on c.args.graph.now c.args.self.now.checker found in
+    subst (λ p. IsSearch f c.build.new.graph c.solve.new.self c.args.self.now.checker p c.force_all.new.log.entries) (sym c.force_all.ensures.same)
+    (after_build f c.args.graph.now c.build.new.graph c.solve.new.self c.args.self.now.checker c.args.self.now.definitions.padoa c.force_all.new.log.entries c.build.ensures.extends.inputs here)
 
 pub returns-in_ok-outputs-in-Model-clause-candidates : goal.returns-in_ok-outputs-in-Model-clause-candidates
 returns-in_ok-outputs-in-Model-clause-candidates g c outputs e =
