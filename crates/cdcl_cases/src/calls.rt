@@ -151,24 +151,20 @@ pub enum Found {
     Limit,
 }
 
-/// A search, and what it gave.
-pub fn find<O: Oracle>(
+/// What the last search gave, by its answer.
+pub fn outcome_of<O: Oracle>(
     alloc: Global,
-    oracle: &mut O,
-    log: &mut Log,
+    oracle: &O,
+    log: &Log,
     made: &Made,
-    active: &[Group],
-    assume: &[Lit],
+    answer: Result<Answer, Stop>,
 ) -> Result<Found>
-    requires fit { O.Fits oracle.old log.old }
-    requires made { AreMade made.now log.old.entries }
-    requires groups { All (IsMade log.old.entries) active.now }
-    requires plain { All (IsPlain log.old.entries) assume.now }
-    requires apart { is_tautology assume.now ≡ false }
-    ensures fit { O.Fits oracle.new log.new }
-    ensures made { AreMade made.now log.new.entries }
+    requires fit { O.Fits oracle.now log.now }
+    requires made { AreMade made.now log.now.entries }
+    requires told { answer ≡ Ok Answer.Sat → O.is_told oracle.now ≡ true }
+    requires id { (id : ℕ) → answer ≡ Ok (Answer.Unsat id) → IsId log.now.entries id }
 {
-    match search(oracle, log, made, active, assume) {
+    match answer {
         Ok(Answer::Sat) => Ok(Found::Values(values_of(alloc, oracle, log, made)?)),
         Ok(Answer::Unsat(id)) => Ok(Found::Refuted(lines_of(alloc, log, made, id)?)),
         Err(Stop::Limit) => Ok(Found::Limit),

@@ -5,7 +5,7 @@ ghost use Rattle.cdcl_cases.specs.Making.{AreMade};
 
 use crate::calls::{Found, Made, make_group, make_var, no_variables};
 use crate::judging::Line;
-use crate::tables::{add_given, found_by};
+use crate::tables::{Given, Question, add_given, found_by};
 use anyhow::Result;
 use cdcl_core::Cdcl;
 use dq_formula::Formula;
@@ -42,7 +42,10 @@ fn found_for<O: Oracle>(
     let mut made = no_variables(alloc);
     make_variables(oracle, log, &mut made, formula.vars())?;
     add_clauses(alloc, oracle, log, &made, formula)?;
-    found_by(alloc, oracle, log, &made, &[GROUP], &[])
+    let mut groups = Vec::new(alloc);
+    groups.push(GROUP)?;
+    let assumed = Vec::new(alloc);
+    found_by(alloc, oracle, log, &made, &Question { groups, assumed })
 }
 
 // A group, and so many variables.
@@ -74,8 +77,12 @@ fn add_clauses<O: Oracle>(
     ensures ready { IfOk result (λ u. O.Fits oracle.new log.new × AreMade made.now log.new.entries) }
 {
     for j in 0..formula.clauses() {
-        let numbers = shifted(alloc, formula, j)?;
-        add_given(alloc, oracle, log, made, GROUP, &numbers)?;
+        let literals = shifted(alloc, formula, j)?;
+        let given = Given {
+            group: GROUP,
+            literals,
+        };
+        add_given(alloc, oracle, log, made, &given)?;
     }
     Ok(())
 }

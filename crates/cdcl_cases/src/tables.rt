@@ -9,18 +9,27 @@
 ghost use Rattle.std.specs.Prelude.{[], IfOk};
 ghost use Rattle.cdcl_cases.specs.Making.{AreMade};
 
-use crate::calls::{Found, Made, add_clause, find, make_group, make_var, no_variables, seal};
+use crate::calls::{
+    Found, Made, add_clause, make_group, make_var, no_variables, outcome_of, seal, search,
+};
 use crate::numbers::{excludes_itself, group_at, groups_at, plain_lits};
 use anyhow::{Result, anyhow};
 use hint_log::Log;
 use oracle::{Oracle, Tenant};
 use std::alloc::Global;
 
-/// A clause that was added.
+/// A clause of a group.
 #[derive(Debug, Drop)]
 pub struct Given {
-    group: i64,
-    literals: Vec<i64>,
+    pub group: i64,
+    pub literals: Vec<i64>,
+}
+
+/// The groups and assumptions that a search is under.
+#[derive(Debug, Drop)]
+pub struct Question {
+    pub groups: Vec<i64>,
+    pub assumed: Vec<i64>,
 }
 
 /// What the commands of a case have made so far.
@@ -105,8 +114,9 @@ fn add<O: Oracle>(
     let (group, literals) = rest.split_once(' ').unwrap_or((rest, ""));
     let group: i64 = group.parse()?;
     let literals = numbers_of(alloc, literals)?;
-    add_given(alloc, oracle, log, &case.made, group, &literals)?;
-    case.given.push(Given { group, literals })?;
+    let given = Given { group, literals };
+    add_given(alloc, oracle, log, &case.made, &given)?;
+    case.given.push(given)?;
     Ok(None)
 }
 
@@ -116,16 +126,15 @@ pub fn add_given<O: Oracle>(
     oracle: &mut O,
     log: &mut Log,
     made: &Made,
-    group: i64,
-    literals: &[i64],
+    given: &Given,
 ) -> Result<()>
     requires ready { O.Fits oracle.old log.old × AreMade made.now log.old.entries }
     ensures ready { IfOk result (λ u. O.Fits oracle.new log.new × AreMade made.now log.new.entries) }
 {
-    let Some(group) = group_at(log, made, group.unsigned_abs()) else {
+    let Some(group) = group_at(log, made, given.group.unsigned_abs()) else {
         return Err(anyhow!("no group"));
     };
-    let lits = plain_lits(alloc, log, made, literals)?;
+    let lits = plain_lits(alloc, log, made, &given.literals)?;
     add_clause(oracle, log, made, &group, &lits)?;
     Ok(())
 }
@@ -142,10 +151,12 @@ fn solve<O: Oracle>(
 {
     let (name, rest) = rest.split_once(" |").unwrap_or((rest, ""));
     let (groups, assumed) = rest.split_once('|').unwrap_or((rest, ""));
-    let groups = numbers_of(alloc, groups)?;
-    let assumed = numbers_of(alloc, assumed)?;
-    let found = found_by(alloc, oracle, log, &case.made, &groups, &assumed)?;
-    let shown = shown(alloc, &case.given, &groups, &assumed, &found)?;
+    let question = Question {
+        groups: numbers_of(alloc, groups)?,
+        assumed: numbers_of(alloc, assumed)?,
+    };
+    let found = found_by(alloc, oracle, log, &case.made, &question)?;
+    let shown = shown(alloc, &case.given, &question, &found)?;
     Ok(Some(format!(in alloc; "{name}: {shown}")?))
 }
 
@@ -155,18 +166,18 @@ pub fn found_by<O: Oracle>(
     oracle: &mut O,
     log: &mut Log,
     made: &Made,
-    groups: &[i64],
-    assumed: &[i64],
+    question: &Question,
 ) -> Result<Found>
     requires ready { O.Fits oracle.old log.old × AreMade made.now log.old.entries }
     ensures ready { IfOk result (λ f. O.Fits oracle.new log.new × AreMade made.now log.new.entries) }
 {
-    let active = groups_at(alloc, log, made, groups)?;
-    let assume = plain_lits(alloc, log, made, assumed)?;
+    let active = groups_at(alloc, log, made, &question.groups)?;
+    let assume = plain_lits(alloc, log, made, &question.assumed)?;
     if excludes_itself(&assume) {
         return Err(anyhow!("assumptions exclude one another"));
     }
-    find(alloc, oracle, log, made, &active, &assume)
+    let answer = search(oracle, log, made, &active, &assume);
+    outcome_of(alloc, oracle, log, made, answer)
 }
 
 fn steps(alloc: Global, log: &Log, name: &str) -> Result<Option<String>> {
@@ -201,15 +212,9 @@ fn numbers_of(alloc: Global, text: &str) -> Result<Vec<i64>> {
     Ok(numbers)
 }
 
-fn shown(
-    alloc: Global,
-    given: &[Given],
-    groups: &[i64],
-    assumed: &[i64],
-    found: &Found,
-) -> Result<String> {
+fn shown(alloc: Global, given: &[Given], question: &Question, found: &Found) -> Result<String> {
     match found {
-        Found::Values(values) => shown_values(alloc, given, groups, assumed, values),
+        Found::Values(values) => shown_values(alloc, given, question, values),
         Found::Refuted(lines) => match lines.last() {
             Some(answer) => shown_clause(alloc, &answer.literals),
             None => Ok(String::from_str(alloc, "Unsat without an answer")?),
@@ -221,12 +226,12 @@ fn shown(
 fn shown_values(
     alloc: Global,
     given: &[Given],
-    groups: &[i64],
-    assumed: &[i64],
+    question: &Question,
     values: &[bool],
 ) -> Result<String> {
+    let groups = &question.groups;
     let met = given.iter().all(|g| is_met(g, groups, values));
-    let text = if met && are_all_true(assumed, values) && are_all_true(groups, values) {
+    let text = if met && are_all_true(&question.assumed, values) && are_all_true(groups, values) {
         "Sat"
     } else {
         "Sat with wrong values"

@@ -18,9 +18,9 @@ use crate::given_names::given_names;
 use crate::laws::{exported_answer_is_proved, exported_file_is_spellable};
 use crate::negated::{Negated, lengths_before};
 use crate::netlists::netlist;
-use crate::parts::{Part, exported_part};
+use crate::parts::exported_part;
 use crate::symbols::number_symbols;
-use crate::written::write_lines;
+use crate::written::{LineSource, write_lines};
 use aiger_text::AagFile;
 use cert_text::{Dqp, StepList};
 use dq_formula::Formula;
@@ -69,26 +69,31 @@ fn export_ids(
         return Err(Memory);
     }
     let before = lengths_before(alloc, f)?;
-    let steps = proof_steps(alloc, log, id, ids, f, &part, &before)?;
-    let file = circuit_file(alloc, log, id, ids, f, &part)?;
+    let numbers = CircuitNumbers {
+        f,
+        log,
+        part: &part,
+    };
+    let steps = proof_steps(alloc, &numbers, id, ids, &before)?;
+    let file = circuit_file(alloc, &numbers, id, ids)?;
     Ok((file, Dqp { steps }))
 }
 
 // The circuit, with the variables' numbers as symbols.
 fn circuit_file(
     alloc: Global,
-    log: &Log,
+    numbers: &CircuitNumbers,
     id: u64,
     ids: &[u64],
-    f: &Formula,
-    part: &Part,
 ) -> Result<AagFile, Memory>
-    requires { AreCircuitIds f.now log.now.entries id ids.now (part_of part.now) }
-    ensures { IfOk result (λ file. IsCircuitFile f.now log.now.entries (part_of part.now) file) }
+    requires { AreCircuitIds numbers.now.f.now numbers.now.log.now.entries id ids.now
+        (part_of numbers.now.part.now) }
+    ensures { IfOk result (λ file. IsCircuitFile numbers.now.f.now numbers.now.log.now.entries
+        (part_of numbers.now.part.now) file) }
 {
     Ok(AagFile {
-        circuit: netlist(alloc, log, f, part)?,
-        symbols: number_symbols(alloc, f)?,
+        circuit: netlist(alloc, numbers.log, numbers.f, numbers.part)?,
+        symbols: number_symbols(alloc, numbers.f)?,
         comment: None,
     })
 }
@@ -96,25 +101,33 @@ fn circuit_file(
 // The lines of the derived clauses among some ids.
 fn proof_steps(
     alloc: Global,
-    log: &Log,
+    numbers: &CircuitNumbers,
     id: u64,
     ids: &[u64],
-    f: &Formula,
-    part: &Part,
     before: &[u64],
 ) -> Result<StepList, Memory>
-    requires ids { AreCircuitIds f.now log.now.entries id ids.now (part_of part.now) }
-    requires lengths { AreLengthsBefore f.now.matrix before.now }
-    ensures { IfOk result (AreProofSteps f.now log.now.entries (part_of part.now) ids.now) }
+    requires ids { AreCircuitIds numbers.now.f.now numbers.now.log.now.entries id ids.now
+        (part_of numbers.now.part.now) }
+    requires lengths { AreLengthsBefore numbers.now.f.now.matrix before.now }
+    ensures { IfOk result (AreProofSteps numbers.now.f.now numbers.now.log.now.entries
+        (part_of numbers.now.part.now) ids.now) }
 {
     clauses_are_named();
-    let names = given_names(alloc, log, ids, &CircuitNumbers { f, log, part })?;
-    let last = 3 * part.gates.len() as u64 + before[f.clauses()] + 1;
+    let names = given_names(alloc, numbers.log, ids, numbers)?;
+    let gates = &numbers.part.gates;
+    let last = 3 * gates.len() as u64 + before[numbers.f.clauses()] + 1;
     let base = Negated {
-        f,
-        gates: &part.gates,
+        f: numbers.f,
+        gates,
         before,
         last,
     };
-    write_lines(alloc, log, ids, &names, &base, last)
+    let source = LineSource {
+        log: numbers.log,
+        ids,
+        names: &names,
+        base: &base,
+        last,
+    };
+    write_lines(alloc, &source)
 }

@@ -5,6 +5,7 @@ ghost use Rattle.std.specs.List.Sorted.{IsStrictlyIncreasing};
 ghost use Rattle.dq_lits.specs.Derivation.{is_tautology};
 ghost use Rattle.cert_export.specs.Written.{place_in, needed_places};
 
+use cert_text::Step;
 use dq_lits::{Lit, Memory};
 use flat_lists::FlatLists;
 use rup_core::{Base, Derived, Marks, derive_any};
@@ -70,23 +71,23 @@ impl<'a> Base for ByPlace<'a> {
     }
 }
 
-// A line's hints by their places, up to the first that is falsified.
+// The places of a line's hints, which are among these ids, up to the first that is falsified.
 pub(crate) fn needed(
     alloc: Global,
     marks: &mut Marks,
     clauses: &FlatLists<Lit>,
     ids: &[u64],
-    lits: &[Lit],
-    hints: &[u64],
+    line: Step,
 ) -> Result<Vec<u64>, Memory>
     requires ascending { IsStrictlyIncreasing ids.now }
-    requires there { All (Contains ids.now) hints.now }
-    requires consistent { is_tautology lits.now ≡ false }
-    ensures { IfOk result (λ places. places.items ≡ needed_places clauses.now ids.now lits.now hints.now) }
+    requires there { All (Contains ids.now) line.hints.now }
+    requires consistent { is_tautology line.lits.now ≡ false }
+    ensures { IfOk result (λ places. places.items
+        ≡ needed_places clauses.now ids.now line.entry.lits.now line.entry.hints.now) }
 {
-    let mut places = places(alloc, ids, hints)?;
+    let mut places = places(alloc, ids, line.hints)?;
     let base = ByPlace { clauses };
-    match derive_any(marks, lits, &places, &base)? {
+    match derive_any(marks, line.lits, &places, &base)? {
         Derived::Yes => {}
         Derived::No(fault) => places.truncate(fault),
     }

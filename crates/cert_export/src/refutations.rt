@@ -17,7 +17,7 @@ ghost use Rattle.cert_export.specs.Exportable.{IsKnownInstance, AreExportable, A
 use crate::bases::Ground;
 use crate::given_names::given_names;
 use crate::pairs::PairNumbers;
-use crate::written::write_lines;
+use crate::written::{LineSource, write_lines};
 use cert_text::{Dqr, StepList};
 use dq_formula::Formula;
 use dq_lits::{Memory, RowList};
@@ -69,7 +69,14 @@ fn refutation_steps(alloc: Global, log: &Log, ids: &[u64], f: &Formula) -> Resul
         clauses: f.clauses(),
     };
     let last = log.rounds() * f.clauses() as u64;
-    write_lines(alloc, log, ids, &names, &base, last)
+    let source = LineSource {
+        log,
+        ids,
+        names: &names,
+        base: &base,
+        last,
+    };
+    write_lines(alloc, &source)
 }
 
 // The instances of so many clauses, by row and clause.

@@ -34,25 +34,37 @@ impl Model for Written {
     ghost view = { λ w. record { clauses = w.clauses; numbers = w.numbers.items; steps = w.steps } };
 }
 
-/// The lines of the derived clauses among some ids, numbered behind the last id of a base. It takes time for the clauses that are reached and
-/// their hints, and for each hint the logarithm of the ids; memory for these clauses.
+/// What lines are written from: some ids of a log, names for the variables of their clauses, and
+/// the base behind whose last id the lines are numbered.
+#[derive(Drop)]
+pub(crate) struct LineSource<'l, 'i, 'n, 'b, B> {
+    pub(crate) log: &'l Log,
+    pub(crate) ids: &'i [u64],
+    pub(crate) names: &'n Names,
+    pub(crate) base: &'b B,
+    /// The last id of the base.
+    pub(crate) last: u64,
+}
+
+/// The lines of the derived clauses among the source's ids. It takes time for the clauses that are
+/// reached and their hints, and for each hint the logarithm of the ids; memory for these clauses.
 pub(crate) fn write_lines<B: Ground>(
     alloc: Global,
-    log: &Log,
-    ids: &[u64],
-    names: &Names,
-    base: &B,
-    last: u64,
+    source: &LineSource<B>,
 ) -> Result<StepList, Memory>
-    requires can { CanBeWritten (renaming names.now) (B.Knows base.now) log.now.entries ids.now }
-    requires few { last < 2 ^ 63 }
-    ensures { IfOk result (λ steps. steps ≡ line_steps (renaming names.now) (B.ids base.now) log.now.entries (line_number last (derived_ids log.now.entries ids.now))
-        (derived_ids log.now.entries ids.now)) }
+    requires can { CanBeWritten (renaming source.now.names.now) (B.Knows source.now.base.now)
+        source.now.log.now.entries source.now.ids.now }
+    requires few { source.now.last < 2 ^ 63 }
+    ensures { IfOk result (λ steps. steps
+        ≡ line_steps (renaming source.now.names.now) (B.ids source.now.base.now)
+        source.now.log.now.entries
+        (line_number source.now.last (derived_ids source.now.log.now.entries source.now.ids.now))
+        (derived_ids source.now.log.now.entries source.now.ids.now)) }
 {
     let mut written = Written::new(alloc);
-    let mut marks = Marks::new(alloc, ids.len())?;
-    for place in 0..ids.len() {
-        written.add(alloc, &mut marks, log, ids, place, names, base, last)?;
+    let mut marks = Marks::new(alloc, source.ids.len())?;
+    for place in 0..source.ids.len() {
+        written.add(alloc, &mut marks, source, place)?;
     }
     Ok(written.into_steps())
 }
@@ -79,27 +91,36 @@ impl Written {
         &mut self,
         alloc: Global,
         marks: &mut Marks,
-        log: &Log,
-        ids: &[u64],
+        source: &LineSource<B>,
         place: usize,
-        names: &Names,
-        base: &B,
-        last: u64,
     ) -> Result<(), Memory>
-        requires can { CanBeWritten (renaming names.now) (B.Knows base.now) log.now.entries ids.now }
-        requires few { last < 2 ^ 63 }
-        requires place { place < length ids.now }
-        requires so_far { IsWritten (renaming names.now) (B.ids base.now) log.now.entries (line_number last (derived_ids log.now.entries ids.now)) (take place ids.now) self.old }
-        ensures { OnOk result (IsWritten (renaming names.now) (B.ids base.now) log.now.entries (line_number last (derived_ids log.now.entries ids.now))
-            (take (place + 1) ids.now) self.new) }
+        requires can { CanBeWritten (renaming source.now.names.now) (B.Knows source.now.base.now)
+            source.now.log.now.entries source.now.ids.now }
+        requires few { source.now.last < 2 ^ 63 }
+        requires place { place < length source.now.ids.now }
+        requires so_far { IsWritten (renaming source.now.names.now) (B.ids source.now.base.now)
+            source.now.log.now.entries
+            (line_number source.now.last
+            (derived_ids source.now.log.now.entries source.now.ids.now))
+            (take place source.now.ids.now) self.old }
+        ensures { OnOk result (IsWritten (renaming source.now.names.now) (B.ids source.now.base.now)
+            source.now.log.now.entries
+            (line_number source.now.last
+            (derived_ids source.now.log.now.entries source.now.ids.now))
+            (take (place + 1) source.now.ids.now) self.new) }
     {
-        let id = ids[place];
-        let clause = names.clause(alloc, log.clause(id))?;
+        let log = source.log;
+        let id = source.ids[place];
+        let clause = source.names.clause(alloc, log.clause(id))?;
         match log.origin(id) {
-            Some(origin) => self.add_given(&clause, base.id(origin)),
+            Some(origin) => self.add_given(&clause, source.base.id(origin)),
             None => {
-                let number = last + self.steps.len() as u64 + 1;
-                self.add_line(alloc, marks, ids, &clause, log.hints(id), number)
+                let line = Step {
+                    id: source.last + self.steps.len() as u64 + 1,
+                    lits: &clause,
+                    hints: log.hints(id),
+                };
+                self.add_line(alloc, marks, source.ids, line)
             }
         }
     }
@@ -113,31 +134,31 @@ impl Written {
         Ok(())
     }
 
-    // Writes a line, with the hints that it needs.
+    // Writes a line whose hints are among these ids, with the hints that it needs.
     fn add_line(
         &mut self,
         alloc: Global,
         marks: &mut Marks,
         ids: &[u64],
-        clause: &[Lit],
-        hints: &[u64],
-        number: u64,
+        line: Step,
     ) -> Result<(), Memory>
         requires ascending { IsStrictlyIncreasing ids.now }
-        requires there { All (Contains ids.now) hints.now }
-        requires earlier { All (λ place. place < length self.old.numbers) (map (place_in ids.now) hints.now) }
-        requires consistent { is_tautology clause.now ≡ false }
-        ensures { OnOk result (self.new ≡ with_line self.old ids.now clause.now hints.now number) }
+        requires there { All (Contains ids.now) line.hints.now }
+        requires earlier { All (λ place. place < length self.old.numbers)
+            (map (place_in ids.now) line.hints.now) }
+        requires consistent { is_tautology line.lits.now ≡ false }
+        ensures { OnOk result (self.new
+            ≡ with_line self.old ids.now line.entry.lits.now line.entry.hints.now line.entry.id) }
     {
-        let places = needed(alloc, marks, &self.clauses, ids, clause, hints)?;
+        let places = needed(alloc, marks, &self.clauses, ids, line)?;
         let hints = numbers_at(alloc, &self.numbers, &places)?;
         self.steps.push(Step {
-            id: number,
-            lits: clause,
+            id: line.id,
+            lits: line.lits,
             hints: &hints,
         })?;
-        self.clauses.push(clause)?;
-        self.numbers.push(number)?;
+        self.clauses.push(line.lits)?;
+        self.numbers.push(line.id)?;
         Ok(())
     }
 }

@@ -16,6 +16,7 @@ use Rattle.dqcheck_core.specs.Judgement.{IsJudgement, HoldsSkolemCircuit}
 use Rattle.dqcheck_core.specs.Outputs.{IsOutput, IsOutputDue, IsDueBehind, IsOutputBehind}
 use Rattle.dqcheck_core.specs.Report.{Report, usage, source_fault, long_formula, long_certificate, refused_formula, judged, line, answer_text, answer_status}
 use Rattle.dqcheck_core.specs.Running.{max_formula, max_certificate, IsTextOf, IsLong, IsFaultOf, IsFormulaOf, IsAnswerTo, IsUnreadable, PickedOnce, PickedTwice, IsDueFor, IsDue, AreTold, IsAnswered, IsProvedTrue, IsProvedFalse, IsAcceptance}
+use Rattle.dqcheck_core.specs.Statuses.{code}
 use Rattle.dqcheck_core.specs.declared.answers.Answer.{Answer}
 use Rattle.dqcheck_core.specs.declared.answers.Answer.TheVariants.{Refused, UndeclaredRead, BadRow, Unproved, UnderivedStep, NoEmptyClause, ValidTrue, ValidFalse}
 use Rattle.dqcheck_core.specs.declared.reports.Output.{Output}
@@ -72,6 +73,16 @@ output_behind before mid now c f (Ok output) picks one o = record {
 }
 output_behind before mid now c f (Err _) picks one o = tt
 
+-- the certificate was judged
+pub judged_behind : (before now : FilesState) (name : List ℕ) (f : Dqbf) (answer : Answer) (r : Result Output Memory) → IsAnswerTo f (before.held name) answer
+    → PickedOnce before now → IfOk r (IsOutput (judged f answer)) → IfOk r (IsOutputBehind before now name f)
+judged_behind before now name f answer (Ok output) told once is = record {
+  report = judged f answer;
+  due = (refl, told, once);
+  is = is;
+}
+judged_behind before now name f answer (Err _) told once is = tt
+
 fault_counted : (files files_now : FilesState) (c : Command) → IsDueFor files files_now c source_fault → Rose files.faults files_now.faults
 fault_counted files files_now c (inl (unreadable, once)) = unreadable.counted
 fault_counted files files_now c (inr (f, one, unreadable, picked)) = unreadable.counted
@@ -105,7 +116,7 @@ answered_by : FormulaLaw → (files files_now : FilesState) (c : Command) (formu
     → files.held c.formula ≡ Holds formula → files.held c.certificate ≡ Holds certificate
     → length formula ≤ max_formula → length certificate ≤ max_certificate → SpellsFormula formula f → (Rose files.faults files_now.faults → ⊥)
     → now ≡ append_known before output.text.items
-    → (report : Report) → IsDueFor files files_now c report → IsOutput report output → IsAnswered f certificate before now output.status
+    → (report : Report) → IsDueFor files files_now c report → IsOutput report output → IsAnswered f certificate before now (code output.status)
 answered_by law files files_now c formula certificate f before now output is_first is_second short_formula short_certificate spelled sound written usage due is = absurd due
 answered_by law files files_now c formula certificate f before now output is_first is_second short_formula short_certificate spelled sound written source_fault due is = absurd (sound (fault_counted files files_now c due))
 answered_by law files files_now c formula certificate f before now output is_first is_second short_formula short_certificate spelled sound written long_formula due is =
@@ -127,7 +138,7 @@ pub answered : FormulaLaw → (files files_now : FilesState) (words : List (List
     → IsOutputDue files files_now (command_of words) output → now ≡ append_known before output.text.items
     → (formula certificate : List ℕ) (f : Dqbf) → AreTold files.held words formula certificate
     → length formula ≤ max_formula → length certificate ≤ max_certificate → SpellsFormula formula f → (Rose files.faults files_now.faults → ⊥)
-    → IsAnswered f certificate before now output.status
+    → IsAnswered f certificate before now (code output.status)
 answered law files files_now words before now output o written formula certificate f told short_formula short_certificate spelled sound =
     answered_by law files files_now told.command formula certificate f before now output told.formula_held told.certificate_held
     short_formula short_certificate spelled sound written o.report
@@ -155,7 +166,7 @@ verdict_of law g certificate before now ValidFalse formed judgement status writt
 
 accepted_by : AcceptanceLaw → (files files_now : FilesState) (c : Command) (formula certificate : List ℕ) (before now : Option (List ℕ)) (output : Output)
     → files.held c.formula ≡ Holds formula → files.held c.certificate ≡ Holds certificate
-    → now ≡ append_known before output.text.items → output.status ≡ 0
+    → now ≡ append_known before output.text.items → code output.status ≡ 0
     → (report : Report) → IsDueFor files files_now c report → IsOutput report output → IsAcceptance formula certificate before now
 accepted_by law files files_now c formula certificate before now output is_first is_second written accepted usage due is = absurd due
 accepted_by law files files_now c formula certificate before now output is_first is_second written accepted source_fault due is =
@@ -179,7 +190,7 @@ accepted_by law files files_now c formula certificate before now output is_first
 
 pub accepted : AcceptanceLaw → (files files_now : FilesState) (words : List (List ℕ)) (before now : Option (List ℕ)) (output : Output)
     → IsOutputDue files files_now (command_of words) output → now ≡ append_known before output.text.items
-    → (formula certificate : List ℕ) → AreTold files.held words formula certificate → output.status ≡ 0 → IsAcceptance formula certificate before now
+    → (formula certificate : List ℕ) → AreTold files.held words formula certificate → code output.status ≡ 0 → IsAcceptance formula certificate before now
 accepted law files files_now words before now output o written formula certificate told success =
     accepted_by law files files_now told.command formula certificate before now output told.formula_held told.certificate_held written success o.report
     (subst (λ command. IsDue files files_now command o.report) told.is o.due) o.is

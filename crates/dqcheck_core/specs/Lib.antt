@@ -4,3 +4,4 @@ pub mod Outputs
 pub mod Places
 pub mod Report
 pub mod Running
+pub mod Statuses

@@ -5,11 +5,12 @@ use Rattle.dq_lits.specs.Formula.{Dqbf}
 use Rattle.dqcheck_words.specs.Command.{Command}
 use Rattle.dqcheck_core.specs.Report.{Report, usage, source_fault, long_formula, long_certificate, refused_formula, judged, text_of, status_of}
 use Rattle.dqcheck_core.specs.Running.{max_certificate, IsLong, IsAnswerTo, IsUnreadable, PickedOnce, IsDue}
+use Rattle.dqcheck_core.specs.Statuses.{code}
 use Rattle.dqcheck_core.specs.declared.reports.Output.{Output}
 
 -- the text and the status of a report
 pub record IsOutput (report : Report) (output : Output) : Type 0 where
-  pub status : output.status ≡ status_of report
+  pub status : code output.status ≡ status_of report
   pub text : output.text.items ≡ text_of report
 
 pub record IsOutputDue (before now : FilesState) (command : Option Command) (output : Output) : Type 0 where

@@ -9,6 +9,7 @@ pub use answers::{Answer, CertificateFault};
 pub use judging::judge;
 pub use names::formula_fault_name;
 pub use run::dqcheck_run;
+pub use statuses::Status;
 
 mod answers;
 mod circuits;
@@ -17,3 +18,4 @@ pub mod laws;
 mod names;
 mod reports;
 mod run;
+mod statuses;

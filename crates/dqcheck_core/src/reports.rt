@@ -3,9 +3,11 @@
 ghost use Rattle.std.specs.Prelude.{◌≡◌, ◌++◌, codes, IfOk, OnOk};
 ghost use Rattle.dqcheck_core.specs.Report.{usage, source_fault, long_formula, long_certificate, refused_formula, judged, line, fault_text, row_text, answer_text, answer_status};
 ghost use Rattle.dqcheck_core.specs.Outputs.{IsOutput};
+ghost use Rattle.dqcheck_core.specs.Statuses.{code};
 
 use crate::answers::Answer;
 use crate::names::{certificate_fault_name, formula_fault_name};
+use crate::statuses::Status;
 use dq_formula::Formula;
 use dq_lits::Memory;
 use dq_text::push_natural;
@@ -15,7 +17,7 @@ use std::alloc::Global;
 /// A text to be written, and the status to end with.
 #[derive(Debug, Drop)]
 pub struct Output {
-    pub status: u8,
+    pub status: Status,
     pub text: Vec<u8>,
 }
 
@@ -25,7 +27,7 @@ pub fn usage_output(alloc: Global) -> Result<Output, Memory>
 {
     let text = format!(in alloc; "usage: dqcheck FORMULA CERT\n")?;
     Ok(Output {
-        status: 1,
+        status: Status::Usage,
         text: text.into_bytes(),
     })
 }
@@ -36,7 +38,7 @@ pub fn source_fault_output(alloc: Global) -> Result<Output, Memory>
 {
     let text = format!(in alloc; "source fault\n")?;
     Ok(Output {
-        status: 3,
+        status: Status::SourceFault,
         text: text.into_bytes(),
     })
 }
@@ -47,7 +49,7 @@ pub fn long_formula_output(alloc: Global) -> Result<Output, Memory>
 {
     let text = format!(in alloc; "too long formula\n")?;
     Ok(Output {
-        status: 6,
+        status: Status::TooLong,
         text: text.into_bytes(),
     })
 }
@@ -58,7 +60,7 @@ pub fn long_certificate_output(alloc: Global) -> Result<Output, Memory>
 {
     let text = format!(in alloc; "too long certificate\n")?;
     Ok(Output {
-        status: 6,
+        status: Status::TooLong,
         text: text.into_bytes(),
     })
 }
@@ -68,7 +70,10 @@ pub fn refused_output(alloc: Global, line: u64, name: FormulaFault) -> Result<Ou
     ensures { IfOk result (IsOutput (refused_formula (record { line = line; name = name }))) }
 {
     let text = fault_line(alloc, "refused", line, formula_fault_name(name))?;
-    Ok(Output { status: 2, text })
+    Ok(Output {
+        status: Status::RefusedFormula,
+        text,
+    })
 }
 
 /// The certificate was judged.
@@ -82,18 +87,18 @@ pub fn judged_output(alloc: Global, f: &Formula, answer: Answer) -> Result<Outpu
     })
 }
 
-fn answer_status(answer: Answer) -> u8
-    ensures { result ≡ answer_status answer }
+fn answer_status(answer: Answer) -> Status
+    ensures { code result ≡ answer_status answer }
 {
     match answer {
-        Answer::Refused { .. } => 7,
-        Answer::UndeclaredRead { .. } => 8,
-        Answer::BadRow { .. } => 8,
-        Answer::Unproved { .. } => 9,
-        Answer::UnderivedStep { .. } => 8,
-        Answer::NoEmptyClause => 8,
-        Answer::ValidTrue => 0,
-        Answer::ValidFalse => 0,
+        Answer::Refused { .. } => Status::RefusedCertificate,
+        Answer::UndeclaredRead { .. } => Status::WrongCertificate,
+        Answer::BadRow { .. } => Status::WrongCertificate,
+        Answer::Unproved { .. } => Status::Unproved,
+        Answer::UnderivedStep { .. } => Status::WrongCertificate,
+        Answer::NoEmptyClause => Status::WrongCertificate,
+        Answer::ValidTrue => Status::Accepted,
+        Answer::ValidFalse => Status::Accepted,
     }
 }
 

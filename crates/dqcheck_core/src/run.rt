@@ -8,6 +8,7 @@ ghost use Rattle.dqdimacs_reader.specs.Grammar.{SpellsFormula};
 ghost use Rattle.dqcheck_words.specs.Command.{Command, command_of};
 ghost use Rattle.dqcheck_core.specs.Running.{max_formula, max_certificate, Ends, AreTold, IsAcceptance, IsAnswered};
 ghost use Rattle.dqcheck_core.specs.Outputs.{IsOutputDue, IsOutputBehind};
+ghost use Rattle.dqcheck_core.specs.Statuses.{code};
 
 use crate::judging::judge;
 use crate::laws::{acceptance_is_sound, one_judgement};
@@ -15,6 +16,7 @@ use crate::reports::{
     Output, judged_output, long_certificate_output, long_formula_output, refused_output,
     source_fault_output, usage_output,
 };
+use crate::statuses::Status;
 use dq_formula::Formula;
 use dq_io::{Files, ReadStop, Sink, read_all, write_all};
 use dq_lits::Memory;
@@ -68,11 +70,11 @@ pub fn dqcheck_run<F: Files, K: Sink>(
     acceptance_is_sound();
     formula_or_first_fault();
     let Ok(output) = report(alloc, words, files) else {
-        return 5;
+        return Status::WantOfMemory.code();
     };
     match write_all(out, &output.text) {
-        Ok(()) => output.status,
-        Err(_) => 4,
+        Ok(()) => output.status.code(),
+        Err(_) => Status::SinkFault.code(),
     }
 }
 
@@ -80,8 +82,10 @@ pub fn dqcheck_run<F: Files, K: Sink>(
 fn report<F: Files>(alloc: Global, words: &[String], files: &mut F) -> Result<Output, Memory>
     ensures due { IfOk result (IsOutputDue (state_of F.Files files.old) (state_of F.Files files.new)
         (command_of (map string_bytes words.now))) }
-    ensures long { IfOk result (λ output. output.status ≡ 6 → max_formula < F.given files.new) }
-    ensures unfaulted { IfOk result (λ output. output.status ≢ 3 → F.faults files.new ≡ F.faults files.old) }
+    ensures long { IfOk result (λ output. code output.status ≡ 6
+        → max_formula < F.given files.new) }
+    ensures unfaulted { IfOk result (λ output. code output.status ≢ 3
+        → F.faults files.new ≡ F.faults files.old) }
     ensures held { F.held files.new ≡ F.held files.old }
 {
     match file_names(alloc, words)? {
@@ -94,8 +98,10 @@ fn report<F: Files>(alloc: Global, words: &[String], files: &mut F) -> Result<Ou
 fn report_files<F: Files>(alloc: Global, names: FileNames, files: &mut F) -> Result<Output, Memory>
     ensures due { IfOk result (IsOutputDue (state_of F.Files files.old) (state_of F.Files files.new)
         (Some (record { formula = names.entry.formula.now; certificate = names.entry.certificate.now }))) }
-    ensures long { IfOk result (λ output. output.status ≡ 6 → max_formula < F.given files.new) }
-    ensures unfaulted { IfOk result (λ output. output.status ≢ 3 → F.faults files.new ≡ F.faults files.old) }
+    ensures long { IfOk result (λ output. code output.status ≡ 6
+        → max_formula < F.given files.new) }
+    ensures unfaulted { IfOk result (λ output. code output.status ≢ 3
+        → F.faults files.new ≡ F.faults files.old) }
     ensures held { F.held files.new ≡ F.held files.old }
 {
     let text = match read_all(alloc, files, names.formula, MAX_FORMULA) {
@@ -123,8 +129,10 @@ fn report_certificate<F: Files>(
     requires { IsWellFormed formula.now }
     ensures due { IfOk result (IsOutputBehind (state_of F.Files files.old) (state_of F.Files files.new)
         names.entry.certificate.now formula.now) }
-    ensures long { IfOk result (λ output. output.status ≡ 6 → max_certificate < F.given files.new) }
-    ensures unfaulted { IfOk result (λ output. output.status ≢ 3 → F.faults files.new ≡ F.faults files.old) }
+    ensures long { IfOk result (λ output. code output.status ≡ 6
+        → max_certificate < F.given files.new) }
+    ensures unfaulted { IfOk result (λ output. code output.status ≢ 3
+        → F.faults files.new ≡ F.faults files.old) }
     ensures held { F.held files.new ≡ F.held files.old }
 {
     let text = match read_all(alloc, files, names.certificate, MAX_CERTIFICATE) {

@@ -4,12 +4,9 @@
 #![tactic(auto)]
 
 use dq_io::{RealFiles, RealSink};
-use dqcheck_core::dqcheck_run;
+use dqcheck_core::{Status, dqcheck_run};
 use std::process::ExitCode;
 use std::{env, io};
-
-/// The status for want of memory.
-const WANT_OF_MEMORY: u8 = 5;
 
 /// Judges the certificate that the command line names, writes one line, and answers the status to end with.
 pub fn run(rt: &HostRuntime) -> ExitCode {
@@ -17,7 +14,7 @@ pub fn run(rt: &HostRuntime) -> ExitCode {
     let mut out = RealSink::new(rt);
     let status = match words(rt) {
         Ok(words) => dqcheck_run(rt.alloc(), &words, &mut files, &mut out),
-        Err(error) if error.kind() == io::ErrorKind::OutOfMemory => WANT_OF_MEMORY,
+        Err(error) if error.kind() == io::ErrorKind::OutOfMemory => Status::WantOfMemory.code(),
         Err(_) => dqcheck_run(rt.alloc(), &[], &mut files, &mut out),
     };
     ExitCode::from(status)

@@ -4,6 +4,10 @@ use Rattle.cert_export.specs.declared.parts.Part.{Part}
 use Rattle.cert_export.proofs.ExportingCircuits.{small_part}
 use Rattle.cert_export.proofs.circuits.export_ids.Goals as goal
 
+pub invariant_of-numbers : goal.invariant_of-numbers
+invariant_of-numbers c =
+    record { small = small_part c.args.f.now c.in_ok-part.part.gates c.requires.well_formed.prefix c.requires.few_variables c.requires.few_clauses (let n = c.len.ensures.value in let few = c.if-len-gt-MOST.false in omega (arith, n, few)) }
+
 pub proof_steps-requires-clause-ids : goal.proof_steps-requires-clause-ids
 proof_steps-requires-clause-ids c = record {
   decided = c.requires;

@@ -9,7 +9,7 @@ use Rattle.cert_export.proofs.lines.needed.Goals as goal
 pub returns : goal.returns
 returns c =
     let live = slice_get c.args.clauses.now in
-    let lits = c.args.lits.now in
+    let lits = c.args.line.lits.now in
     let places = c.in_ok-places.places.items in
     let cut : truncated c.in_ok-derive_any.field-0 places ≡ cut_hints live (map opposite lits) places =
     needed_is c.in_ok-derive_any.field-0 live lits places c.requires.consistent (c.in_ok-derive_any.ensures.answer ∙ ap (line_fault live lits) c.deref.ensures.value) in

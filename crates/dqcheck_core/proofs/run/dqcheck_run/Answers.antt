@@ -1,12 +1,14 @@
-use Rattle.std.proofs.Common.{ap, ◌∙◌, map, string_bytes}
+use Rattle.std.proofs.Common.{ℕ, ap, sym, subst, ◌∙◌, map, string_bytes}
 use Rattle.std.specs.Io.KnownBytes.{append_known}
 use Rattle.dq_io.specs.State.{state_of}
+use Rattle.dqcheck_core.specs.Running.{IsAnswered}
 use Rattle.dqcheck_core.proofs.Runs.{answered, accepted}
 use Rattle.dqcheck_core.proofs.run.dqcheck_run.Goals as goal
 
 pub returns-in-Ok-write_all-clause-answered : goal.returns-in-Ok-write_all-clause-answered
 returns-in-Ok-write_all-clause-answered g c formula certificate f told short_formula short_certificate spelled sound _ _ =
-    answered
+    subst (λ (status : ℕ). IsAnswered f certificate (g.K.Sink.taken c.args.out.now) (g.K.Sink.taken c.write_all.new.sink) status) (sym c.code-in-Ok-write_all.ensures)
+    (answered
     (record {
       exact = λ text f. (c.formula_or_first_fault.ensures.exact text f).0;
       unique = c.formula_or_first_fault.ensures.unique;
@@ -15,10 +17,10 @@ returns-in-Ok-write_all-clause-answered g c formula certificate f told short_for
     (map string_bytes c.args.words.now) (g.K.Sink.taken c.args.out.now) (g.K.Sink.taken c.write_all.new.sink) c.in-Ok.output
     c.in-Ok.ensures.due
     (c.in-Ok-write_all.ensures.ok ∙ ap (append_known (g.K.Sink.taken c.args.out.now)) c.deref.ensures.value)
-    formula certificate f told short_formula short_certificate spelled sound
+    formula certificate f told short_formula short_certificate spelled sound)
 
 pub returns-in-Ok-write_all-clause-accepted : goal.returns-in-Ok-write_all-clause-accepted
-returns-in-Ok-write_all-clause-accepted g c =
+returns-in-Ok-write_all-clause-accepted g c formula certificate told success =
     accepted
     (record {
       circuit = c.acceptance_is_sound.ensures.circuit;
@@ -29,3 +31,4 @@ returns-in-Ok-write_all-clause-accepted g c =
     (map string_bytes c.args.words.now) (g.K.Sink.taken c.args.out.now) (g.K.Sink.taken c.write_all.new.sink) c.in-Ok.output
     c.in-Ok.ensures.due
     (c.in-Ok-write_all.ensures.ok ∙ ap (append_known (g.K.Sink.taken c.args.out.now)) c.deref.ensures.value)
+    formula certificate told (sym c.code-in-Ok-write_all.ensures ∙ success)
