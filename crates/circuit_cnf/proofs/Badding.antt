@@ -15,9 +15,9 @@ use Rattle.hint_log.specs.Naming.{NamedLiteral, named_literal, name_literal, Are
 use Rattle.hint_log.specs.ProductiveLog.{fault_groups}
 use Rattle.log_laws.specs.Engines.{circuits, IsAddedBy}
 use Rattle.log_laws.proofs.Growing.{grown_by, grown_by_none, grown_then}
+use Rattle.log_laws.proofs.Kept.{named_stay, name_stays_by, name_cases}
 use Rattle.circuit_cnf.specs.Faults.{IsNamingBads}
 use Rattle.circuit_cnf.proofs.Giving.{contains_cases}
-use Rattle.circuit_cnf.proofs.Naming.{named_as_stays, name_stays_by, name_cases}
 
 abbrev pub bad_name : ℕ → ℕ → NamedLiteral
 bad_name group j = named_literal (Bad group j) false
@@ -67,7 +67,7 @@ bad_more group old log new bads i v before unnamed is = subst (λ l. BadsSoFar g
   whole : AreNamedAs (Named v (Bad group (i + 1)) ∷ log.entries) (bads ++ positive v ∷ []) (map (bad_name group) (range_with_len 1 (i + 1)))
   whole =
       let new_es = Named v (Bad group (i + 1)) ∷ log.entries in
-      let kept = named_as_stays log.entries new_es (name_stays_by log.entries v (Bad group (i + 1)) unnamed) bads (map (bad_name group) (range_with_len 1 i)) before.named in
+      let kept = named_stay log.entries new_es (name_stays_by log.entries v (Bad group (i + 1)) unnamed) bads (map (bad_name group) (range_with_len 1 i)) before.named in
       let here : name_literal new_es (positive v) ≡ Some (bad_name group (i + 1)) = ap (option_map (λ k. named_literal k false)) (cond-true (v == v) (Some (Bad group (i + 1))) (name_of log.entries v) (eq-eqb v v refl)) in
       let one : i + 1 ≡ suc i = omega arith in
       let last : 1 + i ≡ i + 1 = omega arith in

@@ -16,12 +16,12 @@ use Rattle.hint_log.specs.Naming.{named_literal}
 use Rattle.hint_log.specs.ProductiveLog.{fault_groups}
 use Rattle.log_laws.specs.Engines.{circuits, IsAddedBy, LeavesRest}
 use Rattle.log_laws.proofs.Growing.{leaves_rest, grown_then}
+use Rattle.log_laws.proofs.Kept.{named_stay}
 use Rattle.circuit_cnf.specs.declared.gates.Gates.{Gates}
 use Rattle.oracle.specs.declared.groups.Group.{Group}
 use Rattle.circuit_cnf.specs.Checking.{AreInputs}
 use Rattle.circuit_cnf.specs.Gates.{AreKnown, AreBadsStill, GrewByGates}
 use Rattle.circuit_cnf.specs.Leaves.{HasLeaf, HaveLeaves}
-use Rattle.circuit_cnf.proofs.Naming.{named_as_stays}
 use Rattle.circuit_cnf.proofs.SideLeaves.{leaf_stays}
 
 -- the first gates have their literals
@@ -66,7 +66,7 @@ literal_more f graph inputs marks first old gates log more new literals l i befo
   bads = λ v group j is. before.bads v group j (next.bads v group j is);
   known = next.known;
   ready = next.ready;
-  inputs_are = named_as_stays log.entries new.entries rest.names inputs (map (λ x. named_literal (InputName x) false) f.universals) before.inputs_are;
+  inputs_are = named_stay log.entries new.entries rest.names inputs (map (λ x. named_literal (InputName x) false) f.universals) before.inputs_are;
   have = λ g below marked. at g marked (below_or_here g (length literals) (let long = length-append literals (l ∷ []) in omega (arith, below, long)));
   count = let long = length-append literals (l ∷ []) in let c = before.count in omega (arith, long, c);
 } where

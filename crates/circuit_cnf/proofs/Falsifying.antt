@@ -18,20 +18,13 @@ use Rattle.hint_log.specs.Entries.{ProofLog, name_of, clause_at, clause_of, has_
 use Rattle.hint_log.specs.Growth.{Grew}
 use Rattle.hint_log.specs.Origins.{leaf_with_sign, leaf_clause}
 use Rattle.log_laws.specs.Circuits.{leaf_value}
+use Rattle.log_laws.proofs.Kept.{small_id}
 use Rattle.oracle.specs.Calls.{IsModelUnder, IsLearnedEntry}
 use Rattle.circuit_cnf.specs.declared.gates.Gates.{Gates}
 use Rattle.circuit_cnf.specs.Faults.{HasFault, AreGiven}
 use Rattle.circuit_cnf.specs.Gates.{HasGateClauses, AreKnown}
 use Rattle.circuit_cnf.specs.Turning.{NamesAreKept, AreFailing}
 use Rattle.circuit_cnf.proofs.Giving.{contains_cases}
-
-small_id : (es : List Entry) (id : ℕ) (c : List Literal) → clause_at es id ≡ Some c → id ≤ last_id es
-small_id [] id c h = cc
-small_id (x ∷ es) id c h = by (has_id x) (id == last_id es + 1) refl (small_id es id c) h where
-  by : (a b : Bool) → (id == last_id es + 1) ≡ b → (clause_at es id ≡ Some c → id ≤ last_id es) → option_and_then clause_of (cond (a && b) (Some x) (numbered has_id es id)) ≡ Some c → id ≤ cond a (last_id es + 1) (last_id es)
-  by true true same before is = let at = eqb-true id (last_id es + 1) same in omega (arith, at)
-  by true false other before is = let le = before is in omega (arith, le)
-  by false b other before is = before is
 
 -- a given clause has an id
 given_id : (es : List Entry) (o : Origin) (c : List Literal) → Contains es (Given o c) → (id : ℕ) × (clause_at es id ≡ Some c)

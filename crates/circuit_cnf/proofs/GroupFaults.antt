@@ -21,12 +21,12 @@ use Rattle.hint_log.specs.ProductiveLog.{fault_groups, with_group}
 use Rattle.log_laws.specs.Engines.{circuits, IsAddedBy, LeavesRest}
 use Rattle.log_laws.proofs.Found.{named_variable}
 use Rattle.log_laws.proofs.Growing.{leaves_rest, grown_then}
+use Rattle.log_laws.proofs.Kept.{NamesStay, named_stay}
 use Rattle.oracle.specs.Calls.{IsMade}
 use Rattle.oracle.specs.declared.groups.Group.{Group}
 use Rattle.circuit_cnf.specs.Faults.{HaveOneLeaf, AreFewWith, IsBadAt, HaveAllFaults, NamesBadsAlone, IsNamingBads, AreGiven, GrewByGroup}
 use Rattle.circuit_cnf.proofs.Badding.{bad_name}
 use Rattle.circuit_cnf.proofs.Giving.{contains_cases, contains_first}
-use Rattle.circuit_cnf.proofs.Naming.{NamesStay, named_as_stays}
 use Rattle.circuit_cnf.proofs.ClauseFaults.{few_more, fault_stays}
 
 pub record GroupSoFar (f : Dqbf) (group : ℕ) (leaf : ℕ → Leaf) (old log : ProofLog) : Type 0 where
@@ -134,7 +134,7 @@ pub all_given : (f : Dqbf) (group : ℕ) (leaf : ℕ → Leaf) (bads : List Lite
 all_given f group leaf bads named log new are names all is = subst (AreGiven f group leaf) (sym (ap (λ (l : ProofLog). l.entries) is)) (record {
   bads = bads;
   count = bads_count named.entries group (length f.matrix) bads are;
-  bads_are = bads_are_at (e ∷ log.entries) group (length f.matrix) bads (named_as_stays named.entries (e ∷ log.entries) (λ v n h. names v ∙ h) bads (map (bad_name group) (range_with_len 1 (length f.matrix))) are);
+  bads_are = bads_are_at (e ∷ log.entries) group (length f.matrix) bads (named_stay named.entries (e ∷ log.entries) (λ v n h. names v ∙ h) bads (map (bad_name group) (range_with_len 1 (length f.matrix))) are);
   some = contains_first e log.entries;
   all = λ j below i l small at. fault_stays group (variable_of (get_or bads j (positive 0))) (j + 1) (i + 1) l (leaf (variable_of l)) e log.entries (all j below i l small at);
 }) where

@@ -20,6 +20,7 @@ use Rattle.oracle.specs.Searched.{IsGivenToGroup}
 use Rattle.hint_log.specs.Naming.{NamedLiteral, named_literal, name_literal}
 use Rattle.log_laws.specs.Engines.{circuits, IsAddedBy, HasNone}
 use Rattle.log_laws.proofs.Growing.{grown_by, grown_by_none, grown_then}
+use Rattle.log_laws.proofs.Kept.{named_stay, name_stays_by, name_cases}
 use Rattle.oracle.specs.Calls.{IsMade}
 use Rattle.circuit_cnf.specs.declared.checkers.Checker.{Checker}
 use Rattle.circuit_cnf.specs.Checking.{AreInputs, IsChecker}
@@ -27,7 +28,7 @@ use Rattle.circuit_cnf.specs.Gates.{literal_code, pair_cmp, IsGateGiven, AreKnow
 use Rattle.circuit_cnf.proofs.Grouping.{no_gates_given}
 use Rattle.circuit_cnf.specs.Inputs.{HasNoGates, AreInputsOf}
 use Rattle.circuit_cnf.proofs.Giving.{contains_cases}
-use Rattle.circuit_cnf.proofs.Naming.{named_contains, named_as_stays, name_stays_by, name_cases}
+use Rattle.circuit_cnf.proofs.Naming.{named_contains}
 
 -- the first universals have inputs
 pub record InputsSoFar (f : Dqbf) (old log : ProofLog) (inputs : List Literal) (i : ℕ) : Type 0 where
@@ -105,7 +106,7 @@ input_more f old log new inputs i v before below unnamed is = subst (λ l. Input
   whole =
       let es = Named v (Input (get_or f.universals i 0)) ∷ log.entries in
       let g : ℕ → NamedLiteral = λ y. named_literal (Input y) false in
-      let old' = named_as_stays log.entries es (name_stays_by log.entries v (Input (get_or f.universals i 0)) unnamed) inputs (map g (take i f.universals)) before.inputs_are in
+      let old' = named_stay log.entries es (name_stays_by log.entries v (Input (get_or f.universals i 0)) unnamed) inputs (map g (take i f.universals)) before.inputs_are in
       let here : name_literal es (positive v) ≡ Some (g (get_or f.universals i 0)) =
       ap (option_map (λ k. named_literal k false)) (cond-true (v == v) (Some (Input (get_or f.universals i 0))) (name_of log.entries v) (eq-eqb v v refl)) in
       map-append (name_literal es) inputs (positive v ∷ [])
@@ -169,4 +170,4 @@ new_checker f log new checker none inputs made unnamed is empty ready grouped = 
 
   kept : AreInputs f.universals checker.inputs.items new.entries
   kept = subst (AreInputs f.universals checker.inputs.items) (sym entries_are)
-      (named_as_stays log.entries (Named (variable_of checker.gates.group.selector) (Selector (variable_of checker.gates.group.selector)) ∷ log.entries) (name_stays_by log.entries (variable_of checker.gates.group.selector) (Selector (variable_of checker.gates.group.selector)) unnamed) checker.inputs.items (map (λ x. named_literal (Input x) false) f.universals) inputs)
+      (named_stay log.entries (Named (variable_of checker.gates.group.selector) (Selector (variable_of checker.gates.group.selector)) ∷ log.entries) (name_stays_by log.entries (variable_of checker.gates.group.selector) (Selector (variable_of checker.gates.group.selector)) unnamed) checker.inputs.items (map (λ x. named_literal (Input x) false) f.universals) inputs)

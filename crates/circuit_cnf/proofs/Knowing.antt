@@ -20,12 +20,12 @@ use Rattle.oracle.specs.Calls.{IsMade}
 use Rattle.oracle.specs.declared.groups.Group.{Group}
 use Rattle.hint_log.specs.Growth.{Each}
 use Rattle.hint_log.specs.Origins.{gate_rest}
+use Rattle.log_laws.proofs.Kept.{NamesStay, name_stays_by, name_cases}
 use Rattle.aig_graph.proofs.Staying.{below_or_here}
 use Rattle.circuit_cnf.specs.declared.gates.Gates.{Gates}
 use Rattle.circuit_cnf.specs.declared.gates.Unfinished.{Unfinished}
 use Rattle.circuit_cnf.specs.Gates.{literal_code, pair_cmp, HasGateClauses, IsGateClause, IsGateGiven, IsUnfinished, AreKnown}
 use Rattle.circuit_cnf.proofs.Giving.{contains_cases, contains_more, contains_first}
-use Rattle.circuit_cnf.proofs.Naming.{NamesStay, name_stays_by, name_cases}
 
 -- literals have codes of their own
 pub same_code : (a b : Literal) → literal_code a ≡ literal_code b → a ≡ b

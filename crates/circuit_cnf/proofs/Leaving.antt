@@ -17,6 +17,7 @@ use Rattle.hint_log.specs.Naming.{named_literal}
 use Rattle.hint_log.specs.Origins.{IsGateRest, IsOriginsClause}
 use Rattle.log_laws.specs.Engines.{Engine, circuits, same_engine, name_engine, is_engine, is_own, IsInGroup, IsAddedBy}
 use Rattle.log_laws.proofs.Growing.{each_grown}
+use Rattle.log_laws.proofs.Kept.{NamesStay, named_stay, name_stays_by, name_cases, each_of_weaker}
 use Rattle.oracle.specs.Calls.{IsLearnedEntry}
 use Rattle.circuit_cnf.specs.declared.checkers.Checker.{Checker}
 use Rattle.circuit_cnf.specs.declared.gates.Gates.{Gates}
@@ -25,12 +26,11 @@ use Rattle.circuit_cnf.specs.Faults.{NamesBadsAlone}
 use Rattle.circuit_cnf.specs.Gates.{IsGateGiven}
 use Rattle.circuit_cnf.proofs.Giving.{contains_cases, contains_more}
 use Rattle.circuit_cnf.proofs.Knowing.{LeavesGates, known_stay, some_stays}
-use Rattle.circuit_cnf.proofs.Naming.{NamesStay, name_stays_by, name_cases, named_as_stays}
 
 pub checker_stays : (f : Dqbf) (checker : Checker) (old new : List Entry) → LeavesGates checker.gates old new → IsChecker f checker old → IsChecker f checker new
 checker_stays f checker old new leaves before = record {
   gates = known_stay checker.gates old new leaves before.gates;
-  inputs = named_as_stays old new leaves.stay checker.inputs.items (map (λ x. named_literal (Input x) false) f.universals) before.inputs;
+  inputs = named_stay old new leaves.stay checker.inputs.items (map (λ x. named_literal (Input x) false) f.universals) before.inputs;
   bads = λ v group j is. elim (leaves.bads v group j is) [ inl was ↦ some_stays old new leaves.stay group (before.bads v group j was) | inr some ↦ some ];
 }
 
@@ -116,10 +116,6 @@ leaves_elsewhere gates es (Round row values j) h = leaves_plain gates es (Round 
 pub all_elsewhere : (gates : Gates) (more old : List Entry) → EachOf (IsElsewhere (variable_of gates.group.selector)) more old → LeavesGates gates old (more ++ old)
 all_elsewhere gates [] old h = leaves_none gates old
 all_elsewhere gates (e ∷ more) old h = leaves_then gates old (more ++ old) (e ∷ more ++ old) (all_elsewhere gates more old h.1) (leaves_elsewhere gates (more ++ old) e h.0)
-
-pub each_of_weaker : (P Q : List Entry → Entry → Type 0) → ((earlier : List Entry) (e : Entry) → P earlier e → Q earlier e) → (more old : List Entry) → EachOf P more old → EachOf Q more old
-each_of_weaker P Q weaker [] old h = tt
-each_of_weaker P Q weaker (e ∷ more) old h = (weaker (more ++ old) e h.0, each_of_weaker P Q weaker more old h.1)
 
 learned_elsewhere : (group : ℕ) (earlier : List Entry) (e : Entry) → IsLearnedEntry earlier e → IsElsewhere group earlier e
 learned_elsewhere group earlier (Named v n) h = absurd h

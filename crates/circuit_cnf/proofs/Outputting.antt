@@ -18,6 +18,7 @@ use Rattle.hint_log.specs.ProductiveLog.{fault_groups}
 use Rattle.log_laws.specs.Engines.{circuits, LeavesRest}
 use Rattle.log_laws.proofs.Found.{numbered_among}
 use Rattle.log_laws.proofs.Growing.{leaves_rest}
+use Rattle.log_laws.proofs.Kept.{named_stay}
 use Rattle.circuit_cnf.specs.declared.checkers.Checker.{Checker}
 use Rattle.circuit_cnf.specs.declared.gates.Gates.{Gates}
 use Rattle.circuit_cnf.specs.Checking.{AreInputs, IsChecker}
@@ -25,7 +26,6 @@ use Rattle.circuit_cnf.specs.Gates.{AreKnown, AreBadsStill, GrewByGates}
 use Rattle.circuit_cnf.specs.Leaves.{HasLeaf, AreClosed, AreMarkedUniversals, HaveLeaves, leaf_by}
 use Rattle.circuit_cnf.specs.Turning.{AreLeavesOf}
 use Rattle.circuit_cnf.proofs.Knowing.{some_stays}
-use Rattle.circuit_cnf.proofs.Naming.{named_as_stays}
 use Rattle.circuit_cnf.proofs.SideLeaves.{side_has_leaf}
 
 pub few_same : (group : ℕ) (old new : ProofLog) → GrewByGates group old new → fault_groups new.entries ≡ fault_groups old.entries → length (fault_groups old.entries) ≤ rounds_of old.entries →
@@ -43,7 +43,7 @@ pub cone_checker : (f : Dqbf) (checker : Checker) (gates : Gates) (group : ℕ) 
     AreBadsStill log.entries new.entries → AreKnown gates new.entries → IsChecker f (record checker { gates = gates }) new.entries
 cone_checker f checker gates group old log new before names grew bads known = record {
   gates = known;
-  inputs = named_as_stays old.entries new.entries (λ v n is. rest.names v n (names v ∙ is)) checker.inputs.items (map (λ x. named_literal (InputName x) false) f.universals) before.inputs;
+  inputs = named_stay old.entries new.entries (λ v n is. rest.names v n (names v ∙ is)) checker.inputs.items (map (λ x. named_literal (InputName x) false) f.universals) before.inputs;
   bads = λ v g j is. some_stays old.entries new.entries (λ w n at. rest.names w n (names w ∙ at)) g (before.bads v g j (sym (names v) ∙ bads v g j is));
 } where
   rest : LeavesRest f circuits group true log.entries new.entries

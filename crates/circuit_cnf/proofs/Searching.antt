@@ -13,10 +13,9 @@ use Rattle.hint_log.specs.Growth.{EachOf, Grew}
 use Rattle.hint_log.specs.ProductiveLog.{fault_groups}
 use Rattle.log_laws.specs.Engines.{Engine, circuits, IsAddedBy, IsNamedBy}
 use Rattle.log_laws.proofs.Growing.{leaves_rest, grown_by, grown_then}
+use Rattle.log_laws.proofs.Kept.{NamesStay, each_of_weaker}
 use Rattle.oracle.specs.Calls.{IsLearnedEntry, IsRefutedUnder}
 use Rattle.circuit_cnf.specs.Faults.{AreFewWith}
-use Rattle.circuit_cnf.proofs.Leaving.{each_of_weaker}
-use Rattle.circuit_cnf.proofs.Naming.{NamesStay}
 
 module _ (f : Dqbf) (engine : Engine) (group : ℕ) (silent : Bool) (start : List Entry) where
   quieter : (earlier : List Entry) (e : Entry) → IsAddedBy f engine group true start earlier e → IsAddedBy f engine group silent start earlier e

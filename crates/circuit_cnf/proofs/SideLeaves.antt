@@ -17,9 +17,9 @@ use Rattle.hint_log.specs.Entries.{name_of}
 use Rattle.hint_log.specs.Naming.{named_literal, name_literal}
 use Rattle.hint_log.specs.Origins.{leaf_with_sign}
 use Rattle.log_laws.proofs.Found.{named_variable, slice_get_at}
+use Rattle.log_laws.proofs.Kept.{NamesStay}
 use Rattle.circuit_cnf.specs.Checking.{AreInputs}
 use Rattle.circuit_cnf.specs.Leaves.{HasLeaf, constant, input, gate, leaf_by, HaveLeaves, AreClosed, AreMarkedUniversals}
-use Rattle.circuit_cnf.proofs.Naming.{NamesStay}
 
 -- leaves stay as names do
 pub leaf_stays : (f : Dqbf) (graph : AigGraph) (old new : List Entry) → NamesStay old new → (n : Node) (leaf : Leaf) → HasLeaf f graph old n leaf → HasLeaf f graph new n leaf

@@ -12,6 +12,7 @@ use Rattle.hint_log.specs.Growth.{Each, Grew}
 use Rattle.hint_log.specs.ProductiveLog.{fault_groups}
 use Rattle.log_laws.specs.Engines.{circuits, IsOwnGiven, IsAddedBy}
 use Rattle.log_laws.proofs.Growing.{each_grown, grown_then}
+use Rattle.log_laws.proofs.Kept.{NamesStay, name_stays_by}
 use Rattle.oracle.specs.Calls.{IsMade, IsLearnedEntry, IsRefutedUnder}
 use Rattle.oracle.specs.Searched.{IsGivenToGroup}
 use Rattle.oracle.specs.declared.groups.Group.{Group}
@@ -23,7 +24,6 @@ use Rattle.circuit_cnf.proofs.Holding.{AreTwoGroups}
 use Rattle.circuit_cnf.proofs.Leaving.{checker_stays, leaves_elsewhere, group_leaves, added_stay, learned_leaves, leaves_then}
 use Rattle.std.specs.List.{Contains}
 use Rattle.circuit_cnf.proofs.Knowing.{LeavesGates}
-use Rattle.circuit_cnf.proofs.Naming.{NamesStay, name_stays_by}
 use Rattle.circuit_cnf.proofs.Searching.{any_silence, group_grew, learned_grew, answered_grew}
 
 -- a group was made for the turn

@@ -15,6 +15,7 @@ use Rattle.hint_log.specs.declared.names.Name.TheVariants.{Selector, Pair, Input
 use Rattle.hint_log.specs.declared.origins.Origin.{Origin}
 use Rattle.hint_log.specs.Naming.{arbiter}
 use Rattle.log_laws.specs.Engines.{Engine, is_own, part}
+use Rattle.log_laws.proofs.Kept.{small_id}
 
 -- a name in an engine's part is a name in the log
 pub own_name : (engine : Engine) (es : List Entry) (v : ℕ) (n : Name) → AreLogged es → name_of (part engine es) v ≡ Some n → name_of es v ≡ Some n
@@ -59,16 +60,6 @@ own_entry engine (x ∷ es) e h = by_own (is_own engine x) (own_entry engine es 
     by_own : (b : Bool) → (Contains (part engine es) e → Contains es e) → Contains (cond b (x ∷ part engine es) (part engine es)) e → Contains (x ∷ es) e
     by_own true before has = elim (head_or_tail e x (part engine es) has) [ inl here ↦ (0, omega arith, here) | inr behind ↦ later e x es (before behind) ]
     by_own false before has = later e x es (before has)
-
-small_id : (es : List Entry) (id : ℕ) (c : List Literal) → clause_at es id ≡ Some c → id ≤ last_id es
-small_id [] id c h = cc
-small_id (x ∷ es) id c h = by (has_id x) (id == last_id es + 1) refl (small_id es id c) h
-  where
-    by : (a b : Bool) → (id == last_id es + 1) ≡ b → (clause_at es id ≡ Some c → id ≤ last_id es) → option_and_then clause_of (cond (a && b) (Some x) (numbered has_id es id)) ≡ Some c
-        → id ≤ cond a (last_id es + 1) (last_id es)
-    by true true same before is = let at = eqb-true id (last_id es + 1) same in omega (arith, at)
-    by true false other before is = let le = before is in omega (arith, le)
-    by false b other before is = before is
 
 -- a given clause has an id
 pub given_id : (es : List Entry) (o : Origin) (c : List Literal) → Contains es (Given o c) → (id : ℕ) × (clause_at es id ≡ Some c)

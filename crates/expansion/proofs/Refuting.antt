@@ -23,10 +23,7 @@ use Rattle.oracle.specs.Searched.{IsSearched, IsGivenToGroup, IsOfGroup}
 use Rattle.oracle.proofs.Excluding.{same-sound}
 use Rattle.expansion.specs.Table.{TableState, IsTable, IsFullTable, IsRefutedBy}
 use Rattle.log_laws.proofs.Growing.{each_grown, filter_grown}
-
-each_of_weaker : (P Q : List Entry → Entry → Type 0) → ((earlier : List Entry) (e : Entry) → P earlier e → Q earlier e) → (more old : List Entry) → EachOf P more old → EachOf Q more old
-each_of_weaker P Q weaker [] old h = tt
-each_of_weaker P Q weaker (e ∷ more) old h = (weaker (more ++ old) e h.0, each_of_weaker P Q weaker more old h.1)
+use Rattle.log_laws.proofs.Kept.{each_of_weaker}
 
 module _ (f : Dqbf) (engine : Engine) (group : ℕ) (silent : Bool) (old : List Entry) where
   learned_is_added : (earlier : List Entry) (e : Entry) → IsLearnedEntry earlier e → IsAddedBy f engine group silent old earlier e

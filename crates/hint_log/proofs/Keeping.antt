@@ -9,7 +9,7 @@ use Rattle.indexmap.specs.IndexMap.{insert_entry}
 use Rattle.dq_lits.specs.Literal.{Literal, positive, negative, variable_of, is_negative}
 use Rattle.hint_log.specs.Conditions.{IsId, MayFollow, IsNewName, AreLogged}
 use Rattle.hint_log.specs.declared.kinds.EntryKind.{EntryKind}
-use Rattle.hint_log.specs.declared.kinds.EntryKind.TheVariants.{Naming, Clause, Failure}
+use Rattle.hint_log.specs.declared.kinds.EntryKind.TheVariants.{Naming, Clause}
 use Rattle.hint_log.specs.declared.kinds.ClauseKind.{ClauseKind}
 use Rattle.hint_log.specs.declared.kinds.ClauseKind.TheVariants.{OfLemma}
 use Rattle.hint_log.specs.declared.kinds.KeptRound.{KeptRound}
@@ -195,33 +195,6 @@ one_clause_more log limit steps counted es more_es names ks more_ks ls more_ls n
       limit_is = same_limit;
     }
 
-pub one_round_more : (log : ProofLog) (limit steps : ℕ) (es more_es : List EntryKind) (names : List (ℕ × Name)) (ks : List ClauseKind) (ls : List (List Literal))
-    (ns : List (List ℕ)) (rs more_rs : List KeptRound) (r : KeptRound) → record { limit = limit; entries = log_entries es names ks ls ns rs } ≡ log
-    → IsKept limit steps es names ks ls ns rs → steps_of log.entries < log.limit → more_es ≡ es ++ Failure ∷ [] → more_rs ≡ rs ++ r ∷ []
-    → IsMore (round_entry r) log limit (steps + 1) more_es names ks ls ns more_rs
-one_round_more log limit steps es more_es names ks ls ns rs more_rs r is kept room es_is rs_is =
-    let before = log_entries es names ks ls ns rs in
-    let same : before ≡ log.entries = ap (λ (p : ProofLog). p.entries) is in
-    let same_limit : limit ≡ log.limit = ap (λ (p : ProofLog). p.limit) is in
-    let kinds_back : reverse more_es ≡ Failure ∷ reverse es = ap reverse es_is ∙ newest es Failure in
-    let rounds_back : reverse more_rs ≡ r ∷ reverse rs = ap reverse rs_is ∙ newest rs r in
-    let entries : log_entries more_es names ks ls ns more_rs ≡ round_entry r ∷ before = rw (kinds_back, rounds_back) refl in
-    let less : steps_of before < limit = rw (same, same_limit) room in
-    let steps_are = kept.steps_are in
-    record {
-      kept = record {
-        interleaved = rw (kinds_back, rounds_back) kept.interleaved;
-        literals_long = kept.literals_long;
-        numbers_long = kept.numbers_long;
-        numbers_are = kept.numbers_are;
-        steps_are = rw entries (omega (arith, steps_are));
-        within = omega (arith, steps_are, less);
-        logged = rw entries ((tt, kept.logged));
-      };
-      entries = entries ∙ ap (λ ps. round_entry r ∷ ps) same;
-      limit_is = same_limit;
-    }
-
 -- an entry of a variable that has none stands at the end
 insert_absent : {V : Type 0} (entries : List (ℕ × V)) (k : ℕ) (v : V) → AllByRecursion (λ e. eqb k e.0 ≡ false) entries
     → insert_entry eqb entries k v ≡ entries ++ (k, v) ∷ []
@@ -277,10 +250,6 @@ one_name_more log limit steps var name es more_es names more_names ks ls ns rs i
     }
 
 -- a literal by its variable and its sign
-pub is_negative_literal : (l : Literal) → is_negative l ≡ true → l ≡ negative (variable_of l)
-is_negative_literal (positive v) is = absurd (true≢false (sym is))
-is_negative_literal (negative v) is = refl
-
 pub is_positive_literal : (l : Literal) → is_negative l ≡ false → l ≡ positive (variable_of l)
 is_positive_literal (positive v) is = refl
 is_positive_literal (negative v) is = absurd (true≢false is)

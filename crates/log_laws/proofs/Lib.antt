@@ -13,3 +13,4 @@ mod TrueLog
 mod MissingTrue
 mod TrueDecided
 pub mod Growing
+pub mod Kept

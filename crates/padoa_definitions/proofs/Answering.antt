@@ -1,5 +1,5 @@
 -- What a search leaves and shows.
-use Rattle.std.proofs.Common.{◌≡◌, ◌≢◌, ℕ, zero, suc, ◌+◌, ◌<◌, Bool, true, false, List, [], ◌∷◌, ◌++◌, map, length, get_or, Some, IsSome, slice_get, refl, sym, ◌∙◌, ap, subst, arith}
+use Rattle.std.proofs.Common.{◌≡◌, ◌≢◌, ℕ, zero, suc, ◌+◌, ◌<◌, Bool, true, false, List, [], ◌∷◌, map, length, get_or, Some, IsSome, slice_get, refl, sym, ◌∙◌, ap, subst, arith}
 use Rattle.std.specs.List.{All, Contains}
 use Rattle.std.proofs.lemmas.List.{get_or_default}
 use Rattle.std.proofs.lemmas.List.Elements.{All-cons, All-nil, Contains-get_or, Contains-append_right}
@@ -10,13 +10,14 @@ use Rattle.definition_order.specs.Order.{MayRead}
 use Rattle.hint_log.specs.Conditions.{IsId, AreLogged}
 use Rattle.hint_log.specs.Entries.{Entry, Named, Given, Learned, Answer, Round, ProofLog, has_id, numbered, last_id, name_of}
 use Rattle.hint_log.specs.Deciding.{DecidesNothing}
-use Rattle.hint_log.specs.Growth.{EachOf, Grew}
+use Rattle.hint_log.specs.Growth.{Grew}
 use Rattle.hint_log.specs.Naming.{named_literal, name_literal}
 use Rattle.hint_log.specs.Reached.{Reaches}
 use Rattle.hint_log.specs.declared.names.Name.{Name}
 use Rattle.hint_log.specs.declared.names.Name.TheVariants.{Copy as CopyOf}
 use Rattle.log_laws.specs.Engines.{copies, IsAddedBy}
 use Rattle.log_laws.proofs.Found.{named_variable}
+use Rattle.log_laws.proofs.Kept.{NamesStay, literal_stays, each_of_weaker}
 use Rattle.oracle.specs.Calls.{IsMade, IsLearnedEntry, IsRefutedUnder, assumed}
 use Rattle.oracle.specs.Searched.{IsSearched}
 use Rattle.oracle.specs.declared.groups.Group.{Group}
@@ -26,15 +27,11 @@ use Rattle.padoa_definitions.specs.Copies.{groups_of, AreCopiesOf, IsPadoa}
 use Rattle.padoa_definitions.specs.Dividing.{AreActive, ShowsDefinition}
 use Rattle.padoa_definitions.specs.Seeing.{ArePlaces}
 use Rattle.padoa_definitions.specs.declared.padoa.Padoa.{Padoa}
-use Rattle.padoa_definitions.proofs.Keeping.{Keeps, NamesStay, IsNamed, keeps_by_engine, keeps_entry, padoa_stays, literal_stays}
+use Rattle.padoa_definitions.proofs.Keeping.{Keeps, IsNamed, keeps_by_engine, keeps_entry, padoa_stays}
 use Rattle.padoa_definitions.proofs.Standing.{groups_named}
 use Rattle.padoa_definitions.proofs.Reached.{LinesAreImplied, undecided_answer}
 use Rattle.padoa_definitions.proofs.Dividing.{divides, only_copies}
 use Rattle.definition_order.proofs.Declared.{find_sound, some_existential}
-
-each_weaker : (P Q : List Entry → Entry → Type 0) → ((earlier : List Entry) (e : Entry) → P earlier e → Q earlier e) → (more old : List Entry) → EachOf P more old → EachOf Q more old
-each_weaker P Q weaker [] old h = tt
-each_weaker P Q weaker (e ∷ more) old h = (weaker (more ++ old) e h.0, each_weaker P Q weaker more old h.1)
 
 learned_is_added : (f : Dqbf) (group : ℕ) (silent : Bool) (old earlier : List Entry) (e : Entry) → IsLearnedEntry earlier e → IsAddedBy f copies group silent old earlier e
 learned_is_added f group silent old earlier (Named v n) h = absurd h
@@ -48,7 +45,7 @@ pub learned_grew : (f : Dqbf) (old new : ProofLog) → Grew IsLearnedEntry old n
 learned_grew f old new g group = record {
   more = g.more;
   grown = g.grown;
-  each = each_weaker IsLearnedEntry (IsAddedBy f copies group true old.entries) (learned_is_added f group true old.entries) g.more old.entries g.each;
+  each = each_of_weaker IsLearnedEntry (IsAddedBy f copies group true old.entries) (learned_is_added f group true old.entries) g.more old.entries g.each;
   limit = g.limit;
 }
 

@@ -1,8 +1,8 @@
 -- Copies of variables, as they are named and looked up.
-use Rattle.std.proofs.Common.{◌≡◌, ◌≢◌, ◌⊎◌, ℕ, zero, suc, ◌+◌, ◌<◌, ◌≤◌, ◌==◌, Bool, true, false, cond, inl, inr, List, [], ◌∷◌, ◌++◌, map, length, take, get_or, slice_get, position, Option, Some, None, refl, sym, ◌∙◌, ap, subst, arith}
+use Rattle.std.proofs.Common.{◌≡◌, ◌≢◌, ℕ, zero, suc, ◌+◌, ◌<◌, ◌≤◌, ◌==◌, true, false, inl, inr, List, [], ◌∷◌, ◌++◌, map, length, take, get_or, slice_get, position, Option, Some, None, refl, sym, ◌∙◌, ap, subst, arith}
 use Rattle.std.specs.List.{AllPairs, Contains}
 use Rattle.std.specs.Option.{option_map}
-use Rattle.std.proofs.lemmas.Bool.{eqb-true, eq-eqb, cond-true, cond-false, ne_eqb}
+use Rattle.std.proofs.lemmas.Bool.{eqb-true, eq-eqb, cond-true}
 use Rattle.std.proofs.lemmas.List.{take_all, take_more, map-append}
 use Rattle.std.proofs.lemmas.List.Quantifiers.{position-Some}
 use Rattle.std.proofs.lemmas.Option.{slice_get-get_or, get_or_from_slice_get}
@@ -15,9 +15,10 @@ use Rattle.hint_log.specs.declared.names.Name.{Name}
 use Rattle.hint_log.specs.declared.names.Name.TheVariants.{Copy as CopyOf}
 use Rattle.log_laws.specs.Engines.{copies, IsAddedBy}
 use Rattle.log_laws.proofs.Growing.{grown_by, grown_by_none, grown_then}
+use Rattle.log_laws.proofs.Kept.{named_stay, name_stays_by, name_cases}
 use Rattle.padoa_definitions.specs.Copies.{AreCopiesOf, copy_names}
 use Rattle.padoa_definitions.specs.Growing.{AreUncopied, AreNamedSoFar}
-use Rattle.padoa_definitions.proofs.Keeping.{NamesStay, contains_cases, named_stay}
+use Rattle.padoa_definitions.proofs.Keeping.{contains_cases}
 
 pub element_at : {X : Type 0} (xs : List X) (i : ℕ) (x : X) → slice_get xs i ≡ Some x → Contains xs x
 element_at [] i x h = cc
@@ -103,18 +104,6 @@ clause_more es side clause lits more i l k lt at are is pushed =
     let taken : map g (take (i + 1) clause) ≡ map g (take i clause) ++ g l ∷ [] =
     ap (map g) (take_more clause i l lt ∙ ap (λ j. take i clause ++ j ∷ []) at) ∙ map-append g (take i clause) (l ∷ []) in
     subst (λ ns. AreNamedAs es more ns) (sym taken) (subst (λ ls. AreNamedAs es ls (map g (take i clause) ++ g l ∷ [])) (sym pushed) (named_push es lits (map g (take i clause)) k (g l) are is))
-
--- a name more
-pub name_stays_by : (es : List Entry) (v : ℕ) (m : Name) → name_of es v ≡ None → NamesStay es (Named v m ∷ es)
-name_stays_by es v m unnamed w n is =
-    let differ : w ≢ v = λ same. (let both : None ≡ Some n = sym unnamed ∙ ap (name_of es) (sym same) ∙ is in cc) in
-    cond-false (w == v) (Some m) (name_of es w) (ne_eqb w v differ) ∙ is
-
-pub name_cases : (es : List Entry) (v w : ℕ) (m n : Name) → name_of (Named v m ∷ es) w ≡ Some n → ((w ≡ v) × (m ≡ n)) ⊎ (name_of es w ≡ Some n)
-name_cases es v w m n is = by (w == v) refl is where
-  by : (b : Bool) → (w == v) ≡ b → cond b (Some m) (name_of es w) ≡ Some n → ((w ≡ v) × (m ≡ n)) ⊎ (name_of es w ≡ Some n)
-  by true e is = inl (eqb-true w v e, cc)
-  by false e is = inr is
 
 pub none_named : (side : ℕ) (vars : List ℕ) (log : ProofLog) (lits : List Literal) → lits ≡ [] → AreUncopied side vars log.entries → AreNamedSoFar side vars 0 log log lits
 none_named side vars log lits empty fresh = record {

@@ -23,6 +23,7 @@ use Rattle.aig_graph.specs.declared.nodes.Node.{Node}
 use Rattle.interpolants.specs.Interpolant.{Partition, partition, IsReachedGiven, IsOther}
 use Rattle.interpolants.proofs.Truth.{any_witness, same_literal-sound, same_literal-refl, opposite-opposite}
 use Rattle.log_laws.proofs.Found.{named_variable, numbered_among}
+use Rattle.log_laws.proofs.Kept.{NamesStay, named_stay}
 use Rattle.oracle.specs.Calls.{assumed, IsMade, IsPlain}
 use Rattle.oracle.specs.Searched.{IsSearched}
 use Rattle.oracle.specs.declared.groups.Group.{Group}
@@ -31,7 +32,6 @@ use Rattle.padoa_definitions.specs.Dividing.{IsCopyGiven, IsLinkGiven, IsSelecto
 use Rattle.padoa_definitions.specs.Seeing.{ArePlaces}
 use Rattle.padoa_definitions.specs.declared.padoa.Padoa.{Padoa}
 use Rattle.padoa_definitions.proofs.Copying.{opposite_name}
-use Rattle.padoa_definitions.proofs.Keeping.{NamesStay, named_stay}
 use Rattle.padoa_definitions.proofs.Reached.{IsOfCopies, IsOfAnswer, of_answer, is_given_entry, reached_given, earlier_stay, group_named, own_at}
 
 -- right clauses by their origins

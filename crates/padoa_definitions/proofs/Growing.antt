@@ -21,11 +21,12 @@ use Rattle.hint_log.specs.declared.origins.Origin.TheVariants.{Instance, Gate, F
 use Rattle.log_laws.specs.Engines.{circuits, copies, origin_engine, IsAddedBy}
 use Rattle.log_laws.proofs.Found.{named_variable}
 use Rattle.log_laws.proofs.Growing.{leaves_rest, grown_by, grown_by_none, grown_then}
+use Rattle.log_laws.proofs.Kept.{NamesStay, named_stay}
 use Rattle.oracle.specs.Calls.{IsPlain, IsMade}
 use Rattle.padoa_definitions.specs.Copies.{is_copy_of, group_variable, IsGroupGiven, IsGivenIn, AreCopiesOf, copy_names, IsMatrixCopy}
 use Rattle.padoa_definitions.specs.Growing.{GrewAnew, GrewIn, HasFewFaults, is_side_name, Adds, AreUncopied, NamesCopies, AreUngiven, AreGivenSoFar}
 use Rattle.padoa_definitions.specs.declared.copies.MatrixCopy.{MatrixCopy}
-use Rattle.padoa_definitions.proofs.Keeping.{NamesStay, contains_first, contains_later, contains_cases, keeps_anew, given_stays, named_stay, made_stays, Keeps}
+use Rattle.padoa_definitions.proofs.Keeping.{contains_first, contains_later, contains_cases, keeps_anew, given_stays, made_stays, Keeps}
 
 -- growth composes
 pub unnamed_back : (old new : List Entry) → NamesStay old new → (v : ℕ) → name_of new v ≡ None → name_of old v ≡ None

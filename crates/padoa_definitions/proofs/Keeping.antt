@@ -1,18 +1,18 @@
 -- What stays of the copies as the log grows.
-use Rattle.std.proofs.Common.{◌≡◌, ◌≢◌, ◌⊎◌, ℕ, zero, suc, ◌+◌, Bool, true, inl, inr, List, [], ◌∷◌, map, Option, Some, None, slice_get, refl, sym, ◌∙◌, ap, subst, arith}
+use Rattle.std.proofs.Common.{◌≡◌, ◌≢◌, ◌⊎◌, ℕ, zero, suc, ◌+◌, Bool, true, inl, inr, List, [], ◌∷◌, map, Some, None, slice_get, refl, sym, ◌∙◌, ap, subst, arith}
 use Rattle.std.specs.List.{All, Contains}
-use Rattle.std.specs.Option.{option_map}
 use Rattle.std.proofs.lemmas.List.Elements.{All-head, All-tail, Contains-append_right}
-use Rattle.dq_lits.specs.Literal.{Literal, negative, variable_of, is_negative}
+use Rattle.dq_lits.specs.Literal.{Literal, negative, variable_of}
 use Rattle.dq_lits.specs.Formula.{Dqbf}
 use Rattle.hint_log.specs.Entries.{Entry, Named, Given, Learned, Answer, Round, ProofLog, name_of}
 use Rattle.hint_log.specs.Growth.{Each, Grew}
-use Rattle.hint_log.specs.Naming.{NamedLiteral, named_literal, name_literal, AreNamedAs}
+use Rattle.hint_log.specs.Naming.{NamedLiteral}
 use Rattle.hint_log.specs.declared.names.Name.{Name}
 use Rattle.hint_log.specs.declared.names.Name.TheVariants.{Selector}
 use Rattle.hint_log.specs.declared.origins.Origin.{Origin}
 use Rattle.log_laws.specs.Engines.{Engine, copies, IsInGroup, IsAddedBy}
 use Rattle.log_laws.proofs.Growing.{each_grown, name_kept}
+use Rattle.log_laws.proofs.Kept.{NamesStay, named_stay}
 use Rattle.oracle.specs.Calls.{IsMade}
 use Rattle.oracle.specs.declared.groups.Group.{Group}
 use Rattle.padoa_definitions.specs.Copies.{IsGroupGiven, IsGivenIn, IsMatrixCopy, IsLink, IsPadoa, group_variable, groups_of}
@@ -29,9 +29,6 @@ contains_later x e es (k, lt, at) = (suc k, omega (arith, lt), at)
 pub contains_cases : (x e : Entry) (es : List Entry) → Contains (x ∷ es) e → (x ≡ e) ⊎ Contains es e
 contains_cases x e es (zero, lt, at) = inl at
 contains_cases x e es (suc k, lt, at) = inr (k, omega (arith, lt), at)
-
-abbrev pub NamesStay : List Entry → List Entry → Type 0
-NamesStay old new = (v : ℕ) (n : Name) → name_of old v ≡ Some n → name_of new v ≡ Some n
 
 -- names and clauses stay, and groups of these get no other clauses
 pub record Keeps (f : Dqbf) (apart : ℕ → Type 0) (old new : List Entry) : Type 0 where
@@ -93,21 +90,6 @@ keeps_entry f e es names plain = record {
   contains = λ x. contains_later e x es;
   groups = λ test mine apart own. (plain test mine, own);
 }
-
-pub literal_stays : (old new : List Entry) → NamesStay old new → (l : Literal) (n : NamedLiteral) → name_literal old l ≡ Some n → name_literal new l ≡ Some n
-literal_stays old new stay l n is = by (name_of old (variable_of l)) refl is where
-  by : (o : Option Name) → name_of old (variable_of l) ≡ o → option_map (λ m. named_literal m (is_negative l)) o ≡ Some n → name_literal new l ≡ Some n
-  by None e is = cc
-  by (Some m) e is = ap (option_map (λ k. named_literal k (is_negative l))) (stay (variable_of l) m e) ∙ is
-
-pub named_stay : (old new : List Entry) → NamesStay old new → (ls : List Literal) (ns : List NamedLiteral) → AreNamedAs old ls ns → AreNamedAs new ls ns
-named_stay old new stay [] [] h = refl
-named_stay old new stay [] (n ∷ ns) h = cc
-named_stay old new stay (l ∷ ls) [] h = cc
-named_stay old new stay (l ∷ ls) (n ∷ ns) h =
-    let here : name_literal old l ≡ Some n = cc in
-    let later : map (name_literal old) ls ≡ map Some ns = cc in
-    ap (λ x. x ∷ map (name_literal new) ls) (literal_stays old new stay l n here) ∙ ap (λ xs. Some n ∷ xs) (named_stay old new stay ls ns later)
 
 pub given_stays : (f : Dqbf) (apart : ℕ → Type 0) (old new : List Entry) → Keeps f apart old new → (group : ℕ) (origin : Origin) (names : List NamedLiteral) →
     IsGivenIn old group origin names → IsGivenIn new group origin names

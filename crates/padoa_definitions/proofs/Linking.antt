@@ -15,11 +15,12 @@ use Rattle.hint_log.specs.declared.names.Name.{Name}
 use Rattle.hint_log.specs.declared.names.Name.TheVariants.{Selector, Copy as CopyOf}
 use Rattle.hint_log.specs.declared.origins.Origin.{Origin}
 use Rattle.hint_log.specs.declared.origins.Origin.TheVariants.{Instance, Gate, Fault, Copy, Link}
+use Rattle.log_laws.proofs.Kept.{NamesStay, named_stay}
 use Rattle.oracle.specs.Calls.{IsMade}
 use Rattle.oracle.specs.declared.groups.Group.{Group}
 use Rattle.padoa_definitions.specs.Copies.{is_link_of, IsGroupGiven, IsGivenIn, AreCopiesOf, IsLink, group_variable}
 use Rattle.padoa_definitions.specs.Growing.{HasFewFaults, Adds, is_any_link, IsUnlinked, AreEquated, AreLinkedSoFar}
-use Rattle.padoa_definitions.proofs.Keeping.{Keeps, NamesStay, IsNamed, named_stay, contains_first, contains_later, contains_cases, given_stays, keeps_anew, link_stays, made_stays}
+use Rattle.padoa_definitions.proofs.Keeping.{Keeps, IsNamed, contains_first, contains_later, contains_cases, given_stays, keeps_anew, link_stays, made_stays}
 use Rattle.padoa_definitions.proofs.Copying.{opposite_name, copy_at}
 use Rattle.padoa_definitions.proofs.Growing.{in_same, in_then, in_by, few_more, right_clause, switch_off, unnamed_back, adds_same, adds_then}
 

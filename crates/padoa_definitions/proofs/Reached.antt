@@ -18,10 +18,10 @@ use Rattle.hint_log.specs.declared.origins.Origin.TheVariants.{Instance, Gate, F
 use Rattle.log_laws.specs.Engines.{circuits, instances, copies, origin_engine}
 use Rattle.log_laws.proofs.Found.{split_at, each_at}
 use Rattle.log_laws.proofs.Reaching.{answer_true, name_stays}
+use Rattle.log_laws.proofs.Kept.{NamesStay}
 use Rattle.hint_log.specs.ProductiveLog.{MatchesOrigin}
 use Rattle.oracle.specs.Searched.{IsSearched, IsGivenToGroup, IsOfGroup}
 use Rattle.padoa_definitions.specs.Copies.{IsGroupGiven}
-use Rattle.padoa_definitions.proofs.Keeping.{NamesStay}
 
 -- the law of derived lines
 abbrev pub LinesAreImplied : Type 0
