@@ -18,7 +18,7 @@ use gate_definitions::Gates;
 use hint_log::{Log, Stop};
 use log_laws::laws::engines_leave_the_rest;
 use oracle::Oracle;
-use padoa_definitions::{Found, Padoa, Pair};
+use padoa_definitions::{Found, Padoa};
 use std::alloc::Global;
 
 // What is known of the existentials, and the copies of the matrix that it is asked of.
@@ -28,8 +28,6 @@ pub(crate) struct Definitions {
     gates: Gates,
     // The node of each existential that has a definition, in order of declaration.
     pub(crate) nodes: Vec<Option<Node>>,
-    // Of each of the others two rows, with values that make the matrix true there.
-    pub(crate) pairs: Vec<Pair>,
     // Bits that those without a definition are forced to have.
     pub(crate) rules: Vec<Rule>,
 }
@@ -58,28 +56,22 @@ impl Definitions {
             padoa,
             gates,
             nodes: no_nodes(alloc, f.existentials().len())?,
-            pairs: Vec::new(alloc),
             rules: Vec::new(alloc),
         })
     }
 
     // Notes what was found of the existential at a place.
-    fn note(&mut self, place: usize, found: Found) -> Result<(), Memory>
+    fn note(&mut self, place: usize, found: Found)
         requires place { place < length self.old.nodes.items }
         ensures padoa { self.new.padoa ≡ self.old.padoa }
         ensures rules { self.new.rules.items ≡ self.old.rules.items }
-        ensures nodes { OnOk result (self.new.nodes.items ≡ slice_set self.old.nodes.items place (definition_in found)) }
+        ensures nodes { self.new.nodes.items
+            ≡ slice_set self.old.nodes.items place (definition_in found) }
     {
-        match found {
-            Found::Defined(node) => {
-                self.nodes[place] = Some(node);
-            }
-            Found::Free(pair) => {
-                self.pairs.push(pair)?;
-                self.nodes[place] = None;
-            }
-        }
-        Ok(())
+        self.nodes[place] = match found {
+            Found::Defined(node) => Some(node),
+            Found::Free(_) => None,
+        };
     }
 
     // Asks for definitions of the existentials in this order.
@@ -142,7 +134,7 @@ impl Definitions {
         engines_leave_the_rest();
         existential.f.every_formula_is_lawful();
         let found = self.ask(oracle, graph, existential, log)?;
-        self.note(existential.place, found)?;
+        self.note(existential.place, found);
         Ok(())
     }
 

@@ -11,12 +11,6 @@ returns-in_err-found-clause-fresh g c = still_fresh c.engines_leave_the_rest.ens
 pub returns-in_err-found-clause-limit_same : goal.returns-in_err-found-clause-limit_same
 returns-in_err-found-clause-limit_same g c = (c.ask.ensures.grew 0).limit
 
-pub returns-in_err-note-clause-fresh : goal.returns-in_err-note-clause-fresh
-returns-in_err-note-clause-fresh g c = still_fresh c.engines_leave_the_rest.ensures c.args.existential.now.f.now c.args.log.now c.ask.new.log c.ask.ensures.grew c.requires.fresh
-
-pub returns-in_err-note-clause-limit_same : goal.returns-in_err-note-clause-limit_same
-returns-in_err-note-clause-limit_same g c = (c.ask.ensures.grew 0).limit
-
 pub returns-clause-fresh : goal.returns-clause-fresh
 returns-clause-fresh g c = still_fresh c.engines_leave_the_rest.ensures c.args.existential.now.f.now c.args.log.now c.ask.new.log c.ask.ensures.grew c.requires.fresh
 
@@ -35,5 +29,5 @@ returns-clause-known g c =
     let known = known_at f lawful.prefix c.ask.new.graph c.args.existential.now.place here.0 before (definition_in found) rules here.1
     (found_defines f c.ask.new.graph here.0 found (c.in_ok-found.ensures.found here.0 here.1)) still in
     let kept = subst (λ (d : Definitions). AreKnown f c.ask.new.graph (set d.nodes.items c.args.existential.now.place (definition_in found)) d.rules.items) (sym c.ask.ensures.same) known in
-    subst (λ ns. AreKnown f c.ask.new.graph ns c.note.new.self.rules.items) (sym c.in_ok-note.ensures.nodes)
+    subst (λ ns. AreKnown f c.ask.new.graph ns c.note.new.self.rules.items) (sym c.note.ensures.nodes)
     (subst (AreKnown f c.ask.new.graph _) (sym c.note.ensures.rules) kept)
