@@ -2,13 +2,10 @@
 #![tactic(auto)]
 
 use dq_io::{RealFiles, RealSink};
-use dqsolve_core::dqsolve_run;
+use dqsolve_core::{Status, dqsolve_run};
 use hint_log::Log;
 use std::process::ExitCode;
 use std::{env, io};
-
-/// The status for want of memory.
-const WANT_OF_MEMORY: u8 = 5;
 
 fn main(rt: HostRuntime) -> ExitCode {
     let mut files = RealFiles::new(&rt);
@@ -16,7 +13,7 @@ fn main(rt: HostRuntime) -> ExitCode {
     let mut log = Log::new(rt.alloc(), 0);
     let status = match words(&rt) {
         Ok(words) => dqsolve_run(rt.alloc(), &words, &mut files, &mut out, &mut log),
-        Err(error) if error.kind() == io::ErrorKind::OutOfMemory => WANT_OF_MEMORY,
+        Err(error) if error.kind() == io::ErrorKind::OutOfMemory => Status::WantOfMemory.code(),
         Err(_) => dqsolve_run(rt.alloc(), &[], &mut files, &mut out, &mut log),
     };
     ExitCode::from(status)

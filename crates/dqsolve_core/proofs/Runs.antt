@@ -24,6 +24,7 @@ use Rattle.dqsolve_core.specs.Outputs.{IsOutput, IsOutputDue, IsVerdictOutput, I
 use Rattle.dqsolve_core.specs.Report.{Report, Verdict, usage, source_fault, long_formula, refused_formula, solved, demonstrated, demo_text, verdict_status, verdict_text, is_verdict_status}
 use Rattle.dqsolve_core.specs.Running.{IsDueFor, IsDueForDemo, IsDue, IsTold, IsSolved, IsSolution, IsRunLog, IsDemonstratedRun}
 use Rattle.dqsolve_core.specs.Shown.{IsVerdict}
+use Rattle.dqsolve_core.specs.Statuses.{code}
 use Rattle.dqsolve_core.specs.declared.reports.Output.{Output}
 
 -- what the law of the formulas' grammar gives
@@ -52,7 +53,7 @@ verdict_due before now log c f (Err _) one picked limit v = tt
 -- ---- what a told file gives
 
 solved_as : (f : Dqbf) (log : ProofLog) (c : Search) (bare : Bool) (before now : Option (List ℕ)) (output : Output) (v : Verdict) → bare ≡ c.bare → log.limit ≡ c.steps
-    → IsVerdict f log bare v → output.status ≡ verdict_status v → now ≡ append_known before (verdict_text bare f v) → IsSolved f log c before now output.status
+    → IsVerdict f log bare v → code output.status ≡ verdict_status v → now ≡ append_known before (verdict_text bare f v) → IsSolved f log c before now (code output.status)
 solved_as f log c bare before now output v same limit shown status written = record {
   verdict = v;
   limit = limit;
@@ -62,8 +63,8 @@ solved_as f log c bare before now output v same limit shown status written = rec
 }
 
 solution_by : (files files_now : FilesState) (log : ProofLog) (c : Search) (formula : List ℕ) (before now : Option (List ℕ)) (output : Output)
-    → files.held c.file ≡ Holds formula → now ≡ append_known before output.text.items → is_verdict_status output.status ≡ true
-    → (report : Report) → IsDueFor files files_now log c report → IsOutput report output → IsSolution formula log c before now output.status
+    → files.held c.file ≡ Holds formula → now ≡ append_known before output.text.items → is_verdict_status (code output.status) ≡ true
+    → (report : Report) → IsDueFor files files_now log c report → IsOutput report output → IsSolution formula log c before now (code output.status)
 solution_by files files_now log c formula before now output told written verdict usage due is = absurd due
 solution_by files files_now log c formula before now output told written verdict source_fault due is =
     let other : is_verdict_status 3 ≡ true = subst (λ s. is_verdict_status s ≡ true) is.status verdict in cc
@@ -81,8 +82,8 @@ solution_by files files_now log c formula before now output told written verdict
 
 pub solution : (files files_now : FilesState) (words : List (List ℕ)) (log : ProofLog) (before now : Option (List ℕ)) (output : Output)
     → IsOutputDue files files_now log (command_of words) output → now ≡ append_known before output.text.items
-    → (formula : List ℕ) (told : IsTold files.held words formula) → is_verdict_status output.status ≡ true
-    → IsSolution formula log told.command before now output.status
+    → (formula : List ℕ) (told : IsTold files.held words formula) → is_verdict_status (code output.status) ≡ true
+    → IsSolution formula log told.command before now (code output.status)
 solution files files_now words log before now output o written formula told verdict =
     solution_by files files_now log told.command formula before now output told.formula_held written verdict o.report
     (subst (λ command. IsDue files files_now log command o.report) told.is o.due) o.is
@@ -99,7 +100,7 @@ held_long limit holding bytes is long = subst (λ h. IsLong limit h) is long
 solved_by : FormulaLaw → (files files_now : FilesState) (log : ProofLog) (c : Search) (formula : List ℕ) (f : Dqbf) (before now : Option (List ℕ)) (output : Output)
     → files.held c.file ≡ Holds formula → length formula ≤ max_formula → SpellsFormula formula f → (Rose files.faults files_now.faults → ⊥)
     → now ≡ append_known before output.text.items
-    → (report : Report) → IsDueFor files files_now log c report → IsOutput report output → IsSolved f log c before now output.status
+    → (report : Report) → IsDueFor files files_now log c report → IsOutput report output → IsSolved f log c before now (code output.status)
 solved_by law files files_now log c formula f before now output told short spelled sound written usage due is = absurd due
 solved_by law files files_now log c formula f before now output told short spelled sound written source_fault (unreadable, picked) is = absurd (sound unreadable.counted)
 solved_by law files files_now log c formula f before now output told short spelled sound written long_formula due is =
@@ -108,14 +109,14 @@ solved_by law files files_now log c formula f before now output told short spell
     absurd (no_fault law formula f (files.held c.file) fault told spelled due.0)
 solved_by law files files_now log c formula f before now output told short spelled sound written (solved bare g v) (same, one, limit, shown, picked) is =
     let same_formula : g ≡ f = law.unique formula g f (read_spells (files.held c.file) formula g told one) spelled in
-    subst (λ h. IsSolved h log c before now output.status) same_formula
+    subst (λ h. IsSolved h log c before now (code output.status)) same_formula
     (solved_as g log c bare before now output v same limit shown is.status (written ∙ ap (append_known before) is.text))
 solved_by law files files_now log c formula f before now output told short spelled sound written (demonstrated _ _ _) due is = absurd due
 
 pub solved_told : FormulaLaw → (files files_now : FilesState) (words : List (List ℕ)) (log : ProofLog) (before now : Option (List ℕ)) (output : Output)
     → IsOutputDue files files_now log (command_of words) output → now ≡ append_known before output.text.items
     → (formula : List ℕ) (f : Dqbf) (told : IsTold files.held words formula) → length formula ≤ max_formula → SpellsFormula formula f
-    → (Rose files.faults files_now.faults → ⊥) → IsSolved f log told.command before now output.status
+    → (Rose files.faults files_now.faults → ⊥) → IsSolved f log told.command before now (code output.status)
 solved_told law files files_now words log before now output o written formula f told short spelled sound =
     solved_by law files files_now log told.command formula f before now output told.formula_held short spelled sound written o.report
     (subst (λ command. IsDue files files_now log command o.report) told.is o.due) o.is
@@ -148,7 +149,7 @@ demo_log files log p limit (inr productive) =
     inr (record { asked = demo p; is = refl; limit = limit; f = planted_formula p.seed p.size; formula = refl; productive = productive })
 
 demonstrated_by : (files files_now : FilesState) (log : ProofLog) (p : Planting) (before now : Option (List ℕ)) (output : Output) → now ≡ append_known before output.text.items
-    → (report : Report) → IsDueForDemo files files_now log p report → IsOutput report output → IsDemonstratedRun p log before now output.status
+    → (report : Report) → IsDueForDemo files files_now log p report → IsOutput report output → IsDemonstratedRun p log before now (code output.status)
 demonstrated_by files files_now log p before now output written usage due is = absurd due
 demonstrated_by files files_now log p before now output written source_fault due is = absurd due
 demonstrated_by files files_now log p before now output written long_formula due is = absurd due
@@ -165,6 +166,6 @@ demonstrated_by files files_now log p before now output written (demonstrated q 
 
 pub demonstrated_told : (files files_now : FilesState) (words : List (List ℕ)) (log : ProofLog) (before now : Option (List ℕ)) (output : Output)
     → IsOutputDue files files_now log (command_of words) output → now ≡ append_known before output.text.items → (p : Planting) → command_of words ≡ Some (demo p)
-    → IsDemonstratedRun p log before now output.status
+    → IsDemonstratedRun p log before now (code output.status)
 demonstrated_told files files_now words log before now output o written p asked =
     demonstrated_by files files_now log p before now output written o.report (subst (λ command. IsDue files files_now log command o.report) asked o.due) o.is

@@ -28,6 +28,7 @@ use Rattle.dqsolve_core.specs.Report.{is_unknown, verdict_text}
 use Rattle.dqsolve_core.specs.Shown.{IsShownTrue, IsShownFalse, few_entries}
 use Rattle.dqsolve_core.specs.declared.verdicts.Found.{Found}
 use Rattle.dqsolve_core.specs.declared.verdicts.Found.TheVariants.{Shown, Refuted}
+use Rattle.dqsolve_core.specs.Statuses.{code}
 use Rattle.dqsolve_core.specs.declared.reports.Output.{Output}
 use Rattle.dqsolve_core.proofs.Counts.{count_few}
 
@@ -95,7 +96,7 @@ shown_false accepted f log bare d lawful is_so none e = record {
 -- where the limit came first
 pub unknown : (f : Dqbf) (log : ProofLog) (bare : Bool) (rounds steps : ℕ) (output : Output) → IsProductiveLog f log.entries → IsUndecided f log.entries
     → steps_of log.entries ≡ log.limit → rounds_of log.entries ≤ steps_of log.entries → rounds ≡ rounds_of log.entries → steps ≡ steps_of log.entries
-    → output.status ≡ 0 → output.text.items ≡ verdict_text bare f (is_unknown rounds (steps - rounds)) → IsVerdictOutput f log bare output
+    → code output.status ≡ 0 → output.text.items ≡ verdict_text bare f (is_unknown rounds (steps - rounds)) → IsVerdictOutput f log bare output
 unknown f log bare rounds steps output productive undecided limit fewer rounds_are steps_are status text = record {
   verdict = is_unknown rounds (steps - rounds);
   is = record {

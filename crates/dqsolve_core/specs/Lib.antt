@@ -3,3 +3,4 @@ pub mod Outputs
 pub mod Report
 pub mod Running
 pub mod Shown
+pub mod Statuses

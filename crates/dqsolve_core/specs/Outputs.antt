@@ -11,11 +11,12 @@ use Rattle.dqsolve_core.specs.declared.demonstrations.Demonstration.{Demonstrati
 use Rattle.dqsolve_core.specs.Report.{Report, Verdict, is_true, verdict_text, verdict_status, demo_text, demonstration_status, text_of, status_of}
 use Rattle.dqsolve_core.specs.Running.{IsDue}
 use Rattle.dqsolve_core.specs.Shown.{IsVerdict, IsShownTrue, IsDemonstration}
+use Rattle.dqsolve_core.specs.Statuses.{code}
 use Rattle.dqsolve_core.specs.declared.reports.Output.{Output}
 
 -- the text and the status of a report
 pub record IsOutput (report : Report) (output : Output) : Type 0 where
-  pub status : output.status ≡ status_of report
+  pub status : code output.status ≡ status_of report
   pub text : output.text.items ≡ text_of report
 
 pub record IsOutputDue (before now : FilesState) (log : ProofLog) (command : Option Command) (output : Output) : Type 0 where
@@ -27,7 +28,7 @@ pub record IsOutputDue (before now : FilesState) (log : ProofLog) (command : Opt
 pub record IsVerdictOutput (f : Dqbf) (log : ProofLog) (bare : Bool) (output : Output) : Type 0 where
   pub verdict : Verdict
   pub is : IsVerdict f log bare verdict
-  pub status : output.status ≡ verdict_status verdict
+  pub status : code output.status ≡ verdict_status verdict
   pub text : output.text.items ≡ verdict_text bare f verdict
 
 -- the text of a circuit with its proof, behind the line with the verdict or without it
@@ -42,5 +43,5 @@ pub record IsDemoOutput (p : Planting) (log : ProofLog) (output : Output) : Type
   pub clauses : ℕ
   pub shown : Demonstration
   pub is : IsDemonstration p log clauses shown
-  pub status : output.status ≡ demonstration_status shown
+  pub status : code output.status ≡ demonstration_status shown
   pub text : output.text.items ≡ line (demo_text p clauses shown)

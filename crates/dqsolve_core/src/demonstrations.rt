@@ -11,8 +11,10 @@ ghost use Rattle.dqsolve_words.specs.Words.{planting_of};
 ghost use Rattle.dqsolve_core.specs.Outputs.{IsDemoOutput};
 ghost use Rattle.dqsolve_core.specs.Report.{demo_text, demonstration_text, demonstration_status};
 ghost use Rattle.dqsolve_core.specs.Shown.{IsDemonstrated};
+ghost use Rattle.dqsolve_core.specs.Statuses.{code};
 
 use crate::reports::Output;
+use crate::statuses::Status;
 use crate::verdicts::{Found, search, true_text};
 use cdcl_core::Cdcl;
 use dq_formula::Formula;
@@ -100,13 +102,13 @@ fn judged(alloc: Global, log: &Log, id: u64, f: &Formula) -> Result<Demonstratio
     }
 }
 
-fn demonstration_status(shown: Demonstration) -> u8
-    ensures { result ≡ demonstration_status shown }
+fn demonstration_status(shown: Demonstration) -> Status
+    ensures { code result ≡ demonstration_status shown }
 {
     match shown {
-        Demonstration::Valid => 10,
-        Demonstration::Large => 10,
-        Demonstration::CutOff => 0,
+        Demonstration::Valid => Status::True,
+        Demonstration::Large => Status::True,
+        Demonstration::CutOff => Status::Unknown,
     }
 }
 

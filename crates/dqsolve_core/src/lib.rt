@@ -6,9 +6,11 @@
 
 pub use demonstrations::Demonstration;
 pub use run::dqsolve_run;
+pub use statuses::Status;
 
 mod demonstrations;
 pub mod laws;
 mod reports;
 mod run;
+mod statuses;
 mod verdicts;

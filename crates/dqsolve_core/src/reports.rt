@@ -4,6 +4,7 @@ ghost use Rattle.std.specs.Prelude.{◌≡◌, IfOk};
 ghost use Rattle.dqsolve_core.specs.Outputs.{IsOutput};
 ghost use Rattle.dqsolve_core.specs.Report.{usage, source_fault, long_formula, refused_formula};
 
+use crate::statuses::Status;
 use dq_lits::Memory;
 use dqcheck_core::formula_fault_name;
 use dqdimacs_reader::FormulaFault;
@@ -12,7 +13,7 @@ use std::alloc::Global;
 /// A text to be written, and the status to end with.
 #[derive(Debug, Drop)]
 pub struct Output {
-    pub status: u8,
+    pub status: Status,
     pub text: Vec<u8>,
 }
 
@@ -24,7 +25,7 @@ pub fn usage_output(alloc: Global) -> Result<Output, Memory>
         "usage: dqsolve solve [--steps N] [--bare] FILE / dqsolve demo SEED SIZE\n"
     )?;
     Ok(Output {
-        status: 1,
+        status: Status::Usage,
         text: text.into_bytes(),
     })
 }
@@ -35,7 +36,7 @@ pub fn source_fault_output(alloc: Global) -> Result<Output, Memory>
 {
     let text = format!(in alloc; "source fault\n")?;
     Ok(Output {
-        status: 3,
+        status: Status::SourceFault,
         text: text.into_bytes(),
     })
 }
@@ -46,7 +47,7 @@ pub fn long_formula_output(alloc: Global) -> Result<Output, Memory>
 {
     let text = format!(in alloc; "too long formula\n")?;
     Ok(Output {
-        status: 6,
+        status: Status::TooLong,
         text: text.into_bytes(),
     })
 }
@@ -58,7 +59,7 @@ pub fn refused_output(alloc: Global, line: u64, name: FormulaFault) -> Result<Ou
     let name = formula_fault_name(name);
     let text = format!(in alloc; "refused {line} {name}\n")?;
     Ok(Output {
-        status: 2,
+        status: Status::RefusedFormula,
         text: text.into_bytes(),
     })
 }

@@ -15,11 +15,13 @@ ghost use Rattle.planted_formulas.specs.Planted.{planted_formula};
 ghost use Rattle.dqsolve_core.specs.Outputs.{IsOutputDue, IsDemoOutput};
 ghost use Rattle.dqsolve_core.specs.Report.{is_verdict_status};
 ghost use Rattle.dqsolve_core.specs.Running.{Ends, IsRunLog, IsTold, IsSolved, IsSolution, IsDemonstratedRun};
+ghost use Rattle.dqsolve_core.specs.Statuses.{code};
 
 use crate::demonstrations::demonstrate;
 use crate::reports::{
     Output, long_formula_output, refused_output, source_fault_output, usage_output,
 };
+use crate::statuses::Status;
 use crate::verdicts::solve;
 use dq_io::{Files, ReadStop, Sink, read_all, write_all};
 use dq_lits::Memory;
@@ -82,11 +84,11 @@ pub fn dqsolve_run<F: Files, K: Sink>(
 {
     formula_or_first_fault();
     let Ok(output) = report(alloc, words, files, log) else {
-        return 5;
+        return Status::WantOfMemory.code();
     };
     match write_all(out, &output.text) {
-        Ok(()) => output.status,
-        Err(_) => 4,
+        Ok(()) => output.status.code(),
+        Err(_) => Status::SinkFault.code(),
     }
 }
 
@@ -100,8 +102,10 @@ fn report<F: Files>(
     ensures due { IfOk result (IsOutputDue (state_of F.Files files.old) (state_of F.Files files.new) log.new
         (command_of (map string_bytes words.now))) }
     ensures log { IsRunLog (state_of F.Files files.old) (command_of (map string_bytes words.now)) log.new }
-    ensures long { IfOk result (λ output. output.status ≡ 6 → max_formula < F.given files.new) }
-    ensures unfaulted { IfOk result (λ output. output.status ≢ 3 → F.faults files.new ≡ F.faults files.old) }
+    ensures long { IfOk result (λ output. code output.status ≡ 6
+        → max_formula < F.given files.new) }
+    ensures unfaulted { IfOk result (λ output. code output.status ≢ 3
+        → F.faults files.new ≡ F.faults files.old) }
     ensures held { F.held files.new ≡ F.held files.old }
 {
     numbers_are_in_range();
@@ -139,8 +143,10 @@ fn report_file<F: Files>(
         (Some (solve (search_of asked.entry)))) }
     ensures log { IsRunLog (state_of F.Files files.old)
         (Some (solve (search_of asked.entry))) log.new }
-    ensures long { IfOk result (λ output. output.status ≡ 6 → max_formula < F.given files.new) }
-    ensures unfaulted { IfOk result (λ output. output.status ≢ 3 → F.faults files.new ≡ F.faults files.old) }
+    ensures long { IfOk result (λ output. code output.status ≡ 6
+        → max_formula < F.given files.new) }
+    ensures unfaulted { IfOk result (λ output. code output.status ≢ 3
+        → F.faults files.new ≡ F.faults files.old) }
     ensures held { F.held files.new ≡ F.held files.old }
 {
     log.rewind(asked.steps);

@@ -18,6 +18,7 @@ use crate::laws::{
     proved_circuits_are_accepted, refutations_are_accepted, small_logs_are_within_limits,
 };
 use crate::reports::Output;
+use crate::statuses::Status;
 use aig_graph::Graph;
 use aiger_text::{AagFile, Text};
 use cdcl_core::Cdcl;
@@ -95,7 +96,10 @@ fn true_output(alloc: Global, log: &Log, id: u64, f: &Formula, bare: bool) -> Re
     ensures { IfOk result (IsVerdictOutput f.now log.now bare) }
 {
     let text = true_text(alloc, log, id, f, bare)?;
-    Ok(Output { status: 10, text })
+    Ok(Output {
+        status: Status::True,
+        text,
+    })
 }
 
 /// The text of the circuit that an answer decides for, with its proof.
@@ -150,7 +154,10 @@ fn false_output(
     let refutation = export_false(alloc, log, id, f)?;
     let evidence = write_dqr(alloc, &refutation, f)?;
     let text = with_verdict(alloc, "s FALSE\n", bare, evidence)?;
-    Ok(Output { status: 20, text })
+    Ok(Output {
+        status: Status::False,
+        text,
+    })
 }
 
 // What is written where the limit came first.
@@ -165,7 +172,10 @@ fn unknown_output(alloc: Global, log: &Log, f: &Formula, bare: bool) -> Result<O
     let learned = log.steps() - rounds;
     let evidence = counts_line(alloc, rounds, learned)?;
     let text = with_verdict(alloc, "s UNKNOWN\n", bare, evidence)?;
-    Ok(Output { status: 0, text })
+    Ok(Output {
+        status: Status::Unknown,
+        text,
+    })
 }
 
 fn counts_line(alloc: Global, rounds: u64, learned: u64) -> Result<Vec<u8>, Memory>
