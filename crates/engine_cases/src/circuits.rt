@@ -27,60 +27,105 @@ const LIMIT: u64 = 1000;
 pub fn run(alloc: Global, f: &Formula, turns: &str, printed: &mut String) -> Result<()>
     requires formula { IsWellFormed f.now }
 {
-    let mut oracle = Cdcl::new(alloc);
-    let mut log = Log::new(alloc, LIMIT);
-    begin(alloc, &mut oracle, &mut log, f, turns, printed)
+    let mut judging = begin(alloc, Cdcl::new(alloc), Log::new(alloc, LIMIT), f)?;
+    judging.take_turns(alloc, f, turns, printed)
 }
 
-fn begin<O: Oracle>(
+fn begin<O: Oracle + Drop>(
     alloc: Global,
-    oracle: &mut O,
-    log: &mut Log,
+    mut oracle: O,
+    mut log: Log,
     f: &Formula,
-    turns: &str,
-    printed: &mut String,
-) -> Result<()>
+) -> Result<Judging<O>>
     requires formula { IsWellFormed f.now }
-    requires fit { O.Fits oracle.old log.old }
-    requires empty { log.old.entries ≡ [] }
+    requires fit { O.Fits oracle log }
+    requires empty { log.entries ≡ [] }
+    ensures fit { IfOk result (λ j. O.Fits j.oracle j.log) }
+    ensures open { IfOk result (λ j. IsOpen f.now j.graph j.checker j.log.entries) }
 {
-    let mut graph = Graph::new(alloc, f.universals().len());
-    let mut checker = Checker::new(alloc, oracle, f, log)?;
-    take_turns(
-        alloc,
+    let graph = Graph::new(alloc, f.universals().len());
+    let checker = Checker::new(alloc, &mut oracle, f, &mut log)?;
+    Ok(Judging {
         oracle,
         log,
-        &mut graph,
-        &mut checker,
-        f,
-        turns,
-        printed,
-    )
+        graph,
+        checker,
+    })
 }
 
-fn take_turns<O: Oracle>(
-    alloc: Global,
-    oracle: &mut O,
-    log: &mut Log,
-    graph: &mut Graph,
-    checker: &mut Checker,
-    f: &Formula,
-    turns: &str,
-    printed: &mut String,
-) -> Result<()>
-    requires formula { IsWellFormed f.now }
-    requires open { O.Fits oracle.old log.old × IsOpen f.now graph.old checker.old log.old.entries }
-{
-    let mut shown = show_more(alloc, log, Shown { names: 0, id: 0 }, printed)?;
-    for turn in turns.split(';') {
-        let told = take_turn(alloc, oracle, log, graph, checker, f, turn)?;
-        shown = show_more(alloc, log, shown, printed)?;
-        show_told(alloc, f, &told, printed)?;
-        if !may_go_on(&told) {
-            return Ok(());
+/// The circuits' checker with what it asks and logs, and the graph that the outputs stand in.
+#[derive(Drop)]
+struct Judging<O> {
+    oracle: O,
+    log: Log,
+    graph: Graph,
+    checker: Checker,
+}
+
+impl<O: Oracle> Judging<O> {
+    fn take_turns(
+        &mut self,
+        alloc: Global,
+        f: &Formula,
+        turns: &str,
+        printed: &mut String,
+    ) -> Result<()>
+        requires formula { IsWellFormed f.now }
+        requires fit { O.Fits self.old.oracle self.old.log }
+        requires open { IsOpen f.now self.old.graph self.old.checker self.old.log.entries }
+    {
+        let mut shown = show_more(alloc, &self.log, Shown { names: 0, id: 0 }, printed)?;
+        for turn in turns.split(';') {
+            let told = self.take_turn(alloc, f, turn)?;
+            shown = show_more(alloc, &self.log, shown, printed)?;
+            show_told(alloc, f, &told, printed)?;
+            if !may_go_on(&told) {
+                return Ok(());
+            }
+        }
+        Ok(())
+    }
+
+    // A turn, and its round where it fails.
+    fn take_turn(&mut self, alloc: Global, f: &Formula, turn: &str) -> Result<Told>
+        requires formula { IsWellFormed f.now }
+        requires fit { O.Fits self.old.oracle self.old.log }
+        requires open { IsOpen f.now self.old.graph self.old.checker self.old.log.entries }
+        ensures fit { IfOk result (λ told. may_go_on told ≡ true
+            → O.Fits self.new.oracle self.new.log) }
+        ensures open { IfOk result (λ told. may_go_on told ≡ true
+            → IsOpen f.now self.new.graph self.new.checker self.new.log.entries) }
+    {
+        let outputs = outputs_of(alloc, &mut self.graph, f, turn)?;
+        self.judge(f, &outputs)
+    }
+
+    fn judge(&mut self, f: &Formula, outputs: &[Node]) -> Result<Told>
+        requires formula { IsWellFormed f.now }
+        requires outputs { length outputs.now ≡ length f.now.existentials }
+        requires nodes { All (IsNode self.old.graph) outputs.now }
+        requires fit { O.Fits self.old.oracle self.old.log }
+        requires open { IsOpen f.now self.old.graph self.old.checker self.old.log.entries }
+        ensures fit { IfOk result (λ told. may_go_on told ≡ true
+            → O.Fits self.new.oracle self.new.log) }
+        ensures open { IfOk result (λ told. may_go_on told ≡ true
+            → IsOpen f.now self.new.graph self.new.checker self.new.log.entries) }
+    {
+        checkers_stay_with_rounds();
+        self.graph.every_graph_is_lawful();
+        match self
+            .checker
+            .turn(&mut self.oracle, &self.graph, f, outputs, &mut self.log)
+        {
+            Ok(Turn::Holds(_)) => Ok(Told::Holds),
+            Ok(Turn::Fails { row, values, j }) => {
+                self.log.round(&row, &values, j)?;
+                Ok(Told::Fails { row, values, j })
+            }
+            Err(Stop::Limit) => Ok(Told::Limit),
+            Err(Stop::Memory) => Err(anyhow!("out of memory")),
         }
     }
-    Ok(())
 }
 
 /// What a turn told.
@@ -97,51 +142,6 @@ fn may_go_on(told: &Told) -> bool
     match told {
         Told::Fails { .. } => true,
         _ => false,
-    }
-}
-
-// A turn, and its round where it fails.
-fn take_turn<O: Oracle>(
-    alloc: Global,
-    oracle: &mut O,
-    log: &mut Log,
-    graph: &mut Graph,
-    checker: &mut Checker,
-    f: &Formula,
-    turn: &str,
-) -> Result<Told>
-    requires formula { IsWellFormed f.now }
-    requires open { O.Fits oracle.old log.old × IsOpen f.now graph.old checker.old log.old.entries }
-    ensures open { IfOk result (λ told. may_go_on told ≡ true → O.Fits oracle.new log.new × IsOpen f.now graph.new checker.new log.new.entries) }
-{
-    let outputs = outputs_of(alloc, graph, f, turn)?;
-    judge(oracle, log, graph, checker, f, &outputs)
-}
-
-fn judge<O: Oracle>(
-    oracle: &mut O,
-    log: &mut Log,
-    graph: &Graph,
-    checker: &mut Checker,
-    f: &Formula,
-    outputs: &[Node],
-) -> Result<Told>
-    requires formula { IsWellFormed f.now }
-    requires outputs { length outputs.now ≡ length f.now.existentials }
-    requires nodes { All (IsNode graph.now) outputs.now }
-    requires open { O.Fits oracle.old log.old × IsOpen f.now graph.now checker.old log.old.entries }
-    ensures open { IfOk result (λ told. may_go_on told ≡ true → O.Fits oracle.new log.new × IsOpen f.now graph.now checker.new log.new.entries) }
-{
-    checkers_stay_with_rounds();
-    graph.every_graph_is_lawful();
-    match checker.turn(oracle, graph, f, outputs, log) {
-        Ok(Turn::Holds(_)) => Ok(Told::Holds),
-        Ok(Turn::Fails { row, values, j }) => {
-            log.round(&row, &values, j)?;
-            Ok(Told::Fails { row, values, j })
-        }
-        Err(Stop::Limit) => Ok(Told::Limit),
-        Err(Stop::Memory) => Err(anyhow!("out of memory")),
     }
 }
 

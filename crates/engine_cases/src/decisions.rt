@@ -3,7 +3,7 @@
 ghost use Rattle.std.specs.Prelude.{◌≡◌, [], length};
 ghost use Rattle.dq_lits.specs.Formula.{IsWellFormed};
 
-use crate::evaluation::Detail;
+use crate::reports::Detail;
 use crate::scans::compare_verdict;
 use aig_graph::Graph;
 use anyhow::{Result, anyhow};

@@ -22,87 +22,88 @@ const LIMIT: u64 = 1000;
 pub fn run(alloc: Global, f: &Formula, existentials: &str, printed: &mut String) -> Result<()>
     requires formula { IsWellFormed f.now }
 {
-    let mut oracle = Cdcl::new(alloc);
-    let mut log = Log::new(alloc, LIMIT);
-    begin(alloc, &mut oracle, &mut log, f, existentials, printed)
+    let mut defining = begin(alloc, Cdcl::new(alloc), Log::new(alloc, LIMIT), f)?;
+    defining.define_each(alloc, f, existentials, printed)
 }
 
-fn begin<O: Oracle>(
+fn begin<O: Oracle + Drop>(
     alloc: Global,
-    oracle: &mut O,
-    log: &mut Log,
+    mut oracle: O,
+    mut log: Log,
     f: &Formula,
-    existentials: &str,
-    printed: &mut String,
-) -> Result<()>
+) -> Result<Defining<O>>
     requires formula { IsWellFormed f.now }
-    requires fit { O.Fits oracle.old log.old }
-    requires empty { log.old.entries ≡ [] }
+    requires fit { O.Fits oracle log }
+    requires empty { log.entries ≡ [] }
+    ensures fit { IfOk result (λ d. O.Fits d.oracle d.log) }
+    ensures linked { IfOk result (λ d. IsLinked f.now d.graph d.padoa d.log.entries) }
 {
-    let mut graph = Graph::new(alloc, f.universals().len() + f.existentials().len());
-    let mut padoa = Padoa::new(alloc, oracle, f, log)?;
-    define_each(
-        alloc,
+    let graph = Graph::new(alloc, f.universals().len() + f.existentials().len());
+    let padoa = Padoa::new(alloc, &mut oracle, f, &mut log)?;
+    Ok(Defining {
         oracle,
         log,
-        &mut graph,
-        &mut padoa,
-        f,
-        existentials,
-        printed,
-    )
+        graph,
+        padoa,
+    })
 }
 
-fn define_each<O: Oracle>(
-    alloc: Global,
-    oracle: &mut O,
-    log: &mut Log,
-    graph: &mut Graph,
-    padoa: &mut Padoa,
-    f: &Formula,
-    existentials: &str,
-    printed: &mut String,
-) -> Result<()>
-    requires formula { IsWellFormed f.now }
-    requires linked { O.Fits oracle.old log.old × IsLinked f.now graph.old padoa.old log.old.entries }
-{
-    let mut shown = show_more(alloc, log, Shown { names: 0, id: 0 }, printed)?;
-    for word in existentials.split_whitespace() {
-        let y: u64 = word.parse()?;
-        define(alloc, oracle, log, graph, padoa, f, y, printed)?;
-        shown = show_more(alloc, log, shown, printed)?;
-    }
-    Ok(())
+/// The copies of the matrix with the solver that is asked of them, its log, and the graph that
+/// definitions stand in.
+#[derive(Drop)]
+struct Defining<O> {
+    oracle: O,
+    log: Log,
+    graph: Graph,
+    padoa: Padoa,
 }
 
-fn define<O: Oracle>(
-    alloc: Global,
-    oracle: &mut O,
-    log: &mut Log,
-    graph: &mut Graph,
-    padoa: &mut Padoa,
-    f: &Formula,
-    y: u64,
-    printed: &mut String,
-) -> Result<()>
-    requires formula { IsWellFormed f.now }
-    requires linked { O.Fits oracle.old log.old × IsLinked f.now graph.old padoa.old log.old.entries }
-    ensures linked { IfOk result (λ u. O.Fits oracle.new log.new × IsLinked f.now graph.new padoa.new log.new.entries) }
-{
-    if !f.is_existential(y) {
-        return Err(anyhow!("no existential: {y}"));
-    }
-    let found = padoa.define(oracle, graph, f, y, log);
-    push_variable(alloc, y, printed)?;
-    match found {
-        Ok(Found::Defined(node)) => {
-            show_node(alloc, &variables(alloc, f)?, graph, node, printed)?;
+impl<O: Oracle> Defining<O> {
+    fn define_each(
+        &mut self,
+        alloc: Global,
+        f: &Formula,
+        existentials: &str,
+        printed: &mut String,
+    ) -> Result<()>
+        requires formula { IsWellFormed f.now }
+        requires fit { O.Fits self.old.oracle self.old.log }
+        requires linked { IsLinked f.now self.old.graph self.old.padoa self.old.log.entries }
+    {
+        let mut shown = show_more(alloc, &self.log, Shown { names: 0, id: 0 }, printed)?;
+        for word in existentials.split_whitespace() {
+            let y: u64 = word.parse()?;
+            self.define(alloc, f, y, printed)?;
+            shown = show_more(alloc, &self.log, shown, printed)?;
         }
-        Ok(Found::Free(_)) => printed.push_str("free")?,
-        Err(Stop::Limit) => printed.push_str("limit")?,
-        Err(Stop::Memory) => return Err(anyhow!("out of memory")),
+        Ok(())
     }
-    Ok(())
+
+    fn define(&mut self, alloc: Global, f: &Formula, y: u64, printed: &mut String) -> Result<()>
+        requires formula { IsWellFormed f.now }
+        requires fit { O.Fits self.old.oracle self.old.log }
+        requires linked { IsLinked f.now self.old.graph self.old.padoa self.old.log.entries }
+        ensures fit { IfOk result (λ u. O.Fits self.new.oracle self.new.log) }
+        ensures linked { IfOk result (λ u.
+            IsLinked f.now self.new.graph self.new.padoa self.new.log.entries) }
+    {
+        if !f.is_existential(y) {
+            return Err(anyhow!("no existential: {y}"));
+        }
+        let found = self
+            .padoa
+            .define(&mut self.oracle, &mut self.graph, f, y, &mut self.log);
+        push_variable(alloc, y, printed)?;
+        match found {
+            Ok(Found::Defined(node)) => {
+                show_node(alloc, &variables(alloc, f)?, &self.graph, node, printed)?;
+            }
+            Ok(Found::Free(_)) => printed.push_str("free")?,
+            Err(Stop::Limit) => printed.push_str("limit")?,
+            Err(Stop::Memory) => return Err(anyhow!("out of memory")),
+        }
+        Ok(())
+    }
 }
 
 /// Begins the line of an existential.

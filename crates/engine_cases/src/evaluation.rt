@@ -4,6 +4,7 @@ ghost use Rattle.std.specs.Prelude.{◌≡◌, ◌≤◌, ◌+◌, ℕ, All, len
 ghost use Rattle.dq_formula.specs.Prefix.{existential_variables};
 ghost use Rattle.aig_graph.specs.Graph.{IsNode, size_of};
 
+use crate::reports::{Detail, Report};
 use crate::rows::{push_bits, row_at, row_count};
 use crate::shown::push_signed;
 use aig_graph::{Graph, Node};
@@ -13,68 +14,77 @@ use dq_lits::{Lit, Row};
 use expansion::{Points, Table};
 use std::alloc::Global;
 
-/// What is written of a model.
-#[derive(Clone, Copy, Debug)]
-pub enum Detail {
-    /// Whether it is one.
-    Checks,
-    /// Its bits, and the candidates' values, too.
-    Bits,
+/// A model of the instances of a table's rows.
+#[derive(Drop)]
+pub struct TableModel<'a> {
+    pub table: &'a Table,
+    pub points: &'a Points,
 }
 
-/// Writes for each row whether the points make every clause true there, and whether the candidates have the points' bits.
+/// A node for each existential, in a graph.
+#[derive(Drop)]
+pub struct Candidates<'a> {
+    pub graph: &'a Graph,
+    pub nodes: &'a [Node],
+}
+
+/// Writes for each row whether the points make every clause true there, and whether the candidates
+/// have the points' bits.
 pub fn show_rows(
     alloc: Global,
     f: &Formula,
-    table: &Table,
-    points: &Points,
-    graph: &Graph,
-    nodes: &[Node],
-    detail: Detail,
-    printed: &mut String,
+    model: &TableModel,
+    candidates: &Candidates,
+    report: &mut Report,
 ) -> Result<()>
-    requires whole { All (λ row. length row ≡ length f.now.universals) table.now.rows }
-    requires rows { length points.now.rows ≡ length table.now.rows }
-    requires variables { points.now.variables ≡ existential_variables f.now }
-    requires nodes { All (IsNode graph.now) nodes.now }
+    requires whole { All (λ row. length row ≡ length f.now.universals) model.now.table.now.rows }
+    requires rows { length model.now.points.now.rows ≡ length model.now.table.now.rows }
+    requires variables { model.now.points.now.variables ≡ existential_variables f.now }
+    requires nodes { All (IsNode candidates.now.graph.now) candidates.now.nodes.now }
 {
-    for before in 0..table.rows() {
-        let row = table.row(before + 1);
-        let bits = bits_of(alloc, f, points, before + 1)?;
-        show_row(alloc, f, row, &bits, graph, nodes, detail, printed)?;
+    for before in 0..model.table.rows() {
+        let row = model.table.row(before + 1);
+        let bits = bits_of(alloc, f, model.points, before + 1)?;
+        show_row(alloc, f, &Point { row, bits: &bits }, candidates, report)?;
     }
     Ok(())
+}
+
+/// A row, and bits of the existentials there.
+#[derive(Drop)]
+struct Point<'a> {
+    row: &'a Row,
+    bits: &'a Row,
 }
 
 fn show_row(
     alloc: Global,
     f: &Formula,
-    row: &Row,
-    bits: &Row,
-    graph: &Graph,
-    nodes: &[Node],
-    detail: Detail,
-    printed: &mut String,
+    point: &Point,
+    candidates: &Candidates,
+    report: &mut Report,
 ) -> Result<()>
-    requires row { length row.now ≡ length f.now.universals }
-    requires bits { length bits.now ≡ length f.now.existentials }
-    requires nodes { All (IsNode graph.now) nodes.now }
+    requires row { length point.now.row.now ≡ length f.now.universals }
+    requires bits { length point.now.bits.now ≡ length f.now.existentials }
+    requires nodes { All (IsNode candidates.now.graph.now) candidates.now.nodes.now }
 {
-    let holds = holds(f, row, bits);
-    let inputs = inputs_of(alloc, graph, row, bits)?;
-    let followed = are_followed(alloc, &inputs, bits, graph, nodes)?;
-    printed.push_str("\n point")?;
-    if let Detail::Bits = detail {
-        push_bits(alloc, f.existentials(), bits, printed)?;
+    let holds = holds(f, point);
+    let inputs = inputs_of(alloc, candidates.graph, point)?;
+    let followed = are_followed(alloc, &inputs, point.bits, candidates)?;
+    report.text.push_str("\n point")?;
+    if let Detail::Bits = report.detail {
+        push_bits(alloc, f.existentials(), point.bits, &mut report.text)?;
     }
-    printed.push_str(&format!(in alloc; ": clauses {holds}, candidates {followed}")?)?;
+    report.text.push_str(&format!(in alloc; ": clauses {holds}, candidates {followed}")?)?;
     Ok(())
 }
 
 // What the graph's inputs are: a row, and then bits of the existentials.
-fn inputs_of(alloc: Global, graph: &Graph, row: &Row, bits: &Row) -> Result<Row>
+fn inputs_of(alloc: Global, graph: &Graph, point: &Point) -> Result<Row>
     ensures { IfOk result (λ inputs. length inputs ≡ graph.now.inputs) }
 {
+    let row = point.row;
+    let bits = point.bits;
     let mut inputs = Row::new(alloc, graph.inputs())?;
     for place in 0..inputs.len() {
         if place < row.len() {
@@ -87,20 +97,14 @@ fn inputs_of(alloc: Global, graph: &Graph, row: &Row, bits: &Row) -> Result<Row>
 }
 
 // Whether the nodes have these bits under a row of the inputs.
-fn are_followed(
-    alloc: Global,
-    inputs: &Row,
-    bits: &Row,
-    graph: &Graph,
-    nodes: &[Node],
-) -> Result<bool>
-    requires inputs { length inputs.now ≡ graph.now.inputs }
-    requires nodes { All (IsNode graph.now) nodes.now }
+fn are_followed(alloc: Global, inputs: &Row, bits: &Row, candidates: &Candidates) -> Result<bool>
+    requires inputs { length inputs.now ≡ candidates.now.graph.now.inputs }
+    requires nodes { All (IsNode candidates.now.graph.now) candidates.now.nodes.now }
 {
-    let mut buf = Row::new(alloc, graph.len())?;
-    let mut followed = nodes.len() == bits.len();
-    for (place, node) in nodes.iter().enumerate() {
-        let value = graph.value(*node, inputs, &mut buf);
+    let mut buf = Row::new(alloc, candidates.graph.len())?;
+    let mut followed = candidates.nodes.len() == bits.len();
+    for (place, node) in candidates.nodes.iter().enumerate() {
+        let value = candidates.graph.value(*node, inputs, &mut buf);
         followed = followed && place < bits.len() && bits.get(place) == value;
     }
     Ok(followed)
@@ -122,38 +126,38 @@ fn bits_of(alloc: Global, f: &Formula, points: &Points, k: u64) -> Result<Row>
     Ok(bits)
 }
 
-// Whether every clause is true under a row and bits of the existentials.
-fn holds(f: &Formula, row: &Row, bits: &Row) -> bool
-    requires row { length row.now ≡ length f.now.universals }
-    requires bits { length bits.now ≡ length f.now.existentials }
+// Whether every clause is true at a point.
+fn holds(f: &Formula, point: &Point) -> bool
+    requires row { length point.now.row.now ≡ length f.now.universals }
+    requires bits { length point.now.bits.now ≡ length f.now.existentials }
 {
     for j in 0..f.clauses() {
-        if !is_clause_true(f, row, bits, f.clause(j)) {
+        if !is_clause_true(f, point, f.clause(j)) {
             return false;
         }
     }
     true
 }
 
-fn is_clause_true(f: &Formula, row: &Row, bits: &Row, clause: &[Lit]) -> bool
-    requires row { length row.now ≡ length f.now.universals }
-    requires bits { length bits.now ≡ length f.now.existentials }
+fn is_clause_true(f: &Formula, point: &Point, clause: &[Lit]) -> bool
+    requires row { length point.now.row.now ≡ length f.now.universals }
+    requires bits { length point.now.bits.now ≡ length f.now.existentials }
 {
     for l in clause {
-        if is_true(f, row, bits, *l) {
+        if is_true(f, point, *l) {
             return true;
         }
     }
     false
 }
 
-fn is_true(f: &Formula, row: &Row, bits: &Row, l: Lit) -> bool
-    requires row { length row.now ≡ length f.now.universals }
-    requires bits { length bits.now ≡ length f.now.existentials }
+fn is_true(f: &Formula, point: &Point, l: Lit) -> bool
+    requires row { length point.now.row.now ≡ length f.now.universals }
+    requires bits { length point.now.bits.now ≡ length f.now.existentials }
 {
     match (f.universal_place(l.var()), f.existential_place(l.var())) {
-        (Some(place), _) => row.get(place) != l.is_neg(),
-        (None, Some(place)) => bits.get(place) != l.is_neg(),
+        (Some(place), _) => point.row.get(place) != l.is_neg(),
+        (None, Some(place)) => point.bits.get(place) != l.is_neg(),
         (None, None) => false,
     }
 }
@@ -162,24 +166,24 @@ fn is_true(f: &Formula, row: &Row, bits: &Row, l: Lit) -> bool
 pub fn show_candidates(
     alloc: Global,
     f: &Formula,
-    graph: &Graph,
-    nodes: &[Node],
+    candidates: &Candidates,
     printed: &mut String,
 ) -> Result<()>
-    requires nodes { All (IsNode graph.now) nodes.now }
+    requires nodes { All (IsNode candidates.now.graph.now) candidates.now.nodes.now }
 {
-    for (place, node) in nodes.iter().enumerate() {
+    for (place, node) in candidates.nodes.iter().enumerate() {
         printed.push_str("\n candidate")?;
         if place < f.existentials().len() {
             push_signed(alloc, f.existentials()[place], false, printed)?;
         }
         printed.push_str(": ")?;
-        show_node(alloc, f.universals(), graph, *node, printed)?;
+        show_node(alloc, f.universals(), candidates.graph, *node, printed)?;
     }
     Ok(())
 }
 
-/// Writes a node's values under all rows of the variables of the first inputs, the first row first, and which of them it reads.
+/// Writes a node's values under all rows of the variables of the first inputs, the first row first,
+/// and which of them it reads.
 pub fn show_node(
     alloc: Global,
     variables: &[u64],

@@ -9,7 +9,8 @@ ghost use Rattle.dq_formula.specs.Prefix.{existential_variables};
 ghost use Rattle.expansion.specs.Table.{ArePoints, point_bits};
 ghost use Rattle.engine_cases.specs.Ready.{IsReady};
 
-use crate::evaluation::{Detail, show_candidates, show_rows};
+use crate::evaluation::{Candidates, TableModel, show_candidates, show_rows};
+use crate::reports::{Detail, Report};
 use crate::rows::row_of;
 use crate::shown::{Shown, show_more};
 use aig_graph::Graph;
@@ -38,101 +39,101 @@ pub fn run(
 ) -> Result<()>
     requires formula { IsWellFormed f.now }
 {
-    let mut oracle = Cdcl::new(alloc);
-    let mut log = Log::new(alloc, LIMIT);
-    begin(alloc, &mut oracle, &mut log, f, rows, detail, printed)
+    let mut report = Report::new(alloc, detail);
+    let mut expanding = begin(alloc, Cdcl::new(alloc), Log::new(alloc, LIMIT), f)?;
+    expanding.add_rows(alloc, f, rows, &mut report)?;
+    printed.push_str(&report.text)?;
+    Ok(())
 }
 
-fn begin<O: Oracle>(
+fn begin<O: Oracle + Drop>(
     alloc: Global,
-    oracle: &mut O,
-    log: &mut Log,
+    mut oracle: O,
+    mut log: Log,
     f: &Formula,
-    rows: &str,
-    detail: Detail,
-    printed: &mut String,
-) -> Result<()>
+) -> Result<Expanding<O>>
     requires formula { IsWellFormed f.now }
-    requires fit { O.Fits oracle.old log.old }
-    requires empty { log.old.entries ≡ [] }
+    requires fit { O.Fits oracle log }
+    requires empty { log.entries ≡ [] }
+    ensures fit { IfOk result (λ e. O.Fits e.oracle e.log) }
+    ensures ready { IfOk result (λ e. IsReady f.now e.table e.log.entries) }
 {
     engines_leave_the_rest();
-    let mut table = Table::new(alloc, oracle, f, log)?;
-    add_rows(alloc, oracle, log, &mut table, f, rows, detail, printed)
+    let table = Table::new(alloc, &mut oracle, f, &mut log)?;
+    Ok(Expanding { oracle, log, table })
 }
 
-fn add_rows<O: Oracle>(
-    alloc: Global,
-    oracle: &mut O,
-    log: &mut Log,
-    table: &mut Table,
-    f: &Formula,
-    rows: &str,
-    detail: Detail,
-    printed: &mut String,
-) -> Result<()>
-    requires formula { IsWellFormed f.now }
-    requires ready { O.Fits oracle.old log.old × IsReady f.now table.old log.old.entries }
-{
-    let mut shown = show_more(alloc, log, Shown { names: 0, id: 0 }, printed)?;
-    for row in rows.split(';') {
-        add_row(alloc, oracle, log, table, f, row)?;
-        shown = show_more(alloc, log, shown, printed)?;
-        if !find(alloc, oracle, log, table, f, detail, printed)? {
-            return Ok(());
+/// The table of the rows so far, with the solver that has their instances, and its log.
+#[derive(Drop)]
+struct Expanding<O> {
+    oracle: O,
+    log: Log,
+    table: Table,
+}
+
+impl<O: Oracle> Expanding<O> {
+    fn add_rows(
+        &mut self,
+        alloc: Global,
+        f: &Formula,
+        rows: &str,
+        report: &mut Report,
+    ) -> Result<()>
+        requires formula { IsWellFormed f.now }
+        requires fit { O.Fits self.old.oracle self.old.log }
+        requires ready { IsReady f.now self.old.table self.old.log.entries }
+    {
+        let from = Shown { names: 0, id: 0 };
+        let mut shown = show_more(alloc, &self.log, from, &mut report.text)?;
+        for row in rows.split(';') {
+            self.add_row(alloc, f, row)?;
+            shown = show_more(alloc, &self.log, shown, &mut report.text)?;
+            if !self.find(alloc, f, report)? {
+                return Ok(());
+            }
         }
+        Ok(())
     }
-    Ok(())
-}
 
-// A round with this row, and its instances.
-fn add_row<O: Oracle>(
-    alloc: Global,
-    oracle: &mut O,
-    log: &mut Log,
-    table: &mut Table,
-    f: &Formula,
-    text: &str,
-) -> Result<()>
-    requires formula { IsWellFormed f.now }
-    requires ready { O.Fits oracle.old log.old × IsReady f.now table.old log.old.entries }
-    ensures ready { IfOk result (λ u. O.Fits oracle.new log.new × IsReady f.now table.new log.new.entries) }
-{
-    let row = row_of(alloc, f, text)?;
-    let values = Row::new(alloc, f.existentials().len())?;
-    log.round(&row, &values, 1)?;
-    engines_leave_the_rest();
-    rounds_leave_tables();
-    table.add_row(oracle, f, &row, log)?;
-    Ok(())
-}
+    // A round with this row, and its instances.
+    fn add_row(&mut self, alloc: Global, f: &Formula, text: &str) -> Result<()>
+        requires formula { IsWellFormed f.now }
+        requires fit { O.Fits self.old.oracle self.old.log }
+        requires ready { IsReady f.now self.old.table self.old.log.entries }
+        ensures fit { IfOk result (λ u. O.Fits self.new.oracle self.new.log) }
+        ensures ready { IfOk result (λ u. IsReady f.now self.new.table self.new.log.entries) }
+    {
+        let row = row_of(alloc, f, text)?;
+        let values = Row::new(alloc, f.existentials().len())?;
+        self.log.round(&row, &values, 1)?;
+        engines_leave_the_rest();
+        rounds_leave_tables();
+        self.table
+            .add_row(&mut self.oracle, f, &row, &mut self.log)?;
+        Ok(())
+    }
 
-// Whether the instances have a model, which is shown.
-fn find<O: Oracle>(
-    alloc: Global,
-    oracle: &mut O,
-    log: &mut Log,
-    table: &mut Table,
-    f: &Formula,
-    detail: Detail,
-    printed: &mut String,
-) -> Result<bool>
-    requires formula { IsWellFormed f.now }
-    requires ready { O.Fits oracle.old log.old × IsReady f.now table.old log.old.entries }
-    ensures ready { IfOk result (λ b. O.Fits oracle.new log.new × IsReady f.now table.new log.new.entries) }
-{
-    engines_leave_the_rest();
-    match table.solve(oracle, log) {
-        Ok(Exp::Refuted(_)) => {
-            printed.push_str("\n refuted")?;
-            Ok(false)
+    // Whether the instances have a model, which is shown.
+    fn find(&mut self, alloc: Global, f: &Formula, report: &mut Report) -> Result<bool>
+        requires formula { IsWellFormed f.now }
+        requires fit { O.Fits self.old.oracle self.old.log }
+        requires ready { IsReady f.now self.old.table self.old.log.entries }
+        ensures fit { IfOk result (λ b. O.Fits self.new.oracle self.new.log) }
+        ensures ready { IfOk result (λ b. IsReady f.now self.new.table self.new.log.entries) }
+    {
+        engines_leave_the_rest();
+        match self.table.solve(&mut self.oracle, &mut self.log) {
+            Ok(Exp::Refuted(_)) => {
+                report.text.push_str("\n refuted")?;
+                Ok(false)
+            }
+            Ok(Exp::Model(points)) => {
+                show_model(alloc, f, &self.table, &points, report)?;
+                Ok(true)
+            }
+            Err(Stop::Limit) => Err(anyhow!("limit")),
+            Err(Stop::Memory) => Err(anyhow!("out of memory")),
         }
-        Ok(Exp::Model(points)) => {
-            show_model(alloc, f, table, &points, detail, printed)?;
-            Ok(true)
-        }
-        Err(Stop::Limit) => Err(anyhow!("limit")),
-        Err(Stop::Memory) => Err(anyhow!("out of memory")),
     }
 }
 
@@ -142,8 +143,7 @@ fn show_model(
     f: &Formula,
     table: &Table,
     points: &Points,
-    detail: Detail,
-    printed: &mut String,
+    report: &mut Report,
 ) -> Result<()>
     requires formula { IsWellFormed f.now }
     requires whole { All (λ row. length row ≡ length f.now.universals) table.now.rows }
@@ -152,38 +152,14 @@ fn show_model(
     requires points { ArePoints f.now table.now.rows (point_bits points.now) }
 {
     let mut graph = Graph::new(alloc, f.universals().len() + f.existentials().len());
-    show_built(alloc, f, table, points, &mut graph, detail, printed)
-}
-
-fn show_built(
-    alloc: Global,
-    f: &Formula,
-    table: &Table,
-    points: &Points,
-    graph: &mut Graph,
-    detail: Detail,
-    printed: &mut String,
-) -> Result<()>
-    requires formula { IsWellFormed f.now }
-    requires inputs { graph.old.inputs ≡ length f.now.universals + length f.now.existentials }
-    requires whole { All (λ row. length row ≡ length f.now.universals) table.now.rows }
-    requires rows { length points.now.rows ≡ length table.now.rows }
-    requires variables { points.now.variables ≡ existential_variables f.now }
-    requires points { ArePoints f.now table.now.rows (point_bits points.now) }
-{
-    let outputs = build(alloc, f, table, points, &[], &[], graph)?;
-    show_rows(
-        alloc,
-        f,
-        table,
-        points,
-        graph,
-        outputs.items(),
-        detail,
-        printed,
-    )?;
-    if let Detail::Bits = detail {
-        show_candidates(alloc, f, graph, outputs.items(), printed)?;
+    let outputs = build(alloc, f, table, points, &[], &[], &mut graph)?;
+    let candidates = Candidates {
+        graph: &graph,
+        nodes: outputs.items(),
+    };
+    show_rows(alloc, f, &TableModel { table, points }, &candidates, report)?;
+    if let Detail::Bits = report.detail {
+        show_candidates(alloc, f, &candidates, &mut report.text)?;
     }
     Ok(())
 }

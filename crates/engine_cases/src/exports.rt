@@ -6,7 +6,7 @@ ghost use Rattle.hint_log.specs.ProductiveLog.{IsProductiveLog};
 ghost use Rattle.cert_text.specs.Header.{max_count};
 ghost use Rattle.expansion.specs.Table.{IsRefutedBy};
 
-use crate::evaluation::Detail;
+use crate::reports::{Detail, Report};
 use crate::scans::compare_refutation;
 use aig_graph::Graph;
 use anyhow::{Result, anyhow};
@@ -42,10 +42,10 @@ pub fn run(
     }
     let mut oracle = Cdcl::new(alloc);
     let mut log = Log::new(alloc, limit);
-    let mut shown = String::new(alloc);
-    refute(alloc, &mut oracle, f, &mut log, detail, &mut shown)?;
-    printed.push_str(&shown)?;
-    compare_refutation(alloc, f, limit, detail, &shown, printed)
+    let mut report = Report::new(alloc, detail);
+    refute(alloc, &mut oracle, f, &mut log, &mut report)?;
+    printed.push_str(&report.text)?;
+    compare_refutation(alloc, f, limit, &report, printed)
 }
 
 /// Decides a formula, and prints what the checker says of the refutation.
@@ -54,8 +54,7 @@ pub fn refute<O: Oracle>(
     oracle: &mut O,
     f: &Formula,
     log: &mut Log,
-    detail: Detail,
-    printed: &mut String,
+    report: &mut Report,
 ) -> Result<()>
     requires formula { IsWellFormed f.now }
     requires fit { O.Fits oracle.old log.old }
@@ -64,30 +63,23 @@ pub fn refute<O: Oracle>(
 {
     let mut graph = Graph::new(alloc, f.universals().len() + f.existentials().len());
     match decide(alloc, oracle, &mut graph, f, log) {
-        Ok(Verdict::False(id)) => export(alloc, f, log, id, detail, printed),
+        Ok(Verdict::False(id)) => export(alloc, f, log, id, report),
         _ => {
-            printed.push_str(": not refuted")?;
+            report.text.push_str(": not refuted")?;
             Ok(())
         }
     }
 }
 
-fn export(
-    alloc: Global,
-    f: &Formula,
-    log: &Log,
-    id: u64,
-    detail: Detail,
-    printed: &mut String,
-) -> Result<()>
+fn export(alloc: Global, f: &Formula, log: &Log, id: u64, report: &mut Report) -> Result<()>
     requires formula { IsWellFormed f.now }
     requires productive { IsProductiveLog f.now log.now.entries }
     requires refuted { IsRefutedBy log.now.entries id }
     requires limit { log.now.limit ≤ max_count }
 {
     let text = certificate(alloc, f, log, id)?;
-    show_text(&text, detail, printed)?;
-    show_judgement(alloc, f, text, printed)
+    show_text(&text, report)?;
+    show_judgement(alloc, f, text, report)
 }
 
 fn certificate(alloc: Global, f: &Formula, log: &Log, id: u64) -> Result<Vec<u8>>
@@ -100,19 +92,19 @@ fn certificate(alloc: Global, f: &Formula, log: &Log, id: u64) -> Result<Vec<u8>
     Ok(write_dqr(alloc, &refutation, f)?)
 }
 
-fn show_text(text: &[u8], detail: Detail, printed: &mut String) -> Result<()> {
-    if let Detail::Bits = detail {
-        printed.push('\n')?;
-        printed.push_str(str::from_utf8(text)?)?;
+fn show_text(text: &[u8], report: &mut Report) -> Result<()> {
+    if let Detail::Bits = report.detail {
+        report.text.push('\n')?;
+        report.text.push_str(str::from_utf8(text)?)?;
     }
     Ok(())
 }
 
-fn show_judgement(alloc: Global, f: &Formula, text: Vec<u8>, printed: &mut String) -> Result<()>
+fn show_judgement(alloc: Global, f: &Formula, text: Vec<u8>, report: &mut Report) -> Result<()>
     requires formula { IsWellFormed f.now }
 {
     let word = judgement(alloc, f, text)?;
-    printed.push_str(word)?;
+    report.text.push_str(word)?;
     Ok(())
 }
 

@@ -23,11 +23,29 @@ const LIMIT: u64 = 1000;
 pub fn run(alloc: Global, f: &Formula, question: &str, printed: &mut String) -> Result<()>
     requires formula { IsWellFormed f.now }
 {
-    let (y, rest) = split(question)?;
+    let question = question_of(alloc, f, question)?;
+    let forced = ask(alloc, f, &question)?;
+    push_variable(alloc, question.y, printed)?;
+    show_forced(alloc, f, &forced, printed)
+}
+
+/// Whether an existential is forced to have a bit at a row.
+#[derive(Drop)]
+struct Question {
+    y: u64,
+    bit: bool,
+    row: Row,
+}
+
+fn question_of(alloc: Global, f: &Formula, text: &str) -> Result<Question>
+    ensures row { IfOk result (λ q. length q.row ≡ length f.now.universals) }
+{
+    let (y, rest) = split(text)?;
     let (bit, row) = split(rest)?;
     let y: u64 = y.parse()?;
     let row = row_of(alloc, f, row)?;
-    ask(alloc, f, y, &row, bit == "1", printed)
+    let bit = bit == "1";
+    Ok(Question { y, bit, row })
 }
 
 // The first word, and what is behind it.
@@ -38,49 +56,34 @@ fn split(text: &str) -> Result<(&str, &str)> {
     }
 }
 
-fn ask(alloc: Global, f: &Formula, y: u64, row: &Row, bit: bool, printed: &mut String) -> Result<()>
+fn ask(alloc: Global, f: &Formula, question: &Question) -> Result<Forced>
     requires formula { IsWellFormed f.now }
-    requires row { length row.now ≡ length f.now.universals }
+    requires row { length question.now.row ≡ length f.now.universals }
 {
     let mut oracle = Cdcl::new(alloc);
     let mut log = Log::new(alloc, LIMIT);
     let mut padoa = Padoa::new(alloc, &mut oracle, f, &mut log)?;
-    force(
-        alloc,
-        &mut oracle,
-        &mut log,
-        &mut padoa,
-        f,
-        y,
-        row,
-        bit,
-        printed,
-    )
+    force(&mut oracle, &mut log, &mut padoa, f, question)
 }
 
 fn force<O: Oracle>(
-    alloc: Global,
     oracle: &mut O,
     log: &mut Log,
     padoa: &mut Padoa,
     f: &Formula,
-    y: u64,
-    row: &Row,
-    bit: bool,
-    printed: &mut String,
-) -> Result<()>
+    question: &Question,
+) -> Result<Forced>
     requires formula { IsWellFormed f.now }
     requires fit { O.Fits oracle.old log.old }
     requires padoa { IsPadoa f.now padoa.old log.old.entries }
-    requires row { length row.now ≡ length f.now.universals }
+    requires row { length question.now.row ≡ length f.now.universals }
 {
+    let y = question.y;
     if !f.is_existential(y) {
         return Err(anyhow!("no existential: {y}"));
     }
-    let forced = padoa.force(oracle, f, y, row, bit, log);
-    push_variable(alloc, y, printed)?;
-    match forced {
-        Ok(forced) => show_forced(alloc, f, &forced, printed),
+    match padoa.force(oracle, f, y, &question.row, question.bit, log) {
+        Ok(forced) => Ok(forced),
         Err(Stop::Limit) => Err(anyhow!("limit")),
         Err(Stop::Memory) => Err(anyhow!("out of memory")),
     }

@@ -11,6 +11,7 @@ mod expansions;
 mod exports;
 mod expressions;
 mod forcing;
+mod reports;
 mod rows;
 mod scans;
 mod shown;

@@ -5,8 +5,8 @@ ghost use Rattle.dq_lits.specs.Formula.{IsWellFormed};
 ghost use Rattle.cert_text.specs.Header.{max_count};
 
 use crate::decisions::decided;
-use crate::evaluation::Detail;
 use crate::exports::refute;
+use crate::reports::Report;
 use anyhow::Result;
 use cdcl_scan::Scan;
 use dq_formula::Formula;
@@ -29,13 +29,13 @@ pub fn compare_verdict(
     push_other(verdict, scanned, printed)
 }
 
-/// Prints what the checker says of the refutation by scans, where it is something else, or the text, where that is printed, is another one.
+/// Prints what the checker says of the refutation by scans, where it is something else, or the
+/// text, where that is printed, is another one.
 pub fn compare_refutation(
     alloc: Global,
     f: &Formula,
     limit: u64,
-    detail: Detail,
-    shown: &str,
+    shown: &Report,
     printed: &mut String,
 ) -> Result<()>
     requires formula { IsWellFormed f.now }
@@ -43,9 +43,9 @@ pub fn compare_refutation(
 {
     let mut oracle = Scan::new(alloc);
     let mut log = Log::new(alloc, limit);
-    let mut scanned = String::new(alloc);
-    refute(alloc, &mut oracle, f, &mut log, detail, &mut scanned)?;
-    push_other(shown, &scanned, printed)
+    let mut scanned = Report::new(alloc, shown.detail);
+    refute(alloc, &mut oracle, f, &mut log, &mut scanned)?;
+    push_other(&shown.text, &scanned.text, printed)
 }
 
 fn push_other(first: &str, second: &str, printed: &mut String) -> Result<()> {

@@ -13,7 +13,7 @@
 
 ghost use Rattle.dq_lits.specs.Formula.{IsWellFormed};
 
-use crate::evaluation::Detail;
+use crate::reports::Detail;
 use crate::{circuits, decisions, definitions, expansions, exports, forcing};
 use anyhow::{Result, anyhow};
 use dq_formula::Formula;

@@ -1,0 +1,28 @@
+//! What a run prints, and in what detail.
+
+use std::alloc::Global;
+
+/// What is written of a model.
+#[derive(Clone, Copy, Debug)]
+pub enum Detail {
+    /// Whether it is one.
+    Checks,
+    /// Its bits, and the candidates' values, too.
+    Bits,
+}
+
+/// What a run printed so far.
+#[derive(Drop)]
+pub struct Report {
+    pub text: String,
+    pub detail: Detail,
+}
+
+impl Report {
+    pub fn new(alloc: Global, detail: Detail) -> Report {
+        Report {
+            text: String::new(alloc),
+            detail,
+        }
+    }
+}
