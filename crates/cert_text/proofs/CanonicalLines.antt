@@ -99,7 +99,7 @@ rows_spell : (us : List ℕ) (rows : List (List Bool)) → AllByRecursion IsSpel
 rows_spell us [] are = tt
 rows_spell us (row ∷ rows) are = (row_spells us row are, rows_spell us rows are)
 
--- a derivation line
+-- a step
 abbrev pub literal_word : Literal → List ℕ
 literal_word l = signed_word (not (is_negative l)) (variable_of l)
 

@@ -1,4 +1,4 @@
--- A derivation line's checks, on its numbers.
+-- A step's checks, on its numbers.
 use Rattle.std.proofs.Common.{◌≡◌, ℕ, ◌==◌, nat_lt, nat_abs, Bool, not, Ok, Err, if◌then◌else◌, ap₂}
 use Rattle.std.specs.List.{list_all}
 use Rattle.std.proofs.lemmas.List.Folds.{list_all-map}

@@ -1,4 +1,4 @@
--- Derivation lines that are kept apart.
+-- Steps that are kept apart.
 use Rattle.std.proofs.Common.{◌≡◌, ℕ, zero, suc, ◌+◌, ◌<◌, List, [], ◌∷◌, ◌++◌, length, drop, get_or, Some, refl, sym, ◌∙◌, ap, ap₂, arith, append_assoc}
 use Rattle.std.specs.List.{flat_map, slice_get}
 use Rattle.dq_lits.specs.Derivation.{ProofStep}

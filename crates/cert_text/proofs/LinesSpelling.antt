@@ -114,7 +114,7 @@ rows_spelled us place (t ∷ ts) (row ∷ rows) each =
     let rest = rows_spelled us (place + 1) ts rows each.1 in
     record { each = (here.spelled, rest.each); whole = (here.whole, rest.whole) }
 
--- derivation lines
+-- steps
 pub steps_taken : (p : ℕ → Bool) → ((v : ℕ) → p v ≡ true → 1 ≤ v) → (id : ℕ) (spelled : List Tokens) (steps : List ProofStep) → 1 ≤ id →
     AllZip SpellsStep spelled steps → AreSteps p id steps → AreRead (step_line p) id spelled steps
 steps_taken p some id [] [] from_one each lawful = tt

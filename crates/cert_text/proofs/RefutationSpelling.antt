@@ -66,7 +66,7 @@ module _ (f : Dqbf) (c : Counts) where
   abbrev row_at : ℕ → Tokens → Result (List Bool) CertFault
   row_at _ = row_line f.universals
 
-  -- what is read behind the derivation lines, and behind the rows
+  -- what is read behind the steps, and behind the rows
   abbrev behind_steps : List (List Bool) → Steps → Result Dqr CertRefusal
   behind_steps rows steps = and_read (blank_lines steps.rest) (λ _. Ok (refutation rows steps.items))
 
@@ -116,7 +116,7 @@ spelled_is_read text first f d lawful spelled =
     lines_read f d spelled.header spelled.row_lines spelled.step_lines spelled.blank_lines (lines_from first text) first lawful
     spelled.header_spelled spelled.rows_spelled spelled.steps_spelled spelled.allowed (same_tokens first 1 text ∙ spelled.lines)
 
--- row lines, derivation lines, and then lines of blanks
+-- row lines, step lines, and then lines of blanks
 record AreBodyLines (f : Dqbf) (c : Counts) (lines : List TextLine) (d : Dqr) : Type 0 where
   row_lines : List Tokens
   step_lines : List Tokens

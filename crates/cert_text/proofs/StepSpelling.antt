@@ -1,4 +1,4 @@
--- Derivation lines, as their reader takes them and as the grammar spells them.
+-- Steps, as their reader takes them and as the grammar spells them.
 use Rattle.std.proofs.Common.{◌≡◌, ℕ, zero, suc, ◌+◌, ◌==◌, ◌≤◌, ◌<◌, nat_lt, ℤ, pos, negsuc, nat_abs, Bool, true, false, not, cond, ◌&&◌, List, [], ◌∷◌, ◌++◌, map, take, drop, length, get_or, Option, None, Some, Result, Ok, Err, refl, sym, ◌∙◌, ap, ap₂, arith, subst, length-append}
 use Rattle.std.specs.Int.{is_positive}
 use Rattle.std.specs.List.{AllByRecursion, list_all, position, position_or_len}
@@ -84,7 +84,7 @@ hints_back : (hs : List ℕ) → map nat_abs (hint_numbers hs) ≡ hs
 hints_back [] = refl
 hints_back (h ∷ hs) = ap (λ rest. h ∷ rest) (hints_back hs)
 
--- a derivation line that can be written
+-- a step that can be written
 pub record IsWritable (s : ProofStep) : Type 0 where
   pub id : 1 ≤ s.id
   pub literals : AreLiterals s.literals
@@ -190,7 +190,7 @@ nil_is : (ns : List ℤ) → is_nil ns ≡ true → ns ≡ []
 nil_is [] h = refl
 nil_is (n ∷ ns) h = cc
 
--- numbers that are a derivation line's
+-- numbers that are a step's
 pub record IsShape (ns : List ℤ) (s : ProofStep) : Type 0 where
   pub numbers : ns ≡ step_numbers s
   pub hints : AreIds s.hints
@@ -254,7 +254,7 @@ checks_passed p next s t h =
     let same : s ≡ t = cc in
     record { same = same; numbered = eqb-true s.id next (not-false a first.0); variables = not-false b second.0; hints = not-false d third.0 }
 
--- a derivation line, spelled and lawful
+-- a step, spelled and lawful
 pub record IsStepLine (p : ℕ → Bool) (next : ℕ) (tokens : Tokens) (s : ProofStep) : Type 0 where
   pub spelled : SpellsStep tokens s
   pub lawful : IsStep p next s

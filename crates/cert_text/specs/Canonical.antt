@@ -26,7 +26,7 @@ row_text universals row = codes "u " ++ (flat_map (λ x. signed_text x.1 x.0) (z
 abbrev pub step_text : ProofStep → List ℕ
 step_text s = number_text s.id ++ (flat_map literal_text s.literals ++ (codes "0 " ++ (flat_map number_text s.hints ++ line_end)))
 
--- the header, a line for each row, a line for each derivation line
+-- the header, a line for each row, a line for each step
 abbrev pub canonical : List ℕ → Dqr → List ℕ
 canonical universals d =
     header_text (length d.rows) (length d.steps) ++ (flat_map (row_text universals) d.rows ++ flat_map step_text d.steps)
@@ -34,6 +34,6 @@ canonical universals d =
 abbrev pub proof_header_text : ℕ → List ℕ
 proof_header_text steps = codes "dqp " ++ number_line steps
 
--- the header, a line for each derivation line
+-- the header, a line for each step
 abbrev pub canonical_proof : Dqp → List ℕ
 canonical_proof d = proof_header_text (length d.steps) ++ flat_map step_text d.steps

@@ -21,7 +21,7 @@ is_proof_variable f net = is_up_to (net.max_var + length f.matrix)
 abbrev pub first_proof_id : Dqbf → Netlist → ℕ
 first_proof_id f net = negated_clause_count f net + 1
 
--- the derivation lines behind the header
+-- the steps behind the header
 abbrev pub read_proof_lines : Dqbf → Netlist → ℕ → List TextLine → ℕ → Result Dqp CertRefusal
 read_proof_lines f net count lines number =
     and_read (read_some (step_line (is_proof_variable f net)) (first_proof_id f net) count lines number) (λ steps.
@@ -33,6 +33,6 @@ read_proof f net (line ∷ lines) number =
     and_read (at_line line.number (proof_header (line_tokens line.text))) (λ count. read_proof_lines f net count lines (line.number + 1))
 
 -- a proof over a formula and a circuit, or the first fault of its text, whose first line has this number; what stands
--- behind the last derivation line is free text
+-- behind the last step is free text
 abbrev pub circuit_proof_of : Dqbf → Netlist → List ℕ → ℕ → Result Dqp CertRefusal
 circuit_proof_of f net bytes first = read_proof f net (lines_from first bytes) first

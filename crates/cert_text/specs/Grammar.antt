@@ -1,5 +1,5 @@
 -- The grammar: which refutation a text spells for a formula, in this project's own format: rows for a universal expansion
--- (U. Bubeck, H. Kleine Büning, "Dependency quantified Horn formulas", 2006), and derivation lines as in LRAT (L.
+-- (U. Bubeck, H. Kleine Büning, "Dependency quantified Horn formulas", 2006), and steps as in LRAT (L.
 -- Cruz-Filipe et al., "Efficient certified RAT verification", 2017). Tokens stand between any spaces, tabs and CRs.
 use Rattle.std.specs.Prelude.{◌≡◌, ℕ, ◌+◌, ◌*◌, ◌^◌, ◌<◌, ◌≤◌, ℤ, pos, neg_ℤ, Bool, true, false, List, [], ◌∷◌, ◌++◌, map, length, replicate, codes, IsSome}
 use Rattle.std.specs.List.{All, AllZip, zip}
@@ -23,7 +23,7 @@ Tokens = List (List ℕ)
 abbrev pub integers : List ℤ → List Number
 integers ns = map (λ n. Int n) ns
 
--- `p dqr`, and how many rows and derivation lines there are
+-- `p dqr`, and how many rows and steps there are
 pub record SpellsHeader (tokens : Tokens) (rows steps : ℕ) : Type 0 where
   pub rows_token : List ℕ
   pub steps_token : List ℕ
@@ -52,7 +52,7 @@ step_numbers s = pos s.id ∷ (map dimacs_number s.literals ++ (pos 0 ∷ (map (
 abbrev pub SpellsStep : Tokens → ProofStep → Type 0
 SpellsStep tokens s = map number_of tokens ≡ integers (step_numbers s)
 
--- a derivation line with this id, on variables of the proof, and with hints before it
+-- a step with this id, on variables of the proof, and with hints before it
 pub record IsStep (is_variable : ℕ → Bool) (id : ℕ) (s : ProofStep) : Type 0 where
   pub numbered : s.id ≡ id
   pub on_variables : All (λ l. is_variable (variable_of l) ≡ true) s.literals
@@ -63,7 +63,7 @@ pub record HasSmallNumbers (s : ProofStep) : Type 0 where
   pub id : s.id < 10 ^ 18
   pub variables : All (λ l. variable_of l < 10 ^ 18) s.literals
 
--- derivation lines that are numbered from an id on
+-- steps that are numbered from an id on
 abbrev pub AreSteps : (ℕ → Bool) → ℕ → List ProofStep → Type 0
 AreSteps is_variable id [] = Unit {0}
 AreSteps is_variable id (s ∷ ss) = IsStep is_variable id s × AreSteps is_variable (id + 1) ss
@@ -78,7 +78,7 @@ pub record IsDqrOf (f : Dqbf) (d : Dqr) : Type 0 where
 abbrev pub tokens_by_line : List ℕ → List Tokens
 tokens_by_line text = map (λ line. line_tokens line.text) (lines_from 1 text)
 
--- the header, a line for each row, a line for each derivation line, and then only lines of blanks
+-- the header, a line for each row, a line for each step, and then only lines of blanks
 pub record SpellsRefutation (text : List ℕ) (f : Dqbf) (d : Dqr) : Type 0 where
   pub header : Tokens
   pub row_lines : List Tokens

@@ -15,7 +15,7 @@ counts_of (Some _) None = Err BadHeader
 counts_of (Some rows) (Some steps) =
     if nat_lt max_count rows || nat_lt max_count steps then Err TooBig else Ok (record { rows = rows; steps = steps })
 
--- `p`, `dqr`, how many rows, how many derivation lines
+-- `p`, `dqr`, how many rows, how many steps
 abbrev pub header_of : List (List ℕ) → Result Counts CertFault
 header_of (letter ∷ word ∷ rows ∷ steps ∷ []) =
     if bytes_eq letter (codes "p") && bytes_eq word (codes "dqr") then counts_of (natural_of rows) (natural_of steps) else Err BadHeader
@@ -25,7 +25,7 @@ abbrev pub count_of : Option ℕ → Result ℕ CertFault
 count_of None = Err BadHeader
 count_of (Some count) = if nat_lt max_count count then Err TooBig else Ok count
 
--- `dqp`, how many derivation lines
+-- `dqp`, how many steps
 abbrev pub proof_header : List (List ℕ) → Result ℕ CertFault
 proof_header (word ∷ count ∷ []) = if bytes_eq word (codes "dqp") then count_of (natural_of count) else Err BadHeader
 proof_header _ = Err BadHeader

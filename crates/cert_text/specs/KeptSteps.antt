@@ -1,4 +1,4 @@
--- How derivation lines are kept: their ids, their literals and their hints in lists of their own.
+-- How steps are kept: their ids, their literals and their hints in lists of their own.
 use Rattle.std.specs.Prelude.{◌≡◌, ℕ, List, [], ◌∷◌, length}
 use Rattle.dq_lits.specs.Derivation.{ProofStep}
 use Rattle.dq_lits.specs.Literal.{Literal}

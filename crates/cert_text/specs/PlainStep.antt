@@ -1,4 +1,4 @@
--- What is read of a derivation line from left to right.
+-- What is read of a step from left to right.
 use Rattle.std.specs.Prelude.{◌≡◌, ℕ, ◌≤◌, ◌<◌, pos, Bool, true, List, [], ◌∷◌, ◌++◌, map, Result, Ok, Err}
 use Rattle.std.specs.List.{All}
 use Rattle.dq_lits.specs.Derivation.{ProofStep}

@@ -1,4 +1,4 @@
--- The grammar: which proof a text spells over a formula and a circuit, in this project's own format; derivation lines as in
+-- The grammar: which proof a text spells over a formula and a circuit, in this project's own format; steps as in
 -- LRAT (L. Cruz-Filipe et al., "Efficient certified RAT verification", 2017).
 use Rattle.std.specs.Prelude.{◌≡◌, ℕ, ◌≤◌, pos, List, [], ◌∷◌, ◌++◌, length, codes}
 use Rattle.std.specs.List.{All, AllZip}
@@ -11,7 +11,7 @@ use Rattle.cert_text.specs.Grammar.{Tokens, tokens_by_line, SpellsStep, HasSmall
 use Rattle.cert_text.specs.Header.{max_count}
 use Rattle.cert_text.specs.declared.circuit_proofs.Dqp.{Dqp}
 
--- `dqp`, and how many derivation lines there are
+-- `dqp`, and how many steps there are
 pub record SpellsProofHeader (tokens : Tokens) (steps : ℕ) : Type 0 where
   pub steps_token : List ℕ
   pub words : tokens ≡ codes "dqp" ∷ steps_token ∷ []
@@ -23,7 +23,7 @@ pub record IsDqpOf (f : Dqbf) (net : Netlist) (d : Dqp) : Type 0 where
   pub steps : AreSteps (is_proof_variable f net) (first_proof_id f net) d.steps
   pub small : All HasSmallNumbers d.steps
 
--- the header, a line for each derivation line, and then free text
+-- the header, a line for each step, and then free text
 pub record SpellsProof (text : List ℕ) (f : Dqbf) (net : Netlist) (d : Dqp) : Type 0 where
   pub header : Tokens
   pub step_lines : List Tokens

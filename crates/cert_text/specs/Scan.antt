@@ -23,7 +23,7 @@ abbrev pub blank_lines : List TextLine → Result (Unit {0}) CertRefusal
 blank_lines [] = Ok tt
 blank_lines (line ∷ lines) = if is_blank_line line.text then blank_lines lines else Err (refusal line.number BadLine)
 
--- the rows, the derivation lines, and nothing behind them
+-- the rows, the steps, and nothing behind them
 abbrev pub read_body : Dqbf → Counts → List TextLine → ℕ → Result Dqr CertRefusal
 read_body f counts lines number =
     and_read (read_some (λ _. row_line f.universals) 0 counts.rows lines number) (λ rows.

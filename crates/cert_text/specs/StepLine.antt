@@ -1,4 +1,4 @@
--- A derivation line: `id lits 0 hints 0`, the clause additions of LRAT (L. Cruz-Filipe et al., "Efficient certified RAT
+-- A step's line: `id lits 0 hints 0`, the clause additions of LRAT (L. Cruz-Filipe et al., "Efficient certified RAT
 -- verification", 2017).
 use Rattle.std.specs.Prelude.{ℕ, ◌+◌, ◌==◌, nat_lt, ℤ, nat_abs, Bool, true, false, not, ◌&&◌, List, [], ◌∷◌, map, take, drop, Option, None, Some, Result, Ok, Err, if◌then◌else◌}
 use Rattle.std.specs.Int.{is_positive}

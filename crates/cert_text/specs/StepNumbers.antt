@@ -1,4 +1,4 @@
--- The numbers of a derivation line as the definitions see them.
+-- The numbers of a step as the definitions see them.
 use Rattle.std.specs.Prelude.{nat_abs, ℤ, ◌≤◌, ◌<◌, ◌^◌, map, Option}
 use Rattle.std.specs.Option.{option_map}
 use Rattle.dq_lits.specs.Derivation.{ProofStep}

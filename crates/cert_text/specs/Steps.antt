@@ -1,4 +1,4 @@
--- A derivation line as the definitions see it.
+-- A step as the definitions see it.
 use Rattle.dq_lits.specs.Derivation.{ProofStep}
 use Rattle.cert_text.specs.declared.steps.Step.{Step}
 

@@ -15,7 +15,7 @@ pub enum CertFault {
     BadLine,
     /// A row that isn't each universal once, in the formula's order and with a sign, and then 0.
     RowIncomplete,
-    /// A derivation line whose id isn't the next one.
+    /// A step whose id isn't the next one.
     IdOrder,
     /// A hint that isn't below the id of its line.
     UnknownHint,
@@ -23,7 +23,7 @@ pub enum CertFault {
     TooBig,
     /// The text ends before the lines that its header announces.
     Truncated,
-    /// A literal of a derivation line on a variable that the proof doesn't have.
+    /// A literal of a step on a variable that the proof doesn't have.
     BadVariable,
     /// The line `s TRUE` before a refutation, or `s FALSE` before a circuit.
     WrongVerdict,

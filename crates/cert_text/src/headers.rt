@@ -8,7 +8,7 @@ ghost use Rattle.cert_text.specs.HeaderCounts.{AreSmall};
 use crate::faults::CertFault;
 use dq_text::{LineTokens, is_word, natural};
 
-/// How many rows and derivation lines a header announces.
+/// How many rows and steps a header announces.
 #[derive(Clone, Copy, Debug, PartialEq, Eq)]
 pub struct Counts {
     pub rows: u64,
@@ -49,7 +49,7 @@ fn counts_from(rows: Option<u64>, steps: Option<u64>) -> Result<Counts, CertFaul
 }
 
 /// Reads the header line of a circuit's proof: exactly the tokens `dqp` and a natural number, which is
-/// how many derivation lines follow.
+/// how many steps follow.
 pub fn read_proof_header(line: &[u8]) -> Result<u64, CertFault>
     ensures { result ≡ proof_header (line_tokens line.now) }
 {

@@ -1,4 +1,4 @@
-//! Derivation lines that are as they should be, read in one pass.
+//! Steps that are as they should be, read in one pass.
 
 ghost use Rattle.std.specs.Prelude.{◌≡◌, ◌≤◌, ◌<◌, ◌^◌, ◌∷◌, [], ◌++◌, IsTrue, nat_abs, pos, map, IfSome, IfOk, OnOk};
 ghost use Rattle.std.specs.List.{All};
@@ -15,7 +15,7 @@ use crate::variables::Variables;
 use dq_lits::{Lit, Memory};
 use dq_text::{LineTokens, Number};
 
-/// Reads a derivation line with the next id, over these variables, and answers its id; its literals and hints stand in
+/// Reads a step with the next id, over these variables, and answers its id; its literals and hints stand in
 /// the buffers then. It answers nothing where the line isn't such a one, and maybe where it is.
 pub fn take_plain_step(
     variables: Variables,

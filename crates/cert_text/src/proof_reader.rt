@@ -19,7 +19,7 @@ use std::alloc::Global;
 
 /// Reads a circuit's proof for a formula and a circuit, from the line `dqp N` on, which has the number `first`:
 /// exactly the proof that the text spells, or its first fault by line and name. What stands behind the N
-/// derivation lines is free text.
+/// steps is free text.
 ///
 /// The variables are those of the circuit, 1 to M, and M + j for 'clause j is false'. Which clauses have the
 /// ids before the first line's, the definition `negated_matrix` says.
@@ -72,7 +72,7 @@ fn last_variable(f: &Formula, c: &Circuit) -> u64
     c.max_var() + f.clauses() as u64
 }
 
-// The id of the first derivation line. No contract says how long the clauses are in all, but 128 bits hold any such
+// The id of the first step. No contract says how long the clauses are in all, but 128 bits hold any such
 // sum.
 fn first_id(f: &Formula, c: &Circuit) -> u128
     ensures id { result ≡ first_proof_id f.now c.now }

@@ -57,7 +57,7 @@ fn read_body(alloc: Global, f: &Formula, counts: Counts, lines: &mut Lines) -> R
     Ok(Dqr { rows, steps })
 }
 
-// The id of the first derivation line behind the instances of the clauses under so many rows.
+// The id of the first step behind the instances of the clauses under so many rows.
 fn first_id(f: &Formula, rows: u64) -> u128
     requires { rows ≤ MAX_COUNT }
     ensures id { result ≡ first_id f.now rows }

@@ -1,4 +1,4 @@
-//! Derivation lines.
+//! Steps.
 
 ghost use Rattle.std.specs.Prelude.{◌≡◌, ◌≤◌, nat_lt, nat_abs, ◌&&◌, map, Ok, Err, OnOk, MatchResult, IsTrue};
 ghost use Rattle.std.specs.Int.{is_positive};
@@ -19,7 +19,7 @@ use dq_lits::{Lit, Memory};
 use dq_text::LineTokens;
 use std::alloc::Global;
 
-/// The numbers of a derivation line, without the zeros that end its parts.
+/// The numbers of a step, without the zeros that end its parts.
 #[derive(Clone, Copy, Debug)]
 pub struct StepNumbers<'a> {
     pub id: u64,
@@ -46,7 +46,7 @@ impl StepBuffers {
     }
 }
 
-/// Reads a derivation line with the next id, over these variables, and answers its id; its literals and hints stand in
+/// Reads a step with the next id, over these variables, and answers its id; its literals and hints stand in
 /// the buffers then.
 pub fn read_step(
     variables: Variables,

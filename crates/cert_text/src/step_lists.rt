@@ -1,4 +1,4 @@
-//! Lists of derivation lines.
+//! Lists of steps.
 
 ghost use Rattle.std.specs.Prelude.{◌≡◌, ◌+◌, ◌<◌, ◌^◌, [], ◌∷◌, ◌++◌, OnOk};
 ghost use Rattle.cert_text.specs.Lines.{IsReadingUpTo, IsReadInto, put_behind, read_from};
@@ -14,7 +14,7 @@ use dq_lits::Memory;
 use dq_text::Lines;
 use std::alloc::Global;
 
-/// The derivation lines that are to come, as a header announces them.
+/// The steps that are to come, as a header announces them.
 #[derive(Clone, Copy, Debug)]
 pub struct Announced<'a> {
     /// The variables that the literals may stand on.
@@ -24,7 +24,7 @@ pub struct Announced<'a> {
     pub count: u64,
 }
 
-/// Reads the next lines as the derivation lines that are announced.
+/// Reads the next lines as the steps that are announced.
 pub fn read_steps(
     alloc: Global,
     announced: &Announced,

@@ -20,7 +20,7 @@ use dq_text::{push_all_spaced, push_last, push_spaced, push_word};
 use std::alloc::Global;
 
 /// The canonical text of a refutation for a formula: the header `p dqr K N`; for each row `u`, the universals
-/// in the formula's order, each with its bit as its sign, and `0`; then the derivation lines. Where the
+/// in the formula's order, each with its bit as its sign, and `0`; then the steps. Where the
 /// refutation is one that a text can hold for the formula, reading the text gives it back.
 pub fn write_dqr(alloc: Global, d: &Dqr, f: &Formula) -> Result<Vec<u8>, Memory>
     ensures canonical { IfOk result (λ text. text.items ≡ canonical f.now.universals d.now) }
@@ -35,7 +35,7 @@ pub fn write_dqr(alloc: Global, d: &Dqr, f: &Formula) -> Result<Vec<u8>, Memory>
     Ok(text)
 }
 
-/// The canonical text of a circuit's proof: the header `dqp N`, and then the derivation lines. Where the proof is
+/// The canonical text of a circuit's proof: the header `dqp N`, and then the steps. Where the proof is
 /// one that a text can hold over a formula and a circuit, reading the text over these gives it back.
 pub fn write_dqp(alloc: Global, d: &Dqp) -> Result<Vec<u8>, Memory>
     ensures canonical { IfOk result (λ text. text.items ≡ canonical_proof d.now) }

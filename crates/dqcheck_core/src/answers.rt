@@ -29,9 +29,9 @@ pub enum Answer {
     BadRow { number: u32 },
     /// There is no proof, and too many universals to try all rows.
     Unproved { universals: usize },
-    /// The derivation line with this id isn't derived, and all before it are.
+    /// The step with this id isn't derived, and all before it are.
     UnderivedStep { id: u64 },
-    /// Every derivation line is derived, and the last one isn't the empty clause, or there is none.
+    /// Every step is derived, and the last one isn't the empty clause, or there is none.
     NoEmptyClause,
     /// The circuit's outputs are Skolem functions, by its proof or by all rows, so the formula is true.
     ValidTrue,

@@ -1,4 +1,4 @@
-//! Circuits' proofs: whether the derivation lines of a `dqp` show that a circuit makes every clause of a formula true, for
+//! Circuits' proofs: whether the steps of a `dqp` show that a circuit makes every clause of a formula true, for
 //! any number of universals.
 //!
 //! The lines refute the negated matrix, the clauses which say that the gates have their values and some clause of the

@@ -1,4 +1,4 @@
--- Derivation lines, on their pairs.
+-- Steps, on their pairs.
 use Rattle.std.specs.Prelude.{List, map}
 use Rattle.dq_lits.specs.Derivation.{ProofStep}
 use Rattle.dq_lits.specs.Literal.{Literal}

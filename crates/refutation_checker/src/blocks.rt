@@ -25,7 +25,7 @@ struct SeenBlocks {
     latest: u64,
 }
 
-/// Finds and keeps the first rows of all that occurs in some derivation lines and in the instances that they hint.
+/// Finds and keeps the first rows of all that occurs in some steps and in the instances that they hint.
 pub(crate) fn learn_steps(
     alloc: Global,
     table: &mut PairTable,
@@ -144,7 +144,7 @@ fn see_part(
     Ok(())
 }
 
-// The blocks of a derivation line.
+// The blocks of a step.
 fn see_line(table: &PairTable, lits: &[Lit], seen: &mut SeenBlocks) -> Result<(), Memory>
     requires pairs { All (λ l. is_pair_number table.now.formula (length table.now.rows) (variable_of l) ≡ true) lits.now }
     requires seen { AreBlocks table.now seen.old.numbers }

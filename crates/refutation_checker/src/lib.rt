@@ -1,4 +1,4 @@
-//! Expansion refutations: whether the rows and derivation lines of a `dqr` show that no choice of functions solves a
+//! Expansion refutations: whether the rows and steps of a `dqr` show that no choice of functions solves a
 //! formula.
 //!
 //! The clauses of the formula are taken under each row of the universals (universal expansion), and each line has to be

@@ -1,4 +1,4 @@
-//! Derivation lines, on their pairs.
+//! Steps, on their pairs.
 
 ghost use Rattle.std.specs.Prelude.{◌≡◌, true, length, All, IfOk, OnOk};
 ghost use Rattle.dq_lits.specs.Literal.{variable_of};

@@ -242,7 +242,7 @@ impl<'f, 'r> PairTable<'f, 'r> {
         ((place / variables) as usize, place % variables + 1)
     }
 
-    /// The id of the first derivation line, behind those of the instances.
+    /// The id of the first step, behind those of the instances.
     pub(crate) fn first_line(&self) -> u64
         ensures value { result ≡ first_id self.now.formula (length self.now.rows) }
         ensures small { result ≤ 10 ^ 17 }

@@ -4,7 +4,7 @@ use cert_text::StepList;
 use dq_lits::Lit;
 use rup_core::Steps;
 
-/// Derivation lines as they were read.
+/// Steps as they were read.
 #[derive(Drop)]
 pub(crate) struct Lines<'s> {
     pub steps: &'s StepList,
