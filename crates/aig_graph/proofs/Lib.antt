@@ -1,12 +1,12 @@
 pub mod Numbered
-pub mod Staying
-mod Making
-mod Valuing
-mod Reading
+pub mod LargerGraphs
+mod MadeNodes
+mod BufferedValues
+mod NodeReads
 pub mod Supported
-mod Coning
+mod ConeMarks
 mod Sides
-pub mod Writing
-mod Gathering
-mod PuttingIn
-mod Filling
+pub mod WrittenBits
+mod GatheredCones
+mod PutInNodes
+mod MadeGates

@@ -9,7 +9,7 @@ use Rattle.aig_graph.specs.declared.nodes.Beside.TheVariants.{Same, Opposite, Ap
 use Rattle.aig_graph.specs.Graph.{AigGraph, with_sign, gate_value, node_value, IsNode, IsGraph, gate_at}
 use Rattle.aig_graph.specs.Joining.{opposite_node, IsBeside, node_by_side}
 use Rattle.aig_graph.specs.Made.{IsMade}
-use Rattle.aig_graph.proofs.Staying.{gate_value_at, number_of, made_swapped}
+use Rattle.aig_graph.proofs.LargerGraphs.{gate_value_at, number_of, made_swapped}
 
 sign_not : (s b : Bool) → with_sign (not s) b ≡ not (with_sign s b)
 sign_not false b = refl

@@ -9,7 +9,7 @@ use Rattle.aiger_text.specs.Scan.{LineFault, AllGrounded, IsCyclicAt, scan}
 use Rattle.aiger_text.specs.declared.faults.AagFault.{AagFault}
 use Rattle.aiger_text.specs.declared.faults.AagFault.TheVariants.{Cyclic}
 use Rattle.aiger_text.specs.declared.files.AagFile.{AagFile}
-use Rattle.aiger_text.proofs.Grounding.{all_grounded_or_first}
+use Rattle.aiger_text.proofs.GroundedGates.{all_grounded_or_first}
 use Rattle.aiger_text.proofs.LineNumbers.{scan_same}
 use Rattle.aiger_text.proofs.ReadIsSpelled.{read_is_spelled}
 use Rattle.aiger_text.proofs.SpelledIsRead.{spelled_is_read}

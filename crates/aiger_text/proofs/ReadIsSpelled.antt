@@ -9,8 +9,8 @@ use Rattle.aiger_text.specs.Scan.{Body, LineFault, start, behind_header, read_li
 use Rattle.aiger_text.specs.declared.headers.Header.{Header}
 use Rattle.aiger_text.specs.declared.files.AagFile.{AagFile}
 use Rattle.aiger_text.specs.declared.faults.AagFault.{AagFault}
-use Rattle.aiger_text.proofs.Finishing.{finish_is}
-use Rattle.aiger_text.proofs.HeaderSpelling.{header_is}
+use Rattle.aiger_text.proofs.FinishedFiles.{finish_is}
+use Rattle.aiger_text.proofs.SpelledHeaders.{header_is}
 use Rattle.aiger_text.proofs.ReadNetlist.{inputs_spelled, outputs_spelled, gates_spelled}
 use Rattle.aiger_text.proofs.ReadSymbols.{symbols_spelled}
 use Rattle.aiger_text.proofs.SpelledNetlist.{no_symbols, body_with}

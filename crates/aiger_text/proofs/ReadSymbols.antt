@@ -19,7 +19,7 @@ use Rattle.aiger_text.specs.declared.faults.AagFault.TheVariants.{BadSymbol}
 use Rattle.aiger_text.specs.declared.body.Part.TheVariants.{SymbolLine as AtSymbol}
 use Rattle.aiger_text.proofs.SpelledNetlist.{body_with, at_symbol, on_part}
 use Rattle.aiger_text.proofs.SpelledSymbols.{joined, joined-nil, joined-cons, with_name}
-use Rattle.aiger_text.proofs.SymbolSpelling.{symbol_is}
+use Rattle.aiger_text.proofs.SpelledSymbolLines.{symbol_is}
 
 if_fault : (b : Bool) (r : SymbolTable) (table : SymbolTable) → cond b (Ok r) (Err BadSymbol) ≡ Ok table → (b ≡ true) × (r ≡ table)
 if_fault true r table h = let same : r ≡ table = cc in (refl, same)

@@ -3,8 +3,8 @@ use Rattle.std.proofs.Common.{◌≡◌, ℕ, ◌+◌, List, ◌++◌, Result, O
 use Rattle.aiger_text.specs.Grammar.{SpellsCircuit, counts_in}
 use Rattle.aiger_text.specs.Scan.{Body, LineFault, behind_header, read_lines, read_body, scan}
 use Rattle.aiger_text.specs.declared.files.AagFile.{AagFile}
-use Rattle.aiger_text.proofs.Finishing.{finish_from}
-use Rattle.aiger_text.proofs.HeaderSpelling.{header_from}
+use Rattle.aiger_text.proofs.FinishedFiles.{finish_from}
+use Rattle.aiger_text.proofs.SpelledHeaders.{header_from}
 use Rattle.aiger_text.proofs.SpelledNetlist.{body_with, no_symbols, netlist_read}
 use Rattle.aiger_text.proofs.SpelledSymbols.{symbols_read, comment_read}
 

@@ -18,7 +18,7 @@ use Rattle.aiger_text.specs.declared.files.AagFile.{AagFile}
 use Rattle.aiger_text.specs.declared.faults.AagFault.TheVariants.{BadSymbol}
 use Rattle.aiger_text.specs.declared.body.Part.TheVariants.{SymbolLine as AtSymbol}
 use Rattle.aiger_text.proofs.SpelledNetlist.{body_with, at_symbol, on_part, is_member, not_before}
-use Rattle.aiger_text.proofs.SymbolSpelling.{symbol_from}
+use Rattle.aiger_text.proofs.SpelledSymbolLines.{symbol_from}
 
 -- the symbols behind those of a table
 abbrev pub joined : SymbolTable → List SymbolLine → SymbolTable

@@ -19,11 +19,11 @@ use Rattle.cdcl_core.specs.Marks.{marked, is_level_marked}
 use Rattle.cdcl_core.specs.Sound.{IsSound, IsReasoned, IsGuided}
 use Rattle.cdcl_core.specs.Analyses.{IsAnalysis, AllStand}
 use Rattle.cdcl_core.specs.Lessons.{IsLesson, IsJump}
-use Rattle.cdcl_core.proofs.Holding.{same_literal-refl, opposite-opposite, opposite-variable, opposite-negative, holds_first, holds_later, holds_cases, free_variable, no_tautology}
-use Rattle.cdcl_core.proofs.Standing.{is_unit, stuck_from_two}
-use Rattle.cdcl_core.proofs.Concluding.{concluded_derived, concluded_tied}
-use Rattle.cdcl_core.proofs.Analysing.{AreConsistent, sound_consistent, free_later}
-use Rattle.cdcl_core.proofs.Backing.{reason_of}
+use Rattle.cdcl_core.proofs.HeldLiterals.{same_literal-refl, opposite-opposite, opposite-variable, opposite-negative, holds_first, holds_later, holds_cases, free_variable, no_tautology}
+use Rattle.cdcl_core.proofs.ClauseStatus.{is_unit, stuck_from_two}
+use Rattle.cdcl_core.proofs.AnswerClauses.{concluded_derived, concluded_tied}
+use Rattle.cdcl_core.proofs.ConflictAnalysis.{AreConsistent, sound_consistent, free_later}
+use Rattle.cdcl_core.proofs.BacktrackSteps.{reason_of}
 
 -- suffixes
 pub sound_later : (live : LiveClauses) (popped steps : List Step) → IsSound live (popped ++ steps) → IsSound live steps

@@ -18,9 +18,9 @@ use Rattle.cdcl_core.specs.Sound.{IsSound, IsGuided}
 use Rattle.cdcl_core.specs.Lessons.{IsLesson, IsJump, IsLanded, landed}
 use Rattle.cdcl_core.specs.declared.searchers.Searcher.{Searcher}
 use Rattle.cdcl_core.specs.Searching.{IsSearching}
-use Rattle.cdcl_core.proofs.Holding.{holds_first, holds_later}
+use Rattle.cdcl_core.proofs.HeldLiterals.{holds_first, holds_later}
 use Rattle.cdcl_core.proofs.Lessons.{lesson_derived, lesson_new, lesson_tied, lesson_stands, lesson_sound, lesson_guided, lesson_lands, guided_later, trail_named}
-use Rattle.cdcl_core.proofs.Fitting.{fit_learned}
+use Rattle.cdcl_core.proofs.FitLogs.{fit_learned}
 
 pub clauses_within : (held : List (List Literal)) (variables n : ℕ) (es : List Entry) → Fit held variables es → variables < n → All (λ c. All (λ l. variable_of l < n) c) held
 clauses_within held variables n es fit low =

@@ -19,11 +19,11 @@ use Rattle.cdcl_scan.specs.Marks.{marked, is_level_marked}
 use Rattle.cdcl_scan.specs.Sound.{IsSound, IsReasoned, IsGuided}
 use Rattle.cdcl_scan.specs.Analyses.{IsAnalysis, AllStand}
 use Rattle.cdcl_scan.specs.Lessons.{IsLesson, IsJump}
-use Rattle.cdcl_scan.proofs.Holding.{same_literal-refl, opposite-opposite, opposite-variable, opposite-negative, holds_first, holds_later, holds_cases, free_variable, no_tautology}
-use Rattle.cdcl_scan.proofs.Standing.{is_unit, stuck_from_two}
-use Rattle.cdcl_scan.proofs.Concluding.{concluded_derived, concluded_tied}
-use Rattle.cdcl_scan.proofs.Analysing.{AreConsistent, sound_consistent, free_later}
-use Rattle.cdcl_scan.proofs.Backing.{reason_of}
+use Rattle.cdcl_scan.proofs.HeldLiterals.{same_literal-refl, opposite-opposite, opposite-variable, opposite-negative, holds_first, holds_later, holds_cases, free_variable, no_tautology}
+use Rattle.cdcl_scan.proofs.ClauseStatus.{is_unit, stuck_from_two}
+use Rattle.cdcl_scan.proofs.AnswerClauses.{concluded_derived, concluded_tied}
+use Rattle.cdcl_scan.proofs.ConflictAnalysis.{AreConsistent, sound_consistent, free_later}
+use Rattle.cdcl_scan.proofs.BacktrackSteps.{reason_of}
 
 -- suffixes
 pub sound_later : (live : LiveClauses) (popped steps : List Step) → IsSound live (popped ++ steps) → IsSound live steps

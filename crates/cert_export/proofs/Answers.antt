@@ -15,7 +15,7 @@ use Rattle.hint_log.specs.Growth.{Each}
 use Rattle.cert_export.specs.Renaming.{Renaming, renamed_clause}
 use Rattle.hint_log.specs.Conditions.{MayFollow}
 use Rattle.hint_log.specs.Deciding.{ReachesGiven, AreNegatedSelectors}
-use Rattle.log_laws.proofs.Reaching.{numbered_kept}
+use Rattle.log_laws.proofs.ReachedClauses.{numbered_kept}
 use Rattle.cert_export.proofs.ReachedLines.{hints_below}
 
 module _ (earlier : List Entry) (clause : List Literal) (hints : List ℕ) (lawful : Each MayFollow (Answer clause hints ∷ earlier)) where

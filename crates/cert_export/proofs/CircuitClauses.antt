@@ -31,7 +31,7 @@ use Rattle.cert_export.specs.ExportedCircuit.{CircuitClausesAreNegatedMatrix}
 use Rattle.hint_log.specs.ProductiveLog.{MatchesOrigin}
 use Rattle.cert_export.proofs.Codes.{opposite_even, as_even, as_odd, AreVariables, no_constants, false_behind}
 use Rattle.cert_export.proofs.CircuitNumbers.{IsPlace, position_is, among, HasNumber, circuit_numbered, as_code, code_big, opposite_code, opposite_number, renamed_is, clause_codes}
-use Rattle.log_laws.proofs.Reaching.{name_stays}
+use Rattle.log_laws.proofs.ReachedClauses.{name_stays}
 use Rattle.log_laws.proofs.Found.{each_at, named_variable, find_there, numbered_among, split_at, variable, find_sound}
 use Rattle.log_laws.proofs.Solved.{split_literal, sides}
 use Rattle.cert_export.proofs.PairNames.{small_place, from_one}

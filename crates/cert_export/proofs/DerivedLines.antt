@@ -17,9 +17,9 @@ use Rattle.cert_export.specs.Lines.{clause_or_empty, hints_or_none, number_by, n
 use Rattle.cert_export.specs.LineOrder.{IsBaseId, IsHintable, IsNextLine, AreLines, AreFinished, IsRenamedBase}
 use Rattle.hint_log.specs.Conditions.{MayFollow}
 use Rattle.hint_log.specs.ProductiveLog.{IsDerivedByHints}
-use Rattle.log_laws.proofs.Reaching.{numbered_kept}
+use Rattle.log_laws.proofs.ReachedClauses.{numbered_kept}
 use Rattle.log_laws.proofs.Found.{each_at, split_at}
-use Rattle.cert_export.proofs.Cutting.{cut_by_ids}
+use Rattle.cert_export.proofs.CutHints.{cut_by_ids}
 use Rattle.cert_export.proofs.ReachedLines.{entry_at, there_is}
 use Rattle.cert_export.proofs.Renamings.{renamed_lines_are_derived}
 

@@ -28,7 +28,7 @@ use Rattle.hint_log.specs.Deciding.{ReadsInput, itself, left, right, LeafReads}
 use Rattle.cert_export.proofs.CircuitNumbers.{IsNumbered, number_cases, HasNumber, code_at, circuit_numbered, circuit_numbers_are_injective}
 use Rattle.cert_export.proofs.CircuitClauses.{range_at}
 use Rattle.cert_export.proofs.Codes.{half_even, half_odd}
-use Rattle.log_laws.proofs.Reaching.{name_stays}
+use Rattle.log_laws.proofs.ReachedClauses.{name_stays}
 use Rattle.log_laws.proofs.Solved.{sides}
 use Rattle.log_laws.proofs.Found.{variable}
 

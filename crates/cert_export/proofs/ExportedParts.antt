@@ -21,7 +21,7 @@ use Rattle.hint_log.specs.declared.origins.Origin.{Origin}
 use Rattle.hint_log.specs.declared.origins.Origin.TheVariants.{Instance, Gate, Fault, Copy, Link}
 use Rattle.log_laws.proofs.Found.{split_at, each_at}
 use Rattle.log_laws.proofs.LeafFunctions.{circuit_stays}
-use Rattle.log_laws.proofs.Reaching.{name_stays, numbered_kept}
+use Rattle.log_laws.proofs.ReachedClauses.{name_stays, numbered_kept}
 use Rattle.number_tables.specs.Numbers.{has_number, place_of}
 use Rattle.cert_export.specs.CircuitPart.{CircuitPart, IsCircuitPart, IsInFile, IsLeafInFile, ReadSeen}
 use Rattle.cert_export.specs.ExportedCircuit.{IsDecidedTrue, IsExportedPart, is_gate_name}

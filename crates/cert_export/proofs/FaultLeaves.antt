@@ -13,7 +13,7 @@ use Rattle.hint_log.specs.declared.origins.Leaf.{Leaf}
 use Rattle.hint_log.specs.declared.origins.Leaf.TheVariants.{Constant}
 use Rattle.hint_log.specs.declared.origins.Origin.TheVariants.{Fault}
 use Rattle.number_tables.specs.Numbers.{has_number, place_of}
-use Rattle.number_tables.proofs.Placing.{placed}
+use Rattle.number_tables.proofs.NumberPlaces.{placed}
 use Rattle.cert_export.specs.FaultLeaves.{LeafTable, leaf_of, IsLeafAt, IsLeafAmong, AreLeavesAmong, HasLeavesAmong, BeginsGroup, IsFaultOfGroup, AreOfGroup}
 use Rattle.log_laws.proofs.Found.{slice_get_at}
 use Rattle.cert_export.proofs.GivenNames.{Contains-append_either}

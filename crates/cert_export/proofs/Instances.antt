@@ -28,7 +28,7 @@ use Rattle.cert_export.specs.Expansion.{first_pair, pair_of, pair_renaming, inst
 use Rattle.hint_log.specs.Conditions.{MayFollow}
 use Rattle.hint_log.specs.ProductiveLog.{MatchesOrigin}
 use Rattle.hint_log.specs.Deciding.{IsInstance}
-use Rattle.log_laws.proofs.Reaching.{name_stays}
+use Rattle.log_laws.proofs.ReachedClauses.{name_stays}
 use Rattle.log_laws.proofs.Found.{each_at, named_variable, position_append, position_small, same_bits-refl, split_at, find_sound, slice_get_at}
 use Rattle.cert_export.proofs.PairNames.{in_range, same_bits-sound, rows_more, row_contained, from_one, small_place}
 use Rattle.dq_lits.specs.Henkin.{restriction, same_bits}

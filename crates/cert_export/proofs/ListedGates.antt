@@ -16,7 +16,7 @@ use Rattle.cert_export.specs.ExportedCircuit.{is_gate_name}
 use Rattle.cert_export.specs.Needed.{with_sides, with_all_sides, with_gate, with_gates}
 use Rattle.cert_export.proofs.CircuitNumbers.{among, position_is}
 use Rattle.cert_export.proofs.GivenNames.{Contains-append_either}
-use Rattle.log_laws.proofs.Reaching.{name_stays}
+use Rattle.log_laws.proofs.ReachedClauses.{name_stays}
 use Rattle.cert_export.proofs.NeededGates.{Grows}
 
 pub inside_of : (s : List ℕ) (v : ℕ) → has_number s v ≡ true → Contains s v

@@ -18,7 +18,7 @@ use Rattle.cert_export.specs.LineOrder.{IsLine, AreLineNumbers, IsBaseId, IsHint
 use Rattle.hint_log.specs.Growth.{Each}
 use Rattle.cert_export.specs.Renaming.{Renaming}
 use Rattle.hint_log.specs.Conditions.{MayFollow}
-use Rattle.log_laws.proofs.Reaching.{numbered_kept}
+use Rattle.log_laws.proofs.ReachedClauses.{numbered_kept}
 use Rattle.log_laws.proofs.Found.{each_at}
 
 -- where an id's entry stands

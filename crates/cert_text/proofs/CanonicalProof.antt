@@ -17,7 +17,7 @@ use Rattle.cert_text.proofs.LineTokens.{tokens_by_text}
 use Rattle.cert_text.proofs.LineWords.{tokens_of, line_of_words}
 use Rattle.dq_text.proofs.Numerals.{natural_is_read}
 use Rattle.dq_text.proofs.LineWords.{natural_is_word}
-use Rattle.cert_text.proofs.ProofSpelling.{variable_some}
+use Rattle.cert_text.proofs.SpelledProofs.{variable_some}
 
 header_line : (steps : ℕ) (rest : List ℕ) → steps < 10 ^ 18 → tokens_of (proof_header_text steps ++ rest) ≡ (codes "dqp" ∷ decimal steps ∷ []) ∷ tokens_of rest
 header_line steps rest few =

@@ -22,7 +22,7 @@ use Rattle.cert_text.specs.declared.variables.Variables.{Variables}
 use Rattle.cert_text.specs.declared.variables.Variables.TheVariants.{Pairs, UpTo}
 use Rattle.cert_text.proofs.Parts.{pair_positive}
 use Rattle.cert_text.proofs.SmallNumbers.{token_small}
-use Rattle.cert_text.proofs.StepSpelling.{step_taken, number_back}
+use Rattle.cert_text.proofs.SpelledSteps.{step_taken, number_back}
 
 -- the first number is below 10^18
 pub first_small : (tokens left : Tokens) (n : ℤ) → map number_of tokens ≡ Int n ∷ map number_of left → nat_abs n < 10 ^ 18

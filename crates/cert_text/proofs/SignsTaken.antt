@@ -16,7 +16,7 @@ use Rattle.cert_text.specs.RowLine.{row_of}
 use Rattle.cert_text.specs.SignsTaken.{SignsTaken}
 use Rattle.cert_text.proofs.Integers.{integers_taken}
 use Rattle.cert_text.proofs.PlainSteps.{first_small, integers-append, wide}
-use Rattle.cert_text.proofs.RowSpelling.{chosen}
+use Rattle.cert_text.proofs.SpelledRows.{chosen}
 
 pub no_signs : (universals : List ℕ) (tokens : Tokens) (row : List Bool) → length row ≡ length universals → SignsTaken universals tokens tokens row 0
 no_signs universals tokens row whole = record {

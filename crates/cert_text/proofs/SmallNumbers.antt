@@ -13,7 +13,7 @@ use Rattle.cert_text.specs.StepLine.{step_of}
 use Rattle.cert_text.specs.StepNumbers.{numbered_step, maybe_step, IsLiteralNumber}
 use Rattle.cert_text.specs.declared.step_lines.StepNumbers.{StepNumbers}
 use Rattle.cert_text.proofs.Integers.{integers_spelled}
-use Rattle.cert_text.proofs.StepSpelling.{shape_read}
+use Rattle.cert_text.proofs.SpelledSteps.{shape_read}
 
 abbrev IsSmall : ℤ → Type 0
 IsSmall n = nat_abs n < 10 ^ 18

@@ -10,8 +10,8 @@ use Rattle.hint_log.specs.declared.origins.Origin.TheVariants.{Fault}
 use Rattle.hint_log.specs.Entries.{ProofLog, name_of}
 use Rattle.hint_log.specs.Growth.{Grew}
 use Rattle.log_laws.specs.Engines.{circuits, IsAddedBy}
-use Rattle.log_laws.proofs.Growing.{grown_then}
-use Rattle.aig_graph.proofs.Staying.{below_or_here}
+use Rattle.log_laws.proofs.LargerLogs.{grown_then}
+use Rattle.aig_graph.proofs.LargerGraphs.{below_or_here}
 use Rattle.circuit_cnf.specs.Faults.{HasFault, HaveFaults, HaveAllFaults, HaveOneLeaf, AreFewWith}
 
 -- the first clauses have their faults

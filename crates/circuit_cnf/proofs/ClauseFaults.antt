@@ -18,10 +18,10 @@ use Rattle.hint_log.specs.Origins.{matrix_literal, IsLeafOf}
 use Rattle.log_laws.proofs.Found.{slice_get_at}
 use Rattle.hint_log.specs.ProductiveLog.{fault_groups, with_group}
 use Rattle.log_laws.specs.Engines.{circuits, IsAddedBy}
-use Rattle.log_laws.proofs.Growing.{grown_then}
-use Rattle.aig_graph.proofs.Staying.{below_or_here}
+use Rattle.log_laws.proofs.LargerLogs.{grown_then}
+use Rattle.aig_graph.proofs.LargerGraphs.{below_or_here}
 use Rattle.circuit_cnf.specs.Faults.{HasFault, HaveFaults, HaveOneLeaf, AreFewWith}
-use Rattle.circuit_cnf.proofs.Giving.{contains_cases, contains_more}
+use Rattle.circuit_cnf.proofs.GivenGates.{contains_cases, contains_more}
 
 -- the first literals have their faults
 pub record FaultsSoFar (f : Dqbf) (group bad j : ℕ) (leaf : ℕ → Leaf) (clause : List Literal) (old log : ProofLog) (i : ℕ) : Type 0 where

@@ -7,7 +7,7 @@ use Rattle.dq_lits.specs.Formula.{Dqbf}
 use Rattle.dq_lits.specs.Row.{bit_of}
 use Rattle.aig_graph.specs.declared.nodes.Node.TheVariants.{Gate}
 use Rattle.aig_graph.specs.Graph.{AigGraph}
-use Rattle.aig_graph.proofs.Staying.{below_or_here}
+use Rattle.aig_graph.proofs.LargerGraphs.{below_or_here}
 use Rattle.hint_log.specs.declared.names.Name.TheVariants.{Input as InputName}
 use Rattle.hint_log.specs.declared.origins.Leaf.TheVariants.{Literal as LeafLiteral}
 use Rattle.hint_log.specs.Entries.{ProofLog, rounds_of}
@@ -15,7 +15,7 @@ use Rattle.hint_log.specs.Growth.{Grew}
 use Rattle.hint_log.specs.Naming.{named_literal}
 use Rattle.hint_log.specs.ProductiveLog.{fault_groups}
 use Rattle.log_laws.specs.Engines.{circuits, IsAddedBy, LeavesRest}
-use Rattle.log_laws.proofs.Growing.{leaves_rest, grown_then}
+use Rattle.log_laws.proofs.LargerLogs.{leaves_rest, grown_then}
 use Rattle.log_laws.proofs.Kept.{named_stay}
 use Rattle.circuit_cnf.specs.declared.gates.Gates.{Gates}
 use Rattle.oracle.specs.declared.groups.Group.{Group}

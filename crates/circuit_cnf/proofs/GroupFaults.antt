@@ -20,13 +20,13 @@ use Rattle.hint_log.specs.Origins.{matrix_literal, IsLeafOf}
 use Rattle.hint_log.specs.ProductiveLog.{fault_groups, with_group}
 use Rattle.log_laws.specs.Engines.{circuits, IsAddedBy, LeavesRest}
 use Rattle.log_laws.proofs.Found.{named_variable}
-use Rattle.log_laws.proofs.Growing.{leaves_rest, grown_then}
+use Rattle.log_laws.proofs.LargerLogs.{leaves_rest, grown_then}
 use Rattle.log_laws.proofs.Kept.{NamesStay, named_stay}
 use Rattle.oracle.specs.Calls.{IsMade}
 use Rattle.oracle.specs.declared.groups.Group.{Group}
 use Rattle.circuit_cnf.specs.Faults.{HaveOneLeaf, AreFewWith, IsBadAt, HaveAllFaults, NamesBadsAlone, IsNamingBads, AreGiven, GrewByGroup}
-use Rattle.circuit_cnf.proofs.Badding.{bad_name}
-use Rattle.circuit_cnf.proofs.Giving.{contains_cases, contains_first}
+use Rattle.circuit_cnf.proofs.NamedBads.{bad_name}
+use Rattle.circuit_cnf.proofs.GivenGates.{contains_cases, contains_first}
 use Rattle.circuit_cnf.proofs.ClauseFaults.{few_more, fault_stays}
 
 pub record GroupSoFar (f : Dqbf) (group : ℕ) (leaf : ℕ → Leaf) (old log : ProofLog) : Type 0 where

@@ -19,7 +19,7 @@ use Rattle.circuit_cnf.specs.Leaves.{LeavesHaveNodesValues, LeavesReadNodesCones
 use Rattle.circuit_cnf.specs.Leaves.{HasLeaf, constant, input, gate}
 use Rattle.hint_log.specs.Conditions.{AreLogged}
 use Rattle.hint_log.specs.Deciding.{ReadsInput, itself, left, right, LeafReads}
-use Rattle.aig_graph.proofs.Staying.{gate_value_in, gate_support_in}
+use Rattle.aig_graph.proofs.LargerGraphs.{gate_value_in, gate_support_in}
 use Rattle.log_laws.proofs.Solved.{gate_value_is, value_is}
 
 and_same : (a b c d : Bool) → a ≡ c → b ≡ d → (a && b) ≡ (c && d)

@@ -14,7 +14,7 @@ use Rattle.aig_graph.specs.Made.{IsReadBy}
 use Rattle.aig_graph.specs.Marking.{IsInCone, root, left, right}
 use Rattle.aig_graph.specs.Outputs.{ReadsUniversals}
 use Rattle.aig_graph.proofs.Numbered.{sides_are}
-use Rattle.aig_graph.proofs.Staying.{gate_support_at, more_earlier, number_of}
+use Rattle.aig_graph.proofs.LargerGraphs.{gate_support_at, more_earlier, number_of}
 use Rattle.circuit_cnf.specs.Leaves.{AreClosed, AreMarkedUniversals}
 
 some_is : {X : Type 0} {x y : X} → Some x ≡ Some y → x ≡ y

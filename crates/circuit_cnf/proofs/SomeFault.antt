@@ -17,11 +17,11 @@ use Rattle.hint_log.specs.Origins.{matrix_literal}
 use Rattle.hint_log.specs.Naming.{name_literal, AreNamedAs, is_selector_name}
 use Rattle.log_laws.specs.Engines.{circuits, IsGivenBy, IsAddedBy}
 use Rattle.log_laws.proofs.Found.{named_variable}
-use Rattle.log_laws.proofs.Growing.{grown_by}
+use Rattle.log_laws.proofs.LargerLogs.{grown_by}
 use Rattle.oracle.specs.Calls.{IsPlain}
 use Rattle.circuit_cnf.specs.Faults.{AreFewWith}
-use Rattle.circuit_cnf.proofs.Badding.{bad_name}
-use Rattle.circuit_cnf.proofs.Giving.{selector_is}
+use Rattle.circuit_cnf.proofs.NamedBads.{bad_name}
+use Rattle.circuit_cnf.proofs.GivenGates.{selector_is}
 
 plain_each : (es : List Entry) (group : ℕ) (ls : List Literal) (js : List ℕ) → AreNamedAs es ls (map (bad_name group) js) → AllByRecursion (IsPlain es) ls
 plain_each es group [] js h = tt

@@ -2,10 +2,10 @@ pub mod EvaluationLaws
 pub mod NetlistLaws
 pub mod OrderLaws
 pub mod ReachLaws
-pub mod SortingLaws
+pub mod SortSteps
 pub mod ValueLaws
 pub mod WordsLaws
-pub mod WalkingLaws
+pub mod WalkSteps
 pub mod LaneLaws
 pub mod PatternLaws
 pub mod BlockLaws

@@ -16,7 +16,7 @@ use Rattle.dq_formula.proofs.Places.{place, has, has-contains, contains-has, pla
 use Rattle.dq_formula.proofs.Search.{Kept, All-kept}
 use Rattle.dq_formula.proofs.Sorted.{get_or-place, place-below}
 use Rattle.definition_order.proofs.Declared.{find_sound, none_contained}
-use Rattle.definition_order.proofs.Seeing.{first_within}
+use Rattle.definition_order.proofs.SeenUniversals.{first_within}
 
 pub universals_apart : (f : Dqbf) → HasLawfulPrefix f → AllPairs (λ v w. v ≢ w) f.universals
 universals_apart f prefix i j d before below = λ same. prefix.declared_once i j d before (let long = length-append f.universals (existential_variables f) in omega (arith, below, long))

@@ -1,6 +1,6 @@
 pub mod Declared
 mod Firsts
-mod Ordering
-mod Reading
-mod Seeing
-mod Sizing
+mod SortedExistentials
+mod ReadableExistentials
+mod SeenUniversals
+mod SizePlaces

@@ -8,4 +8,4 @@ pub mod Places
 pub mod Restrictions
 pub mod Search
 pub mod Sorted
-pub mod Unseeing
+pub mod FreeExistentials

@@ -1,7 +1,7 @@
 mod Choices
 mod Derivations
 mod Followers
-mod Lifting
+mod LiftedExpansion
 mod Packed
 mod Refutations
 mod Skolem

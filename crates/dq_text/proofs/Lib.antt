@@ -1,4 +1,4 @@
-mod Cutting
+mod TokenCuts
 mod FirstLine
 pub mod LineWords
 mod LongestRuns

@@ -10,7 +10,7 @@ use Rattle.dq_text.specs.declared.bytes.ByteKind.{ByteKind}
 use Rattle.dq_text.specs.declared.bytes.ByteKind.TheVariants.{Blank, LineFeed, LetterC, Other}
 use Rattle.dq_text.specs.declared.cursors.LinePlace.{LinePlace}
 use Rattle.dq_text.specs.declared.cursors.LinePlace.TheVariants.{LineStart, InLine, InComment}
-use Rattle.dq_text.proofs.Cutting.{token_step, cut_line_token}
+use Rattle.dq_text.proofs.TokenCuts.{token_step, cut_line_token}
 
 abbrev Numbered : Type 0
 Numbered = ℕ × List ℕ

@@ -3,7 +3,7 @@ mod ReadIsSpelled
 mod Runs
 mod SpelledClauses
 mod SpelledIsRead
-mod Writing
+mod ExistentialPlaces
 mod Words
 mod NumberWords
 mod CanonicalWords

@@ -1,5 +1,5 @@
-pub mod Accepting
+pub mod AcceptedTexts
 pub mod Beginnings
 pub mod Counts
 pub mod Runs
-pub mod Showing
+pub mod DueOutputs

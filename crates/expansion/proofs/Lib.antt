@@ -1,18 +1,18 @@
-mod Looking
-mod Beginning
-mod Refuting
-mod Modelling
-pub mod Pointing
-mod Writing
+mod VariableBits
+mod EmptyTables
+mod TableAnswers
+mod InstanceModels
+pub mod FoundPoints
+mod WrittenBits
 mod Told
 pub mod Firsts
-mod Adding
+mod TableGrowth
 mod TrueUniversals
-mod Arbiting
-mod Instancing
-mod GivingInstances
-mod AddingRows
-mod Standing
-mod Comparing
+mod NamedArbiters
+mod InstanceLiterals
+mod GivenInstances
+mod AddedRows
+mod StandingTables
+mod ComparedRows
 mod RowOrders
-mod Leading
+mod SharedSets

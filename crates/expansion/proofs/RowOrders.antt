@@ -15,9 +15,9 @@ use Rattle.dq_lits.specs.Formula.{Dqbf}
 use Rattle.dq_lits.specs.Henkin.{same_bits}
 use Rattle.log_laws.proofs.Found.{same_bits-refl, position_append}
 use Rattle.expansion.specs.FirstRows.{RowOrder, RowIndex, no_order, IsRowOrder, IsRowIndex, seen_by, row_at, bits_cmp, found_cmp}
-use Rattle.expansion.proofs.Comparing.{bits_total, cmp_self, cmp_equal}
+use Rattle.expansion.proofs.ComparedRows.{bits_total, cmp_self, cmp_equal}
 use Rattle.expansion.proofs.Firsts.{below_or_here, same_bits-sound, first_is, none_is}
-use Rattle.expansion.proofs.Modelling.{head_or_tail, later}
+use Rattle.expansion.proofs.InstanceModels.{head_or_tail, later}
 
 in_list : {X : Type 0} (xs : List X) (i : ℕ) (d : X) → i < length xs → Contains xs (get_or xs i d)
 in_list xs i d below = (i, below, get_or_default xs i (get_or xs i d) d below)

@@ -11,7 +11,7 @@ use Rattle.hint_log.specs.Naming.{arbiter}
 use Rattle.oracle.specs.Calls.{IsModelUnder}
 use Rattle.log_laws.specs.Engines.{instances, part}
 use Rattle.expansion.specs.Table.{TableState, IsTable}
-use Rattle.expansion.proofs.Modelling.{own_name}
+use Rattle.expansion.proofs.InstanceModels.{own_name}
 
 names_made : (f : Dqbf) (es : List Entry) (rows : List (List Bool)) (row : List Bool) (ys : List Existential) (vs : List ℕ) → AreLogged es
     → map (name_of (part instances es)) vs ≡ map (λ y. Some (arbiter f rows row y)) ys → (k d : ℕ) → k < length vs → IsSome (name_of es (get_or vs k d))

@@ -1,5 +1,5 @@
-mod Choosing
-mod Implying
-mod Making
-mod Placing
+mod ChoiceHalves
+mod ImpliedLiterals
+mod GateNodes
+mod DeclaredPlaces
 mod Readable

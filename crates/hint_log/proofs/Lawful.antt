@@ -11,7 +11,7 @@ use Rattle.hint_log.specs.Entries.{Named, Given, Learned, Answer, Round}
 use Rattle.hint_log.specs.declared.names.Name.{Name}
 use Rattle.hint_log.specs.declared.names.Name.TheVariants.{Selector, Pair, Input, And, Bad, Copy}
 use Rattle.hint_log.proofs.Logged.{are_earlier}
-use Rattle.hint_log.proofs.Reaching.{hint_earlier}
+use Rattle.hint_log.proofs.ReachedIds.{hint_earlier}
 
 none_is_some : {X : Type 0} {x : X} → None ≡ Some x → ⊥
 none_is_some is = cc

@@ -1,6 +1,6 @@
-mod Interleaving
-mod Keeping
+mod KeptOrder
+mod KeptEntries
 mod Lawful
 mod Logged
-mod Naming
-mod Reaching
+mod KeptNames
+mod ReachedIds

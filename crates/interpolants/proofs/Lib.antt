@@ -1,12 +1,12 @@
 pub mod Truth
 pub mod Sets
 pub mod NodeMaps
-pub mod Reaching
+pub mod NumberedClauses
 pub mod Replays
-pub mod Deriving
+pub mod DerivedEntries
 pub mod Sided
 pub mod Alike
-pub mod Interpolating
+pub mod PartialInterpolants
 pub mod Steps
-pub mod Resolving
-pub mod Noting
+pub mod ResolvedHints
+pub mod NotedParts

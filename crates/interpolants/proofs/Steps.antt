@@ -10,7 +10,7 @@ use Rattle.aig_graph.specs.Made.{Extends, IsMade}
 use Rattle.interpolants.specs.Interpolant.{node_of, Agrees, AreNodes, ReadsShared}
 use Rattle.interpolants.specs.Parts.{is_true_shared, IsSharedPart, is_asked_true, IsAsked}
 use Rattle.aig_graph.specs.declared.nodes.Node.{Node}
-use Rattle.interpolants.proofs.Interpolating.{agrees_before, reads_made}
+use Rattle.interpolants.proofs.PartialInterpolants.{agrees_before, reads_made}
 
 pub extends_same : (g : AigGraph) → Extends g g
 extends_same g = record { inputs = refl; nodes = λ n is. is; values = λ n is inputs. refl; supports = λ n is. refl }

@@ -26,7 +26,7 @@ use Rattle.hint_log.specs.Conditions.{MayFollow}
 use Rattle.hint_log.specs.ProductiveLog.{MatchesOrigin}
 use Rattle.hint_log.specs.Deciding.{ReachesGiven, IsFaultLeaf, ReadsInput, itself, left, right, LeafReads, DecidesTrue}
 use Rattle.log_laws.specs.Circuits.{name_value, value_in, leaf_value, circuit_value, existential_bit, by_bits}
-use Rattle.log_laws.proofs.Reaching.{name_stays}
+use Rattle.log_laws.proofs.ReachedClauses.{name_stays}
 use Rattle.log_laws.proofs.Solved.{literal_same, both_same}
 use Rattle.log_laws.proofs.Found.{variable, find_sound, find_there, each_at, split_at}
 

@@ -1,16 +1,16 @@
 pub mod Found
 mod Implied
-pub mod Reaching
+pub mod ReachedClauses
 mod Refuted
 pub mod Solved
 pub mod LeafFunctions
 mod FewRows
-mod Settling
+mod SettledClauses
 mod Checks
 mod FalseLog
-mod Missing
+mod MissedPoints
 mod TrueLog
-mod MissingTrue
+mod MissedTurns
 mod TrueDecided
-pub mod Growing
+pub mod LargerLogs
 pub mod Kept

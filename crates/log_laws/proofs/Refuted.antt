@@ -21,7 +21,7 @@ use Rattle.hint_log.specs.Origins.{IsInstanceRest, IsOriginsClause}
 use Rattle.hint_log.specs.Conditions.{MayFollow}
 use Rattle.hint_log.specs.Deciding.{IsInstance, AreNegatedSelectors}
 use Rattle.log_laws.proofs.Implied.{LinesAreImplied}
-use Rattle.log_laws.proofs.Reaching.{name_stays, answer_true}
+use Rattle.log_laws.proofs.ReachedClauses.{name_stays, answer_true}
 use Rattle.log_laws.specs.Meaning.{InstancesHaveNoModel}
 use Rattle.log_laws.proofs.Found.{numbered_among, position_small, position_append, same_bits-refl, named_variable}
 

@@ -26,7 +26,7 @@ use Rattle.hint_log.specs.Deciding.{ReachesGiven, AreNegatedSelectors, RestsOnCi
 use Rattle.log_laws.specs.Meaning.{IsSoundAnswer, LeavesSolve}
 use Rattle.log_laws.specs.Circuits.{name_value, value_in, leaf_value, existential_bit, by_bits}
 use Rattle.log_laws.proofs.Implied.{LinesAreImplied}
-use Rattle.log_laws.proofs.Reaching.{name_stays, answer_true}
+use Rattle.log_laws.proofs.ReachedClauses.{name_stays, answer_true}
 use Rattle.log_laws.proofs.Found.{variable, find_sound, find_there, numbered_among, slice_get_at, named_variable}
 
 not_new : (es : List Entry) (u w : ℕ) → is_circuit_name (name_of es u) ≡ true → name_of es w ≡ None → (u == w) ≡ false

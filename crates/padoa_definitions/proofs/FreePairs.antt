@@ -31,9 +31,9 @@ use Rattle.padoa_definitions.specs.Seeing.{ArePlaces}
 use Rattle.padoa_definitions.specs.declared.copies.MatrixCopy.{MatrixCopy}
 use Rattle.padoa_definitions.specs.declared.defining.Pair.{Pair}
 use Rattle.padoa_definitions.specs.declared.padoa.Padoa.{Padoa}
-use Rattle.padoa_definitions.proofs.Copying.{element_at, named_length, copy_at}
-use Rattle.padoa_definitions.proofs.Interpolating.{signed, literal_signed}
-use Rattle.padoa_definitions.proofs.Declaring.{copies_declared, copies_long}
+use Rattle.padoa_definitions.proofs.CopiedVariables.{element_at, named_length, copy_at}
+use Rattle.padoa_definitions.proofs.LinkedInterpolants.{signed, literal_signed}
+use Rattle.padoa_definitions.proofs.DeclaredPlaces.{copies_declared, copies_long}
 
 -- a given clause has an id
 given_id : (es : List Entry) (o : Origin) (c : List Literal) → Contains es (Given o c) → (id : ℕ) × (id < last_id es + 1) × (clause_at es id ≡ Some c)

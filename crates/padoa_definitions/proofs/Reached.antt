@@ -17,7 +17,7 @@ use Rattle.hint_log.specs.declared.origins.Origin.{Origin}
 use Rattle.hint_log.specs.declared.origins.Origin.TheVariants.{Instance, Gate, Fault, Copy, Link}
 use Rattle.log_laws.specs.Engines.{circuits, instances, copies, origin_engine}
 use Rattle.log_laws.proofs.Found.{split_at, each_at}
-use Rattle.log_laws.proofs.Reaching.{answer_true, name_stays}
+use Rattle.log_laws.proofs.ReachedClauses.{answer_true, name_stays}
 use Rattle.log_laws.proofs.Kept.{NamesStay}
 use Rattle.hint_log.specs.ProductiveLog.{MatchesOrigin}
 use Rattle.oracle.specs.Searched.{IsSearched, IsGivenToGroup, IsOfGroup}

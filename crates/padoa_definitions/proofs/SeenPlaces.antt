@@ -8,7 +8,7 @@ use Rattle.dq_lits.specs.Formula.{Existential, Dqbf, existential_of}
 use Rattle.dq_formula.specs.Prefix.{IsLawful}
 use Rattle.definition_order.proofs.Declared.{sees_universals, some_existential}
 use Rattle.padoa_definitions.specs.Seeing.{ArePlaces, ArePlacesSoFar}
-use Rattle.padoa_definitions.proofs.Copying.{element_at}
+use Rattle.padoa_definitions.proofs.CopiedVariables.{element_at}
 
 pub seen_among : (f : Dqbf) → IsLawful f → (v : ℕ) (xs : List ℕ) → IsSome (existential_of f v) → IfSome (existential_of f v) (λ y. xs ≡ y.sees) → All (Contains f.universals) xs
 seen_among f lawful v xs is h = some_existential f v (All (Contains f.universals) xs) is (λ y found.

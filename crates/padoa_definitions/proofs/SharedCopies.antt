@@ -19,8 +19,8 @@ use Rattle.padoa_definitions.specs.Copies.{AreCopiesOf, copies_of}
 use Rattle.padoa_definitions.specs.Dividing.{AreSharedCopies, shared_pairs}
 use Rattle.padoa_definitions.specs.Seeing.{ArePlaces}
 use Rattle.padoa_definitions.specs.declared.padoa.Padoa.{Padoa}
-use Rattle.padoa_definitions.proofs.Copying.{copy_at}
-use Rattle.padoa_definitions.proofs.Declaring.{copies_long}
+use Rattle.padoa_definitions.proofs.CopiedVariables.{copy_at}
+use Rattle.padoa_definitions.proofs.DeclaredPlaces.{copies_long}
 
 -- the nodes of variables that are selected by places
 module _ (g : ℕ → ℕ × Node) where

@@ -1,3 +1,3 @@
 pub mod Lists
-pub mod Building
+pub mod AddedGates
 pub mod Truth

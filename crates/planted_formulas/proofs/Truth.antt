@@ -9,7 +9,7 @@ use Rattle.dq_formula.specs.Dependencies.{listed_universals}
 use Rattle.planted_formulas.specs.Planted.{planted_gate, planted_gates, gate_clauses, and_clauses, xor_clauses, gate_existential, planted_formula}
 use Rattle.planted_formulas.specs.declared.gates.PlantedGate.{PlantedGate}
 use Rattle.planted_formulas.proofs.Lists.{in_range, from_one, filter_keeps, contains_map, all_flat_map, all_two, all_three, all_four}
-use Rattle.planted_formulas.proofs.Building.{all_gates, sides_range, same_number}
+use Rattle.planted_formulas.proofs.AddedGates.{all_gates, sides_range, same_number}
 
 abbrev xor : Bool → Bool → Bool
 xor a b = cond a (not b) b

@@ -1,7 +1,7 @@
-pub mod Negating
-pub mod Witnessing
-pub mod Solving
-pub mod Standing
-pub mod Looking
-pub mod Shortening
-pub mod Judging
+pub mod NegatedClauses
+pub mod WitnessAssignments
+pub mod RefutedNegations
+pub mod StandingLiterals
+pub mod MatrixPlaces
+pub mod ShortenedClauses
+pub mod JudgedProofs

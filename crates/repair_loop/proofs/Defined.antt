@@ -20,7 +20,7 @@ use Rattle.dq_formula.specs.declared.rules.Rule.{Rule}
 use Rattle.aig_graph.specs.Graph.{AigGraph}
 use Rattle.candidate_functions.specs.Candidates.{AreDefinitions, definition_of}
 use Rattle.definition_order.proofs.Declared.{existential_at, variable}
-use Rattle.candidate_functions.proofs.Growing.{definitions_stay}
+use Rattle.candidate_functions.proofs.LargerGraphs.{definitions_stay}
 use Rattle.padoa_definitions.specs.Defining.{IsFound}
 use Rattle.padoa_definitions.specs.declared.defining.Found.{Found}
 use Rattle.padoa_definitions.specs.declared.defining.Found.TheVariants.{Defined, Free}

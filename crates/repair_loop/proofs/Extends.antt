@@ -16,7 +16,7 @@ use Rattle.candidate_functions.specs.Candidates.{AgreeAtPairs}
 use Rattle.circuit_cnf.specs.Failing.{IsFailure}
 use Rattle.candidate_functions.proofs.AtRows.{contains_mapped}
 use Rattle.expansion.proofs.Firsts.{same_bits-sound}
-use Rattle.expansion.proofs.Pointing.{find_own, existentials_once}
+use Rattle.expansion.proofs.FoundPoints.{find_own, existentials_once}
 use Rattle.log_laws.proofs.Found.{variable, find_sound, slice_get_at, same_bits-refl, position_small}
 
 position_most : (p : List Bool → Bool) (xs : List (List Bool)) → position_or_len p xs ≤ length xs

@@ -21,7 +21,7 @@ use Rattle.circuit_cnf.specs.declared.checkers.Checker.{Checker}
 use Rattle.circuit_cnf.specs.Checking.{IsChecker, group_of, CheckersStay, CheckersStayWithRounds}
 use Rattle.expansion.specs.Table.{TableState, IsTable, IsFullTable}
 use Rattle.expansion.specs.Standing.{EnginesLeaveTables, RoundsLeaveTables}
-use Rattle.log_laws.proofs.Growing.{count_grown}
+use Rattle.log_laws.proofs.LargerLogs.{count_grown}
 use Rattle.padoa_definitions.specs.Copies.{IsPadoa, groups_of, group_variable}
 use Rattle.padoa_definitions.specs.Standing.{EnginesLeaveCopies, RoundsLeaveCopies}
 use Rattle.padoa_definitions.specs.declared.padoa.Padoa.{Padoa}

@@ -1,6 +1,6 @@
-pub mod Assigning
-pub mod Assuming
-pub mod Extending
-pub mod Growing
-pub mod Hinting
-pub mod Holding
+pub mod AssignedLiterals
+pub mod FalseLiterals
+pub mod ReadStatus
+pub mod LargerBases
+pub mod EqualTruths
+pub mod HeldLiterals

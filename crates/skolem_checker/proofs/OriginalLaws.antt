@@ -14,8 +14,8 @@ use Rattle.skolem_checker.specs.Renaming.{dense_number, renumbered, renamed_lite
 use Rattle.skolem_checker.specs.SkolemCircuit.{MappedCircuit, IsComplete, input_bits, HasOutputValue, ReadsUniversal}
 use Rattle.skolem_checker.specs.Tables.{IsMapping, AreTables, ReadsByTables, RowTest, universal_places}
 use Rattle.skolem_checker.proofs.BenchLaws.{reads_answer, rows_answer}
-use Rattle.skolem_checker.proofs.NumberingLaws.{dense_renaming}
-use Rattle.skolem_checker.proofs.RenamingLaws.{IsRenaming, renamed_variable, renamed_sign, known_input, grounded_known, value_renamed, value_original, reach_renamed, reach_original, complete_renamed}
+use Rattle.skolem_checker.proofs.LeastNumbers.{dense_renaming}
+use Rattle.skolem_checker.proofs.RenamedNetlists.{IsRenaming, renamed_variable, renamed_sign, known_input, grounded_known, value_renamed, value_original, reach_renamed, reach_original, complete_renamed}
 
 pub mapping_renamed : (f : Dqbf) (net : Netlist) (name : ℕ → ℕ) (max_var : ℕ) (mapping : Mapping) → IsMapping f net mapping
     → IsMapping f (renamed name max_var net) mapping

@@ -1,2 +1,2 @@
 pub mod Renamed
-pub mod Occurring
+pub mod OccurringVariables

@@ -1,7 +1,7 @@
 use Rattle.std.proofs.Common.{◌≡◌, ℕ, map, ap, ◌∙◌}
 use Rattle.std.proofs.lemmas.Result.{IfOk-weaker}
 use Rattle.definition_order.specs.Order.{AreInOrder}
-use Rattle.definition_order.proofs.Ordering.{in_order}
+use Rattle.definition_order.proofs.SortedExistentials.{in_order}
 use Rattle.definition_order.proofs.existentials_in_order.Goals as goal
 
 pub returns : goal.returns

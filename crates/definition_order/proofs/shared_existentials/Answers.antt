@@ -1,5 +1,5 @@
 use Rattle.std.proofs.Common.{ℕ, ◌+◌, subst, sym, Vec, Global}
-use Rattle.definition_order.proofs.Ordering.{AreSharedSoFar, one_shared, none_shared, all_shared, within, past}
+use Rattle.definition_order.proofs.SortedExistentials.{AreSharedSoFar, one_shared, none_shared, all_shared, within, past}
 use Rattle.definition_order.proofs.shared_existentials.Goals.{then-is_shared_at+in_ok-push, else-is_shared_at}
 use Rattle.definition_order.proofs.shared_existentials.Goals as goal
 

@@ -1,4 +1,4 @@
-use Rattle.definition_order.proofs.Ordering.{AreSharedSoFar}
+use Rattle.definition_order.proofs.SortedExistentials.{AreSharedSoFar}
 use Rattle.definition_order.proofs.shared_existentials.Given as goal
 
 abbrev pub invariant-loop-place : goal.invariant-loop-place

@@ -3,7 +3,7 @@ use Rattle.dq_text.specs.Line.{lines_from}
 use Rattle.aiger_text.specs.ReaderState.{body_of}
 use Rattle.aiger_text.specs.Scan.{scan, read_body}
 use Rattle.aiger_text.specs.Steps.{TakesLine}
-use Rattle.aiger_text.proofs.Reading.{stopped, shorter}
+use Rattle.aiger_text.proofs.RemainingLines.{stopped, shorter}
 use Rattle.aiger_text.proofs.reader.read_file.Goals as goal
 
 pub returns-in-Err-take_line : goal.returns-in-Err-take_line

@@ -2,8 +2,8 @@ use Rattle.std.proofs.Common.{sym, subst, All}
 use Rattle.aig_graph.specs.Graph.{IsNode}
 use Rattle.expansion.specs.Table.{point_bits}
 use Rattle.candidate_functions.specs.Pairs.{AreByRules}
-use Rattle.candidate_functions.proofs.Collecting.{rule_nodes_are_nodes, first_outputs_are_nodes, read_declared, agree_at_pairs, follow_rules, are_defined}
-use Rattle.candidate_functions.proofs.Growing.{extends-trans, definitions_stay}
+use Rattle.candidate_functions.proofs.AllOutputs.{rule_nodes_are_nodes, first_outputs_are_nodes, read_declared, agree_at_pairs, follow_rules, are_defined}
+use Rattle.candidate_functions.proofs.LargerGraphs.{extends-trans, definitions_stay}
 use Rattle.candidate_functions.proofs.building.build.Goals as goal
 
 pub first_outputs-requires-clause-others : goal.first_outputs-requires-clause-others

@@ -1,7 +1,7 @@
 use Rattle.std.proofs.Common.{◌≡◌, ◌<◌, ◌≤◌, List, Bool, ℕ, length, All, refl, sym, subst, arith}
 use Rattle.std.proofs.lemmas.List.Elements.{All-weaker}
 use Rattle.candidate_functions.specs.Pairs.{HasPlaces}
-use Rattle.candidate_functions.proofs.Classing.{places_below}
+use Rattle.candidate_functions.proofs.DependencyClasses.{places_below}
 use Rattle.candidate_functions.proofs.classes.seen_pairs.Goals as goal
 
 all_below : (n more : ℕ) (places : List ℕ) → n ≤ more → All (λ p. p < n) places → All (λ p. p < more) places

@@ -1,4 +1,4 @@
-use Rattle.candidate_functions.proofs.Growing.{extends-trans}
+use Rattle.candidate_functions.proofs.LargerGraphs.{extends-trans}
 use Rattle.candidate_functions.proofs.cubes.all_pairs.Goals as goal
 
 pub loop-k-preserved : goal.loop-k-preserved

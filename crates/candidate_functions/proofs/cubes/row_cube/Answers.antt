@@ -3,7 +3,7 @@ use Rattle.std.proofs.lemmas.Result.{IfOk-weaker}
 use Rattle.aig_graph.specs.Graph.{IsNode}
 use Rattle.aig_graph.specs.Made.{IsCube}
 use Rattle.candidate_functions.specs.Pairs.{IsRowCube}
-use Rattle.candidate_functions.proofs.Cubing.{literals_are_nodes, row_cube_made}
+use Rattle.candidate_functions.proofs.RowCubes.{literals_are_nodes, row_cube_made}
 use Rattle.candidate_functions.proofs.cubes.row_cube.Goals as goal
 
 pub cube-requires : goal.cube-requires

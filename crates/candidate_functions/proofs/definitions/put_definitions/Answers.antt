@@ -1,6 +1,6 @@
 use Rattle.std.proofs.Common.{◌<◌, ◌≤◌, sym, ◌∙◌, subst, arith}
-use Rattle.candidate_functions.proofs.Settling.{order_within, placed_at, definition_node, settled_more, all_settled}
-use Rattle.candidate_functions.proofs.Growing.{extends-trans}
+use Rattle.candidate_functions.proofs.SettledDefinitions.{order_within, placed_at, definition_node, settled_more, all_settled}
+use Rattle.candidate_functions.proofs.LargerGraphs.{extends-trans}
 use Rattle.candidate_functions.proofs.definitions.put_definitions.Goals as goal
 
 pub put_definition-requires-clause-place : goal.put_definition-requires-clause-place

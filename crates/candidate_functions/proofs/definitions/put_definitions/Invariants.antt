@@ -1,5 +1,5 @@
 use Rattle.std.proofs.Common.{take}
-use Rattle.candidate_functions.proofs.Settling.{AreSettledSoFar}
+use Rattle.candidate_functions.proofs.SettledDefinitions.{AreSettledSoFar}
 use Rattle.candidate_functions.proofs.definitions.put_definitions.Given as goal
 
 abbrev pub invariant-loop-at : goal.invariant-loop-at

@@ -2,8 +2,8 @@ use Rattle.std.proofs.Common.{◌≡◌, ◌+◌, false, get_or, length, refl, s
 use Rattle.aig_graph.specs.declared.nodes.Node.TheVariants.{Constant}
 use Rattle.expansion.specs.Table.{point_bits}
 use Rattle.candidate_functions.specs.Pairs.{AreFirstOutputs}
-use Rattle.candidate_functions.proofs.Collecting.{OutputsSoFar, output_added}
-use Rattle.candidate_functions.proofs.Growing.{extends-trans}
+use Rattle.candidate_functions.proofs.AllOutputs.{OutputsSoFar, output_added}
+use Rattle.candidate_functions.proofs.LargerGraphs.{extends-trans}
 use Rattle.candidate_functions.proofs.outputs.first_outputs.Goals as goal
 
 pub returns-in_err-node-clause-extends : goal.returns-in_err-node-clause-extends

@@ -1,5 +1,5 @@
 use Rattle.expansion.specs.Table.{point_bits}
-use Rattle.candidate_functions.proofs.Collecting.{OutputsSoFar}
+use Rattle.candidate_functions.proofs.AllOutputs.{OutputsSoFar}
 use Rattle.candidate_functions.proofs.outputs.first_outputs.Given as goal
 
 abbrev pub invariant-loop-place : goal.invariant-loop-place

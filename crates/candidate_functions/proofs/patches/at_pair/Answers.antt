@@ -3,8 +3,8 @@ use Rattle.expansion.specs.Table.{point_bits}
 use Rattle.aig_graph.specs.declared.nodes.Node.TheVariants.{Constant}
 use Rattle.candidate_functions.specs.Pairs.{has_bit}
 use Rattle.candidate_functions.specs.declared.cubes.Pair.{Pair}
-use Rattle.candidate_functions.proofs.Growing.{extends-trans}
-use Rattle.candidate_functions.proofs.Patching.{one_pair_more}
+use Rattle.candidate_functions.proofs.LargerGraphs.{extends-trans}
+use Rattle.candidate_functions.proofs.PatchedNodes.{one_pair_more}
 use Rattle.candidate_functions.proofs.patches.at_pair.Goals as goal
 
 pub loop-pair-preserved : goal.loop-pair-preserved

@@ -1,7 +1,7 @@
 use Rattle.std.proofs.Common.{take}
 use Rattle.expansion.specs.Table.{point_bits}
 use Rattle.candidate_functions.specs.Pairs.{has_bit}
-use Rattle.candidate_functions.proofs.Patching.{AtPairSoFar}
+use Rattle.candidate_functions.proofs.PatchedNodes.{AtPairSoFar}
 use Rattle.candidate_functions.proofs.patches.at_pair.Given as goal
 
 abbrev pub invariant-loop-pair : goal.invariant-loop-pair

@@ -3,8 +3,8 @@ use Rattle.std.proofs.Common.{◌&&◌, false}
 use Rattle.aig_graph.specs.Made.{IsMade}
 use Rattle.expansion.specs.Table.{point_bits}
 use Rattle.candidate_functions.specs.Pairs.{has_bit, IsMasked}
-use Rattle.candidate_functions.proofs.Growing.{extends-trans}
-use Rattle.candidate_functions.proofs.Patching.{masked_by}
+use Rattle.candidate_functions.proofs.LargerGraphs.{extends-trans}
+use Rattle.candidate_functions.proofs.PatchedNodes.{masked_by}
 use Rattle.candidate_functions.proofs.patches.masked.Goals as goal
 
 pub and-requires-clause-b : goal.and-requires-clause-b

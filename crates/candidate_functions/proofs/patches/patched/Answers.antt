@@ -3,8 +3,8 @@ use Rattle.std.proofs.Common.{◌||◌}
 use Rattle.aig_graph.specs.Made.{IsMade}
 use Rattle.expansion.specs.Table.{point_bits}
 use Rattle.candidate_functions.specs.Pairs.{IsPatched}
-use Rattle.candidate_functions.proofs.Growing.{extends-trans}
-use Rattle.candidate_functions.proofs.Patching.{patched_by}
+use Rattle.candidate_functions.proofs.LargerGraphs.{extends-trans}
+use Rattle.candidate_functions.proofs.PatchedNodes.{patched_by}
 use Rattle.candidate_functions.proofs.patches.patched.Goals as goal
 
 pub returns-in_err-ones-clause-extends : goal.returns-in_err-ones-clause-extends

@@ -2,7 +2,7 @@ use Rattle.std.proofs.Common.{◌||◌}
 use Rattle.std.proofs.lemmas.Result.{IfOk-weaker}
 use Rattle.aig_graph.specs.Made.{IsMade}
 use Rattle.candidate_functions.specs.Pairs.{IsWith}
-use Rattle.candidate_functions.proofs.Patching.{with_one}
+use Rattle.candidate_functions.proofs.PatchedNodes.{with_one}
 use Rattle.candidate_functions.proofs.patches.with_cube.Goals as goal
 
 pub returns-then-is_one-clause-with : goal.returns-then-is_one-clause-with

@@ -1,4 +1,4 @@
-use Rattle.candidate_functions.proofs.Classing.{seen_among, places_more}
+use Rattle.candidate_functions.proofs.DependencyClasses.{seen_among, places_more}
 use Rattle.candidate_functions.proofs.places.seen_places.Goals as goal
 
 pub universal_place-requires : goal.universal_place-requires

@@ -1,8 +1,8 @@
 use Rattle.std.proofs.Common.{◌≡◌, drop, subst, arith}
 use Rattle.candidate_functions.specs.Pairs.{AreByRules}
-use Rattle.candidate_functions.proofs.Growing.{extends-trans}
-use Rattle.candidate_functions.proofs.Collecting.{rule_nodes_are_nodes}
-use Rattle.candidate_functions.proofs.Ruling.{with_rule}
+use Rattle.candidate_functions.proofs.LargerGraphs.{extends-trans}
+use Rattle.candidate_functions.proofs.AllOutputs.{rule_nodes_are_nodes}
+use Rattle.candidate_functions.proofs.RuleNodes.{with_rule}
 use Rattle.candidate_functions.proofs.rules.by_rules.Goals as goal
 
 pub put_rule-requires-clause-nodes : goal.put_rule-requires-clause-nodes

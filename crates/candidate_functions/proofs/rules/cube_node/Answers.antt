@@ -3,7 +3,7 @@ use Rattle.std.proofs.lemmas.Result.{IfOk-weaker}
 use Rattle.aig_graph.specs.Graph.{IsNode}
 use Rattle.aig_graph.specs.Made.{IsCube}
 use Rattle.candidate_functions.specs.Pairs.{IsCubeNode}
-use Rattle.candidate_functions.proofs.Ruling.{input_literals_are_nodes, cube_node_made}
+use Rattle.candidate_functions.proofs.RuleNodes.{input_literals_are_nodes, cube_node_made}
 use Rattle.candidate_functions.proofs.rules.cube_node.Goals as goal
 
 pub cube-requires : goal.cube-requires

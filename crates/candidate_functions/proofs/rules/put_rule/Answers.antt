@@ -4,8 +4,8 @@ use Rattle.aig_graph.specs.Graph.{IsNode}
 use Rattle.aig_graph.specs.declared.nodes.Node.TheVariants.{Constant}
 use Rattle.aig_graph.specs.Made.{IsChosen}
 use Rattle.candidate_functions.specs.Pairs.{IsCubeNode}
-use Rattle.candidate_functions.proofs.Growing.{extends-trans}
-use Rattle.candidate_functions.proofs.Ruling.{rule_over_universals, rule_node_there, rule_put, rule_of_none, same_beyond}
+use Rattle.candidate_functions.proofs.LargerGraphs.{extends-trans}
+use Rattle.candidate_functions.proofs.RuleNodes.{rule_over_universals, rule_node_there, rule_put, rule_of_none, same_beyond}
 use Rattle.candidate_functions.proofs.rules.put_rule.Goals as goal
 
 pub cube_node-requires-clause-universals : goal.cube_node-requires-clause-universals

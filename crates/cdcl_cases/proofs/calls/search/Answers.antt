@@ -1,6 +1,6 @@
 use Rattle.std.proofs.Common.{◌∙◌, ap, Ok}
 use Rattle.oracle.specs.Calls.{assumed}
-use Rattle.cdcl_cases.proofs.Growing.{made_learned, made_answered, refuted_id}
+use Rattle.cdcl_cases.proofs.MadeVariables.{made_learned, made_answered, refuted_id}
 use Rattle.cdcl_cases.proofs.calls.search.Goals as goal
 
 pub returns-in_err-answer-clause-made : goal.returns-in_err-answer-clause-made

@@ -5,11 +5,11 @@ use Rattle.oracle.specs.Fit.{live_in}
 use Rattle.cdcl_core.specs.Steps.{literals_of, decision_of}
 use Rattle.cdcl_core.specs.Sound.{IsSound}
 use Rattle.cdcl_core.specs.Analyses.{IsAnalysis}
-use Rattle.cdcl_core.proofs.Holding.{any_one}
-use Rattle.cdcl_core.proofs.Analysing.{analysis_first, sound_consistent}
+use Rattle.cdcl_core.proofs.HeldLiterals.{any_one}
+use Rattle.cdcl_core.proofs.ConflictAnalysis.{analysis_first, sound_consistent}
 use Rattle.cdcl_core.proofs.Lessons.{sound_later}
-use Rattle.cdcl_core.proofs.Jumping.{conflict_of, conflict_marked, is_some_of}
-use Rattle.cdcl_core.proofs.Teaching.{lesson_made}
+use Rattle.cdcl_core.proofs.TakenLevels.{conflict_of, conflict_marked, is_some_of}
+use Rattle.cdcl_core.proofs.LearnedClauses.{lesson_made}
 use Rattle.cdcl_core.proofs.analysis.analyse.Goals as goal
 
 pub back_to_first-first-requires-clause-some : goal.back_to_first-first-requires-clause-some

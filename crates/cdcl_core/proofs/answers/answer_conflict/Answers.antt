@@ -3,8 +3,8 @@ use Rattle.dq_lits.specs.Literal.{Literal, opposite}
 use Rattle.oracle.specs.Fit.{live_in}
 use Rattle.cdcl_core.specs.Steps.{literals_of}
 use Rattle.cdcl_core.specs.Analyses.{IsAnalysis}
-use Rattle.cdcl_core.proofs.Analysing.{analysis_first, sound_consistent}
-use Rattle.cdcl_core.proofs.Jumping.{conflict_of}
+use Rattle.cdcl_core.proofs.ConflictAnalysis.{analysis_first, sound_consistent}
+use Rattle.cdcl_core.proofs.TakenLevels.{conflict_of}
 use Rattle.cdcl_core.proofs.Taught.{clauses_within}
 use Rattle.cdcl_core.proofs.answers.answer_conflict.Goals as goal
 

@@ -3,9 +3,9 @@ use Rattle.dq_lits.specs.Literal.{variable_of, opposite}
 use Rattle.dq_lits.specs.Derivation.{holds}
 use Rattle.cdcl_core.specs.Steps.{literals_of}
 use Rattle.cdcl_core.specs.Watching.{AreLevelsGuarded}
-use Rattle.cdcl_core.proofs.Guarding.{levels_later}
-use Rattle.cdcl_core.proofs.Holding.{opposite-variable}
-use Rattle.cdcl_core.proofs.Turning.{back_sound, back_guided, back_assumed, back_implied, back_reasoned}
+use Rattle.cdcl_core.proofs.GuardedClauses.{levels_later}
+use Rattle.cdcl_core.proofs.HeldLiterals.{opposite-variable}
+use Rattle.cdcl_core.proofs.SearchTurns.{back_sound, back_guided, back_assumed, back_implied, back_reasoned}
 use Rattle.cdcl_core.proofs.answers.answer_false.Goals as goal
 
 pub answer_reason-requires-clause-searching : goal.answer_reason-requires-clause-searching

@@ -5,9 +5,9 @@ use Rattle.cdcl_core.specs.Steps.{literals_of}
 use Rattle.cdcl_core.specs.Marks.{marked, stands_on}
 use Rattle.cdcl_core.specs.Noting.{Noted}
 use Rattle.cdcl_core.specs.Analyses.{IsAnalysis}
-use Rattle.cdcl_core.proofs.Holding.{opposite-opposite}
-use Rattle.cdcl_core.proofs.Analysing.{analysis_false, sound_consistent}
-use Rattle.cdcl_core.proofs.Backing.{reason_of}
+use Rattle.cdcl_core.proofs.HeldLiterals.{opposite-opposite}
+use Rattle.cdcl_core.proofs.ConflictAnalysis.{analysis_false, sound_consistent}
+use Rattle.cdcl_core.proofs.BacktrackSteps.{reason_of}
 use Rattle.cdcl_core.proofs.Taught.{clauses_within}
 use Rattle.cdcl_core.proofs.answers.answer_reason.Goals as goal
 

@@ -1,5 +1,5 @@
 use Rattle.std.proofs.Common.{sym, ◌∙◌}
-use Rattle.cdcl_core.proofs.Turning.{back_more, back_still}
+use Rattle.cdcl_core.proofs.SearchTurns.{back_more, back_still}
 use Rattle.cdcl_core.proofs.answers.back_to.Goals as goal
 
 pub loop-step-preserved : goal.loop-step-preserved

@@ -1,7 +1,7 @@
 use Rattle.std.proofs.Common.{sym, ◌∙◌}
 use Rattle.cdcl_core.specs.Steps.{literals_of}
-use Rattle.cdcl_core.proofs.Assuming.{true_more, true_all, at_holds, none_from}
-use Rattle.cdcl_core.proofs.Holding.{value_true, value_false, value_free}
+use Rattle.cdcl_core.proofs.TrueAssumptions.{true_more, true_all, at_holds, none_from}
+use Rattle.cdcl_core.proofs.HeldLiterals.{value_true, value_false, value_free}
 use Rattle.cdcl_core.proofs.assumptions.next_assumption.Goals as goal
 
 pub loop-l-preserved : goal.loop-l-preserved

@@ -2,7 +2,7 @@ use Rattle.std.proofs.Common.{subst, arith}
 use Rattle.oracle.specs.declared.oracles.Answer.{Answer as Found}
 use Rattle.oracle.specs.declared.oracles.Answer.TheVariants.{Sat}
 use Rattle.cdcl_core.specs.Searching.{IsFound}
-use Rattle.cdcl_core.proofs.Valuing.{found_model}
+use Rattle.cdcl_core.proofs.FoundModels.{found_model}
 use Rattle.cdcl_core.proofs.calls.search_and_keep.Goals as goal
 
 pub returns-in-Sat-clause-sat : goal.returns-in-Sat-clause-sat

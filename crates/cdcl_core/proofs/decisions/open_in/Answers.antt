@@ -1,9 +1,9 @@
 use Rattle.std.proofs.Common.{inl, inr}
 use Rattle.dq_lits.specs.Derivation.{holds}
 use Rattle.cdcl_core.specs.Steps.{literals_of}
-use Rattle.cdcl_core.proofs.Holding.{any_one}
-use Rattle.cdcl_core.proofs.Passing.{live_within, literal_within, opening_in}
-use Rattle.cdcl_core.proofs.Visiting.{some_clause}
+use Rattle.cdcl_core.proofs.HeldLiterals.{any_one}
+use Rattle.cdcl_core.proofs.LargerTrails.{live_within, literal_within, opening_in}
+use Rattle.cdcl_core.proofs.VisitedClauses.{some_clause}
 use Rattle.cdcl_core.proofs.decisions.open_in.Goals as goal
 
 pub is_watch_true-requires : goal.is_watch_true-requires

@@ -1,7 +1,7 @@
 use Rattle.std.proofs.Common.{sym, ◌∙◌, Option, Some, None, MatchOption}
 use Rattle.dq_lits.specs.Literal.{Literal}
 use Rattle.cdcl_core.specs.Steps.{literals_of}
-use Rattle.cdcl_core.proofs.Extending.{true_at, all_false}
+use Rattle.cdcl_core.proofs.ReadStatus.{true_at, all_false}
 use Rattle.cdcl_core.proofs.decisions.open_literal.Goals as goal
 
 pub returns-in-True : goal.returns-in-True

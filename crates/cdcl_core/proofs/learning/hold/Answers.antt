@@ -1,7 +1,7 @@
 use Rattle.std.proofs.Common.{◌≡◌, inr, ◌∙◌, ap, true, false, IfSome, subst, Option}
 use Rattle.dq_lits.specs.Literal.{Literal, opposite, same_literal}
 use Rattle.dq_lits.specs.Derivation.{holds}
-use Rattle.cdcl_core.proofs.Stocking.{listed_one}
+use Rattle.cdcl_core.proofs.AddedClauses.{listed_one}
 use Rattle.cdcl_core.proofs.learning.hold.Goals as goal
 
 pub push_watched-requires-clause-first_list : goal.push_watched-requires-clause-first_list

@@ -3,7 +3,7 @@ use Rattle.dq_lits.specs.Literal.{opposite}
 use Rattle.dq_lits.specs.Derivation.{holds}
 use Rattle.cdcl_core.specs.declared.trails.Step.{Step}
 use Rattle.cdcl_core.specs.Steps.{literals_of, IsFree}
-use Rattle.cdcl_core.proofs.Holding.{opposite-opposite}
+use Rattle.cdcl_core.proofs.HeldLiterals.{opposite-opposite}
 use Rattle.cdcl_core.proofs.Lessons.{free_suffix}
 use Rattle.cdcl_core.proofs.learning.land.Goals as goal
 

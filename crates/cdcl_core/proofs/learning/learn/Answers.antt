@@ -3,7 +3,7 @@ use Rattle.dq_lits.specs.Literal.{Literal}
 use Rattle.hint_log.specs.Entries.{ProofLog}
 use Rattle.oracle.specs.Fit.{Fit, live_in}
 use Rattle.cdcl_core.specs.Sound.{IsSound, IsGuided}
-use Rattle.cdcl_core.proofs.Landing.{ready_after, watches_held, held_watched}
+use Rattle.cdcl_core.proofs.Backjumps.{ready_after, watches_held, held_watched}
 use Rattle.cdcl_core.proofs.Taught.{learn_step, clauses_within, learn_named, learn_ids, learn_in_range, learn_free, learn_fit, learn_landed, learned_one}
 use Rattle.cdcl_core.proofs.learning.learn.Goals as goal
 

@@ -1,7 +1,7 @@
 use Rattle.std.proofs.Common.{◌≡◌, length, sym, ap, ◌∙◌, arith, false, is_some, IsSome}
 use Rattle.cdcl_core.specs.Steps.{decision_of}
 use Rattle.cdcl_core.specs.Marks.{is_level_marked}
-use Rattle.cdcl_core.proofs.Jumping.{under_shorter, on_jump_level, under_next}
+use Rattle.cdcl_core.proofs.TakenLevels.{under_shorter, on_jump_level, under_next}
 use Rattle.cdcl_core.proofs.levels.back_to_marked_level.Goals as goal
 
 pub levels-smaller : goal.levels-smaller

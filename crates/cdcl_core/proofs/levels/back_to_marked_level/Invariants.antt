@@ -1,7 +1,7 @@
 use Rattle.std.proofs.Common.{List, length}
 use Rattle.cdcl_core.specs.declared.trails.Step.{Step}
 use Rattle.cdcl_core.specs.Steps.{IsUnder}
-use Rattle.cdcl_core.proofs.Jumping.{IsOnJump}
+use Rattle.cdcl_core.proofs.TakenLevels.{IsOnJump}
 use Rattle.cdcl_core.proofs.levels.back_to_marked_level.Given as goal
 
 abbrev pub invariant-levels : goal.invariant-levels

@@ -1,6 +1,6 @@
 use Rattle.std.proofs.Common.{◌∷◌, sym, ◌∙◌, subst}
 use Rattle.cdcl_core.specs.Steps.{Trailed, IsUnder}
-use Rattle.cdcl_core.proofs.Jumping.{implied_from_some, decided_from_none, on_jump_first, on_jump_level, jump_both, IsOnJump, under_decision, under_step}
+use Rattle.cdcl_core.proofs.TakenLevels.{implied_from_some, decided_from_none, on_jump_first, on_jump_level, jump_both, IsOnJump, under_decision, under_step}
 use Rattle.cdcl_core.proofs.levels.jump.Goals as goal
 use Rattle.cdcl_core.proofs.levels.jump.Goals.{then-is_some, else-is_some}
 

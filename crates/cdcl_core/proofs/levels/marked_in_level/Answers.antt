@@ -2,8 +2,8 @@ use Rattle.std.proofs.Common.{◌≡◌, ◌+◌, ◌-◌, ◌<◌, ◌||◌, co
 use Rattle.dq_lits.specs.Literal.{variable_of}
 use Rattle.cdcl_core.specs.Marks.{marked, is_level_marked}
 use Rattle.cdcl_core.specs.Steps.{is_decision}
-use Rattle.cdcl_core.proofs.Jumping.{implied_from_some}
-use Rattle.cdcl_core.proofs.Marking.{level_step, level_later}
+use Rattle.cdcl_core.proofs.TakenLevels.{implied_from_some}
+use Rattle.cdcl_core.proofs.SetMarks.{level_step, level_later}
 use Rattle.cdcl_core.proofs.levels.marked_in_level.Goals as goal
 
 pub loop-at-preserved : goal.loop-at-preserved

@@ -1,5 +1,5 @@
 use Rattle.std.proofs.Common.{◌-◌, ◌∙◌, ap}
-use Rattle.cdcl_core.proofs.Visiting.{passed_conflict, passed_first, processed_top}
+use Rattle.cdcl_core.proofs.VisitedClauses.{passed_conflict, passed_first, processed_top}
 use Rattle.cdcl_core.proofs.propagation.propagate.Goals as goal
 
 pub returns-in-Some : goal.returns-in-Some

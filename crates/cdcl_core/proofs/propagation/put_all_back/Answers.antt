@@ -1,7 +1,7 @@
 use Rattle.std.proofs.Common.{◌∙◌, ap}
 use Rattle.cdcl_core.specs.Chains.{has}
-use Rattle.cdcl_core.proofs.Linking.{has_first}
-use Rattle.cdcl_core.proofs.Visiting.{first_left, linked_end, putting_first, putting_next}
+use Rattle.cdcl_core.proofs.LinkedLists.{has_first}
+use Rattle.cdcl_core.proofs.VisitedClauses.{first_left, linked_end, putting_first, putting_next}
 use Rattle.cdcl_core.proofs.propagation.put_all_back.Goals as goal
 
 pub loop-init : goal.loop-init

@@ -1,5 +1,5 @@
 use Rattle.std.proofs.Common.{inl, refl, ◌-◌, ◌<◌, length, arith}
-use Rattle.cdcl_core.proofs.Visiting.{read_watch, some_clause, other_within, visited_kept, visited_moved, visited_falsified}
+use Rattle.cdcl_core.proofs.VisitedClauses.{read_watch, some_clause, other_within, visited_kept, visited_moved, visited_falsified}
 use Rattle.cdcl_core.proofs.propagation.visit.Goals as goal
 
 pub is_true-requires : goal.is_true-requires

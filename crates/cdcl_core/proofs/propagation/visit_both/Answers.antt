@@ -1,6 +1,6 @@
 use Rattle.dq_lits.specs.Literal.{opposite}
-use Rattle.cdcl_core.proofs.Guarding.{among_grown}
-use Rattle.cdcl_core.proofs.Visiting.{visitable_turned, both_conflict, both_visited}
+use Rattle.cdcl_core.proofs.GuardedClauses.{among_grown}
+use Rattle.cdcl_core.proofs.VisitedClauses.{visitable_turned, both_conflict, both_visited}
 use Rattle.cdcl_core.proofs.propagation.visit_both.Goals as goal
 
 pub returns-in-Some : goal.returns-in-Some

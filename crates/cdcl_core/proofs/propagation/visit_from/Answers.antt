@@ -1,5 +1,5 @@
 use Rattle.std.proofs.Common.{refl, Some}
-use Rattle.cdcl_core.proofs.Visiting.{trail_conflict, trail_next, at_holds}
+use Rattle.cdcl_core.proofs.VisitedClauses.{trail_conflict, trail_next, at_holds}
 use Rattle.cdcl_core.proofs.propagation.visit_from.Goals as goal
 
 pub visit_both-requires-clause-false_now : goal.visit_both-requires-clause-false_now

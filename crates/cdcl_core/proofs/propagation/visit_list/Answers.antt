@@ -1,9 +1,9 @@
 use Rattle.std.proofs.Common.{◌∙◌, ap, arith}
 use Rattle.dq_lits.specs.Literal.{opposite}
 use Rattle.cdcl_core.specs.Chains.{has}
-use Rattle.cdcl_core.proofs.Guarding.{among_grown}
-use Rattle.cdcl_core.proofs.Linking.{has_first}
-use Rattle.cdcl_core.proofs.Visiting.{first_left, visiting_first, visiting_end, visiting_next, visiting_conflict}
+use Rattle.cdcl_core.proofs.GuardedClauses.{among_grown}
+use Rattle.cdcl_core.proofs.LinkedLists.{has_first}
+use Rattle.cdcl_core.proofs.VisitedClauses.{first_left, visiting_first, visiting_end, visiting_next, visiting_conflict}
 use Rattle.cdcl_core.proofs.propagation.visit_list.Goals as goal
 
 pub loop-init : goal.loop-init

@@ -2,7 +2,7 @@ use Rattle.std.proofs.Common.{sym, arith, length, subst, List, ◌+◌, ◌≤�
 use Rattle.std.proofs.lemmas.List.{take_all}
 use Rattle.dq_lits.specs.Literal.{Literal}
 use Rattle.cdcl_core.specs.Chains.{place_of}
-use Rattle.cdcl_core.proofs.Linking.{added_both, listed_more}
+use Rattle.cdcl_core.proofs.LinkedLists.{added_both, listed_more}
 use Rattle.cdcl_core.proofs.watches.add_lists.Goals as goal
 
 pub loop-l-preserved : goal.loop-l-preserved

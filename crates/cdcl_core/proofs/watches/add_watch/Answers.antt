@@ -1,6 +1,6 @@
 use Rattle.std.proofs.Common.{cond, ◌≡◌, ◌+◌, get_or, ap, arith, ◌∙◌, length, ◌++◌, ◌∷◌, [], length-append}
 use Rattle.cdcl_core.specs.Chains.{place_of}
-use Rattle.cdcl_core.proofs.Linking.{linked_more, read_zero}
+use Rattle.cdcl_core.proofs.LinkedLists.{linked_more, read_zero}
 use Rattle.cdcl_core.proofs.watches.add_watch.Goals as goal
 
 pub returns-clause-linked : goal.returns-clause-linked

@@ -1,4 +1,4 @@
-use Rattle.cdcl_core.proofs.Linking.{linked_none}
+use Rattle.cdcl_core.proofs.LinkedLists.{linked_none}
 use Rattle.cdcl_core.proofs.watches.no_watches.Goals as goal
 
 pub returns-clause-linked : goal.returns-clause-linked

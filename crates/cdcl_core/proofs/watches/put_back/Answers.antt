@@ -1,6 +1,6 @@
 use Rattle.std.proofs.Common.{◌≡◌, ◌-◌, get_or, ap, arith, refl}
 use Rattle.cdcl_core.specs.Chains.{place_of}
-use Rattle.cdcl_core.proofs.Linking.{linked_put, read_zero}
+use Rattle.cdcl_core.proofs.LinkedLists.{linked_put, read_zero}
 use Rattle.cdcl_core.proofs.watches.put_back.Goals as goal
 
 pub returns-clause-linked : goal.returns-clause-linked

@@ -1,4 +1,4 @@
-use Rattle.cdcl_core.proofs.Linking.{linked_relabelled}
+use Rattle.cdcl_core.proofs.LinkedLists.{linked_relabelled}
 use Rattle.cdcl_core.proofs.watches.put_elsewhere.Goals as goal
 
 pub returns-clause-linked : goal.returns-clause-linked

@@ -1,6 +1,6 @@
 use Rattle.std.proofs.Common.{◌≡◌, ◌<◌, get_or, ap, arith, refl, set, length}
 use Rattle.cdcl_core.specs.Chains.{place_of}
-use Rattle.cdcl_core.proofs.Linking.{taken_list, taken_none, read_zero}
+use Rattle.cdcl_core.proofs.LinkedLists.{taken_list, taken_none, read_zero}
 use Rattle.cdcl_core.proofs.watches.take.Goals as goal
 
 pub returns-then-place-len-clause-taken : goal.returns-then-place-len-clause-taken

@@ -3,8 +3,8 @@ use Rattle.dq_lits.specs.Literal.{opposite}
 use Rattle.oracle.specs.Fit.{live_in}
 use Rattle.cdcl_scan.specs.Steps.{literals_of}
 use Rattle.cdcl_scan.specs.Backing.{IsTrimmed, IsRedundant}
-use Rattle.cdcl_scan.proofs.Backing.{reason_of, reason_at}
-use Rattle.cdcl_scan.proofs.Trimming.{trim_step, reason_known, trimmed_past, trimmed_noted, trimmed_resolved}
+use Rattle.cdcl_scan.proofs.BacktrackSteps.{reason_of, reason_at}
+use Rattle.cdcl_scan.proofs.MinimalClauses.{trim_step, reason_known, trimmed_past, trimmed_noted, trimmed_resolved}
 use Rattle.cdcl_scan.proofs.analysis.add_rest.Goals as goal
 
 pub redundant_by-requires-clause-reason : goal.redundant_by-requires-clause-reason

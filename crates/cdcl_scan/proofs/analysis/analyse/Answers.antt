@@ -5,11 +5,11 @@ use Rattle.oracle.specs.Fit.{live_in}
 use Rattle.cdcl_scan.specs.Steps.{literals_of, decision_of}
 use Rattle.cdcl_scan.specs.Sound.{IsSound}
 use Rattle.cdcl_scan.specs.Analyses.{IsAnalysis}
-use Rattle.cdcl_scan.proofs.Holding.{any_one}
-use Rattle.cdcl_scan.proofs.Analysing.{analysis_first, sound_consistent}
+use Rattle.cdcl_scan.proofs.HeldLiterals.{any_one}
+use Rattle.cdcl_scan.proofs.ConflictAnalysis.{analysis_first, sound_consistent}
 use Rattle.cdcl_scan.proofs.Lessons.{sound_later}
-use Rattle.cdcl_scan.proofs.Jumping.{conflict_of, conflict_marked, is_some_of}
-use Rattle.cdcl_scan.proofs.Teaching.{lesson_made}
+use Rattle.cdcl_scan.proofs.TakenLevels.{conflict_of, conflict_marked, is_some_of}
+use Rattle.cdcl_scan.proofs.LearnedClauses.{lesson_made}
 use Rattle.cdcl_scan.proofs.analysis.analyse.Goals as goal
 
 pub back_to_first-first-requires-clause-some : goal.back_to_first-first-requires-clause-some

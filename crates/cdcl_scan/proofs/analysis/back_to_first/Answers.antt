@@ -4,7 +4,7 @@ use Rattle.dq_lits.specs.Literal.{variable_of}
 use Rattle.oracle.specs.Fit.{live_in}
 use Rattle.cdcl_scan.specs.Steps.{literals_of, is_none as is_no_reason}
 use Rattle.cdcl_scan.specs.Marks.{marked, is_level_marked}
-use Rattle.cdcl_scan.proofs.Backing.{reason_of, reason_at, backing_past, backing_next, backing_ends}
+use Rattle.cdcl_scan.proofs.BacktrackSteps.{reason_of, reason_at, backing_past, backing_next, backing_ends}
 use Rattle.cdcl_scan.proofs.analysis.back_to_first.Goals as goal
 
 pub returns-in-None : goal.returns-in-None

@@ -5,9 +5,9 @@ use Rattle.cdcl_scan.specs.Steps.{literals_of}
 use Rattle.cdcl_scan.specs.Marks.{marked, stands_on}
 use Rattle.cdcl_scan.specs.Noting.{Noted}
 use Rattle.cdcl_scan.specs.Analyses.{IsAnalysis}
-use Rattle.cdcl_scan.proofs.Holding.{opposite-opposite}
-use Rattle.cdcl_scan.proofs.Analysing.{analysis_false, sound_consistent}
-use Rattle.cdcl_scan.proofs.Backing.{reason_of}
+use Rattle.cdcl_scan.proofs.HeldLiterals.{opposite-opposite}
+use Rattle.cdcl_scan.proofs.ConflictAnalysis.{analysis_false, sound_consistent}
+use Rattle.cdcl_scan.proofs.BacktrackSteps.{reason_of}
 use Rattle.cdcl_scan.proofs.Taught.{clauses_within}
 use Rattle.cdcl_scan.proofs.answers.answer_reason.Goals as goal
 

@@ -3,7 +3,7 @@ use Rattle.dq_lits.specs.Literal.{variable_of, opposite}
 use Rattle.oracle.specs.Fit.{live_in}
 use Rattle.cdcl_scan.specs.Steps.{literals_of, is_none}
 use Rattle.cdcl_scan.specs.Marks.{marked}
-use Rattle.cdcl_scan.proofs.Backing.{reason_of, reason_at, keeping_past, keeping_next, keeping_decision, keeping_same}
+use Rattle.cdcl_scan.proofs.BacktrackSteps.{reason_of, reason_at, keeping_past, keeping_next, keeping_decision, keeping_same}
 use Rattle.cdcl_scan.proofs.answers.back_to_decisions.Goals as goal
 
 pub loop-step-preserved-in-None : goal.loop-step-preserved-in-None

@@ -2,7 +2,7 @@ use Rattle.std.proofs.Common.{◌∙◌, subst, sym, List}
 use Rattle.dq_lits.specs.Literal.{Literal}
 use Rattle.oracle.specs.Calls.{IsRefutedUnder}
 use Rattle.cdcl_scan.specs.Searching.{AreAssumptions}
-use Rattle.cdcl_scan.proofs.Valuing.{assumptions_from}
+use Rattle.cdcl_scan.proofs.FoundModels.{assumptions_from}
 use Rattle.cdcl_scan.proofs.calls.find.Goals as goal
 
 pub search_and_keep-found-requires-clause-assumptions : goal.search_and_keep-found-requires-clause-assumptions

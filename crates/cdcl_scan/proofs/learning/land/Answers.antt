@@ -3,7 +3,7 @@ use Rattle.dq_lits.specs.Literal.{opposite}
 use Rattle.dq_lits.specs.Derivation.{holds}
 use Rattle.cdcl_scan.specs.declared.trails.Step.{Step}
 use Rattle.cdcl_scan.specs.Steps.{literals_of, IsFree}
-use Rattle.cdcl_scan.proofs.Holding.{opposite-opposite}
+use Rattle.cdcl_scan.proofs.HeldLiterals.{opposite-opposite}
 use Rattle.cdcl_scan.proofs.Lessons.{free_suffix}
 use Rattle.cdcl_scan.proofs.learning.land.Goals as goal
 

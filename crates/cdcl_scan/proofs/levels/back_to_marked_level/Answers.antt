@@ -1,7 +1,7 @@
 use Rattle.std.proofs.Common.{◌≡◌, length, sym, ap, ◌∙◌, arith, false, is_some}
 use Rattle.cdcl_scan.specs.Steps.{decision_of}
 use Rattle.cdcl_scan.specs.Marks.{is_level_marked}
-use Rattle.cdcl_scan.proofs.Jumping.{under_shorter, on_jump_level}
+use Rattle.cdcl_scan.proofs.TakenLevels.{under_shorter, on_jump_level}
 use Rattle.cdcl_scan.proofs.levels.back_to_marked_level.Goals as goal
 
 pub levels-smaller : goal.levels-smaller

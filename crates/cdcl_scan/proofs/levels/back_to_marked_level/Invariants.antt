@@ -1,5 +1,5 @@
 use Rattle.std.proofs.Common.{length}
-use Rattle.cdcl_scan.proofs.Jumping.{IsOnJump}
+use Rattle.cdcl_scan.proofs.TakenLevels.{IsOnJump}
 use Rattle.cdcl_scan.proofs.levels.back_to_marked_level.Given as goal
 
 abbrev pub invariant-levels : goal.invariant-levels

@@ -1,6 +1,6 @@
 use Rattle.std.proofs.Common.{◌≡◌, sym, ◌∙◌, true, false, subst, Option, Some, None, is_some, ℕ, refl}
 use Rattle.cdcl_scan.specs.Steps.{Trailed, is_none}
-use Rattle.cdcl_scan.proofs.Jumping.{on_jump_first, on_jump_level, jump_both, IsOnJump}
+use Rattle.cdcl_scan.proofs.TakenLevels.{on_jump_first, on_jump_level, jump_both, IsOnJump}
 use Rattle.cdcl_scan.proofs.levels.jump.Goals as goal
 use Rattle.cdcl_scan.proofs.levels.jump.Goals.{then-is_some, else-is_some}
 

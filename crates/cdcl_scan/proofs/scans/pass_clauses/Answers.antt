@@ -3,8 +3,8 @@ use Rattle.dq_lits.specs.Derivation.{unit, status_of}
 use Rattle.oracle.specs.Fit.{live_in}
 use Rattle.cdcl_scan.specs.Steps.{literals_of}
 use Rattle.cdcl_scan.specs.Extension.{seen}
-use Rattle.cdcl_scan.proofs.Standing.{implied_from}
-use Rattle.cdcl_scan.proofs.Passing.{live_read, live_within, literal_within, scanned_unit, scanned_stuck}
+use Rattle.cdcl_scan.proofs.ClauseStatus.{implied_from}
+use Rattle.cdcl_scan.proofs.ClausePasses.{live_read, live_within, literal_within, scanned_unit, scanned_stuck}
 use Rattle.cdcl_scan.proofs.scans.pass_clauses.Goals as goal
 use Rattle.cdcl_scan.proofs.scans.pass_clauses.Goals.{in-Unit, in-Stuck}
 

@@ -1,6 +1,6 @@
 use Rattle.std.proofs.Common.{refl}
 use Rattle.cdcl_scan.specs.Steps.{literals_of}
-use Rattle.cdcl_scan.proofs.Passing.{shared_within, shared_stuck}
+use Rattle.cdcl_scan.proofs.ClausePasses.{shared_within, shared_stuck}
 use Rattle.cdcl_scan.proofs.scans.pass_run.Goals as goal
 
 pub is_satisfied-requires : goal.is_satisfied-requires

@@ -2,7 +2,7 @@ use Rattle.std.proofs.Common.{◌∙◌, subst, Ok, Err, Option, MatchOption, On
 use Rattle.cdcl_scan.specs.Growing.{HasLearned}
 use Rattle.oracle.specs.declared.oracles.Answer.{Answer as Found}
 use Rattle.cdcl_scan.specs.Searching.{IsTurn, IsFound}
-use Rattle.cdcl_scan.proofs.Turning.{assumptions_same, learned_both, found_later}
+use Rattle.cdcl_scan.proofs.SearchTurns.{assumptions_same, learned_both, found_later}
 use Rattle.cdcl_scan.proofs.search.search.Goals as goal
 
 pub turn-requires-clause-assumptions : goal.turn-requires-clause-assumptions

@@ -2,7 +2,7 @@ use Rattle.std.proofs.Common.{sym, ◌∙◌, ap, ◌≡◌, ◌+◌}
 use Rattle.dq_lits.specs.Derivation.{stuck}
 use Rattle.cdcl_scan.specs.Steps.{literals_of}
 use Rattle.cdcl_scan.specs.Extension.{seen}
-use Rattle.cdcl_scan.proofs.Extending.{read_more, stuck_stays, status_whole}
+use Rattle.cdcl_scan.proofs.ReadStatus.{read_more, stuck_stays, status_whole}
 use Rattle.cdcl_scan.proofs.statuses.status_of.Goals as goal
 
 pub loop-l-preserved : goal.loop-l-preserved

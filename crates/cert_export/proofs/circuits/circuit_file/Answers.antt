@@ -1,4 +1,4 @@
-use Rattle.cert_export.proofs.ExportingCircuits.{exportable}
+use Rattle.cert_export.proofs.ExportableCircuits.{exportable}
 use Rattle.cert_export.proofs.circuits.circuit_file.Goals as goal
 
 pub netlist-requires : goal.netlist-requires

@@ -1,7 +1,7 @@
 use Rattle.std.proofs.Common.{arith}
 use Rattle.cert_export.specs.Parts.{part_of, AreCircuitIds}
 use Rattle.cert_export.specs.declared.parts.Part.{Part}
-use Rattle.cert_export.proofs.ExportingCircuits.{small_part}
+use Rattle.cert_export.proofs.ExportableCircuits.{small_part}
 use Rattle.cert_export.proofs.circuits.export_ids.Goals as goal
 
 pub invariant_of-numbers : goal.invariant_of-numbers

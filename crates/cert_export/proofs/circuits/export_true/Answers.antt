@@ -1,7 +1,7 @@
 use Rattle.std.proofs.Common.{subst, sym}
 use Rattle.hint_log.specs.Reached.{AreReached}
-use Rattle.cert_export.proofs.ExportingCircuits.{decided_ids, decided_id, is_proved, is_few, is_writable, is_allowed}
-use Rattle.cert_export.proofs.Writing.{if_ok_more}
+use Rattle.cert_export.proofs.ExportableCircuits.{decided_ids, decided_id, is_proved, is_few, is_writable, is_allowed}
+use Rattle.cert_export.proofs.WrittenLines.{if_ok_more}
 use Rattle.cert_export.proofs.circuits.export_true.Goals as goal
 
 pub export_ids-requires : goal.export_ids-requires

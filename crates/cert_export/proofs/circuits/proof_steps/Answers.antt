@@ -1,8 +1,8 @@
 use Rattle.std.proofs.Common.{◌+◌, ◌*◌, ◌≤◌, slice_index, arith}
 use Rattle.cert_export.specs.Names.{renaming}
 use Rattle.cert_export.specs.Parts.{part_of}
-use Rattle.cert_export.proofs.ExportingCircuits.{given_named, can_be_written, last_is, last_small, are_proof_steps}
-use Rattle.cert_export.proofs.Writing.{if_ok_more}
+use Rattle.cert_export.proofs.ExportableCircuits.{given_named, can_be_written, last_is, last_small, are_proof_steps}
+use Rattle.cert_export.proofs.WrittenLines.{if_ok_more}
 use Rattle.cert_export.proofs.circuits.proof_steps.Goals as goal
 
 pub given_names-requires-clause-known : goal.given_names-requires-clause-known

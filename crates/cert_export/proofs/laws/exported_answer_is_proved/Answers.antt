@@ -5,8 +5,8 @@ use Rattle.cert_export.specs.CircuitPart.{exported_candidate, exported_netlist}
 use Rattle.cert_export.specs.ExportedCircuit.{IsProvedCircuit, number_symbols, proof_steps}
 use Rattle.cert_export.proofs.ExportedAnswers.{exported_answer_is_accepted}
 use Rattle.cert_export.proofs.ExportedCircuits.{exported_circuit_is_complete, exported_circuit_is_netlist, exported_circuit_reads_seen}
-use Rattle.cert_export.proofs.Spelling.{written_symbols_are_numbers}
-use Rattle.cert_export.proofs.Mapping.{same_candidate}
+use Rattle.cert_export.proofs.SpellableCircuits.{written_symbols_are_numbers}
+use Rattle.cert_export.proofs.MappedSymbols.{same_candidate}
 use Rattle.cert_export.proofs.laws.exported_answer_is_proved.Goals as goal
 
 pub returns : goal.returns

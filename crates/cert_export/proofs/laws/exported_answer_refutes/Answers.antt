@@ -1,4 +1,4 @@
-use Rattle.cert_export.proofs.Accepting.{exported_answer_refutes}
+use Rattle.cert_export.proofs.AcceptedRefutations.{exported_answer_refutes}
 use Rattle.cert_export.proofs.laws.exported_answer_refutes.Goals as goal
 
 pub returns : goal.returns

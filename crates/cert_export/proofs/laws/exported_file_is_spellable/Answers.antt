@@ -1,4 +1,4 @@
-use Rattle.cert_export.proofs.Spelling.{spellable}
+use Rattle.cert_export.proofs.SpellableCircuits.{spellable}
 use Rattle.cert_export.proofs.laws.exported_file_is_spellable.Goals as goal
 
 pub returns : goal.returns

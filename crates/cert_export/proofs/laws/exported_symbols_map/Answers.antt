@@ -1,7 +1,7 @@
 use Rattle.std.proofs.Common.{ap}
 use Rattle.skolem_checker.specs.Checks.{with_mapping}
 use Rattle.cert_export.specs.CircuitPart.{exported_netlist, exported_mapping}
-use Rattle.cert_export.proofs.Mapping.{told}
+use Rattle.cert_export.proofs.MappedSymbols.{told}
 use Rattle.cert_export.proofs.laws.exported_symbols_map.Goals as goal
 
 pub returns : goal.returns

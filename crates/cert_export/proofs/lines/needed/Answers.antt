@@ -2,7 +2,7 @@ use Rattle.std.proofs.Common.{◌≡◌, ◌∙◌, map, slice_get, ap, sym}
 use Rattle.dq_lits.specs.Literal.{opposite}
 use Rattle.dq_lits.specs.Derivation.{line_fault}
 use Rattle.cert_export.specs.Renaming.{cut_hints}
-use Rattle.cert_export.proofs.Needing.{truncated, needed_is}
+use Rattle.cert_export.proofs.NeededHints.{truncated, needed_is}
 use Rattle.cert_export.proofs.lines.needed.Goals.{in-Yes, in-No}
 use Rattle.cert_export.proofs.lines.needed.Goals as goal
 

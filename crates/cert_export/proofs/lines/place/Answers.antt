@@ -1,4 +1,4 @@
-use Rattle.cert_export.proofs.Placing.{place_found, found_there}
+use Rattle.cert_export.proofs.AscendingPlaces.{place_found, found_there}
 use Rattle.cert_export.proofs.lines.place.Goals as goal
 
 pub unreachable-requires : goal.unreachable-requires

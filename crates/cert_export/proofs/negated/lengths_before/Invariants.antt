@@ -1,5 +1,5 @@
 use Rattle.std.proofs.Common.{◌≡◌, ◌≤◌, ◌^◌, length}
-use Rattle.cert_export.proofs.Numbering.{LengthsSoFar}
+use Rattle.cert_export.proofs.MatrixIds.{LengthsSoFar}
 use Rattle.cert_export.proofs.negated.lengths_before.Given as goal
 
 abbrev pub invariant-loop-j : goal.invariant-loop-j

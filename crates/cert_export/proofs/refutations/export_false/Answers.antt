@@ -1,7 +1,7 @@
 use Rattle.std.proofs.Common.{subst, sym}
 use Rattle.hint_log.specs.Reached.{AreReached}
-use Rattle.cert_export.proofs.Exporting.{refuted_exportable, exported_accepted, exported_spelled}
-use Rattle.cert_export.proofs.Counting.{few_steps}
+use Rattle.cert_export.proofs.ExportableAnswers.{refuted_exportable, exported_accepted, exported_spelled}
+use Rattle.cert_export.proofs.LineCounts.{few_steps}
 use Rattle.cert_export.proofs.refutations.export_false.Goals as goal
 
 pub refutation_steps-requires : goal.refutation_steps-requires

@@ -2,8 +2,8 @@ use Rattle.std.proofs.Common.{◌∙◌, ◌*◌, sym, ap, arith}
 use Rattle.hint_log.specs.Entries.{rounds_of}
 use Rattle.cert_export.specs.Names.{renaming}
 use Rattle.cert_export.proofs.Instances.{rounds_are}
-use Rattle.cert_export.proofs.Exporting.{have_own_names, can_be_written, few_instances, are_exported}
-use Rattle.cert_export.proofs.Writing.{if_ok_more}
+use Rattle.cert_export.proofs.ExportableAnswers.{have_own_names, can_be_written, few_instances, are_exported}
+use Rattle.cert_export.proofs.WrittenLines.{if_ok_more}
 use Rattle.cert_export.proofs.refutations.refutation_steps.Goals as goal
 
 pub given_names-requires-clause-known : goal.given_names-requires-clause-known

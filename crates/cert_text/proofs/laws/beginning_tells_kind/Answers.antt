@@ -1,4 +1,4 @@
-use Rattle.cert_text.proofs.KindSpelling.{kind_told, kind_spelled}
+use Rattle.cert_text.proofs.SpelledKinds.{kind_told, kind_spelled}
 use Rattle.cert_text.proofs.laws.beginning_tells_kind.Goals as goal
 
 pub returns : goal.returns

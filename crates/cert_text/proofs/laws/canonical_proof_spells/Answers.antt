@@ -1,6 +1,6 @@
 use Rattle.cert_text.specs.Canonical.{canonical_proof}
 use Rattle.cert_text.proofs.CanonicalProof.{canonical_spells}
-use Rattle.cert_text.proofs.ProofSpelling.{spelled_is_read}
+use Rattle.cert_text.proofs.SpelledProofs.{spelled_is_read}
 use Rattle.cert_text.proofs.laws.canonical_proof_spells.Goals as goal
 
 pub returns-clause-spells : goal.returns-clause-spells

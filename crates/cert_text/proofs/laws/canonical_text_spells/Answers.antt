@@ -1,6 +1,6 @@
 use Rattle.cert_text.specs.Canonical.{canonical}
 use Rattle.cert_text.proofs.CanonicalLines.{canonical_spells}
-use Rattle.cert_text.proofs.RefutationSpelling.{spelled_is_read}
+use Rattle.cert_text.proofs.SpelledRefutations.{spelled_is_read}
 use Rattle.cert_text.proofs.laws.canonical_text_spells.Goals as goal
 
 pub returns-clause-spells : goal.returns-clause-spells

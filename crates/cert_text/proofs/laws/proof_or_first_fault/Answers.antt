@@ -5,7 +5,7 @@ use Rattle.cert_text.specs.CircuitProof.{circuit_proof_of}
 use Rattle.cert_text.specs.ProofGrammar.{SpellsProof}
 use Rattle.cert_text.specs.declared.circuit_proofs.Dqp.{Dqp}
 use Rattle.cert_text.specs.declared.faults.CertRefusal.{CertRefusal}
-use Rattle.cert_text.proofs.ProofSpelling.{spelled_is_read, read_is_spelled}
+use Rattle.cert_text.proofs.SpelledProofs.{spelled_is_read, read_is_spelled}
 use Rattle.cert_text.proofs.laws.proof_or_first_fault.Goals as goal
 
 pub returns-clause-exact : goal.returns-clause-exact

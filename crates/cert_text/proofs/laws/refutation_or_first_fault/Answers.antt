@@ -4,7 +4,7 @@ use Rattle.cert_text.specs.Grammar.{SpellsRefutation}
 use Rattle.cert_text.specs.Scan.{refutation_of}
 use Rattle.cert_text.specs.declared.faults.CertRefusal.{CertRefusal}
 use Rattle.cert_text.specs.declared.refutations.Dqr.{Dqr}
-use Rattle.cert_text.proofs.RefutationSpelling.{read_is_spelled, spelled_is_read}
+use Rattle.cert_text.proofs.SpelledRefutations.{read_is_spelled, spelled_is_read}
 use Rattle.cert_text.proofs.laws.refutation_or_first_fault.Goals as goal
 
 pub returns-clause-exact : goal.returns-clause-exact

@@ -1,7 +1,7 @@
 use Rattle.std.proofs.Common.{rules}
 use Rattle.cert_text.specs.CircuitProof.{circuit_proof_of}
 use Rattle.cert_text.specs.Lines.{IsReading}
-use Rattle.cert_text.proofs.ProofSpelling.{reading_allowed}
+use Rattle.cert_text.proofs.SpelledProofs.{reading_allowed}
 use Rattle.cert_text.proofs.proof_reader.read_dqp.Goals as goal
 
 pub returns-clause-allowed : goal.returns-clause-allowed

@@ -1,5 +1,5 @@
 use Rattle.std.proofs.Common.{rules, ◌≡◌, Err}
-use Rattle.cert_text.proofs.BodyReading.{handed_on, proof_stop, whole_proof}
+use Rattle.cert_text.proofs.ReadBodies.{handed_on, proof_stop, whole_proof}
 use Rattle.cert_text.proofs.proof_reader.read_proof_lines.Goals as goal
 
 pub returns-in_err-steps : goal.returns-in_err-steps

@@ -1,5 +1,5 @@
 use Rattle.std.proofs.Common.{rules, ◌≡◌, Err}
-use Rattle.cert_text.proofs.BodyReading.{handed_on, rows_stop, steps_stop, whole}
+use Rattle.cert_text.proofs.ReadBodies.{handed_on, rows_stop, steps_stop, whole}
 use Rattle.cert_text.proofs.reader.read_body.Goals as goal
 
 pub returns-in_err-rows : goal.returns-in_err-rows

@@ -1,7 +1,7 @@
 use Rattle.std.proofs.Common.{rules}
 use Rattle.cert_text.specs.Lines.{IsReading}
 use Rattle.cert_text.specs.Scan.{refutation_of}
-use Rattle.cert_text.proofs.RefutationSpelling.{reading_allowed}
+use Rattle.cert_text.proofs.SpelledRefutations.{reading_allowed}
 use Rattle.cert_text.proofs.reader.read_dqr.Goals as goal
 
 pub returns-clause-allowed : goal.returns-clause-allowed

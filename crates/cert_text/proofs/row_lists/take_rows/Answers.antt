@@ -4,7 +4,7 @@ use Rattle.dq_text.specs.TextLine.{text_line}
 use Rattle.cert_text.specs.Grammar.{Tokens}
 use Rattle.cert_text.specs.RowLine.{row_line}
 use Rattle.cert_text.specs.declared.faults.CertFault.{CertFault}
-use Rattle.cert_text.proofs.LinesReading.{line_missing, line_at_fault, line_read, refused_at, stopped}
+use Rattle.cert_text.proofs.ReadLines.{line_missing, line_at_fault, line_read, refused_at, stopped}
 use Rattle.cert_text.proofs.row_lists.take_rows.Goals as goal
 
 pub returns-in_default : goal.returns-in_default

@@ -7,7 +7,7 @@ use Rattle.cert_text.specs.PlainStep.{read_step}
 use Rattle.cert_text.specs.StepLine.{step_line}
 use Rattle.cert_text.specs.Variables.{is_variable}
 use Rattle.cert_text.specs.declared.faults.CertFault.{CertFault}
-use Rattle.cert_text.proofs.LinesReading.{line_missing, line_at_fault, line_read, refused_at, stopped}
+use Rattle.cert_text.proofs.ReadLines.{line_missing, line_at_fault, line_read, refused_at, stopped}
 use Rattle.cert_text.proofs.PlainSteps.{step_stop}
 use Rattle.cert_text.proofs.step_lists.take_steps.Goals as goal
 

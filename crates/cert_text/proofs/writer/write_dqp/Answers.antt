@@ -3,7 +3,7 @@ use Rattle.std.proofs.lemmas.Grind.{common_steps}
 use Rattle.cert_text.specs.Canonical.{canonical_proof}
 use Rattle.cert_text.specs.CircuitProof.{circuit_proof_of}
 use Rattle.cert_text.proofs.CanonicalProof.{canonical_spells}
-use Rattle.cert_text.proofs.ProofSpelling.{spelled_is_read}
+use Rattle.cert_text.proofs.SpelledProofs.{spelled_is_read}
 use Rattle.cert_text.proofs.writer.write_dqp.Goals as goal
 
 pub returns-clause-reads_back : goal.returns-clause-reads_back

@@ -3,7 +3,7 @@ use Rattle.std.proofs.lemmas.Grind.{common_steps}
 use Rattle.cert_text.specs.Canonical.{canonical}
 use Rattle.cert_text.specs.Scan.{refutation_of}
 use Rattle.cert_text.proofs.CanonicalLines.{canonical_spells}
-use Rattle.cert_text.proofs.RefutationSpelling.{spelled_is_read}
+use Rattle.cert_text.proofs.SpelledRefutations.{spelled_is_read}
 use Rattle.cert_text.proofs.writer.write_dqr.Goals as goal
 
 pub returns-clause-reads_back : goal.returns-clause-reads_back

@@ -3,7 +3,7 @@ use Rattle.dq_lits.specs.Literal.{positive}
 use Rattle.hint_log.specs.Entries.{Named}
 use Rattle.hint_log.specs.declared.names.Name.TheVariants.{Input}
 use Rattle.hint_log.specs.Entries.{with_entry, name_of}
-use Rattle.circuit_cnf.proofs.Inputting.{InputsSoFar, no_inputs, next_is_fresh, input_more, all_inputs}
+use Rattle.circuit_cnf.proofs.NamedInputs.{InputsSoFar, no_inputs, next_is_fresh, input_more, all_inputs}
 use Rattle.circuit_cnf.proofs.checkers.name_inputs.Goals as goal
 
 pub new_var-requires-clause-fresh : goal.new_var-requires-clause-fresh

@@ -1,4 +1,4 @@
-use Rattle.circuit_cnf.proofs.Inputting.{InputsSoFar}
+use Rattle.circuit_cnf.proofs.NamedInputs.{InputsSoFar}
 use Rattle.circuit_cnf.proofs.checkers.name_inputs.Given as goal
 
 abbrev pub invariant-loop-x : goal.invariant-loop-x

@@ -1,6 +1,6 @@
 use Rattle.std.proofs.Common.{◌==◌, None, map, position, sym, ◌∙◌, ap}
 use Rattle.dq_lits.specs.Row.{bit_of}
-use Rattle.circuit_cnf.proofs.Placing.{place_value, round_is}
+use Rattle.circuit_cnf.proofs.PrefixPlaces.{place_value, round_is}
 use Rattle.circuit_cnf.proofs.failures.value.Goals as goal
 
 pub returns-in-Some-default : goal.returns-in-Some-default

@@ -1,4 +1,4 @@
-use Rattle.circuit_cnf.proofs.Leaving.{others_leave_checkers}
+use Rattle.circuit_cnf.proofs.UnchangedCheckers.{others_leave_checkers}
 use Rattle.circuit_cnf.proofs.laws.checkers_stay.Goals as goal
 
 pub returns : goal.returns

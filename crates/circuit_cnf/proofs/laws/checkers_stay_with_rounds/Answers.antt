@@ -1,4 +1,4 @@
-use Rattle.circuit_cnf.proofs.Leaving.{round_leaves_checkers}
+use Rattle.circuit_cnf.proofs.UnchangedCheckers.{round_leaves_checkers}
 use Rattle.circuit_cnf.proofs.laws.checkers_stay_with_rounds.Goals as goal
 
 pub returns : goal.returns

@@ -1,4 +1,4 @@
-use Rattle.circuit_cnf.proofs.Showing.{outputs_decide}
+use Rattle.circuit_cnf.proofs.ShownOutputs.{outputs_decide}
 use Rattle.circuit_cnf.proofs.laws.shown_outputs_decide.Goals as goal
 
 pub returns : goal.returns

@@ -1,4 +1,4 @@
-use Rattle.circuit_cnf.proofs.Showing.{outputs_hold}
+use Rattle.circuit_cnf.proofs.ShownOutputs.{outputs_hold}
 use Rattle.circuit_cnf.proofs.laws.shown_outputs_hold.Goals as goal
 
 pub returns : goal.returns

@@ -3,7 +3,7 @@ use Rattle.dq_lits.specs.Literal.{variable_of}
 use Rattle.hint_log.specs.declared.origins.Leaf.TheVariants.{Literal as LeafLiteral}
 use Rattle.std.proofs.Common.{length, true}
 use Rattle.log_laws.specs.Engines.{circuits}
-use Rattle.log_laws.proofs.Growing.{leaves_rest}
+use Rattle.log_laws.proofs.LargerLogs.{leaves_rest}
 use Rattle.aig_graph.specs.Graph.{IsEarlierNode}
 use Rattle.circuit_cnf.proofs.MarkedInputs.{sides_over_universals}
 use Rattle.circuit_cnf.proofs.SideLeaves.{leaf_is_circuit, side_leaves, gate_leaf}

@@ -1,7 +1,7 @@
 use Rattle.std.proofs.Common.{◌∙◌, false, length, replicate, set, ap}
 use Rattle.std.proofs.lemmas.List.{length-replicate}
 use Rattle.dq_lits.specs.Literal.{positive, variable_of}
-use Rattle.aig_graph.proofs.Writing.{written_more}
+use Rattle.aig_graph.proofs.WrittenBits.{written_more}
 use Rattle.circuit_cnf.proofs.turns.input_row.Goals as goal
 
 pub loop-place-preserved : goal.loop-place-preserved

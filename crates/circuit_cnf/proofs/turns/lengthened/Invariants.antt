@@ -1,4 +1,4 @@
-use Rattle.circuit_cnf.proofs.Lengthening.{IsLengthened}
+use Rattle.circuit_cnf.proofs.LongerRows.{IsLengthened}
 use Rattle.circuit_cnf.proofs.turns.lengthened.Given as goal
 
 abbrev pub invariant-loop-place : goal.invariant-loop-place

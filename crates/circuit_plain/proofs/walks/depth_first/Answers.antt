@@ -1,7 +1,7 @@
 use Rattle.std.proofs.Common.{◌<◌, length}
 use Rattle.std.proofs.lemmas.List.Elements.{All-pop}
 use Rattle.circuit_plain.specs.Steps.{task_place}
-use Rattle.circuit_plain.proofs.WalkingLaws.{leave_gate}
+use Rattle.circuit_plain.proofs.WalkSteps.{leave_gate}
 use Rattle.circuit_plain.proofs.walks.depth_first.Goals as goal
 
 pub visit-requires-clause-tasks_in_range : goal.visit-requires-clause-tasks_in_range

@@ -1,6 +1,6 @@
 use Rattle.std.proofs.Common.{◌+◌, ◌*◌, not, length}
 use Rattle.std.specs.List.{count_by}
-use Rattle.circuit_plain.proofs.WalkingLaws.{WalkSoFar}
+use Rattle.circuit_plain.proofs.WalkSteps.{WalkSoFar}
 use Rattle.circuit_plain.proofs.walks.depth_first.Given as goal
 
 abbrev pub invariant-loop-task : goal.invariant-loop-task

@@ -1,5 +1,5 @@
 use Rattle.std.proofs.Common.{sym, ◌∙◌}
-use Rattle.definition_order.proofs.Reading.{shared_by_place, none_shared_there}
+use Rattle.definition_order.proofs.ReadableExistentials.{shared_by_place, none_shared_there}
 use Rattle.definition_order.proofs.reads.is_shared.Goals as goal
 
 pub returns-in-Some : goal.returns-in-Some

@@ -1,5 +1,5 @@
 use Rattle.definition_order.proofs.Declared.{declared_at, known_at}
-use Rattle.definition_order.proofs.Ordering.{both_tell, one_denies}
+use Rattle.definition_order.proofs.SortedExistentials.{both_tell, one_denies}
 use Rattle.definition_order.proofs.shared.is_shared_at.Goals as goal
 
 pub comes_before-requires-clause-first : goal.comes_before-requires-clause-first

@@ -1,4 +1,4 @@
-use Rattle.definition_order.proofs.Seeing.{sees_more, sees_whole}
+use Rattle.definition_order.proofs.SeenUniversals.{sees_more, sees_whole}
 use Rattle.definition_order.proofs.shared.sees_all.Goals as goal
 
 pub loop-x-preserved : goal.loop-x-preserved

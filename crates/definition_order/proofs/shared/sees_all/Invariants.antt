@@ -1,4 +1,4 @@
-use Rattle.definition_order.proofs.Seeing.{SeesFirst}
+use Rattle.definition_order.proofs.SeenUniversals.{SeesFirst}
 use Rattle.definition_order.proofs.shared.sees_all.Given as goal
 
 abbrev pub invariant-loop-x : goal.invariant-loop-x

@@ -1,4 +1,4 @@
-use Rattle.definition_order.proofs.Sizing.{sizes_more}
+use Rattle.definition_order.proofs.SizePlaces.{sizes_more}
 use Rattle.definition_order.proofs.sizes.sized_places.Goals as goal
 
 pub loop-place-preserved : goal.loop-place-preserved

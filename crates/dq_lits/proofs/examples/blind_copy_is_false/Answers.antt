@@ -1,6 +1,6 @@
 use Rattle.std.proofs.Common.{[], ◌∷◌, false, true, refl}
 use Rattle.dq_lits.specs.Examples.{blind_copy, step, row}
-use Rattle.dq_lits.proofs.Lifting.{expansion_refutes}
+use Rattle.dq_lits.proofs.LiftedExpansion.{expansion_refutes}
 use Rattle.dq_lits.proofs.Refutations.{derivation_refutes_expansion}
 use Rattle.dq_lits.proofs.WellFormed.{well_formed_by}
 use Rattle.dq_lits.proofs.examples.blind_copy_is_false.Goals as goal

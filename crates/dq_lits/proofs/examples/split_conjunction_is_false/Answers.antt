@@ -1,7 +1,7 @@
 use Rattle.std.proofs.Common.{[], ◌∷◌, refl}
 use Rattle.dq_lits.specs.Literal.{negative}
 use Rattle.dq_lits.specs.Examples.{split_conjunction, step, four_rows}
-use Rattle.dq_lits.proofs.Lifting.{expansion_refutes}
+use Rattle.dq_lits.proofs.LiftedExpansion.{expansion_refutes}
 use Rattle.dq_lits.proofs.Refutations.{derivation_refutes_expansion}
 use Rattle.dq_lits.proofs.WellFormed.{well_formed_by}
 use Rattle.dq_lits.proofs.examples.split_conjunction_is_false.Goals as goal

@@ -1,6 +1,6 @@
 use Rattle.std.proofs.Common.{length, ◌∙◌, ap}
 use Rattle.std.specs.Option.{unwrap_or}
-use Rattle.dq_text.proofs.Cutting.{unwrap_position}
+use Rattle.dq_text.proofs.TokenCuts.{unwrap_position}
 use Rattle.dq_text.proofs.cursors.separator_free_length.Goals as goal
 
 pub returns : goal.returns

@@ -1,6 +1,6 @@
 use Rattle.std.proofs.Common.{◌+◌, drop, length, ◌∙◌, ap}
 use Rattle.dq_text.specs.Token.{line_feeds}
-use Rattle.dq_text.proofs.Cutting.{run-le, cut_parts, line_feeds-cut}
+use Rattle.dq_text.proofs.TokenCuts.{run-le, cut_parts, line_feeds-cut}
 use Rattle.dq_text.proofs.cursors.take_token.Goals as goal
 
 pub split_at-requires : goal.split_at-requires

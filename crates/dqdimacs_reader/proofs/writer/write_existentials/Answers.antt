@@ -2,7 +2,7 @@ use Rattle.std.proofs.Common.{get_or}
 use Rattle.dq_lits.specs.Formula.{existential_of}
 use Rattle.dq_formula.specs.Prefix.{unseeing}
 use Rattle.dqdimacs_reader.specs.Canonical.{existential_text}
-use Rattle.dqdimacs_reader.proofs.Writing.{existential_at, below_existentials, named_in, is_of, is_some, one_more}
+use Rattle.dqdimacs_reader.proofs.ExistentialPlaces.{existential_at, below_existentials, named_in, is_of, is_some, one_more}
 use Rattle.dqdimacs_reader.proofs.writer.write_existentials.Goals as goal
 
 pub write_existential-requires : goal.write_existential-requires

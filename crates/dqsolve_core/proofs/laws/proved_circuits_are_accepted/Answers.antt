@@ -1,4 +1,4 @@
-use Rattle.dqsolve_core.proofs.Accepting.{circuits_accepted}
+use Rattle.dqsolve_core.proofs.AcceptedTexts.{circuits_accepted}
 use Rattle.dqsolve_core.proofs.laws.proved_circuits_are_accepted.Goals as goal
 
 pub returns : goal.returns

@@ -1,4 +1,4 @@
-use Rattle.dqsolve_core.proofs.Accepting.{refutations_accepted}
+use Rattle.dqsolve_core.proofs.AcceptedTexts.{refutations_accepted}
 use Rattle.dqsolve_core.proofs.laws.refutations_are_accepted.Goals as goal
 
 pub returns : goal.returns

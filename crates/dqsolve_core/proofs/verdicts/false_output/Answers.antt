@@ -1,7 +1,7 @@
 use Rattle.std.proofs.Common.{◌∙◌, ◌++◌, refl, ap, cond, [], codes}
 use Rattle.dqcheck_core.specs.Report.{line}
 use Rattle.dqsolve_core.specs.Report.{is_false}
-use Rattle.dqsolve_core.proofs.Showing.{shown_false}
+use Rattle.dqsolve_core.proofs.DueOutputs.{shown_false}
 use Rattle.dqsolve_core.proofs.verdicts.false_output.Goals as goal
 
 pub returns : goal.returns

@@ -2,7 +2,7 @@ use Rattle.std.proofs.Common.{Ok, ap, subst}
 use Rattle.cert_export.specs.ExportedCircuit.{IsDecidedTrue}
 use Rattle.repair_loop.specs.Searching.{IsShownFalse}
 use Rattle.aig_graph.specs.Outputs.{outputs_of}
-use Rattle.dqsolve_core.proofs.Showing.{decided, same_shown, same_refuted}
+use Rattle.dqsolve_core.proofs.DueOutputs.{decided, same_shown, same_refuted}
 use Rattle.dqsolve_core.proofs.verdicts.search.Goals as goal
 
 pub returns-in-True-clause-shown : goal.returns-in-True-clause-shown

@@ -1,6 +1,6 @@
 use Rattle.std.proofs.Common.{◌∙◌, ◌++◌, ap, cond, [], codes}
 use Rattle.dqcheck_core.specs.Report.{line}
-use Rattle.dqsolve_core.proofs.Showing.{shown_true}
+use Rattle.dqsolve_core.proofs.DueOutputs.{shown_true}
 use Rattle.dqsolve_core.proofs.verdicts.true_text.Goals as goal
 
 pub returns : goal.returns

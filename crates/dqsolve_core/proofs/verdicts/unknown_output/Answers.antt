@@ -1,6 +1,6 @@
 use Rattle.std.proofs.Common.{◌∙◌, ◌++◌, refl, ap, cond, [], codes}
 use Rattle.dqcheck_core.specs.Report.{line}
-use Rattle.dqsolve_core.proofs.Showing.{unknown}
+use Rattle.dqsolve_core.proofs.DueOutputs.{unknown}
 use Rattle.dqsolve_core.proofs.verdicts.unknown_output.Goals as goal
 
 pub returns : goal.returns

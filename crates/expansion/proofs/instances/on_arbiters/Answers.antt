@@ -4,7 +4,7 @@ use Rattle.dq_lits.specs.Literal.{Literal, variable_of, is_negative}
 use Rattle.hint_log.specs.Naming.{AreNamedAs, on_arbiter}
 use Rattle.log_laws.proofs.Found.{variable}
 use Rattle.expansion.specs.Adding.{signed}
-use Rattle.expansion.proofs.Instancing.{literal_more, literal_passed, all_literals}
+use Rattle.expansion.proofs.InstanceLiterals.{literal_more, literal_passed, all_literals}
 use Rattle.expansion.proofs.instances.on_arbiters.Goals.{in-Some+in_ok-push, in_default}
 use Rattle.expansion.proofs.instances.on_arbiters.Goals as goal
 

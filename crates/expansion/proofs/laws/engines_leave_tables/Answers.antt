@@ -1,4 +1,4 @@
-use Rattle.expansion.proofs.Standing.{tables_left}
+use Rattle.expansion.proofs.StandingTables.{tables_left}
 use Rattle.expansion.proofs.laws.engines_leave_tables.Goals as goal
 
 pub returns : goal.returns

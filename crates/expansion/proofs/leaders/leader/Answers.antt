@@ -1,5 +1,5 @@
 use Rattle.std.proofs.Common.{◌<◌, length, arith}
-use Rattle.expansion.proofs.Leading.{some_by_variable, same_set_leads}
+use Rattle.expansion.proofs.SharedSets.{some_by_variable, same_set_leads}
 use Rattle.expansion.proofs.leaders.leader.Goals as goal
 
 pub have_one_set-requires-clause-first : goal.have_one_set-requires-clause-first

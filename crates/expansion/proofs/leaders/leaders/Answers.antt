@@ -1,7 +1,7 @@
 use Rattle.std.proofs.Common.{◌∙◌, ◌<◌, length, ap, arith}
 use Rattle.std.proofs.lemmas.List.{length-map}
 use Rattle.log_laws.proofs.Found.{variable}
-use Rattle.expansion.proofs.Leading.{some_by_variable}
+use Rattle.expansion.proofs.SharedSets.{some_by_variable}
 use Rattle.expansion.proofs.leaders.leaders.Goals as goal
 
 pub deps_of-requires : goal.deps_of-requires

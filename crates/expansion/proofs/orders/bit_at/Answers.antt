@@ -1,5 +1,5 @@
 use Rattle.std.proofs.Common.{sym, ◌∙◌}
-use Rattle.expansion.proofs.Comparing.{bit_there, bit_nowhere}
+use Rattle.expansion.proofs.ComparedRows.{bit_there, bit_nowhere}
 use Rattle.expansion.proofs.orders.bit_at.Goals as goal
 
 pub returns-in-Some : goal.returns-in-Some

@@ -7,7 +7,7 @@ use Rattle.dq_formula.specs.Dependencies.{dependencies}
 use Rattle.dq_formula.proofs.Distinct.{length-dependencies}
 use Rattle.dq_formula.proofs.Restrictions.{differs}
 use Rattle.expansion.specs.FirstRows.{bits_cmp}
-use Rattle.expansion.proofs.Comparing.{set_is, cmp_from_places, cmp_from_difference}
+use Rattle.expansion.proofs.ComparedRows.{set_is, cmp_from_places, cmp_from_difference}
 use Rattle.expansion.proofs.orders.compare_on.Goals as goal
 
 pub returns-then-first-second : goal.returns-then-first-second

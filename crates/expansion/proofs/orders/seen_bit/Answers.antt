@@ -3,7 +3,7 @@ use Rattle.dq_lits.specs.Row.{bit_of, assignment_of}
 use Rattle.dq_formula.specs.Dependencies.{dependencies, IsDependencySet}
 use Rattle.dq_formula.proofs.Restrictions.{bit-first}
 use Rattle.log_laws.proofs.Found.{variable}
-use Rattle.expansion.proofs.Comparing.{distinct_universals}
+use Rattle.expansion.proofs.ComparedRows.{distinct_universals}
 use Rattle.expansion.proofs.orders.seen_bit.Goals as goal
 
 pub returns-then-i-n : goal.returns-then-i-n

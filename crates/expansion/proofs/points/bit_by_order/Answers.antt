@@ -1,5 +1,5 @@
 use Rattle.std.proofs.Common.{sym, ◌∙◌}
-use Rattle.expansion.proofs.Looking.{bit_at_place}
+use Rattle.expansion.proofs.VariableBits.{bit_at_place}
 use Rattle.expansion.proofs.points.bit_by_order.Goals as goal
 
 pub returns-then-variables-place : goal.returns-then-variables-place

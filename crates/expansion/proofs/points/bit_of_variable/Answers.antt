@@ -1,5 +1,5 @@
 use Rattle.std.proofs.Common.{get_or, refl, sym, ◌∙◌, eq-eqb}
-use Rattle.expansion.proofs.Looking.{look_further, looked_here, differs}
+use Rattle.expansion.proofs.VariableBits.{look_further, looked_here, differs}
 use Rattle.expansion.proofs.points.bit_of_variable.Goals as goal
 
 pub loop-place-preserved : goal.loop-place-preserved

@@ -1,5 +1,5 @@
 use Rattle.std.proofs.Common.{◌∙◌, set, ap}
-use Rattle.expansion.proofs.Writing.{written_more, written_all}
+use Rattle.expansion.proofs.WrittenBits.{written_more, written_all}
 use Rattle.expansion.proofs.tables.row_of_values.Goals as goal
 
 pub loop-place-preserved : goal.loop-place-preserved

@@ -1,5 +1,5 @@
 use Rattle.std.proofs.Common.{arith}
-use Rattle.gate_definitions.proofs.Placing.{number_range}
+use Rattle.gate_definitions.proofs.DeclaredPlaces.{number_range}
 use Rattle.gate_definitions.proofs.Gates.read.Goals as goal
 
 pub invariant_of-output-clause-existential : goal.invariant_of-output-clause-existential

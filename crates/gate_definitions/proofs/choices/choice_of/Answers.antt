@@ -1,6 +1,6 @@
 use Rattle.std.proofs.Common.{ap, ◌∙◌, sym}
 use Rattle.dq_lits.specs.Literal.{same_literal}
-use Rattle.gate_definitions.proofs.Choosing.{is_choice, is_same}
+use Rattle.gate_definitions.proofs.ChoiceHalves.{is_choice, is_same}
 use Rattle.gate_definitions.proofs.choices.choice_of.Goals as goal
 
 pub returns : goal.returns

@@ -1,5 +1,5 @@
 use Rattle.std.proofs.Common.{sym, ◌∙◌}
-use Rattle.gate_definitions.proofs.Implying.{within_implies}
+use Rattle.gate_definitions.proofs.ImpliedLiterals.{within_implies}
 use Rattle.gate_definitions.proofs.clauses.implies.Goals as goal
 
 pub returns-in-Some : goal.returns-in-Some

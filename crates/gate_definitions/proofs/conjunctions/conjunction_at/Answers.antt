@@ -1,6 +1,6 @@
 use Rattle.std.proofs.Common.{◌∷◌, [], All, subst}
 use Rattle.gate_definitions.specs.Stating.{Implies, AreReadable}
-use Rattle.gate_definitions.proofs.Implying.{is_conjunction}
+use Rattle.gate_definitions.proofs.ImpliedLiterals.{is_conjunction}
 use Rattle.gate_definitions.proofs.conjunctions.conjunction_at.Goals as goal
 
 pub returns-then-all_readable : goal.returns-then-all_readable

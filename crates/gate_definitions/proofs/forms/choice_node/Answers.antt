@@ -3,7 +3,7 @@ use Rattle.std.proofs.lemmas.Result.{IfOk-weaker}
 use Rattle.aig_graph.specs.Graph.{IsNode}
 use Rattle.aig_graph.specs.Made.{IsChosen}
 use Rattle.definition_order.specs.Definitions.{IsDefinition}
-use Rattle.gate_definitions.proofs.Making.{choice_is_declared, literal_is_node, choice_defines}
+use Rattle.gate_definitions.proofs.GateNodes.{choice_is_declared, literal_is_node, choice_defines}
 use Rattle.gate_definitions.proofs.forms.choice_node.Goals as goal
 
 pub node_of-c-requires-clause-declared : goal.node_of-c-requires-clause-declared

@@ -1,6 +1,6 @@
 use Rattle.std.proofs.Common.{All, ◌∙◌, sym, subst, ap}
 use Rattle.aig_graph.specs.Graph.{IsNode, node_value, with_sign}
-use Rattle.gate_definitions.proofs.Making.{conjunction_is_declared, nodes_are, conjunction_defines}
+use Rattle.gate_definitions.proofs.GateNodes.{conjunction_is_declared, nodes_are, conjunction_defines}
 use Rattle.gate_definitions.proofs.forms.conjunction_node.Goals as goal
 
 pub nodes_of-requires-clause-declared : goal.nodes_of-requires-clause-declared

@@ -1,6 +1,6 @@
 use Rattle.std.proofs.Common.{sym, ◌∙◌}
 use Rattle.dq_formula.specs.Prefix.{existential_variables}
-use Rattle.gate_definitions.proofs.Placing.{placed_first}
+use Rattle.gate_definitions.proofs.DeclaredPlaces.{placed_first}
 use Rattle.gate_definitions.proofs.literals.input_of.Goals as goal
 
 pub existential_input-requires-clause-no_universal : goal.existential_input-requires-clause-no_universal

@@ -2,7 +2,7 @@ use Rattle.std.proofs.Common.{map}
 use Rattle.dq_lits.specs.Literal.{opposite}
 use Rattle.hint_log.specs.Reached.{itself, by_hint}
 use Rattle.interpolants.specs.Splits.{partition_of, local_of}
-use Rattle.interpolants.proofs.Resolving.{noted_hints, part_of_clause}
+use Rattle.interpolants.proofs.ResolvedHints.{noted_hints, part_of_clause}
 use Rattle.interpolants.proofs.lines.derived_part.Goals as goal
 
 pub propagate-requires-clause-ids : goal.propagate-requires-clause-ids

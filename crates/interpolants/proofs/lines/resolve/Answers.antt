@@ -1,6 +1,6 @@
 use Rattle.interpolants.specs.Splits.{partition_of, local_of}
 use Rattle.interpolants.proofs.Steps.{extends_both}
-use Rattle.interpolants.proofs.Resolving.{is_noted, next_is_node, resolving_first, next_hinted, resolving_next, all_resolved}
+use Rattle.interpolants.proofs.ResolvedHints.{is_noted, next_is_node, resolving_first, next_hinted, resolving_next, all_resolved}
 use Rattle.interpolants.proofs.lines.resolve.Goals as goal
 
 pub at-node-requires : goal.at-node-requires

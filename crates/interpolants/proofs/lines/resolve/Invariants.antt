@@ -4,7 +4,7 @@ use Rattle.hint_log.specs.Entries.{clause_at}
 use Rattle.interpolants.specs.Parts.{HaveParts}
 use Rattle.interpolants.specs.Replay.{IsReplay}
 use Rattle.interpolants.specs.Splits.{partition_of, local_of}
-use Rattle.interpolants.proofs.Resolving.{IsResolving}
+use Rattle.interpolants.proofs.ResolvedHints.{IsResolving}
 use Rattle.interpolants.proofs.lines.resolve.Given as goal
 
 abbrev pub invariant-loop-link : goal.invariant-loop-link

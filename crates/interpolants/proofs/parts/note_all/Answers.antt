@@ -2,7 +2,7 @@ use Rattle.std.proofs.Common.{get_or}
 use Rattle.interpolants.specs.Splits.{partition_of, local_of}
 use Rattle.interpolants.proofs.Sided.{contains_place}
 use Rattle.interpolants.proofs.Steps.{extends_both}
-use Rattle.interpolants.proofs.Noting.{noted_before, noted_more, all_noted}
+use Rattle.interpolants.proofs.NotedParts.{noted_before, noted_more, all_noted}
 use Rattle.interpolants.proofs.parts.note_all.Goals as goal
 
 pub part-requires-clause-id : goal.part-requires-clause-id

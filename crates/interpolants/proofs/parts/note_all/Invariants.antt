@@ -1,5 +1,5 @@
 use Rattle.interpolants.specs.Splits.{partition_of, local_of}
-use Rattle.interpolants.proofs.Noting.{AreSomeNoted}
+use Rattle.interpolants.proofs.NotedParts.{AreSomeNoted}
 use Rattle.interpolants.proofs.parts.note_all.Given as goal
 
 abbrev pub invariant-loop-at : goal.invariant-loop-at

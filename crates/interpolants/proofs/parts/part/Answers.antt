@@ -5,8 +5,8 @@ use Rattle.interpolants.proofs.Sided.{is_given, on_a_by_selectors}
 use Rattle.interpolants.specs.Interpolant.{IsReachedGiven}
 use Rattle.interpolants.specs.Parts.{IsPartOf}
 use Rattle.interpolants.specs.Splits.{partition_of, local_of}
-use Rattle.interpolants.proofs.Interpolating.{leaf_a, leaf_b}
-use Rattle.interpolants.proofs.Resolving.{part_of_clause}
+use Rattle.interpolants.proofs.PartialInterpolants.{leaf_a, leaf_b}
+use Rattle.interpolants.proofs.ResolvedHints.{part_of_clause}
 use Rattle.interpolants.proofs.parts.part.Goals as goal
 
 pub returns-then-is_on_side-clause-part : goal.returns-then-is_on_side-clause-part

@@ -1,5 +1,5 @@
 use Rattle.interpolants.proofs.Alike.{shares_kept, nodes_kept, interpolant_kept}
-use Rattle.interpolants.proofs.Deriving.{each_derived}
+use Rattle.interpolants.proofs.DerivedEntries.{each_derived}
 use Rattle.interpolants.proofs.reading.from_log.Goals as goal
 
 pub interpolant-requires-clause-derived : goal.interpolant-requires-clause-derived

@@ -1,7 +1,7 @@
 use Rattle.hint_log.specs.Reached.{itself}
 use Rattle.interpolants.specs.Splits.{partition_of, local_of}
-use Rattle.interpolants.proofs.Interpolating.{nodes_after, answer_part}
-use Rattle.interpolants.proofs.Resolving.{is_noted, noted_part}
+use Rattle.interpolants.proofs.PartialInterpolants.{nodes_after, answer_part}
+use Rattle.interpolants.proofs.ResolvedHints.{is_noted, noted_part}
 use Rattle.interpolants.proofs.Steps.{extends_both}
 use Rattle.interpolants.proofs.reading.interpolant.Goals as goal
 

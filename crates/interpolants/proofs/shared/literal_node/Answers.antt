@@ -1,6 +1,6 @@
 use Rattle.std.proofs.Common.{sym, ◌∙◌}
 use Rattle.aig_graph.specs.Graph.{node_value}
-use Rattle.interpolants.proofs.Resolving.{negated_value}
+use Rattle.interpolants.proofs.ResolvedHints.{negated_value}
 use Rattle.interpolants.proofs.shared.literal_node.Goals as goal
 
 pub returns-then-is_neg-clause-value : goal.returns-then-is_neg-clause-value

@@ -1,4 +1,4 @@
-use Rattle.log_laws.proofs.Missing.{true_clause_misses, hint_misses, known_misses, again_misses, ignored_misses, twice_misses}
+use Rattle.log_laws.proofs.MissedPoints.{true_clause_misses, hint_misses, known_misses, again_misses, ignored_misses, twice_misses}
 use Rattle.log_laws.proofs.examples.each_point_can_be_missed_alone.Goals as goal
 
 pub returns : goal.returns

@@ -1,4 +1,4 @@
-use Rattle.log_laws.proofs.MissingTrue.{output_misses, turn_misses}
+use Rattle.log_laws.proofs.MissedTurns.{output_misses, turn_misses}
 use Rattle.log_laws.proofs.examples.turns_have_one_output_and_a_round.Goals as goal
 
 pub returns : goal.returns

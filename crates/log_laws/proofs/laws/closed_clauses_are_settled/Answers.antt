@@ -1,6 +1,6 @@
 use Rattle.std.proofs.Common.{sym, ◌∙◌, ap}
 use Rattle.dq_lits.specs.Derivation.{status_of}
-use Rattle.log_laws.proofs.Settling.{settled}
+use Rattle.log_laws.proofs.SettledClauses.{settled}
 use Rattle.log_laws.proofs.laws.closed_clauses_are_settled.Goals as goal
 
 pub returns : goal.returns

@@ -1,4 +1,4 @@
-use Rattle.log_laws.proofs.Growing.{leaves_rest}
+use Rattle.log_laws.proofs.LargerLogs.{leaves_rest}
 use Rattle.log_laws.proofs.laws.engines_leave_the_rest.Goals as goal
 
 pub returns : goal.returns

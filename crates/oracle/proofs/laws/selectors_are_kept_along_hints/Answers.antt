@@ -1,4 +1,4 @@
-use Rattle.oracle.proofs.Keeping.{kept_along}
+use Rattle.oracle.proofs.KeptSelectors.{kept_along}
 use Rattle.oracle.proofs.laws.selectors_are_kept_along_hints.Goals as goal
 
 pub returns : goal.returns

@@ -2,7 +2,7 @@ use Rattle.std.proofs.Common.{sym, subst}
 use Rattle.std.specs.List.{Contains}
 use Rattle.dq_lits.specs.Literal.{variable_of}
 use Rattle.dq_lits.specs.Formula.{declared}
-use Rattle.padoa_definitions.proofs.Copying.{clause_more}
+use Rattle.padoa_definitions.proofs.CopiedVariables.{clause_more}
 use Rattle.padoa_definitions.proofs.copies.copied_clause.Goals as goal
 
 pub copied_literal-requires-clause-bound : goal.copied_literal-requires-clause-bound

@@ -2,7 +2,7 @@ use Rattle.std.proofs.Common.{sym, ◌∙◌, ap, false, Some}
 use Rattle.dq_lits.specs.Literal.{variable_of}
 use Rattle.hint_log.specs.Naming.{named_literal, name_literal}
 use Rattle.hint_log.specs.declared.names.Name.TheVariants.{Copy as CopyOf}
-use Rattle.padoa_definitions.proofs.Copying.{opposite_name}
+use Rattle.padoa_definitions.proofs.CopiedVariables.{opposite_name}
 use Rattle.padoa_definitions.proofs.copies.copied_literal.Goals as goal
 
 pub returns-then-is_neg : goal.returns-then-is_neg

@@ -3,7 +3,7 @@ use Rattle.std.proofs.lemmas.List.{length-map}
 use Rattle.std.proofs.lemmas.List.Elements.{Contains-append_cases}
 use Rattle.dq_lits.specs.Formula.{Existential}
 use Rattle.dq_formula.specs.Prefix.{existential_variables}
-use Rattle.padoa_definitions.proofs.Copying.{copy_at, place_holds, place_within, none_contained, found_at}
+use Rattle.padoa_definitions.proofs.CopiedVariables.{copy_at, place_holds, place_within, none_contained, found_at}
 use Rattle.padoa_definitions.proofs.copies.copied_variable.Goals as goal
 
 pub unreachable-requires : goal.unreachable-requires

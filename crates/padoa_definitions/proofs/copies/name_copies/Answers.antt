@@ -2,7 +2,7 @@ use Rattle.std.proofs.Common.{◌++◌, ◌∷◌, [], get_or, refl, ◌∙◌, 
 use Rattle.std.proofs.lemmas.Option.{slice_get-get_or}
 use Rattle.std.proofs.lemmas.List.{get_or_default}
 use Rattle.dq_lits.specs.Literal.{positive}
-use Rattle.padoa_definitions.proofs.Copying.{none_named, named_more, all_named}
+use Rattle.padoa_definitions.proofs.CopiedVariables.{none_named, named_more, all_named}
 use Rattle.padoa_definitions.proofs.copies.name_copies.Goals as goal
 
 pub new_var-requires-clause-fresh : goal.new_var-requires-clause-fresh

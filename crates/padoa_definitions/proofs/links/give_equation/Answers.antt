@@ -2,7 +2,7 @@ use Rattle.std.proofs.Common.{sym, subst}
 use Rattle.hint_log.specs.Entries.{ProofLog}
 use Rattle.padoa_definitions.specs.Growing.{AreEquated}
 use Rattle.padoa_definitions.specs.Copies.{group_variable}
-use Rattle.padoa_definitions.proofs.Linking.{first_part, second_part, both_equated}
+use Rattle.padoa_definitions.proofs.GivenEquations.{first_part, second_part, both_equated}
 use Rattle.padoa_definitions.proofs.links.give_equation.Goals as goal
 
 pub returns-in_err-add-2-clause-grew : goal.returns-in_err-add-2-clause-grew

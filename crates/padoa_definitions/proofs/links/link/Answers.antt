@@ -2,8 +2,8 @@ use Rattle.std.proofs.Common.{sym, subst}
 use Rattle.hint_log.specs.Entries.{ProofLog}
 use Rattle.hint_log.specs.Growth.{Each}
 use Rattle.padoa_definitions.specs.Copies.{group_variable, is_link_of, IsGroupGiven}
-use Rattle.padoa_definitions.proofs.Growing.{fresh_group, adds_group, adds_in}
-use Rattle.padoa_definitions.proofs.Linking.{unlinked_still}
+use Rattle.padoa_definitions.proofs.GivenClauses.{fresh_group, adds_group, adds_in}
+use Rattle.padoa_definitions.proofs.GivenEquations.{unlinked_still}
 use Rattle.padoa_definitions.proofs.links.link.Goals as goal
 
 pub give_equation-requires-clause-unlinked : goal.give_equation-requires-clause-unlinked

@@ -1,6 +1,6 @@
 use Rattle.std.proofs.Common.{◌∙◌, set, ap}
 use Rattle.dq_lits.specs.Literal.{variable_of}
-use Rattle.padoa_definitions.proofs.Selecting.{written_more, written_all}
+use Rattle.padoa_definitions.proofs.SelectedPlaces.{written_more, written_all}
 use Rattle.padoa_definitions.proofs.reading.row_of_values.Goals as goal
 
 pub loop-place-preserved : goal.loop-place-preserved

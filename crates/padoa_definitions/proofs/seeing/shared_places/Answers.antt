@@ -1,6 +1,6 @@
 use Rattle.std.proofs.Common.{◌+◌, ◌<◌, ◌++◌, length, map, sym, ◌∙◌, ap, subst}
 use Rattle.std.specs.List.{All}
-use Rattle.padoa_definitions.proofs.Declaring.{shared_are_places, shared_within}
+use Rattle.padoa_definitions.proofs.DeclaredPlaces.{shared_are_places, shared_within}
 use Rattle.definition_order.proofs.Declared.{some_existential}
 use Rattle.padoa_definitions.proofs.seeing.shared_places.Goals as goal
 

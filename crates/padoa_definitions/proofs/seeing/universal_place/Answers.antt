@@ -1,5 +1,5 @@
 use Rattle.std.proofs.Common.{sym, ◌∙◌}
-use Rattle.padoa_definitions.proofs.Copying.{none_contained, place_holds}
+use Rattle.padoa_definitions.proofs.CopiedVariables.{none_contained, place_holds}
 use Rattle.padoa_definitions.proofs.seeing.universal_place.Goals as goal
 
 pub unreachable-requires : goal.unreachable-requires

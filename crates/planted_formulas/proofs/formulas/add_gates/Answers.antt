@@ -1,5 +1,5 @@
 use Rattle.std.proofs.Common.{arith}
-use Rattle.planted_formulas.proofs.Building.{gate_undeclared, gate_listed, gate_added, gate_few}
+use Rattle.planted_formulas.proofs.AddedGates.{gate_undeclared, gate_listed, gate_added, gate_few}
 use Rattle.planted_formulas.proofs.formulas.add_gates.Goals as goal
 
 pub add_listed-requires-clause-undeclared : goal.add_listed-requires-clause-undeclared

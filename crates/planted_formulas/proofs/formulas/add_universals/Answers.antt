@@ -1,4 +1,4 @@
-use Rattle.planted_formulas.proofs.Building.{next_undeclared, universals_more}
+use Rattle.planted_formulas.proofs.AddedGates.{next_undeclared, universals_more}
 use Rattle.planted_formulas.proofs.formulas.add_universals.Goals as goal
 
 pub add_universal-requires-clause-undeclared : goal.add_universal-requires-clause-undeclared

@@ -1,5 +1,5 @@
 use Rattle.cert_text.specs.Steps.{step_seen}
-use Rattle.proof_checker.proofs.Judging.{proof_lines}
+use Rattle.proof_checker.proofs.JudgedProofs.{proof_lines}
 use Rattle.proof_checker.proofs.checks.by_proof.Goals as goal
 
 pub lines_fault-requires : goal.lines_fault-requires

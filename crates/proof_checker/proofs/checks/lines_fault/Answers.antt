@@ -4,7 +4,7 @@ use Rattle.rup_core.specs.ProofVerdict.{proof_fault_in}
 use Rattle.cert_text.specs.CircuitProof.{is_proof_variable}
 use Rattle.skolem_checker.specs.Checks.{Candidate}
 use Rattle.proof_checker.specs.CircuitProof.{negated_candidate, circuit_proof_fault}
-use Rattle.proof_checker.proofs.Judging.{none_behind, lines_numbered}
+use Rattle.proof_checker.proofs.JudgedProofs.{none_behind, lines_numbered}
 use Rattle.proof_checker.proofs.checks.lines_fault.Goals as goal
 
 pub first_fault-requires-clause-behind : goal.first_fault-requires-clause-behind

@@ -1,4 +1,4 @@
-use Rattle.proof_checker.proofs.Solving.{refuted_solves}
+use Rattle.proof_checker.proofs.RefutedNegations.{refuted_solves}
 use Rattle.proof_checker.proofs.laws.refuted_negation_solves.Goals as goal
 
 pub returns : goal.returns

@@ -1,7 +1,7 @@
 use Rattle.std.proofs.Common.{◌∷◌, [], refl, sym, ap, ◌∙◌}
 use Rattle.std.specs.Option.{option_and_then}
 use Rattle.cert_text.specs.NegatedMatrix.{without_constants}
-use Rattle.proof_checker.proofs.Looking.{gate_left, gate_right, gate_both}
+use Rattle.proof_checker.proofs.MatrixPlaces.{gate_left, gate_right, gate_both}
 use Rattle.proof_checker.proofs.negated.gate_clause.Goals as goal
 
 pub returns-in-0 : goal.returns-in-0

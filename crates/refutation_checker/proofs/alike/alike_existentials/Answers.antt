@@ -1,6 +1,6 @@
 use Rattle.std.proofs.Common.{◌≡◌, ℕ, set, get_or, sym, subst}
 use Rattle.refutation_checker.specs.Alike.{AreAlike}
-use Rattle.refutation_checker.proofs.Standing.{declared_there, one_more_stands}
+use Rattle.refutation_checker.proofs.EqualSets.{declared_there, one_more_stands}
 use Rattle.refutation_checker.proofs.alike.alike_existentials.Goals as goal
 use Rattle.refutation_checker.proofs.alike.alike_existentials.Goals.{then-have_one_set, else-have_one_set}
 

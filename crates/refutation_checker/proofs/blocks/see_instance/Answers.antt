@@ -1,5 +1,5 @@
 use Rattle.std.proofs.Common.{[], get_or, ◌∙◌}
-use Rattle.refutation_checker.proofs.Numbering.{part_at, part_is_declared}
+use Rattle.refutation_checker.proofs.NumberedLiterals.{part_at, part_is_declared}
 use Rattle.refutation_checker.proofs.blocks.see_instance.Goals as goal
 
 pub see_part-requires-clause-declared : goal.see_part-requires-clause-declared

@@ -3,7 +3,7 @@ use Rattle.dq_lits.specs.Derivation.{ProofStep}
 use Rattle.dq_lits.specs.Literal.{variable_of}
 use Rattle.cert_text.specs.Pairs.{is_pair_number}
 use Rattle.cert_text.specs.Steps.{step_seen}
-use Rattle.refutation_checker.proofs.Lining.{holds_at}
+use Rattle.refutation_checker.proofs.LinePairs.{holds_at}
 use Rattle.refutation_checker.proofs.blocks.see_steps.Goals as goal
 
 pub see_line-requires-clause-pairs : goal.see_line-requires-clause-pairs

@@ -2,7 +2,7 @@ use Rattle.std.proofs.Common.{length, refl, ap, ◌∙◌, subst}
 use Rattle.cert_text.specs.Scan.{first_id}
 use Rattle.refutation_checker.specs.Answer.{IsAnswer}
 use Rattle.refutation_checker.specs.PairTable.{Expanded}
-use Rattle.refutation_checker.proofs.Judging.{judged, on_pairs}
+use Rattle.refutation_checker.proofs.JudgedRefutations.{judged, on_pairs}
 use Rattle.refutation_checker.proofs.checks.check.Goals as goal
 
 pub learn_steps-requires-clause-pairs : goal.learn_steps-requires-clause-pairs

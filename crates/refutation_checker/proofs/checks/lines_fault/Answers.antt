@@ -1,7 +1,7 @@
 use Rattle.std.proofs.Common.{◌≤◌, length, subst, arith}
 use Rattle.cert_text.specs.Pairs.{is_pair_number}
 use Rattle.cert_text.specs.Scan.{first_id}
-use Rattle.refutation_checker.proofs.Judging.{none_behind, numbered_from, few_lines}
+use Rattle.refutation_checker.proofs.JudgedRefutations.{none_behind, numbered_from, few_lines}
 use Rattle.refutation_checker.proofs.checks.lines_fault.Goals as goal
 
 pub first_fault_any-requires-clause-behind : goal.first_fault_any-requires-clause-behind

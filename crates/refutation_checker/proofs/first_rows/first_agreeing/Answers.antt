@@ -1,6 +1,6 @@
 use Rattle.std.proofs.Common.{true, false, length, arith}
 use Rattle.dq_lits.specs.Formula.{existential_of}
-use Rattle.refutation_checker.proofs.Agreeing.{first_is, none_more, none_yet, fewer, agreed}
+use Rattle.refutation_checker.proofs.FirstAgreeingRows.{first_is, none_more, none_yet, fewer, agreed}
 use Rattle.refutation_checker.proofs.first_rows.first_agreeing.Goals as goal
 
 pub returns-then-same_on : goal.returns-then-same_on

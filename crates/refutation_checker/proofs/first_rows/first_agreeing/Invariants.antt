@@ -1,5 +1,5 @@
 use Rattle.dq_lits.specs.Formula.{existential_of}
-use Rattle.refutation_checker.proofs.Agreeing.{NoneAgrees}
+use Rattle.refutation_checker.proofs.FirstAgreeingRows.{NoneAgrees}
 use Rattle.refutation_checker.proofs.first_rows.first_agreeing.Given as goal
 
 abbrev pub invariant-loop-k : goal.invariant-loop-k

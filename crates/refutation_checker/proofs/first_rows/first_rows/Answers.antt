@@ -2,7 +2,7 @@ use Rattle.std.proofs.Common.{◌≡◌, map, ap, ◌∙◌}
 use Rattle.dq_lits.specs.Formula.{existential_of}
 use Rattle.refutation_checker.specs.Labels.{first_places}
 use Rattle.refutation_checker.specs.Pairs.{first_row}
-use Rattle.refutation_checker.proofs.Splitting.{ok_from, first_rows_are}
+use Rattle.refutation_checker.proofs.SplitLabels.{ok_from, first_rows_are}
 use Rattle.refutation_checker.proofs.first_rows.first_rows.Goals as goal
 
 pub returns : goal.returns

@@ -1,4 +1,4 @@
-use Rattle.refutation_checker.proofs.Splitting.{HasKeysSoFar}
+use Rattle.refutation_checker.proofs.SplitLabels.{HasKeysSoFar}
 use Rattle.refutation_checker.proofs.first_rows.keys_at.Given as goal
 
 abbrev pub invariant-loop-k : goal.invariant-loop-k

@@ -1,5 +1,5 @@
 use Rattle.std.proofs.Common.{length, get_or, refl}
-use Rattle.refutation_checker.proofs.Splitting.{seen_none, seen_more, places_more}
+use Rattle.refutation_checker.proofs.SplitLabels.{seen_none, seen_more, places_more}
 use Rattle.refutation_checker.proofs.first_rows.note_all.Goals as goal
 
 pub loop-k-init : goal.loop-k-init

@@ -1,6 +1,6 @@
 use Rattle.std.proofs.Common.{◌≡◌, map, take, length}
 use Rattle.dq_formula.proofs.Places.{place}
-use Rattle.refutation_checker.proofs.Splitting.{IsSeen}
+use Rattle.refutation_checker.proofs.SplitLabels.{IsSeen}
 use Rattle.refutation_checker.proofs.first_rows.note_all.Given as goal
 
 abbrev pub invariant-loop-k : goal.invariant-loop-k

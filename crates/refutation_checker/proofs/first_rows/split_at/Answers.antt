@@ -1,6 +1,6 @@
 use Rattle.std.proofs.Common.{◌≡◌, ap, ◌∙◌}
 use Rattle.refutation_checker.specs.Labels.{first_places, IsSplitAt}
-use Rattle.refutation_checker.proofs.Splitting.{ok_from, split_is}
+use Rattle.refutation_checker.proofs.SplitLabels.{ok_from, split_is}
 use Rattle.refutation_checker.proofs.first_rows.split_at.Goals as goal
 
 pub returns : goal.returns

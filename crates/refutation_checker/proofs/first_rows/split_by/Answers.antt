@@ -1,6 +1,6 @@
 use Rattle.std.proofs.Common.{subst}
 use Rattle.refutation_checker.specs.Labels.{IsSplitAt}
-use Rattle.refutation_checker.proofs.Splitting.{split_more}
+use Rattle.refutation_checker.proofs.SplitLabels.{split_more}
 use Rattle.refutation_checker.proofs.first_rows.split_by.Goals as goal
 
 pub loop-x-preserved : goal.loop-x-preserved

@@ -1,4 +1,4 @@
-use Rattle.refutation_checker.proofs.Splitting.{IsSplitSoFar}
+use Rattle.refutation_checker.proofs.SplitLabels.{IsSplitSoFar}
 use Rattle.refutation_checker.proofs.first_rows.split_by.Given as goal
 
 abbrev pub invariant-loop-x : goal.invariant-loop-x

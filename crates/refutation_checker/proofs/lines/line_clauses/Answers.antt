@@ -3,7 +3,7 @@ use Rattle.dq_lits.specs.Derivation.{ProofStep}
 use Rattle.dq_lits.specs.Literal.{variable_of}
 use Rattle.cert_text.specs.Pairs.{is_pair_number}
 use Rattle.cert_text.specs.Steps.{step_seen}
-use Rattle.refutation_checker.proofs.Lining.{clauses_more, holds_at}
+use Rattle.refutation_checker.proofs.LinePairs.{clauses_more, holds_at}
 use Rattle.refutation_checker.proofs.lines.line_clauses.Goals as goal
 
 pub take_clause-requires : goal.take_clause-requires

@@ -1,4 +1,4 @@
-use Rattle.refutation_checker.proofs.Lining.{line_more}
+use Rattle.refutation_checker.proofs.LinePairs.{line_more}
 use Rattle.refutation_checker.proofs.lines.take_clause.Goals as goal
 
 pub loop-l-preserved : goal.loop-l-preserved

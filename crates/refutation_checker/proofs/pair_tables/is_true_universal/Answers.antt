@@ -1,5 +1,5 @@
 use Rattle.std.proofs.Common.{not, cond, sym, ap, ◌∙◌}
-use Rattle.refutation_checker.proofs.Pairing.{true_universal, no_universal}
+use Rattle.refutation_checker.proofs.PairNumbers.{true_universal, no_universal}
 use Rattle.refutation_checker.proofs.pair_tables.is_true_universal.Goals as goal
 
 pub returns-then-is_neg : goal.returns-then-is_neg

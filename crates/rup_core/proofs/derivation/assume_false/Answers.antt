@@ -2,7 +2,7 @@ use Rattle.std.proofs.Common.{not, map, sym, ap, ◌∙◌}
 use Rattle.std.proofs.lemmas.List.{take_all}
 use Rattle.dq_lits.specs.Literal.{opposite}
 use Rattle.dq_lits.specs.Derivation.{holds}
-use Rattle.rup_core.proofs.Assuming.{no_tautology, tautology}
+use Rattle.rup_core.proofs.FalseLiterals.{no_tautology, tautology}
 use Rattle.rup_core.proofs.derivation.assume_false.Goals as goal
 
 pub returns-in-True-clause-consistent : goal.returns-in-True-clause-consistent

@@ -1,4 +1,4 @@
-use Rattle.rup_core.proofs.Assuming.{hints_go_on}
+use Rattle.rup_core.proofs.FalseLiterals.{hints_go_on}
 use Rattle.rup_core.proofs.derivation.line_fault.Goals as goal
 
 pub returns-clause-fault : goal.returns-clause-fault

@@ -1,7 +1,7 @@
 use Rattle.std.proofs.Common.{◌≡◌, ◌+◌, ◌<◌, length, slice_get, Some, refl, sym, ◌∙◌, ap, arith}
 use Rattle.std.proofs.lemmas.Option.{slice_get-get_or}
 use Rattle.rup_core.specs.Extension.{seen}
-use Rattle.rup_core.proofs.Extending.{status_before_more, status_whole, status_stuck, literal_in_range, free_after, within_after}
+use Rattle.rup_core.proofs.ReadStatus.{status_before_more, status_whole, status_stuck, literal_in_range, free_after, within_after}
 use Rattle.rup_core.proofs.statuses.status_among.Goals as goal
 
 pub returns-then-is_stuck-clause-status : goal.returns-then-is_stuck-clause-status

@@ -1,7 +1,7 @@
 use Rattle.std.proofs.Common.{ℕ, Some}
 use Rattle.rup_core.specs.Extension.{seen, UnitIsFree, UnitStandsWithin}
 use Rattle.rup_core.specs.Range.{StandsWithin}
-use Rattle.rup_core.proofs.Extending.{IsStatusBefore}
+use Rattle.rup_core.proofs.ReadStatus.{IsStatusBefore}
 use Rattle.rup_core.proofs.statuses.status_among.Given as goal
 
 abbrev pub invariant-loop-l : goal.invariant-loop-l

@@ -1,6 +1,6 @@
 use Rattle.std.proofs.Common.{◌+◌, arith}
 use Rattle.rup_core.specs.Extension.{seen}
-use Rattle.rup_core.proofs.Extending.{status_before_more, status_whole, status_stuck, literal_in_range, free_after, within_after}
+use Rattle.rup_core.proofs.ReadStatus.{status_before_more, status_whole, status_stuck, literal_in_range, free_after, within_after}
 use Rattle.rup_core.proofs.statuses.status_read.Goals as goal
 
 pub returns-then-is_stuck-clause-status : goal.returns-then-is_stuck-clause-status

@@ -1,7 +1,7 @@
 use Rattle.std.proofs.Common.{◌<◌, length, ◌∙◌, ap, sym, arith}
 use Rattle.std.proofs.lemmas.Bool.{false≢true}
 use Rattle.rup_core.specs.Verdict.{fault_in}
-use Rattle.rup_core.proofs.Growing.{IsRead, fault_left_more, fault_here, line_within, empty_by_length}
+use Rattle.rup_core.proofs.LargerBases.{IsRead, fault_left_more, fault_here, line_within, empty_by_length}
 use Rattle.rup_core.proofs.steps.first_fault_any.Goals as goal
 
 pub returns-in_err-derive_any-clause-marked : goal.returns-in_err-derive_any-clause-marked

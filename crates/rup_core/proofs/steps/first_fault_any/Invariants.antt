@@ -1,5 +1,5 @@
 use Rattle.std.proofs.Common.{◌≡◌}
-use Rattle.rup_core.proofs.Growing.{IsFaultLeft}
+use Rattle.rup_core.proofs.LargerBases.{IsFaultLeft}
 use Rattle.rup_core.proofs.steps.first_fault_any.Given as goal
 
 abbrev pub invariant-loop-k : goal.invariant-loop-k

@@ -1,5 +1,5 @@
 use Rattle.std.proofs.Common.{sym}
-use Rattle.rup_core.proofs.Assigning.{all_taken_back, taken_back, beyond_taken_back}
+use Rattle.rup_core.proofs.AssignedLiterals.{all_taken_back, taken_back, beyond_taken_back}
 use Rattle.rup_core.proofs.trails.unassign.Goals as goal
 use Rattle.rup_core.proofs.trails.unassign.Goals.{then-place-near, else-place-near}
 

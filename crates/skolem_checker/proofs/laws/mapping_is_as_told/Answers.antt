@@ -1,4 +1,4 @@
-use Rattle.skolem_checker.proofs.NamingLaws.{told_mapping, told_fault}
+use Rattle.skolem_checker.proofs.NamedMappings.{told_mapping, told_fault}
 use Rattle.skolem_checker.proofs.laws.mapping_is_as_told.Goals as goal
 
 pub returns-clause-exact : goal.returns-clause-exact

@@ -1,6 +1,6 @@
 use Rattle.std.proofs.Common.{sym, ap, ◌∙◌}
 use Rattle.skolem_checker.specs.Mapping.{declares}
-use Rattle.skolem_checker.proofs.MappingLaws.{existential-declared, declared-in_range}
+use Rattle.skolem_checker.proofs.MappingReads.{existential-declared, declared-in_range}
 use Rattle.skolem_checker.specs.declared.mapping.Kind.TheVariants.{Inputs, Outputs}
 use Rattle.skolem_checker.proofs.mapping.declares.Goals as goal
 

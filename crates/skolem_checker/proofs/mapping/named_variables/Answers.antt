@@ -1,7 +1,7 @@
 use Rattle.std.proofs.Common.{◌+◌, ◌-◌, ◌<◌, true, length, sym, ap, ◌∙◌, arith}
 use Rattle.std.proofs.lemmas.List.{length-set}
 use Rattle.skolem_checker.specs.Mapping.{named_from}
-use Rattle.skolem_checker.proofs.MappingLaws.{seen-set, named-step, named-fault}
+use Rattle.skolem_checker.proofs.MappingReads.{seen-set, named-step, named-fault}
 use Rattle.skolem_checker.proofs.mapping.named_variables.Goals as goal
 
 pub returns-in-Err : goal.returns-in-Err

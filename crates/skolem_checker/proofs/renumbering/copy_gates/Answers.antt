@@ -1,6 +1,6 @@
 use Rattle.std.proofs.Common.{ℕ, ◌<◌, ◌*◌, length, ap, arith}
 use Rattle.circuit_plain.specs.Netlist.{Netlist, gate_at}
-use Rattle.skolem_checker.proofs.CopyingLaws.{literal_known, literal_is, literal_in_range, gate_variable_known, gate_sides_known, next_gate_in_range, next_gate_undefined}
+use Rattle.skolem_checker.proofs.CopySteps.{literal_known, literal_is, literal_in_range, gate_variable_known, gate_sides_known, next_gate_in_range, next_gate_undefined}
 use Rattle.skolem_checker.proofs.renumbering.copy_gates.Goals as goal
 
 pub renumbered_literal-new_lhs-requires : goal.renumbered_literal-new_lhs-requires

@@ -1,4 +1,4 @@
-use Rattle.skolem_checker.proofs.CopyingLaws.{next_input_known, next_input_in_range, next_input_undefined, next_input_copied}
+use Rattle.skolem_checker.proofs.CopySteps.{next_input_known, next_input_in_range, next_input_undefined, next_input_copied}
 use Rattle.skolem_checker.proofs.renumbering.copy_inputs.Goals as goal
 
 pub number-requires : goal.number-requires

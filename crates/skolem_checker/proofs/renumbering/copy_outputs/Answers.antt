@@ -1,7 +1,7 @@
 use Rattle.std.proofs.Common.{ap, refl}
 use Rattle.std.specs.Prelude.{slice_index}
 use Rattle.circuit_plain.specs.Netlist.{Netlist}
-use Rattle.skolem_checker.proofs.CopyingLaws.{literal_known, literal_is, literal_in_range, output_known, next_output_copied}
+use Rattle.skolem_checker.proofs.CopySteps.{literal_known, literal_is, literal_in_range, output_known, next_output_copied}
 use Rattle.skolem_checker.proofs.renumbering.copy_outputs.Goals as goal
 
 pub renumbered_literal-requires : goal.renumbered_literal-requires

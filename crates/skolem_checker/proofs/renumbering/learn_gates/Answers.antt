@@ -1,5 +1,5 @@
 use Rattle.std.proofs.Common.{ℕ, ap, arith}
-use Rattle.skolem_checker.proofs.CopyingLaws.{gate_unlearnt, gate_learnt}
+use Rattle.skolem_checker.proofs.CopySteps.{gate_unlearnt, gate_learnt}
 use Rattle.skolem_checker.proofs.renumbering.learn_gates.Goals as goal
 
 pub push-requires : goal.push-requires

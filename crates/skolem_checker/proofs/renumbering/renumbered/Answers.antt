@@ -1,5 +1,5 @@
 use Rattle.std.proofs.Common.{length, ap, arith}
-use Rattle.skolem_checker.proofs.NumberingLaws.{known_length, few_known}
+use Rattle.skolem_checker.proofs.LeastNumbers.{known_length, few_known}
 use Rattle.skolem_checker.proofs.renumbering.renumbered.Goals as goal
 
 pub new-copy-requires : goal.new-copy-requires

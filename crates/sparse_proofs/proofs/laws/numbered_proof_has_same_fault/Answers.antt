@@ -1,4 +1,4 @@
-use Rattle.sparse_proofs.proofs.Occurring.{numbered_fault}
+use Rattle.sparse_proofs.proofs.OccurringVariables.{numbered_fault}
 use Rattle.sparse_proofs.proofs.laws.numbered_proof_has_same_fault.Goals as goal
 
 pub returns : goal.returns

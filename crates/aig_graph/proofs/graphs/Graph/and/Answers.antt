@@ -1,4 +1,4 @@
-use Rattle.aig_graph.proofs.Staying.{extends}
+use Rattle.aig_graph.proofs.LargerGraphs.{extends}
 use Rattle.aig_graph.proofs.graphs.Graph.and.Goals as goal
 
 pub returns-in-None-clause-extends : goal.returns-in-None-clause-extends

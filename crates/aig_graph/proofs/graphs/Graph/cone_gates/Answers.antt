@@ -1,5 +1,5 @@
 use Rattle.std.proofs.Common.{◌<◌, length, sym, subst}
-use Rattle.aig_graph.proofs.Gathering.{AreConeSoFar, lowest, cone_goes_on, goes_down, cone_gathered}
+use Rattle.aig_graph.proofs.GatheredCones.{AreConeSoFar, lowest, cone_goes_on, goes_down, cone_gathered}
 use Rattle.aig_graph.proofs.graphs.Graph.cone_gates.Goals as goal
 
 pub loop-g-smaller : goal.loop-g-smaller

@@ -1,5 +1,5 @@
 use Rattle.std.proofs.Common.{length}
-use Rattle.aig_graph.proofs.Gathering.{AreConeSoFar, lowest}
+use Rattle.aig_graph.proofs.GatheredCones.{AreConeSoFar, lowest}
 use Rattle.aig_graph.proofs.graphs.Graph.cone_gates.Given as goal
 
 abbrev pub invariant-loop-g : goal.invariant-loop-g

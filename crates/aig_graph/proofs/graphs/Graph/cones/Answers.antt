@@ -1,5 +1,5 @@
 use Rattle.std.proofs.Common.{◌≡◌, ◌+◌, ◌-◌, sym, ◌∙◌, subst, arith}
-use Rattle.aig_graph.proofs.Coning.{AreCones, roots_marked, cones_go_on, cones_marked}
+use Rattle.aig_graph.proofs.ConeMarks.{AreCones, roots_marked, cones_go_on, cones_marked}
 use Rattle.aig_graph.proofs.graphs.Graph.cones.Goals as goal
 
 pub loop-at-init : goal.loop-at-init

@@ -1,4 +1,4 @@
-use Rattle.aig_graph.proofs.Coning.{AreCones}
+use Rattle.aig_graph.proofs.ConeMarks.{AreCones}
 use Rattle.aig_graph.proofs.graphs.Graph.cones.Given as goal
 
 abbrev pub invariant-loop-at : goal.invariant-loop-at

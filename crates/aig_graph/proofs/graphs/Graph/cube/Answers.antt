@@ -1,4 +1,4 @@
-use Rattle.aig_graph.proofs.Staying.{extends}
+use Rattle.aig_graph.proofs.LargerGraphs.{extends}
 use Rattle.aig_graph.proofs.graphs.Graph.cube.Goals as goal
 
 pub returns-else-is_err-clause-extends : goal.returns-else-is_err-clause-extends

@@ -3,8 +3,8 @@ use Rattle.std.proofs.lemmas.List.{take_more}
 use Rattle.aig_graph.specs.declared.nodes.Node.TheVariants.{Constant}
 use Rattle.aig_graph.specs.Made.{IsCube}
 use Rattle.std.proofs.Common.{false}
-use Rattle.aig_graph.proofs.Making.{longer_cube}
-use Rattle.aig_graph.proofs.Staying.{extends, more_more}
+use Rattle.aig_graph.proofs.MadeNodes.{longer_cube}
+use Rattle.aig_graph.proofs.LargerGraphs.{extends, more_more}
 use Rattle.aig_graph.proofs.graphs.Graph.cube_gates.Goals as goal
 
 pub loop-n-preserved : goal.loop-n-preserved

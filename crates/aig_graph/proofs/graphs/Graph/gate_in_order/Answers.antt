@@ -1,6 +1,6 @@
 use Rattle.aig_graph.specs.Made.{sides_of}
-use Rattle.aig_graph.proofs.Making.{pushed_grown, pushed_made}
-use Rattle.aig_graph.proofs.Staying.{gate_is_made}
+use Rattle.aig_graph.proofs.MadeNodes.{pushed_grown, pushed_made}
+use Rattle.aig_graph.proofs.LargerGraphs.{gate_is_made}
 use Rattle.aig_graph.proofs.graphs.Graph.gate_in_order.Goals as goal
 
 pub returns-in-Some-clause-made : goal.returns-in-Some-clause-made

@@ -1,4 +1,4 @@
-use Rattle.aig_graph.proofs.Making.{swapped_if}
+use Rattle.aig_graph.proofs.MadeNodes.{swapped_if}
 use Rattle.aig_graph.proofs.graphs.Graph.gate_of_two.Goals as goal
 
 pub returns-then-goes_first-clause-made : goal.returns-then-goes_first-clause-made

@@ -3,7 +3,7 @@ use Rattle.std.proofs.Common.{◌&&◌, false}
 use Rattle.aig_graph.specs.declared.nodes.Node.TheVariants.{Gate}
 use Rattle.aig_graph.specs.Made.{IsMade}
 use Rattle.aig_graph.specs.Substituting.{IsPutIn}
-use Rattle.aig_graph.proofs.PuttingIn.{gate_put}
+use Rattle.aig_graph.proofs.PutInNodes.{gate_put}
 use Rattle.aig_graph.proofs.graphs.Graph.gate_put_in.Goals as goal
 
 pub returns-clause-put_in : goal.returns-clause-put_in

@@ -1,6 +1,6 @@
 use Rattle.std.proofs.Common.{false}
 use Rattle.aig_graph.specs.declared.nodes.Node.TheVariants.{Constant}
-use Rattle.aig_graph.proofs.Coning.{no_roots, root_more}
+use Rattle.aig_graph.proofs.ConeMarks.{no_roots, root_more}
 use Rattle.aig_graph.proofs.graphs.Graph.mark_all.Goals as goal
 
 pub loop-n-init : goal.loop-n-init

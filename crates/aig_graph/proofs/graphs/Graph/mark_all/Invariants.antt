@@ -1,5 +1,5 @@
 use Rattle.std.proofs.Common.{take}
-use Rattle.aig_graph.proofs.Coning.{AreRootMarks}
+use Rattle.aig_graph.proofs.ConeMarks.{AreRootMarks}
 use Rattle.aig_graph.proofs.graphs.Graph.mark_all.Given as goal
 
 abbrev pub invariant-loop-n : goal.invariant-loop-n

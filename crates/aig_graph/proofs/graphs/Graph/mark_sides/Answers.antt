@@ -1,7 +1,7 @@
 use Rattle.std.proofs.Common.{ap, sym, ◌∙◌}
 use Rattle.dq_lits.specs.Row.{bit_of}
-use Rattle.aig_graph.proofs.Reading.{sides_marked, sides_unmarked}
-use Rattle.aig_graph.proofs.Coning.{handed_on, not_handed_on}
+use Rattle.aig_graph.proofs.NodeReads.{sides_marked, sides_unmarked}
+use Rattle.aig_graph.proofs.ConeMarks.{handed_on, not_handed_on}
 use Rattle.aig_graph.proofs.graphs.Graph.mark_sides.Goals as goal
 
 pub returns-then-get-clause-reached : goal.returns-then-get-clause-reached

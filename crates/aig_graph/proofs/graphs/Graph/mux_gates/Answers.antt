@@ -1,5 +1,5 @@
-use Rattle.aig_graph.proofs.Making.{IsNegation, if_chosen}
-use Rattle.aig_graph.proofs.Staying.{more_more}
+use Rattle.aig_graph.proofs.MadeNodes.{IsNegation, if_chosen}
+use Rattle.aig_graph.proofs.LargerGraphs.{more_more}
 use Rattle.aig_graph.proofs.graphs.Graph.mux_gates.Goals as goal
 
 pub and-requires-2-clause-a : goal.and-requires-2-clause-a

@@ -1,4 +1,4 @@
-use Rattle.aig_graph.proofs.Making.{IsNegation, or_made}
+use Rattle.aig_graph.proofs.MadeNodes.{IsNegation, or_made}
 use Rattle.aig_graph.proofs.graphs.Graph.or.Goals as goal
 
 pub and-requires-clause-a : goal.and-requires-clause-a

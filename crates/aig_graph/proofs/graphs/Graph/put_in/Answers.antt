@@ -1,8 +1,8 @@
 use Rattle.std.proofs.Common.{◌≡◌, ℕ, List, ◌+◌, ◌-◌, ◌<◌, ◌≤◌, length, get_or, slice_get, Some, sym, ◌∙◌, ap, subst, arith}
 use Rattle.std.proofs.lemmas.Option.{slice_get-get_or}
-use Rattle.aig_graph.proofs.Filling.{ArePutInFrom, sides_ready, put_in_more, node_ready}
-use Rattle.aig_graph.proofs.PuttingIn.{put_from}
-use Rattle.aig_graph.proofs.Staying.{extends, more_more}
+use Rattle.aig_graph.proofs.MadeGates.{ArePutInFrom, sides_ready, put_in_more, node_ready}
+use Rattle.aig_graph.proofs.PutInNodes.{put_from}
+use Rattle.aig_graph.proofs.LargerGraphs.{extends, more_more}
 use Rattle.aig_graph.proofs.graphs.Graph.put_in.Goals as goal
 
 there : (gates : List ℕ) (at g : ℕ) → 0 < at → at ≤ length gates → g ≡ get_or gates (at - 1) g → slice_get gates (at - 1) ≡ Some g

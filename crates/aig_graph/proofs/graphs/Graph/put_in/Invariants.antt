@@ -1,4 +1,4 @@
-use Rattle.aig_graph.proofs.Filling.{ArePutInFrom}
+use Rattle.aig_graph.proofs.MadeGates.{ArePutInFrom}
 use Rattle.aig_graph.proofs.graphs.Graph.put_in.Given as goal
 
 abbrev pub invariant-loop-at : goal.invariant-loop-at

@@ -1,7 +1,7 @@
 use Rattle.std.proofs.Common.{ap}
 use Rattle.aig_graph.specs.Putting.{gate_of}
-use Rattle.aig_graph.proofs.Filling.{found_made, none_found}
-use Rattle.aig_graph.proofs.PuttingIn.{input_put, gate_side_put}
+use Rattle.aig_graph.proofs.MadeGates.{found_made, none_found}
+use Rattle.aig_graph.proofs.PutInNodes.{input_put, gate_side_put}
 use Rattle.aig_graph.proofs.graphs.Graph.side_put_in.Goals as goal
 
 pub unreachable-requires : goal.unreachable-requires

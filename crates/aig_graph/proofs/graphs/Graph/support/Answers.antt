@@ -1,5 +1,5 @@
 use Rattle.std.proofs.Common.{◌≡◌, ◌+◌, ◌-◌, sym, ◌∙◌, subst, arith}
-use Rattle.aig_graph.proofs.Reading.{AreMarks, first_marks, marks_go_on}
+use Rattle.aig_graph.proofs.NodeReads.{AreMarks, first_marks, marks_go_on}
 use Rattle.aig_graph.proofs.graphs.Graph.support.Goals as goal
 
 pub loop-at-init : goal.loop-at-init

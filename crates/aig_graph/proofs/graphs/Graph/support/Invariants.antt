@@ -1,4 +1,4 @@
-use Rattle.aig_graph.proofs.Reading.{AreMarks}
+use Rattle.aig_graph.proofs.NodeReads.{AreMarks}
 use Rattle.aig_graph.proofs.graphs.Graph.support.Given as goal
 
 abbrev pub invariant-loop-at : goal.invariant-loop-at

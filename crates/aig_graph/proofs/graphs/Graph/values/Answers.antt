@@ -2,8 +2,8 @@ use Rattle.std.proofs.Common.{◌∙◌, ◌<◌, false, length, set, get_or, sy
 use Rattle.aig_graph.specs.declared.nodes.Node.TheVariants.{Constant}
 use Rattle.dq_lits.specs.Row.{bit_of}
 use Rattle.aig_graph.specs.Graph.{node_value}
-use Rattle.aig_graph.proofs.Valuing.{node_has_value}
-use Rattle.aig_graph.proofs.Writing.{written_more}
+use Rattle.aig_graph.proofs.BufferedValues.{node_has_value}
+use Rattle.aig_graph.proofs.WrittenBits.{written_more}
 use Rattle.aig_graph.proofs.graphs.Graph.values.Goals as goal
 
 pub loop-place-preserved : goal.loop-place-preserved

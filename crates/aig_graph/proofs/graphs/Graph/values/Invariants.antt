@@ -1,7 +1,7 @@
 use Rattle.std.proofs.Common.{◌≡◌}
 use Rattle.dq_lits.specs.Row.{bit_of}
 use Rattle.aig_graph.specs.Graph.{node_value}
-use Rattle.aig_graph.proofs.Writing.{written}
+use Rattle.aig_graph.proofs.WrittenBits.{written}
 use Rattle.aig_graph.proofs.graphs.Graph.values.Given as goal
 
 abbrev pub invariant-loop-place : goal.invariant-loop-place

@@ -1,5 +1,5 @@
 use Rattle.std.proofs.Common.{◌≡◌, ◌+◌, ◌&&◌, ap, sym, ◌∙◌, subst, arith, set}
-use Rattle.aig_graph.proofs.Valuing.{AreValues, values_more}
+use Rattle.aig_graph.proofs.BufferedValues.{AreValues, values_more}
 use Rattle.aig_graph.proofs.graphs.Graph.write_values.Goals as goal
 
 pub loop-g-preserved : goal.loop-g-preserved

@@ -1,4 +1,4 @@
-use Rattle.aig_graph.proofs.Valuing.{AreValues}
+use Rattle.aig_graph.proofs.BufferedValues.{AreValues}
 use Rattle.aig_graph.proofs.graphs.Graph.write_values.Given as goal
 
 abbrev pub invariant-loop-g : goal.invariant-loop-g

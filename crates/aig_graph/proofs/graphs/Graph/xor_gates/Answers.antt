@@ -1,5 +1,5 @@
-use Rattle.aig_graph.proofs.Making.{IsNegation, if_xor}
-use Rattle.aig_graph.proofs.Staying.{more_more}
+use Rattle.aig_graph.proofs.MadeNodes.{IsNegation, if_xor}
+use Rattle.aig_graph.proofs.LargerGraphs.{more_more}
 use Rattle.aig_graph.proofs.graphs.Graph.xor_gates.Goals as goal
 
 pub and-requires-clause-b : goal.and-requires-clause-b

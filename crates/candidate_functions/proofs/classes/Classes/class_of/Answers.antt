@@ -1,7 +1,7 @@
 use Rattle.std.proofs.Common.{sym, ◌∙◌, subst, All}
 use Rattle.candidate_functions.specs.Pairs.{IsClass, HasClass, HasClassLike}
 use Rattle.candidate_functions.specs.declared.classes.Class.{Class}
-use Rattle.candidate_functions.proofs.Classing.{class_like, class_added, last_at}
+use Rattle.candidate_functions.proofs.DependencyClasses.{class_like, class_added, last_at}
 use Rattle.candidate_functions.proofs.classes.Classes.class_of.Goals as goal
 
 pub returns-then-is_class_of-clause-place : goal.returns-then-is_class_of-clause-place

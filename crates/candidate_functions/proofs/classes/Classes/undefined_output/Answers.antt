@@ -2,8 +2,8 @@ use Rattle.std.proofs.Common.{sym, subst, Contains, All}
 use Rattle.std.proofs.lemmas.Result.{IfOk-weaker}
 use Rattle.expansion.specs.Table.{point_bits}
 use Rattle.candidate_functions.specs.Pairs.{IsClass, IsPatched, IsCandidate}
-use Rattle.candidate_functions.proofs.Growing.{extends-trans, classes_stay}
-use Rattle.candidate_functions.proofs.Outputting.{undefined_is_candidate, pairs_there, on_ok}
+use Rattle.candidate_functions.proofs.LargerGraphs.{extends-trans, classes_stay}
+use Rattle.candidate_functions.proofs.UndefinedOutputs.{undefined_is_candidate, pairs_there, on_ok}
 use Rattle.definition_order.proofs.Declared.{is_variable}
 use Rattle.candidate_functions.proofs.classes.Classes.undefined_output.Goals as goal
 

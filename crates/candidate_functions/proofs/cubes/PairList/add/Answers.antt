@@ -1,6 +1,6 @@
 use Rattle.std.proofs.Common.{◌-◌, length, sym, subst, refl}
 use Rattle.candidate_functions.specs.Pairs.{HasPlaces, AreRounds, ArePairs}
-use Rattle.candidate_functions.proofs.Cubing.{row_has, rounds_within, pushed_round}
+use Rattle.candidate_functions.proofs.RowCubes.{row_has, rounds_within, pushed_round}
 use Rattle.candidate_functions.proofs.cubes.PairList.add.Goals as goal
 
 pub key-requires : goal.key-requires

@@ -1,4 +1,4 @@
-use Rattle.cdcl_core.proofs.Beginning.{start_alike, start_behind}
+use Rattle.cdcl_core.proofs.EqualHeads.{start_alike, start_behind}
 use Rattle.cdcl_core.proofs.arenas.Arena.next_start.Goals as goal
 
 pub returns-then-begin_alike : goal.returns-then-begin_alike

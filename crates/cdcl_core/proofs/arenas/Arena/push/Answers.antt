@@ -3,8 +3,8 @@ use Rattle.dq_lits.specs.Literal.{Literal}
 use Rattle.cdcl_core.specs.Pieces.{AreEnds, pieces}
 use Rattle.cdcl_core.specs.ArenaInside.{Arranged}
 use Rattle.cdcl_core.specs.Runs.{IsNextStart, AreStarts}
-use Rattle.cdcl_core.proofs.Beginning.{starts_more}
-use Rattle.cdcl_core.proofs.Storing.{pieces-length, pieces_more, ends_more}
+use Rattle.cdcl_core.proofs.EqualHeads.{starts_more}
+use Rattle.cdcl_core.proofs.ClausePieces.{pieces-length, pieces_more, ends_more}
 use Rattle.cdcl_core.proofs.arenas.Arena.push.Goals as goal
 
 pub invariant_of-self : goal.invariant_of-self

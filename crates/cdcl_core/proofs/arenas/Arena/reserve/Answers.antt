@@ -1,5 +1,5 @@
 use Rattle.std.proofs.Common.{refl, ap, arith, length}
-use Rattle.cdcl_core.proofs.Beginning.{arranged_same}
+use Rattle.cdcl_core.proofs.EqualHeads.{arranged_same}
 use Rattle.cdcl_core.proofs.arenas.Arena.reserve.Goals as goal
 
 pub invariant_of-self : goal.invariant_of-self

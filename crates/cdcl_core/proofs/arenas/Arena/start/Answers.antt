@@ -1,9 +1,9 @@
 use Rattle.std.proofs.Common.{◌≤◌, ◌≡◌, ◌-◌, length, get_or, ap, subst, refl, arith}
 use Rattle.cdcl_core.specs.ArenaInside.{Arranged}
 use Rattle.cdcl_core.specs.Runs.{BeginAlike}
-use Rattle.cdcl_core.proofs.Beginning.{start_at}
-use Rattle.cdcl_core.proofs.Linking.{read_zero}
-use Rattle.cdcl_core.proofs.Storing.{pieces-length}
+use Rattle.cdcl_core.proofs.EqualHeads.{start_at}
+use Rattle.cdcl_core.proofs.LinkedLists.{read_zero}
+use Rattle.cdcl_core.proofs.ClausePieces.{pieces-length}
 use Rattle.cdcl_core.proofs.arenas.Arena.start.Goals as goal
 
 pub index-requires : goal.index-requires

@@ -2,7 +2,7 @@ use Rattle.std.proofs.Common.{◌≡◌, ◌||◌, true, false, sym, ◌∙◌, 
 use Rattle.std.specs.List.{list_any}
 use Rattle.dq_lits.specs.Literal.{same_literal}
 use Rattle.dq_lits.specs.Derivation.{holds}
-use Rattle.cdcl_core.proofs.Assuming.{among_assumed}
+use Rattle.cdcl_core.proofs.TrueAssumptions.{among_assumed}
 use Rattle.cdcl_core.proofs.assumptions.Assumptions.has.Goals as goal
 
 pub returns-then-is_selector_of : goal.returns-then-is_selector_of

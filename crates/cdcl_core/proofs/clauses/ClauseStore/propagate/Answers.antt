@@ -7,8 +7,8 @@ use Rattle.cdcl_core.specs.Sound.{IsSound}
 use Rattle.cdcl_core.specs.Passes.{AreWithin, IsPropagated}
 use Rattle.cdcl_core.specs.Watching.{AreWatched, IsGuarded}
 use Rattle.cdcl_core.specs.Storage.{Stored}
-use Rattle.cdcl_core.proofs.Analysing.{sound_consistent}
-use Rattle.cdcl_core.proofs.Guarding.{guarded_closed}
+use Rattle.cdcl_core.proofs.ConflictAnalysis.{sound_consistent}
+use Rattle.cdcl_core.proofs.GuardedClauses.{guarded_closed}
 use Rattle.cdcl_core.proofs.clauses.ClauseStore.propagate.Goals as goal
 
 pub propagate-requires-clause-visitable : goal.propagate-requires-clause-visitable

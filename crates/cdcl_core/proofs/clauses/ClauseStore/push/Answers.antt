@@ -1,4 +1,4 @@
-use Rattle.cdcl_core.proofs.Stocking.{listed_one}
+use Rattle.cdcl_core.proofs.AddedClauses.{listed_one}
 use Rattle.cdcl_core.proofs.clauses.ClauseStore.push.Goals as goal
 
 pub push_watched-requires-clause-first_list : goal.push_watched-requires-clause-first_list

@@ -1,7 +1,7 @@
 use Rattle.std.proofs.Common.{◌≡◌, ◌+◌, ◌≤◌, ◌∷◌, ◌++◌, [], length, sym, ap, arith, subst, length-append, All}
 use Rattle.cdcl_core.specs.Chains.{place_of}
 use Rattle.cdcl_core.specs.Storage.{Stored, HasLists}
-use Rattle.cdcl_core.proofs.Stocking.{watched_more, listed_clause, short_more, list_of}
+use Rattle.cdcl_core.proofs.AddedClauses.{watched_more, listed_clause, short_more, list_of}
 use Rattle.cdcl_core.proofs.clauses.ClauseStore.push_watched.Goals as goal
 
 pub invariant_of-self : goal.invariant_of-self

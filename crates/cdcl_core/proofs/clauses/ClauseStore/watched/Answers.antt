@@ -3,7 +3,7 @@ use Rattle.oracle.specs.Fit.{live_in}
 use Rattle.cdcl_core.specs.Chains.{watch_at}
 use Rattle.cdcl_core.specs.Watching.{IsWatched}
 use Rattle.cdcl_core.specs.Storage.{Stored}
-use Rattle.cdcl_core.proofs.Visiting.{at_id, read_watch}
+use Rattle.cdcl_core.proofs.VisitedClauses.{at_id, read_watch}
 use Rattle.cdcl_core.proofs.clauses.ClauseStore.watched.Goals as goal
 
 pub returns : goal.returns

@@ -2,8 +2,8 @@ use Rattle.std.proofs.Common.{◌≤◌, ◌<◌, length, reverse, sym, arith, s
 use Rattle.dq_lits.specs.Literal.{variable_of}
 use Rattle.cdcl_core.specs.declared.trails.Step.{Step}
 use Rattle.cdcl_core.specs.Steps.{Trailed, IsAt}
-use Rattle.cdcl_core.proofs.Assigning.{at_place}
-use Rattle.cdcl_core.proofs.Backing.{all_reverse}
+use Rattle.cdcl_core.proofs.AssignedLiterals.{at_place}
+use Rattle.cdcl_core.proofs.BacktrackSteps.{all_reverse}
 use Rattle.cdcl_core.proofs.trails.Trail.literal_at.Goals as goal
 
 pub returns-then-at-len-clause-at : goal.returns-then-at-len-clause-at

@@ -3,7 +3,7 @@ use Rattle.dq_lits.specs.Literal.{Literal}
 use Rattle.cdcl_scan.specs.Runs.{AreRuns}
 use Rattle.cdcl_scan.specs.Pieces.{AreEnds, pieces}
 use Rattle.cdcl_scan.specs.Storage.{Stored}
-use Rattle.cdcl_scan.proofs.Storing.{pieces_more, ends_more, pieces-length}
+use Rattle.cdcl_scan.proofs.ClausePieces.{pieces_more, ends_more, pieces-length}
 use Rattle.cdcl_scan.proofs.clauses.ClauseStore.push.Goals as goal
 
 pub invariant_of-self : goal.invariant_of-self

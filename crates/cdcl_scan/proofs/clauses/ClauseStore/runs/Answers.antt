@@ -3,7 +3,7 @@ use Rattle.cdcl_scan.specs.declared.clauses.Run.{Run}
 use Rattle.cdcl_scan.specs.Runs.{AreRuns}
 use Rattle.cdcl_scan.specs.Pieces.{pieces}
 use Rattle.cdcl_scan.specs.Storage.{Stored}
-use Rattle.cdcl_scan.proofs.Storing.{pieces-length}
+use Rattle.cdcl_scan.proofs.ClausePieces.{pieces-length}
 use Rattle.cdcl_scan.proofs.clauses.ClauseStore.runs.Goals as goal
 
 pub returns : goal.returns

@@ -7,8 +7,8 @@ use Rattle.oracle.specs.Searched.{Stands}
 use Rattle.oracle.specs.Calls.{IsPlain}
 use Rattle.cdcl_scan.specs.Solver.{Shown}
 use Rattle.cdcl_scan.proofs.Taught.{all_named}
-use Rattle.cdcl_scan.proofs.Valuing.{of_all}
-use Rattle.cdcl_scan.proofs.Fitting.{fit_given, given_stands, given_grouped}
+use Rattle.cdcl_scan.proofs.FoundModels.{of_all}
+use Rattle.cdcl_scan.proofs.FitLogs.{fit_given, given_stands, given_grouped}
 use Rattle.cdcl_scan.proofs.solvers.ScanOracle.add.Goals as goal
 
 pub returns-clause-fit : goal.returns-clause-fit

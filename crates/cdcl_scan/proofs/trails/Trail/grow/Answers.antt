@@ -3,7 +3,7 @@ use Rattle.cdcl_scan.specs.TrailInside.{IsKept}
 use Rattle.cdcl_scan.specs.declared.trails.Step.{Step}
 use Rattle.cdcl_scan.specs.declared.trails.TruthValue.{TruthValue}
 use Rattle.cdcl_scan.specs.declared.trails.TruthValue.TheVariants.{Unassigned}
-use Rattle.cdcl_scan.proofs.Keeping.{kept_grown}
+use Rattle.cdcl_scan.proofs.KeptTrails.{kept_grown}
 use Rattle.cdcl_scan.proofs.trails.Trail.grow.Goals as goal
 
 pub invariant_of-self-2 : goal.invariant_of-self-2

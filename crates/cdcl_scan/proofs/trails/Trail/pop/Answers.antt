@@ -4,7 +4,7 @@ use Rattle.dq_lits.specs.Literal.{variable_of}
 use Rattle.cdcl_scan.specs.TrailInside.{IsKept}
 use Rattle.cdcl_scan.specs.declared.trails.Step.{Step}
 use Rattle.cdcl_scan.specs.declared.trails.TruthValue.TheVariants.{Unassigned}
-use Rattle.cdcl_scan.proofs.Keeping.{kept_popped, newest}
+use Rattle.cdcl_scan.proofs.KeptTrails.{kept_popped, newest}
 use Rattle.cdcl_scan.proofs.trails.Trail.pop.Goals as goal
 
 pub invariant_of-self-2 : goal.invariant_of-self-2

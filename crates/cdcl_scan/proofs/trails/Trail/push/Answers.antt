@@ -8,8 +8,8 @@ use Rattle.cdcl_scan.specs.TrailInside.{IsKept}
 use Rattle.cdcl_scan.specs.declared.trails.Step.{Step}
 use Rattle.cdcl_scan.specs.declared.trails.TruthValue.{TruthValue}
 use Rattle.cdcl_scan.specs.declared.trails.TruthValue.TheVariants.{True, False}
-use Rattle.cdcl_scan.proofs.Assigning.{value_where_true}
-use Rattle.cdcl_scan.proofs.Keeping.{kept_pushed, newest}
+use Rattle.cdcl_scan.proofs.AssignedLiterals.{value_where_true}
+use Rattle.cdcl_scan.proofs.KeptTrails.{kept_pushed, newest}
 use Rattle.cdcl_scan.proofs.trails.Trail.push.Goals as goal
 
 pub unreachable-requires : goal.unreachable-requires

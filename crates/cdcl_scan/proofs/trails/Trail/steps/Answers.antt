@@ -2,7 +2,7 @@ use Rattle.std.proofs.Common.{◌≤◌, length, sym, subst, List, All}
 use Rattle.dq_lits.specs.Literal.{variable_of}
 use Rattle.cdcl_scan.specs.declared.trails.Step.{Step}
 use Rattle.cdcl_scan.specs.Steps.{Trailed}
-use Rattle.cdcl_scan.proofs.Backing.{all_reverse}
+use Rattle.cdcl_scan.proofs.BacktrackSteps.{all_reverse}
 use Rattle.cdcl_scan.proofs.trails.Trail.steps.Goals as goal
 
 pub returns-clause-in_range : goal.returns-clause-in_range

@@ -3,7 +3,7 @@ use Rattle.std.proofs.lemmas.List.{append-nil}
 use Rattle.std.specs.List.{cons_option}
 use Rattle.cert_export.specs.Names.{renaming}
 use Rattle.cert_export.specs.Renaming.{renamed_clause}
-use Rattle.cert_export.proofs.Naming.{literal_more}
+use Rattle.cert_export.proofs.NewNames.{literal_more}
 use Rattle.cert_export.proofs.names.Names.clause.Goals.{in-Some+in_ok-push, in_default}
 use Rattle.cert_export.proofs.names.Names.clause.Goals as goal
 

@@ -4,7 +4,7 @@ use Rattle.std.proofs.lemmas.List.Elements.{Contains-get_or}
 use Rattle.cert_export.specs.Names.{renaming}
 use Rattle.cert_export.specs.Written.{WrittenLines, IsWritten}
 use Rattle.cert_export.specs.Lines.{derived_ids, line_number}
-use Rattle.cert_export.proofs.Writing.{on_ok_more, hints_there, places_before, line_consistent, written_line}
+use Rattle.cert_export.proofs.WrittenLines.{on_ok_more, hints_there, places_before, line_consistent, written_line}
 use Rattle.cert_export.proofs.written.Written.add.Goals as goal
 
 pub add_line-requires-clause-there : goal.add_line-requires-clause-there

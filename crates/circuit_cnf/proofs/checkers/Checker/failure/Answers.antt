@@ -4,7 +4,7 @@ use Rattle.dq_lits.specs.Literal.{variable_of}
 use Rattle.dq_lits.specs.Row.{bit_of}
 use Rattle.aig_graph.specs.Graph.{node_value}
 use Rattle.circuit_cnf.specs.Failing.{HasFalseClause}
-use Rattle.circuit_cnf.proofs.Valuing.{mapped_long, failure_is}
+use Rattle.circuit_cnf.proofs.OutputValues.{mapped_long, failure_is}
 use Rattle.circuit_cnf.proofs.checkers.Checker.failure.Goals as goal
 
 pub returns : goal.returns

@@ -3,8 +3,8 @@ use Rattle.dq_lits.specs.Literal.{variable_of}
 use Rattle.hint_log.specs.Entries.{Named}
 use Rattle.hint_log.specs.declared.names.Name.TheVariants.{Selector}
 use Rattle.log_laws.specs.Engines.{circuits, IsAddedBy, IsNamedBy}
-use Rattle.log_laws.proofs.Growing.{grown_by, grown_then}
-use Rattle.circuit_cnf.proofs.Inputting.{new_checker}
+use Rattle.log_laws.proofs.LargerLogs.{grown_by, grown_then}
+use Rattle.circuit_cnf.proofs.NamedInputs.{new_checker}
 use Rattle.circuit_cnf.proofs.checkers.Checker.new.Goals as goal
 
 pub returns-clause-grew : goal.returns-clause-grew

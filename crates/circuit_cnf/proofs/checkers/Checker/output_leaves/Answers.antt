@@ -3,10 +3,10 @@ use Rattle.std.specs.List.{All}
 use Rattle.dq_lits.specs.Literal.{variable_of}
 use Rattle.aig_graph.specs.Graph.{IsEarlierNode}
 use Rattle.circuit_cnf.specs.Leaves.{leaf_by}
-use Rattle.circuit_cnf.proofs.Answering.{inputs_count}
+use Rattle.circuit_cnf.proofs.TurnAnswers.{inputs_count}
 use Rattle.circuit_cnf.proofs.ConeLiterals.{grew_in_all}
 use Rattle.circuit_cnf.proofs.MarkedInputs.{marked_universals, all_over_universals}
-use Rattle.circuit_cnf.proofs.Outputting.{few_by_gates, cone_checker, cones_are_closed, are_leaves}
+use Rattle.circuit_cnf.proofs.OutputLeaves.{few_by_gates, cone_checker, cones_are_closed, are_leaves}
 use Rattle.circuit_cnf.proofs.checkers.Checker.output_leaves.Goals as goal
 
 pub cone_literals-requires-clause-few : goal.cone_literals-requires-clause-few

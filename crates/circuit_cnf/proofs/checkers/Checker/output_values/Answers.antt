@@ -1,6 +1,6 @@
 use Rattle.std.proofs.Common.{◌∙◌}
 use Rattle.dq_lits.specs.Row.{bit_of}
-use Rattle.circuit_cnf.proofs.Valuing.{values_same}
+use Rattle.circuit_cnf.proofs.OutputValues.{values_same}
 use Rattle.circuit_cnf.proofs.checkers.Checker.output_values.Goals as goal
 
 pub returns : goal.returns

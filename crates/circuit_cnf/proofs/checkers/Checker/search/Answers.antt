@@ -4,11 +4,11 @@ use Rattle.dq_lits.specs.Literal.{positive, variable_of}
 use Rattle.hint_log.specs.Entries.{clause_at}
 use Rattle.oracle.specs.Calls.{IsMade, IsRefutedUnder}
 use Rattle.circuit_cnf.specs.Turning.{IsHeldBy, AreFailing}
-use Rattle.circuit_cnf.proofs.Holding.{held_by}
-use Rattle.circuit_cnf.proofs.Falsifying.{are_failing, switched_on}
+use Rattle.circuit_cnf.proofs.HeldGroups.{held_by}
+use Rattle.circuit_cnf.proofs.FalseClauses.{are_failing, switched_on}
 use Rattle.circuit_cnf.specs.Faults.{leaf_of}
-use Rattle.circuit_cnf.proofs.Searching.{few_without, few_learned, few_answered}
-use Rattle.circuit_cnf.proofs.Turning.{IsGroupMade, AreFaultsSaid, group_one_leaf, faults_checker, faults_grew, faults_made, faults_two_groups, learned_all, answered_all, learned_checker, answered_checker, switch_is}
+use Rattle.circuit_cnf.proofs.TurnGrowth.{few_without, few_learned, few_answered}
+use Rattle.circuit_cnf.proofs.TurnStages.{IsGroupMade, AreFaultsSaid, group_one_leaf, faults_checker, faults_grew, faults_made, faults_two_groups, learned_all, answered_all, learned_checker, answered_checker, switch_is}
 use Rattle.circuit_cnf.proofs.checkers.Checker.search.Goals as goal
 
 pub give-requires-clause-one_leaf : goal.give-requires-clause-one_leaf

@@ -4,10 +4,10 @@ use Rattle.log_laws.specs.Engines.{circuits, IsAddedBy}
 use Rattle.circuit_cnf.specs.Checking.{group_of}
 use Rattle.circuit_cnf.specs.Turning.{AreLeavesOf, is_silent_search}
 use Rattle.circuit_cnf.specs.Shown.{IsShownBy}
-use Rattle.circuit_cnf.proofs.Answering.{inputs_count, inputs_named, leaf_is_one, shown, outputs_hold}
-use Rattle.circuit_cnf.proofs.Leafing.{falsified}
-use Rattle.circuit_cnf.proofs.Outputting.{few_same, few_by_gates}
-use Rattle.circuit_cnf.proofs.Searching.{any_silence, turn_grew}
+use Rattle.circuit_cnf.proofs.TurnAnswers.{inputs_count, inputs_named, leaf_is_one, shown, outputs_hold}
+use Rattle.circuit_cnf.proofs.LeafValues.{falsified}
+use Rattle.circuit_cnf.proofs.OutputLeaves.{few_same, few_by_gates}
+use Rattle.circuit_cnf.proofs.TurnGrowth.{any_silence, turn_grew}
 use Rattle.circuit_cnf.proofs.checkers.Checker.turn.Goals as goal
 
 pub returns-in_err-leaves-clause-few : goal.returns-in_err-leaves-clause-few

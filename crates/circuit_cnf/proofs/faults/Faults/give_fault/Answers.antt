@@ -5,7 +5,7 @@ use Rattle.hint_log.specs.declared.origins.Leaf.TheVariants.{Constant, Literal a
 use Rattle.hint_log.specs.declared.origins.Origin.TheVariants.{Fault}
 use Rattle.hint_log.specs.Entries.{with_entry}
 use Rattle.hint_log.specs.Origins.{leaf_with_sign, leaf_clause}
-use Rattle.circuit_cnf.proofs.Faulting.{IsFaultReady, fault_grown}
+use Rattle.circuit_cnf.proofs.GivenFaults.{IsFaultReady, fault_grown}
 use Rattle.circuit_cnf.proofs.faults.Faults.give_fault.Goals as goal
 
 pub returns-in_ok-add-in-Constant-false-clause-grew : goal.returns-in_ok-add-in-Constant-false-clause-grew

@@ -1,5 +1,5 @@
 use Rattle.circuit_cnf.specs.Saying.{selector_in}
-use Rattle.circuit_cnf.proofs.Badding.{BadsSoFar}
+use Rattle.circuit_cnf.proofs.NamedBads.{BadsSoFar}
 use Rattle.circuit_cnf.proofs.faults.Faults.name_bads.Given as goal
 
 abbrev pub invariant-loop-j : goal.invariant-loop-j

@@ -2,7 +2,7 @@ use Rattle.std.proofs.Common.{◌≡◌, ℕ, Some, None, cond, refl, subst}
 use Rattle.std.specs.BTreeMap.{get}
 use Rattle.std.specs.Ordering.{is_eq}
 use Rattle.circuit_cnf.specs.Gates.{pair_cmp}
-use Rattle.circuit_cnf.proofs.Knowing.{pair_is, known_as_before, finished}
+use Rattle.circuit_cnf.proofs.KnownGates.{pair_is, known_as_before, finished}
 use Rattle.circuit_cnf.proofs.gates.Gates.finish_gate.Goals as goal
 
 pub returns-in_err-insert-clause-known : goal.returns-in_err-insert-clause-known

@@ -1,8 +1,8 @@
 use Rattle.std.proofs.Common.{◌≡◌, Some, ◌∙◌, ap, arith}
 use Rattle.log_laws.proofs.Solved.{sides}
 use Rattle.hint_log.specs.declared.names.Name.TheVariants.{And}
-use Rattle.circuit_cnf.proofs.Knowing.{name_in_range}
-use Rattle.circuit_cnf.proofs.Parting.{part_given}
+use Rattle.circuit_cnf.proofs.KnownGates.{name_in_range}
+use Rattle.circuit_cnf.proofs.GateClauses.{part_given}
 use Rattle.circuit_cnf.proofs.gates.Gates.give_parts.Goals as goal
 
 pub give_part-requires-clause-from_one : goal.give_part-requires-clause-from_one

@@ -1,4 +1,4 @@
-use Rattle.circuit_cnf.proofs.Parting.{PartsSoFar}
+use Rattle.circuit_cnf.proofs.GateClauses.{PartsSoFar}
 use Rattle.circuit_cnf.proofs.gates.Gates.give_parts.Given as goal
 
 abbrev pub invariant-loop-parts : goal.invariant-loop-parts

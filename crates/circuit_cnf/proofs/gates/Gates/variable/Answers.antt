@@ -5,10 +5,10 @@ use Rattle.dq_lits.specs.Literal.{variable_of}
 use Rattle.hint_log.specs.Entries.{Named}
 use Rattle.hint_log.specs.declared.names.Name.TheVariants.{And}
 use Rattle.log_laws.specs.Engines.{circuits, IsAddedBy, IsNamedBy}
-use Rattle.log_laws.proofs.Growing.{grown_by, grown_then}
+use Rattle.log_laws.proofs.LargerLogs.{grown_by, grown_then}
 use Rattle.hint_log.specs.Entries.{ProofLog}
 use Rattle.circuit_cnf.specs.Gates.{literal_code, pair_cmp, AreKnown}
-use Rattle.circuit_cnf.proofs.Knowing.{pair_is, name_in_range, unfinished_gate, named_more}
+use Rattle.circuit_cnf.proofs.KnownGates.{pair_is, name_in_range, unfinished_gate, named_more}
 use Rattle.circuit_cnf.proofs.gates.Gates.variable.Goals as goal
 
 pub returns-in-Some-clause-named : goal.returns-in-Some-clause-named

@@ -1,6 +1,6 @@
 use Rattle.std.proofs.Common.{◌≡◌, ℕ, List, length, get_or, ap, ◌∙◌, arith}
 use Rattle.circuit_plain.specs.Netlist.{Netlist}
-use Rattle.circuit_plain.proofs.SortingLaws.{leaves_more, leaves_draft}
+use Rattle.circuit_plain.proofs.SortSteps.{leaves_more, leaves_draft}
 use Rattle.circuit_plain.proofs.circuits.Circuit.empty_draft.Goals as goal
 
 pub loop-variable-preserved : goal.loop-variable-preserved

@@ -1,7 +1,7 @@
 use Rattle.std.proofs.Common.{◌≡◌, ℕ, true}
 use Rattle.std.specs.Prelude.{◌↔◌}
 use Rattle.number_tables.specs.Numbers.{has_number}
-use Rattle.circuit_plain.proofs.SortingLaws.{IsLeafBefore}
+use Rattle.circuit_plain.proofs.SortSteps.{IsLeafBefore}
 use Rattle.circuit_plain.proofs.circuits.Circuit.empty_draft.Given as goal
 
 abbrev pub invariant-loop-variable : goal.invariant-loop-variable

@@ -3,7 +3,7 @@ use Rattle.number_tables.specs.Numbers.{has_number}
 use Rattle.circuit_plain.specs.Ground.{IsFirstUngrounded}
 use Rattle.circuit_plain.specs.Netlist.{Netlist, gate_at}
 use Rattle.circuit_plain.specs.Order.{IsSettled}
-use Rattle.circuit_plain.proofs.SortingLaws.{not_put, is_put, whole_order, first_outside}
+use Rattle.circuit_plain.proofs.SortSteps.{not_put, is_put, whole_order, first_outside}
 use Rattle.circuit_plain.proofs.circuits.Circuit.first_unsettled.Goals as goal
 
 pub returns-then-not-contains-clause-some : goal.returns-then-not-contains-clause-some

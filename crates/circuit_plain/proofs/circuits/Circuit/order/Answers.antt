@@ -1,6 +1,6 @@
 use Rattle.std.proofs.Common.{◌≡◌, ◌<◌, length, arith}
 use Rattle.std.proofs.lemmas.Bool.{OnTrue_at}
-use Rattle.circuit_plain.proofs.SortingLaws.{length-draft}
+use Rattle.circuit_plain.proofs.SortSteps.{length-draft}
 use Rattle.circuit_plain.proofs.circuits.Circuit.order.Goals as goal
 
 pub loop-walked-smaller : goal.loop-walked-smaller

@@ -1,7 +1,7 @@
 use Rattle.std.proofs.Common.{refl, sym, ap, ◌∙◌}
 use Rattle.number_tables.specs.Numbers.{has_number}
 use Rattle.circuit_plain.specs.Netlist.{Netlist}
-use Rattle.circuit_plain.proofs.SortingLaws.{stuck_gate, put_gate}
+use Rattle.circuit_plain.proofs.SortSteps.{stuck_gate, put_gate}
 use Rattle.circuit_plain.proofs.circuits.Circuit.put.Goals as goal
 
 pub returns-then-not-is_ready-clause-passed : goal.returns-then-not-is_ready-clause-passed

@@ -1,6 +1,6 @@
 use Rattle.std.proofs.lemmas.Bool.{OnTrue_at, OnFalse_at}
 use Rattle.number_tables.specs.Numbers.{has_number}
-use Rattle.circuit_plain.proofs.SortingLaws.{round_grown, round_passed}
+use Rattle.circuit_plain.proofs.SortSteps.{round_grown, round_passed}
 use Rattle.circuit_plain.proofs.circuits.Circuit.put_round.Goals.{then-branch, else-branch}
 use Rattle.circuit_plain.proofs.circuits.Circuit.put_round.Goals as goal
 

@@ -1,5 +1,5 @@
 use Rattle.number_tables.specs.Numbers.{has_number}
-use Rattle.circuit_plain.proofs.SortingLaws.{RoundSoFar}
+use Rattle.circuit_plain.proofs.SortSteps.{RoundSoFar}
 use Rattle.circuit_plain.proofs.circuits.Circuit.put_round.Given as goal
 
 abbrev pub invariant-loop-place : goal.invariant-loop-place

@@ -2,7 +2,7 @@ use Rattle.std.proofs.Common.{◌≡◌, ◌++◌, eqb, map, ap, ◌∙◌}
 use Rattle.indexmap.specs.IndexMap.{insert_all}
 use Rattle.dq_formula.specs.Layout.{unseeing_entry, formula_of}
 use Rattle.dq_formula.specs.Prefix.{free_variables}
-use Rattle.dq_formula.proofs.Unseeing.{insert_all-unseeing, AreNew-free, formula_of-unseeing}
+use Rattle.dq_formula.proofs.FreeExistentials.{insert_all-unseeing, AreNew-free, formula_of-unseeing}
 use Rattle.dq_formula.proofs.formula.Formula.add_free.Goals as goal
 
 pub returns-clause-ok : goal.returns-clause-ok

@@ -1,5 +1,5 @@
 use Rattle.std.proofs.Common.{sym, ◌∙◌}
-use Rattle.dq_text.proofs.Cutting.{run-le, line_cut_parts, not_empty}
+use Rattle.dq_text.proofs.TokenCuts.{run-le, line_cut_parts, not_empty}
 use Rattle.dq_text.proofs.lines.LineTokens.next.Goals as goal
 
 pub split_at-requires : goal.split_at-requires

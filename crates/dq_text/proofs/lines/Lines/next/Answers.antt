@@ -1,6 +1,6 @@
 use Rattle.std.proofs.Common.{sym, ◌∙◌, ap}
 use Rattle.dq_text.specs.Line.{LineCursor, lines_from}
-use Rattle.dq_text.proofs.Cutting.{not_empty}
+use Rattle.dq_text.proofs.TokenCuts.{not_empty}
 use Rattle.dq_text.proofs.FirstLine.{first_of_lines}
 use Rattle.dq_text.proofs.lines.Lines.next.Goals as goal
 

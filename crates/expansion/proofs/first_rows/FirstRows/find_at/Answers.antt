@@ -5,8 +5,8 @@ use Rattle.std.proofs.lemmas.Result.{IfOk-weaker}
 use Rattle.dq_lits.specs.Formula.{existential_of}
 use Rattle.dq_lits.specs.Henkin.{same_bits}
 use Rattle.expansion.specs.FirstRows.{RowIndex, no_order, sees_of, seen_by, IsLeader, IsRowIndex, IsFirstRow}
-use Rattle.expansion.proofs.Arbiting.{found_at}
-use Rattle.expansion.proofs.Leading.{some_by_variable, leader_first, order_at, order_set, first_by_variable}
+use Rattle.expansion.proofs.NamedArbiters.{found_at}
+use Rattle.expansion.proofs.SharedSets.{some_by_variable, leader_first, order_at, order_set, first_by_variable}
 use Rattle.expansion.proofs.first_rows.FirstRows.find_at.Goals as goal
 
 pub returns-then-leader-place-clause-first : goal.returns-then-leader-place-clause-first

@@ -1,4 +1,4 @@
-use Rattle.expansion.proofs.Leading.{empty_index}
+use Rattle.expansion.proofs.SharedSets.{empty_index}
 use Rattle.expansion.proofs.first_rows.FirstRows.new.Goals as goal
 
 pub returns : goal.returns

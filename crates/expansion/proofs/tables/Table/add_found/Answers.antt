@@ -1,9 +1,9 @@
 use Rattle.std.proofs.Common.{◌≡◌, ◌++◌, ◌∷◌, [], true, ◌∙◌, ap, subst}
 use Rattle.log_laws.specs.Engines.{instances, IsAddedBy}
-use Rattle.log_laws.proofs.Growing.{grown_then}
+use Rattle.log_laws.proofs.LargerLogs.{grown_then}
 use Rattle.expansion.specs.Table.{IsFullTable}
 use Rattle.expansion.specs.Adding.{AreNewArbiters}
-use Rattle.expansion.proofs.AddingRows.{begin, finish_as, on_both}
+use Rattle.expansion.proofs.AddedRows.{begin, finish_as, on_both}
 use Rattle.expansion.proofs.tables.Table.add_found.Goals as goal
 
 pub row_pairs-requires-clause-adding : goal.row_pairs-requires-clause-adding

@@ -1,4 +1,4 @@
-use Rattle.expansion.proofs.AddingRows.{looked}
+use Rattle.expansion.proofs.AddedRows.{looked}
 use Rattle.expansion.proofs.tables.Table.add_row.Goals as goal
 
 pub add_found-requires-clause-table : goal.add_found-requires-clause-table

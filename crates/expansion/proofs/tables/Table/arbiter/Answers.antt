@@ -4,7 +4,7 @@ use Rattle.hint_log.specs.Entries.{Named, with_entry, name_of}
 use Rattle.hint_log.specs.declared.names.Name.TheVariants.{Pair}
 use Rattle.expansion.specs.Table.{TableState}
 use Rattle.expansion.specs.Adding.{IsNamedNext}
-use Rattle.expansion.proofs.Arbiting.{old_pairs_many, no_pair_yet, found_next, named_next, found_at, both_ok}
+use Rattle.expansion.proofs.NamedArbiters.{old_pairs_many, no_pair_yet, found_next, named_next, found_at, both_ok}
 use Rattle.expansion.proofs.tables.Table.arbiter.Goals as goal
 
 pub bounds-get-place : goal.bounds-get-place

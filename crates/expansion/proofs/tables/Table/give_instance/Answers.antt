@@ -8,7 +8,7 @@ use Rattle.log_laws.specs.Engines.{instances, part}
 use Rattle.oracle.specs.Calls.{IsPlain}
 use Rattle.expansion.specs.Table.{TableState}
 use Rattle.expansion.specs.Adding.{with_row}
-use Rattle.expansion.proofs.GivingInstances.{arbiters_in_range, pairs_plain, passed_next, given_next}
+use Rattle.expansion.proofs.GivenInstances.{arbiters_in_range, pairs_plain, passed_next, given_next}
 use Rattle.expansion.proofs.tables.Table.give_instance.Goals as goal
 
 pub returns-then-has_true_universal-clause-given : goal.returns-then-has_true_universal-clause-given

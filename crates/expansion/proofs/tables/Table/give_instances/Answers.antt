@@ -1,5 +1,5 @@
 use Rattle.std.proofs.Common.{◌<◌, length, subst, arith}
-use Rattle.expansion.proofs.GivingInstances.{given_so_far}
+use Rattle.expansion.proofs.GivenInstances.{given_so_far}
 use Rattle.expansion.proofs.tables.Table.give_instances.Goals as goal
 
 pub loop-j-preserved : goal.loop-j-preserved

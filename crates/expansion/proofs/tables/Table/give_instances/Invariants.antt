@@ -1,5 +1,5 @@
 use Rattle.std.proofs.Common.{◌≤◌, length}
-use Rattle.expansion.proofs.GivingInstances.{AreGivenSoFar}
+use Rattle.expansion.proofs.GivenInstances.{AreGivenSoFar}
 use Rattle.expansion.proofs.tables.Table.give_instances.Given as goal
 
 abbrev pub invariant-loop-j : goal.invariant-loop-j

@@ -1,7 +1,7 @@
 use Rattle.std.proofs.Common.{◌∙◌}
 use Rattle.dq_lits.specs.Literal.{variable_of}
 use Rattle.log_laws.specs.Engines.{instances}
-use Rattle.expansion.proofs.Beginning.{group_grew, no_rows}
+use Rattle.expansion.proofs.EmptyTables.{group_grew, no_rows}
 use Rattle.expansion.proofs.tables.Table.new.Goals as goal
 
 pub returns-clause-grew : goal.returns-clause-grew

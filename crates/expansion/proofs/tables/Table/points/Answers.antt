@@ -1,6 +1,6 @@
 use Rattle.std.proofs.Common.{◌≡◌, ◌∙◌, ◌<◌, ◌≤◌, map, ap, subst, length, get_or, []}
 use Rattle.expansion.specs.Table.{TableState}
-use Rattle.expansion.proofs.Writing.{lists_more, lists_all}
+use Rattle.expansion.proofs.WrittenBits.{lists_more, lists_all}
 use Rattle.expansion.proofs.tables.Table.points.Goals as goal
 
 pub loop-place-preserved : goal.loop-place-preserved

@@ -2,7 +2,7 @@ use Rattle.std.proofs.Common.{◌≡◌, ◌+◌, ◌<◌, length, sym, ◌∙�
 use Rattle.std.proofs.lemmas.List.{length-map}
 use Rattle.log_laws.proofs.Found.{variable}
 use Rattle.expansion.specs.Adding.{IsAdding}
-use Rattle.expansion.proofs.Arbiting.{ArePairsSoFar, pair_more}
+use Rattle.expansion.proofs.NamedArbiters.{ArePairsSoFar, pair_more}
 use Rattle.expansion.proofs.tables.Table.row_pairs.Goals as goal
 
 pub returns-in_err-push-clause-grew : goal.returns-in_err-push-clause-grew

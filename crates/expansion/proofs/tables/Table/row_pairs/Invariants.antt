@@ -1,5 +1,5 @@
 use Rattle.std.proofs.Common.{◌≤◌, length}
-use Rattle.expansion.proofs.Arbiting.{ArePairsSoFar}
+use Rattle.expansion.proofs.NamedArbiters.{ArePairsSoFar}
 use Rattle.expansion.proofs.tables.Table.row_pairs.Given as goal
 
 abbrev pub invariant-loop-place : goal.invariant-loop-place

@@ -6,8 +6,8 @@ use Rattle.oracle.specs.Calls.{IsRefutedUnder}
 use Rattle.log_laws.specs.Engines.{instances}
 use Rattle.expansion.specs.Table.{TableState, PointState, IsRefutedBy, ArePoints, point_bits}
 use Rattle.expansion.specs.Silence.{is_silent}
-use Rattle.expansion.proofs.Refuting.{searched_grew, refuted_grew, table_searched, full_searched, full_answered, table_refuted}
-use Rattle.expansion.proofs.Pointing.{are_points, existentials_once}
+use Rattle.expansion.proofs.TableAnswers.{searched_grew, refuted_grew, table_searched, full_searched, full_answered, table_refuted}
+use Rattle.expansion.proofs.FoundPoints.{are_points, existentials_once}
 use Rattle.expansion.proofs.Told.{table_told, switch_is, switched_on}
 use Rattle.expansion.proofs.tables.Table.solve.Goals as goal
 

@@ -1,7 +1,7 @@
 use Rattle.std.proofs.Common.{◌+◌, ap, ◌∙◌, ◌++◌, [], ◌∷◌, refl, arith}
 use Rattle.hint_log.specs.Kept.{entry_by, log_entries}
 use Rattle.hint_log.specs.declared.kinds.EntryKind.TheVariants.{Clause}
-use Rattle.hint_log.proofs.Keeping.{one_clause_more, more_log, ids_counted}
+use Rattle.hint_log.proofs.KeptEntries.{one_clause_more, more_log, ids_counted}
 use Rattle.hint_log.proofs.logs.Log.append.Goals as goal
 
 pub invariant_of-self-2 : goal.invariant_of-self-2

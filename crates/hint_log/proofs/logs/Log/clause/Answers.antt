@@ -1,5 +1,5 @@
 use Rattle.std.proofs.Common.{Some, ap, sym, ◌∙◌}
-use Rattle.hint_log.proofs.Keeping.{at_id, clause_found}
+use Rattle.hint_log.proofs.KeptEntries.{at_id, clause_found}
 use Rattle.hint_log.proofs.logs.Log.clause.Goals as goal
 
 pub get-requires : goal.get-requires

@@ -1,5 +1,5 @@
 use Rattle.std.proofs.Common.{arith}
-use Rattle.hint_log.proofs.Keeping.{at_id, hints_found, hints_earlier}
+use Rattle.hint_log.proofs.KeptEntries.{at_id, hints_found, hints_earlier}
 use Rattle.hint_log.proofs.logs.Log.hints.Goals as goal
 
 pub index-requires : goal.index-requires

@@ -1,5 +1,5 @@
 use Rattle.std.proofs.Common.{arith}
-use Rattle.hint_log.proofs.Keeping.{ids_counted}
+use Rattle.hint_log.proofs.KeptEntries.{ids_counted}
 use Rattle.hint_log.proofs.logs.Log.last_id.Goals as goal
 
 pub returns-clause-value : goal.returns-clause-value

@@ -1,6 +1,6 @@
 use Rattle.std.proofs.Common.{sym, ◌∙◌}
-use Rattle.hint_log.proofs.Naming.{no_name}
-use Rattle.hint_log.proofs.Keeping.{names_found}
+use Rattle.hint_log.proofs.KeptNames.{no_name}
+use Rattle.hint_log.proofs.KeptEntries.{names_found}
 use Rattle.hint_log.proofs.logs.Log.name.Goals as goal
 
 pub unreachable-requires : goal.unreachable-requires

@@ -1,7 +1,7 @@
 use Rattle.std.proofs.Common.{ap, sym, ◌∙◌, slice_get}
 use Rattle.hint_log.specs.Entries.{names_of}
-use Rattle.hint_log.proofs.Naming.{no_gap}
-use Rattle.hint_log.proofs.Keeping.{names_kept}
+use Rattle.hint_log.proofs.KeptNames.{no_gap}
+use Rattle.hint_log.proofs.KeptEntries.{names_kept}
 use Rattle.hint_log.proofs.logs.Log.name_at.Goals as goal
 
 pub unreachable-requires : goal.unreachable-requires

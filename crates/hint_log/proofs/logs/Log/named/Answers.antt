@@ -1,7 +1,7 @@
 use Rattle.std.proofs.Common.{ap, ◌∙◌, ◌++◌, [], ◌∷◌}
 use Rattle.hint_log.specs.Entries.{Named}
 use Rattle.hint_log.specs.declared.kinds.EntryKind.TheVariants.{Naming}
-use Rattle.hint_log.proofs.Keeping.{one_name_more, more_log}
+use Rattle.hint_log.proofs.KeptEntries.{one_name_more, more_log}
 use Rattle.hint_log.proofs.logs.Log.named.Goals as goal
 
 pub invariant_of-self-2 : goal.invariant_of-self-2

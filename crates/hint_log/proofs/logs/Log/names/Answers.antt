@@ -1,5 +1,5 @@
 use Rattle.std.proofs.Common.{length, ap, arith}
-use Rattle.hint_log.proofs.Keeping.{names_kept}
+use Rattle.hint_log.proofs.KeptEntries.{names_kept}
 use Rattle.hint_log.proofs.logs.Log.names.Goals as goal
 
 pub returns : goal.returns

@@ -1,5 +1,5 @@
 use Rattle.std.proofs.Common.{arith}
-use Rattle.hint_log.proofs.Keeping.{at_id, origin_found, origin_numbers}
+use Rattle.hint_log.proofs.KeptEntries.{at_id, origin_found, origin_numbers}
 use Rattle.hint_log.proofs.logs.Log.origin.Goals as goal
 
 pub index-requires : goal.index-requires

@@ -1,7 +1,7 @@
 use Rattle.std.proofs.Common.{reverse, ap, sym, ◌∙◌, subst}
-use Rattle.hint_log.proofs.Keeping.{newest}
+use Rattle.hint_log.proofs.KeptEntries.{newest}
 use Rattle.hint_log.proofs.Lawful.{reached_are_ids_lem}
-use Rattle.hint_log.proofs.Reaching.{AreReachedSoFar, first_pending, one_more_reached, all_reached}
+use Rattle.hint_log.proofs.ReachedIds.{AreReachedSoFar, first_pending, one_more_reached, all_reached}
 use Rattle.hint_log.proofs.logs.Log.reached.Goals as goal
 
 pub loop-at-init : goal.loop-at-init

@@ -1,5 +1,5 @@
 use Rattle.std.proofs.Common.{◌+◌, get_or, reverse}
-use Rattle.hint_log.proofs.Reaching.{AreReachedSoFar}
+use Rattle.hint_log.proofs.ReachedIds.{AreReachedSoFar}
 use Rattle.hint_log.proofs.logs.Log.reached.Given as goal
 
 abbrev pub invariant-loop-at : goal.invariant-loop-at

@@ -1,5 +1,5 @@
 use Rattle.std.proofs.Common.{arith}
-use Rattle.hint_log.proofs.Keeping.{rounds_counted}
+use Rattle.hint_log.proofs.KeptEntries.{rounds_counted}
 use Rattle.hint_log.proofs.logs.Log.rounds.Goals as goal
 
 pub returns : goal.returns

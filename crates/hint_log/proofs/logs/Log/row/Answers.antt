@@ -1,7 +1,7 @@
 use Rattle.std.proofs.Common.{ap, arith}
 use Rattle.std.specs.Option.{option_and_then}
 use Rattle.hint_log.specs.Entries.{row_of}
-use Rattle.hint_log.proofs.Keeping.{at_round, rounds_counted}
+use Rattle.hint_log.proofs.KeptEntries.{at_round, rounds_counted}
 use Rattle.hint_log.proofs.logs.Log.row.Goals as goal
 
 pub index-requires : goal.index-requires

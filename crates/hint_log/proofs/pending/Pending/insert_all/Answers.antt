@@ -1,6 +1,6 @@
 use Rattle.std.proofs.Common.{take, get_or, sym, subst}
 use Rattle.std.proofs.lemmas.List.{take_all, take_more}
-use Rattle.hint_log.proofs.Reaching.{IsWith, with_none, with_one_more}
+use Rattle.hint_log.proofs.ReachedIds.{IsWith, with_none, with_one_more}
 use Rattle.hint_log.proofs.pending.Pending.insert_all.Goals as goal
 
 pub loop-id-init : goal.loop-id-init

@@ -1,5 +1,5 @@
 use Rattle.std.proofs.Common.{take}
-use Rattle.hint_log.proofs.Reaching.{IsWith}
+use Rattle.hint_log.proofs.ReachedIds.{IsWith}
 use Rattle.hint_log.proofs.pending.Pending.insert_all.Given as goal
 
 abbrev pub invariant-loop-id : goal.invariant-loop-id

@@ -1,6 +1,6 @@
 use Rattle.std.proofs.Common.{rules, length, ◌≡◌, ◌==◌, ◌++◌, ◌∷◌, [], ap, sym, ◌∙◌, Some, if◌then◌else◌}
 use Rattle.number_tables.specs.Numbers.{has_number, place_of}
-use Rattle.number_tables.proofs.Placing.{unplaced, placed_last}
+use Rattle.number_tables.proofs.NumberPlaces.{unplaced, placed_last}
 use Rattle.number_tables.proofs.sets.NumberSet.insert.Goals as goal
 
 pub put-requires : goal.put-requires

@@ -1,6 +1,6 @@
 use Rattle.std.proofs.Common.{ap, ◌∙◌, is_some}
 use Rattle.number_tables.specs.Numbers.{place_of}
-use Rattle.number_tables.proofs.Placing.{placed}
+use Rattle.number_tables.proofs.NumberPlaces.{placed}
 use Rattle.number_tables.proofs.sets.NumberSet.place.Goals as goal
 
 pub returns-clause-found : goal.returns-clause-found

@@ -1,5 +1,5 @@
 use Rattle.std.proofs.Common.{◌∙◌}
-use Rattle.number_tables.proofs.Placing.{with_new}
+use Rattle.number_tables.proofs.NumberPlaces.{with_new}
 use Rattle.number_tables.proofs.sets.NumberSet.push.Goals as goal
 
 pub returns-clause-ok : goal.returns-clause-ok

@@ -8,7 +8,7 @@ use Rattle.hint_log.specs.Naming.{AreNamedAs}
 use Rattle.hint_log.specs.declared.origins.Origin.TheVariants.{Copy}
 use Rattle.oracle.specs.Calls.{IsPlain}
 use Rattle.padoa_definitions.specs.Copies.{copy_names}
-use Rattle.padoa_definitions.proofs.Growing.{copies_plain, switch_off}
+use Rattle.padoa_definitions.proofs.GivenClauses.{copies_plain, switch_off}
 use Rattle.padoa_definitions.proofs.giving.CopiedMatrix.give_clause.Goals as goal
 
 pub copied_clause-requires-clause-bound : goal.copied_clause-requires-clause-bound

@@ -2,7 +2,7 @@ use Rattle.std.proofs.Common.{◌<◌, [], get_or, sym, ◌∙◌, subst}
 use Rattle.std.proofs.lemmas.Option.{slice_get-get_or}
 use Rattle.padoa_definitions.specs.Copies.{group_variable}
 use Rattle.padoa_definitions.specs.Growing.{AreGivenSoFar}
-use Rattle.padoa_definitions.proofs.Growing.{none_given, given_more}
+use Rattle.padoa_definitions.proofs.GivenClauses.{none_given, given_more}
 use Rattle.padoa_definitions.proofs.giving.CopiedMatrix.give_clauses.Goals as goal
 
 pub loop-j-init : goal.loop-j-init

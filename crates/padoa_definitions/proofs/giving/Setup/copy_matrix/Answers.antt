@@ -3,7 +3,7 @@ use Rattle.std.specs.List.{AllPairs}
 use Rattle.log_laws.proofs.Kept.{named_stay}
 use Rattle.padoa_definitions.specs.Copies.{is_copy_of, group_variable, AreCopiesOf}
 use Rattle.padoa_definitions.specs.Growing.{Adds, AreUncopied, NamesCopies}
-use Rattle.padoa_definitions.proofs.Growing.{existentials_distinct, existentials_fresh, second_adds, second_stay, third_adds, third_ungiven, third_stay, third_unnamed, third_own, third_few, adds_in, matrix_given}
+use Rattle.padoa_definitions.proofs.GivenClauses.{existentials_distinct, existentials_fresh, second_adds, second_stay, third_adds, third_ungiven, third_stay, third_unnamed, third_own, third_few, adds_in, matrix_given}
 use Rattle.padoa_definitions.proofs.giving.Setup.copy_matrix.Goals as goal
 
 pub name_copies-requires-2-clause-distinct : goal.name_copies-requires-2-clause-distinct

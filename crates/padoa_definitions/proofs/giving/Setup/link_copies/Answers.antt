@@ -2,10 +2,10 @@ use Rattle.std.proofs.Common.{subst, arith}
 use Rattle.dq_lits.specs.Formula.{declared}
 use Rattle.padoa_definitions.specs.Copies.{copies_of}
 use Rattle.padoa_definitions.specs.Growing.{is_any_link, AreLinkedSoFar}
-use Rattle.padoa_definitions.proofs.Declaring.{copies_long}
-use Rattle.padoa_definitions.proofs.Keeping.{keeps_anew}
-use Rattle.padoa_definitions.proofs.Growing.{few_anew, adds_then}
-use Rattle.padoa_definitions.proofs.Linking.{none_linked, link_more, copy_there, adds_any, all_linked}
+use Rattle.padoa_definitions.proofs.DeclaredPlaces.{copies_long}
+use Rattle.padoa_definitions.proofs.KeptCopies.{keeps_anew}
+use Rattle.padoa_definitions.proofs.GivenClauses.{few_anew, adds_then}
+use Rattle.padoa_definitions.proofs.GivenEquations.{none_linked, link_more, copy_there, adds_any, all_linked}
 use Rattle.padoa_definitions.proofs.giving.Setup.link_copies.Goals as goal
 
 pub loop-i-init : goal.loop-i-init

@@ -1,6 +1,6 @@
 use Rattle.std.proofs.Common.{◌∷◌, ◌∙◌, ap}
 use Rattle.std.proofs.lemmas.List.{take_all}
-use Rattle.padoa_definitions.proofs.Selecting.{links_at, all_active}
+use Rattle.padoa_definitions.proofs.SelectedPlaces.{links_at, all_active}
 use Rattle.padoa_definitions.proofs.padoa.Padoa.active.Goals as goal
 
 pub returns : goal.returns

@@ -1,5 +1,5 @@
 use Rattle.std.proofs.Common.{◌≡◌, ◌∷◌, take}
-use Rattle.padoa_definitions.proofs.Selecting.{links_at}
+use Rattle.padoa_definitions.proofs.SelectedPlaces.{links_at}
 use Rattle.padoa_definitions.proofs.padoa.Padoa.active.Given as goal
 
 abbrev pub invariant-loop-place : goal.invariant-loop-place

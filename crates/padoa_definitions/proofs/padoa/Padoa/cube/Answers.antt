@@ -3,7 +3,7 @@ use Rattle.std.proofs.lemmas.List.{append-nil}
 use Rattle.dq_lits.specs.Literal.{variable_of}
 use Rattle.hint_log.specs.Entries.{name_of}
 use Rattle.padoa_definitions.specs.Ruling.{cube_literal}
-use Rattle.padoa_definitions.proofs.Cubing.{cube_more}
+use Rattle.padoa_definitions.proofs.ShownRules.{cube_more}
 use Rattle.padoa_definitions.proofs.padoa.Padoa.cube.Goals.{in-Some+in_ok-push, in_default}
 use Rattle.padoa_definitions.proofs.padoa.Padoa.cube.Goals as goal
 

@@ -4,7 +4,7 @@ use Rattle.dq_formula.specs.Prefix.{existential_variables}
 use Rattle.dq_lits.specs.Formula.{declared}
 use Rattle.hint_log.specs.Naming.{named_literal}
 use Rattle.hint_log.specs.declared.names.Name.TheVariants.{Copy as CopyOf}
-use Rattle.padoa_definitions.proofs.Answering.{existential_declared, found_declared, found_variable, copies_told}
+use Rattle.padoa_definitions.proofs.SearchAnswers.{existential_declared, found_declared, found_variable, copies_told}
 use Rattle.padoa_definitions.specs.Seeing.{ArePlaces}
 use Rattle.padoa_definitions.proofs.FreePairs.{free_pair}
 use Rattle.padoa_definitions.proofs.padoa.Padoa.define.Goals as goal

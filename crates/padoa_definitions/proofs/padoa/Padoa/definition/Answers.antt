@@ -1,14 +1,14 @@
 use Rattle.std.proofs.Common.{◌∷◌, [], length, sym, ◌∙◌, subst}
 use Rattle.interpolants.specs.Interpolant.{partition, SharesAll, AreNodes}
 use Rattle.padoa_definitions.specs.Dividing.{AreSharedCopies}
-use Rattle.padoa_definitions.proofs.Answering.{places_below}
+use Rattle.padoa_definitions.proofs.SearchAnswers.{places_below}
 use Rattle.definition_order.proofs.Declared.{some_existential}
-use Rattle.padoa_definitions.proofs.Declaring.{copies_declared, copies_long, declared_long}
+use Rattle.padoa_definitions.proofs.DeclaredPlaces.{copies_declared, copies_long, declared_long}
 use Rattle.padoa_definitions.specs.Copies.{copies_of}
 use Rattle.dq_lits.specs.Formula.{declared}
-use Rattle.padoa_definitions.proofs.Interpolating.{interpolant_defines}
+use Rattle.padoa_definitions.proofs.LinkedInterpolants.{interpolant_defines}
 use Rattle.padoa_definitions.proofs.SharedCopies.{shared_copies, shared_nodes}
-use Rattle.padoa_definitions.proofs.Sharing.{copies_share}
+use Rattle.padoa_definitions.proofs.SharedVariables.{copies_share}
 use Rattle.padoa_definitions.proofs.padoa.Padoa.definition.Goals as goal
 
 pub shared-requires-clause-copies : goal.shared-requires-clause-copies

@@ -6,10 +6,10 @@ use Rattle.dq_formula.specs.Prefix.{existential_variables}
 use Rattle.hint_log.specs.Entries.{name_of}
 use Rattle.padoa_definitions.specs.Dividing.{values_at}
 use Rattle.padoa_definitions.specs.Ruling.{AreFirstCopies, IsLiteralName}
-use Rattle.padoa_definitions.proofs.Answering.{existential_declared, copies_told}
-use Rattle.padoa_definitions.proofs.Declaring.{copies_long}
+use Rattle.padoa_definitions.proofs.SearchAnswers.{existential_declared, copies_told}
+use Rattle.padoa_definitions.proofs.DeclaredPlaces.{copies_long}
 use Rattle.definition_order.proofs.Declared.{some_existential}
-use Rattle.padoa_definitions.proofs.Settling.{seen_within, copies_asked, apart_asked, names_shown, rule_shown, loose_shown}
+use Rattle.padoa_definitions.proofs.ForcedBits.{seen_within, copies_asked, apart_asked, names_shown, rule_shown, loose_shown}
 use Rattle.padoa_definitions.proofs.padoa.Padoa.force.Goals as goal
 
 pub copied_variable-requires-clause-bound : goal.copied_variable-requires-clause-bound

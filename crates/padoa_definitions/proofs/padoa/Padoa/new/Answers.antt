@@ -1,10 +1,10 @@
 use Rattle.std.proofs.Common.{inl, inr, refl}
 use Rattle.log_laws.proofs.Kept.{named_stay}
 use Rattle.padoa_definitions.specs.Copies.{copies_of}
-use Rattle.padoa_definitions.proofs.Declaring.{copies_declared}
-use Rattle.padoa_definitions.proofs.Keeping.{keeps_anew}
+use Rattle.padoa_definitions.proofs.DeclaredPlaces.{copies_declared}
+use Rattle.padoa_definitions.proofs.KeptCopies.{keeps_anew}
 use Rattle.dq_lits.specs.Formula.{declared}
-use Rattle.padoa_definitions.proofs.Making.{uncopied_yet, ungiven_yet, first_grew, first_few, second_uncopied, second_ungiven, second_grew, second_few, unlinked_yet, third_grew, padoa_made, groups_fresh}
+use Rattle.padoa_definitions.proofs.MadeCopies.{uncopied_yet, ungiven_yet, first_grew, first_few, second_uncopied, second_ungiven, second_grew, second_few, unlinked_yet, third_grew, padoa_made, groups_fresh}
 use Rattle.padoa_definitions.proofs.padoa.Padoa.new.Goals as goal
 
 pub copy_matrix-requires-clause-uncopied : goal.copy_matrix-requires-clause-uncopied

@@ -3,7 +3,7 @@ use Rattle.std.proofs.lemmas.List.{get_or_default}
 use Rattle.dq_lits.specs.Literal.{positive}
 use Rattle.dq_lits.specs.Row.{bit_of}
 use Rattle.padoa_definitions.specs.Ruling.{signed_literal}
-use Rattle.padoa_definitions.proofs.Selecting.{mapped_more}
+use Rattle.padoa_definitions.proofs.SelectedPlaces.{mapped_more}
 use Rattle.padoa_definitions.proofs.padoa.Padoa.row_copies.Goals as goal
 
 pub loop-place-preserved : goal.loop-place-preserved

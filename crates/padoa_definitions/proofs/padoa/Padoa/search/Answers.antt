@@ -3,7 +3,7 @@ use Rattle.std.specs.List.{All}
 use Rattle.dq_lits.specs.Literal.{opposite}
 use Rattle.oracle.specs.Calls.{IsMade, IsRefutedUnder, assumed}
 use Rattle.oracle.specs.declared.oracles.Answer.TheVariants.{Unsat}
-use Rattle.padoa_definitions.proofs.Answering.{places_within, active_made, padoa_learned, learned_grew, padoa_refuted, refuted_grew, shows, on_answer}
+use Rattle.padoa_definitions.proofs.SearchAnswers.{places_within, active_made, padoa_learned, learned_grew, padoa_refuted, refuted_grew, shows, on_answer}
 use Rattle.padoa_definitions.proofs.padoa.Padoa.search.Goals as goal
 
 pub active-requires : goal.active-requires

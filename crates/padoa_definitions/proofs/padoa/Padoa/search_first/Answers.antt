@@ -1,8 +1,8 @@
 use Rattle.std.proofs.Common.{◌≡◌, ◌∷◌, [], Ok, ap, ◌∙◌}
 use Rattle.oracle.specs.Calls.{assumed}
 use Rattle.oracle.specs.declared.oracles.Answer.TheVariants.{Unsat}
-use Rattle.padoa_definitions.proofs.Answering.{padoa_learned, learned_grew, padoa_refuted, on_answer}
-use Rattle.padoa_definitions.proofs.Ruling.{first_plain, shows_clause, first_grew}
+use Rattle.padoa_definitions.proofs.SearchAnswers.{padoa_learned, learned_grew, padoa_refuted, on_answer}
+use Rattle.padoa_definitions.proofs.FirstCopySearch.{first_plain, shows_clause, first_grew}
 use Rattle.padoa_definitions.proofs.padoa.Padoa.search_first.Goals as goal
 
 pub solve-requires-clause-plain : goal.solve-requires-clause-plain

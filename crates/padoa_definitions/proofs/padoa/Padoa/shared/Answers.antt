@@ -4,7 +4,7 @@ use Rattle.std.proofs.lemmas.Option.{get_or_from_slice_get}
 use Rattle.dq_lits.specs.Literal.{positive, variable_of}
 use Rattle.aig_graph.specs.declared.nodes.Node.TheVariants.{Input}
 use Rattle.padoa_definitions.specs.Copies.{copies_of}
-use Rattle.padoa_definitions.proofs.Selecting.{mapped_more}
+use Rattle.padoa_definitions.proofs.SelectedPlaces.{mapped_more}
 use Rattle.padoa_definitions.proofs.padoa.Padoa.shared.Goals as goal
 
 pub loop-place-preserved : goal.loop-place-preserved

@@ -4,7 +4,7 @@ use Rattle.std.specs.Option.{option_and_then}
 use Rattle.circuit_plain.specs.Netlist.{Netlist}
 use Rattle.cert_text.specs.NegatedMatrix.{gate_clauses, without_constants}
 use Rattle.skolem_checker.specs.Checks.{Candidate}
-use Rattle.proof_checker.proofs.Looking.{gates_first, behind_gates, by_id}
+use Rattle.proof_checker.proofs.MatrixPlaces.{gates_first, behind_gates, by_id}
 use Rattle.proof_checker.proofs.negated.NegatedMatrix.clause.Goals as goal
 
 pub returns-then-i-gates : goal.returns-then-i-gates

@@ -4,8 +4,8 @@ use Rattle.cert_text.specs.NegatedMatrix.{some_clause_false, without_constants}
 use Rattle.skolem_checker.specs.Checks.{Candidate}
 use Rattle.proof_checker.specs.ClauseLiterals.{formula_clauses}
 use Rattle.proof_checker.specs.ShortClause.{last_literals}
-use Rattle.proof_checker.proofs.Looking.{number_below, falsity_found, last_found, none_found}
-use Rattle.proof_checker.proofs.Shortening.{range_clause}
+use Rattle.proof_checker.proofs.MatrixPlaces.{number_below, falsity_found, last_found, none_found}
+use Rattle.proof_checker.proofs.ShortenedClauses.{range_clause}
 use Rattle.proof_checker.proofs.negated.NegatedMatrix.formula_clause.Goals as goal
 
 pub overflow_mul-entry : goal.overflow_mul-entry

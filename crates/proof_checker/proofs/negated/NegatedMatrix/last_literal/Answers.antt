@@ -2,7 +2,7 @@ use Rattle.std.proofs.Common.{◌+◌, length, Some, ap, sym, ◌∙◌}
 use Rattle.dq_lits.specs.Literal.{positive}
 use Rattle.circuit_plain.specs.Netlist.{Netlist}
 use Rattle.skolem_checker.specs.Checks.{Candidate}
-use Rattle.proof_checker.proofs.Shortening.{range_literal}
+use Rattle.proof_checker.proofs.ShortenedClauses.{range_literal}
 use Rattle.proof_checker.proofs.negated.NegatedMatrix.last_literal.Goals as goal
 
 pub returns : goal.returns

@@ -1,8 +1,8 @@
 use Rattle.std.proofs.Common.{◌+◌, length, IsSome, ap, sym, subst, ◌∙◌, arith}
 use Rattle.rup_core.specs.Reading.{literal_at}
 use Rattle.proof_checker.specs.ShortClause.{last_literals, literals_of}
-use Rattle.proof_checker.proofs.Looking.{place_below}
-use Rattle.proof_checker.proofs.Shortening.{range_length}
+use Rattle.proof_checker.proofs.MatrixPlaces.{place_below}
+use Rattle.proof_checker.proofs.ShortenedClauses.{range_length}
 use Rattle.proof_checker.proofs.negated.NegatedMatrixBase.lit.Goals as goal
 
 pub last_literal-requires : goal.last_literal-requires

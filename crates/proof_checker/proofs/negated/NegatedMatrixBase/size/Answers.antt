@@ -2,7 +2,7 @@ use Rattle.std.proofs.Common.{◌+◌, length, Some, ap, sym, ◌∙◌}
 use Rattle.rup_core.specs.Reading.{clause_size}
 use Rattle.skolem_checker.specs.Checks.{Candidate}
 use Rattle.proof_checker.specs.ShortClause.{literals_of}
-use Rattle.proof_checker.proofs.Shortening.{range_length}
+use Rattle.proof_checker.proofs.ShortenedClauses.{range_length}
 use Rattle.proof_checker.proofs.negated.NegatedMatrixBase.size.Goals as goal
 
 pub returns-in-Last : goal.returns-in-Last

@@ -1,6 +1,6 @@
 use Rattle.std.proofs.Common.{rules, ◌<◌, sym, length, get_or, [], ap, ◌∙◌, refl, arith}
-use Rattle.refutation_checker.proofs.Numbering.{part_at, part_is_declared, declared_at}
-use Rattle.refutation_checker.proofs.Instancing.{place_within, instance_literal}
+use Rattle.refutation_checker.proofs.NumberedLiterals.{part_at, part_is_declared, declared_at}
+use Rattle.refutation_checker.proofs.PairLiterals.{place_within, instance_literal}
 use Rattle.refutation_checker.proofs.instances.InstancesBase.lit.Goals as goal
 
 pub bounds-lits-i : goal.bounds-lits-i

@@ -1,5 +1,5 @@
 use Rattle.cert_text.specs.Steps.{step_seen}
-use Rattle.refutation_checker.proofs.Lining.{hints_read}
+use Rattle.refutation_checker.proofs.LinePairs.{hints_read}
 use Rattle.refutation_checker.proofs.lines.LinesSteps.hints.Goals as goal
 
 pub returns : goal.returns

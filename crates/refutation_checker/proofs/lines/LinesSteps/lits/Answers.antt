@@ -1,4 +1,4 @@
-use Rattle.refutation_checker.proofs.Lining.{literals_read}
+use Rattle.refutation_checker.proofs.LinePairs.{literals_read}
 use Rattle.refutation_checker.proofs.lines.LinesSteps.lits.Goals as goal
 
 pub returns : goal.returns

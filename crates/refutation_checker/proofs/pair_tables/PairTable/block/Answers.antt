@@ -2,8 +2,8 @@ use Rattle.std.proofs.Common.{◌≡◌, ◌+◌, ◌*◌, ◌/◌, length, ap, 
 use Rattle.dq_lits.specs.Formula.{Dqbf}
 use Rattle.refutation_checker.specs.Alike.{stand_in, AreAlike}
 use Rattle.refutation_checker.specs.PairTable.{Expanded}
-use Rattle.refutation_checker.proofs.Pairing.{block_bound, kept_by_stand_in, stand_in_block}
-use Rattle.refutation_checker.proofs.Standing.{stand_in_declared}
+use Rattle.refutation_checker.proofs.PairNumbers.{block_bound, kept_by_stand_in, stand_in_block}
+use Rattle.refutation_checker.proofs.EqualSets.{stand_in_declared}
 use Rattle.refutation_checker.proofs.pair_tables.PairTable.block.Goals as goal
 
 pub overflow_mul-result : goal.overflow_mul-result

@@ -1,4 +1,4 @@
-use Rattle.refutation_checker.proofs.Pairing.{row_is_whole, instance_found, instance_missing}
+use Rattle.refutation_checker.proofs.PairNumbers.{row_is_whole, instance_found, instance_missing}
 use Rattle.refutation_checker.proofs.pair_tables.PairTable.instance.Goals as goal
 
 pub has_true_universal-requires : goal.has_true_universal-requires

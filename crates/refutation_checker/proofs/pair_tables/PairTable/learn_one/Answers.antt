@@ -1,7 +1,7 @@
 use Rattle.std.proofs.Common.{subst}
 use Rattle.refutation_checker.specs.FirstRows.{AreFirstRows}
 use Rattle.refutation_checker.specs.PairTable.{Expanded}
-use Rattle.refutation_checker.proofs.Pairing.{learnt_block}
+use Rattle.refutation_checker.proofs.PairNumbers.{learnt_block}
 use Rattle.refutation_checker.proofs.pair_tables.PairTable.learn_one.Goals as goal
 
 pub keep-requires : goal.keep-requires

@@ -1,6 +1,6 @@
 use Rattle.std.proofs.Common.{ap, ◌∙◌}
 use Rattle.dq_lits.specs.Formula.{Dqbf}
-use Rattle.refutation_checker.proofs.Pairing.{named_by}
+use Rattle.refutation_checker.proofs.PairNumbers.{named_by}
 use Rattle.refutation_checker.proofs.pair_tables.PairTable.named.Goals as goal
 
 pub returns-clause-normal : goal.returns-clause-normal

@@ -2,7 +2,7 @@ use Rattle.std.proofs.Common.{arith, subst}
 use Rattle.dq_formula.specs.Prefix.{IsLawful}
 use Rattle.cert_text.proofs.PairNumbers.{existential_in_range}
 use Rattle.refutation_checker.specs.PairTable.{row_at}
-use Rattle.refutation_checker.proofs.Pairing.{pair_bound}
+use Rattle.refutation_checker.proofs.PairNumbers.{pair_bound}
 use Rattle.refutation_checker.proofs.pair_tables.PairTable.pair.Goals as goal
 
 pub overflow_add-result : goal.overflow_add-result

@@ -1,5 +1,5 @@
 use Rattle.std.proofs.Common.{refl}
-use Rattle.candidate_functions.proofs.Growing.{extends-trans}
+use Rattle.candidate_functions.proofs.LargerGraphs.{extends-trans}
 use Rattle.definition_order.proofs.Declared.{known_at}
 use Rattle.repair_loop.proofs.Defined.{existential_there}
 use Rattle.repair_loop.proofs.definitions.Definitions.ask.Goals as goal

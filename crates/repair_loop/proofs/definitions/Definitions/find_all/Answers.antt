@@ -1,5 +1,5 @@
 use Rattle.std.proofs.Common.{◌∙◌, refl}
-use Rattle.candidate_functions.proofs.Growing.{extends-refl, extends-trans}
+use Rattle.candidate_functions.proofs.LargerGraphs.{extends-refl, extends-trans}
 use Rattle.repair_loop.proofs.definitions.Definitions.find_all.Goals as goal
 
 pub find-requires-clause-inputs : goal.find-requires-clause-inputs

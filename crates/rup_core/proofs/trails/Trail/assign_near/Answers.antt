@@ -5,7 +5,7 @@ use Rattle.std.proofs.lemmas.List.{length-set}
 use Rattle.dq_lits.specs.Literal.{variable_of}
 use Rattle.rup_core.specs.Truth.{literal_value}
 use Rattle.rup_core.specs.declared.trails.TruthValue.TheVariants.{True, False, Unassigned}
-use Rattle.rup_core.proofs.Assigning.{value_where_true, assign_room, assign_counted, assign_told, near_keeps_far}
+use Rattle.rup_core.proofs.AssignedLiterals.{value_where_true, assign_room, assign_counted, assign_told, near_keeps_far}
 use Rattle.rup_core.proofs.trails.Trail.assign_near.Goals as goal
 
 pub unreachable-requires : goal.unreachable-requires

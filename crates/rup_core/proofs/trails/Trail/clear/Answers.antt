@@ -1,4 +1,4 @@
-use Rattle.rup_core.proofs.Assigning.{told_only}
+use Rattle.rup_core.proofs.AssignedLiterals.{told_only}
 use Rattle.rup_core.proofs.trails.Trail.clear.Goals as goal
 
 pub unassign-requires : goal.unassign-requires

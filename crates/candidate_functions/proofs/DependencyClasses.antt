@@ -1,0 +1,68 @@
+-- Classes of existentials with one dependency set, and where the universals of the set stand.
+use Rattle.std.proofs.Common.{◌≡◌, ℕ, ◌+◌, ◌<◌, ◌==◌, Bool, List, [], ◌∷◌, ◌++◌, length, take, get_or, slice_get, Option, None, Some, IsSome, IfSome, refl, sym, ◌∙◌, ap, subst, arith}
+use Rattle.std.specs.List.{All, Contains, position_or_len}
+use Rattle.std.specs.Option.{option_map}
+use Rattle.std.proofs.lemmas.List.{take_more, map-append, get_or_push, length_push}
+use Rattle.std.proofs.lemmas.List.Elements.{All-contains, All-map, All-weaker, All-push}
+use Rattle.std.proofs.lemmas.Option.{slice_get_within, get_or_from_slice_get, slice_get_read}
+use Rattle.dq_lits.specs.Formula.{Existential, Dqbf, existential_of}
+use Rattle.dq_formula.specs.Prefix.{IsLawful}
+use Rattle.dq_formula.proofs.Places.{place}
+use Rattle.dq_formula.proofs.Sorted.{place-below}
+use Rattle.aig_graph.specs.Graph.{AigGraph}
+use Rattle.aig_graph.specs.Made.{Extends}
+use Rattle.candidate_functions.specs.Pairs.{universal_places, AreSeenPairs, IsClass, HasClass, HasClassLike}
+use Rattle.candidate_functions.specs.declared.classes.Class.{Class}
+use Rattle.candidate_functions.proofs.DeclaredPlaces.{is_found}
+use Rattle.definition_order.proofs.Declared.{sees_universals, some_existential}
+use Rattle.candidate_functions.proofs.LargerGraphs.{classes_stay}
+
+pub seen_among : (f : Dqbf) → IsLawful f → (v : ℕ) (xs : List ℕ) → IsSome (existential_of f v) → IfSome (existential_of f v) (λ y. xs ≡ y.sees) → All (Contains f.universals) xs
+seen_among f lawful v xs is h = some_existential f v (All (Contains f.universals) xs) is (λ y found.
+    let same : xs ≡ y.sees = subst (λ o. IfSome o (λ z. xs ≡ z.sees)) found h in
+    subst (All (Contains f.universals)) (sym same) (sees_universals f lawful v y found))
+
+place_more : (f : Dqbf) (xs : List ℕ) (i d : ℕ) → i < length xs → universal_places f (take (i + 1) xs) ≡ universal_places f (take i xs) ++ position_or_len (λ u. u == get_or xs i d) f.universals ∷ []
+place_more f xs i d lt = ap (universal_places f) (take_more xs i d lt) ∙ map-append (λ x. position_or_len (λ u. u == x) f.universals) (take i xs) (get_or xs i d ∷ [])
+
+-- one place more, at the end of those that were found
+pub places_more : (f : Dqbf) (xs : List ℕ) (i d : ℕ) (old new : List ℕ) (p : ℕ) → i < length xs → new ≡ old ++ p ∷ [] → old ≡ universal_places f (take i xs)
+    → p ≡ position_or_len (λ u. u == get_or xs i d) f.universals → new ≡ universal_places f (take (i + 1) xs)
+places_more f xs i d old new p lt pushed before is =
+    pushed ∙ ap (λ ps. ps ++ p ∷ []) before ∙ ap (λ q. universal_places f (take i xs) ++ q ∷ []) is ∙ sym (place_more f xs i d lt)
+
+pub places_below : (f : Dqbf) → IsLawful f → (v : ℕ) (places : List ℕ) (n : ℕ) → n ≡ length f.universals → IsSome (existential_of f v)
+    → ((y : Existential) → existential_of f v ≡ Some y → places ≡ universal_places f y.sees) → All (λ p. p < n) places
+places_below f lawful v places n size is each = some_existential f v (All (λ p. p < n) places) is (λ y found.
+    let below : All (λ x. place f.universals x < n) y.sees =
+    All-weaker (Contains f.universals) (λ x. place f.universals x < n) (λ x among. subst (λ m. place f.universals x < m) (sym size) (place-below f.universals x (is_found f.universals x among)))
+    y.sees (sees_universals f lawful v y found) in
+    subst (All (λ p. p < n)) (sym (each y found)) (All-map (λ p. p < n) (place f.universals) y.sees below))
+
+pub class_like : (f : Dqbf) (rows : List (List Bool)) (g : AigGraph) (cs : List Class) (p y : ℕ) → All (IsClass f rows g) cs → HasClassLike f cs p y → HasClass f rows g cs p y
+class_like f rows g cs p y all like = record {
+  class = like.class;
+  at = like.at;
+  are_pairs = λ e known. by e known (existential_of f like.class.y) refl;
+} where
+  is : IsClass f rows g like.class
+  is = All-contains (IsClass f rows g) cs like.class all (p, slice_get_within cs p like.class like.at, get_or_from_slice_get cs p like.class like.class like.at)
+
+  set_is : (e : Existential) (o : Option Existential) → existential_of f y ≡ Some e → existential_of f like.class.y ≡ o → option_map (λ (z : Existential). z.sees) o ≡ Some e.sees
+  set_is e o known found = ap (option_map (λ (z : Existential). z.sees)) (sym found) ∙ like.alike ∙ ap (option_map (λ (z : Existential). z.sees)) known
+
+  by : (e : Existential) → existential_of f y ≡ Some e → (o : Option Existential) → existential_of f like.class.y ≡ o → AreSeenPairs f rows g e.sees like.class.pairs.items
+  by e known None found = absurd (let s = set_is e None known found in cc)
+  by e known (Some z) found =
+      let s : Some z.sees ≡ Some e.sees = set_is e (Some z) known found in
+      let same : z.sees ≡ e.sees = cc in
+      subst (λ xs. AreSeenPairs f rows g xs like.class.pairs.items) same (is z found)
+
+pub class_added : (f : Dqbf) (rows : List (List Bool)) (old new : AigGraph) (cs : List Class) (c : Class) → Extends old new → All (IsClass f rows old) cs → IsClass f rows new c
+    → All (IsClass f rows new) (cs ++ c ∷ [])
+class_added f rows old new cs c grown all own = All-push (IsClass f rows new) cs c (classes_stay old new grown f rows cs all) own
+
+pub last_at : (cs : List Class) (c : Class) (n : ℕ) → n ≡ length cs → slice_get (cs ++ c ∷ []) n ≡ Some c
+last_at cs c n is =
+    let more = length_push cs c in
+    slice_get_read (cs ++ c ∷ []) (length (cs ++ c ∷ [])) n c refl (omega arith) (sym (get_or_push cs c c n (sym is)))

@@ -1,0 +1,32 @@
+-- Two halves of a choice.
+use Rattle.std.proofs.Common.{◌≡◌, ℕ, Bool, true, false, not, inl, inr, Some, refl, sym, ◌∙◌, ap, if◌then◌else◌}
+use Rattle.std.proofs.lemmas.Bool.{cases_Bool}
+use Rattle.dq_lits.specs.Literal.{opposite, same_literal, literal_true}
+use Rattle.dq_lits.specs.Formula.{Existential, Dqbf, existential_of}
+use Rattle.definition_order.proofs.Declared.{find_sound}
+use Rattle.gate_definitions.specs.Stating.{IsHalf, IsChoice, AreReadable, choice_literals}
+use Rattle.gate_definitions.specs.declared.choices.Choice.{Choice}
+use Rattle.gate_definitions.specs.declared.choices.Half.{Half}
+use Rattle.gate_definitions.proofs.ImpliedLiterals.{literal_true-opposite, same_literal-sound}
+
+pub is_same : (r b : Bool) → r ≡ not b → r ≡ false → b ≡ true
+is_same r true e h = refl
+is_same r false e h = cc
+
+abbrev pub choice_of : Half → Half → Choice
+choice_of half other = record { condition = half.condition; then_value = half.value; else_value = other.value }
+
+pub is_choice : (f : Dqbf) (y : ℕ) (e : Existential) (half other : Half) → existential_of f y ≡ Some e → same_literal other.condition (opposite half.condition) ≡ true
+    → IsHalf f y half → IsHalf f y other → AreReadable f e (choice_literals (choice_of half other)) → IsChoice f e (choice_of half other)
+is_choice f y e half other known against first second reads =
+    let own = (find_sound y f.existentials e known).1 in
+    record {
+      reads = reads;
+      same = λ m holds. elim (cases_Bool (literal_true m half.condition)) [
+        | inl is ↦ ap m own ∙ first m holds is ∙ sym (ap (λ b. if b then literal_true m half.value else literal_true m other.value) is)
+        | inr denied ↦ (
+            let turned : literal_true m other.condition ≡ true =
+            ap (literal_true m) (same_literal-sound other.condition (opposite half.condition) against) ∙ literal_true-opposite m half.condition ∙ ap not denied in
+            ap m own ∙ second m holds turned ∙ sym (ap (λ b. if b then literal_true m half.value else literal_true m other.value) denied))
+      ];
+    }

@@ -1,0 +1,313 @@
+-- What an answer of the copies rests on: the first copy on one side, the second copy and equations on the other.
+use Rattle.std.proofs.Common.{◌≡◌, ◌⊎◌, ℕ, suc, ◌+◌, Bool, true, false, true≢false, cond, ◌&&◌, inl, inr, List, [], ◌∷◌, ◌++◌, map, Option, Some, None, IsSome, slice_get, refl, sym, ◌∙◌, ap, subst, arith}
+use Rattle.std.specs.List.{Contains, list_any}
+use Rattle.std.specs.Option.{option_and_then}
+use Rattle.std.proofs.lemmas.Bool.{or_cases, or_left, or_right, and_parts, eqb-true, eq-eqb}
+use Rattle.dq_lits.specs.Literal.{Literal, positive, negative, variable_of, is_negative, opposite, same_literal}
+use Rattle.dq_lits.specs.Derivation.{holds}
+use Rattle.dq_lits.specs.Formula.{Dqbf, Existential, declared}
+use Rattle.definition_order.specs.Order.{MayRead}
+use Rattle.hint_log.specs.Conditions.{IsId, AreLogged}
+use Rattle.hint_log.specs.Deciding.{ReachesGiven}
+use Rattle.hint_log.specs.Entries.{Entry, Given, Answer, has_id, numbered, last_id, clause_of, clause_at, name_of}
+use Rattle.hint_log.specs.Growth.{Each}
+use Rattle.hint_log.specs.Naming.{named_literal, name_literal, AreNamedAs, is_selector, is_selector_name}
+use Rattle.hint_log.specs.Origins.{link_names}
+use Rattle.hint_log.specs.ProductiveLog.{MatchesOrigin}
+use Rattle.hint_log.specs.Reached.{Reaches}
+use Rattle.hint_log.specs.declared.names.Name.{Name}
+use Rattle.hint_log.specs.declared.names.Name.TheVariants.{Selector, Copy as CopyOf}
+use Rattle.hint_log.specs.declared.origins.Origin.{Origin}
+use Rattle.hint_log.specs.declared.origins.Origin.TheVariants.{Instance, Gate, Fault, Copy, Link}
+use Rattle.aig_graph.specs.declared.nodes.Node.{Node}
+use Rattle.interpolants.specs.Interpolant.{Partition, partition, IsReachedGiven, IsOther}
+use Rattle.interpolants.proofs.Truth.{any_witness, same_literal-sound, same_literal-refl, opposite-opposite}
+use Rattle.log_laws.proofs.Found.{named_variable, numbered_among}
+use Rattle.log_laws.proofs.Kept.{NamesStay, named_stay}
+use Rattle.oracle.specs.Calls.{assumed, IsMade, IsPlain}
+use Rattle.oracle.specs.Searched.{IsSearched}
+use Rattle.oracle.specs.declared.groups.Group.{Group}
+use Rattle.padoa_definitions.specs.Copies.{is_copy_of, is_link_of, group_variable, IsGroupGiven, copy_names, IsLink, IsPadoa}
+use Rattle.padoa_definitions.specs.Dividing.{IsCopyGiven, IsLinkGiven, IsSelectorLiteral, IsCopyLiteral, Divides, AreActive}
+use Rattle.padoa_definitions.specs.Seeing.{ArePlaces}
+use Rattle.padoa_definitions.specs.declared.padoa.Padoa.{Padoa}
+use Rattle.padoa_definitions.proofs.CopiedVariables.{opposite_name}
+use Rattle.padoa_definitions.proofs.Reached.{IsOfCopies, IsOfAnswer, of_answer, is_given_entry, reached_given, earlier_stay, group_named, own_at}
+
+-- right clauses by their origins
+pub copy_given : (es earlier : List Entry) (f : Dqbf) (side : ℕ) (origin : Origin) (c : List Literal) → NamesStay earlier es → is_copy_of side origin ≡ true → MatchesOrigin f earlier (Given origin c) →
+    IsCopyGiven es f side c
+copy_given es earlier f side (Instance k j) c stay test right = cc
+copy_given es earlier f side (Gate v i) c stay test right = cc
+copy_given es earlier f side (Fault j i leaf) c stay test right = cc
+copy_given es earlier f side (Link v i) c stay test right = cc
+copy_given es earlier f side (Copy s j) c stay test right =
+    let same : s ≡ side = eqb-true s side test in
+    let rest_is = right.rest_is.1 in
+    record {
+      group = right.group;
+      rest = right.rest;
+      original = rest_is.clause;
+      is_group = stay right.group (Selector right.group) right.is_group;
+      clause_is = right.clause_is;
+      original_is = numbered_among f.matrix j rest_is.clause rest_is.clause_is;
+      copied = subst (λ k. AreNamedAs es right.rest (copy_names k rest_is.clause)) same (named_stay earlier es stay right.rest (copy_names s rest_is.clause) rest_is.named);
+    }
+
+link_given : (es earlier : List Entry) (f : Dqbf) (y : Existential) (x : ℕ) (origin : Origin) (c : List Literal) → NamesStay earlier es → MayRead f y x → is_link_of x origin ≡ true →
+    MatchesOrigin f earlier (Given origin c) → IsLinkGiven es f y c
+link_given es earlier f y x (Instance k j) c stay seen test right = cc
+link_given es earlier f y x (Gate v i) c stay seen test right = cc
+link_given es earlier f y x (Fault j i leaf) c stay seen test right = cc
+link_given es earlier f y x (Copy s j) c stay seen test right = cc
+link_given es earlier f y x (Link v i) c stay seen test right =
+    let same : v ≡ x = eqb-true v x test in
+    record {
+      group = right.group;
+      rest = right.rest;
+      variable = v;
+      part = i;
+      is_group = stay right.group (Selector right.group) right.is_group;
+      clause_is = right.clause_is;
+      read = subst (MayRead f y) (sym same) seen;
+      which = right.rest_is.0;
+      named = named_stay earlier es stay right.rest (link_names v i) right.rest_is.1;
+    }
+
+pub of_copies : (side : ℕ) (origin : Origin) → is_copy_of side origin ≡ true → IsOfCopies origin
+of_copies side (Instance k j) h = cc
+of_copies side (Gate v i) h = cc
+of_copies side (Fault j i leaf) h = cc
+of_copies side (Link v i) h = cc
+of_copies side (Copy s j) h = refl
+
+of_links : (x : ℕ) (origin : Origin) → is_link_of x origin ≡ true → IsOfCopies origin
+of_links x (Instance k j) h = cc
+of_links x (Gate v i) h = cc
+of_links x (Fault j i leaf) h = cc
+of_links x (Copy s j) h = cc
+of_links x (Link v i) h = refl
+
+pub selector_not_copy : (o : Option Name) (g side v : ℕ) → o ≡ Some (Selector g) → o ≡ Some (CopyOf side v) → ⊥
+selector_not_copy o g side v a b = let e : Some (Selector g) ≡ Some (CopyOf side v) = sym a ∙ b in cc
+
+pub as_positive : (l : Literal) → is_negative l ≡ false → l ≡ positive (variable_of l)
+as_positive (positive v) h = refl
+as_positive (negative v) h = cc
+
+pub same_variable : (a b : ℕ) → positive a ≡ positive b → a ≡ b
+same_variable a b e = ap variable_of e
+
+-- an assumption: a selector of one of the groups, or the existential's copies
+pub data IsAssumed (p : Padoa) (places : List ℕ) (one other : Literal) : Literal → Type 0 where
+  by_first : (l : Literal) → l ≡ p.first.group.selector → IsAssumed p places one other l
+  by_second : (l : Literal) → l ≡ p.second.group.selector → IsAssumed p places one other l
+  by_link : (l : Literal) (k : ℕ) (g : Group) → Contains places k → slice_get p.links.items k ≡ Some g → l ≡ g.selector → IsAssumed p places one other l
+  by_one : (l : Literal) → l ≡ one → IsAssumed p places one other l
+  by_other : (l : Literal) → l ≡ opposite other → IsAssumed p places one other l
+
+pub holds_cases : (x : Literal) (xs : List Literal) (l : Literal) → holds (x ∷ xs) l ≡ true → (l ≡ x) ⊎ (holds xs l ≡ true)
+holds_cases x xs l h = elim (or_cases (same_literal l x) (holds xs l) h) [ inl same ↦ inl (same_literal-sound l x same) | inr later ↦ inr later ]
+
+element_of : (gs : List Group) (more : List Literal) (l : Literal) → holds (map (λ g. g.selector) gs ++ more) l ≡ true → ((g : Group) × Contains gs g × (l ≡ g.selector)) ⊎ (holds more l ≡ true)
+element_of [] more l h = inr h
+element_of (g ∷ gs) more l h = elim (holds_cases g.selector (map (λ x. x.selector) gs ++ more) l h) [
+  | inl here ↦ inl (g, (0, omega arith, refl), here)
+  | inr later ↦ elim (element_of gs more l later) [
+    | inl found ↦ inl (found.0, (suc found.1.0, (let b = found.1.1 in omega (arith, b)), found.1.2), found.2)
+    | inr rest ↦ inr rest
+  ]
+]
+
+pub which_assumed : (p : Padoa) (places : List ℕ) (active : List Group) (one other l : Literal) → AreActive p places active →
+    holds (assumed active (one ∷ opposite other ∷ [])) l ≡ true → IsAssumed p places one other l
+which_assumed p places active one other l are h =
+    let rest : List Literal = one ∷ opposite other ∷ [] in
+    let spelled : holds (p.first.group.selector ∷ p.second.group.selector ∷ map (λ g. g.selector) are.links ++ rest) l ≡ true = sym (ap (λ gs. holds (assumed gs rest) l) are.active_is) ∙ h in
+    elim (holds_cases p.first.group.selector (p.second.group.selector ∷ map (λ g. g.selector) are.links ++ rest) l spelled) [
+      | inl first ↦ by_first l first
+      | inr behind ↦ elim (holds_cases p.second.group.selector (map (λ g. g.selector) are.links ++ rest) l behind) [
+        | inl second ↦ by_second l second
+        | inr further ↦ elim (element_of are.links rest l further) [
+          | inl link ↦ (let r = are.sound link.0 link.1 in by_link l r.0 link.0 r.1 r.2 link.2)
+          | inr last ↦ elim (holds_cases one (opposite other ∷ []) l last) [
+            | inl is_one ↦ by_one l is_one
+            | inr very_last ↦ elim (holds_cases (opposite other) [] l very_last) [ inl is_other ↦ by_other l is_other | inr none ↦ cc ]
+          ]
+        ]
+      ]
+    ]
+
+module _ (f : Dqbf) (y : Existential) (p : Padoa) (places : List ℕ) (active : List Group) (one other : Literal) (es before : List Entry) (clause : List Literal) (hints : List ℕ)
+    (stays : (e : Entry) (entries : List Entry) (id : ℕ) → IsId entries id → numbered has_id (e ∷ entries) id ≡ numbered has_id entries id)
+    (are_ids : (entries : List Entry) (id i : ℕ) → AreLogged entries → IsId entries id → Reaches entries id i → IsId entries i)
+    (es_is : es ≡ Answer clause hints ∷ before) (searched : IsSearched (Answer clause hints ∷ before)) (padoa : IsPadoa f p (Answer clause hints ∷ before))
+    (are_places : ArePlaces (declared f) (MayRead f y) places) (are_active : AreActive p places active)
+    (one_is : name_literal (Answer clause hints ∷ before) one ≡ Some (named_literal (CopyOf 1 y.variable) false))
+    (other_is : name_literal (Answer clause hints ∷ before) other ≡ Some (named_literal (CopyOf 2 y.variable) false))
+    (negated : (l : Literal) → holds clause l ≡ true → holds (assumed active (one ∷ opposite other ∷ [])) (opposite l) ≡ true) where
+  abbrev all : List Entry
+  all = Answer clause hints ∷ before
+
+  abbrev first : ℕ
+  first = group_variable p.first.group
+
+  abbrev a_side : List Literal
+  a_side = p.first.group.selector ∷ one ∷ []
+
+  one_named : (name_of all (variable_of one) ≡ Some (CopyOf 1 y.variable)) × (is_negative one ≡ false)
+  one_named = named_variable all one (CopyOf 1 y.variable) false (name_of all (variable_of one)) refl one_is
+
+  other_named : (name_of all (variable_of other) ≡ Some (CopyOf 2 y.variable)) × (is_negative other ≡ false)
+  other_named = named_variable all other (CopyOf 2 y.variable) false (name_of all (variable_of other)) refl other_is
+
+  selector_is : (g : Group) → IsMade all g → g.selector ≡ positive (group_variable g)
+  selector_is g made = as_positive g.selector made.positive
+
+  not_one : (g : ℕ) (l : Literal) → l ≡ positive g → name_of all g ≡ Some (Selector g) → l ≡ one → ⊥
+  not_one g l is named same =
+      selector_not_copy (name_of all g) g 1 y.variable named (ap (name_of all) (ap variable_of (sym is ∙ same)) ∙ one_named.0)
+
+  negative_opposite : (l : Literal) → is_negative l ≡ false → opposite l ≡ negative (variable_of l)
+  negative_opposite (positive v) h = refl
+  negative_opposite (negative v) h = cc
+
+  not_other : (g : ℕ) → positive g ≡ opposite other → ⊥
+  not_other g same = let e : positive g ≡ negative (variable_of other) = same ∙ negative_opposite other other_named.1 in cc
+
+  -- the group of a given clause that is reached
+  module _ (origin : Origin) (c : List Literal) (is : IsOfAnswer before clause origin c) where
+    abbrev g : ℕ
+    g = is.grouped.group
+
+    stay : NamesStay is.earlier all
+    stay = earlier_stay f before clause hints searched origin c is
+
+    g_named : name_of all g ≡ Some (Selector g)
+    g_named = group_named f before clause hints searched origin c is
+
+    own : (test : Origin → Bool) (h : ℕ) → g ≡ h → Each (IsGroupGiven f test h) all → (test origin ≡ true) × MatchesOrigin f is.earlier (Given origin c)
+    own = own_at f before clause hints searched origin c is
+
+    data IsInSome : Type 0 where
+      in_first : g ≡ first → IsInSome
+      in_second : g ≡ group_variable p.second.group → IsInSome
+      in_link : (k x : ℕ) (link : Group) → MayRead f y x → IsLink f x link all → g ≡ group_variable link → IsInSome
+
+    group_of : (h : Group) → IsMade all h → positive g ≡ h.selector → g ≡ group_variable h
+    group_of h made same = same_variable g (group_variable h) (same ∙ selector_is h made)
+
+    in_some : IsAssumed p places one other (positive g) → IsInSome
+    in_some (by_first l same) = in_first (group_of p.first.group padoa.first.made same)
+    in_some (by_second l same) = in_second (group_of p.second.group padoa.second.made same)
+    in_some (by_link l k h among at same) =
+        let r = are_places.sound k among in
+        let link = padoa.links k r.0 h r.1 at in
+        in_link k r.0 h r.2 link (group_of h link.made same)
+    in_some (by_one l same) = absurd (not_one g (positive g) refl g_named same)
+    in_some (by_other l same) = absurd (not_other g same)
+
+    classified : IsInSome
+    classified = in_some (which_assumed p places active one other (positive g) are_active (negated (negative g) is.kept))
+
+    is_of_copies : IsOfCopies origin
+    is_of_copies = by classified
+      where
+        by : IsInSome → IsOfCopies origin
+        by (in_first same) = of_copies 1 origin (own (is_copy_of 1) first same padoa.first.own).0
+        by (in_second same) = of_copies 2 origin (own (is_copy_of 2) (group_variable p.second.group) same padoa.second.own).0
+        by (in_link k x link seen is_link same) = of_links x origin (own (is_link_of x) (group_variable link) same is_link.own).0
+
+    -- the side of the clause is its group's
+    on_a_group : list_any (λ l. holds a_side (opposite l) && is_selector all (variable_of l)) c ≡ true → g ≡ first
+    on_a_group h =
+        let w = any_witness (λ l. holds a_side (opposite l) && is_selector all (variable_of l)) (negative g ∷ is.grouped.rest) (sym (ap (list_any (λ l. holds a_side (opposite l) && is_selector all (variable_of l))) is.grouped.clause_is) ∙ h) in
+        let l = w.0 in
+        let both = and_parts (holds a_side (opposite l)) (is_selector all (variable_of l)) w.2 in
+        elim (holds_cases (negative g) is.grouped.rest l w.1) [
+          | inl here ↦ elim (holds_cases p.first.group.selector (one ∷ []) (opposite l) both.0) [
+            | inl switch ↦ group_of p.first.group padoa.first.made (sym (ap opposite here) ∙ switch)
+            | inr last ↦ elim (holds_cases one [] (opposite l) last) [
+              | inl is_one ↦ absurd (not_one g (opposite l) (ap opposite here) g_named is_one)
+              | inr none ↦ cc
+            ]
+          ]
+          | inr later ↦ absurd (not_plain l (is.grouped.plain l later) both.1)
+        ]
+      where
+        not_plain : (l : Literal) → IsPlain is.earlier l → is_selector all (variable_of l) ≡ true → ⊥
+        not_plain l plain h = by (name_of is.earlier (variable_of l)) refl plain.named
+          where
+            by : (o : Option Name) → name_of is.earlier (variable_of l) ≡ o → IsSome o → ⊥
+            by None e some = cc
+            by (Some n) e some =
+                let there = stay (variable_of l) n e in
+                true≢false (sym h ∙ ap is_selector_name there ∙ sym (ap is_selector_name e) ∙ plain.no_selector)
+
+    on_a_first : g ≡ first → list_any (λ l. holds a_side (opposite l) && is_selector all (variable_of l)) c ≡ true
+    on_a_first same =
+        let test : Literal → Bool = λ l. holds a_side (opposite l) && is_selector all (variable_of l) in
+        let switch : p.first.group.selector ≡ positive g = selector_is p.first.group padoa.first.made ∙ ap positive (sym same) in
+        let held : holds a_side (positive g) ≡ true = or_left (same_literal (positive g) p.first.group.selector) (holds (one ∷ []) (positive g)) (ap (same_literal (positive g)) switch ∙ same_literal-refl (positive g)) in
+        let here : test (negative g) ≡ true = ap (λ b. b && is_selector all g) held ∙ ap is_selector_name g_named in
+        ap (list_any test) is.grouped.clause_is ∙ or_left (test (negative g)) (list_any test is.grouped.rest) here
+
+    pub a_clause : list_any (λ l. holds a_side (opposite l) && is_selector all (variable_of l)) c ≡ true → IsCopyGiven all f 1 c
+    a_clause h = let r = own (is_copy_of 1) first (on_a_group h) padoa.first.own in copy_given all is.earlier f 1 origin c stay r.0 r.1
+
+    pub b_clause : list_any (λ l. holds a_side (opposite l) && is_selector all (variable_of l)) c ≡ false → IsCopyGiven all f 2 c ⊎ IsLinkGiven all f y c
+    b_clause h = by classified
+      where
+        by : IsInSome → IsCopyGiven all f 2 c ⊎ IsLinkGiven all f y c
+        by (in_first same) = absurd (true≢false (sym (on_a_first same) ∙ h))
+        by (in_second same) = let r = own (is_copy_of 2) (group_variable p.second.group) same padoa.second.own in inl (copy_given all is.earlier f 2 origin c stay r.0 r.1)
+        by (in_link k x link seen is_link same) =
+            let r = own (is_link_of x) (group_variable link) same is_link.own in inr (link_given all is.earlier f y x origin c stay seen r.0 r.1)
+
+  selector_literal : (h : Group) → IsMade all h → (l : Literal) → l ≡ h.selector → IsSelectorLiteral all l
+  selector_literal h made l same = (group_variable h, same ∙ selector_is h made, made.named)
+
+  module _ (shared : List (ℕ × Node)) where
+    abbrev q : Partition
+    q = partition all (last_id before + 1) a_side shared
+
+    given_entry : (at : ℕ) (c : List Literal) → IsReachedGiven q at c → (origin : Origin) × (numbered has_id all at ≡ Some (Given origin c))
+    given_entry at c given = is_given_entry all at c given.given given.clause_is
+
+    from_given : (at : ℕ) (c : List Literal) → IsReachedGiven q at c → (e : (origin : Origin) × (numbered has_id all at ≡ Some (Given origin c))) → IsOfAnswer before clause e.0 c
+    from_given at c given e =
+        of_answer before clause hints searched e.0 c (reached_given before clause hints stays are_ids searched.logged at e.0 c given.reached e.1)
+
+    answer_holds : (l : Literal) → IsOther q l → holds clause (opposite l) ≡ true
+    answer_holds l o =
+        let there : clause_at all (last_id before + 1) ≡ Some clause = ap (λ b. option_and_then clause_of (cond b (Some (Answer clause hints)) (numbered has_id before (last_id before + 1)))) (eq-eqb (last_id before + 1) (last_id before + 1) refl) in
+        let both : Some clause ≡ Some o.clause = sym there ∙ o.clause_is in
+        let same : clause ≡ o.clause = cc in
+        ap (λ ls. holds ls (opposite l)) same ∙ o.negated
+
+    in_a : (l : Literal) → (l ≡ p.first.group.selector) ⊎ (l ≡ one) → holds a_side l ≡ true
+    in_a l (inl same) = or_left (same_literal l p.first.group.selector) (holds (one ∷ []) l) (ap (same_literal l) (sym same) ∙ same_literal-refl l)
+    in_a l (inr same) = or_right (same_literal l p.first.group.selector) (holds (one ∷ []) l) (or_left (same_literal l one) false (ap (same_literal l) (sym same) ∙ same_literal-refl l))
+
+    other_kind : (l : Literal) → holds a_side l ≡ false → IsAssumed p places one other l → IsSelectorLiteral all l ⊎ IsCopyLiteral all 2 y.variable true l
+    other_kind l none (by_first k same) = absurd (true≢false (sym (in_a l (inl same)) ∙ none))
+    other_kind l none (by_second k same) = inl (selector_literal p.second.group padoa.second.made l same)
+    other_kind l none (by_link k place h among at same) =
+        let r = are_places.sound place among in inl (selector_literal h (padoa.links place r.0 h r.1 at).made l same)
+    other_kind l none (by_one k same) = absurd (true≢false (sym (in_a l (inr same)) ∙ none))
+    other_kind l none (by_other k same) = inr (ap (name_literal all) same ∙ opposite_name all other (CopyOf 2 y.variable) other_is)
+
+    pub divides : Divides f y q
+    divides = record {
+      a_given = λ at c given on_a. let e = given_entry at c given in a_clause e.0 c (from_given at c given e) on_a;
+      b_given = λ at c given on_b. let e = given_entry at c given in b_clause e.0 c (from_given at c given e) on_b;
+      assumed = λ l h. elim (holds_cases p.first.group.selector (one ∷ []) l h) [
+        | inl switch ↦ inl (selector_literal p.first.group padoa.first.made l switch)
+        | inr last ↦ elim (holds_cases one [] l last) [ inl is_one ↦ inr (ap (name_literal all) is_one ∙ one_is) | inr none ↦ cc ]
+      ];
+      others = λ l other_l. other_kind l other_l.not_a
+          (which_assumed p places active one other l are_active (ap (holds (assumed active (one ∷ opposite other ∷ []))) (sym (opposite-opposite l)) ∙ negated (opposite l) (answer_holds l other_l)));
+    }
+
+  pub only_copies : (origin : Origin) (c : List Literal) → ReachesGiven before hints origin c → IsOfCopies origin
+  only_copies origin c reached = is_of_copies origin c (of_answer before clause hints searched origin c reached)

@@ -1,0 +1,110 @@
+-- The copies as they are made, step by step.
+use Rattle.std.proofs.Common.{◌≡◌, ℕ, suc, ◌==◌, Bool, true, false, cond, inl, inr, List, [], ◌∷◌, map, length, slice_get, Some, None, refl, sym, ◌∙◌, ap, subst}
+use Rattle.std.specs.List.{All, Contains}
+use Rattle.std.proofs.lemmas.Bool.{eqb-true}
+use Rattle.std.proofs.lemmas.List.Elements.{All-cons, All-nil}
+use Rattle.dq_lits.specs.Formula.{Dqbf, declared}
+use Rattle.hint_log.specs.Entries.{Entry, Named, Given, Learned, Answer, Round, ProofLog, name_of}
+use Rattle.hint_log.specs.Growth.{Grew}
+use Rattle.hint_log.specs.declared.names.Name.{Name}
+use Rattle.hint_log.specs.declared.names.Name.TheVariants.{Selector, Copy as CopyOf}
+use Rattle.hint_log.specs.declared.origins.Origin.TheVariants.{Copy, Link}
+use Rattle.log_laws.specs.Engines.{copies, IsAddedBy, HasNone}
+use Rattle.oracle.specs.declared.groups.Group.{Group}
+use Rattle.padoa_definitions.specs.Copies.{is_copy_of, group_variable, IsMatrixCopy, IsPadoa, groups_of}
+use Rattle.padoa_definitions.specs.Growing.{GrewAnew, HasFewFaults, Adds, is_any_link, AreUncopied, AreUngiven, IsUnlinked, AreLinkedSoFar}
+use Rattle.padoa_definitions.specs.declared.padoa.Padoa.{Padoa}
+use Rattle.padoa_definitions.proofs.KeptCopies.{IsNamed, contains_first, contains_later, keeps_anew, matrix_stays}
+use Rattle.padoa_definitions.proofs.GivenClauses.{few_anew, anew_then, unnamed_back}
+
+-- a name stands in the log
+named_contains : (es : List Entry) (v : ℕ) (n : Name) → name_of es v ≡ Some n → Contains es (Named v n)
+named_contains [] v n is = cc
+named_contains (Named w m ∷ es) v n is = by (v == w) refl (named_contains es v n) is where
+  by : (b : Bool) → (v == w) ≡ b → (name_of es v ≡ Some n → Contains es (Named v n)) → cond b (Some m) (name_of es v) ≡ Some n → Contains (Named w m ∷ es) (Named v n)
+  by true e later is =
+      let same : m ≡ n = cc in
+      let here : Named w m ≡ Named v n = ap (λ x. Named x m) (sym (eqb-true v w e)) ∙ ap (Named v) same in
+      subst (Contains (Named w m ∷ es)) here (contains_first (Named w m) es)
+  by false e later is = contains_later (Named w m) (Named v n) es (later is)
+named_contains (Given o c ∷ es) v n is = contains_later (Given o c) (Named v n) es (named_contains es v n is)
+named_contains (Learned c h ∷ es) v n is = contains_later (Learned c h) (Named v n) es (named_contains es v n is)
+named_contains (Answer c h ∷ es) v n is = contains_later (Answer c h) (Named v n) es (named_contains es v n is)
+named_contains (Round r b j ∷ es) v n is = contains_later (Round r b j) (Named v n) es (named_contains es v n is)
+
+pub uncopied_yet : (side : ℕ) (vars : List ℕ) (es : List Entry) → HasNone copies es → AreUncopied side vars es
+uncopied_yet side vars es none v x among is = none (Named v (CopyOf side x)) refl (named_contains es v (CopyOf side x) is)
+
+pub ungiven_yet : (side : ℕ) (es : List Entry) → HasNone copies es → AreUngiven side es
+ungiven_yet side es none j c inside = none (Given (Copy side j) c) refl inside
+
+grew_all : (f : Dqbf) (old new : ProofLog) → GrewAnew f old new → (group : ℕ) → Grew (IsAddedBy f copies group true old.entries) old new
+grew_all f old new grew group = grew group old.entries (λ v none. none)
+
+pub all_groups : (P : ℕ → Type 0) (gs : List Group) → ((k : ℕ) (g : Group) → slice_get gs k ≡ Some g → P (group_variable g)) → All P (map group_variable gs)
+all_groups P [] each = All-nil P
+all_groups P (g ∷ gs) each = All-cons P (group_variable g) (map group_variable gs) (each 0 g refl) (all_groups P gs (λ k h at. each (suc k) h at))
+
+module _ (f : Dqbf) (old first : ProofLog) (none : HasNone copies old.entries) (few : HasFewFaults old.entries) (first_adds : Adds f 1 (is_copy_of 1) old first) where
+  pub first_grew : (group : ℕ) → Grew (IsAddedBy f copies group true old.entries) old first
+  first_grew = grew_all f old first first_adds.grew
+
+  pub first_few : HasFewFaults first.entries
+  first_few = few_anew f old first first_adds.grew few
+
+  pub second_uncopied : (vars : List ℕ) → AreUncopied 2 vars first.entries
+  second_uncopied vars v x among is = elim (first_adds.names v (CopyOf 2 x) is) [
+    | inl before ↦ uncopied_yet 2 vars old.entries none v x among before
+    | inr same ↦ cc
+  ]
+
+  pub second_ungiven : AreUngiven 2 first.entries
+  second_ungiven j c inside = elim (first_adds.givens (Copy 2 j) c inside) [ inl before ↦ ungiven_yet 2 old.entries none j c before | inr same ↦ cc ]
+
+  module _ (second : ProofLog) (second_adds : Adds f 2 (is_copy_of 2) first second) where
+    second_anew : GrewAnew f old second
+    second_anew = anew_then f old first second first_adds.grew second_adds.grew
+
+    pub second_grew : (group : ℕ) → Grew (IsAddedBy f copies group true old.entries) old second
+    second_grew = grew_all f old second second_anew
+
+    pub second_few : HasFewFaults second.entries
+    second_few = few_anew f old second second_anew few
+
+    pub unlinked_yet : (x : ℕ) → IsUnlinked x second.entries
+    unlinked_yet x i c inside = elim (second_adds.givens (Link x i) c inside) [
+      | inl middle ↦ elim (first_adds.givens (Link x i) c middle) [ inl before ↦ none (Given (Link x i) c) refl before | inr same ↦ cc ]
+      | inr same ↦ cc
+    ]
+
+    module _ (third : ProofLog) (third_adds : Adds f 0 is_any_link second third) where
+      third_anew : GrewAnew f old third
+      third_anew = anew_then f old second third second_anew third_adds.grew
+
+      pub third_grew : (group : ℕ) → Grew (IsAddedBy f copies group true old.entries) old third
+      third_grew = grew_all f old third third_anew
+
+      module _ (p : Padoa) (first_copy : IsMatrixCopy f 1 p.first first.entries) (second_copy : IsMatrixCopy f 2 p.second second.entries)
+          (linked : AreLinkedSoFar f (length (declared f)) second third p.links.items) where
+        pub padoa_made : IsPadoa f p third.entries
+        padoa_made =
+            let one = keeps_anew f first second second_adds.grew in
+            let two = keeps_anew f second third third_adds.grew in
+            let middle = matrix_stays f (IsNamed first.entries) first.entries second.entries one 1 p.first (Selector (group_variable p.first.group), first_copy.made.named) first_copy in
+            record {
+              first = matrix_stays f (IsNamed second.entries) second.entries third.entries two 1 p.first (Selector (group_variable p.first.group), middle.made.named) middle;
+              second = matrix_stays f (IsNamed second.entries) second.entries third.entries two 2 p.second (Selector (group_variable p.second.group), second_copy.made.named) second_copy;
+              as_many = linked.as_many;
+              links = linked.links;
+            }
+
+        pub groups_fresh : name_of old.entries (group_variable p.first.group) ≡ None → name_of first.entries (group_variable p.second.group) ≡ None →
+            All (λ g. name_of old.entries g ≡ None) (groups_of p)
+        groups_fresh one two =
+            let P : ℕ → Type 0 = λ g. name_of old.entries g ≡ None in
+            let a = group_variable p.first.group in
+            let b = group_variable p.second.group in
+            let links = map group_variable p.links.items in
+            All-cons P a (b ∷ links) one
+            (All-cons P b links (unnamed_back old.entries first.entries (keeps_anew f old first first_adds.grew).names b two)
+            (all_groups P p.links.items (λ k g at. unnamed_back old.entries second.entries (keeps_anew f old second second_anew).names (group_variable g) (linked.fresh k g at))))

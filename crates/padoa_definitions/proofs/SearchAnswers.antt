@@ -1,0 +1,214 @@
+-- What a search leaves and shows.
+use Rattle.std.proofs.Common.{◌≡◌, ◌≢◌, ℕ, zero, suc, ◌+◌, ◌<◌, Bool, true, false, List, [], ◌∷◌, map, length, get_or, Some, IsSome, slice_get, refl, sym, ◌∙◌, ap, subst, arith}
+use Rattle.std.specs.List.{All, Contains}
+use Rattle.std.proofs.lemmas.List.{get_or_default}
+use Rattle.std.proofs.lemmas.List.Elements.{All-cons, All-nil, Contains-get_or, Contains-append_right}
+use Rattle.std.proofs.lemmas.Option.{slice_get_within, slice_get-get_or}
+use Rattle.dq_lits.specs.Literal.{Literal, variable_of, opposite}
+use Rattle.dq_lits.specs.Formula.{Dqbf, Existential, existential_of, declared}
+use Rattle.definition_order.specs.Order.{MayRead}
+use Rattle.hint_log.specs.Conditions.{IsId, AreLogged}
+use Rattle.hint_log.specs.Entries.{Entry, Named, Given, Learned, Answer, Round, ProofLog, has_id, numbered, last_id, name_of}
+use Rattle.hint_log.specs.Deciding.{DecidesNothing}
+use Rattle.hint_log.specs.Growth.{Grew}
+use Rattle.hint_log.specs.Naming.{named_literal, name_literal}
+use Rattle.hint_log.specs.Reached.{Reaches}
+use Rattle.hint_log.specs.declared.names.Name.{Name}
+use Rattle.hint_log.specs.declared.names.Name.TheVariants.{Copy as CopyOf}
+use Rattle.log_laws.specs.Engines.{copies, IsAddedBy}
+use Rattle.log_laws.proofs.Found.{named_variable}
+use Rattle.log_laws.proofs.Kept.{NamesStay, literal_stays, each_of_weaker}
+use Rattle.oracle.specs.Calls.{IsMade, IsLearnedEntry, IsRefutedUnder, assumed}
+use Rattle.oracle.specs.Searched.{IsSearched}
+use Rattle.oracle.specs.declared.groups.Group.{Group}
+use Rattle.oracle.specs.declared.oracles.Answer.{Answer as AnswerOf}
+use Rattle.oracle.specs.declared.oracles.Answer.TheVariants.{Sat, Unsat}
+use Rattle.padoa_definitions.specs.Copies.{groups_of, AreCopiesOf, IsPadoa}
+use Rattle.padoa_definitions.specs.Dividing.{AreActive, ShowsDefinition}
+use Rattle.padoa_definitions.specs.Seeing.{ArePlaces}
+use Rattle.padoa_definitions.specs.declared.padoa.Padoa.{Padoa}
+use Rattle.padoa_definitions.proofs.KeptCopies.{Keeps, IsNamed, keeps_by_engine, keeps_entry, padoa_stays}
+use Rattle.padoa_definitions.proofs.StandingCopies.{groups_named}
+use Rattle.padoa_definitions.proofs.Reached.{LinesAreImplied, undecided_answer}
+use Rattle.padoa_definitions.proofs.DividedAnswers.{divides, only_copies}
+use Rattle.definition_order.proofs.Declared.{find_sound, some_existential}
+
+learned_is_added : (f : Dqbf) (group : ℕ) (silent : Bool) (old earlier : List Entry) (e : Entry) → IsLearnedEntry earlier e → IsAddedBy f copies group silent old earlier e
+learned_is_added f group silent old earlier (Named v n) h = absurd h
+learned_is_added f group silent old earlier (Given origin c) h = absurd h
+learned_is_added f group silent old earlier (Learned c hints) h = tt
+learned_is_added f group silent old earlier (Answer c hints) h = absurd h
+learned_is_added f group silent old earlier (Round row values j) h = absurd h
+
+-- a search that logs no answer
+pub learned_grew : (f : Dqbf) (old new : ProofLog) → Grew IsLearnedEntry old new → (group : ℕ) → Grew (IsAddedBy f copies group true old.entries) old new
+learned_grew f old new g group = record {
+  more = g.more;
+  grown = g.grown;
+  each = each_of_weaker IsLearnedEntry (IsAddedBy f copies group true old.entries) (learned_is_added f group true old.entries) g.more old.entries g.each;
+  limit = g.limit;
+}
+
+next_differs : (n : ℕ) → n ≢ n + 1
+next_differs n e = omega (arith, e)
+
+keeps_learned : (f : Dqbf) (old new : ProofLog) → Grew IsLearnedEntry old new → Keeps f (IsNamed old.entries) old.entries new.entries
+keeps_learned f old new grew =
+    let by = λ (group : ℕ). keeps_by_engine f copies group true old new (learned_grew f old new grew group) in
+    record {
+      names = (by 0).names;
+      contains = (by 0).contains;
+      groups = λ test mine named. (by (mine + 1)).groups test mine (next_differs mine, named);
+    }
+
+pub names_learned : (old new : ProofLog) → Dqbf → Grew IsLearnedEntry old new → NamesStay old.entries new.entries
+names_learned old new f grew = (keeps_learned f old new grew).names
+
+pub padoa_learned : (f : Dqbf) (p : Padoa) (old new : ProofLog) → Grew IsLearnedEntry old new → IsPadoa f p old.entries → IsPadoa f p new.entries
+padoa_learned f p old new grew padoa = padoa_stays f (IsNamed old.entries) old.entries new.entries (keeps_learned f old new grew) p (groups_named f p old.entries padoa) padoa
+
+all_plain : (xs : List ℕ) → All (λ x. Unit {0}) xs
+all_plain xs i d lt = tt
+
+pub places_within : (f : Dqbf) (p : Padoa) (es : List Entry) (y : ℕ) (places : List ℕ) → IsPadoa f p es → IsSome (existential_of f y) →
+    ((e : Existential) → existential_of f y ≡ Some e → ArePlaces (declared f) (MayRead f e) places) → All (λ k. k < length p.links.items) places
+places_within f p es y places padoa is are =
+    some_existential f y (All (λ k. k < length p.links.items) places) is (λ e found k d lt.
+    let r = (are e found).sound (get_or places k d) (k, lt, get_same places k d lt) in
+    let within = slice_get_within (declared f) (get_or places k d) r.0 r.1 in
+    let many = padoa.as_many in
+    omega (arith, within, many))
+  where
+    get_same : (xs : List ℕ) (k d : ℕ) → k < length xs → get_or xs k (get_or xs k d) ≡ get_or xs k d
+    get_same xs k d lt = get_or_default xs k (get_or xs k d) d lt
+
+pub active_made : (f : Dqbf) (p : Padoa) (es : List Entry) (places : List ℕ) (active : List Group) → IsPadoa f p es → AreActive p places active → All (IsMade es) active
+active_made f p es places active padoa are =
+    subst (All (IsMade es)) (sym are.active_is) (All-cons (IsMade es) p.first.group (p.second.group ∷ are.links) padoa.first.made
+    (All-cons (IsMade es) p.second.group are.links padoa.second.made (all_links are.links (λ g among. made g (are.sound g among)))))
+  where
+    all_links : (gs : List Group) → ((g : Group) → Contains gs g → IsMade es g) → All (IsMade es) gs
+    all_links gs each k d lt = each (get_or gs k d) (Contains-get_or gs k d lt)
+
+    made : (g : Group) → ((k : ℕ) × Contains places k × (slice_get p.links.items k ≡ Some g)) → IsMade es g
+    made g r =
+        let lt = slice_get_within p.links.items r.0 g r.2 in
+        let many = padoa.as_many in
+        let x_is = slice_get-get_or (declared f) r.0 0 (omega (arith, lt, many)) in
+        (padoa.links r.0 (get_or (declared f) r.0 0) g x_is r.2).made
+
+-- a search that ends with an answer, whatever was assumed
+module _ (f : Dqbf) (p : Padoa) (assumptions : List Literal) (old new : ProofLog) (id : ℕ) (padoa : IsPadoa f p old.entries) (r : IsRefutedUnder old new assumptions id) where
+  abbrev answer : Entry
+  answer = Answer r.clause r.hints
+
+  pub answered : new.entries ≡ Answer r.clause r.hints ∷ r.before.entries
+  answered = ap (λ (l : ProofLog). l.entries) r.answered
+
+  pub answer_last : id ≡ last_id r.before.entries + 1
+  answer_last = r.last ∙ ap last_id answered
+
+  pub padoa_answered : IsPadoa f p (Answer r.clause r.hints ∷ r.before.entries)
+  padoa_answered =
+      padoa_stays f (λ mine. Unit {0}) r.before.entries (answer ∷ r.before.entries) (keeps_entry f answer r.before.entries (λ w n named. named) (λ test mine. tt)) p (all_plain (groups_of p))
+      (padoa_learned f p old r.before r.learned padoa)
+
+  pub padoa_refuted : IsPadoa f p new.entries
+  padoa_refuted = subst (IsPadoa f p) (sym answered) padoa_answered
+
+  pub names_answered : NamesStay old.entries (Answer r.clause r.hints ∷ r.before.entries)
+  names_answered = names_learned old r.before f r.learned
+
+  pub silent_grew : DecidesNothing f r.before.entries (Answer r.clause r.hints) → (group : ℕ) → Grew (IsAddedBy f copies group true old.entries) old new
+  silent_grew undecided group =
+      let g = learned_grew f old r.before r.learned group in
+      record {
+        more = answer ∷ g.more;
+        grown = answered ∙ ap (λ es. answer ∷ es) g.grown;
+        each = (λ quiet. subst (λ es. DecidesNothing f es answer) g.grown undecided, g.each);
+        limit = ap (λ (l : ProofLog). l.limit) r.answered ∙ g.limit;
+      }
+
+-- a search in both copies that ends with an answer
+module _ (implied : LinesAreImplied)
+    (stays : (e : Entry) (entries : List Entry) (id : ℕ) → IsId entries id → numbered has_id (e ∷ entries) id ≡ numbered has_id entries id)
+    (are_ids : (entries : List Entry) (id i : ℕ) → AreLogged entries → IsId entries id → Reaches entries id i → IsId entries i)
+    (f : Dqbf) (p : Padoa) (v : ℕ) (places : List ℕ) (active : List Group) (one other : Literal) (old new : ProofLog) (id : ℕ)
+    (padoa : IsPadoa f p old.entries) (is : IsSome (existential_of f v)) (are : (e : Existential) → existential_of f v ≡ Some e → ArePlaces (declared f) (MayRead f e) places)
+    (are_active : AreActive p places active)
+    (one_is : name_literal old.entries one ≡ Some (named_literal (CopyOf 1 v) false)) (other_is : name_literal old.entries other ≡ Some (named_literal (CopyOf 2 v) false))
+    (searched : IsSearched new.entries) (r : IsRefutedUnder old new (assumed active (one ∷ opposite other ∷ [])) id) where
+  abbrev under : List Literal
+  under = assumed active (one ∷ opposite other ∷ [])
+
+  named_there : (l : Literal) (n : Name) → name_literal old.entries l ≡ Some (named_literal n false) → name_literal (Answer r.clause r.hints ∷ r.before.entries) l ≡ Some (named_literal n false)
+  named_there l n named =
+      literal_stays old.entries (Answer r.clause r.hints ∷ r.before.entries) (names_answered f p under old new id padoa r) l (named_literal n false) named
+
+  searched_there : IsSearched (Answer r.clause r.hints ∷ r.before.entries)
+  searched_there = subst IsSearched (answered f p under old new id padoa r) searched
+
+  variable_is : (e : Existential) → existential_of f v ≡ Some e → e.variable ≡ v
+  variable_is e found = (find_sound v f.existentials e found).1
+
+  pub shows : (e : Existential) → existential_of f v ≡ Some e → ShowsDefinition f e p one new.entries id
+  shows e found =
+      let v_is = variable_is e found in
+      let all = Answer r.clause r.hints ∷ r.before.entries in
+      subst (λ es. ShowsDefinition f e p one es id) (sym (answered f p under old new id padoa r)) (subst (ShowsDefinition f e p one all) (sym (answer_last f p under old new id padoa r)) (record {
+        is_id = record { from_one = omega arith; last = omega arith };
+        derived = searched_there.derived;
+        divides = divides f e p places active one other all r.before.entries r.clause r.hints stays are_ids refl searched_there (padoa_answered f p under old new id padoa r) (are e found) are_active
+            (named_there one (CopyOf 1 e.variable) (one_is ∙ ap (λ x. Some (named_literal (CopyOf 1 x) false)) (sym v_is)))
+            (named_there other (CopyOf 2 e.variable) (other_is ∙ ap (λ x. Some (named_literal (CopyOf 2 x) false)) (sym v_is))) r.negated;
+      }))
+
+  pub refuted_grew : (group : ℕ) → Grew (IsAddedBy f copies group true old.entries) old new
+  refuted_grew = silent_grew f p under old new id padoa r undecided
+    where
+      undecided : DecidesNothing f r.before.entries (Answer r.clause r.hints)
+      undecided = some_existential f v (DecidesNothing f r.before.entries (Answer r.clause r.hints)) is (λ e found.
+          let v_is = variable_is e found in
+          undecided_answer implied f r.before.entries r.clause r.hints searched_there
+          (only_copies f e p places active one other (Answer r.clause r.hints ∷ r.before.entries) r.before.entries r.clause r.hints stays are_ids refl searched_there
+          (padoa_answered f p under old new id padoa r) (are e found) are_active
+          (named_there one (CopyOf 1 e.variable) (one_is ∙ ap (λ x. Some (named_literal (CopyOf 1 x) false)) (sym v_is)))
+          (named_there other (CopyOf 2 e.variable) (other_is ∙ ap (λ x. Some (named_literal (CopyOf 2 x) false)) (sym v_is))) r.negated))
+
+pub on_answer : {P : Type 0} (a : AnswerOf) → (a ≡ Sat → P) → ((id : ℕ) → a ≡ Unsat id → P) → P
+on_answer Sat sat unsat = sat refl
+on_answer (Unsat id) sat unsat = unsat id refl
+
+pub places_below : (f : Dqbf) (y n : ℕ) (places : List ℕ) → n ≡ length (declared f) → IsSome (existential_of f y) →
+    ((e : Existential) → existential_of f y ≡ Some e → ArePlaces (declared f) (MayRead f e) places) → All (λ k. k < n) places
+places_below f y n places same is are =
+    some_existential f y (All (λ k. k < n) places) is (λ e found k d lt.
+    let r = (are e found).sound (get_or places k d) (k, lt, get_or_default places k (get_or places k d) d lt) in
+    let within = slice_get_within (declared f) (get_or places k d) r.0 r.1 in
+    omega (arith, within, same))
+
+pub mapped_existential : (ys : List Existential) (e : Existential) → Contains ys e → Contains (map (λ z. z.variable) ys) e.variable
+mapped_existential [] e (k, lt, at) = absurd (omega (arith, lt))
+mapped_existential (y ∷ ys) e (zero, lt, at) = (0, omega arith, ap (λ (z : Existential). z.variable) at)
+mapped_existential (y ∷ ys) e (suc k, lt, at) = let r = mapped_existential ys e (k, omega (arith, lt), at) in let b = r.1 in (suc r.0, omega (arith, b), r.2)
+
+pub found_declared : (f : Dqbf) (v : ℕ) (e : Existential) → existential_of f v ≡ Some e → Contains (declared f) e.variable
+found_declared f v e found = Contains-append_right f.universals (map (λ z. z.variable) f.existentials) e.variable (mapped_existential f.existentials e (find_sound v f.existentials e found).0)
+
+pub found_variable : (f : Dqbf) (v : ℕ) (e : Existential) → existential_of f v ≡ Some e → e.variable ≡ v
+found_variable f v e found = (find_sound v f.existentials e found).1
+
+pub existential_declared : (f : Dqbf) (v : ℕ) → IsSome (existential_of f v) → Contains (declared f) v
+existential_declared f v is =
+    some_existential f v (Contains (declared f) v) is (λ e found. subst (Contains (declared f)) (found_variable f v e found) (found_declared f v e found))
+
+-- the copies have names, so that an oracle that goes with the log has them
+pub copies_told : (es : List Entry) (side : ℕ) (vs : List ℕ) (lits : List Literal) (P : ℕ → Type 0) → AreCopiesOf es side vs lits → ((v : ℕ) → IsSome (name_of es v) → P v) →
+    All (λ l. P (variable_of l)) lits
+copies_told es side vs [] P are made = All-nil (λ l. P (variable_of l))
+copies_told es side [] (l ∷ lits) P are made = cc
+copies_told es side (v ∷ vs) (l ∷ lits) P are made =
+    let here : name_literal es l ≡ Some (named_literal (CopyOf side v) false) = cc in
+    let later : map (name_literal es) lits ≡ map Some (map (λ w. named_literal (CopyOf side w) false) vs) = cc in
+    let named = named_variable es l (CopyOf side v) false (name_of es (variable_of l)) refl here in
+    All-cons (λ k. P (variable_of k)) l lits (made (variable_of l) (subst IsSome (sym named.0) refl)) (copies_told es side vs lits P later made)
