@@ -1,5 +1,6 @@
--- And-inverter graphs: a node's value and which inputs it reads (A. Kuehlmann, V. Paruthi, F. Krohm, M. Ganai, "Robust Boolean reasoning for
--- equivalence checking and functional property verification", 2002).
+-- And-inverter graphs: a node's value and which inputs it reads (A. Kuehlmann, V. Paruthi, F.
+-- Krohm, M. Ganai, "Robust Boolean reasoning for equivalence checking and functional property
+-- verification", 2002).
 use Rattle.std.specs.Prelude.{◌≡◌, ◌≢◌, ℕ, ◌+◌, ◌==◌, ◌<◌, ◌^◌, Bool, true, false, not, ◌&&◌, List, [], ◌∷◌, ◌++◌, length, Option, None, Some, if◌then◌else◌}
 use Rattle.aig_graph.specs.declared.nodes.Node.{Node}
 use Rattle.aig_graph.specs.declared.nodes.Node.TheVariants.{Constant, Input, Gate}
@@ -25,7 +26,9 @@ value_by inputs gates (Gate g negated) = with_sign negated (gates g)
 abbrev pub gate_value : (ℕ → Bool) → List Sides → ℕ → Bool
 gate_value inputs [] g = false
 gate_value inputs (sides ∷ earlier) g =
-    if g == length earlier then value_by inputs (gate_value inputs earlier) sides.left && value_by inputs (gate_value inputs earlier) sides.right
+    if g == length earlier
+    then value_by inputs (gate_value inputs earlier) sides.left
+    && value_by inputs (gate_value inputs earlier) sides.right
     else gate_value inputs earlier g
 
 abbrev pub node_value : AigGraph → (ℕ → Bool) → Node → Bool
@@ -39,7 +42,9 @@ support_by gates (Gate g negated) = gates g
 abbrev pub gate_support : List Sides → ℕ → List ℕ
 gate_support [] g = []
 gate_support (sides ∷ earlier) g =
-    if g == length earlier then support_by (gate_support earlier) sides.left ++ support_by (gate_support earlier) sides.right
+    if g == length earlier
+    then support_by (gate_support earlier) sides.left
+    ++ support_by (gate_support earlier) sides.right
     else gate_support earlier g
 
 -- the inputs in a node's cone

@@ -19,7 +19,9 @@ pub record AreInner (inputs : ℕ) (a b : Node) : Type 0 where
   pub apart : place_of inputs a ≢ place_of inputs b
 
 abbrev pub AreApart : Node → Node → Type 0
-AreApart a b = (inputs gates : ℕ) → IsEarlierNode inputs gates a → IsEarlierNode inputs gates b → AreInner inputs a b
+AreApart a b =
+    (inputs gates : ℕ) → IsEarlierNode inputs gates a → IsEarlierNode inputs gates b
+    → AreInner inputs a b
 
 abbrev pub IsInner : Node → Type 0
 IsInner (Constant b) = ⊥
@@ -38,7 +40,8 @@ beside_by false _ = Apart
 
 -- in every graph that has both, the node is true where both are
 abbrev pub IsJoined : Node → Node → Node → Type 0
-IsJoined a b n = (graph : AigGraph) → IsNode graph a → IsNode graph b → IsMade (λ x y. x && y) graph graph a b n
+IsJoined a b n =
+    (graph : AigGraph) → IsNode graph a → IsNode graph b → IsMade (λ x y. x && y) graph graph a b n
 
 -- a gate's node and another one, by how a side of the gate stands to that other one
 abbrev pub node_by_side : Node → Bool → Beside → Node → Option Node

@@ -9,7 +9,8 @@ use Rattle.aig_graph.specs.Graph.{AigGraph, node_value, node_support, IsNode}
 pub record Extends (old new : AigGraph) : Type 0 where
   pub inputs : new.inputs ≡ old.inputs
   pub nodes : (n : Node) → IsNode old n → IsNode new n
-  pub values : (n : Node) → IsNode old n → (inputs : ℕ → Bool) → node_value new inputs n ≡ node_value old inputs n
+  pub values : (n : Node) → IsNode old n → (inputs : ℕ → Bool)
+      → node_value new inputs n ≡ node_value old inputs n
   pub supports : (n : Node) → IsNode old n → node_support new n ≡ node_support old n
 
 abbrev pub sides_of : Node → Node → Sides
@@ -29,10 +30,13 @@ pub record HasMore (old new : AigGraph) : Type 0 where
   pub grown : new.gates ≡ more ++ old.gates
 
 -- a node with this function of two nodes' values, that reads no more than they read
-pub record IsMade (function : Bool → Bool → Bool) (old new : AigGraph) (a b made : Node) : Type 0 where
+pub record IsMade (function : Bool → Bool → Bool) (old new : AigGraph)
+    (a b made : Node) : Type 0 where
   pub is_node : IsNode new made
-  pub value : (inputs : ℕ → Bool) → node_value new inputs made ≡ function (node_value old inputs a) (node_value old inputs b)
-  pub reads : (i : ℕ) → Contains (node_support new made) i → Contains (node_support old a) i ⊎ Contains (node_support old b) i
+  pub value : (inputs : ℕ → Bool)
+      → node_value new inputs made ≡ function (node_value old inputs a) (node_value old inputs b)
+  pub reads : (i : ℕ) → Contains (node_support new made) i
+      → Contains (node_support old a) i ⊎ Contains (node_support old b) i
 
 abbrev pub exclusive_or : Bool → Bool → Bool
 exclusive_or true b = not b
@@ -41,8 +45,12 @@ exclusive_or false b = b
 -- a node with the value of the second where the first is true, else of the third
 pub record IsChosen (old new : AigGraph) (c t e made : Node) : Type 0 where
   pub is_node : IsNode new made
-  pub value : (inputs : ℕ → Bool) → node_value new inputs made ≡ (if node_value old inputs c then node_value old inputs t else node_value old inputs e)
-  pub reads : (i : ℕ) → Contains (node_support new made) i → Contains (node_support old c) i ⊎ (Contains (node_support old t) i ⊎ Contains (node_support old e) i)
+  pub value : (inputs : ℕ → Bool)
+      → node_value new inputs made
+      ≡ (if node_value old inputs c then node_value old inputs t else node_value old inputs e)
+  pub reads : (i : ℕ) → Contains (node_support new made) i
+      → Contains (node_support old c) i
+      ⊎ (Contains (node_support old t) i ⊎ Contains (node_support old e) i)
 
 -- one of the nodes reads it
 pub record IsReadBy (graph : AigGraph) (nodes : List Node) (i : ℕ) : Type 0 where
@@ -53,5 +61,6 @@ pub record IsReadBy (graph : AigGraph) (nodes : List Node) (i : ℕ) : Type 0 wh
 -- a node that is true where all of them are
 pub record IsCube (old new : AigGraph) (nodes : List Node) (made : Node) : Type 0 where
   pub is_node : IsNode new made
-  pub value : (inputs : ℕ → Bool) → node_value new inputs made ≡ list_all (node_value old inputs) nodes
+  pub value : (inputs : ℕ → Bool)
+      → node_value new inputs made ≡ list_all (node_value old inputs) nodes
   pub reads : (i : ℕ) → Contains (node_support new made) i → IsReadBy old nodes i

@@ -23,14 +23,21 @@ AreRoots graph nodes p = (n : Node) × Contains nodes n × (place_of graph.input
 
 -- the places of some nodes, and of the sides of each gate among them
 pub data IsInCone (graph : AigGraph) (nodes : List Node) : ℕ → Type 0 where
-  root : (n : Node) (p : ℕ) → Contains nodes n → place_of graph.inputs n ≡ Some p → IsInCone graph nodes p
-  left : (g p : ℕ) (sides : Sides) → IsInCone graph nodes (graph.inputs + g) → gate_at graph.gates g ≡ Some sides → place_of graph.inputs sides.left ≡ Some p
+  root : (n : Node) (p : ℕ) → Contains nodes n → place_of graph.inputs n ≡ Some p
       → IsInCone graph nodes p
-  right : (g p : ℕ) (sides : Sides) → IsInCone graph nodes (graph.inputs + g) → gate_at graph.gates g ≡ Some sides → place_of graph.inputs sides.right ≡ Some p
+  left : (g p : ℕ) (sides : Sides) → IsInCone graph nodes (graph.inputs + g)
+      → gate_at graph.gates g ≡ Some sides → place_of graph.inputs sides.left ≡ Some p
+      → IsInCone graph nodes p
+  right : (g p : ℕ) (sides : Sides) → IsInCone graph nodes (graph.inputs + g)
+      → gate_at graph.gates g ≡ Some sides → place_of graph.inputs sides.right ≡ Some p
       → IsInCone graph nodes p
 
 -- a gate's marks, handed on to its sides
 abbrev pub HandsOn : AigGraph → ℕ → List Bool → List Bool → Type 0
 HandsOn graph g old new =
     (sides : Sides) → gate_at graph.gates g ≡ Some sides → (p : ℕ)
-    → ((bit_of new p ≡ true) ↔ ((bit_of old p ≡ true) ⊎ ((bit_of old (graph.inputs + g) ≡ true) × ((place_of graph.inputs sides.left ≡ Some p) ⊎ (place_of graph.inputs sides.right ≡ Some p)))))
+    → ((bit_of new p ≡ true)
+    ↔ ((bit_of old p ≡ true)
+    ⊎ ((bit_of old (graph.inputs + g) ≡ true)
+    × ((place_of graph.inputs sides.left ≡ Some p)
+    ⊎ (place_of graph.inputs sides.right ≡ Some p)))))

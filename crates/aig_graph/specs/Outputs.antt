@@ -16,7 +16,9 @@ node_output f graph node = record {
 
 -- an existential's node, of nodes in the order of the existentials
 abbrev pub output_node : Dqbf → List Node → Existential → Node
-output_node f nodes y = slice_index_or nodes (position_or_len (λ z. z.variable == y.variable) f.existentials) (Constant false)
+output_node f nodes y =
+    slice_index_or nodes (position_or_len (λ z. z.variable == y.variable) f.existentials)
+    (Constant false)
 
 abbrev pub outputs_of : Dqbf → AigGraph → List Node → Existential → OutputFunction
 outputs_of f graph nodes y = node_output f graph (output_node f nodes y)
@@ -31,4 +33,5 @@ ReadsUniversals f graph node = All (λ i. i < length f.universals) (node_support
 
 -- a node's value depends on the inputs that it reads alone
 abbrev pub OutputsAreSupported : Type 0
-OutputsAreSupported = (f : Dqbf) (graph : AigGraph) (node : Node) → IsSupported (node_output f graph node)
+OutputsAreSupported =
+    (f : Dqbf) (graph : AigGraph) (node : Node) → IsSupported (node_output f graph node)

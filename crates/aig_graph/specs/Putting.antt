@@ -29,7 +29,8 @@ pub record IsTakenLast (old new : BTreeSet ℕ) (n : ℕ) : Type 0 where
 abbrev pub IsAmongGates : List ℕ → Node → Type 0
 IsAmongGates gates node = (g : ℕ) → gate_of node ≡ Some g → Contains gates g
 
--- gates of the graph, later ones first, among them the node's, and with each gate those of its sides
+-- gates of the graph, later ones first, among them the node's, and with each gate those of its
+-- sides
 pub record AreConeGates (graph : AigGraph) (node : Node) (gates : List ℕ) : Type 0 where
   pub within : All (λ g. g < length graph.gates) gates
   pub descending : AllPairs (λ g h. h < g) gates
@@ -38,7 +39,8 @@ pub record AreConeGates (graph : AigGraph) (node : Node) (gates : List ℕ) : Ty
       → IsAmongGates gates sides.left × IsAmongGates gates sides.right
 
 -- what was made of a gate
-pub record HasPutIn (graph : AigGraph) (subs : List Node) (made : BTreeMap ℕ Node) (g : ℕ) : Type 0 where
+pub record HasPutIn (graph : AigGraph) (subs : List Node) (made : BTreeMap ℕ Node)
+    (g : ℕ) : Type 0 where
   pub node : Node
   pub found : get nat_cmp made g ≡ Some node
   pub put_in : IsPutIn graph graph (Gate g false) subs node
@@ -50,4 +52,5 @@ IsReady graph subs made node = (g : ℕ) → gate_of node ≡ Some g → HasPutI
 -- something was made of the gates among a gate's sides
 abbrev pub AreReady : AigGraph → List Node → BTreeMap ℕ Node → ℕ → Type 0
 AreReady graph subs made g =
-    (sides : Sides) → gate_at graph.gates g ≡ Some sides → IsReady graph subs made sides.left × IsReady graph subs made sides.right
+    (sides : Sides) → gate_at graph.gates g ≡ Some sides
+    → IsReady graph subs made sides.left × IsReady graph subs made sides.right

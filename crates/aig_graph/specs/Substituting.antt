@@ -13,7 +13,8 @@ first_inputs graph subs = graph.inputs - length subs
 abbrev pub values_put_in : AigGraph → List Node → (ℕ → Bool) → ℕ → Bool
 values_put_in graph subs inputs i =
     if nat_lt i (first_inputs graph subs) then inputs i
-    else node_value graph inputs (slice_index_or subs (i - first_inputs graph subs) (Constant false))
+    else node_value graph inputs
+    (slice_index_or subs (i - first_inputs graph subs) (Constant false))
 
 -- the node reads one of the last inputs, and what is put in there reads this one
 pub record IsReadBySub (graph : AigGraph) (node : Node) (subs : List Node) (i : ℕ) : Type 0 where
@@ -25,10 +26,15 @@ pub record IsReadBySub (graph : AigGraph) (node : Node) (subs : List Node) (i : 
 
 -- the node reads it as one of the first inputs, or what is put in for one that it reads
 abbrev pub IsReadThrough : AigGraph → Node → List Node → ℕ → Type 0
-IsReadThrough graph node subs i = (Contains (node_support graph node) i × (i < first_inputs graph subs)) ⊎ IsReadBySub graph node subs i
+IsReadThrough graph node subs i =
+    (Contains (node_support graph node) i × (i < first_inputs graph subs))
+    ⊎ IsReadBySub graph node subs i
 
--- a node with the value of the first one where the last inputs have the values of the nodes put in, that reads no more than this takes
-pub record IsPutIn (old new : AigGraph) (node : Node) (subs : List Node) (made : Node) : Type 0 where
+-- a node with the value of the first one where the last inputs have the values of the nodes put in,
+-- that reads no more than this takes
+pub record IsPutIn (old new : AigGraph) (node : Node) (subs : List Node)
+    (made : Node) : Type 0 where
   pub is_node : IsNode new made
-  pub value : (inputs : ℕ → Bool) → node_value new inputs made ≡ node_value old (values_put_in old subs inputs) node
+  pub value : (inputs : ℕ → Bool)
+      → node_value new inputs made ≡ node_value old (values_put_in old subs inputs) node
   pub reads : (i : ℕ) → Contains (node_support new made) i → IsReadThrough old node subs i

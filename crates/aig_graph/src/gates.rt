@@ -53,7 +53,8 @@ impl Graph {
         made
     }
 
-    /// A node with the value of `t` where `c` is true, else of `e`. A refused call leaves the graph as it was.
+    /// A node with the value of `t` where `c` is true, else of `e`. A refused call leaves the graph
+    /// as it was.
     pub fn mux(&mut self, c: Node, t: Node, e: Node) -> Result<Node, Memory>
         requires c { IsNode self.old c }
         requires t { IsNode self.old t }
@@ -71,7 +72,8 @@ impl Graph {
         made
     }
 
-    /// A node that is true where all of them are; with none, it is true everywhere. A refused call leaves the graph as it was.
+    /// A node that is true where all of them are; with none, it is true everywhere. A refused call
+    /// leaves the graph as it was.
     pub fn cube(&mut self, nodes: &[Node]) -> Result<Node, Memory>
         requires { All (IsNode self.old) nodes.now }
         ensures extends { Extends self.old self.new }

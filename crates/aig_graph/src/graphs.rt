@@ -14,7 +14,8 @@ use std::marker::Model;
 pub struct Graph {
     inputs: usize,
     gates: Vec<Sides>,
-    // Where a gate of these sides may stand: whoever looks there compares them, so that a stale place does no harm.
+    // Where a gate of these sides may stand: whoever looks there compares them, so that a stale
+    // place does no harm.
     places: BTreeMap<(Node, Node), usize>,
 }
 
@@ -26,7 +27,8 @@ impl Model for Graph {
 
     ghost view = { λ g. record { inputs = g.inputs; gates = reverse g.gates.items } };
 
-    ghost invariant = { λ g. IsGraph (record { inputs = g.inputs; gates = reverse g.gates.items }) };
+    ghost invariant = { λ g.
+        IsGraph (record { inputs = g.inputs; gates = reverse g.gates.items }) };
 }
 
 impl Graph {
@@ -72,7 +74,8 @@ impl Graph {
         self.inputs + self.gates.len()
     }
 
-    /// The place of a node, the same for a node and its negation, and for no other: inputs stand first, then gates. Constants have none.
+    /// The place of a node, the same for a node and its negation, and for no other: inputs stand
+    /// first, then gates. Constants have none.
     pub fn place(&self, n: Node) -> Option<usize>
         requires { IsNode self.now n }
         ensures { result ≡ place_of self.now.inputs n }

@@ -1,4 +1,5 @@
-//! What the definitions of `specs/` prove about one another. Each law is the contract of a function with an empty body.
+//! What the definitions of `specs/` prove about one another. Each law is the contract of a function
+//! with an empty body.
 
 ghost use Rattle.aig_graph.specs.Outputs.{OutputsAreSupported};
 

@@ -38,7 +38,8 @@ impl Node {
     /// The node with the other value.
     pub fn not(self) -> Node
         ensures node { (graph : AigGraph) → IsNode graph self → IsNode graph result }
-        ensures value { (graph : AigGraph) (inputs : ℕ → Bool) → node_value graph inputs result ≡ not (node_value graph inputs self) }
+        ensures value { (graph : AigGraph) (inputs : ℕ → Bool)
+            → node_value graph inputs result ≡ not (node_value graph inputs self) }
         ensures support { (graph : AigGraph) → node_support graph result ≡ node_support graph self }
         ensures place { (inputs : ℕ) → place_of inputs result ≡ place_of inputs self }
     {
@@ -52,7 +53,8 @@ impl Node {
     // The node, or its negation.
     pub(crate) fn signed(self, negated: bool) -> Node
         ensures node { (graph : AigGraph) → IsNode graph self → IsNode graph result }
-        ensures value { (graph : AigGraph) (inputs : ℕ → Bool) → node_value graph inputs result ≡ with_sign negated (node_value graph inputs self) }
+        ensures value { (graph : AigGraph) (inputs : ℕ → Bool)
+            → node_value graph inputs result ≡ with_sign negated (node_value graph inputs self) }
         ensures support { (graph : AigGraph) → node_support graph result ≡ node_support graph self }
     {
         if negated { self.not() } else { self }
@@ -124,8 +126,8 @@ pub(crate) fn joined(a: Node, b: Node) -> Option<Node>
     }
 }
 
-// A node that is true where a gate's node and another one are, by how a side of the gate stands to that other one: a gate is never true
-// where a side is false, and true only where it is true.
+// A node that is true where a gate's node and another one are, by how a side of the gate stands to
+// that other one: a gate is never true where a side is false, and true only where it is true.
 pub(crate) fn by_side(gate: Node, negated: bool, side: Beside, other: Node) -> Option<Node>
     ensures { result ≡ node_by_side gate negated side other }
 {

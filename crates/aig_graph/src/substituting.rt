@@ -13,8 +13,9 @@ use std::alloc::Global;
 use std::collections::BTreeMap;
 
 impl Graph {
-    /// A node with the value of this one where the last inputs have the values of these nodes, in order; the inputs before them stay. Work
-    /// and memory follow the node's cone. A refused call leaves gates that were made.
+    /// A node with the value of this one where the last inputs have the values of these nodes, in
+    /// order; the inputs before them stay. Work and memory follow the node's cone. A refused call
+    /// leaves gates that were made.
     pub fn put_in(&mut self, node: Node, subs: &[Node]) -> Result<Node, Memory>
         requires node { IsNode self.old node }
         requires subs { All (IsNode self.old) subs.now }

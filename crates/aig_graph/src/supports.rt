@@ -8,12 +8,14 @@ use crate::nodes::Node;
 use dq_lits::Row;
 
 impl Graph {
-    /// Marks the inputs that a node reads: those in its cone, whatever its values. The marks have a place for each of the graph's; what
-    /// stands there before counts for nothing, and the places behind the inputs are left open. The call takes no memory.
+    /// Marks the inputs that a node reads: those in its cone, whatever its values. The marks have a
+    /// place for each of the graph's; what stands there before counts for nothing, and the places
+    /// behind the inputs are left open. The call takes no memory.
     pub fn support(&self, n: Node, marks: &mut Row)
         requires node { IsNode self.now n }
         requires a_place_a_node { length marks.old ≡ size_of self.now }
-        ensures reached { (i : ℕ) → i < self.now.inputs → ((bit_of marks.new i ≡ true) ↔ Contains (node_support self.now n) i) }
+        ensures reached { (i : ℕ) → i < self.now.inputs
+            → ((bit_of marks.new i ≡ true) ↔ Contains (node_support self.now n) i) }
         ensures same_length { length marks.new ≡ length marks.old }
     {
         self.every_graph_is_lawful();
@@ -26,8 +28,9 @@ impl Graph {
         }
     }
 
-    /// Marks the places in the cones of some nodes: those of the nodes, and of the sides of each gate among them. The marks have a
-    /// place for each of the graph's; what stands there before counts for nothing. The call takes no memory.
+    /// Marks the places in the cones of some nodes: those of the nodes, and of the sides of each
+    /// gate among them. The marks have a place for each of the graph's; what stands there before
+    /// counts for nothing. The call takes no memory.
     pub fn cones(&self, nodes: &[Node], marks: &mut Row)
         requires nodes { All (IsNode self.now) nodes.now }
         requires a_place_a_node { length marks.old ≡ size_of self.now }
@@ -60,7 +63,8 @@ impl Graph {
     fn mark_sides(&self, g: usize, marks: &mut Row)
         requires gate { g < length self.now.gates }
         requires a_place_a_node { length marks.old ≡ size_of self.now }
-        ensures reached { (i : ℕ) → i < self.now.inputs → (IsReached self.now (g + 1) marks.old i ↔ IsReached self.now g marks.new i) }
+        ensures reached { (i : ℕ) → i < self.now.inputs
+            → (IsReached self.now (g + 1) marks.old i ↔ IsReached self.now g marks.new i) }
         ensures hands_on { HandsOn self.now g marks.old marks.new }
         ensures same_length { length marks.new ≡ length marks.old }
     {
@@ -75,7 +79,9 @@ impl Graph {
     fn mark(&self, n: Node, marks: &mut Row)
         requires node { IsNode self.now n }
         requires a_place_a_node { length marks.old ≡ size_of self.now }
-        ensures marked { (p : ℕ) → ((bit_of marks.new p ≡ true) ↔ ((bit_of marks.old p ≡ true) ⊎ (place_of self.now.inputs n ≡ Some p))) }
+        ensures marked { (p : ℕ)
+            → ((bit_of marks.new p ≡ true)
+            ↔ ((bit_of marks.old p ≡ true) ⊎ (place_of self.now.inputs n ≡ Some p))) }
         ensures same_length { length marks.new ≡ length marks.old }
     {
         match self.place(n) {

@@ -7,8 +7,9 @@ use crate::nodes::Node;
 use dq_lits::Row;
 
 impl Graph {
-    /// The value of a node under a row, which has the bit of input i at place i. The buffer has a place for each of the graph's; what
-    /// stands there counts for nothing. The call takes no memory, and goes over the gates up to the node's once.
+    /// The value of a node under a row, which has the bit of input i at place i. The buffer has a
+    /// place for each of the graph's; what stands there counts for nothing. The call takes no
+    /// memory, and goes over the gates up to the node's once.
     pub fn value(&self, n: Node, row: &Row, buf: &mut Row) -> bool
         requires node { IsNode self.now n }
         requires a_bit_an_input { length row.now ≡ self.now.inputs }
@@ -21,8 +22,9 @@ impl Graph {
         self.bit(n, row, buf)
     }
 
-    /// Writes the values of nodes under a row to `out`, in order. The buffer has a place for each of the graph's; what stands there
-    /// counts for nothing. The call takes no memory, and goes over the gates once, however many nodes there are.
+    /// Writes the values of nodes under a row to `out`, in order. The buffer has a place for each
+    /// of the graph's; what stands there counts for nothing. The call takes no memory, and goes
+    /// over the gates once, however many nodes there are.
     pub fn values(&self, nodes: &[Node], row: &Row, buf: &mut Row, out: &mut Row)
         requires nodes { All (IsNode self.now) nodes.now }
         requires a_bit_an_input { length row.now ≡ self.now.inputs }
@@ -43,7 +45,8 @@ impl Graph {
         requires few { count ≤ length self.now.gates }
         requires a_bit_an_input { length row.now ≡ self.now.inputs }
         requires a_place_a_node { length buf.old ≡ size_of self.now }
-        ensures values { (g : ℕ) → g < count → bit_of buf.new (self.now.inputs + g) ≡ gate_value (bit_of row.now) self.now.gates g }
+        ensures values { (g : ℕ) → g < count
+            → bit_of buf.new (self.now.inputs + g) ≡ gate_value (bit_of row.now) self.now.gates g }
         ensures same_length { length buf.new ≡ length buf.old }
     {
         self.every_graph_is_lawful();

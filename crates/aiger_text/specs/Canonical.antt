@@ -1,4 +1,5 @@
--- The canonical text of a circuit file: one space between tokens, and LF at the end of each line but for the comment's.
+-- The canonical text of a circuit file: one space between tokens, and LF at the end of each line
+-- but for the comment's.
 use Rattle.std.specs.Prelude.{ℕ, ◌*◌, List, [], ◌∷◌, ◌++◌, length, Option, None, Some, codes}
 use Rattle.std.specs.List.{flat_map}
 use Rattle.circuit_plain.specs.Netlist.{Netlist}
@@ -29,11 +30,14 @@ comment_text None = []
 comment_text (Some comment) = 99 ∷ 10 ∷ comment
 
 abbrev pub netlist_text : Netlist → List ℕ
-netlist_text net = flat_map input_text net.inputs ++ (flat_map number_line net.outputs ++ flat_map gate_text net.gates)
+netlist_text net =
+    flat_map input_text net.inputs
+    ++ (flat_map number_line net.outputs ++ flat_map gate_text net.gates)
 
--- the header, a line for each input, output and gate, a line for each symbol of an input and then of an output, in the
--- file's order, and the comment
+-- the header, a line for each input, output and gate, a line for each symbol of an input and then
+-- of an output, in the file's order, and the comment
 abbrev pub canonical_circuit : AagFile → List ℕ
 canonical_circuit file =
     header_text file.circuit ++ (netlist_text file.circuit
-    ++ (flat_map (symbol_text 105) file.symbols.inputs ++ (flat_map (symbol_text 111) file.symbols.outputs ++ comment_text file.comment)))
+    ++ (flat_map (symbol_text 105) file.symbols.inputs
+    ++ (flat_map (symbol_text 111) file.symbols.outputs ++ comment_text file.comment)))

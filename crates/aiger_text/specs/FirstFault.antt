@@ -4,7 +4,8 @@ use Rattle.aiger_text.specs.Scan.{LineFault, IsCyclicAt, scan}
 use Rattle.aiger_text.specs.declared.faults.AagFault.TheVariants.{Cyclic}
 use Rattle.aiger_text.specs.declared.files.AagFile.{AagFile}
 
--- the file that the scan gives has a cycle, which is a fault of the first gate outside the least set
+-- the file that the scan gives has a cycle, which is a fault of the first gate outside the least
+-- set
 pub record HasCycle (text : List ℕ) (first : ℕ) (fault : LineFault) : Type 0 where
   pub file : AagFile
   pub scanned : scan text first ≡ Ok file

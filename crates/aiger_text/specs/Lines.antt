@@ -17,29 +17,39 @@ use Rattle.aiger_text.specs.declared.faults.AagFault.TheVariants.{BadHeader, Not
 -- the natural numbers that these tokens are, if all are
 abbrev pub numbers_of : List (List ℕ) → Option (List ℕ)
 numbers_of [] = Some []
-numbers_of (token ∷ tokens) = option_and_then (λ n. option_map (λ ns. n ∷ ns) (numbers_of tokens)) (natural_of token)
+numbers_of (token ∷ tokens) =
+    option_and_then (λ n. option_map (λ ns. n ∷ ns) (numbers_of tokens)) (natural_of token)
 
 abbrev pub max_count : ℕ
 max_count = 1000000000
 
--- latches and the sections behind the gates are left out; the numbers stand as M I L O A, and others behind them
+-- latches and the sections behind the gates are left out; the numbers stand as M I L O A, and
+-- others behind them
 abbrev pub counts_of : List ℕ → Result Header AagFault
 counts_of ns =
-    if not (slice_index ns 2 == 0) || list_any (λ n. not (n == 0)) (drop 5 ns) then Err NotCombinational else
+    if not (slice_index ns 2 == 0) || list_any (λ n. not (n == 0)) (drop 5 ns)
+    then Err NotCombinational else
     if nat_lt (slice_index ns 0) (slice_index ns 1 + slice_index ns 4) then Err BadHeader else
-    Ok (record { max_var = slice_index ns 0; inputs = slice_index ns 1; outputs = slice_index ns 3; gates = slice_index ns 4 })
+    Ok (record {
+      max_var = slice_index ns 0;
+      inputs = slice_index ns 1;
+      outputs = slice_index ns 3;
+      gates = slice_index ns 4;
+    })
 
 abbrev pub limited_counts_of : List ℕ → Result Header AagFault
 limited_counts_of ns = if list_any (λ n. nat_lt max_count n) ns then Err TooBig else counts_of ns
 
 abbrev pub header_numbers : Option (List ℕ) → Result Header AagFault
 header_numbers None = Err BadHeader
-header_numbers (Some ns) = if nat_lt (length ns) 5 || nat_lt 9 (length ns) then Err BadHeader else limited_counts_of ns
+header_numbers (Some ns) =
+    if nat_lt (length ns) 5 || nat_lt 9 (length ns) then Err BadHeader else limited_counts_of ns
 
 -- `aag` and five to nine natural numbers
 abbrev pub header_of : List (List ℕ) → Result Header AagFault
 header_of [] = Err BadHeader
-header_of (word ∷ tokens) = if bytes_eq word (codes "aag") then header_numbers (numbers_of tokens) else Err BadHeader
+header_of (word ∷ tokens) =
+    if bytes_eq word (codes "aag") then header_numbers (numbers_of tokens) else Err BadHeader
 
 -- the variable is an input or a gate
 abbrev pub is_defined : Netlist → ℕ → Bool
@@ -80,7 +90,8 @@ output_of net l =
 abbrev pub gate_of : Netlist → ℕ → ℕ → ℕ → Result Netlist AagFault
 gate_of net lhs left right =
     if is_too_big lhs || (is_too_big left || is_too_big right) then Err TooBig else
-    if not (is_positive net.max_var lhs && (is_literal net.max_var left && is_literal net.max_var right)) then Err Range else
+    if not (is_positive net.max_var lhs
+    && (is_literal net.max_var left && is_literal net.max_var right)) then Err Range else
     if is_defined net (lhs / 2) then Err DefinedTwice else
     Ok (with_gate net (record { variable = lhs / 2; left = left; right = right }))
 
@@ -132,12 +143,14 @@ pub record SymbolLine : Type 0 where
 
 abbrev pub if_named : Bool → ℕ → List ℕ → Option SymbolLine
 if_named of_input place [] = None
-if_named of_input place (byte ∷ bytes) = Some (record { of_input = of_input; place = place; name = byte ∷ bytes })
+if_named of_input place (byte ∷ bytes) =
+    Some (record { of_input = of_input; place = place; name = byte ∷ bytes })
 
 abbrev pub behind_place : Bool → ℕ → List ℕ → Option SymbolLine
 behind_place of_input place [] = None
 behind_place of_input place (separator ∷ name) =
-    if separator == 32 || (separator == 9) then if_named of_input place (without_end_crs name) else None
+    if separator == 32 || (separator == 9) then if_named of_input place (without_end_crs name)
+    else None
 
 -- where the digits end
 abbrev pub digits_end : List ℕ → ℕ
@@ -145,11 +158,14 @@ digits_end bytes = position_or_len (λ byte. not (is_ascii_digit byte)) bytes
 
 abbrev pub behind_kind : Bool → List ℕ → Option SymbolLine
 behind_kind of_input bytes =
-    option_and_then (λ place. behind_place of_input place (drop (digits_end bytes) bytes)) (natural_of (take (digits_end bytes) bytes))
+    option_and_then (λ place. behind_place of_input place (drop (digits_end bytes) bytes))
+    (natural_of (take (digits_end bytes) bytes))
 
 abbrev pub symbol_of : List ℕ → Option SymbolLine
 symbol_of [] = None
-symbol_of (kind ∷ bytes) = if kind == 105 then behind_kind true bytes else if kind == 111 then behind_kind false bytes else None
+symbol_of (kind ∷ bytes) =
+    if kind == 105 then behind_kind true bytes else if kind == 111 then behind_kind false bytes
+    else None
 
 -- a place of an input or an output that has no symbol yet
 abbrev pub add_symbol : Header → SymbolTable → SymbolLine → Result SymbolTable AagFault

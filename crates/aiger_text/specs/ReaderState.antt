@@ -14,7 +14,13 @@ use Rattle.aiger_text.specs.declared.faults.LineStop.{LineStop}
 use Rattle.aiger_text.specs.declared.faults.LineStop.TheVariants.{Fault, Memory}
 
 abbrev pub body_of : Reader → Body
-body_of r = record { header_line = r.header_line; header = r.header; netlist = r.circuit; symbols = r.symbols }
+body_of r =
+    record {
+      header_line = r.header_line;
+      header = r.header;
+      netlist = r.circuit;
+      symbols = r.symbols;
+    }
 
 -- the header's counts are within their limit
 pub record IsSmall (h : Header) : Type 0 where
@@ -58,7 +64,8 @@ pub record SameElse (old new : Reader) : Type 0 where
   pub symbols : new.symbols ≡ old.symbols
 
 -- the symbols behind the line, or the line's fault, or want of memory
-abbrev pub IsTableOf : Result SymbolTable AagFault → Result (Unit {0}) LineStop → SymbolTable → Type 0
+abbrev pub IsTableOf : Result SymbolTable AagFault → Result (Unit {0}) LineStop → SymbolTable
+    → Type 0
 IsTableOf line (Ok _) table = line ≡ Ok table
 IsTableOf line (Err (Fault name)) table = line ≡ Err name
 IsTableOf line (Err Memory) table = Unit {0}

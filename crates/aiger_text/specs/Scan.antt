@@ -68,7 +68,9 @@ unless_undefined None file = Ok file
 
 -- the file as it stands, unless it names what it doesn't define
 abbrev pub finish : Body → Option (List ℕ) → Result AagFile LineFault
-finish b comment = unless_undefined (undefined_line b) (record { circuit = b.netlist; symbols = b.symbols; comment = comment })
+finish b comment =
+    unless_undefined (undefined_line b)
+    (record { circuit = b.netlist; symbols = b.symbols; comment = comment })
 
 -- which line comes next
 abbrev pub next_part : Body → Part
@@ -78,25 +80,32 @@ next_part b =
     if nat_lt (length b.netlist.gates) b.header.gates then GateLine else
     SymbolLine
 
-abbrev pub go_on : ℕ → Body → Result Netlist AagFault → (Body → Result AagFile LineFault) → Result AagFile LineFault
+abbrev pub go_on : ℕ → Body → Result Netlist AagFault → (Body → Result AagFile LineFault)
+    → Result AagFile LineFault
 go_on line b (Ok net) next = next (record b { netlist = net })
 go_on line b (Err name) next = Err (record { line = line; name = name })
 
-abbrev pub with_symbol : ℕ → Body → Result SymbolTable AagFault → (Body → Result AagFile LineFault) → Result AagFile LineFault
+abbrev pub with_symbol : ℕ → Body → Result SymbolTable AagFault → (Body → Result AagFile LineFault)
+    → Result AagFile LineFault
 with_symbol line b (Ok table) next = next (record b { symbols = table })
 with_symbol line b (Err name) next = Err (record { line = line; name = name })
 
 -- behind the gates
-abbrev pub behind_gates : Body → TextLine → (Body → Result AagFile LineFault) → Result AagFile LineFault
+abbrev pub behind_gates : Body → TextLine → (Body → Result AagFile LineFault)
+    → Result AagFile LineFault
 behind_gates b line next =
     if is_blank_line line.text then next b else
     if begins_comment line.text then finish b (Some line.behind) else
     with_symbol line.number b (symbol_line b.header b.symbols (symbol_of line.text)) next
 
-abbrev pub read_line : Part → Body → TextLine → (Body → Result AagFile LineFault) → Result AagFile LineFault
-read_line InputLine b line next = go_on line.number b (input_line b.netlist (numbers_of (line_tokens line.text))) next
-read_line OutputLine b line next = go_on line.number b (output_line b.netlist (numbers_of (line_tokens line.text))) next
-read_line GateLine b line next = go_on line.number b (gate_line b.netlist (numbers_of (line_tokens line.text))) next
+abbrev pub read_line : Part → Body → TextLine → (Body → Result AagFile LineFault)
+    → Result AagFile LineFault
+read_line InputLine b line next =
+    go_on line.number b (input_line b.netlist (numbers_of (line_tokens line.text))) next
+read_line OutputLine b line next =
+    go_on line.number b (output_line b.netlist (numbers_of (line_tokens line.text))) next
+read_line GateLine b line next =
+    go_on line.number b (gate_line b.netlist (numbers_of (line_tokens line.text))) next
 read_line SymbolLine b line next = behind_gates b line next
 
 -- the end of the text, where the next line would have this number
@@ -108,15 +117,19 @@ at_end SymbolLine b number = finish b None
 
 abbrev pub read_body : Body → List TextLine → ℕ → Result AagFile LineFault
 read_body b [] number = at_end (next_part b) b number
-read_body b (line ∷ lines) number = read_line (next_part b) b line (λ c. read_body c lines (line.number + 1))
+read_body b (line ∷ lines) number =
+    read_line (next_part b) b line (λ c. read_body c lines (line.number + 1))
 
-abbrev pub behind_header : ℕ → Result Header AagFault → (Body → Result AagFile LineFault) → Result AagFile LineFault
+abbrev pub behind_header : ℕ → Result Header AagFault → (Body → Result AagFile LineFault)
+    → Result AagFile LineFault
 behind_header line (Ok header) next = next (start line header)
 behind_header line (Err name) next = Err (record { line = line; name = name })
 
 abbrev pub read_lines : List TextLine → ℕ → Result AagFile LineFault
 read_lines [] number = Err (record { line = number; name = BadHeader })
-read_lines (line ∷ lines) number = behind_header line.number (header_of (line_tokens line.text)) (λ b. read_body b lines (line.number + 1))
+read_lines (line ∷ lines) number =
+    behind_header line.number (header_of (line_tokens line.text))
+    (λ b. read_body b lines (line.number + 1))
 
 -- the file, or its first fault but for cycles, where the first line has this number
 abbrev pub scan : List ℕ → ℕ → Result AagFile LineFault
@@ -126,7 +139,8 @@ scan bytes first = read_lines (lines_from first bytes) first
 abbrev pub AllGrounded : Netlist → Type 0
 AllGrounded net = All (λ g. IsGrounded net g.variable) net.gates
 
--- the line of the first gate outside the least set: the gates' lines follow the header, the inputs and the outputs
+-- the line of the first gate outside the least set: the gates' lines follow the header, the inputs
+-- and the outputs
 pub record IsCyclicAt (first : ℕ) (net : Netlist) (line : ℕ) : Type 0 where
   pub place : ℕ
   pub ungrounded : IsFirstUngrounded net place
@@ -135,8 +149,10 @@ pub record IsCyclicAt (first : ℕ) (net : Netlist) (line : ℕ) : Type 0 where
 -- what `read` answers, by what the scan gives
 abbrev pub IsAagReading : ℕ → Result AagFile LineFault → Result AagFile AagStop → Type 0
 IsAagReading first (Ok file) (Ok read) = (read ≡ file) × AllGrounded file.circuit
-IsAagReading first (Ok file) (Err (Refused line name)) = (name ≡ Cyclic) × IsCyclicAt first file.circuit line
+IsAagReading first (Ok file) (Err (Refused line name)) =
+    (name ≡ Cyclic) × IsCyclicAt first file.circuit line
 IsAagReading first (Err fault) (Ok read) = ⊥
-IsAagReading first (Err fault) (Err (Refused line name)) = fault ≡ record { line = line; name = name }
+IsAagReading first (Err fault) (Err (Refused line name)) =
+    fault ≡ record { line = line; name = name }
 IsAagReading first (Ok file) (Err Memory) = Unit {0}
 IsAagReading first (Err fault) (Err Memory) = Unit {0}

@@ -18,10 +18,12 @@ line_of text number behind = record { text = text; number = number; behind = beh
 -- the reading goes on with the new body, or stops at the line
 abbrev pub TakesLine : Body → List ℕ → Result (Unit {0}) LineStop → Body → Type 0
 TakesLine old text (Ok _) new =
-    (number : ℕ) (behind : List ℕ) (next : Body → Result AagFile LineFault) → read_line (next_part old) old (line_of text number behind) next ≡ next new
+    (number : ℕ) (behind : List ℕ) (next : Body → Result AagFile LineFault)
+    → read_line (next_part old) old (line_of text number behind) next ≡ next new
 TakesLine old text (Err (Fault name)) new =
     (number : ℕ) (behind : List ℕ) (next : Body → Result AagFile LineFault) →
-    read_line (next_part old) old (line_of text number behind) next ≡ Err (record { line = number; name = name })
+    read_line (next_part old) old (line_of text number behind) next
+    ≡ Err (record { line = number; name = name })
 TakesLine old text (Err Memory) new = Unit {0}
 
 abbrev pub StopsAt : ℕ → LineStop → AagStop → Type 0

@@ -76,7 +76,8 @@ fn is_literal_in_range(max_var: u64, literal: u64) -> bool
 fn input_variable(reader: &Reader, literal: u64) -> Result<u64, AagFault>
     requires { IsReady reader.now }
     ensures { MatchResult result
-        (λ v. (input_of reader.now.circuit literal ≡ Ok (with_input reader.now.circuit v)) × IsNewVariable reader.now.circuit v)
+        (λ v. (input_of reader.now.circuit literal ≡ Ok (with_input reader.now.circuit v))
+        × IsNewVariable reader.now.circuit v)
         (λ name. input_of reader.now.circuit literal ≡ Err name) }
 {
     if literal >= TOO_BIG {
@@ -95,7 +96,9 @@ fn input_variable(reader: &Reader, literal: u64) -> Result<u64, AagFault>
 pub fn take_input(reader: &mut Reader, line: &[u8]) -> Result<(), LineStop>
     requires ready { IsReady reader.old }
     requires room { length reader.old.circuit.inputs < reader.old.header.inputs }
-    ensures netlist { IsNetlistOf (input_line reader.old.circuit (numbers_of (line_tokens line.now))) result reader.new.circuit }
+    ensures netlist { IsNetlistOf
+        (input_line reader.old.circuit (numbers_of (line_tokens line.now))) result
+        reader.new.circuit }
     ensures same { SameElse reader.old reader.new }
     ensures ready { OnOk result (IsReady reader.new) }
 {
@@ -110,7 +113,8 @@ pub fn take_input(reader: &mut Reader, line: &[u8]) -> Result<(), LineStop>
 fn output_literal(reader: &Reader, literal: u64) -> Result<u64, AagFault>
     requires { IsReady reader.now }
     ensures { MatchResult result
-        (λ l. (output_of reader.now.circuit literal ≡ Ok (with_output reader.now.circuit l)) × IsLiteral reader.now.circuit.max_var l)
+        (λ l. (output_of reader.now.circuit literal ≡ Ok (with_output reader.now.circuit l))
+        × IsLiteral reader.now.circuit.max_var l)
         (λ name. output_of reader.now.circuit literal ≡ Err name) }
 {
     if literal >= TOO_BIG {
@@ -126,7 +130,9 @@ fn output_literal(reader: &Reader, literal: u64) -> Result<u64, AagFault>
 pub fn take_output(reader: &mut Reader, line: &[u8]) -> Result<(), LineStop>
     requires ready { IsReady reader.old }
     requires room { length reader.old.circuit.outputs < reader.old.header.outputs }
-    ensures netlist { IsNetlistOf (output_line reader.old.circuit (numbers_of (line_tokens line.now))) result reader.new.circuit }
+    ensures netlist { IsNetlistOf
+        (output_line reader.old.circuit (numbers_of (line_tokens line.now))) result
+        reader.new.circuit }
     ensures same { SameElse reader.old reader.new }
     ensures ready { OnOk result (IsReady reader.new) }
 {
@@ -141,7 +147,8 @@ fn gate_variable(reader: &Reader, numbers: GateNumbers) -> Result<u64, AagFault>
     requires { IsReady reader.now }
     ensures { MatchResult result
         (λ v. (gate_of reader.now.circuit numbers.lhs numbers.left numbers.right
-        ≡ Ok (with_gate reader.now.circuit (record { variable = v; left = numbers.left; right = numbers.right })))
+        ≡ Ok (with_gate reader.now.circuit
+        (record { variable = v; left = numbers.left; right = numbers.right })))
         × IsNewGate reader.now.circuit numbers v)
         (λ name. gate_of reader.now.circuit numbers.lhs numbers.left numbers.right ≡ Err name) }
 {
@@ -174,7 +181,8 @@ fn is_gate_in_range(max_var: u64, numbers: GateNumbers) -> bool
 pub fn take_gate(reader: &mut Reader, line: &[u8]) -> Result<(), LineStop>
     requires ready { IsReady reader.old }
     requires room { length reader.old.circuit.gates < reader.old.header.gates }
-    ensures netlist { IsNetlistOf (gate_line reader.old.circuit (numbers_of (line_tokens line.now))) result reader.new.circuit }
+    ensures netlist { IsNetlistOf (gate_line reader.old.circuit (numbers_of (line_tokens line.now)))
+        result reader.new.circuit }
     ensures same { SameElse reader.old reader.new }
     ensures ready { OnOk result (IsReady reader.new) }
 {

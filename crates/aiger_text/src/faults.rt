@@ -8,7 +8,8 @@ use thiserror::Error;
 /// Why a text isn't a circuit.
 #[derive(Clone, Copy, Debug, PartialEq, Eq)]
 pub enum AagFault {
-    /// The first line isn't `aag` and five to nine natural numbers, or has fewer variables than inputs and gates.
+    /// The first line isn't `aag` and five to nine natural numbers, or has fewer variables than
+    /// inputs and gates.
     BadHeader,
     /// There are latches, or a section of another kind than inputs, outputs and gates.
     NotCombinational,
@@ -16,7 +17,8 @@ pub enum AagFault {
     BadLine,
     /// A number of 10^18 or more, or a number of the header over 1,000,000,000.
     TooBig,
-    /// An input or a gate that isn't the positive literal of a variable, or a literal over the largest.
+    /// An input or a gate that isn't the positive literal of a variable, or a literal over the
+    /// largest.
     Range,
     /// An input or a gate whose variable is an input or a gate already.
     DefinedTwice,

@@ -38,7 +38,8 @@ impl Text {
     }
 }
 
-/// A circuit file: the netlist, the symbols of its inputs and outputs, and the comment behind its line `c`.
+/// A circuit file: the netlist, the symbols of its inputs and outputs, and the comment behind its
+/// line `c`.
 #[derive(Debug, Drop)]
 pub struct AagFile {
     pub circuit: Circuit,

@@ -12,7 +12,8 @@ use crate::faults::{AagFault, LineStop};
 use crate::numbers::take_numbers;
 use dq_text::{LineTokens, is_word};
 
-/// The header's counts: the largest variable, inputs, outputs and gates. The reader knows no latches.
+/// The header's counts: the largest variable, inputs, outputs and gates. The reader knows no
+/// latches.
 #[derive(Clone, Copy, Debug, PartialEq, Eq)]
 pub struct Header {
     pub max_var: u64,

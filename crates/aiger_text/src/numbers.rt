@@ -11,10 +11,11 @@ use crate::faults::{AagFault, LineStop};
 use dq_lits::Memory;
 use dq_text::{LineTokens, Number, natural};
 
-/// Puts the numbers that the tokens are in place of those in the buffer, and says whether all tokens
-/// are natural numbers.
+/// Puts the numbers that the tokens are in place of those in the buffer, and says whether all
+/// tokens are natural numbers.
 pub fn take_numbers(tokens: &mut LineTokens, numbers: &mut Vec<u64>) -> Result<bool, Memory>
-    ensures { IfOk result (λ all. numbers_of tokens.old ≡ (if all then Some numbers.new.items else None)) }
+    ensures { IfOk result
+        (λ all. numbers_of tokens.old ≡ (if all then Some numbers.new.items else None)) }
 {
     numbers.clear();
     while let Some(token) = tokens.next() {
@@ -56,7 +57,8 @@ pub fn three_numbers(line: &[u8], numbers: &mut Vec<u64>) -> Result<GateNumbers,
     }
 }
 
-// The same where all three are below 10^18, read in one pass; nothing is known where it answers none.
+// The same where all three are below 10^18, read in one pass; nothing is known where it answers
+// none.
 fn plain_numbers(line: &[u8]) -> Option<GateNumbers>
     ensures { IfSome result (λ plain. three_of (numbers_of (line_tokens line.now)) ≡ Ok plain) }
 {
@@ -71,7 +73,8 @@ fn plain_numbers(line: &[u8]) -> Option<GateNumbers>
 }
 
 fn plain_natural(tokens: &mut LineTokens) -> Option<u64>
-    ensures { IfSome result (λ n. map number_of tokens.old ≡ Int (pos n) ∷ map number_of tokens.new) }
+    ensures { IfSome result
+        (λ n. map number_of tokens.old ≡ Int (pos n) ∷ map number_of tokens.new) }
 {
     match tokens.next_number() {
         Some(Number::Int(n)) if n >= 0 => Some(n as u64),

@@ -22,8 +22,8 @@ use dq_lits::Memory;
 use dq_text::{Lines, is_blank};
 use std::alloc::Global;
 
-/// Reads an ASCII AIGER file whose first line has the number `first`: exactly the circuit file that it
-/// spells within the limits, or its first fault by line and name.
+/// Reads an ASCII AIGER file whose first line has the number `first`: exactly the circuit file that
+/// it spells within the limits, or its first fault by line and name.
 pub fn read(alloc: Global, bytes: &[u8], first: u64) -> Result<AagFile, AagStop>
     requires { first + length bytes.now < 2 ^ 62 }
     ensures exact { IsAagReading first (scan bytes.now first) result }
@@ -102,7 +102,8 @@ fn take_line(alloc: Global, reader: &mut Reader, part: Part, line: &[u8]) -> Res
 // The file as it stands, unless it names what it doesn't define or has a cycle.
 fn finish_file(alloc: Global, reader: Reader, comment: Option<&[u8]>) -> Result<AagFile, AagStop>
     requires { IsReady reader }
-    ensures { IsAagReading reader.header_line (finish (body_of reader) (option_copied comment.entry)) result }
+    ensures { IsAagReading reader.header_line
+        (finish (body_of reader) (option_copied comment.entry)) result }
 {
     if let Some(line) = first_undefined_line(&reader) {
         return Err(refused(line, AagFault::Undefined));
@@ -125,7 +126,8 @@ fn finish_file(alloc: Global, reader: Reader, comment: Option<&[u8]>) -> Result<
 
 // The place of the first gate that no order can hold.
 fn cyclic_gate(circuit: &Circuit) -> Result<Option<usize>, Memory>
-    ensures { IfOk result (λ found. MatchOption found (AllGrounded circuit.now) (IsFirstUngrounded circuit.now)) }
+    ensures { IfOk result
+        (λ found. MatchOption found (AllGrounded circuit.now) (IsFirstUngrounded circuit.now)) }
 {
     match circuit.order() {
         Ok(_order) => {
@@ -141,7 +143,9 @@ fn cyclic_gate(circuit: &Circuit) -> Result<Option<usize>, Memory>
 fn gate_line(reader: &Reader, place: usize) -> u64
     requires ready { IsReady reader.now }
     requires in_range { place < length reader.now.circuit.gates }
-    ensures { result ≡ reader.now.header_line + 1 + length reader.now.circuit.inputs + length reader.now.circuit.outputs + place }
+    ensures { result
+        ≡ reader.now.header_line + 1 + length reader.now.circuit.inputs
+        + length reader.now.circuit.outputs + place }
 {
     let inputs = reader.circuit.inputs().len() as u64;
     let outputs = reader.circuit.outputs().len() as u64;

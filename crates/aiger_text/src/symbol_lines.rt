@@ -8,7 +8,8 @@ ghost use Rattle.aiger_text.specs.SymbolEntry.{entry_line};
 
 use dq_text::{is_blank, natural};
 
-/// A symbol line: the place of an input or an output, and its name. The place of 10^18 stands for every larger one.
+/// A symbol line: the place of an input or an output, and its name. The place of 10^18 stands for
+/// every larger one.
 #[derive(Clone, Copy, Debug)]
 pub struct SymbolEntry<'a> {
     pub of_input: bool,

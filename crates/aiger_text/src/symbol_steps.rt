@@ -14,7 +14,9 @@ use std::alloc::Global;
 /// Reads the line of a symbol.
 pub fn take_symbol(alloc: Global, reader: &mut Reader, line: &[u8]) -> Result<(), LineStop>
     requires { IsReady reader.old }
-    ensures symbols { IsTableOf (symbol_line reader.old.header reader.old.symbols (symbol_of line.now)) result reader.new.symbols }
+    ensures symbols { IsTableOf
+        (symbol_line reader.old.header reader.old.symbols (symbol_of line.now)) result
+        reader.new.symbols }
     ensures same { SameButSymbols reader.old reader.new }
     ensures ready { OnOk result (IsReady reader.new) }
 {
@@ -31,7 +33,9 @@ pub fn take_symbol(alloc: Global, reader: &mut Reader, line: &[u8]) -> Result<()
 fn name_input(alloc: Global, reader: &mut Reader, entry: SymbolEntry) -> Result<(), LineStop>
     requires ready { IsReady reader.old }
     requires of_input { entry.of_input ≡ true }
-    ensures symbols { IsTableOf (add_symbol reader.old.header reader.old.symbols (entry_symbol entry.entry)) result reader.new.symbols }
+    ensures symbols { IsTableOf
+        (add_symbol reader.old.header reader.old.symbols (entry_symbol entry.entry)) result
+        reader.new.symbols }
     ensures same { SameButSymbols reader.old reader.new }
     ensures ready { OnOk result (IsReady reader.new) }
 {
@@ -46,7 +50,9 @@ fn name_input(alloc: Global, reader: &mut Reader, entry: SymbolEntry) -> Result<
 fn name_output(alloc: Global, reader: &mut Reader, entry: SymbolEntry) -> Result<(), LineStop>
     requires ready { IsReady reader.old }
     requires of_output { entry.of_input ≡ false }
-    ensures symbols { IsTableOf (add_symbol reader.old.header reader.old.symbols (entry_symbol entry.entry)) result reader.new.symbols }
+    ensures symbols { IsTableOf
+        (add_symbol reader.old.header reader.old.symbols (entry_symbol entry.entry)) result
+        reader.new.symbols }
     ensures same { SameButSymbols reader.old reader.new }
     ensures ready { OnOk result (IsReady reader.new) }
 {

@@ -65,7 +65,8 @@ impl Symbols {
     /// Names an input that has no name yet, behind the other symbols.
     pub fn add_input(&mut self, i: u64, name: Text) -> Result<(), Memory>
         requires { name_at self.old.inputs i ≡ None }
-        ensures ok { OnOk result (self.new ≡ record self.old { inputs = self.old.inputs ++ (i, name) ∷ [] }) }
+        ensures ok { OnOk result
+            (self.new ≡ record self.old { inputs = self.old.inputs ++ (i, name) ∷ [] }) }
         ensures err { OnErr result (self.new ≡ self.old) }
     {
         self.inputs.insert(i, name)?;
@@ -75,7 +76,8 @@ impl Symbols {
     /// Names an output that has no name yet, behind the other symbols.
     pub fn add_output(&mut self, i: u64, name: Text) -> Result<(), Memory>
         requires { name_at self.old.outputs i ≡ None }
-        ensures ok { OnOk result (self.new ≡ record self.old { outputs = self.old.outputs ++ (i, name) ∷ [] }) }
+        ensures ok { OnOk result
+            (self.new ≡ record self.old { outputs = self.old.outputs ++ (i, name) ∷ [] }) }
         ensures err { OnErr result (self.new ≡ self.old) }
     {
         self.outputs.insert(i, name)?;

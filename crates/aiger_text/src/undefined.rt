@@ -8,7 +8,8 @@ ghost use Rattle.aiger_text.specs.ReaderState.{body_of, IsReady};
 
 use crate::body::Reader;
 
-/// The line of the first output, or else of the first gate, that names a variable that is neither input nor gate.
+/// The line of the first output, or else of the first gate, that names a variable that is neither
+/// input nor gate.
 pub fn first_undefined_line(reader: &Reader) -> Option<u64>
     requires { IsReady reader.now }
     ensures { result ≡ undefined_line (body_of reader.now) }
@@ -31,7 +32,8 @@ fn is_named(reader: &Reader, literal: u64) -> bool
 
 fn undefined_output(reader: &Reader) -> Option<usize>
     requires { IsReady reader.now }
-    ensures { result ≡ position (λ l. not (stands_on_defined reader.now.circuit l)) reader.now.circuit.outputs }
+    ensures { result
+        ≡ position (λ l. not (stands_on_defined reader.now.circuit l)) reader.now.circuit.outputs }
 {
     reader
         .circuit
@@ -42,7 +44,8 @@ fn undefined_output(reader: &Reader) -> Option<usize>
 
 fn undefined_gate(reader: &Reader) -> Option<usize>
     requires { IsReady reader.now }
-    ensures { result ≡ position (λ g. not (reads_defined reader.now.circuit g)) reader.now.circuit.gates }
+    ensures { result
+        ≡ position (λ g. not (reads_defined reader.now.circuit g)) reader.now.circuit.gates }
 {
     for i in 0..reader.circuit.gates() {
         if names_undefined(reader, i) {

@@ -15,12 +15,14 @@ use dq_text::{push_last, push_spaced, push_word};
 use indexmap::IndexMap;
 use std::alloc::Global;
 
-/// The canonical text of a circuit file: the header `aag M I 0 O A`; a line for each input, output and gate; a line for each
-/// symbol of an input and then of an output, in the order in which the file has them; and, where there is a comment, the
-/// line `c` and the comment byte for byte. Where some text spells the file, reading its canonical text gives it back.
+/// The canonical text of a circuit file: the header `aag M I 0 O A`; a line for each input, output
+/// and gate; a line for each symbol of an input and then of an output, in the order in which the
+/// file has them; and, where there is a comment, the line `c` and the comment byte for byte. Where
+/// some text spells the file, reading its canonical text gives it back.
 pub fn write(alloc: Global, file: &AagFile) -> Result<Vec<u8>, Memory>
     ensures canonical { IfOk result (λ text. text.items ≡ canonical_circuit file.now) }
-    ensures reads_back { IsSpellable file.now → IfOk result (λ text. (first : ℕ) → scan text.items first ≡ Ok file.now) }
+    ensures reads_back { IsSpellable file.now
+        → IfOk result (λ text. (first : ℕ) → scan text.items first ≡ Ok file.now) }
 {
     canonical_text_spells();
     let mut text = Vec::new(alloc);
@@ -52,7 +54,8 @@ fn write_netlist(circuit: &Circuit, text: &mut Vec<u8>) -> Result<(), Memory>
 }
 
 fn write_inputs(circuit: &Circuit, text: &mut Vec<u8>) -> Result<(), Memory>
-    ensures { OnOk result (text.new.items ≡ text.old.items ++ flat_map input_text circuit.now.inputs) }
+    ensures { OnOk result
+        (text.new.items ≡ text.old.items ++ flat_map input_text circuit.now.inputs) }
 {
     // In range, so that doubled they fit.
     circuit.every_circuit_is_a_netlist();
@@ -75,7 +78,8 @@ fn write_outputs(outputs: &[u64], text: &mut Vec<u8>) -> Result<(), Memory>
 }
 
 fn write_gates(circuit: &Circuit, text: &mut Vec<u8>) -> Result<(), Memory>
-    ensures { OnOk result (text.new.items ≡ text.old.items ++ flat_map gate_text circuit.now.gates) }
+    ensures { OnOk result
+        (text.new.items ≡ text.old.items ++ flat_map gate_text circuit.now.gates) }
 {
     for i in 0..circuit.gates() {
         let (variable, left, right) = circuit.gate(i);
@@ -88,7 +92,8 @@ fn write_gates(circuit: &Circuit, text: &mut Vec<u8>) -> Result<(), Memory>
 
 // A letter, a place and a name.
 fn write_symbol(letter: u8, place: u64, name: &[u8], text: &mut Vec<u8>) -> Result<(), Memory>
-    ensures { OnOk result (text.new.items ≡ text.old.items ++ symbol_text letter (place, name.now)) }
+    ensures { OnOk result
+        (text.new.items ≡ text.old.items ++ symbol_text letter (place, name.now)) }
 {
     text.push(letter)?;
     push_spaced(text, place)?;
@@ -102,7 +107,8 @@ fn write_symbols(
     symbols: &IndexMap<u64, Text>,
     text: &mut Vec<u8>,
 ) -> Result<(), Memory>
-    ensures { OnOk result (text.new.items ≡ text.old.items ++ flat_map (symbol_text letter) symbols.now.entries) }
+    ensures { OnOk result
+        (text.new.items ≡ text.old.items ++ flat_map (symbol_text letter) symbols.now.entries) }
 {
     for (place, name) in symbols.iter() {
         write_symbol(letter, *place, name.items(), text)?;

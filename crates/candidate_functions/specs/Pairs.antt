@@ -26,7 +26,8 @@ abbrev pub agrees : List ℕ → List Bool → (ℕ → Bool) → Bool
 agrees places row inputs = list_all (λ p. same_bit (bit_of row p) (inputs p)) places
 
 -- a node that is true where the inputs have the row's bits at these places, and reads no others
-pub record IsRowCube (graph : AigGraph) (places : List ℕ) (row : List Bool) (node : Node) : Type 0 where
+pub record IsRowCube (graph : AigGraph) (places : List ℕ) (row : List Bool)
+    (node : Node) : Type 0 where
   pub is_node : IsNode graph node
   pub value : (inputs : ℕ → Bool) → node_value graph inputs node ≡ agrees places row inputs
   pub reads : (i : ℕ) → Contains (node_support graph node) i → Contains places i
@@ -36,7 +37,8 @@ abbrev pub row_literal : List Bool → ℕ → Node
 row_literal row p = Input p (not (bit_of row p))
 
 -- a pair of the row at a place; rounds are counted from 1
-pub record IsPair (rows : List (List Bool)) (graph : AigGraph) (places : List ℕ) (pair : Pair) : Type 0 where
+pub record IsPair (rows : List (List Bool)) (graph : AigGraph) (places : List ℕ)
+    (pair : Pair) : Type 0 where
   pub place : ℕ
   pub row : List Bool
   pub round : pair.round ≡ place + 1
@@ -44,7 +46,8 @@ pub record IsPair (rows : List (List Bool)) (graph : AigGraph) (places : List �
   pub cube : IsRowCube graph places row pair.cube
 
 -- one of the pairs is that of the row
-pub record HasPair (rows : List (List Bool)) (places : List ℕ) (pairs : List Pair) (row : List Bool) : Type 0 where
+pub record HasPair (rows : List (List Bool)) (places : List ℕ) (pairs : List Pair)
+    (row : List Bool) : Type 0 where
   pub pair : Pair
   pub among : Contains pairs pair
   pub place : ℕ
@@ -54,9 +57,11 @@ pub record HasPair (rows : List (List Bool)) (places : List ℕ) (pairs : List P
   pub same : agrees places first (bit_of row) ≡ true
 
 -- the pairs of the first rows
-pub record ArePairs (rows : List (List Bool)) (graph : AigGraph) (places : List ℕ) (count : ℕ) (pairs : List Pair) : Type 0 where
+pub record ArePairs (rows : List (List Bool)) (graph : AigGraph) (places : List ℕ) (count : ℕ)
+    (pairs : List Pair) : Type 0 where
   pub each : All (IsPair rows graph places) pairs
-  pub complete : (k : ℕ) (row : List Bool) → k < count → slice_get rows k ≡ Some row → HasPair rows places pairs row
+  pub complete : (k : ℕ) (row : List Bool) → k < count → slice_get rows k ≡ Some row
+      → HasPair rows places pairs row
 
 abbrev pub AreRounds : ℕ → List Pair → Type 0
 AreRounds count pairs = All (λ p. (1 ≤ p.round) × (p.round ≤ count)) pairs
@@ -67,7 +72,8 @@ universal_places f xs = map (λ x. position_or_len (λ u. u == x) f.universals) 
 
 -- the pairs of all rows, where these universals are seen
 abbrev pub AreSeenPairs : Dqbf → List (List Bool) → AigGraph → List ℕ → List Pair → Type 0
-AreSeenPairs f rows graph sees pairs = ArePairs rows graph (universal_places f sees) (length rows) pairs
+AreSeenPairs f rows graph sees pairs =
+    ArePairs rows graph (universal_places f sees) (length rows) pairs
 
 -- a pair's cube reads it
 pub record IsReadByPair (graph : AigGraph) (pairs : List Pair) (i : ℕ) : Type 0 where
@@ -77,15 +83,20 @@ pub record IsReadByPair (graph : AigGraph) (pairs : List Pair) (i : ℕ) : Type 
 
 -- the inputs are at a pair of a round with such a bit
 abbrev pub at_pair : AigGraph → (ℕ → Bool) → List Pair → (ℕ → Bool) → Bool
-at_pair graph bits pairs inputs = list_any (λ p. bits p.round && node_value graph inputs p.cube) pairs
+at_pair graph bits pairs inputs =
+    list_any (λ p. bits p.round && node_value graph inputs p.cube) pairs
 
 -- a node that is true where the first is, and where the second is if the bit is true
 pub record IsWith (old new : AigGraph) (made : Node) (bit : Bool) (cube node : Node) : Type 0 where
   pub is_node : IsNode new node
-  pub value : (inputs : ℕ → Bool) → node_value new inputs node ≡ (node_value old inputs made || (bit && node_value old inputs cube))
-  pub reads : (i : ℕ) → Contains (node_support new node) i → Contains (node_support old made) i ⊎ Contains (node_support old cube) i
+  pub value : (inputs : ℕ → Bool)
+      → node_value new inputs node
+      ≡ (node_value old inputs made || (bit && node_value old inputs cube))
+  pub reads : (i : ℕ) → Contains (node_support new node) i
+      → Contains (node_support old made) i ⊎ Contains (node_support old cube) i
 
-pub record IsAtPair (old new : AigGraph) (bits : ℕ → Bool) (pairs : List Pair) (node : Node) : Type 0 where
+pub record IsAtPair (old new : AigGraph) (bits : ℕ → Bool) (pairs : List Pair)
+    (node : Node) : Type 0 where
   pub is_node : IsNode new node
   pub value : (inputs : ℕ → Bool) → node_value new inputs node ≡ at_pair old bits pairs inputs
   pub reads : (i : ℕ) → Contains (node_support new node) i → IsReadByPair old pairs i
@@ -94,21 +105,31 @@ pub record IsAtPair (old new : AigGraph) (bits : ℕ → Bool) (pairs : List Pai
 abbrev pub has_bit : Bool → PointBits → ℕ → ℕ → Bool
 has_bit bit points y round = same_bit bit (points round y)
 
--- it has the value of another one, except where the inputs are at a pair with such a bit: there it is false
-pub record IsMasked (old new : AigGraph) (bits : ℕ → Bool) (pairs : List Pair) (other node : Node) : Type 0 where
+-- it has the value of another one, except where the inputs are at a pair with such a bit: there it
+-- is false
+pub record IsMasked (old new : AigGraph) (bits : ℕ → Bool) (pairs : List Pair)
+    (other node : Node) : Type 0 where
   pub is_node : IsNode new node
-  pub value : (inputs : ℕ → Bool) → node_value new inputs node ≡ (node_value old inputs other && not (at_pair old bits pairs inputs))
-  pub reads : (i : ℕ) → Contains (node_support new node) i → Contains (node_support old other) i ⊎ IsReadByPair old pairs i
+  pub value : (inputs : ℕ → Bool)
+      → node_value new inputs node
+      ≡ (node_value old inputs other && not (at_pair old bits pairs inputs))
+  pub reads : (i : ℕ) → Contains (node_support new node) i
+      → Contains (node_support old other) i ⊎ IsReadByPair old pairs i
 
 -- a node with the points' bits at the pairs, and the value of another one elsewhere
-pub record IsPatched (old new : AigGraph) (points : PointBits) (y : ℕ) (pairs : List Pair) (other node : Node) : Type 0 where
+pub record IsPatched (old new : AigGraph) (points : PointBits) (y : ℕ) (pairs : List Pair)
+    (other node : Node) : Type 0 where
   pub is_node : IsNode new node
   pub value : (inputs : ℕ → Bool) → node_value new inputs node
-      ≡ (at_pair old (has_bit true points y) pairs inputs || (node_value old inputs other && not (at_pair old (has_bit false points y) pairs inputs)))
-  pub reads : (i : ℕ) → Contains (node_support new node) i → Contains (node_support old other) i ⊎ IsReadByPair old pairs i
+      ≡ (at_pair old (has_bit true points y) pairs inputs
+      || (node_value old inputs other
+      && not (at_pair old (has_bit false points y) pairs inputs)))
+  pub reads : (i : ℕ) → Contains (node_support new node) i
+      → Contains (node_support old other) i ⊎ IsReadByPair old pairs i
 
 -- a node with the bit of an existential's first rule whose cube is true, else false
-pub record IsByRules (f : Dqbf) (graph : AigGraph) (rules : List Rule) (y : Existential) (node : Node) : Type 0 where
+pub record IsByRules (f : Dqbf) (graph : AigGraph) (rules : List Rule) (y : Existential)
+    (node : Node) : Type 0 where
   pub is_node : IsNode graph node
   pub value : (m : Assignment) → (node_output f graph node).value m ≡ rule_bit rules y.variable m
   pub reads : All (Contains y.sees) (node_output f graph node).support
@@ -118,18 +139,23 @@ abbrev pub input_literal : Dqbf → Literal → Node
 input_literal f l = Input (position_or_len (λ u. u == variable_of l) f.universals) (is_negative l)
 
 -- a node that is true where the cube is, and reads its variables alone
-pub record IsCubeNode (f : Dqbf) (graph : AigGraph) (cube : List Literal) (node : Node) : Type 0 where
+pub record IsCubeNode (f : Dqbf) (graph : AigGraph) (cube : List Literal)
+    (node : Node) : Type 0 where
   pub is_node : IsNode graph node
   pub value : (m : Assignment) → (node_output f graph node).value m ≡ cube_true m cube
-  pub reads : (sees : List ℕ) → All (λ l. Contains sees (variable_of l)) cube → All (Contains sees) (node_output f graph node).support
+  pub reads : (sees : List ℕ) → All (λ l. Contains sees (variable_of l)) cube
+      → All (Contains sees) (node_output f graph node).support
 
 -- a node by the rules for each existential
-pub record AreByRules (f : Dqbf) (graph : AigGraph) (rules : List Rule) (nodes : List Node) : Type 0 where
+pub record AreByRules (f : Dqbf) (graph : AigGraph) (rules : List Rule)
+    (nodes : List Node) : Type 0 where
   pub one_each : length nodes ≡ length f.existentials
-  pub each : (p : ℕ) (y : Existential) → slice_get f.existentials p ≡ Some y → IsByRules f graph rules y (slice_index_or nodes p (Constant false))
+  pub each : (p : ℕ) (y : Existential) → slice_get f.existentials p ≡ Some y
+      → IsByRules f graph rules y (slice_index_or nodes p (Constant false))
 
 -- the output of an existential without a definition
-pub record IsCandidate (f : Dqbf) (rows : List (List Bool)) (points : PointBits) (rules : List Rule) (graph : AigGraph) (y : Existential)
+pub record IsCandidate (f : Dqbf) (rows : List (List Bool)) (points : PointBits) (rules : List Rule)
+    (graph : AigGraph) (y : Existential)
     (node : Node) : Type 0 where
   pub is_node : IsNode graph node
   pub reads : All (Contains y.sees) (node_output f graph node).support
@@ -137,7 +163,8 @@ pub record IsCandidate (f : Dqbf) (rows : List (List Bool)) (points : PointBits)
   pub by_rules : FollowsRules f rows rules y (node_output f graph node)
 
 -- what stands at an existential's place before definitions are put in
-pub record IsFirstOutput (f : Dqbf) (rows : List (List Bool)) (points : PointBits) (rules : List Rule) (graph : AigGraph) (y : Existential)
+pub record IsFirstOutput (f : Dqbf) (rows : List (List Bool)) (points : PointBits)
+    (rules : List Rule) (graph : AigGraph) (y : Existential)
     (definition : Option Node) (node : Node) : Type 0 where
   pub is_node : IsNode graph node
   pub undefined : definition ≡ None → IsCandidate f rows points rules graph y node
@@ -154,17 +181,23 @@ pub record HasClassLike (f : Dqbf) (classes : List Class) (place y : ℕ) : Type
 
 -- each class has the pairs of its existential's dependency set
 abbrev pub IsClass : Dqbf → List (List Bool) → AigGraph → Class → Type 0
-IsClass f rows graph class = (y : Existential) → existential_of f class.y ≡ Some y → AreSeenPairs f rows graph y.sees class.pairs.items
+IsClass f rows graph class =
+    (y : Existential) → existential_of f class.y ≡ Some y
+    → AreSeenPairs f rows graph y.sees class.pairs.items
 
 -- at this place there are the pairs of an existential's dependency set
-pub record HasClass (f : Dqbf) (rows : List (List Bool)) (graph : AigGraph) (classes : List Class) (place y : ℕ) : Type 0 where
+pub record HasClass (f : Dqbf) (rows : List (List Bool)) (graph : AigGraph) (classes : List Class)
+    (place y : ℕ) : Type 0 where
   pub class : Class
   pub at : slice_get classes place ≡ Some class
-  pub are_pairs : (e : Existential) → existential_of f y ≡ Some e → AreSeenPairs f rows graph e.sees class.pairs.items
+  pub are_pairs : (e : Existential) → existential_of f y ≡ Some e
+      → AreSeenPairs f rows graph e.sees class.pairs.items
 
 -- what stands at the places of the first existentials
-pub record AreFirstOutputs (f : Dqbf) (rows : List (List Bool)) (points : PointBits) (rules : List Rule) (definitions : List (Option Node))
+pub record AreFirstOutputs (f : Dqbf) (rows : List (List Bool)) (points : PointBits)
+    (rules : List Rule) (definitions : List (Option Node))
     (graph : AigGraph) (count : ℕ) (nodes : List Node) : Type 0 where
   pub one_each : length nodes ≡ count
   pub each : (p : ℕ) (y : Existential) → p < count → slice_get f.existentials p ≡ Some y
-      → IsFirstOutput f rows points rules graph y (slice_index_or definitions p None) (slice_index_or nodes p (Constant false))
+      → IsFirstOutput f rows points rules graph y (slice_index_or definitions p None)
+      (slice_index_or nodes p (Constant false))

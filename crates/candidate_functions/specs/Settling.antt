@@ -15,13 +15,15 @@ use Rattle.expansion.specs.Table.{PointBits}
 use Rattle.candidate_functions.specs.Candidates.{AgreesAtPairs, FollowsRules}
 
 -- at a place, the definition with the nodes put in
-pub record HasPutAt (old new : AigGraph) (definition : Node) (place : ℕ) (before after : List Node) : Type 0 where
+pub record HasPutAt (old new : AigGraph) (definition : Node) (place : ℕ)
+    (before after : List Node) : Type 0 where
   pub node : Node
   pub put_in : IsPutIn old new definition before node
   pub after_is : after ≡ slice_set before place node
 
 -- the same where there is a definition
-pub record IsPutAt (old new : AigGraph) (definition : Option Node) (place : ℕ) (before after : List Node) : Type 0 where
+pub record IsPutAt (old new : AigGraph) (definition : Option Node) (place : ℕ)
+    (before after : List Node) : Type 0 where
   pub none : definition ≡ None → after ≡ before
   pub some : (d : Node) → definition ≡ Some d → HasPutAt old new d place before after
 
@@ -32,7 +34,8 @@ HaveValues f graph nodes y m =
     → m z.variable ≡ (node_output f graph (slice_index_or nodes q (Constant false))).value m
 
 -- the output of an existential, beside those of the others
-pub record IsOutput (f : Dqbf) (rows : List (List Bool)) (points : PointBits) (rules : List Rule) (graph : AigGraph) (nodes : List Node)
+pub record IsOutput (f : Dqbf) (rows : List (List Bool)) (points : PointBits) (rules : List Rule)
+    (graph : AigGraph) (nodes : List Node)
     (y : Existential) (definition : Option Node) (node : Node) : Type 0 where
   pub reads : All (Contains y.sees) (node_output f graph node).support
   pub at_pairs : AgreesAtPairs f rows points y (node_output f graph node)
@@ -45,15 +48,20 @@ abbrev pub IsSettled : List (Option Node) → List ℕ → ℕ → Type 0
 IsSettled definitions done p = (slice_index_or definitions p None ≡ None) ⊎ Contains done p
 
 -- the outputs at the places that are settled
-pub record AreSettled (f : Dqbf) (rows : List (List Bool)) (points : PointBits) (rules : List Rule) (definitions : List (Option Node))
+pub record AreSettled (f : Dqbf) (rows : List (List Bool)) (points : PointBits) (rules : List Rule)
+    (definitions : List (Option Node))
     (graph : AigGraph) (done : List ℕ) (nodes : List Node) : Type 0 where
-  pub each : (p : ℕ) (y : Existential) → slice_get f.existentials p ≡ Some y → IsSettled definitions done p
-      → IsOutput f rows points rules graph nodes y (slice_index_or definitions p None) (slice_index_or nodes p (Constant false))
+  pub each : (p : ℕ) (y : Existential) → slice_get f.existentials p ≡ Some y
+      → IsSettled definitions done p
+      → IsOutput f rows points rules graph nodes y (slice_index_or definitions p None)
+      (slice_index_or nodes p (Constant false))
 
 -- the outputs of all existentials
-pub record AreOutputs (f : Dqbf) (rows : List (List Bool)) (points : PointBits) (rules : List Rule) (definitions : List (Option Node))
+pub record AreOutputs (f : Dqbf) (rows : List (List Bool)) (points : PointBits) (rules : List Rule)
+    (definitions : List (Option Node))
     (graph : AigGraph) (nodes : List Node) : Type 0 where
   pub one_each : length nodes ≡ length f.existentials
   pub are_nodes : All (IsNode graph) nodes
   pub each : (p : ℕ) (y : Existential) → slice_get f.existentials p ≡ Some y
-      → IsOutput f rows points rules graph nodes y (slice_index_or definitions p None) (slice_index_or nodes p (Constant false))
+      → IsOutput f rows points rules graph nodes y (slice_index_or definitions p None)
+      (slice_index_or nodes p (Constant false))

@@ -41,13 +41,16 @@ impl Outputs {
     }
 }
 
-/// Candidates for the existentials' functions, which read what they may, universals alone. One that has a definition gets it, with the
-/// outputs of the existentials that it reads put in; any other has its point's bit at each pair of the table, and elsewhere the bit of its
-/// first rule whose cube is true, else false. Definitions are in the order of the existentials; those that are missing are none.
+/// Candidates for the existentials' functions, which read what they may, universals alone. One that
+/// has a definition gets it, with the outputs of the existentials that it reads put in; any other
+/// has its point's bit at each pair of the table, and elsewhere the bit of its first rule whose
+/// cube is true, else false. Definitions are in the order of the existentials; those that are
+/// missing are none.
 ///
-/// The graph has an input for each universal, and behind these one for each existential, for definitions to read. The points are those of a
-/// model of all instances under the table's rows. Work and memory follow the pairs, which existentials with one dependency set share, and
-/// the gates. A refused call leaves gates that were made.
+/// The graph has an input for each universal, and behind these one for each existential, for
+/// definitions to read. The points are those of a model of all instances under the table's rows.
+/// Work and memory follow the pairs, which existentials with one dependency set share, and the
+/// gates. A refused call leaves gates that were made.
 pub fn build(
     alloc: Global,
     f: &Formula,
@@ -68,8 +71,14 @@ pub fn build(
     ensures one_each { IfOk result (λ nodes. length nodes ≡ length f.now.existentials) }
     ensures nodes { IfOk result (λ nodes. All (IsNode graph.new) nodes) }
     ensures reads { IfOk result (λ nodes. ReadDeclared f.now (outputs_of f.now graph.new nodes)) }
-    ensures at_pairs { IfOk result (λ nodes. AgreeAtPairs f.now table.now.rows (point_bits points.now) (outputs_of f.now graph.new nodes)) }
-    ensures by_rules { IfOk result (λ nodes. FollowRules f.now table.now.rows rules.now definitions.now (outputs_of f.now graph.new nodes)) }
+    ensures at_pairs { IfOk result
+        (λ nodes.
+        AgreeAtPairs f.now table.now.rows (point_bits points.now)
+        (outputs_of f.now graph.new nodes)) }
+    ensures by_rules { IfOk result
+        (λ nodes.
+        FollowRules f.now table.now.rows rules.now definitions.now
+        (outputs_of f.now graph.new nodes)) }
     ensures defined { IfOk result (λ nodes. AreDefined f.now graph.new definitions.now nodes) }
 {
     f.every_formula_is_lawful();

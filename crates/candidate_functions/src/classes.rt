@@ -72,7 +72,8 @@ pub(crate) fn no_classes(alloc: Global) -> Classes
 }
 
 impl Classes {
-    // The place of the class of an existential's dependency set. It is made where the set wasn't met yet.
+    // The place of the class of an existential's dependency set. It is made where the set wasn't
+    // met yet.
     pub(crate) fn class_of(
         &mut self,
         f: &Formula,
@@ -85,8 +86,10 @@ impl Classes {
         requires whole { All (λ row. length row ≡ length f.now.universals) table.now.rows }
         requires classes { All (IsClass f.now table.now.rows graph.old) self.old.classes.items }
         ensures extends { Extends graph.old graph.new }
-        ensures classes { OnOk result (All (IsClass f.now table.now.rows graph.new) self.new.classes.items) }
-        ensures place { IfOk result (λ place. HasClass f.now table.now.rows graph.new self.new.classes.items place y) }
+        ensures classes { OnOk result
+            (All (IsClass f.now table.now.rows graph.new) self.new.classes.items) }
+        ensures place { IfOk result
+            (λ place. HasClass f.now table.now.rows graph.new self.new.classes.items place y) }
     {
         let next = self.classes.len();
         let first = self.known.first_with(self.alloc, f.deps_of(y), next)?;

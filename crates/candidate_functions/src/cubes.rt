@@ -1,4 +1,5 @@
-//! Pairs of existentials with one dependency set, as cubes over what they see: what stands here doesn't depend on one existential's bits.
+//! Pairs of existentials with one dependency set, as cubes over what they see: what stands here
+//! doesn't depend on one existential's bits.
 
 ghost use Rattle.std.specs.Prelude.{◌≡◌, ◌≤◌, ◌<◌, ◌-◌, length, map, All, IfOk, OnOk, IsTrue};
 ghost use Rattle.dq_lits.specs.Row.{bit_of};
@@ -11,14 +12,16 @@ use expansion::Table;
 use std::alloc::Global;
 use std::collections::BTreeMap;
 
-// The first row with some bits at some places, by its round, and a node that is true where the inputs there have these bits.
+// The first row with some bits at some places, by its round, and a node that is true where the
+// inputs there have these bits.
 #[derive(Clone, Copy, Debug)]
 pub(crate) struct Pair {
     pub round: u64,
     pub cube: Node,
 }
 
-// The pairs of existentials that see the inputs at these places: one for all rows that have the same bits there.
+// The pairs of existentials that see the inputs at these places: one for all rows that have the
+// same bits there.
 pub(crate) fn all_pairs(
     alloc: Global,
     table: &Table,
@@ -28,7 +31,9 @@ pub(crate) fn all_pairs(
     requires whole { All (HasPlaces places.now) table.now.rows }
     requires places { All (λ p. p < graph.old.inputs) places.now }
     ensures extends { Extends graph.old graph.new }
-    ensures pairs { IfOk result (λ pairs. ArePairs table.now.rows graph.new places.now (length table.now.rows) pairs.items) }
+    ensures pairs { IfOk result
+        (λ pairs.
+        ArePairs table.now.rows graph.new places.now (length table.now.rows) pairs.items) }
 {
     let mut pairs = PairList {
         alloc,
@@ -80,7 +85,8 @@ impl PairList {
     }
 }
 
-// What is known of a key; else the key is known as the next one. It promises nothing of what it finds, since each answer is compared.
+// What is known of a key; else the key is known as the next one. It promises nothing of what it
+// finds, since each answer is compared.
 fn first_with(
     known: &mut BTreeMap<Vec<u64>, usize>,
     key: Vec<u64>,

@@ -16,8 +16,9 @@ use dq_formula::Formula;
 use dq_lits::Memory;
 use std::alloc::Global;
 
-// Puts the definitions in their existentials' places, each with the outputs of the others put in for their inputs. A definition reads
-// earlier existentials alone, so in this order their outputs are there.
+// Puts the definitions in their existentials' places, each with the outputs of the others put in
+// for their inputs. A definition reads earlier existentials alone, so in this order their outputs
+// are there.
 pub(crate) fn put_definitions(
     alloc: Global,
     f: &Formula,
@@ -30,9 +31,12 @@ pub(crate) fn put_definitions(
     requires one_each { length nodes.old.items ≡ length f.now.existentials }
     requires nodes { All (IsNode graph.old) nodes.old.items }
     ensures extends { Extends graph.old graph.new }
-    ensures outputs { (rows : List (List Bool)) (points : PointBits) (rules : List RuleState) → ArePoints f.now rows points
-        → AreFirstOutputs f.now rows points rules definitions.now graph.old (length f.now.existentials) nodes.old.items
-        → OnOk result (AreOutputs f.now rows points rules definitions.now graph.new nodes.new.items) }
+    ensures outputs { (rows : List (List Bool)) (points : PointBits) (rules : List RuleState)
+        → ArePoints f.now rows points
+        → AreFirstOutputs f.now rows points rules definitions.now graph.old
+        (length f.now.existentials) nodes.old.items
+        → OnOk result
+        (AreOutputs f.now rows points rules definitions.now graph.new nodes.new.items) }
 {
     f.every_formula_is_lawful();
     let order = existentials_in_order(alloc, f)?;
@@ -43,7 +47,8 @@ pub(crate) fn put_definitions(
     Ok(())
 }
 
-// Where there is a definition at a place, puts it there among the nodes, with these put in for its last inputs.
+// Where there is a definition at a place, puts it there among the nodes, with these put in for its
+// last inputs.
 fn put_definition(
     definitions: &[Option<Node>],
     place: usize,
@@ -52,10 +57,13 @@ fn put_definition(
 ) -> Result<(), Memory>
     requires place { place < length nodes.old.items }
     requires few { length nodes.old.items ≤ graph.old.inputs }
-    requires definition { (d : NodeState) → slice_index_or definitions.now place None ≡ Some d → IsNode graph.old d }
+    requires definition { (d : NodeState) → slice_index_or definitions.now place None ≡ Some d
+        → IsNode graph.old d }
     requires nodes { All (IsNode graph.old) nodes.old.items }
     ensures extends { Extends graph.old graph.new }
-    ensures put { OnOk result (IsPutAt graph.old graph.new (slice_index_or definitions.now place None) place nodes.old.items nodes.new.items) }
+    ensures put { OnOk result
+        (IsPutAt graph.old graph.new (slice_index_or definitions.now place None) place
+        nodes.old.items nodes.new.items) }
 {
     if let Some(definition) = definition_at(definitions, place) {
         nodes[place] = graph.put_in(definition, nodes)?;

@@ -1,4 +1,5 @@
-//! Candidates for the functions of a formula's existentials: circuits that agree with a model of its expansion at the pairs of the table.
+//! Candidates for the functions of a formula's existentials: circuits that agree with a model of
+//! its expansion at the pairs of the table.
 #![tactic(auto)]
 
 pub use building::{Outputs, build};

@@ -11,7 +11,8 @@ use aig_graph::{Graph, Node};
 use dq_lits::Memory;
 use expansion::Points;
 
-// Where the inputs are at one of the pairs, the existential's bit there; elsewhere the value of the other node.
+// Where the inputs are at one of the pairs, the existential's bit there; elsewhere the value of the
+// other node.
 pub(crate) fn patched(
     pairs: &[Pair],
     points: &Points,
@@ -24,14 +25,16 @@ pub(crate) fn patched(
     requires existential { Contains points.now.variables y }
     requires other { IsNode graph.old other }
     ensures extends { Extends graph.old graph.new }
-    ensures patched { IfOk result (IsPatched graph.old graph.new (point_bits points.now) y pairs.now other) }
+    ensures patched { IfOk result
+        (IsPatched graph.old graph.new (point_bits points.now) y pairs.now other) }
 {
     let rest = masked(pairs, points, y, other, graph)?;
     let ones = at_pair(pairs, points, y, true, graph)?;
     graph.or(ones, rest)
 }
 
-// The other node, but false where the inputs are at a pair whose bit is false. A node that is false everywhere takes no gate for that.
+// The other node, but false where the inputs are at a pair whose bit is false. A node that is false
+// everywhere takes no gate for that.
 fn masked(
     pairs: &[Pair],
     points: &Points,
@@ -44,7 +47,8 @@ fn masked(
     requires existential { Contains points.now.variables y }
     requires other { IsNode graph.old other }
     ensures extends { Extends graph.old graph.new }
-    ensures masked { IfOk result (IsMasked graph.old graph.new (has_bit false (point_bits points.now) y) pairs.now other) }
+    ensures masked { IfOk result
+        (IsMasked graph.old graph.new (has_bit false (point_bits points.now) y) pairs.now other) }
 {
     if is_false(other) {
         return Ok(other);
@@ -74,7 +78,8 @@ fn at_pair(
     requires cubes { All (λ p. IsNode graph.old p.cube) pairs.now }
     requires existential { Contains points.now.variables y }
     ensures extends { Extends graph.old graph.new }
-    ensures at_pair { IfOk result (IsAtPair graph.old graph.new (has_bit bit (point_bits points.now) y) pairs.now) }
+    ensures at_pair { IfOk result
+        (IsAtPair graph.old graph.new (has_bit bit (point_bits points.now) y) pairs.now) }
 {
     let mut made = Node::constant(false);
     for pair in pairs {

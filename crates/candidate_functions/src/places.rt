@@ -22,7 +22,8 @@ pub(crate) fn universal_place(f: &Formula, x: u64) -> usize
 // Where the universals stand that an existential depends on.
 pub(crate) fn seen_places(alloc: Global, f: &Formula, y: u64) -> Result<Vec<usize>, Memory>
     requires declared { IsSome (existential_of f.now y) }
-    ensures { (e : Existential) → existential_of f.now y ≡ Some e → IfOk result (λ places. places.items ≡ universal_places f.now e.sees) }
+    ensures { (e : Existential) → existential_of f.now y ≡ Some e
+        → IfOk result (λ places. places.items ≡ universal_places f.now e.sees) }
 {
     f.every_formula_is_lawful();
     let mut places = Vec::new(alloc);

@@ -33,7 +33,8 @@ pub fn no_variables(alloc: Global) -> Made
 }
 
 fn note(made: &mut Made, variable: u64) -> Result<(), Memory>
-    ensures listed { OnOk result (made.new.variables.items ≡ made.old.variables.items ++ variable ∷ []) }
+    ensures listed { OnOk result
+        (made.new.variables.items ≡ made.old.variables.items ++ variable ∷ []) }
     ensures within { OnOk result (variable ≤ made.new.largest) }
     ensures more { OnOk result (made.old.largest ≤ made.new.largest) }
 {
@@ -172,7 +173,8 @@ pub fn outcome_of<O: Oracle>(
     }
 }
 
-/// Whether every clause that was learned or answered is derived by its hints. It adds a clause of a group, whose id is the last one.
+/// Whether every clause that was learned or answered is derived by its hints. It adds a clause of a
+/// group, whose id is the last one.
 pub fn seal<O: Oracle>(
     alloc: Global,
     oracle: &mut O,

@@ -17,7 +17,8 @@ use std::alloc::Global;
 // The first variable is the selector of the only group.
 const GROUP: i64 = 1;
 
-/// The answer for a formula's text, where so many clauses may be learned. All its clauses stand in one group.
+/// The answer for a formula's text, where so many clauses may be learned. All its clauses stand in
+/// one group.
 pub fn answer(alloc: Global, text: &[u8], limit: u64) -> Result<String> {
     let formula = read(alloc, text)?;
     answer_formula(alloc, &formula, limit)
@@ -56,7 +57,8 @@ fn make_variables<O: Oracle>(
     count: u64,
 ) -> Result<()>
     requires ready { O.Fits oracle.old log.old × AreMade made.old log.old.entries }
-    ensures ready { IfOk result (λ u. O.Fits oracle.new log.new × AreMade made.new log.new.entries) }
+    ensures ready { IfOk result
+        (λ u. O.Fits oracle.new log.new × AreMade made.new log.new.entries) }
 {
     let tenant = oracle.tenant()?;
     make_group(oracle, log, made, &tenant)?;
@@ -74,7 +76,8 @@ fn add_clauses<O: Oracle>(
     formula: &Formula,
 ) -> Result<()>
     requires ready { O.Fits oracle.old log.old × AreMade made.now log.old.entries }
-    ensures ready { IfOk result (λ u. O.Fits oracle.new log.new × AreMade made.now log.new.entries) }
+    ensures ready { IfOk result
+        (λ u. O.Fits oracle.new log.new × AreMade made.now log.new.entries) }
 {
     for j in 0..formula.clauses() {
         let literals = shifted(alloc, formula, j)?;

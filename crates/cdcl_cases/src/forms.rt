@@ -10,7 +10,8 @@ use hint_log::Log;
 use oracle::Oracle;
 use std::alloc::Global;
 
-/// What the cases of a table give, a line each: by watched literals, and behind each case whether the answers by scans are the same.
+/// What the cases of a table give, a line each: by watched literals, and behind each case whether
+/// the answers by scans are the same.
 ///
 /// A case begins with `new LIMIT`, an empty log that takes so many learned clauses.
 pub fn answers(alloc: Global, table: &str) -> Result<String> {

@@ -1,4 +1,5 @@
-//! The log's clauses as lines of a proof, and whether each that was learned or answered is derived by its hints.
+//! The log's clauses as lines of a proof, and whether each that was learned or answered is derived
+//! by its hints.
 
 ghost use Rattle.std.specs.Prelude.{◌≡◌, ◌≤◌, true, false};
 ghost use Rattle.hint_log.specs.Conditions.{IsId};

@@ -1,5 +1,5 @@
-//! Literals and groups by numbers: variable n is the nth one that was made, and a literal is its variable's number or the negative of it, as
-//! in DIMACS.
+//! Literals and groups by numbers: variable n is the nth one that was made, and a literal is its
+//! variable's number or the negative of it, as in DIMACS.
 
 ghost use Rattle.std.specs.Prelude.{◌≡◌, IfOk, IfSome, IsSome};
 ghost use Rattle.std.specs.List.{All};

@@ -1,10 +1,12 @@
 //! The commands of a table.
 //!
-//! `tenant` goes on with another tenant. `group` and `var` take the next variable, the first one is 1, and a group is named by its
-//! selector's. `add GROUP LITERAL..` adds a clause. `solve NAME | GROUP.. | LITERAL..` searches under these groups and assumptions, and
-//! prints `Sat`, where the values make the clauses of these groups and the assumptions true, or `Unsat` with the answer's clause, or
-//! `Limit`. `steps NAME` prints how many clauses were learned, and `derived NAME GROUP` whether all that was learned and answered is derived
-//! by its hints. Lines that begin with `#` are comments.
+//! `tenant` goes on with another tenant. `group` and `var` take the next variable, the first one is
+//! 1, and a group is named by its selector's. `add GROUP LITERAL..` adds a clause. `solve NAME |
+//! GROUP.. | LITERAL..` searches under these groups and assumptions, and prints `Sat`, where the
+//! values make the clauses of these groups and the assumptions true, or `Unsat` with the answer's
+//! clause, or `Limit`. `steps NAME` prints how many clauses were learned, and `derived NAME GROUP`
+//! whether all that was learned and answered is derived by its hints. Lines that begin with `#` are
+//! comments.
 
 ghost use Rattle.std.specs.Prelude.{[], IfOk};
 ghost use Rattle.cdcl_cases.specs.Making.{AreMade};
@@ -60,7 +62,8 @@ pub fn take_line<O: Oracle>(
     line: &str,
 ) -> Result<Option<String>>
     requires ready { O.Fits oracle.old log.old × AreMade case.old.made log.old.entries }
-    ensures ready { IfOk result (λ p. O.Fits oracle.new log.new × AreMade case.new.made log.new.entries) }
+    ensures ready { IfOk result
+        (λ p. O.Fits oracle.new log.new × AreMade case.new.made log.new.entries) }
 {
     let (word, rest) = line.split_once(' ').unwrap_or((line, ""));
     match word {
@@ -78,7 +81,8 @@ pub fn take_line<O: Oracle>(
 
 fn go_on<O: Oracle>(oracle: &mut O, log: &Log, case: &mut Case) -> Result<Option<String>>
     requires ready { O.Fits oracle.old log.now × AreMade case.old.made log.now.entries }
-    ensures ready { IfOk result (λ p. O.Fits oracle.new log.now × AreMade case.new.made log.now.entries) }
+    ensures ready { IfOk result
+        (λ p. O.Fits oracle.new log.now × AreMade case.new.made log.now.entries) }
 {
     let _ = log;
     case.tenant = oracle.tenant()?;
@@ -87,7 +91,8 @@ fn go_on<O: Oracle>(oracle: &mut O, log: &Log, case: &mut Case) -> Result<Option
 
 fn group<O: Oracle>(oracle: &mut O, log: &mut Log, case: &mut Case) -> Result<Option<String>>
     requires ready { O.Fits oracle.old log.old × AreMade case.old.made log.old.entries }
-    ensures ready { IfOk result (λ p. O.Fits oracle.new log.new × AreMade case.new.made log.new.entries) }
+    ensures ready { IfOk result
+        (λ p. O.Fits oracle.new log.new × AreMade case.new.made log.new.entries) }
 {
     make_group(oracle, log, &mut case.made, &case.tenant)?;
     Ok(None)
@@ -95,7 +100,8 @@ fn group<O: Oracle>(oracle: &mut O, log: &mut Log, case: &mut Case) -> Result<Op
 
 fn var<O: Oracle>(oracle: &mut O, log: &mut Log, case: &mut Case) -> Result<Option<String>>
     requires ready { O.Fits oracle.old log.old × AreMade case.old.made log.old.entries }
-    ensures ready { IfOk result (λ p. O.Fits oracle.new log.new × AreMade case.new.made log.new.entries) }
+    ensures ready { IfOk result
+        (λ p. O.Fits oracle.new log.new × AreMade case.new.made log.new.entries) }
 {
     make_var(oracle, log, &mut case.made)?;
     Ok(None)
@@ -109,7 +115,8 @@ fn add<O: Oracle>(
     rest: &str,
 ) -> Result<Option<String>>
     requires ready { O.Fits oracle.old log.old × AreMade case.old.made log.old.entries }
-    ensures ready { IfOk result (λ p. O.Fits oracle.new log.new × AreMade case.new.made log.new.entries) }
+    ensures ready { IfOk result
+        (λ p. O.Fits oracle.new log.new × AreMade case.new.made log.new.entries) }
 {
     let (group, literals) = rest.split_once(' ').unwrap_or((rest, ""));
     let group: i64 = group.parse()?;
@@ -129,7 +136,8 @@ pub fn add_given<O: Oracle>(
     given: &Given,
 ) -> Result<()>
     requires ready { O.Fits oracle.old log.old × AreMade made.now log.old.entries }
-    ensures ready { IfOk result (λ u. O.Fits oracle.new log.new × AreMade made.now log.new.entries) }
+    ensures ready { IfOk result
+        (λ u. O.Fits oracle.new log.new × AreMade made.now log.new.entries) }
 {
     let Some(group) = group_at(log, made, given.group.unsigned_abs()) else {
         return Err(anyhow!("no group"));
@@ -147,7 +155,8 @@ fn solve<O: Oracle>(
     rest: &str,
 ) -> Result<Option<String>>
     requires ready { O.Fits oracle.old log.old × AreMade case.now.made log.old.entries }
-    ensures ready { IfOk result (λ p. O.Fits oracle.new log.new × AreMade case.now.made log.new.entries) }
+    ensures ready { IfOk result
+        (λ p. O.Fits oracle.new log.new × AreMade case.now.made log.new.entries) }
 {
     let (name, rest) = rest.split_once(" |").unwrap_or((rest, ""));
     let (groups, assumed) = rest.split_once('|').unwrap_or((rest, ""));
@@ -169,7 +178,8 @@ pub fn found_by<O: Oracle>(
     question: &Question,
 ) -> Result<Found>
     requires ready { O.Fits oracle.old log.old × AreMade made.now log.old.entries }
-    ensures ready { IfOk result (λ f. O.Fits oracle.new log.new × AreMade made.now log.new.entries) }
+    ensures ready { IfOk result
+        (λ f. O.Fits oracle.new log.new × AreMade made.now log.new.entries) }
 {
     let active = groups_at(alloc, log, made, &question.groups)?;
     let assume = plain_lits(alloc, log, made, &question.assumed)?;
@@ -193,7 +203,8 @@ fn derived<O: Oracle>(
     rest: &str,
 ) -> Result<Option<String>>
     requires ready { O.Fits oracle.old log.old × AreMade case.now.made log.old.entries }
-    ensures ready { IfOk result (λ p. O.Fits oracle.new log.new × AreMade case.now.made log.new.entries) }
+    ensures ready { IfOk result
+        (λ p. O.Fits oracle.new log.new × AreMade case.now.made log.new.entries) }
 {
     let (name, group) = rest.rsplit_once(' ').unwrap_or((rest, ""));
     let group: u64 = group.parse()?;

@@ -5,7 +5,8 @@ use Rattle.cdcl_core.specs.Pieces.{pieces, AreEnds}
 use Rattle.cdcl_core.specs.Runs.{AreStarts}
 use Rattle.cdcl_core.specs.declared.arenas.Arena.TheInside.{Inside}
 
--- what an arena shows: its clauses in order of time, and how many literals one clause more has to stay below
+-- what an arena shows: its clauses in order of time, and how many literals one clause more has to
+-- stay below
 pub record Arranged : Type 0 where
   pub clauses : List (List Literal)
   pub spare : ℕ

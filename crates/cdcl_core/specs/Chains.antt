@@ -1,4 +1,5 @@
--- Lists of clauses, linked: where each list begins, and what stands behind each clause. An id is from 1 on, and 0 ends a list.
+-- Lists of clauses, linked: where each list begins, and what stands behind each clause. An id is
+-- from 1 on, and 0 ends a list.
 use Rattle.std.specs.Prelude.{◌≡◌, ℕ, ◌+◌, ◌-◌, ◌*◌, ◌≤◌, ◌==◌, Bool, true, false, List, [], ◌∷◌, length, slice_index_or, if◌then◌else◌, ◌⊎◌}
 use Rattle.std.specs.List.{list_any}
 use Rattle.dq_lits.specs.Literal.{Literal, positive, variable_of, is_negative}
@@ -17,15 +18,19 @@ has ids id = list_any (λ x. id == x) ids
 
 abbrev pub IsChain : List ℕ → ℕ → List ℕ → Type 0
 IsChain nexts start [] = start ≡ 0
-IsChain nexts start (id ∷ rest) = (start ≡ id) × (1 ≤ id) × (id ≤ length nexts) × IsChain nexts (slice_index_or nexts (id - 1) 0) rest
+IsChain nexts start (id ∷ rest) =
+    (start ≡ id) × (1 ≤ id) × (id ≤ length nexts)
+    × IsChain nexts (slice_index_or nexts (id - 1) 0) rest
 
 -- none stands twice
 abbrev pub AreOnce : List ℕ → Type 0
 AreOnce [] = Unit {0}
 AreOnce (id ∷ rest) = (has rest id ≡ false) × AreOnce rest
 
--- each clause is on the list of its literal, or else among those that a visit has left, which are a list of their own
-pub record AreLinked (heads nexts : List ℕ) (literals : List Literal) (left : ℕ) (rest : List ℕ) : Type 0 where
+-- each clause is on the list of its literal, or else among those that a visit has left, which are a
+-- list of their own
+pub record AreLinked (heads nexts : List ℕ) (literals : List Literal) (left : ℕ)
+    (rest : List ℕ) : Type 0 where
   pub count : length literals ≡ length nexts
   pub lists : ℕ → List ℕ
   pub chains : (p : ℕ) → IsChain nexts (slice_index_or heads p 0) (lists p)
@@ -34,7 +39,8 @@ pub record AreLinked (heads nexts : List ℕ) (literals : List Literal) (left : 
   pub rest_chain : IsChain nexts left rest
   pub rest_once : AreOnce rest
   pub rest_apart : (p id : ℕ) → has (lists p) id ≡ true → has rest id ≡ false
-  pub whole : (id : ℕ) → 1 ≤ id → id ≤ length nexts → (has (lists (place_of (watch_at literals (id - 1)))) id ≡ true) ⊎ (has rest id ≡ true)
+  pub whole : (id : ℕ) → 1 ≤ id → id ≤ length nexts
+      → (has (lists (place_of (watch_at literals (id - 1)))) id ≡ true) ⊎ (has rest id ≡ true)
 
 abbrev pub IsLinked : Watches → ℕ → List ℕ → Type 0
 IsLinked w left rest = AreLinked w.heads.items w.nexts.items w.literals.items left rest
@@ -48,7 +54,8 @@ pub record IsTaken (w : Watches) (l : Literal) (left : ℕ) : Type 0 where
   pub rest : List ℕ
   pub linked : IsLinked w left rest
   pub watched : (id : ℕ) → has rest id ≡ true → watch_at w.literals.items (id - 1) ≡ l
-  pub whole : (id : ℕ) → 1 ≤ id → id ≤ length w.nexts.items → watch_at w.literals.items (id - 1) ≡ l → has rest id ≡ true
+  pub whole : (id : ℕ) → 1 ≤ id → id ≤ length w.nexts.items → watch_at w.literals.items (id - 1) ≡ l
+      → has rest id ≡ true
   pub list : (left ≡ 0) ⊎ HasList w l
 
 -- clauses that are watched at a literal are left to visit, from this one on

@@ -20,8 +20,11 @@ IsPropagated live new None = IsClosed live (literals_of new.steps)
 -- a literal without a value of a clause that has no true one; or every clause has one
 abbrev pub IsOpening : List (List Literal) → List Literal → Option Literal → Type 0
 IsOpening clauses trues None = All (λ c. list_any (holds trues) c ≡ true) clauses
-IsOpening clauses trues (Some l) = IsFree trues l × (c : List Literal) × Contains clauses c × (holds c l ≡ true)
+IsOpening clauses trues (Some l) =
+    IsFree trues l × (c : List Literal) × Contains clauses c × (holds c l ≡ true)
 
 -- the clauses from one id downwards have true literals, above another id
 abbrev pub AreTrueWithin : ℕ → ℕ → List (List Literal) → List Literal → Type 0
-AreTrueWithin from down_to clauses trues = (i : ℕ) (c : List Literal) → down_to ≤ i → i < from → slice_get clauses i ≡ Some c → list_any (holds trues) c ≡ true
+AreTrueWithin from down_to clauses trues =
+    (i : ℕ) (c : List Literal) → down_to ≤ i → i < from → slice_get clauses i ≡ Some c
+    → list_any (holds trues) c ≡ true

@@ -21,14 +21,20 @@ pub record BeginsTrue (trues c : List Literal) : Type 0 where
 
 -- from a place on, clauses begin as the clause with an id does
 abbrev pub BeginAlike : List (List Literal) → ℕ → ℕ → Type 0
-BeginAlike clauses start id = (i : ℕ) (c d : List Literal) (l : Literal) → start ≤ i → i < id → slice_get clauses i ≡ Some c → live_in clauses id ≡ Some d
+BeginAlike clauses start id =
+    (i : ℕ) (c d : List Literal) (l : Literal) → start ≤ i → i < id → slice_get clauses i ≡ Some c
+    → live_in clauses id ≡ Some d
     → head_of d ≡ Some l → head_of c ≡ Some l
 
 -- from a place on, clauses begin as one more would
-pub record IsNextStart (clauses : List (List Literal)) (clause : List Literal) (start : ℕ) : Type 0 where
+pub record IsNextStart (clauses : List (List Literal)) (clause : List Literal)
+    (start : ℕ) : Type 0 where
   pub within : start ≤ length clauses
-  pub alike : (i : ℕ) (c : List Literal) (l : Literal) → start ≤ i → slice_get clauses i ≡ Some c → head_of clause ≡ Some l → head_of c ≡ Some l
+  pub alike : (i : ℕ) (c : List Literal) (l : Literal) → start ≤ i → slice_get clauses i ≡ Some c
+      → head_of clause ≡ Some l → head_of c ≡ Some l
 
 -- for each clause, a place from which on clauses begin as it does
 abbrev pub AreStarts : List (List Literal) → List ℕ → Type 0
-AreStarts clauses starts = (i : ℕ) → i < length starts → (slice_index_or starts i 0 ≤ i) × BeginAlike clauses (slice_index_or starts i 0) (suc i)
+AreStarts clauses starts =
+    (i : ℕ) → i < length starts
+    → (slice_index_or starts i 0 ≤ i) × BeginAlike clauses (slice_index_or starts i 0) (suc i)

@@ -30,17 +30,22 @@ IsReady s = IsTopGuarded s.clauses.clauses s.clauses.first s.clauses.second s.tr
 
 -- all literals of the trail were processed
 abbrev pub IsAllGuarded : Searcher → Type 0
-IsAllGuarded s = IsGuarded s.clauses.clauses s.clauses.first s.clauses.second (literals_of s.trail.steps) (literals_of s.trail.steps)
+IsAllGuarded s =
+    IsGuarded s.clauses.clauses s.clauses.first s.clauses.second (literals_of s.trail.steps)
+    (literals_of s.trail.steps)
 
 -- assumptions stand on variables that have names, and not beside their negations
 pub record AreAssumptions (log : ProofLog) (assumptions : List Literal) : Type 0 where
-  pub named : (l : Literal) → holds assumptions l ≡ true → IsSome (name_of log.entries (variable_of l))
+  pub named : (l : Literal) → holds assumptions l ≡ true
+      → IsSome (name_of log.entries (variable_of l))
   pub apart : (l : Literal) → holds assumptions l ≡ true → holds assumptions (opposite l) ≡ true → ⊥
-  pub switched : (l : Literal) → holds assumptions l ≡ true → is_selector log.entries (variable_of l) ≡ true → is_negative l ≡ false
+  pub switched : (l : Literal) → holds assumptions l ≡ true
+      → is_selector log.entries (variable_of l) ≡ true → is_negative l ≡ false
 
 -- how far a search is from its end
 abbrev pub left_of : Searcher → ProofLog → ℕ
-left_of s log = (log.limit - steps_of log.entries) * (s.trail.room + 1) + (s.trail.room - length s.trail.steps)
+left_of s log =
+    (log.limit - steps_of log.entries) * (s.trail.room + 1) + (s.trail.room - length s.trail.steps)
 
 -- the variables, and the places for them
 pub record KeepsPlaces (s t : Searcher) : Type 0 where
@@ -49,7 +54,8 @@ pub record KeepsPlaces (s t : Searcher) : Type 0 where
   pub marks : length t.notes.marks ≡ length s.notes.marks
 
 -- what a turn that doesn't end the search comes to
-pub record HasTurned (assumptions : List Literal) (s t : Searcher) (old new : ProofLog) : Type 0 where
+pub record HasTurned (assumptions : List Literal) (s t : Searcher)
+    (old new : ProofLog) : Type 0 where
   pub searching : IsSearching assumptions t new
   pub ready : IsReady t
   pub learned : HasLearned old new
@@ -78,7 +84,8 @@ abbrev pub HasRoom : Searcher → Type 0
 HasRoom s = (s.trail.room ≡ 0) ⊎ (s.trail.room < length s.notes.marks)
 
 -- how far a search has come
-pub record IsRunning (assumptions : List Literal) (s t : Searcher) (old new : ProofLog) : Type 0 where
+pub record IsRunning (assumptions : List Literal) (s t : Searcher)
+    (old new : ProofLog) : Type 0 where
   pub searching : IsSearching assumptions t new
   pub ready : IsReady t
   pub few : length t.trail.steps ≤ t.trail.room

@@ -1,4 +1,5 @@
--- What is so of every trail: why each literal is true, and that propagation had come to its end before each decision.
+-- What is so of every trail: why each literal is true, and that propagation had come to its end
+-- before each decision.
 use Rattle.std.specs.Prelude.{◌≡◌, ℕ, true, List, [], ◌∷◌, Option, None, Some, IsSome, ◌⊎◌}
 use Rattle.dq_lits.specs.Literal.{Literal, variable_of, is_negative}
 use Rattle.dq_lits.specs.Derivation.{LiveClauses, holds, status_of, unit}
@@ -27,16 +28,20 @@ abbrev pub AreTrue : List Literal → List Literal → Type 0
 AreTrue assumptions trues = (a : Literal) → holds assumptions a ≡ true → holds trues a ≡ true
 
 -- an assumption was decided, or, behind all assumptions, something else that makes no selector true
-pub record StepIsGuided (entries : List Entry) (assumptions : List Literal) (earlier : List Step) (s : Step) : Type 0 where
+pub record StepIsGuided (entries : List Entry) (assumptions : List Literal) (earlier : List Step)
+    (s : Step) : Type 0 where
   pub named : is_decision s ≡ true → IsSome (name_of entries (variable_of s.literal))
   pub chosen : is_decision s ≡ true → (holds assumptions s.literal ≡ true)
-      ⊎ (AreTrue assumptions (literals_of earlier) × (is_selector entries (variable_of s.literal) ≡ true → is_negative s.literal ≡ true))
+      ⊎ (AreTrue assumptions (literals_of earlier)
+      × (is_selector entries (variable_of s.literal) ≡ true → is_negative s.literal ≡ true))
 
 abbrev pub IsGuided : List Entry → List Literal → List Step → Type 0
 IsGuided entries assumptions [] = Unit {0}
-IsGuided entries assumptions (s ∷ earlier) = StepIsGuided entries assumptions earlier s × IsGuided entries assumptions earlier
+IsGuided entries assumptions (s ∷ earlier) =
+    StepIsGuided entries assumptions earlier s × IsGuided entries assumptions earlier
 
 -- assumptions alone were decided
 abbrev pub AreAssumed : List Literal → List Step → Type 0
 AreAssumed assumptions [] = Unit {0}
-AreAssumed assumptions (s ∷ earlier) = (is_decision s ≡ true → holds assumptions s.literal ≡ true) × AreAssumed assumptions earlier
+AreAssumed assumptions (s ∷ earlier) =
+    (is_decision s ≡ true → holds assumptions s.literal ≡ true) × AreAssumed assumptions earlier

@@ -7,8 +7,9 @@ use Rattle.cdcl_core.specs.Chains.{place_of, IsLinked}
 use Rattle.cdcl_core.specs.Watching.{AreWatched, AreShort}
 use Rattle.cdcl_core.specs.Visits.{AreListed}
 
--- what a store shows: its clauses in order of time, the two literals that each is watched at, how many lists of watches there are on
--- either side, and how many literals one clause more has to stay below
+-- what a store shows: its clauses in order of time, the two literals that each is watched at, how
+-- many lists of watches there are on either side, and how many literals one clause more has to stay
+-- below
 pub record Stored : Type 0 where
   pub clauses : List (List Literal)
   pub first : List Literal
@@ -37,7 +38,9 @@ pub record HasLists (s : Stored) (clause : List Literal) : Type 0 where
   pub all : All (λ l. IsListed s l) clause
 
 abbrev pub HasWatchRoom : Watches → Type 0
-HasWatchRoom w = (length w.literals.items < vec_capacity w.literals) × (length w.nexts.items < vec_capacity w.nexts)
+HasWatchRoom w =
+    (length w.literals.items < vec_capacity w.literals)
+    × (length w.nexts.items < vec_capacity w.nexts)
 
 pub record HasSpare (s : Inside) : Type 0 where
   pub arena : s.spare ≤ s.arena.spare

@@ -16,10 +16,13 @@ use Rattle.cdcl_core.specs.Watching.{AreWatched, AreMoved, IsGuarded, AreLevelsG
 
 -- every literal of every clause has a list
 abbrev pub AreListed : List (List Literal) → Watches → Type 0
-AreListed clauses w = (i : ℕ) (c : List Literal) (l : Literal) → slice_get clauses i ≡ Some c → holds c l ≡ true → HasList w l
+AreListed clauses w =
+    (i : ℕ) (c : List Literal) (l : Literal) → slice_get clauses i ≡ Some c → holds c l ≡ true
+    → HasList w l
 
 -- clauses, a trail, and the watches on one side and the other
-pub record IsVisitable (clauses : List (List Literal)) (trail : Trailed) (these others : Watches) : Type 0 where
+pub record IsVisitable (clauses : List (List Literal)) (trail : Trailed)
+    (these others : Watches) : Type 0 where
   pub in_range : AreWithin trail.room clauses
   pub sound : IsSound (live_in clauses) trail.steps
   pub few : length trail.steps ≤ trail.room
@@ -31,13 +34,17 @@ pub record IsVisitable (clauses : List (List Literal)) (trail : Trailed) (these 
 
 -- all literals but one are false
 abbrev pub AreOthersFalse : List Literal → List Literal → Literal → Type 0
-AreOthersFalse trues clause other = (k : Literal) → holds clause k ≡ true → same_literal k other ≡ false → holds trues (opposite k) ≡ true
+AreOthersFalse trues clause other =
+    (k : Literal) → holds clause k ≡ true → same_literal k other ≡ false
+    → holds trues (opposite k) ≡ true
 
 -- the other watched literal was made true, for all others are false
-pub record IsMadeTrue (clause : List Literal) (old new : Trailed) (other : Literal) (id : ℕ) : Type 0 where
+pub record IsMadeTrue (clause : List Literal) (old new : Trailed) (other : Literal)
+    (id : ℕ) : Type 0 where
   pub free : IsFree (literals_of old.steps) other
   pub others : AreOthersFalse (literals_of old.steps) clause other
-  pub is : new ≡ record { room = old.room; steps = record { literal = other; reason = Some id } ∷ old.steps }
+  pub is : new
+      ≡ record { room = old.room; steps = record { literal = other; reason = Some id } ∷ old.steps }
 
 -- another literal of the clause isn't false
 pub record IsOther (trues clause : List Literal) (other k : Literal) : Type 0 where
@@ -46,71 +53,97 @@ pub record IsOther (trues clause : List Literal) (other k : Literal) : Type 0 wh
   pub not_false : holds trues (opposite k) ≡ false
 
 abbrev pub IsLooked : List Literal → ℕ → Trailed → Trailed → Literal → Look → Type 0
-IsLooked clause id old new other Kept = ((new ≡ old) × (holds (literals_of old.steps) other ≡ true)) ⊎ IsMadeTrue clause old new other id
-IsLooked clause id old new other (Moved k) = (new ≡ old) × IsOther (literals_of old.steps) clause other k
-IsLooked clause id old new other Falsified = (new ≡ old) × ((k : Literal) → holds clause k ≡ true → holds (literals_of old.steps) (opposite k) ≡ true)
+IsLooked clause id old new other Kept =
+    ((new ≡ old) × (holds (literals_of old.steps) other ≡ true))
+    ⊎ IsMadeTrue clause old new other id
+IsLooked clause id old new other (Moved k) =
+    (new ≡ old) × IsOther (literals_of old.steps) clause other k
+IsLooked clause id old new other Falsified =
+    (new ≡ old)
+    × ((k : Literal) → holds clause k ≡ true → holds (literals_of old.steps) (opposite k) ≡ true)
 
 -- where the watch at a place stands on this literal, the other one is true
 abbrev pub IsDone : List Literal → List Literal → List Literal → Literal → ℕ → Type 0
-IsDone trues these others l i = same_literal (watch_at these i) (watch_at others i) ≡ false → watch_at these i ≡ l → holds trues (watch_at others i) ≡ true
+IsDone trues these others l i =
+    same_literal (watch_at these i) (watch_at others i) ≡ false → watch_at these i ≡ l
+    → holds trues (watch_at others i) ≡ true
 
 -- what one visit comes to: the next id, or a conflict
-pub record IsVisited (clauses : List (List Literal)) (old new : Trailed) (was now others : Watches) (l : Literal) (id : ℕ) (next : Option ℕ) : Type 0 where
+pub record IsVisited (clauses : List (List Literal)) (old new : Trailed) (was now others : Watches)
+    (l : Literal) (id : ℕ) (next : Option ℕ) : Type 0 where
   pub visitable : IsVisitable clauses new now others
   pub room : new.room ≡ old.room
   pub grown : Grown old.steps new.steps
-  pub moved : AreMoved (literals_of old.steps) was.literals.items now.literals.items others.literals.items
-  pub elsewhere : (i : ℕ) → (i ≡ id - 1 → ⊥) → watch_at now.literals.items i ≡ watch_at was.literals.items i
-  pub linked : (rest : List ℕ) → IsLinked was id (id ∷ rest) → MatchOption next (IsLinked now id (id ∷ rest)) (λ n. IsLinked now n rest)
+  pub moved : AreMoved (literals_of old.steps) was.literals.items now.literals.items
+      others.literals.items
+  pub elsewhere : (i : ℕ) → (i ≡ id - 1 → ⊥)
+      → watch_at now.literals.items i ≡ watch_at was.literals.items i
+  pub linked : (rest : List ℕ) → IsLinked was id (id ∷ rest)
+      → MatchOption next (IsLinked now id (id ∷ rest)) (λ n. IsLinked now n rest)
   pub lists : length now.heads.items ≡ length was.heads.items
-  pub ended : MatchOption next ((now ≡ was) × (status_of (literals_of new.steps) (live_in clauses id) ≡ falsified))
+  pub ended : MatchOption next
+      ((now ≡ was) × (status_of (literals_of new.steps) (live_in clauses id) ≡ falsified))
       (λ _. IsDone (literals_of new.steps) now.literals.items others.literals.items l (id - 1))
 
 -- what the visits of a whole list come to: none, or a conflict
-pub record IsListVisited (clauses : List (List Literal)) (old new : Trailed) (was now others : Watches) (l : Literal) (found : Option ℕ) : Type 0 where
+pub record IsListVisited (clauses : List (List Literal)) (old new : Trailed)
+    (was now others : Watches) (l : Literal) (found : Option ℕ) : Type 0 where
   pub visitable : IsVisitable clauses new now others
   pub room : new.room ≡ old.room
   pub grown : Grown old.steps new.steps
-  pub moved : AreMoved (literals_of old.steps) was.literals.items now.literals.items others.literals.items
+  pub moved : AreMoved (literals_of old.steps) was.literals.items now.literals.items
+      others.literals.items
   pub linked : IsLinked now 0 []
-  pub ended : MatchOption found ((i : ℕ) → IsDone (literals_of new.steps) now.literals.items others.literals.items l i)
+  pub ended : MatchOption found
+      ((i : ℕ) → IsDone (literals_of new.steps) now.literals.items others.literals.items l i)
       (λ id. status_of (literals_of new.steps) (live_in clauses id) ≡ falsified)
 
 -- the visits of a list go on
-pub record IsVisiting (clauses : List (List Literal)) (old new : Trailed) (was now others : Watches) (l : Literal) (at i : ℕ) : Type 0 where
+pub record IsVisiting (clauses : List (List Literal)) (old new : Trailed) (was now others : Watches)
+    (l : Literal) (at i : ℕ) : Type 0 where
   pub visitable : IsVisitable clauses new now others
   pub room : new.room ≡ old.room
   pub grown : Grown old.steps new.steps
-  pub moved : AreMoved (literals_of old.steps) was.literals.items now.literals.items others.literals.items
+  pub moved : AreMoved (literals_of old.steps) was.literals.items now.literals.items
+      others.literals.items
   pub rest : List ℕ
   pub linked : IsLinked now at rest
   pub watched : (id : ℕ) → has rest id ≡ true → watch_at now.literals.items (id - 1) ≡ l
-  pub done : (i : ℕ) → (has rest (suc i) ≡ true) ⊎ IsDone (literals_of new.steps) now.literals.items others.literals.items l i
+  pub done : (i : ℕ)
+      → (has rest (suc i) ≡ true)
+      ⊎ IsDone (literals_of new.steps) now.literals.items others.literals.items l i
   pub list : (at ≡ 0) ⊎ HasList now l
   pub few : length rest + i ≤ length clauses
 
 -- the notes on short clauses stay right
 abbrev pub KeepsShort : List (List Literal) → Watches → Watches → Watches → Watches → Type 0
 KeepsShort clauses was now was_second now_second =
-    (short : List ℕ) → AreShort clauses was.literals.items was_second.literals.items short → AreShort clauses now.literals.items now_second.literals.items short
+    (short : List ℕ) → AreShort clauses was.literals.items was_second.literals.items short
+    → AreShort clauses now.literals.items now_second.literals.items short
 
 -- both lists of a false literal were visited
-pub record AreVisited (clauses : List (List Literal)) (old new : Trailed) (was now was_second now_second : Watches) (l : Literal) (found : Option ℕ) : Type 0 where
+pub record AreVisited (clauses : List (List Literal)) (old new : Trailed)
+    (was now was_second now_second : Watches) (l : Literal) (found : Option ℕ) : Type 0 where
   pub visitable : IsVisitable clauses new now now_second
   pub linked : IsLinked now 0 []
   pub second_linked : IsLinked now_second 0 []
   pub room : new.room ≡ old.room
   pub grown : Grown old.steps new.steps
   pub short : KeepsShort clauses was now was_second now_second
-  pub levels : AreLevelsGuarded clauses was.literals.items was_second.literals.items old.steps → AreLevelsGuarded clauses now.literals.items now_second.literals.items new.steps
+  pub levels : AreLevelsGuarded clauses was.literals.items was_second.literals.items old.steps
+      → AreLevelsGuarded clauses now.literals.items now_second.literals.items new.steps
   pub ended : MatchOption found
-      ((processed : List Literal) → ((t : Literal) → holds processed t ≡ true → holds (literals_of old.steps) t ≡ true)
-      → IsGuarded clauses was.literals.items was_second.literals.items processed (literals_of old.steps)
-      → IsGuarded clauses now.literals.items now_second.literals.items (opposite l ∷ processed) (literals_of new.steps))
+      ((processed : List Literal)
+      → ((t : Literal) → holds processed t ≡ true → holds (literals_of old.steps) t ≡ true)
+      → IsGuarded clauses was.literals.items was_second.literals.items processed
+      (literals_of old.steps)
+      → IsGuarded clauses now.literals.items now_second.literals.items (opposite l ∷ processed)
+      (literals_of new.steps))
       (λ id. status_of (literals_of new.steps) (live_in clauses id) ≡ falsified)
 
 -- the trail was visited to its end, or to a conflict
-pub record IsTrailVisited (clauses : List (List Literal)) (old new : Trailed) (was now was_second now_second : Watches) (found : Option ℕ) : Type 0 where
+pub record IsTrailVisited (clauses : List (List Literal)) (old new : Trailed)
+    (was now was_second now_second : Watches) (found : Option ℕ) : Type 0 where
   pub visitable : IsVisitable clauses new now now_second
   pub linked : IsLinked now 0 []
   pub second_linked : IsLinked now_second 0 []
@@ -118,11 +151,14 @@ pub record IsTrailVisited (clauses : List (List Literal)) (old new : Trailed) (w
   pub grown : Grown old.steps new.steps
   pub short : KeepsShort clauses was now was_second now_second
   pub levels : AreLevelsGuarded clauses now.literals.items now_second.literals.items new.steps
-  pub ended : MatchOption found (IsGuarded clauses now.literals.items now_second.literals.items (literals_of new.steps) (literals_of new.steps))
+  pub ended : MatchOption found
+      (IsGuarded clauses now.literals.items now_second.literals.items (literals_of new.steps)
+      (literals_of new.steps))
       (λ id. status_of (literals_of new.steps) (live_in clauses id) ≡ falsified)
 
 -- the oldest literals of a trail were processed
-pub record IsProcessed (clauses : List (List Literal)) (first second : List Literal) (steps : List Step) (at : ℕ) : Type 0 where
+pub record IsProcessed (clauses : List (List Literal)) (first second : List Literal)
+    (steps : List Step) (at : ℕ) : Type 0 where
   pub newer : List Step
   pub older : List Step
   pub is : steps ≡ newer ++ older
@@ -131,7 +167,8 @@ pub record IsProcessed (clauses : List (List Literal)) (first second : List Lite
   pub levels : AreLevelsGuarded clauses first second steps
 
 -- the visits of a trail go on
-pub record AreOnTrail (clauses : List (List Literal)) (old new : Trailed) (was now was_second now_second : Watches) (at : ℕ) : Type 0 where
+pub record AreOnTrail (clauses : List (List Literal)) (old new : Trailed)
+    (was now was_second now_second : Watches) (at : ℕ) : Type 0 where
   pub visitable : IsVisitable clauses new now now_second
   pub linked : IsLinked now 0 []
   pub second_linked : IsLinked now_second 0 []
@@ -149,9 +186,11 @@ pub record IsPuttingBack (was now : Watches) (l : Literal) (at i : ℕ) : Type 0
   pub len : length now.nexts.items ≡ length was.nexts.items
 
 -- the first short clauses were looked at
-pub record IsPassing (clauses : List (List Literal)) (old new : Trailed) (passed : List ℕ) : Type 0 where
+pub record IsPassing (clauses : List (List Literal)) (old new : Trailed)
+    (passed : List ℕ) : Type 0 where
   pub room : new.room ≡ old.room
   pub sound : IsSound (live_in clauses) new.steps
   pub grown : Grown old.steps new.steps
   pub few : length new.steps ≤ new.room
-  pub true_now : (id : ℕ) (c : List Literal) → Contains passed id → live_in clauses id ≡ Some c → AreSame c → list_any (holds (literals_of new.steps)) c ≡ true
+  pub true_now : (id : ℕ) (c : List Literal) → Contains passed id → live_in clauses id ≡ Some c
+      → AreSame c → list_any (holds (literals_of new.steps)) c ≡ true

@@ -13,45 +13,57 @@ pub record IsWatched (c : List Literal) (k l : Literal) : Type 0 where
   pub one : same_literal k l ≡ true → (x : Literal) → holds c x ≡ true → x ≡ k
 
 abbrev pub AreWatched : List (List Literal) → List Literal → List Literal → Type 0
-AreWatched clauses these others = (i : ℕ) (c : List Literal) → slice_get clauses i ≡ Some c → IsWatched c (watch_at these i) (watch_at others i)
+AreWatched clauses these others =
+    (i : ℕ) (c : List Literal) → slice_get clauses i ≡ Some c
+    → IsWatched c (watch_at these i) (watch_at others i)
 
 -- all literals of the clause are one
 abbrev pub AreSame : List Literal → Type 0
 AreSame c = (x y : Literal) → holds c x ≡ true → holds c y ≡ true → x ≡ y
 
 -- the clauses without two literals that differ are noted
-pub record AreShort (clauses : List (List Literal)) (first second : List Literal) (short : List ℕ) : Type 0 where
+pub record AreShort (clauses : List (List Literal)) (first second : List Literal)
+    (short : List ℕ) : Type 0 where
   pub ids : (id : ℕ) → Contains short id → (1 ≤ id) × (id ≤ length clauses)
-  pub one : (id : ℕ) → Contains short id → same_literal (watch_at first (id - 1)) (watch_at second (id - 1)) ≡ true
-  pub whole : (i : ℕ) → i < length clauses → same_literal (watch_at first i) (watch_at second i) ≡ true → Contains short (suc i)
+  pub one : (id : ℕ) → Contains short id
+      → same_literal (watch_at first (id - 1)) (watch_at second (id - 1)) ≡ true
+  pub whole : (i : ℕ) → i < length clauses
+      → same_literal (watch_at first i) (watch_at second i) ≡ true → Contains short (suc i)
 
 -- where a watched literal is false by what was processed, the other one is true
 abbrev pub Guards : List Literal → List Literal → List Literal → List Literal → Type 0
-Guards processed trues these others = (i : ℕ) → same_literal (watch_at these i) (watch_at others i) ≡ false
+Guards processed trues these others =
+    (i : ℕ) → same_literal (watch_at these i) (watch_at others i) ≡ false
     → holds processed (opposite (watch_at these i)) ≡ true → holds trues (watch_at others i) ≡ true
 
 abbrev pub AreShortTrue : List (List Literal) → List Literal → List Literal → List Literal → Type 0
 AreShortTrue clauses first second trues = (i : ℕ) (c : List Literal) → slice_get clauses i ≡ Some c
     → same_literal (watch_at first i) (watch_at second i) ≡ true → list_any (holds trues) c ≡ true
 
-pub record IsGuarded (clauses : List (List Literal)) (first second : List Literal) (processed trues : List Literal) : Type 0 where
+pub record IsGuarded (clauses : List (List Literal)) (first second : List Literal)
+    (processed trues : List Literal) : Type 0 where
   pub first_guards : Guards processed trues first second
   pub second_guards : Guards processed trues second first
   pub short : AreShortTrue clauses first second trues
 
--- it was so at each level's end: where a watched literal is false there, the other one is true by then, at no higher level
+-- it was so at each level's end: where a watched literal is false there, the other one is true by
+-- then, at no higher level
 abbrev pub AreLevelsGuarded : List (List Literal) → List Literal → List Literal → List Step → Type 0
 AreLevelsGuarded clauses first second [] = Unit {0}
 AreLevelsGuarded clauses first second (s ∷ earlier) =
-    (is_decision s ≡ true → IsGuarded clauses first second (literals_of earlier) (literals_of earlier)) × AreLevelsGuarded clauses first second earlier
+    (is_decision s ≡ true
+    → IsGuarded clauses first second (literals_of earlier) (literals_of earlier))
+    × AreLevelsGuarded clauses first second earlier
 
 -- all literals but the newest were processed
 abbrev pub IsTopGuarded : List (List Literal) → List Literal → List Literal → List Step → Type 0
 IsTopGuarded clauses first second [] = Unit {0}
-IsTopGuarded clauses first second (s ∷ earlier) = IsGuarded clauses first second (literals_of earlier) (s.literal ∷ literals_of earlier)
+IsTopGuarded clauses first second (s ∷ earlier) =
+    IsGuarded clauses first second (literals_of earlier) (s.literal ∷ literals_of earlier)
 
 -- propagation goes on from the newest literal
-pub record IsReady (clauses : List (List Literal)) (first second : List Literal) (steps : List Step) : Type 0 where
+pub record IsReady (clauses : List (List Literal)) (first second : List Literal)
+    (steps : List Step) : Type 0 where
   pub levels : AreLevelsGuarded clauses first second steps
   pub top : IsTopGuarded clauses first second steps
 
@@ -63,7 +75,9 @@ pub record IsMove (trues : List Literal) (old new other : Literal) : Type 0 wher
   pub apart : same_literal new other ≡ false
 
 abbrev pub AreMoved : List Literal → List Literal → List Literal → List Literal → Type 0
-AreMoved trues old new others = (i : ℕ) → (watch_at new i ≡ watch_at old i) ⊎ IsMove trues (watch_at old i) (watch_at new i) (watch_at others i)
+AreMoved trues old new others =
+    (i : ℕ) → (watch_at new i ≡ watch_at old i)
+    ⊎ IsMove trues (watch_at old i) (watch_at new i) (watch_at others i)
 
 -- an id was added where the two literals are one
 abbrev pub NotesShort : List ℕ → List ℕ → Literal → Literal → ℕ → Type 0

@@ -62,7 +62,8 @@ impl Arena {
         piece(&self.literals, &self.ends, id as usize - 1)
     }
 
-    /// Of the clauses up to an id that begin with the same literal, one behind the other: the id before theirs.
+    /// Of the clauses up to an id that begin with the same literal, one behind the other: the id
+    /// before theirs.
     pub(crate) fn start(&self, id: u64) -> u64
         requires from_one { 1 ≤ id }
         requires is_id { id ≤ length self.now.clauses }

@@ -16,7 +16,8 @@ use dq_lits::Lit;
 use oracle::Group;
 use std::marker::Model;
 
-/// What is to be true: the selectors of active groups, and literals. They stay where they are, so that a search takes no memory for them.
+/// What is to be true: the selectors of active groups, and literals. They stay where they are, so
+/// that a search takes no memory for them.
 #[derive(Debug, Drop)]
 pub(crate) struct Assumptions<'a> {
     active: &'a [Group],

@@ -106,8 +106,10 @@ pub(crate) fn find(
     requires few { s.old.variables < 2 ^ 62 }
     requires model { length model.old ≡ s.old.variables }
     ensures sat { result ≡ Ok Answer.Sat → HasLearned log.old log.new
-        × IsModelUnder (λ v. slice_index_or model.new (v - 1) false) (clause_at log.new.entries) (assumed active.now assume.now) }
-    ensures unsat { (id : ℕ) → result ≡ Ok (Answer.Unsat id) → IsRefutedUnder log.old log.new (assumed active.now assume.now) id }
+        × IsModelUnder (λ v. slice_index_or model.new (v - 1) false) (clause_at log.new.entries)
+        (assumed active.now assume.now) }
+    ensures unsat { (id : ℕ) → result ≡ Ok (Answer.Unsat id)
+        → IsRefutedUnder log.old log.new (assumed active.now assume.now) id }
     ensures fit { Fit s.new.clauses.clauses s.new.variables log.new.entries }
     ensures bare { s.new.trail.steps ≡ [] }
     ensures variables { s.new.variables ≡ s.old.variables }
@@ -139,8 +141,10 @@ fn search_and_keep(
     requires few { s.old.variables < 2 ^ 62 }
     requires model { length model.old ≡ s.old.variables }
     ensures sat { result ≡ Ok Answer.Sat → HasLearned log.old log.new
-        × IsModelUnder (λ v. slice_index_or model.new (v - 1) false) (clause_at log.new.entries) assumptions.now }
-    ensures unsat { (id : ℕ) → result ≡ Ok (Answer.Unsat id) → IsRefutedUnder log.old log.new assumptions.now id }
+        × IsModelUnder (λ v. slice_index_or model.new (v - 1) false) (clause_at log.new.entries)
+        assumptions.now }
+    ensures unsat { (id : ℕ) → result ≡ Ok (Answer.Unsat id)
+        → IsRefutedUnder log.old log.new assumptions.now id }
     ensures fit { Fit s.new.clauses.clauses s.new.variables log.new.entries }
     ensures places { KeepsPlaces s.old s.new }
     ensures model { length model.new ≡ length model.old }
@@ -162,8 +166,10 @@ fn keep_values(model: &mut [bool], trail: &Trail)
     requires few { length model.old < 2 ^ 62 }
     ensures len { length model.new ≡ length model.old }
     ensures values { (i : ℕ) → i < length model.old
-        → (slice_index_or model.new i false ≡ true → literal_value (literals_of trail.now.steps) (positive (suc i)) ≡ True)
-        × (literal_value (literals_of trail.now.steps) (positive (suc i)) ≡ True → slice_index_or model.new i false ≡ true) }
+        → (slice_index_or model.new i false ≡ true
+        → literal_value (literals_of trail.now.steps) (positive (suc i)) ≡ True)
+        × (literal_value (literals_of trail.now.steps) (positive (suc i)) ≡ True
+        → slice_index_or model.new i false ≡ true) }
 {
     for i in 0..model.len() {
         model[i] = is_true(trail.value(Lit::pos(i as u64 + 1)));

@@ -73,7 +73,8 @@ impl ClauseStore {
         self.arena.lits(id)
     }
 
-    /// Of the clauses up to an id that begin with the same literal, one behind the other: the id before theirs.
+    /// Of the clauses up to an id that begin with the same literal, one behind the other: the id
+    /// before theirs.
     pub(crate) fn start(&self, id: u64) -> u64
         requires from_one { 1 ≤ id }
         requires is_id { id ≤ length self.now.clauses }
@@ -87,7 +88,8 @@ impl ClauseStore {
     pub(crate) fn watched(&self, id: u64) -> Watched
         requires from_one { 1 ≤ id }
         requires is_id { id ≤ length self.now.clauses }
-        ensures { (c : List Literal) → live_in self.now.clauses id ≡ Some c → IsWatched c result.first result.second }
+        ensures { (c : List Literal) → live_in self.now.clauses id ≡ Some c
+            → IsWatched c result.first result.second }
     {
         Watched {
             first: self.first.literals[id as usize - 1],
@@ -153,7 +155,8 @@ impl ClauseStore {
         note_short(&mut self.short, watched, self.arena.len());
     }
 
-    /// Propagates to the end, or to a falsified clause, whose id it answers. All literals but the newest one were processed.
+    /// Propagates to the end, or to a falsified clause, whose id it answers. All literals but the
+    /// newest one were processed.
     pub(crate) fn propagate(&mut self, trail: &mut Trail) -> Option<u64>
         requires in_range { AreWithin trail.old.room self.old.clauses }
         requires sound { IsSound (live_in self.old.clauses) trail.old.steps }
@@ -164,9 +167,11 @@ impl ClauseStore {
         ensures sound { IsSound (live_in self.new.clauses) trail.new.steps }
         ensures grown { Grown trail.old.steps trail.new.steps }
         ensures few { length trail.new.steps ≤ trail.new.room }
-        ensures levels { AreLevelsGuarded self.new.clauses self.new.first self.new.second trail.new.steps }
+        ensures levels { AreLevelsGuarded self.new.clauses self.new.first self.new.second
+            trail.new.steps }
         ensures guarded { result ≡ None
-            → IsGuarded self.new.clauses self.new.first self.new.second (literals_of trail.new.steps) (literals_of trail.new.steps) }
+            → IsGuarded self.new.clauses self.new.first self.new.second
+            (literals_of trail.new.steps) (literals_of trail.new.steps) }
         ensures ended { IsPropagated (live_in self.new.clauses) trail.new result }
     {
         self.spare = 0;
@@ -187,7 +192,8 @@ pub(crate) struct Watched {
     pub(crate) second: Lit,
 }
 
-// The first literal of a clause, and the first that differs from it; some literal, where it has none.
+// The first literal of a clause, and the first that differs from it; some literal, where it has
+// none.
 fn watched_of(lits: &[Lit]) -> Watched
     ensures watched { IsWatched lits.now result.first result.second }
     ensures first { (result.first ≡ positive 1) ⊎ (holds lits.now result.first ≡ true) }

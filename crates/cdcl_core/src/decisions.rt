@@ -1,7 +1,7 @@
 //! Which literal is decided: the most active one of the newest open clause is made true.
 //!
-//! A clause is open where it has no true literal. No clause holds a selector that isn't negated, so that no decision makes a selector
-//! true.
+//! A clause is open where it has no true literal. No clause holds a selector that isn't negated, so
+//! that no decision makes a selector true.
 
 ghost use Rattle.std.specs.Prelude.{◌≡◌, ◌≤◌, ◌⊎◌, List, true, false, length, All, MatchOption, Some, None};
 ghost use Rattle.std.specs.List.{list_any};
@@ -37,7 +37,8 @@ pub(crate) fn open_clause(
     requires in_range { AreWithin trail.now.room clauses.now.clauses }
     requires closed { IsClosed (live_in clauses.now.clauses) (literals_of trail.now.steps) }
     ensures { MatchOption result (IsOpening clauses.now.clauses (literals_of trail.now.steps) None)
-        (λ open'. IsOpening clauses.now.clauses (literals_of trail.now.steps) (Some open'.literal)) }
+        (λ open'.
+        IsOpening clauses.now.clauses (literals_of trail.now.steps) (Some open'.literal)) }
 {
     for span in [positions.newest(), positions.rest()] {
         let open = newest_open(trail, clauses, activities, span);
@@ -52,8 +53,8 @@ pub(crate) fn open_clause(
     newest_open(trail, clauses, activities, all)
 }
 
-// The newest open clause of a span. Where a clause begins with a true literal, so do those before it that begin alike: the clauses of a
-// group that is switched off are passed in one step.
+// The newest open clause of a span. Where a clause begins with a true literal, so do those before
+// it that begin alike: the clauses of a group that is switched off are passed in one step.
 fn newest_open(
     trail: &Trail,
     clauses: &ClauseStore,
@@ -62,8 +63,10 @@ fn newest_open(
 ) -> Option<Open>
     requires in_range { AreWithin trail.now.room clauses.now.clauses }
     requires closed { IsClosed (live_in clauses.now.clauses) (literals_of trail.now.steps) }
-    ensures { MatchOption result (AreTrueWithin span.from span.down_to clauses.now.clauses (literals_of trail.now.steps))
-        (λ open'. IsOpening clauses.now.clauses (literals_of trail.now.steps) (Some open'.literal)) }
+    ensures { MatchOption result
+        (AreTrueWithin span.from span.down_to clauses.now.clauses (literals_of trail.now.steps))
+        (λ open'.
+        IsOpening clauses.now.clauses (literals_of trail.now.steps) (Some open'.literal)) }
 {
     let mut id = span.from.min(clauses.len());
     while id > span.down_to {
@@ -111,8 +114,10 @@ fn newest_in(
     requires in_range { AreWithin trail.now.room clauses.now.clauses }
     requires closed { IsClosed (live_in clauses.now.clauses) (literals_of trail.now.steps) }
     requires ids { span.from ≤ length clauses.now.clauses }
-    ensures { MatchOption result (AreTrueWithin span.from span.down_to clauses.now.clauses (literals_of trail.now.steps))
-        (λ open'. IsOpening clauses.now.clauses (literals_of trail.now.steps) (Some open'.literal)) }
+    ensures { MatchOption result
+        (AreTrueWithin span.from span.down_to clauses.now.clauses (literals_of trail.now.steps))
+        (λ open'.
+        IsOpening clauses.now.clauses (literals_of trail.now.steps) (Some open'.literal)) }
 {
     let mut id = span.from;
     while id > span.down_to {
@@ -131,7 +136,8 @@ fn open_in(trail: &Trail, clauses: &ClauseStore, activities: &Activities, id: u6
     requires from_one { 1 ≤ id }
     requires is_id { id ≤ length clauses.now.clauses }
     ensures { MatchOption result
-        ((c : List Literal) → live_in clauses.now.clauses id ≡ Some c → list_any (holds (literals_of trail.now.steps)) c ≡ true)
+        ((c : List Literal) → live_in clauses.now.clauses id ≡ Some c
+        → list_any (holds (literals_of trail.now.steps)) c ≡ true)
         (λ l. IsOpening clauses.now.clauses (literals_of trail.now.steps) (Some l)) }
 {
     if is_watch_true(trail, clauses.watched(id)) {
@@ -142,10 +148,12 @@ fn open_in(trail: &Trail, clauses: &ClauseStore, activities: &Activities, id: u6
 
 // Whether one of two literals is true, where they differ.
 fn is_watch_true(trail: &Trail, watched: Watched) -> bool
-    requires { same_literal watched.first watched.second ≡ false → (variable_of watched.first ≤ trail.now.room)
+    requires { same_literal watched.first watched.second ≡ false
+        → (variable_of watched.first ≤ trail.now.room)
         × (variable_of watched.second ≤ trail.now.room) }
     ensures { result ≡ true → (same_literal watched.first watched.second ≡ false)
-        × ((holds (literals_of trail.now.steps) watched.first ≡ true) ⊎ (holds (literals_of trail.now.steps) watched.second ≡ true)) }
+        × ((holds (literals_of trail.now.steps) watched.first ≡ true)
+        ⊎ (holds (literals_of trail.now.steps) watched.second ≡ true)) }
 {
     watched.first != watched.second
         && (is_true(trail, watched.first) || is_true(trail, watched.second))

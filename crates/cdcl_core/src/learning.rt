@@ -34,7 +34,8 @@ pub(crate) fn learn(
 ) -> Result<(), Stop>
     requires searching { IsSearching assumptions.now s.old log.old }
     requires few { length s.old.trail.steps ≤ s.old.trail.room }
-    requires conflict { status_of (literals_of s.old.trail.steps) (live_in s.old.clauses.clauses conflict) ≡ falsified }
+    requires conflict { status_of (literals_of s.old.trail.steps)
+        (live_in s.old.clauses.clauses conflict) ≡ falsified }
     requires decided { decision_of s.old.trail.steps ≡ Some decision }
     requires chosen { holds assumptions.now decision ≡ false }
     ensures ok { OnOk result (HasTurned assumptions.now s.old s.new log.old log.new) }
@@ -65,7 +66,8 @@ pub(crate) fn learn(
 fn log_clause(clauses: &mut ClauseStore, notes: &Notes, log: &mut Log) -> Result<u64, Stop>
     requires named { AreNamed log.old.entries notes.now.literals }
     requires hints { AreIds log.old.entries notes.now.hints }
-    ensures ok { OnOk result (log.new ≡ with_entry log.old (Learned notes.now.literals notes.now.hints)) }
+    ensures ok { OnOk result
+        (log.new ≡ with_entry log.old (Learned notes.now.literals notes.now.hints)) }
     ensures id { IfOk result (λ id. id ≡ last_id log.old.entries + 1) }
     ensures clauses { clauses.new.clauses ≡ clauses.old.clauses }
     ensures first { clauses.new.first ≡ clauses.old.first }
@@ -80,15 +82,18 @@ fn log_clause(clauses: &mut ClauseStore, notes: &Notes, log: &mut Log) -> Result
     Ok(id)
 }
 
-// Takes levels back to where the clause learned from a step is unit, and makes its literal true, or takes everything back.
+// Takes levels back to where the clause learned from a step is unit, and makes its literal true, or
+// takes everything back.
 fn land(trail: &mut Trail, notes: &Notes, first: &Step, id: u64, is_due: bool) -> Option<Lit>
     requires in_range { trail.old.room < length notes.now.marks }
-    requires first { is_decision first.now ≡ false → is_level_marked notes.now.marks trail.old.steps ≡ false }
+    requires first { is_decision first.now ≡ false
+        → is_level_marked notes.now.marks trail.old.steps ≡ false }
     requires decided { IsSome (decision_of (first.now ∷ trail.old.steps)) }
     requires variable { variable_of first.now.literal ≤ trail.old.room }
     requires free { IsFree (literals_of trail.old.steps) first.now.literal }
     ensures landed { IsLanded trail.old trail.new first.now notes.now.marks id }
-    ensures level { MatchOption result (trail.new.steps ≡ []) (λ l. LandsInLevel trail.old trail.new first.now notes.now.marks id l) }
+    ensures level { MatchOption result (trail.new.steps ≡ [])
+        (λ l. LandsInLevel trail.old trail.new first.now notes.now.marks id l) }
     ensures few { length trail.new.steps ≤ trail.new.room }
 {
     if is_due {
@@ -118,7 +123,8 @@ fn hold(clauses: &mut ClauseStore, notes: &Notes, first: &Step, level: &Option<L
     requires second { IfSome level.now (λ l. (holds notes.now.literals (opposite l) ≡ true)
         × (same_literal (opposite first.now.literal) (opposite l) ≡ false)) }
     ensures held { clauses.new.clauses ≡ clauses.old.clauses ++ notes.now.literals ∷ [] }
-    ensures watched { IfSome level.now (λ l. IsHeldWatched clauses.old clauses.new (opposite first.now.literal) (opposite l)) }
+    ensures watched { IfSome level.now
+        (λ l. IsHeldWatched clauses.old clauses.new (opposite first.now.literal) (opposite l)) }
 {
     match level {
         None => clauses.push(notes.literals()),

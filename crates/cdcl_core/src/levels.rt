@@ -64,10 +64,12 @@ fn marked_in_level(notes: &Notes, steps: &[Step]) -> Option<Lit>
     None
 }
 
-/// Takes back what is left of a step's level, and then levels until one has a marked literal, which it answers, or none is left.
+/// Takes back what is left of a step's level, and then levels until one has a marked literal, which
+/// it answers, or none is left.
 pub(crate) fn jump(trail: &mut Trail, notes: &Notes, step: &Step) -> Option<Lit>
     requires in_range { trail.old.room < length notes.now.marks }
-    requires first { is_decision step.now ≡ false → is_level_marked notes.now.marks trail.old.steps ≡ false }
+    requires first { is_decision step.now ≡ false
+        → is_level_marked notes.now.marks trail.old.steps ≡ false }
     requires decided { IsSome (decision_of (step.now ∷ trail.old.steps)) }
     ensures jumped { IsJump trail.old trail.new notes.now.marks }
     ensures under { IsUnder (step.now ∷ trail.old.steps) trail.new.steps }
@@ -83,7 +85,8 @@ pub(crate) fn jump(trail: &mut Trail, notes: &Notes, step: &Step) -> Option<Lit>
 fn back_to_marked_level(trail: &mut Trail, notes: &Notes) -> Option<Lit>
     requires { trail.old.room < length notes.now.marks }
     ensures jumped { IsJump trail.old trail.new notes.now.marks }
-    ensures under { (steps : List Step) → IsUnder steps trail.old.steps → IsUnder steps trail.new.steps }
+    ensures under { (steps : List Step) → IsUnder steps trail.old.steps
+        → IsUnder steps trail.new.steps }
     ensures level { IfSome result (λ l. IsMarkedInLevel notes.now.marks trail.new.steps l) }
 {
     'levels: loop {

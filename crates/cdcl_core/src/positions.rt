@@ -1,7 +1,7 @@
 //! Where an open clause is sought: a policy that no contract speaks of.
 //!
-//! Clauses of larger ids than the newest open one have true literals, and still have them once the trail is taken back to where that one was
-//! open; but for clauses that were learned meanwhile.
+//! Clauses of larger ids than the newest open one have true literals, and still have them once the
+//! trail is taken back to where that one was open; but for clauses that were learned meanwhile.
 
 use dq_lits::Memory;
 use std::alloc::Global;
@@ -17,10 +17,12 @@ pub(crate) struct Span {
 /// Where an open clause is sought, now and at each level of the trail.
 #[derive(Debug, Drop)]
 pub(crate) struct Positions {
-    // Where the newest open clause is: what was learned lately, or else behind what is known to be true.
+    // Where the newest open clause is: what was learned lately, or else behind what is known to be
+    // true.
     newest: Span,
     rest: Span,
-    // For each level, by how many literals were true when it began, its open clause, and how many clauses there were.
+    // For each level, by how many literals were true when it began, its open clause, and how many
+    // clauses there were.
     opened: Vec<u64>,
     counts: Vec<u64>,
 }

@@ -1,9 +1,11 @@
 //! Propagation, by watched literals.
 //!
-//! The clauses that are watched at the negation of a true literal are visited once that literal was made true. Where the other watched
-//! literal is true, a clause stays as it is. Else it is watched at another literal that isn't false; and where there is none, it makes
-//! the other watched literal true, or it is falsified. So where a watched literal is false and was processed, the other one is true; and
-//! it was true at the end of the same level, so that going back over levels leaves all watches as they are.
+//! The clauses that are watched at the negation of a true literal are visited once that literal was
+//! made true. Where the other watched literal is true, a clause stays as it is. Else it is watched
+//! at another literal that isn't false; and where there is none, it makes the other watched literal
+//! true, or it is falsified. So where a watched literal is false and was processed, the other one
+//! is true; and it was true at the end of the same level, so that going back over levels leaves all
+//! watches as they are.
 
 ghost use Rattle.std.specs.Prelude.{◌≡◌, ◌≤◌, ◌-◌, [], ℕ, List, true, length, All, MatchOption, Some, Contains};
 ghost use Rattle.std.specs.List.{list_any};
@@ -23,7 +25,8 @@ use crate::trails::{Step, Trail, TruthValue};
 use crate::watches::{Watches, put_back, put_elsewhere, take};
 use dq_lits::Lit;
 
-/// Propagates to the end, or to a falsified clause, whose id it answers. All literals but the newest one were processed.
+/// Propagates to the end, or to a falsified clause, whose id it answers. All literals but the
+/// newest one were processed.
 pub(crate) fn propagate(
     trail: &mut Trail,
     arena: &Arena,
@@ -34,9 +37,12 @@ pub(crate) fn propagate(
     requires visitable { IsVisitable arena.now.clauses trail.old first.old second.old }
     requires linked { IsLinked first.old 0 [] }
     requires second_linked { IsLinked second.old 0 [] }
-    requires short { AreShort arena.now.clauses first.old.literals.items second.old.literals.items short.now }
-    requires ready { IsReady arena.now.clauses first.old.literals.items second.old.literals.items trail.old.steps }
-    ensures { IsTrailVisited arena.now.clauses trail.old trail.new first.old first.new second.old second.new result }
+    requires short { AreShort arena.now.clauses first.old.literals.items second.old.literals.items
+        short.now }
+    requires ready { IsReady arena.now.clauses first.old.literals.items second.old.literals.items
+        trail.old.steps }
+    ensures { IsTrailVisited arena.now.clauses trail.old trail.new first.old first.new second.old
+        second.new result }
 {
     let done = trail.len();
     if done == 0 {
@@ -59,7 +65,8 @@ fn pass_short(trail: &mut Trail, arena: &Arena, short: &[u64]) -> Option<u64>
     ensures grown { Grown trail.old.steps trail.new.steps }
     ensures few { length trail.new.steps ≤ trail.new.room }
     ensures passed { MatchOption result
-        ((id : ℕ) (c : List Literal) → Contains short.now id → live_in arena.now.clauses id ≡ Some c → AreSame c
+        ((id : ℕ) (c : List Literal) → Contains short.now id → live_in arena.now.clauses id ≡ Some c
+        → AreSame c
         → list_any (holds (literals_of trail.new.steps)) c ≡ true)
         (λ id. status_of (literals_of trail.new.steps) (live_in arena.now.clauses id) ≡ falsified) }
 {
@@ -76,7 +83,8 @@ fn pass_short(trail: &mut Trail, arena: &Arena, short: &[u64]) -> Option<u64>
     None
 }
 
-// Visits the clauses that are watched at the negation of a true literal, from a place of the trail on.
+// Visits the clauses that are watched at the negation of a true literal, from a place of the trail
+// on.
 fn visit_from(
     trail: &mut Trail,
     arena: &Arena,
@@ -87,8 +95,10 @@ fn visit_from(
     requires visitable { IsVisitable arena.now.clauses trail.old first.old second.old }
     requires linked { IsLinked first.old 0 [] }
     requires second_linked { IsLinked second.old 0 [] }
-    requires processed { IsProcessed arena.now.clauses first.old.literals.items second.old.literals.items trail.old.steps from }
-    ensures { IsTrailVisited arena.now.clauses trail.old trail.new first.old first.new second.old second.new result }
+    requires processed { IsProcessed arena.now.clauses first.old.literals.items
+        second.old.literals.items trail.old.steps from }
+    ensures { IsTrailVisited arena.now.clauses trail.old trail.new first.old first.new second.old
+        second.new result }
 {
     for at in from..trail.room() {
         match trail.literal_at(at) {
@@ -116,7 +126,8 @@ fn visit_both(
     requires second_linked { IsLinked second.old 0 [] }
     requires in_range { variable_of l ≤ trail.old.room }
     requires false_now { holds (literals_of trail.old.steps) (opposite l) ≡ true }
-    ensures { AreVisited arena.now.clauses trail.old trail.new first.old first.new second.old second.new l result }
+    ensures { AreVisited arena.now.clauses trail.old trail.new first.old first.new second.old
+        second.new l result }
 {
     if let Some(id) = visit_list(trail, arena, first, second, l) {
         return Some(id);
@@ -136,7 +147,8 @@ fn visit_list(
     requires linked { IsLinked these.old 0 [] }
     requires in_range { variable_of l ≤ trail.old.room }
     requires false_now { holds (literals_of trail.old.steps) (opposite l) ≡ true }
-    ensures { IsListVisited arena.now.clauses trail.old trail.new these.old these.new others.now l result }
+    ensures { IsListVisited arena.now.clauses trail.old trail.new these.old these.new others.now l
+        result }
 {
     let mut at = take_oldest_first(these, l);
     for _ in 0..these.nexts.len() {
@@ -154,8 +166,9 @@ fn visit_list(
     None
 }
 
-// Takes a literal's list away in the order in which its clauses came, and gives its first clause: lists begin with what was put on them last.
-// So what propagates, and with it each derivation, doesn't depend on how often a list was visited.
+// Takes a literal's list away in the order in which its clauses came, and gives its first clause:
+// lists begin with what was put on them last. So what propagates, and with it each derivation,
+// doesn't depend on how often a list was visited.
 fn take_oldest_first(these: &mut Watches, l: Lit) -> u64
     requires { IsLinked these.old 0 [] }
     ensures taken { IsTaken these.new l result }
@@ -198,7 +211,8 @@ pub(crate) enum Look {
     Falsified,
 }
 
-// Looks at a clause that is watched at a false literal, and puts it on a list; gives the next one, or none where it is falsified.
+// Looks at a clause that is watched at a false literal, and puts it on a list; gives the next one,
+// or none where it is falsified.
 fn visit(
     trail: &mut Trail,
     arena: &Arena,
@@ -215,7 +229,8 @@ fn visit(
     requires in_range { variable_of l ≤ trail.old.room }
     requires watched { watch_at these.old.literals.items (id - 1) ≡ l }
     requires false_now { holds (literals_of trail.old.steps) (opposite l) ≡ true }
-    ensures { IsVisited arena.now.clauses trail.old trail.new these.old these.new others.now l id result }
+    ensures { IsVisited arena.now.clauses trail.old trail.new these.old these.new others.now l id
+        result }
 {
     let other = others.literals[id as usize - 1];
     if is_true(trail, other) {
@@ -228,7 +243,8 @@ fn visit(
     }
 }
 
-// Looks at a clause, beside its other watched literal, which it makes true where all others are false.
+// Looks at a clause, beside its other watched literal, which it makes true where all others are
+// false.
 fn look_at(trail: &mut Trail, lits: &[Lit], other: Lit, id: u64) -> Look
     requires in_range { All (λ l. variable_of l ≤ trail.old.room) lits.now }
     requires other_in_range { variable_of other ≤ trail.old.room }

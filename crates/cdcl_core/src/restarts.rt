@@ -4,7 +4,8 @@ const UNIT: u64 = 32;
 
 /// Restarts after numbers of conflicts that follow Luby's sequence 1, 1, 2, 1, 1, 2, 4, ..
 ///
-/// The sequence is made by reluctant doubling (D. Knuth, "The Art of Computer Programming", volume 4B, 7.2.2.2).
+/// The sequence is made by reluctant doubling (D. Knuth, "The Art of Computer Programming", volume
+/// 4B, 7.2.2.2).
 #[derive(Debug, Drop)]
 pub(crate) struct Restarts {
     // How many conflicts are left until the next one.

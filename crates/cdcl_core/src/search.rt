@@ -1,8 +1,9 @@
 //! The turns of a search: propagation to its end, and then one conflict or one decision.
 //!
-//! Propagation ends before each decision and each assumption, so that below each level no clause held is unit or falsified. A conflict
-//! where only assumptions were decided gives an answer, and any other one a learned clause, which is new for that reason. Each turn
-//! that goes on counts a step or makes the trail longer.
+//! Propagation ends before each decision and each assumption, so that below each level no clause
+//! held is unit or falsified. A conflict where only assumptions were decided gives an answer, and
+//! any other one a learned clause, which is new for that reason. Each turn that goes on counts a
+//! step or makes the trail longer.
 
 ghost use Rattle.std.specs.Prelude.{◌≡◌, ◌≤◌, ◌<◌, ◌+◌, ◌⊎◌, true, length, take, IfOk, OnErr, Ok, Err, IsSome, MatchOption};
 ghost use Rattle.dq_lits.specs.Literal.{Literal, variable_of, is_negative};
@@ -64,7 +65,8 @@ fn turn(
     requires assumptions { AreAssumptions log.old assumptions.now }
     requires made { AreTrue (take made.old assumptions.now) (literals_of s.old.trail.steps) }
     ensures made { AreTrue (take made.new assumptions.now) (literals_of s.new.trail.steps) }
-    ensures ok { IfOk result (λ found. MatchOption found (IsTurn assumptions.now s.old s.new log.old log.new)
+    ensures ok { IfOk result
+        (λ found. MatchOption found (IsTurn assumptions.now s.old s.new log.old log.new)
         (λ f. IsFound assumptions.now s.new log.old log.new f)) }
     ensures fit { Fit s.new.clauses.clauses s.new.variables log.new.entries }
     ensures places { KeepsPlaces s.old s.new }
@@ -93,8 +95,10 @@ fn conflict(
     requires searching { IsSearching assumptions.now s.old log.old }
     requires few { length s.old.trail.steps ≤ s.old.trail.room }
     requires assumptions { AreAssumptions log.old assumptions.now }
-    requires conflict { status_of (literals_of s.old.trail.steps) (live_in s.old.clauses.clauses id) ≡ falsified }
-    ensures ok { IfOk result (λ found. MatchOption found (IsTurn assumptions.now s.old s.new log.old log.new)
+    requires conflict { status_of (literals_of s.old.trail.steps) (live_in s.old.clauses.clauses id)
+        ≡ falsified }
+    ensures ok { IfOk result
+        (λ found. MatchOption found (IsTurn assumptions.now s.old s.new log.old log.new)
         (λ f. IsFound assumptions.now s.new log.old log.new f)) }
     ensures fit { Fit s.new.clauses.clauses s.new.variables log.new.entries }
     ensures places { KeepsPlaces s.old s.new }
@@ -128,7 +132,8 @@ fn go_on(
     requires assumptions { AreAssumptions log.old assumptions.now }
     requires made { AreTrue (take made.old assumptions.now) (literals_of s.old.trail.steps) }
     ensures made { AreTrue (take made.new assumptions.now) (literals_of s.new.trail.steps) }
-    ensures ok { IfOk result (λ found. MatchOption found (IsTurn assumptions.now s.old s.new log.old log.new)
+    ensures ok { IfOk result
+        (λ found. MatchOption found (IsTurn assumptions.now s.old s.new log.old log.new)
         (λ f. IsFound assumptions.now s.new log.old log.new f)) }
     ensures fit { Fit s.new.clauses.clauses s.new.variables log.new.entries }
     ensures places { KeepsPlaces s.old s.new }
@@ -155,8 +160,10 @@ fn settle(s: &mut Searcher, assumptions: &Assumptions, log: &Log) -> Option<Foun
     requires closed { IsClosed (live_in s.old.clauses.clauses) (literals_of s.old.trail.steps) }
     requires guarded { IsAllGuarded s.old }
     requires assumed { AreTrue assumptions.now (literals_of s.old.trail.steps) }
-    ensures more { (t : Literal) → holds (literals_of s.old.trail.steps) t ≡ true → holds (literals_of s.new.trail.steps) t ≡ true }
-    ensures ok { MatchOption result (IsTurn assumptions.now s.old s.new log.now log.now) (λ f. IsFound assumptions.now s.new log.now log.now f) }
+    ensures more { (t : Literal) → holds (literals_of s.old.trail.steps) t ≡ true
+        → holds (literals_of s.new.trail.steps) t ≡ true }
+    ensures ok { MatchOption result (IsTurn assumptions.now s.old s.new log.now log.now)
+        (λ f. IsFound assumptions.now s.new log.now log.now f) }
     ensures fit { Fit s.new.clauses.clauses s.new.variables log.now.entries }
     ensures places { KeepsPlaces s.old s.new }
 {
@@ -176,13 +183,15 @@ fn decide(s: &mut Searcher, assumptions: &Assumptions, l: Lit, log: &Log)
     requires guarded { IsAllGuarded s.old }
     requires free { IsFree (literals_of s.old.trail.steps) l }
     requires named { IsSome (name_of log.now.entries (variable_of l)) }
-    requires chosen { (holds assumptions.now l ≡ true) ⊎ (AreTrue assumptions.now (literals_of s.old.trail.steps)
+    requires chosen { (holds assumptions.now l ≡ true)
+        ⊎ (AreTrue assumptions.now (literals_of s.old.trail.steps)
         × (is_selector log.now.entries (variable_of l) ≡ true → is_negative l ≡ true)) }
     ensures searching { IsSearching assumptions.now s.new log.now }
     ensures ready { IsReady s.new }
     ensures longer { length s.new.trail.steps ≡ length s.old.trail.steps + 1 }
     ensures few { length s.new.trail.steps ≤ s.new.trail.room }
-    ensures more { (t : Literal) → holds (literals_of s.old.trail.steps) t ≡ true → holds (literals_of s.new.trail.steps) t ≡ true }
+    ensures more { (t : Literal) → holds (literals_of s.old.trail.steps) t ≡ true
+        → holds (literals_of s.new.trail.steps) t ≡ true }
     ensures places { KeepsPlaces s.old s.new }
 {
     s.trail.push(Step {

@@ -1,6 +1,8 @@
-//! Lists of clauses by a literal that they are watched at, linked: to put a clause on another list takes no memory.
+//! Lists of clauses by a literal that they are watched at, linked: to put a clause on another list
+//! takes no memory.
 //!
-//! A visit takes a whole list away, and puts its clauses back one by one, on the same list or on others.
+//! A visit takes a whole list away, and puts its clauses back one by one, on the same list or on
+//! others.
 
 ghost use Rattle.std.specs.Prelude.{◌≡◌, ◌≤◌, ◌<◌, ◌+◌, ◌*◌, ◌-◌, ◌^◌, ◌++◌, ◌∷◌, [], ℕ, List, true, length, set, All, OnOk, vec_capacity};
 ghost use Rattle.dq_lits.specs.Literal.{positive};
@@ -53,8 +55,10 @@ pub(crate) fn make_room(watches: &mut Watches, lits: &[Lit]) -> Result<(), Memor
     ensures literals { watches.new.literals.items ≡ watches.old.literals.items }
     ensures some { OnOk result (HasList watches.new (positive 1)) }
     ensures lists { OnOk result (All (λ l. HasList watches.new l) lits.now) }
-    ensures room { OnOk result (length watches.new.literals.items < vec_capacity watches.new.literals) }
-    ensures nexts_room { OnOk result (length watches.new.nexts.items < vec_capacity watches.new.nexts) }
+    ensures room { OnOk result
+        (length watches.new.literals.items < vec_capacity watches.new.literals) }
+    ensures nexts_room { OnOk result
+        (length watches.new.nexts.items < vec_capacity watches.new.nexts) }
 {
     extend(&mut watches.heads, 3)?;
     add_lists(&mut watches.heads, lits)?;
@@ -121,13 +125,15 @@ pub(crate) fn take(watches: &mut Watches, l: Lit) -> u64
     first
 }
 
-/// Puts the first of the clauses that are left to visit back on its literal's list, and gives the next one.
+/// Puts the first of the clauses that are left to visit back on its literal's list, and gives the
+/// next one.
 pub(crate) fn put_back(watches: &mut Watches, id: u64, l: Lit) -> u64
     requires from_one { 1 ≤ id }
     requires is_id { id ≤ length watches.old.nexts.items }
     requires list { HasList watches.old l }
     requires watched { watch_at watches.old.literals.items (id - 1) ≡ l }
-    ensures linked { (rest : List ℕ) → IsLinked watches.old id (id ∷ rest) → IsLinked watches.new result rest }
+    ensures linked { (rest : List ℕ) → IsLinked watches.old id (id ∷ rest)
+        → IsLinked watches.new result rest }
     ensures literals { watches.new.literals.items ≡ watches.old.literals.items }
     ensures lists { length watches.new.heads.items ≡ length watches.old.heads.items }
     ensures len { length watches.new.nexts.items ≡ length watches.old.nexts.items }
@@ -140,13 +146,15 @@ pub(crate) fn put_back(watches: &mut Watches, id: u64, l: Lit) -> u64
     next
 }
 
-/// Puts the first of the clauses that are left to visit on another literal's list, and gives the next one.
+/// Puts the first of the clauses that are left to visit on another literal's list, and gives the
+/// next one.
 pub(crate) fn put_elsewhere(watches: &mut Watches, id: u64, l: Lit) -> u64
     requires from_one { 1 ≤ id }
     requires is_id { id ≤ length watches.old.nexts.items }
     requires list { HasList watches.old l }
     requires count { length watches.old.literals.items ≡ length watches.old.nexts.items }
-    ensures linked { (rest : List ℕ) → IsLinked watches.old id (id ∷ rest) → IsLinked watches.new result rest }
+    ensures linked { (rest : List ℕ) → IsLinked watches.old id (id ∷ rest)
+        → IsLinked watches.new result rest }
     ensures literals { watches.new.literals.items ≡ set watches.old.literals.items (id - 1) l }
     ensures lists { length watches.new.heads.items ≡ length watches.old.heads.items }
     ensures len { length watches.new.nexts.items ≡ length watches.old.nexts.items }

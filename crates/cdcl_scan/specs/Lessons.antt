@@ -12,28 +12,38 @@ use Rattle.cdcl_scan.specs.Sound.{AreTrue}
 use Rattle.cdcl_scan.specs.Marks.{marked, is_level_marked}
 use Rattle.cdcl_scan.specs.Analyses.{IsAnalysis, AllStand}
 
--- the clause of the negations of a step's literal and of the literals below that are marked; hints newest first
-pub record IsLesson (live : LiveClauses) (old new : Trailed) (step : Step) (marks : List Bool) (clause : List Literal) (hints : List ℕ) : Type 0 where
+-- the clause of the negations of a step's literal and of the literals below that are marked; hints
+-- newest first
+pub record IsLesson (live : LiveClauses) (old new : Trailed) (step : Step) (marks : List Bool)
+    (clause : List Literal) (hints : List ℕ) : Type 0 where
   pub room : new.room ≡ old.room
   pub shrunk : Shrunk old.steps (step ∷ new.steps)
   pub first : is_decision step ≡ false → is_level_marked marks new.steps ≡ false
   pub level : decision_of (step ∷ new.steps) ≡ decision_of old.steps
   pub has_first : holds clause (opposite step.literal) ≡ true
-  pub has_rest : (t : Literal) → holds (literals_of new.steps) t ≡ true → marked marks (variable_of t) ≡ true → holds clause (opposite t) ≡ true
-  pub only : (l : Literal) → holds clause l ≡ true → (l ≡ opposite step.literal) ⊎ ((holds (literals_of new.steps) (opposite l) ≡ true) × (marked marks (variable_of l) ≡ true))
-  pub negated : (entries : List Entry) → AllStand entries live → (l : Literal) → holds clause l ≡ true → is_selector entries (variable_of l) ≡ true → is_negative l ≡ true
-  pub analysis : (entries : List Entry) → AllStand entries live → IsAnalysis entries live [] (map opposite clause) marks hints
+  pub has_rest : (t : Literal) → holds (literals_of new.steps) t ≡ true
+      → marked marks (variable_of t) ≡ true → holds clause (opposite t) ≡ true
+  pub only : (l : Literal) → holds clause l ≡ true
+      → (l ≡ opposite step.literal)
+      ⊎ ((holds (literals_of new.steps) (opposite l) ≡ true)
+      × (marked marks (variable_of l) ≡ true))
+  pub negated : (entries : List Entry) → AllStand entries live → (l : Literal)
+      → holds clause l ≡ true → is_selector entries (variable_of l) ≡ true → is_negative l ≡ true
+  pub analysis : (entries : List Entry) → AllStand entries live
+      → IsAnalysis entries live [] (map opposite clause) marks hints
 
 abbrev pub IsNext : List Literal → List Literal → Next → Type 0
 IsNext assumptions trues AllTrue = AreTrue assumptions trues
-IsNext assumptions trues (False l) = (holds assumptions l ≡ true) × (holds trues (opposite l) ≡ true)
+IsNext assumptions trues (False l) =
+    (holds assumptions l ≡ true) × (holds trues (opposite l) ≡ true)
 IsNext assumptions trues (Free l) = (holds assumptions l ≡ true) × IsFree trues l
 
 -- levels were taken back, down to one that has a mark, or to none
 pub record IsJump (old new : Trailed) (marks : List Bool) : Type 0 where
   pub room : new.room ≡ old.room
   pub shrunk : Shrunk old.steps new.steps
-  pub kept : (t : Literal) → holds (literals_of old.steps) t ≡ true → marked marks (variable_of t) ≡ true → holds (literals_of new.steps) t ≡ true
+  pub kept : (t : Literal) → holds (literals_of old.steps) t ≡ true
+      → marked marks (variable_of t) ≡ true → holds (literals_of new.steps) t ≡ true
   pub ended : (decision_of new.steps ≡ None) ⊎ (is_level_marked marks new.steps ≡ true)
 
 -- the step that the clause learned from a step implies
@@ -47,4 +57,5 @@ pub record LandsBehind (old new : Trailed) (step : Step) (marks : List Bool) (id
 
 -- everything was taken back, or whole levels, and the clause's literal was made true
 abbrev pub IsLanded : Trailed → Trailed → Step → List Bool → ℕ → Type 0
-IsLanded old new step marks id = (new ≡ record { room = old.room; steps = [] }) ⊎ LandsBehind old new step marks id
+IsLanded old new step marks id =
+    (new ≡ record { room = old.room; steps = [] }) ⊎ LandsBehind old new step marks id

@@ -15,4 +15,5 @@ stands_on literals v = list_any (λ l. variable_of l == v) literals
 abbrev pub is_level_marked : List Bool → List Step → Bool
 is_level_marked marks [] = false
 is_level_marked marks (s ∷ earlier) =
-    marked marks (variable_of s.literal) || (if is_decision s then false else is_level_marked marks earlier)
+    marked marks (variable_of s.literal)
+    || (if is_decision s then false else is_level_marked marks earlier)

@@ -22,9 +22,12 @@ IsPassed live old new Quiet = IsClosed live (literals_of new.steps)
 
 -- the same of the clauses behind the first ones, up to the last
 abbrev pub IsRunPassed : LiveClauses → Trailed → Trailed → ℕ → ℕ → Pass → Type 0
-IsRunPassed live old new first last (Conflict id) = status_of (literals_of new.steps) (live id) ≡ falsified
+IsRunPassed live old new first last (Conflict id) =
+    status_of (literals_of new.steps) (live id) ≡ falsified
 IsRunPassed live old new first last More = length old.steps < length new.steps
-IsRunPassed live old new first last Quiet = (new ≡ old) × ((j : ℕ) → first ≤ j → j < last → status_of (literals_of new.steps) (live (suc j)) ≡ stuck)
+IsRunPassed live old new first last Quiet =
+    (new ≡ old)
+    × ((j : ℕ) → first ≤ j → j < last → status_of (literals_of new.steps) (live (suc j)) ≡ stuck)
 
 abbrev pub IsPropagated : LiveClauses → Trailed → Option ℕ → Type 0
 IsPropagated live new (Some id) = status_of (literals_of new.steps) (live id) ≡ falsified
@@ -33,4 +36,5 @@ IsPropagated live new None = IsClosed live (literals_of new.steps)
 -- a literal without a value of a clause that has no true one; or every clause has one
 abbrev pub IsOpening : List (List Literal) → List Literal → Option Literal → Type 0
 IsOpening clauses trues None = All (λ c. list_any (holds trues) c ≡ true) clauses
-IsOpening clauses trues (Some l) = IsFree trues l × (c : List Literal) × Contains clauses c × (holds c l ≡ true)
+IsOpening clauses trues (Some l) =
+    IsFree trues l × (c : List Literal) × Contains clauses c × (holds c l ≡ true)

@@ -4,7 +4,8 @@ use Rattle.dq_lits.specs.Literal.{Literal}
 
 abbrev pub pieces : List Literal → ℕ → List ℕ → List (List Literal)
 pieces literals start [] = []
-pieces literals start (end ∷ ends) = take (end - start) (drop start literals) ∷ pieces literals end ends
+pieces literals start (end ∷ ends) =
+    take (end - start) (drop start literals) ∷ pieces literals end ends
 
 abbrev pub AreEnds : ℕ → List ℕ → ℕ → Type 0
 AreEnds start [] total = start ≡ total

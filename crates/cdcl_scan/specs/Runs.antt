@@ -11,7 +11,8 @@ Shares (Some l) clause = holds clause l ≡ true
 -- the clauses behind the first ones
 pub record IsRun (start : ℕ) (run : Run) (clauses : List (List Literal)) : Type 0 where
   pub from : start < run.last
-  pub share : (i : ℕ) (c : List Literal) → start ≤ i → i < run.last → slice_get clauses i ≡ Some c → Shares run.shared c
+  pub share : (i : ℕ) (c : List Literal) → start ≤ i → i < run.last → slice_get clauses i ≡ Some c
+      → Shares run.shared c
 
 -- run after run, up to an end
 abbrev pub AreRuns : ℕ → List Run → List (List Literal) → ℕ → Type 0

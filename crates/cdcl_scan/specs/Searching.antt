@@ -24,13 +24,16 @@ pub record IsSearching (assumptions : List Literal) (s : Searcher) (log : ProofL
 
 -- assumptions stand on variables that have names, and not beside their negations
 pub record AreAssumptions (log : ProofLog) (assumptions : List Literal) : Type 0 where
-  pub named : (l : Literal) → holds assumptions l ≡ true → IsSome (name_of log.entries (variable_of l))
+  pub named : (l : Literal) → holds assumptions l ≡ true
+      → IsSome (name_of log.entries (variable_of l))
   pub apart : (l : Literal) → holds assumptions l ≡ true → holds assumptions (opposite l) ≡ true → ⊥
-  pub switched : (l : Literal) → holds assumptions l ≡ true → is_selector log.entries (variable_of l) ≡ true → is_negative l ≡ false
+  pub switched : (l : Literal) → holds assumptions l ≡ true
+      → is_selector log.entries (variable_of l) ≡ true → is_negative l ≡ false
 
 -- how far a search is from its end
 abbrev pub left_of : Searcher → ProofLog → ℕ
-left_of s log = (log.limit - steps_of log.entries) * (s.trail.room + 1) + (s.trail.room - length s.trail.steps)
+left_of s log =
+    (log.limit - steps_of log.entries) * (s.trail.room + 1) + (s.trail.room - length s.trail.steps)
 
 -- the variables, and the places for them
 pub record KeepsPlaces (s t : Searcher) : Type 0 where
@@ -39,7 +42,8 @@ pub record KeepsPlaces (s t : Searcher) : Type 0 where
   pub marks : length t.notes.marks ≡ length s.notes.marks
 
 -- what a turn that doesn't end the search comes to
-pub record HasTurned (assumptions : List Literal) (s t : Searcher) (old new : ProofLog) : Type 0 where
+pub record HasTurned (assumptions : List Literal) (s t : Searcher)
+    (old new : ProofLog) : Type 0 where
   pub searching : IsSearching assumptions t new
   pub learned : HasLearned old new
   pub room : t.trail.room ≡ s.trail.room
@@ -66,7 +70,8 @@ abbrev pub HasRoom : Searcher → Type 0
 HasRoom s = (s.trail.room ≡ 0) ⊎ (s.trail.room < length s.notes.marks)
 
 -- how far a search has come
-pub record IsRunning (assumptions : List Literal) (s t : Searcher) (old new : ProofLog) : Type 0 where
+pub record IsRunning (assumptions : List Literal) (s t : Searcher)
+    (old new : ProofLog) : Type 0 where
   pub searching : IsSearching assumptions t new
   pub few : length t.trail.steps ≤ t.trail.room
   pub learned : HasLearned old new

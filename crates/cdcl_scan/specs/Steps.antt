@@ -23,7 +23,8 @@ abbrev pub is_decision : Step → Bool
 is_decision s = is_none s.reason
 
 abbrev pub literal_value : List Literal → Literal → TruthValue
-literal_value trues l = if holds trues (opposite l) then False else (if holds trues l then True else Unassigned)
+literal_value trues l =
+    if holds trues (opposite l) then False else (if holds trues l then True else Unassigned)
 
 -- neither the literal nor its negation is true
 abbrev pub IsFree : List Literal → Literal → Type 0

@@ -5,7 +5,8 @@ use Rattle.cdcl_scan.specs.Pieces.{pieces, AreEnds}
 use Rattle.cdcl_scan.specs.Runs.{AreRuns}
 use Rattle.cdcl_scan.specs.declared.clauses.ClauseStore.TheInside.{Inside}
 
--- what a store shows: its clauses in order of time, and how many literals one clause more has to stay below
+-- what a store shows: its clauses in order of time, and how many literals one clause more has to
+-- stay below
 pub record Stored : Type 0 where
   pub clauses : List (List Literal)
   pub spare : ℕ

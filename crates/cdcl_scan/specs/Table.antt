@@ -13,7 +13,8 @@ IsTold Unassigned plain negated = (plain ≡ false) × (negated ≡ false)
 
 abbrev pub Tells : List TruthValue → List Literal → Type 0
 Tells values trues = (i : ℕ) → i < length values →
-    IsTold (slice_index_or values i Unassigned) (holds trues (positive (suc i))) (holds trues (negative (suc i)))
+    IsTold (slice_index_or values i Unassigned) (holds trues (positive (suc i)))
+    (holds trues (negative (suc i)))
 
 abbrev pub is_assigned : TruthValue → Bool
 is_assigned True = true

@@ -1,9 +1,10 @@
 //! What a conflict teaches: the clause of the first unique implication point, with its hints.
 //!
-//! The analysis takes the trail back from a falsified clause. Invariant: from any literals that cover the marked ones of the trail,
-//! the hints, read newest first, lead to the conflict; so a literal that is resolved adds its reason in front. Where only one marked
-//! literal is left of the newest level, the trail below it stays as it is; marked literals there whose reasons rest on marked ones
-//! alone are resolved too, and the negations of the others are the clause.
+//! The analysis takes the trail back from a falsified clause. Invariant: from any literals that
+//! cover the marked ones of the trail, the hints, read newest first, lead to the conflict; so a
+//! literal that is resolved adds its reason in front. Where only one marked literal is left of the
+//! newest level, the trail below it stays as it is; marked literals there whose reasons rest on
+//! marked ones alone are resolved too, and the negations of the others are the clause.
 
 ghost use Rattle.std.specs.Prelude.{◌≡◌, ◌<◌, ◌≤◌, ◌==◌, ◌||◌, ◌&&◌, ◌+◌, ◌++◌, ◌∷◌, [], not, ℕ, List, true, false, length, reverse, All, Some, IsSome, IfSome};
 ghost use Rattle.std.specs.List.{list_all};
@@ -24,8 +25,8 @@ use crate::notes::Notes;
 use crate::trails::{Step, Trail};
 use dq_lits::Lit;
 
-/// Takes literals back from a falsified clause to the first that it rests on alone, and notes the clause that this teaches, oldest
-/// literal first, with its hints in order.
+/// Takes literals back from a falsified clause to the first that it rests on alone, and notes the
+/// clause that this teaches, oldest literal first, with its hints in order.
 pub(crate) fn analyse(
     trail: &mut Trail,
     clauses: &ClauseStore,
@@ -37,10 +38,12 @@ pub(crate) fn analyse(
     requires within { AreMarkable (length notes.old.marks) clauses.now.clauses }
     requires in_range { trail.old.room < length notes.old.marks }
     requires few { length trail.old.steps ≤ trail.old.room }
-    requires conflict { status_of (literals_of trail.old.steps) (live_in clauses.now.clauses conflict) ≡ falsified }
+    requires conflict { status_of (literals_of trail.old.steps)
+        (live_in clauses.now.clauses conflict) ≡ falsified }
     requires decided { IsSome (decision_of trail.old.steps) }
     ensures len { length notes.new.marks ≡ length notes.old.marks }
-    ensures lesson { IsLesson (live_in clauses.now.clauses) trail.old trail.new result notes.new.marks notes.new.literals notes.new.hints }
+    ensures lesson { IsLesson (live_in clauses.now.clauses) trail.old trail.new result
+        notes.new.marks notes.new.literals notes.new.hints }
 {
     begin(clauses, notes, activities, conflict);
     let first = back_to_first(trail, clauses, notes, activities);
@@ -64,7 +67,8 @@ pub(crate) fn begin(
     ensures len { length notes.new.marks ≡ length notes.old.marks }
     ensures hints { notes.new.hints ≡ conflict ∷ [] }
     ensures literals { notes.new.literals ≡ [] }
-    ensures marked { (c : List Literal) (v : ℕ) → live_in clauses.now.clauses conflict ≡ Some c → marked notes.new.marks v ≡ stands_on c v }
+    ensures marked { (c : List Literal) (v : ℕ) → live_in clauses.now.clauses conflict ≡ Some c
+        → marked notes.new.marks v ≡ stands_on c v }
 {
     notes.clear();
     let lits = clauses.lits(conflict);
@@ -83,13 +87,15 @@ pub(crate) fn resolve(clauses: &ClauseStore, notes: &mut Notes, l: Lit, reason: 
     ensures hints { notes.new.hints ≡ notes.old.hints ++ reason ∷ [] }
     ensures literals { notes.new.literals ≡ notes.old.literals }
     ensures marked { (c : List Literal) (v : ℕ) → live_in clauses.now.clauses reason ≡ Some c
-        → marked notes.new.marks v ≡ (not (variable_of l == v) && (marked notes.old.marks v || stands_on c v)) }
+        → marked notes.new.marks v
+        ≡ (not (variable_of l == v) && (marked notes.old.marks v || stands_on c v)) }
 {
     notes.add_hint(reason, clauses.lits(reason));
     notes.unmark(l);
 }
 
-// Takes literals back, down to the only marked one that is left of the newest level, and answers it.
+// Takes literals back, down to the only marked one that is left of the newest level, and answers
+// it.
 fn back_to_first(
     trail: &mut Trail,
     clauses: &ClauseStore,
@@ -101,7 +107,8 @@ fn back_to_first(
     requires in_range { trail.old.room < length notes.old.marks }
     requires few { length notes.old.hints + length trail.old.steps ≤ length notes.old.marks }
     requires some { is_level_marked notes.old.marks trail.old.steps ≡ true }
-    ensures { IsFirstPoint (live_in clauses.now.clauses) trail.old trail.new result notes.old notes.new }
+    ensures { IsFirstPoint (live_in clauses.now.clauses) trail.old trail.new result notes.old
+        notes.new }
 {
     while let Some(step) = trail.pop() {
         if notes.has(step.literal) {
@@ -120,13 +127,15 @@ fn back_to_first(
     unreachable!()
 }
 
-// Adds the negations of the marked literals, the newest first, but for those whose reasons rest on marked ones alone.
+// Adds the negations of the marked literals, the newest first, but for those whose reasons rest on
+// marked ones alone.
 fn add_rest(trail: &Trail, clauses: &ClauseStore, notes: &mut Notes)
     requires sound { IsSound (live_in clauses.now.clauses) trail.now.steps }
     requires within { AreMarkable (length notes.old.marks) clauses.now.clauses }
     requires in_range { trail.now.room < length notes.old.marks }
     requires few { length notes.old.hints + length trail.now.steps ≤ length notes.old.marks }
-    requires few_literals { length notes.old.literals + length trail.now.steps ≤ length notes.old.marks }
+    requires few_literals { length notes.old.literals + length trail.now.steps
+        ≤ length notes.old.marks }
     ensures { IsTrimmed (live_in clauses.now.clauses) trail.now.steps [] notes.old notes.new }
 {
     let steps = trail.steps();
@@ -147,7 +156,8 @@ fn add_rest(trail: &Trail, clauses: &ClauseStore, notes: &mut Notes)
 fn redundant_by(clauses: &ClauseStore, notes: &Notes, step: &Step) -> Option<u64>
     requires within { AreMarkable (length notes.now.marks) clauses.now.clauses }
     requires reason { IfSome step.now.reason (λ id. (1 ≤ id) × (id ≤ length clauses.now.clauses)) }
-    ensures { IfSome result (λ id. IsRedundant (live_in clauses.now.clauses) notes.now.marks step.now id) }
+    ensures { IfSome result
+        (λ id. IsRedundant (live_in clauses.now.clauses) notes.now.marks step.now id) }
 {
     match step.reason {
         None => None,
@@ -164,7 +174,9 @@ fn redundant_by(clauses: &ClauseStore, notes: &Notes, step: &Step) -> Option<u64
 // Whether all variables of a clause but one are marked.
 fn are_others_marked(notes: &Notes, lits: &[Lit], l: Lit) -> bool
     requires { All (λ k. variable_of k < length notes.now.marks) lits.now }
-    ensures { result ≡ list_all (λ k. (variable_of k == variable_of l) || marked notes.now.marks (variable_of k)) lits.now }
+    ensures { result
+        ≡ list_all (λ k. (variable_of k == variable_of l) || marked notes.now.marks (variable_of k))
+        lits.now }
 {
     lits.iter().all(|k| k.var() == l.var() || notes.has(*k))
 }

@@ -1,7 +1,7 @@
 //! Answers under assumptions: the decisions that a falsified clause or a false assumption rests on.
 //!
-//! Where only assumptions were decided, the analysis takes the whole trail back. It resolves every marked literal that has a reason,
-//! and the negations of the marked decisions are the clause.
+//! Where only assumptions were decided, the analysis takes the whole trail back. It resolves every
+//! marked literal that has a reason, and the negations of the marked decisions are the clause.
 
 ghost use Rattle.std.specs.Prelude.{◌≡◌, ◌≤◌, ◌<◌, ◌+◌, ◌++◌, ◌∷◌, [], ℕ, true, length, map, reverse, IfOk, OnOk, OnErr};
 ghost use Rattle.dq_lits.specs.Literal.{Literal, variable_of, opposite};
@@ -37,7 +37,8 @@ pub(crate) fn answer_conflict(
     requires few { length s.old.trail.steps ≤ s.old.trail.room }
     requires assumptions { AreAssumptions log.old assumptions.now }
     requires assumed { AreAssumed assumptions.now s.old.trail.steps }
-    requires conflict { status_of (literals_of s.old.trail.steps) (live_in s.old.clauses.clauses conflict) ≡ falsified }
+    requires conflict { status_of (literals_of s.old.trail.steps)
+        (live_in s.old.clauses.clauses conflict) ≡ falsified }
     ensures ok { IfOk result (λ id. IsRefutedUnder log.old log.new assumptions.now id) }
     ensures fit { Fit s.new.clauses.clauses s.new.variables log.new.entries }
     ensures places { KeepsPlaces s.old s.new }
@@ -100,7 +101,8 @@ fn answer_reason(
     requires assumptions { AreAssumptions log.old assumptions.now }
     requires all_assumed { AreAssumed assumptions.now s.old.trail.steps }
     requires assumed { holds assumptions.now assumption ≡ true }
-    requires implied { status_of (literals_of s.old.trail.steps) (live_in s.old.clauses.clauses reason) ≡ unit (opposite assumption) }
+    requires implied { status_of (literals_of s.old.trail.steps)
+        (live_in s.old.clauses.clauses reason) ≡ unit (opposite assumption) }
     ensures ok { IfOk result (λ id. IsRefutedUnder log.old log.new assumptions.now id) }
     ensures fit { Fit s.new.clauses.clauses s.new.variables log.new.entries }
     ensures places { KeepsPlaces s.old s.new }
@@ -116,11 +118,14 @@ fn answer_reason(
 fn answer(s: &mut Searcher, assumptions: &[Lit], log: &mut Log) -> Result<u64, Memory>
     requires searching { IsSearching assumptions.now s.old log.old }
     requires few { length s.old.notes.hints + length s.old.trail.steps ≤ length s.old.notes.marks }
-    requires few_literals { length s.old.notes.literals + length s.old.trail.steps ≤ length s.old.notes.marks }
+    requires few_literals { length s.old.notes.literals + length s.old.trail.steps
+        ≤ length s.old.notes.marks }
     requires assumptions { AreAssumptions log.old assumptions.now }
     requires assumed { AreAssumed assumptions.now s.old.trail.steps }
-    requires negated { (l : Literal) → holds s.old.notes.literals l ≡ true → holds assumptions.now (opposite l) ≡ true }
-    requires analysis { IsAnalysis log.old.entries (live_in s.old.clauses.clauses) (literals_of s.old.trail.steps) (map opposite s.old.notes.literals)
+    requires negated { (l : Literal) → holds s.old.notes.literals l ≡ true
+        → holds assumptions.now (opposite l) ≡ true }
+    requires analysis { IsAnalysis log.old.entries (live_in s.old.clauses.clauses)
+        (literals_of s.old.trail.steps) (map opposite s.old.notes.literals)
         s.old.notes.marks (reverse s.old.notes.hints) }
     ensures ok { IfOk result (λ id. IsRefutedUnder log.old log.new assumptions.now id) }
     ensures fit { Fit s.new.clauses.clauses s.new.variables log.new.entries }
@@ -139,7 +144,8 @@ fn back_to_decisions(trail: &mut Trail, clauses: &ClauseStore, notes: &mut Notes
     requires within { AreMarkable (length notes.old.marks) clauses.now.clauses }
     requires in_range { trail.old.room < length notes.old.marks }
     requires few { length notes.old.hints + length trail.old.steps ≤ length notes.old.marks }
-    requires few_literals { length notes.old.literals + length trail.old.steps ≤ length notes.old.marks }
+    requires few_literals { length notes.old.literals + length trail.old.steps
+        ≤ length notes.old.marks }
     ensures bare { trail.new.steps ≡ [] }
     ensures kept { IsKeeping (live_in clauses.now.clauses) trail.old trail.new notes.old notes.new }
 {
@@ -157,9 +163,11 @@ fn back_to_decisions(trail: &mut Trail, clauses: &ClauseStore, notes: &mut Notes
 fn keep_answer(clauses: &mut ClauseStore, notes: &Notes, log: &mut Log) -> Result<u64, Memory>
     requires named { AreNamed log.old.entries notes.now.literals }
     requires hints { AreIds log.old.entries notes.now.hints }
-    ensures ok { OnOk result (log.new ≡ with_entry log.old (Answer notes.now.literals notes.now.hints)) }
+    ensures ok { OnOk result
+        (log.new ≡ with_entry log.old (Answer notes.now.literals notes.now.hints)) }
     ensures id { IfOk result (λ id. id ≡ last_id log.new.entries) }
-    ensures held { OnOk result (clauses.new.clauses ≡ clauses.old.clauses ++ notes.now.literals ∷ []) }
+    ensures held { OnOk result
+        (clauses.new.clauses ≡ clauses.old.clauses ++ notes.now.literals ∷ []) }
     ensures err { OnErr result (log.new ≡ log.old) }
     ensures err_held { OnErr result (clauses.new.clauses ≡ clauses.old.clauses) }
 {

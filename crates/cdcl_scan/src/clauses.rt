@@ -13,7 +13,8 @@ use std::marker::Model;
 
 /// Neighbouring clauses that share a literal: where it is true, all of them are.
 ///
-/// The clauses of a group share its negated selector, so that a whole group that isn't active is passed over at once.
+/// The clauses of a group share its negated selector, so that a whole group that isn't active is
+/// passed over at once.
 #[derive(Clone, Copy, Debug)]
 pub(crate) struct Run {
     /// None, where the clause is empty.
@@ -143,10 +144,12 @@ fn put_end(ends: &mut Vec<usize>, end: usize)
     }
 }
 
-// One clause more, with this id: it goes with the newest run where it holds the literal that is shared there, and begins a run else.
+// One clause more, with this id: it goes with the newest run where it holds the literal that is
+// shared there, and begins a run else.
 fn extend_runs(runs: &mut Vec<Run>, lits: &[Lit], last: u64)
     requires { length runs.old.items < vec_capacity runs.old }
-    ensures { (clauses : List (List Literal)) → AreRuns 0 runs.old.items clauses (length clauses) → last ≡ length clauses + 1
+    ensures { (clauses : List (List Literal)) → AreRuns 0 runs.old.items clauses (length clauses)
+        → last ≡ length clauses + 1
         → AreRuns 0 runs.new.items (clauses ++ lits.now ∷ []) last }
 {
     match runs.pop() {
@@ -164,7 +167,8 @@ fn extend_runs(runs: &mut Vec<Run>, lits: &[Lit], last: u64)
 
 fn put(runs: &mut Vec<Run>, shared: Option<Lit>, last: u64)
     requires { length runs.old.items < vec_capacity runs.old }
-    ensures items { runs.new.items ≡ runs.old.items ++ record { shared = shared; last = last } ∷ [] }
+    ensures items { runs.new.items
+        ≡ runs.old.items ++ record { shared = shared; last = last } ∷ [] }
     ensures capacity { vec_capacity runs.old ≤ vec_capacity runs.new }
 {
     if runs.push(Run { shared, last }).is_err() {

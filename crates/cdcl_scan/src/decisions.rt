@@ -1,7 +1,7 @@
 //! Which literal is decided: the most active one of the newest open clause is made true.
 //!
-//! A clause is open where it has no true literal. No clause holds a selector that isn't negated, so that no decision makes a selector
-//! true.
+//! A clause is open where it has no true literal. No clause holds a selector that isn't negated, so
+//! that no decision makes a selector true.
 
 ghost use Rattle.std.specs.Prelude.{◌≡◌, ◌≤◌, ◌⊎◌, true, All, MatchOption, Some};
 ghost use Rattle.std.specs.List.{list_any};

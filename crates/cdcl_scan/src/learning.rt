@@ -32,7 +32,8 @@ pub(crate) fn learn(
 ) -> Result<(), Stop>
     requires searching { IsSearching assumptions.now s.old log.old }
     requires few { length s.old.trail.steps ≤ s.old.trail.room }
-    requires conflict { status_of (literals_of s.old.trail.steps) (live_in s.old.clauses.clauses conflict) ≡ falsified }
+    requires conflict { status_of (literals_of s.old.trail.steps)
+        (live_in s.old.clauses.clauses conflict) ≡ falsified }
     requires decided { decision_of s.old.trail.steps ≡ Some decision }
     requires chosen { holds assumptions.now decision ≡ false }
     ensures ok { OnOk result (HasTurned assumptions.now s.old s.new log.old log.new) }
@@ -61,9 +62,11 @@ pub(crate) fn learn(
 fn keep(clauses: &mut ClauseStore, notes: &Notes, log: &mut Log) -> Result<u64, Stop>
     requires named { AreNamed log.old.entries notes.now.literals }
     requires hints { AreIds log.old.entries notes.now.hints }
-    ensures ok { OnOk result (log.new ≡ with_entry log.old (Learned notes.now.literals notes.now.hints)) }
+    ensures ok { OnOk result
+        (log.new ≡ with_entry log.old (Learned notes.now.literals notes.now.hints)) }
     ensures id { IfOk result (λ id. id ≡ last_id log.old.entries + 1) }
-    ensures held { OnOk result (clauses.new.clauses ≡ clauses.old.clauses ++ notes.now.literals ∷ []) }
+    ensures held { OnOk result
+        (clauses.new.clauses ≡ clauses.old.clauses ++ notes.now.literals ∷ []) }
     ensures err { OnErr result (log.new ≡ log.old) }
     ensures err_held { OnErr result (clauses.new.clauses ≡ clauses.old.clauses) }
     ensures limit { IsErrOf result Stop.Limit → steps_of log.old.entries ≡ log.old.limit }
@@ -74,10 +77,12 @@ fn keep(clauses: &mut ClauseStore, notes: &Notes, log: &mut Log) -> Result<u64, 
     Ok(id)
 }
 
-// Takes levels back to where the clause learned from a step is unit, and makes its literal true, or takes everything back.
+// Takes levels back to where the clause learned from a step is unit, and makes its literal true, or
+// takes everything back.
 fn land(trail: &mut Trail, notes: &Notes, first: Step, id: u64, is_due: bool)
     requires in_range { trail.old.room < length notes.now.marks }
-    requires level { is_decision first ≡ false → is_level_marked notes.now.marks trail.old.steps ≡ false }
+    requires level { is_decision first ≡ false
+        → is_level_marked notes.now.marks trail.old.steps ≡ false }
     requires variable { variable_of first.literal ≤ trail.old.room }
     requires free { IsFree (literals_of trail.old.steps) first.literal }
     ensures landed { IsLanded trail.old trail.new first notes.now.marks id }

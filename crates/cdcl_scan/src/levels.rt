@@ -44,10 +44,12 @@ pub(crate) fn last_decision(steps: &[Step]) -> Option<Lit>
     None
 }
 
-/// Takes back what is left of a step's level, and then levels until one has a marked literal, or none is left.
+/// Takes back what is left of a step's level, and then levels until one has a marked literal, or
+/// none is left.
 pub(crate) fn jump(trail: &mut Trail, notes: &Notes, step: &Step)
     requires in_range { trail.old.room < length notes.now.marks }
-    requires first { is_decision step.now ≡ false → is_level_marked notes.now.marks trail.old.steps ≡ false }
+    requires first { is_decision step.now ≡ false
+        → is_level_marked notes.now.marks trail.old.steps ≡ false }
     ensures { IsJump trail.old trail.new notes.now.marks }
 {
     if step.reason.is_some() {

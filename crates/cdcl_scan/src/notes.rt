@@ -102,7 +102,8 @@ impl Notes {
         requires room { length self.old.hints < length self.old.marks }
         requires in_range { All (λ l. variable_of l < length self.old.marks) lits.now }
         ensures len { length self.new.marks ≡ length self.old.marks }
-        ensures marked { (v : ℕ) → marked self.new.marks v ≡ (marked self.old.marks v || stands_on lits.now v) }
+        ensures marked { (v : ℕ)
+            → marked self.new.marks v ≡ (marked self.old.marks v || stands_on lits.now v) }
         ensures hints { self.new.hints ≡ self.old.hints ++ id ∷ [] }
         ensures literals { self.new.literals ≡ self.old.literals }
     {
@@ -116,7 +117,8 @@ impl Notes {
     pub(crate) fn unmark(&mut self, l: Lit)
         requires { variable_of l < length self.old.marks }
         ensures len { length self.new.marks ≡ length self.old.marks }
-        ensures marked { (v : ℕ) → marked self.new.marks v ≡ (not (variable_of l == v) && marked self.old.marks v) }
+        ensures marked { (v : ℕ)
+            → marked self.new.marks v ≡ (not (variable_of l == v) && marked self.old.marks v) }
         ensures hints { self.new.hints ≡ self.old.hints }
         ensures literals { self.new.literals ≡ self.old.literals }
     {
@@ -135,7 +137,12 @@ impl Notes {
 
     /// Turns hints and literals round.
     pub(crate) fn turn(&mut self)
-        ensures { self.new ≡ record { marks = self.old.marks; hints = reverse self.old.hints; literals = reverse self.old.literals } }
+        ensures { self.new
+            ≡ record {
+              marks = self.old.marks;
+              hints = reverse self.old.hints;
+              literals = reverse self.old.literals;
+            } }
     {
         self.hints.reverse();
         self.literals.reverse();

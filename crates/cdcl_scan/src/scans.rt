@@ -1,8 +1,9 @@
 //! Propagation, by scans of all clauses held.
 //!
-//! Passes are made until one is quiet. A pass goes from run to run, and passes over a run whose shared literal is true: its clauses
-//! are satisfied. That every literal's reason was unit where it was made true is kept by each step of the trail; that no clause is
-//! unit or falsified at the end is what the last, quiet pass shows.
+//! Passes are made until one is quiet. A pass goes from run to run, and passes over a run whose
+//! shared literal is true: its clauses are satisfied. That every literal's reason was unit where it
+//! was made true is kept by each step of the trail; that no clause is unit or falsified at the end
+//! is what the last, quiet pass shows.
 
 ghost use Rattle.std.specs.Prelude.{◌≡◌, ◌≤◌, true, length, IfSome};
 ghost use Rattle.oracle.specs.Fit.{live_in};
@@ -45,7 +46,8 @@ fn pass_once(trail: &mut Trail, clauses: &ClauseStore) -> Pass
     ensures room { trail.new.room ≡ trail.old.room }
     ensures sound { IsSound (live_in clauses.now.clauses) trail.new.steps }
     ensures grown { Grown trail.old.steps trail.new.steps }
-    ensures few { length trail.old.steps ≤ trail.old.room → length trail.new.steps ≤ trail.old.room }
+    ensures few { length trail.old.steps ≤ trail.old.room
+        → length trail.new.steps ≤ trail.old.room }
     ensures passed { IsPassed (live_in clauses.now.clauses) trail.old trail.new result }
 {
     let mut quiet = true;
@@ -71,8 +73,10 @@ fn pass_run(trail: &mut Trail, clauses: &ClauseStore, first: u64, run: Run) -> P
     ensures room { trail.new.room ≡ trail.old.room }
     ensures sound { IsSound (live_in clauses.now.clauses) trail.new.steps }
     ensures grown { Grown trail.old.steps trail.new.steps }
-    ensures few { length trail.old.steps ≤ trail.old.room → length trail.new.steps ≤ trail.old.room }
-    ensures passed { IsRunPassed (live_in clauses.now.clauses) trail.old trail.new first run.last result }
+    ensures few { length trail.old.steps ≤ trail.old.room
+        → length trail.new.steps ≤ trail.old.room }
+    ensures passed { IsRunPassed (live_in clauses.now.clauses) trail.old trail.new first run.last
+        result }
 {
     if is_satisfied(trail, &run.shared) {
         return Pass::Quiet;
@@ -103,8 +107,10 @@ fn pass_clauses(trail: &mut Trail, clauses: &ClauseStore, first: u64, last: u64)
     ensures room { trail.new.room ≡ trail.old.room }
     ensures sound { IsSound (live_in clauses.now.clauses) trail.new.steps }
     ensures grown { Grown trail.old.steps trail.new.steps }
-    ensures few { length trail.old.steps ≤ trail.old.room → length trail.new.steps ≤ trail.old.room }
-    ensures passed { IsRunPassed (live_in clauses.now.clauses) trail.old trail.new first last result }
+    ensures few { length trail.old.steps ≤ trail.old.room
+        → length trail.new.steps ≤ trail.old.room }
+    ensures passed { IsRunPassed (live_in clauses.now.clauses) trail.old trail.new first last
+        result }
 {
     let mut quiet = true;
     for at in first..last {

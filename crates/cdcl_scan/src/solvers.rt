@@ -140,7 +140,11 @@ impl Oracle for Scan {
       logged = (tt, fit.logged);
       selectors = fit.selectors;
       grouped = (tt, fit.grouped);
-      negated = λ id c l at h. record { named = (fit.negated id c l at h).named; negated = (fit.negated id c l at h).negated };
+      negated = λ id c l at h.
+          record {
+            named = (fit.negated id c l at h).named;
+            negated = (fit.negated id c l at h).negated;
+          };
       derived = (tt, fit.derived);
       new = (tt, fit.new);
       hinted = (tt, fit.hinted);

@@ -55,7 +55,8 @@ impl Trail {
 
     /// Room for one variable more.
     pub(crate) fn grow(&mut self) -> Result<(), Memory>
-        ensures ok { OnOk result (self.new ≡ record { room = self.old.room + 1; steps = self.old.steps }) }
+        ensures ok { OnOk result
+            (self.new ≡ record { room = self.old.room + 1; steps = self.old.steps }) }
         ensures err { OnErr result (self.new ≡ self.old) }
     {
         self.steps.reserve(self.values.len() + 1)?;
@@ -90,7 +91,8 @@ impl Trail {
     /// Takes the newest literal back.
     pub(crate) fn pop(&mut self) -> Option<Step>
         ensures room { self.new.room ≡ self.old.room }
-        ensures steps { MatchOption result ((self.old.steps ≡ []) × (self.new.steps ≡ [])) (λ s. self.old.steps ≡ s ∷ self.new.steps) }
+        ensures steps { MatchOption result ((self.old.steps ≡ []) × (self.new.steps ≡ []))
+            (λ s. self.old.steps ≡ s ∷ self.new.steps) }
         ensures in_range { IfSome result (λ s. variable_of s.literal ≤ self.old.room) }
     {
         let step = self.steps.pop()?;

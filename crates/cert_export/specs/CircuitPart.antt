@@ -1,5 +1,6 @@
--- The circuit that an answer shows to be right, as a file has it, and the clauses that its proof starts from: inputs are numbered in
--- the formula's order, gates behind them in the file's order, and behind these 'clause j is false', of one group.
+-- The circuit that an answer shows to be right, as a file has it, and the clauses that its proof
+-- starts from: inputs are numbered in the formula's order, gates behind them in the file's order,
+-- and behind these 'clause j is false', of one group.
 use Rattle.std.specs.Prelude.{◌≡◌, ◌≢◌, ℕ, zero, suc, ◌+◌, ◌*◌, ◌==◌, Bool, true, List, ◌∷◌, map, take, length, Option, None, Some, if◌then◌else◌}
 use Rattle.std.specs.List.{All, AllPairs, Contains, list_any, range_with_len, position_or_len, sum_by}
 use Rattle.std.specs.Option.{option_map}
@@ -22,7 +23,8 @@ use Rattle.skolem_checker.specs.Checks.{Candidate}
 use Rattle.skolem_checker.specs.Mapping.{Mapping}
 use Rattle.cert_export.specs.Renaming.{Renaming}
 
--- what is exported of a log: the group whose faults are used, the variables of the file's gates, and the existentials' leaves
+-- what is exported of a log: the group whose faults are used, the variables of the file's gates,
+-- and the existentials' leaves
 pub record CircuitPart : Type 0 where
   pub group : ℕ
   pub gates : List ℕ
@@ -30,7 +32,8 @@ pub record CircuitPart : Type 0 where
 
 -- the place of a number, counted from 1
 abbrev pub place_from_one : List ℕ → ℕ → Option ℕ
-place_from_one xs v = if list_any (λ x. x == v) xs then Some (position_or_len (λ x. x == v) xs + 1) else None
+place_from_one xs v =
+    if list_any (λ x. x == v) xs then Some (position_or_len (λ x. x == v) xs + 1) else None
 
 abbrev pub max_number : Dqbf → CircuitPart → ℕ
 max_number f e = length f.universals + length e.gates
@@ -38,8 +41,11 @@ max_number f e = length f.universals + length e.gates
 -- the variables that the circuit and its proof speak of; all others have no number
 abbrev pub circuit_number : Dqbf → CircuitPart → ℕ → Option Name → Option ℕ
 circuit_number f e v (Some (Input x)) = place_from_one f.universals x
-circuit_number f e v (Some (And a b)) = option_map (λ p. length f.universals + p) (place_from_one e.gates v)
-circuit_number f e v (Some (Bad g j)) = if g == e.group then option_map (λ clause. max_number f e + j) (numbered_from_one f.matrix j) else None
+circuit_number f e v (Some (And a b)) =
+    option_map (λ p. length f.universals + p) (place_from_one e.gates v)
+circuit_number f e v (Some (Bad g j)) =
+    if g == e.group then option_map (λ clause. max_number f e + j) (numbered_from_one f.matrix j)
+    else None
 circuit_number f e v _ = None
 
 abbrev pub circuit_renaming : Dqbf → List Entry → CircuitPart → Renaming
@@ -61,7 +67,8 @@ leaf_code r (Constant b) = if b then 1 else 0
 leaf_code r (LeafLiteral l) = literal_code r l
 
 abbrev pub gate_of : Renaming → ℕ → Option Name → Gate
-gate_of r v (Some (And a b)) = record { variable = or_zero (r v); left = literal_code r a; right = literal_code r b }
+gate_of r v (Some (And a b)) =
+    record { variable = or_zero (r v); left = literal_code r a; right = literal_code r b }
 gate_of r v _ = record { variable = or_zero (r v); left = 0; right = 0 }
 
 abbrev pub exported_netlist : Dqbf → List Entry → CircuitPart → Netlist
@@ -73,10 +80,15 @@ exported_netlist f entries e = record {
 }
 
 abbrev pub exported_mapping : Dqbf → Mapping
-exported_mapping f = record { inputs = f.universals; outputs = map (λ y. y.variable) f.existentials }
+exported_mapping f =
+    record { inputs = f.universals; outputs = map (λ y. y.variable) f.existentials }
 
 abbrev pub exported_candidate : Dqbf → List Entry → CircuitPart → Candidate
-exported_candidate f entries e = record { formula = f; circuit = record { netlist = exported_netlist f entries e; mapping = exported_mapping f } }
+exported_candidate f entries e =
+    record {
+      formula = f;
+      circuit = record { netlist = exported_netlist f entries e; mapping = exported_mapping f };
+    }
 
 -- the last id of the negated matrix, of a circuit with these gates
 abbrev pub last_negated : List (List Literal) → List ℕ → ℕ
@@ -86,7 +98,8 @@ last_negated matrix gates = 3 * length gates + sum_by length matrix + 1
 abbrev pub negated_id : List (List Literal) → List ℕ → Origin → ℕ
 negated_id matrix gates (GateOf v i) = 3 * position_or_len (λ x. x == v) gates + i
 negated_id matrix gates (Fault zero i leaf) = last_negated matrix gates
-negated_id matrix gates (Fault (suc j) i leaf) = 3 * length gates + sum_by length (take j matrix) + i
+negated_id matrix gates (Fault (suc j) i leaf) =
+    3 * length gates + sum_by length (take j matrix) + i
 negated_id matrix gates _ = 0
 
 abbrev pub last_base_id : Dqbf → CircuitPart → ℕ
@@ -96,29 +109,39 @@ abbrev pub circuit_id : Dqbf → CircuitPart → Origin → ℕ
 circuit_id f e = negated_id f.matrix e.gates
 
 abbrev pub IsOwnLeaf : Dqbf → CircuitPart → ℕ → ℕ → Leaf → Type 0
-IsOwnLeaf f e j i out = All (λ y. option_map variable_of (matrix_literal f j i) ≡ Some y.variable → out ≡ e.leaf y) f.existentials
+IsOwnLeaf f e j i out =
+    All (λ y. option_map variable_of (matrix_literal f j i) ≡ Some y.variable → out ≡ e.leaf y)
+    f.existentials
 
--- the given clauses that the proof may rest on: those of the file's gates, and the group's faults of the existentials' leaves
+-- the given clauses that the proof may rest on: those of the file's gates, and the group's faults
+-- of the existentials' leaves
 abbrev pub IsCircuitClause : Dqbf → CircuitPart → Origin → List Literal → Type 0
 IsCircuitClause f e (GateOf v i) c = Contains e.gates v
-IsCircuitClause f e (Fault j i out) c = ((rest : List Literal) × (c ≡ negative e.group ∷ rest)) × IsOwnLeaf f e j i out
+IsCircuitClause f e (Fault j i out) c =
+    ((rest : List Literal) × (c ≡ negative e.group ∷ rest)) × IsOwnLeaf f e j i out
 IsCircuitClause f e _ c = ⊥
 
 -- where the literal stands on a gate, the file has the gate
 abbrev pub IsInFile : List Entry → List ℕ → Literal → Type 0
-IsInFile entries gates l = (a b : Literal) → name_of entries (variable_of l) ≡ Some (And a b) → Contains gates (variable_of l)
+IsInFile entries gates l =
+    (a b : Literal) → name_of entries (variable_of l) ≡ Some (And a b)
+    → Contains gates (variable_of l)
 
 abbrev pub IsLeafInFile : List Entry → List ℕ → Leaf → Type 0
 IsLeafInFile entries gates (Constant b) = Unit {0}
-IsLeafInFile entries gates (LeafLiteral l) = (is_circuit_name (name_of entries (variable_of l)) ≡ true) × IsInFile entries gates l
+IsLeafInFile entries gates (LeafLiteral l) =
+    (is_circuit_name (name_of entries (variable_of l)) ≡ true) × IsInFile entries gates l
 
 -- the file's gates are gates of the log, each once, and it has their sides and the leaves
 pub record IsCircuitPart (f : Dqbf) (entries : List Entry) (e : CircuitPart) : Type 0 where
-  pub named : (v : ℕ) → Contains e.gates v → (a : Literal) × (b : Literal) × (name_of entries v ≡ Some (And a b))
+  pub named : (v : ℕ) → Contains e.gates v
+      → (a : Literal) × (b : Literal) × (name_of entries v ≡ Some (And a b))
   pub distinct : AllPairs (λ v w. v ≢ w) e.gates
-  pub sides : (v : ℕ) (a b : Literal) → Contains e.gates v → name_of entries v ≡ Some (And a b) → IsInFile entries e.gates a × IsInFile entries e.gates b
+  pub sides : (v : ℕ) (a b : Literal) → Contains e.gates v → name_of entries v ≡ Some (And a b)
+      → IsInFile entries e.gates a × IsInFile entries e.gates b
   pub leaves : All (λ y. IsLeafInFile entries e.gates (e.leaf y)) f.existentials
 
 -- each leaf reads inputs that its existential sees
 abbrev pub ReadSeen : Dqbf → List Entry → CircuitPart → Type 0
-ReadSeen f entries e = All (λ y. (x : ℕ) → LeafReads entries (e.leaf y) x → Contains y.sees x) f.existentials
+ReadSeen f entries e =
+    All (λ y. (x : ℕ) → LeafReads entries (e.leaf y) x → Contains y.sees x) f.existentials

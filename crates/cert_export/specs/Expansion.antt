@@ -1,5 +1,6 @@
--- The refutation that an answer stands for: its instances are the base, and the derived clauses that it rests on are lines, with the arbiters'
--- variables as pairs and all other literals left out.
+-- The refutation that an answer stands for: its instances are the base, and the derived clauses
+-- that it rests on are lines, with the arbiters' variables as pairs and all other literals left
+-- out.
 use Rattle.std.specs.Prelude.{ℕ, ◌+◌, ◌-◌, ◌*◌, ◌==◌, Bool, List, length, Option, None, Some, if◌then◌else◌}
 use Rattle.std.specs.List.{position_or_len}
 use Rattle.dq_lits.specs.Literal.{Literal}
@@ -19,15 +20,18 @@ use Rattle.cert_export.specs.Renaming.{Renaming}
 use Rattle.cert_export.specs.LineOrder.{IsRenamedBase}
 
 -- the pair of an existential and the first row that agrees with it; any other has none
-abbrev pub first_pair : Dqbf → List (List Bool) → ℕ → Option (List Bool) → Option Existential → Option ℕ
+abbrev pub first_pair : Dqbf → List (List Bool) → ℕ → Option (List Bool) → Option Existential
+    → Option ℕ
 first_pair f rows k (Some row) (Some y) =
-    if position_or_len (agree_on f y row) rows + 1 == k then Some (pair_number f rows row y) else None
+    if position_or_len (agree_on f y row) rows + 1 == k then Some (pair_number f rows row y)
+    else None
 first_pair f rows k (Some row) None = None
 first_pair f rows k None y = None
 
 -- a pair's number; a name of no pair of the formula's existentials and the rounds' rows has none
 abbrev pub pair_of : Dqbf → List (List Bool) → Option Name → Option ℕ
-pair_of f rows (Some (Pair k y)) = first_pair f rows k (numbered_from_one rows k) (existential_of f y)
+pair_of f rows (Some (Pair k y)) =
+    first_pair f rows k (numbered_from_one rows k) (existential_of f y)
 pair_of f rows _ = None
 
 abbrev pub pair_renaming : Dqbf → List Entry → Renaming
@@ -44,6 +48,8 @@ IsInstanceClause origin c = IsInstance origin
 -- the instances given, renamed, are those of the expansion, under its ids
 abbrev pub InstancesAreExpansion : Type 0
 InstancesAreExpansion =
-    (f : Dqbf) (entries : List Entry) → IsWellFormed f → AreLogged entries → Each (MatchesOrigin f) entries
-    → IsRenamedBase (pair_renaming f entries) (instance_id (length f.matrix)) IsInstanceClause (instance_at f (rows_of entries))
+    (f : Dqbf) (entries : List Entry) → IsWellFormed f → AreLogged entries
+    → Each (MatchesOrigin f) entries
+    → IsRenamedBase (pair_renaming f entries) (instance_id (length f.matrix)) IsInstanceClause
+    (instance_at f (rows_of entries))
     (length (rows_of entries) * length f.matrix) entries

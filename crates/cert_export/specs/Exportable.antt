@@ -23,7 +23,8 @@ abbrev pub IsKnownInstance : Origin → Type 0
 IsKnownInstance (Instance k j) = (1 ≤ k) × (k ≤ max_count) × (j ≤ MAX_CLAUSES)
 IsKnownInstance _ = ⊥
 
--- ascending ids with all their hints, of which the given ones are instances, in a log of productive work with few rounds
+-- ascending ids with all their hints, of which the given ones are instances, in a log of productive
+-- work with few rounds
 pub record AreExportable (f : Dqbf) (entries : List Entry) (ids : List ℕ) : Type 0 where
   pub well_formed : IsWellFormed f
   pub few_clauses : length f.matrix ≤ MAX_CLAUSES
@@ -33,9 +34,12 @@ pub record AreExportable (f : Dqbf) (entries : List Entry) (ids : List ℕ) : Ty
   pub lemmas_are_derived : Each IsDerivedByHints entries
   pub ascending : IsStrictlyIncreasing ids
   pub are_ids : All (IsId entries) ids
-  pub closed : (at hint : ℕ) (hints : List ℕ) → Contains ids at → hints_at entries at ≡ Some hints → Contains hints hint → Contains ids hint
-  pub instances : (id : ℕ) (origin : Origin) (c : List Literal) → Contains ids id → numbered has_id entries id ≡ Some (Given origin c) → IsInstance origin
+  pub closed : (at hint : ℕ) (hints : List ℕ) → Contains ids at → hints_at entries at ≡ Some hints
+      → Contains hints hint → Contains ids hint
+  pub instances : (id : ℕ) (origin : Origin) (c : List Literal) → Contains ids id
+      → numbered has_id entries id ≡ Some (Given origin c) → IsInstance origin
 
 -- the lines under some renaming of the pairs
 abbrev pub AreExportedSteps : Dqbf → List Entry → List ℕ → List ProofStep → Type 0
-AreExportedSteps f entries ids steps = (r : Renaming) × IsPairRenaming f entries ids r × (steps ≡ exported_steps f entries ids r)
+AreExportedSteps f entries ids steps =
+    (r : Renaming) × IsPairRenaming f entries ids r × (steps ≡ exported_steps f entries ids r)

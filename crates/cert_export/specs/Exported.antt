@@ -30,18 +30,25 @@ exported_number f entries ids = line_number (last_instance f entries) (derived_i
 
 abbrev pub exported_steps : Dqbf → List Entry → List ℕ → Renaming → List ProofStep
 exported_steps f entries ids r =
-    line_steps r (instance_id (length f.matrix)) entries (exported_number f entries ids) (derived_ids entries ids)
+    line_steps r (instance_id (length f.matrix)) entries (exported_number f entries ids)
+    (derived_ids entries ids)
 
 -- the checker finds no fault
 abbrev pub ExportedAnswerRefutes : Type 0
 ExportedAnswerRefutes =
-    (f : Dqbf) (entries : List Entry) (id : ℕ) (ids : List ℕ) (r : Renaming) → IsWellFormed f → AreLogged entries → Each (MatchesOrigin f) entries
-    → Each IsDerivedByHints entries → IsRefutedBy entries id → AreReached entries id ids → IsPairRenaming f entries ids r
-    → refutation_fault f (record { rows = rows_of entries; steps = exported_steps f entries ids r }) ≡ None
+    (f : Dqbf) (entries : List Entry) (id : ℕ) (ids : List ℕ) (r : Renaming) → IsWellFormed f
+    → AreLogged entries → Each (MatchesOrigin f) entries
+    → Each IsDerivedByHints entries → IsRefutedBy entries id → AreReached entries id ids
+    → IsPairRenaming f entries ids r
+    → refutation_fault f (record { rows = rows_of entries; steps = exported_steps f entries ids r })
+    ≡ None
 
--- the lines are such as the format allows: numbered behind the instances, on pairs, with earlier hints
+-- the lines are such as the format allows: numbered behind the instances, on pairs, with earlier
+-- hints
 abbrev pub ExportedLinesAreAllowed : Type 0
 ExportedLinesAreAllowed =
-    (f : Dqbf) (entries : List Entry) (id : ℕ) (ids : List ℕ) (r : Renaming) → IsWellFormed f → AreLogged entries → Each (MatchesOrigin f) entries
+    (f : Dqbf) (entries : List Entry) (id : ℕ) (ids : List ℕ) (r : Renaming) → IsWellFormed f
+    → AreLogged entries → Each (MatchesOrigin f) entries
     → IsRefutedBy entries id → AreReached entries id ids → IsPairRenaming f entries ids r
-    → AreSteps (is_pair_number f (length (rows_of entries))) (first_id f (length (rows_of entries))) (exported_steps f entries ids r)
+    → AreSteps (is_pair_number f (length (rows_of entries))) (first_id f (length (rows_of entries)))
+    (exported_steps f entries ids r)

@@ -1,4 +1,5 @@
--- What is exported for a true formula, and that the checkers of circuits and of their proofs accept it.
+-- What is exported for a true formula, and that the checkers of circuits and of their proofs accept
+-- it.
 use Rattle.std.specs.Prelude.{◌≡◌, ℕ, ◌+◌, ◌<◌, ◌≤◌, ◌^◌, Bool, true, false, List, [], ◌∷◌, length, slice_index, Option, None, Some, Ok}
 use Rattle.std.specs.Fmt.{decimal}
 use Rattle.std.specs.List.{All, Contains}
@@ -34,32 +35,46 @@ use Rattle.cert_export.specs.Renaming.{Renaming, IsInjective, IsRenamingOf}
 
 -- no two variables have one number
 abbrev pub CircuitNumbersAreInjective : Type 0
-CircuitNumbersAreInjective = (f : Dqbf) (entries : List Entry) (e : CircuitPart) → AreLogged entries → IsInjective (circuit_renaming f entries e)
+CircuitNumbersAreInjective =
+    (f : Dqbf) (entries : List Entry) (e : CircuitPart) → AreLogged entries
+    → IsInjective (circuit_renaming f entries e)
 
 -- the given clauses, renamed, are those of the negated matrix, under its ids
 abbrev pub CircuitClausesAreNegatedMatrix : Type 0
-CircuitClausesAreNegatedMatrix = (f : Dqbf) (entries : List Entry) (e : CircuitPart) → IsWellFormed f → AreLogged entries → Each (MatchesOrigin f) entries → IsCircuitPart f entries e
-    → IsRenamedBase (circuit_renaming f entries e) (circuit_id f e) (IsCircuitClause f e) (negated_candidate (exported_candidate f entries e)) (last_base_id f e) entries
+CircuitClausesAreNegatedMatrix =
+    (f : Dqbf) (entries : List Entry) (e : CircuitPart) → IsWellFormed f → AreLogged entries
+    → Each (MatchesOrigin f) entries → IsCircuitPart f entries e
+    → IsRenamedBase (circuit_renaming f entries e) (circuit_id f e) (IsCircuitClause f e)
+    (negated_candidate (exported_candidate f entries e)) (last_base_id f e) entries
 
 -- every gate and every output can be evaluated
 abbrev pub ExportedCircuitIsComplete : Type 0
-ExportedCircuitIsComplete = (f : Dqbf) (entries : List Entry) (e : CircuitPart) → AreLogged entries → Each (MatchesOrigin f) entries → IsCircuitPart f entries e
+ExportedCircuitIsComplete =
+    (f : Dqbf) (entries : List Entry) (e : CircuitPart) → AreLogged entries
+    → Each (MatchesOrigin f) entries → IsCircuitPart f entries e
     → IsComplete (exported_netlist f entries e)
 
 -- each output reads only what its existential sees
 abbrev pub ExportedCircuitReadsSeen : Type 0
-ExportedCircuitReadsSeen = (f : Dqbf) (entries : List Entry) (e : CircuitPart) → IsWellFormed f → AreLogged entries → Each (MatchesOrigin f) entries → IsCircuitPart f entries e
-    → ReadSeen f entries e → ReadsDeclared (ReadsUniversal (exported_candidate f entries e).circuit) f
+ExportedCircuitReadsSeen =
+    (f : Dqbf) (entries : List Entry) (e : CircuitPart) → IsWellFormed f → AreLogged entries
+    → Each (MatchesOrigin f) entries → IsCircuitPart f entries e
+    → ReadSeen f entries e
+    → ReadsDeclared (ReadsUniversal (exported_candidate f entries e).circuit) f
 
 -- numbers are in range, and each variable is an input or a gate once
 abbrev pub ExportedCircuitIsNetlist : Type 0
-ExportedCircuitIsNetlist = (f : Dqbf) (entries : List Entry) (e : CircuitPart) → AreLogged entries → Each (MatchesOrigin f) entries → IsCircuitPart f entries e
+ExportedCircuitIsNetlist =
+    (f : Dqbf) (entries : List Entry) (e : CircuitPart) → AreLogged entries
+    → Each (MatchesOrigin f) entries → IsCircuitPart f entries e
     → max_number f e < 2 ^ 62 → IsNetlist (exported_netlist f entries e)
 
 -- each input's and each output's symbol is its variable's number
 pub record AreNumberSymbols (f : Dqbf) (symbols : SymbolTable) : Type 0 where
-  pub inputs : (p : ℕ) → p < length f.universals → name_at symbols.inputs p ≡ Some (decimal (slice_index f.universals p))
-  pub outputs : (p : ℕ) → p < length (existential_variables f) → name_at symbols.outputs p ≡ Some (decimal (slice_index (existential_variables f) p))
+  pub inputs : (p : ℕ) → p < length f.universals
+      → name_at symbols.inputs p ≡ Some (decimal (slice_index f.universals p))
+  pub outputs : (p : ℕ) → p < length (existential_variables f)
+      → name_at symbols.outputs p ≡ Some (decimal (slice_index (existential_variables f) p))
 
 -- names by place, from a place on
 abbrev pub number_names : ℕ → List ℕ → List (ℕ × List ℕ)
@@ -68,7 +83,11 @@ number_names place (v ∷ vs) = (place, decimal v) ∷ number_names (place + 1) 
 
 -- the symbols that are written
 abbrev pub number_symbols : Dqbf → SymbolTable
-number_symbols f = record { inputs = number_names 0 f.universals; outputs = number_names 0 (existential_variables f) }
+number_symbols f =
+    record {
+      inputs = number_names 0 f.universals;
+      outputs = number_names 0 (existential_variables f);
+    }
 
 -- they are such
 abbrev pub WrittenSymbolsAreNumbers : Type 0
@@ -76,7 +95,9 @@ WrittenSymbolsAreNumbers = (f : Dqbf) → AreNumberSymbols f (number_symbols f)
 
 -- so the circuit is mapped as it was exported
 abbrev pub ExportedSymbolsMap : Type 0
-ExportedSymbolsMap = (f : Dqbf) (entries : List Entry) (e : CircuitPart) (symbols : SymbolTable) → HasLawfulPrefix f → f.variables < 10 ^ 18 → AreNumberSymbols f symbols
+ExportedSymbolsMap =
+    (f : Dqbf) (entries : List Entry) (e : CircuitPart) (symbols : SymbolTable) → HasLawfulPrefix f
+    → f.variables < 10 ^ 18 → AreNumberSymbols f symbols
     → candidate_of f (exported_netlist f entries e) symbols ≡ Ok (exported_candidate f entries e)
 
 -- the last entry is an answer that decides that the formula is true
@@ -88,18 +109,24 @@ pub record IsDecidedTrue (f : Dqbf) (entries : List Entry) (id : ℕ) : Type 0 w
   pub last : id ≡ last_id entries
   pub decides : DecidesTrue f earlier clause hints
 
--- what is exported of an answer: the group of the faults that it reaches, the existentials' leaves in these, and the gates of the leaves and those
--- whose clauses it reaches
-pub record IsExportedPart (f : Dqbf) (entries : List Entry) (id : ℕ) (e : CircuitPart) : Type 0 where
+-- what is exported of an answer: the group of the faults that it reaches, the existentials' leaves
+-- in these, and the gates of the leaves and those whose clauses it reaches
+pub record IsExportedPart (f : Dqbf) (entries : List Entry) (id : ℕ)
+    (e : CircuitPart) : Type 0 where
   pub decided : IsDecidedTrue f entries id
-  pub group : (h j i : ℕ) (out : Leaf) (c : List Literal) → Reaches entries id h → numbered has_id entries h ≡ Some (Given (Fault j i out) c)
+  pub group : (h j i : ℕ) (out : Leaf) (c : List Literal) → Reaches entries id h
+      → numbered has_id entries h ≡ Some (Given (Fault j i out) c)
       → (rest : List Literal) × (c ≡ negative e.group ∷ rest)
-  pub outs : All (λ y. (out : Leaf) → IsFaultLeaf f decided.earlier decided.hints y out → out ≡ e.leaf y) f.existentials
+  pub outs : All
+      (λ y. (out : Leaf) → IsFaultLeaf f decided.earlier decided.hints y out → out ≡ e.leaf y)
+      f.existentials
   pub reads : ReadSeen f entries e
   pub part : IsCircuitPart f entries e
-  pub used : (h v i : ℕ) (c : List Literal) → Reaches entries id h → numbered has_id entries h ≡ Some (Given (Gate v i) c) → Contains e.gates v
+  pub used : (h v i : ℕ) (c : List Literal) → Reaches entries id h
+      → numbered has_id entries h ≡ Some (Given (Gate v i) c) → Contains e.gates v
 
--- the numbers of the variables that the given clauses among these ids stand on; perhaps of further ones
+-- the numbers of the variables that the given clauses among these ids stand on; perhaps of further
+-- ones
 abbrev pub IsCircuitRenaming : Dqbf → List Entry → CircuitPart → List ℕ → Renaming → Type 0
 IsCircuitRenaming f entries e ids r = IsRenamingOf (circuit_renaming f entries e) entries ids r
 
@@ -108,39 +135,64 @@ proof_number f entries e ids = line_number (last_base_id f e) (derived_ids entri
 
 -- the lines of the derived clauses among these ids, behind the negated matrix
 abbrev pub proof_steps : Dqbf → List Entry → CircuitPart → List ℕ → Renaming → List ProofStep
-proof_steps f entries e ids r = line_steps r (circuit_id f e) entries (proof_number f entries e ids) (derived_ids entries ids)
+proof_steps f entries e ids r =
+    line_steps r (circuit_id f e) entries (proof_number f entries e ids) (derived_ids entries ids)
 
 -- the checker of circuits' proofs finds no fault
 abbrev pub ExportedAnswerIsAccepted : Type 0
-ExportedAnswerIsAccepted = (f : Dqbf) (entries : List Entry) (id : ℕ) (e : CircuitPart) (ids : List ℕ) (r : Renaming) → IsWellFormed f
-    → AreLogged entries → Each (MatchesOrigin f) entries → Each IsDerivedByHints entries → IsExportedPart f entries id e → AreReached entries id ids
-    → IsCircuitRenaming f entries e ids r → circuit_proof_fault (exported_candidate f entries e) (proof_steps f entries e ids r) ≡ None
+ExportedAnswerIsAccepted =
+    (f : Dqbf) (entries : List Entry) (id : ℕ) (e : CircuitPart) (ids : List ℕ) (r : Renaming)
+    → IsWellFormed f
+    → AreLogged entries → Each (MatchesOrigin f) entries → Each IsDerivedByHints entries
+    → IsExportedPart f entries id e → AreReached entries id ids
+    → IsCircuitRenaming f entries e ids r
+    → circuit_proof_fault (exported_candidate f entries e) (proof_steps f entries e ids r) ≡ None
 
--- the lines are such as the format allows: numbered behind the negated matrix, on its variables, with earlier hints
+-- the lines are such as the format allows: numbered behind the negated matrix, on its variables,
+-- with earlier hints
 abbrev pub ExportedProofIsAllowed : Type 0
-ExportedProofIsAllowed = (f : Dqbf) (entries : List Entry) (id : ℕ) (e : CircuitPart) (ids : List ℕ) (r : Renaming) → IsWellFormed f
-    → AreLogged entries → Each (MatchesOrigin f) entries → IsExportedPart f entries id e → AreReached entries id ids → IsCircuitRenaming f entries e ids r
-    → AreSteps (is_proof_variable f (exported_netlist f entries e)) (first_proof_id f (exported_netlist f entries e)) (proof_steps f entries e ids r)
+ExportedProofIsAllowed =
+    (f : Dqbf) (entries : List Entry) (id : ℕ) (e : CircuitPart) (ids : List ℕ) (r : Renaming)
+    → IsWellFormed f
+    → AreLogged entries → Each (MatchesOrigin f) entries → IsExportedPart f entries id e
+    → AreReached entries id ids → IsCircuitRenaming f entries e ids r
+    → AreSteps (is_proof_variable f (exported_netlist f entries e))
+    (first_proof_id f (exported_netlist f entries e)) (proof_steps f entries e ids r)
 
 -- the file's circuit has Skolem functions, and the proof refutes its negated matrix
 pub record IsProvedCircuit (f : Dqbf) (file : AagFile) (proof : Dqp) : Type 0 where
   pub skolem : IsSkolemCircuit f file.circuit file.symbols
-  pub derives : Derives (negated_candidate (record { formula = f; circuit = record { netlist = file.circuit; mapping = skolem.mapping } })) proof.steps
+  pub derives : Derives
+      (negated_candidate
+      (record {
+        formula = f;
+        circuit = record { netlist = file.circuit; mapping = skolem.mapping };
+      }))
+      proof.steps
 
 -- so it is with what is exported, where the outputs read what they may
 abbrev pub ExportedAnswerIsProved : Type 0
-ExportedAnswerIsProved = (f : Dqbf) (entries : List Entry) (id : ℕ) (e : CircuitPart) (ids : List ℕ) (r : Renaming) (file : AagFile) (proof : Dqp)
-    → IsWellFormed f → AreLogged entries → Each (MatchesOrigin f) entries → Each IsDerivedByHints entries → IsExportedPart f entries id e → AreReached entries id ids
+ExportedAnswerIsProved =
+    (f : Dqbf) (entries : List Entry) (id : ℕ) (e : CircuitPart) (ids : List ℕ) (r : Renaming)
+    (file : AagFile) (proof : Dqp)
+    → IsWellFormed f → AreLogged entries → Each (MatchesOrigin f) entries
+    → Each IsDerivedByHints entries → IsExportedPart f entries id e → AreReached entries id ids
     → IsCircuitRenaming f entries e ids r → max_number f e < 2 ^ 62 → f.variables < 10 ^ 18
-    → file.circuit ≡ exported_netlist f entries e → file.symbols ≡ number_symbols f → proof.steps ≡ proof_steps f entries e ids r → IsProvedCircuit f file proof
+    → file.circuit ≡ exported_netlist f entries e → file.symbols ≡ number_symbols f
+    → proof.steps ≡ proof_steps f entries e ids r → IsProvedCircuit f file proof
 
--- a text can hold the circuit with these symbols, and any comment, where its numbers are within the format's limits
+-- a text can hold the circuit with these symbols, and any comment, where its numbers are within the
+-- format's limits
 abbrev pub ExportedFileIsSpellable : Type 0
-ExportedFileIsSpellable = (f : Dqbf) (entries : List Entry) (e : CircuitPart) (file : AagFile) → HasLawfulPrefix f → f.variables < 10 ^ 18 → AreLogged entries
-    → Each (MatchesOrigin f) entries → IsCircuitPart f entries e → file.circuit ≡ exported_netlist f entries e → file.symbols ≡ number_symbols f
+ExportedFileIsSpellable =
+    (f : Dqbf) (entries : List Entry) (e : CircuitPart) (file : AagFile) → HasLawfulPrefix f
+    → f.variables < 10 ^ 18 → AreLogged entries
+    → Each (MatchesOrigin f) entries → IsCircuitPart f entries e
+    → file.circuit ≡ exported_netlist f entries e → file.symbols ≡ number_symbols f
     → max_number f e ≤ max_count → length f.existentials ≤ max_count → IsSpellable file
 
--- a text can hold the circuit and these symbols with any comment, where the numbers are within the format's limits
+-- a text can hold the circuit and these symbols with any comment, where the numbers are within the
+-- format's limits
 abbrev pub IsWritable : AagFile → Type 0
 IsWritable file = (comment : Option (List ℕ)) → file.circuit.max_var ≤ max_count
     → IsSpellable (record { circuit = file.circuit; symbols = file.symbols; comment = comment })

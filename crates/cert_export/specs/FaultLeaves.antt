@@ -17,7 +17,8 @@ pub record LeafTable : Type 0 where
   pub leaves : List Leaf
 
 abbrev pub leaf_of : LeafTable → ℕ → Option Leaf
-leaf_of t v = option_map (λ place. slice_index_or t.leaves place (Constant false)) (place_of t.variables v)
+leaf_of t v =
+    option_map (λ place. slice_index_or t.leaves place (Constant false)) (place_of t.variables v)
 
 abbrev pub or_false : Option Leaf → Leaf
 or_false None = Constant false
@@ -34,29 +35,35 @@ pub record IsLeafAt (f : Dqbf) (entries : List Entry) (id v : ℕ) (out : Leaf) 
   pub is_fault : origin_at entries id ≡ Some (Fault j i out)
   pub own : option_map variable_of (matrix_literal f j i) ≡ Some v
 
-pub record IsLeafAmong (f : Dqbf) (entries : List Entry) (ids : List ℕ) (v : ℕ) (out : Leaf) : Type 0 where
+pub record IsLeafAmong (f : Dqbf) (entries : List Entry) (ids : List ℕ) (v : ℕ)
+    (out : Leaf) : Type 0 where
   pub id : ℕ
   pub among : Contains ids id
   pub at : IsLeafAt f entries id v out
 
 -- each leaf is that of a fault among these ids
 abbrev pub AreLeavesAmong : Dqbf → List Entry → List ℕ → LeafTable → Type 0
-AreLeavesAmong f entries ids t = (v : ℕ) (out : Leaf) → leaf_of t v ≡ Some out → IsLeafAmong f entries ids v out
+AreLeavesAmong f entries ids t =
+    (v : ℕ) (out : Leaf) → leaf_of t v ≡ Some out → IsLeafAmong f entries ids v out
 
 -- each variable that has a leaf there has one in the table
 abbrev pub HasLeavesAmong : Dqbf → List Entry → List ℕ → LeafTable → Type 0
-HasLeavesAmong f entries ids t = (v : ℕ) (out : Leaf) → IsLeafAmong f entries ids v out → IsSome (leaf_of t v)
+HasLeavesAmong f entries ids t =
+    (v : ℕ) (out : Leaf) → IsLeafAmong f entries ids v out → IsSome (leaf_of t v)
 
 -- a fault of a clause is that of a literal of the matrix
 abbrev pub HasLiteral : Dqbf → List Entry → ℕ → Type 0
-HasLiteral f entries id = (j i : ℕ) (out : Leaf) → 1 ≤ j → origin_at entries id ≡ Some (Fault j i out) → IsSome (matrix_literal f j i)
+HasLiteral f entries id =
+    (j i : ℕ) (out : Leaf) → 1 ≤ j → origin_at entries id ≡ Some (Fault j i out)
+    → IsSome (matrix_literal f j i)
 
 abbrev pub HaveLiterals : Dqbf → List Entry → List ℕ → Type 0
 HaveLiterals f entries ids = (id : ℕ) → Contains ids id → HasLiteral f entries id
 
 -- the clause begins with the negated selector of the group
 abbrev pub BeginsGroup : List Entry → ℕ → ℕ → Type 0
-BeginsGroup entries id group = (rest : List Literal) × (clause_at entries id ≡ Some (negative group ∷ rest))
+BeginsGroup entries id group =
+    (rest : List Literal) × (clause_at entries id ≡ Some (negative group ∷ rest))
 
 -- a fault of the group
 pub record IsFaultOfGroup (entries : List Entry) (id group : ℕ) : Type 0 where
@@ -68,5 +75,6 @@ pub record IsFaultOfGroup (entries : List Entry) (id group : ℕ) : Type 0 where
 
 -- the faults among these ids are the group's
 abbrev pub AreOfGroup : List Entry → List ℕ → ℕ → Type 0
-AreOfGroup entries ids group = (id j i : ℕ) (out : Leaf) → Contains ids id → origin_at entries id ≡ Some (Fault j i out)
+AreOfGroup entries ids group =
+    (id j i : ℕ) (out : Leaf) → Contains ids id → origin_at entries id ≡ Some (Fault j i out)
     → BeginsGroup entries id group

@@ -1,4 +1,5 @@
--- The lines that an answer stands for, over any renaming of the variables and any base: the derived clauses that it rests on, renamed.
+-- The lines that an answer stands for, over any renaming of the variables and any base: the derived
+-- clauses that it rests on, renamed.
 use Rattle.std.specs.Prelude.{ℕ, ◌+◌, ◌==◌, Bool, true, false, List, [], map, Option, None, Some}
 use Rattle.std.specs.List.{filter, position_or_len}
 use Rattle.std.specs.Option.{option_map}
@@ -55,7 +56,8 @@ line_clause r entries id = renamed_clause r (clause_or_empty (numbered has_id en
 -- the hints that the renamed clause needs, by the log's ids
 abbrev pub line_hints : Renaming → List Entry → ℕ → List ℕ
 line_hints r entries id =
-    cut_hints (renamed_clauses r entries) (map opposite (line_clause r entries id)) (hints_or_none (numbered has_id entries id))
+    cut_hints (renamed_clauses r entries) (map opposite (line_clause r entries id))
+    (hints_or_none (numbered has_id entries id))
 
 abbrev pub line_step : Renaming → (Origin → ℕ) → List Entry → (ℕ → ℕ) → ℕ → ProofStep
 line_step r base_id entries number id = record {

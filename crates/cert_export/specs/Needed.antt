@@ -13,7 +13,8 @@ use Rattle.number_tables.specs.Numbers.{has_number, with_number}
 -- with the sides of a gate that is needed
 abbrev pub with_sides : List ℕ → ℕ × Name → List ℕ
 with_sides needed (v, And a b) =
-    if has_number needed v then with_number (with_number needed (variable_of a)) (variable_of b) else needed
+    if has_number needed v then with_number (with_number needed (variable_of a)) (variable_of b)
+    else needed
 with_sides needed _ = needed
 
 -- with all sides, for names from the last one on: a gate's sides were named before it
@@ -27,10 +28,12 @@ IsLeafNeeded needed (LeafLiteral l) = has_number needed (variable_of l) ≡ true
 
 -- where the id is that of a gate's clause, the gate is needed
 abbrev pub IsGateNeeded : List Entry → List ℕ → ℕ → Type 0
-IsGateNeeded entries needed id = (v i : ℕ) → origin_at entries id ≡ Some (Gate v i) → has_number needed v ≡ true
+IsGateNeeded entries needed id =
+    (v i : ℕ) → origin_at entries id ≡ Some (Gate v i) → has_number needed v ≡ true
 
 -- the variables of the leaves, and those of the gates whose clauses have these ids
-pub record HasRoots (entries : List Entry) (ids : List ℕ) (leaves : List Leaf) (needed : List ℕ) : Type 0 where
+pub record HasRoots (entries : List Entry) (ids : List ℕ) (leaves : List Leaf)
+    (needed : List ℕ) : Type 0 where
   pub leaves_needed : All (IsLeafNeeded needed) leaves
   pub gates_needed : All (IsGateNeeded entries needed) ids
 

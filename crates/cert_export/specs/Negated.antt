@@ -14,7 +14,8 @@ IsOfCircuit matrix gates _ = ⊥
 
 -- an origin that has an id in the negated matrix
 abbrev pub HasNegatedId : List (List Literal) → List ℕ → Origin → Type 0
-HasNegatedId matrix gates origin = IsOfCircuit matrix gates origin × (negated_id matrix gates origin ≤ last_negated matrix gates)
+HasNegatedId matrix gates origin =
+    IsOfCircuit matrix gates origin × (negated_id matrix gates origin ≤ last_negated matrix gates)
 
 -- how many literals stand before each clause, and in all clauses
 pub record AreLengthsBefore (matrix : List (List Literal)) (before : List ℕ) : Type 0 where

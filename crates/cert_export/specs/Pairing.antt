@@ -35,4 +35,5 @@ HasOwnNames f entries clause = All (λ l. HasOwnName f entries (variable_of l)) 
 -- the given clauses among these ids stand on pairs by their own names
 abbrev pub HaveOwnNames : Dqbf → List Entry → List ℕ → Type 0
 HaveOwnNames f entries ids =
-    (id : ℕ) (origin : Origin) (c : List Literal) → Contains ids id → numbered has_id entries id ≡ Some (Given origin c) → HasOwnNames f entries c
+    (id : ℕ) (origin : Origin) (c : List Literal) → Contains ids id
+    → numbered has_id entries id ≡ Some (Given origin c) → HasOwnNames f entries c

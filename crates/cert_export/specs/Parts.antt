@@ -26,7 +26,8 @@ pub record IsSmall (f : Dqbf) (gates : List ℕ) : Type 0 where
   pub few_gates : length gates ≤ 10 ^ 16
   pub few_clauses : length f.matrix ≤ 10000000
 
--- the ids that an answer reaches which decides that the formula is true, in a log of productive work
+-- the ids that an answer reaches which decides that the formula is true, in a log of productive
+-- work
 pub record AreDecided (f : Dqbf) (entries : List Entry) (id : ℕ) (ids : List ℕ) : Type 0 where
   pub well_formed : IsWellFormed f
   pub few_variables : f.variables ≤ 1000000
@@ -39,7 +40,8 @@ pub record AreDecided (f : Dqbf) (entries : List Entry) (id : ℕ) (ids : List �
   pub are_ids : All (IsId entries) ids
 
 -- and what is exported of it, with few gates and literals
-pub record AreCircuitIds (f : Dqbf) (entries : List Entry) (id : ℕ) (ids : List ℕ) (e : CircuitPart) : Type 0 where
+pub record AreCircuitIds (f : Dqbf) (entries : List Entry) (id : ℕ) (ids : List ℕ)
+    (e : CircuitPart) : Type 0 where
   pub decided : AreDecided f entries id ids
   pub part : IsExportedPart f entries id e
   pub small : IsSmall f e.gates
@@ -47,15 +49,18 @@ pub record AreCircuitIds (f : Dqbf) (entries : List Entry) (id : ℕ) (ids : Lis
 
 -- the lines under some renaming of the variables
 abbrev pub AreProofSteps : Dqbf → List Entry → CircuitPart → List ℕ → List ProofStep → Type 0
-AreProofSteps f entries e ids steps = (r : Renaming) × IsCircuitRenaming f entries e ids r × (steps ≡ proof_steps f entries e ids r)
+AreProofSteps f entries e ids steps =
+    (r : Renaming) × IsCircuitRenaming f entries e ids r × (steps ≡ proof_steps f entries e ids r)
 
 -- the circuit, with the variables' numbers as symbols
-pub record IsCircuitFile (f : Dqbf) (entries : List Entry) (e : CircuitPart) (file : AagFile) : Type 0 where
+pub record IsCircuitFile (f : Dqbf) (entries : List Entry) (e : CircuitPart)
+    (file : AagFile) : Type 0 where
   pub circuit : file.circuit ≡ exported_netlist f entries e
   pub symbols : file.symbols ≡ number_symbols f
 
 -- the circuit and the proof of what is exported of an answer
-pub record IsExportedCircuit (f : Dqbf) (entries : List Entry) (id : ℕ) (ids : List ℕ) (file : AagFile) (proof : Dqp) : Type 0 where
+pub record IsExportedCircuit (f : Dqbf) (entries : List Entry) (id : ℕ) (ids : List ℕ)
+    (file : AagFile) (proof : Dqp) : Type 0 where
   pub part : CircuitPart
   pub from : AreCircuitIds f entries id ids part
   pub few_gates : length part.gates ≤ count is_gate_name entries

@@ -33,10 +33,13 @@ pub record AreNamedIn (target r : Renaming) (literals : List Literal) : Type 0 w
   pub right : IsPartOf r target
   pub named : All (IsNamed target r) literals
 
--- the names of the variables that the given clauses among these ids stand on; perhaps of further ones
-pub record IsRenamingOf (target : Renaming) (entries : List Entry) (ids : List ℕ) (r : Renaming) : Type 0 where
+-- the names of the variables that the given clauses among these ids stand on; perhaps of further
+-- ones
+pub record IsRenamingOf (target : Renaming) (entries : List Entry) (ids : List ℕ)
+    (r : Renaming) : Type 0 where
   pub right : IsPartOf r target
-  pub whole : (id : ℕ) (origin : Origin) (c : List Literal) → Contains ids id → numbered has_id entries id ≡ Some (Given origin c)
+  pub whole : (id : ℕ) (origin : Origin) (c : List Literal) → Contains ids id
+      → numbered has_id entries id ≡ Some (Given origin c)
       → renamed_clause r c ≡ renamed_clause target c
 
 -- hints up to the first that is falsified
@@ -47,14 +50,19 @@ cut_by stuck next = []
 
 abbrev pub cut_hints : LiveClauses → List Literal → List ℕ → List ℕ
 cut_hints live trues [] = []
-cut_hints live trues (hint ∷ hints) = hint ∷ cut_by (status_of trues (live hint)) (λ l. cut_hints live (l ∷ trues) hints)
+cut_hints live trues (hint ∷ hints) =
+    hint ∷ cut_by (status_of trues (live hint)) (λ l. cut_hints live (l ∷ trues) hints)
 
 -- the id's clause is that of another id, renamed
 abbrev pub IsRenamedAt : Renaming → (ℕ → ℕ) → LiveClauses → LiveClauses → ℕ → Type 0
-IsRenamedAt r to live renamed id = (clause : List Literal) → live id ≡ Some clause → renamed (to id) ≡ Some (renamed_clause r clause)
+IsRenamedAt r to live renamed id =
+    (clause : List Literal) → live id ≡ Some clause
+    → renamed (to id) ≡ Some (renamed_clause r clause)
 
 -- a derived line stays derived, by its hints up to the first that is falsified
 abbrev pub RenamedLinesAreDerived : Type 0
 RenamedLinesAreDerived = (r : Renaming) (to : ℕ → ℕ) (live renamed : LiveClauses) → IsInjective r →
-    (literals : List Literal) (hints : List ℕ) → All (IsRenamedAt r to live renamed) hints → IsDerived live literals hints →
-    IsDerived renamed (renamed_clause r literals) (cut_hints renamed (map opposite (renamed_clause r literals)) (map to hints))
+    (literals : List Literal) (hints : List ℕ) → All (IsRenamedAt r to live renamed) hints
+    → IsDerived live literals hints →
+    IsDerived renamed (renamed_clause r literals)
+    (cut_hints renamed (map opposite (renamed_clause r literals)) (map to hints))

@@ -5,7 +5,8 @@ ghost use Rattle.hint_log.specs.declared.origins.Origin.{Origin};
 
 use hint_log::Origin;
 
-/// The clauses that the lines of a certificate are derived from, by the origins of the log's given clauses.
+/// The clauses that the lines of a certificate are derived from, by the origins of the log's given
+/// clauses.
 pub(crate) trait Ground {
     /// The id of the clause of an origin.
     ghost ids: { Self → Origin → ℕ };

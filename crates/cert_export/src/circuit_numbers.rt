@@ -14,8 +14,9 @@ use dq_formula::Formula;
 use dq_lits::Lit;
 use hint_log::{Log, Name};
 
-/// The most gates that an exported circuit can have, and the most literals that its formula can: more are refused as want of
-/// memory, since the ids of their clauses could pass what a text can hold, 10^18.
+/// The most gates that an exported circuit can have, and the most literals that its formula can:
+/// more are refused as want of memory, since the ids of their clauses could pass what a text can
+/// hold, 10^18.
 pub(crate) const MOST: u64 = 10_000_000_000_000_000;
 
 /// The number of a variable, if the circuit and its proof speak of it.
@@ -79,7 +80,8 @@ fn clause_number(f: &Formula, clause: u64) -> Option<u64>
 pub(crate) fn code(log: &Log, f: &Formula, part: &Part, l: &Lit) -> u64
     requires named { IsSome (name_of log.now.entries (variable_of l.now)) }
     requires small { IsSmall f.now part.now.gates }
-    ensures { result ≡ literal_code (circuit_renaming f.now log.now.entries (part_of part.now)) l.now }
+    ensures { result
+        ≡ literal_code (circuit_renaming f.now log.now.entries (part_of part.now)) l.now }
 {
     let number = number_or_zero(log, f, part, l.var());
     if l.is_neg() {
@@ -93,7 +95,8 @@ pub(crate) fn code(log: &Log, f: &Formula, part: &Part, l: &Lit) -> u64
 pub(crate) fn number_or_zero(log: &Log, f: &Formula, part: &Part, variable: u64) -> u64
     requires named { IsSome (name_of log.now.entries variable) }
     requires small { IsSmall f.now part.now.gates }
-    ensures value { result ≡ or_zero (circuit_renaming f.now log.now.entries (part_of part.now) variable) }
+    ensures value { result
+        ≡ or_zero (circuit_renaming f.now log.now.entries (part_of part.now) variable) }
     ensures range { result ≤ 10 ^ 17 }
 {
     match number(log, f, part, variable) {

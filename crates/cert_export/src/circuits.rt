@@ -29,20 +29,24 @@ use hint_log::Log;
 use hint_log::laws::{clauses_are_named, reached_are_ids};
 use std::alloc::Global;
 
-/// The circuit and the proof that an answer stands for, which decides that the formula is true. Each existential's output is the one in the
-/// faults that the answer reaches, and constant false where it reaches none. There is a gate for each one that an output or the proof rests
-/// on, and a line for each learned clause and answer that the answer reaches. It takes time for the log's names and for what the answer
-/// reaches, and memory for the latter.
+/// The circuit and the proof that an answer stands for, which decides that the formula is true.
+/// Each existential's output is the one in the faults that the answer reaches, and constant false
+/// where it reaches none. There is a gate for each one that an output or the proof rests on, and a
+/// line for each learned clause and answer that the answer reaches. It takes time for the log's
+/// names and for what the answer reaches, and memory for the latter.
 pub fn export_true(alloc: Global, log: &Log, id: u64, f: &Formula) -> Result<(AagFile, Dqp), Memory>
     requires formula { IsWellFormed f.now }
     requires productive { IsProductiveLog f.now log.now.entries }
     requires decided { IsDecidedTrue f.now log.now.entries id }
     ensures proved { IfOk result (λ c. IsProvedCircuit f.now c.0 c.1) }
-    ensures gates { IfOk result (λ c. length c.0.circuit.gates ≤ count is_gate_name log.now.entries) }
-    ensures numbers { IfOk result (λ c. c.0.circuit.max_var ≡ length f.now.universals + length c.0.circuit.gates) }
+    ensures gates { IfOk result
+        (λ c. length c.0.circuit.gates ≤ count is_gate_name log.now.entries) }
+    ensures numbers { IfOk result
+        (λ c. c.0.circuit.max_var ≡ length f.now.universals + length c.0.circuit.gates) }
     ensures few { IfOk result (λ c. length c.1.steps ≤ count is_lemma log.now.entries) }
     ensures spelled { IfOk result (λ c. IsWritable c.0) }
-    ensures allowed { IfOk result (λ c. length c.1.steps ≤ max_count → IsDqpOf f.now c.0.circuit c.1) }
+    ensures allowed { IfOk result
+        (λ c. length c.1.steps ≤ max_count → IsDqpOf f.now c.0.circuit c.1) }
 {
     f.every_formula_is_lawful();
     log.every_log_is_lawful();

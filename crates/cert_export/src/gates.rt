@@ -12,8 +12,9 @@ use hint_log::{Leaf, Log, Name, Origin};
 use number_tables::NumberSet;
 use std::alloc::Global;
 
-/// The gates of the leaves, those whose clauses are among some ids, and all gates below them, in the order of naming. It takes
-/// time for the log's names, and memory for these gates and their inputs.
+/// The gates of the leaves, those whose clauses are among some ids, and all gates below them, in
+/// the order of naming. It takes time for the log's names, and memory for these gates and their
+/// inputs.
 pub(crate) fn needed_gates(
     alloc: Global,
     log: &Log,
@@ -21,8 +22,11 @@ pub(crate) fn needed_gates(
     leaves: &Leaves,
 ) -> Result<NumberSet, Memory>
     requires ids { All (IsId log.now.entries) ids.now }
-    ensures { IfOk result (λ gates. (roots : _) × HasRoots log.now.entries ids.now leaves.now.leaves roots
-        × (gates ≡ with_gates (with_all_sides (reverse (names_of log.now.entries)) roots) [] (names_of log.now.entries))) }
+    ensures { IfOk result
+        (λ gates. (roots : _) × HasRoots log.now.entries ids.now leaves.now.leaves roots
+        × (gates
+        ≡ with_gates (with_all_sides (reverse (names_of log.now.entries)) roots) []
+        (names_of log.now.entries))) }
 {
     let mut needed = roots(alloc, log, ids, leaves)?;
     add_all_sides(log, &mut needed)?;
@@ -42,7 +46,8 @@ fn roots(alloc: Global, log: &Log, ids: &[u64], leaves: &Leaves) -> Result<Numbe
 
 // Adds the variables of the leaves.
 fn add_leaves(leaves: &[Leaf], needed: &mut NumberSet) -> Result<(), Memory>
-    ensures grew { OnOk result ((n : ℕ) → has_number needed.old n ≡ true → has_number needed.new n ≡ true) }
+    ensures grew { OnOk result
+        ((n : ℕ) → has_number needed.old n ≡ true → has_number needed.new n ≡ true) }
     ensures there { OnOk result (All (IsLeafNeeded needed.new) leaves.now) }
 {
     for leaf in leaves {
@@ -53,7 +58,8 @@ fn add_leaves(leaves: &[Leaf], needed: &mut NumberSet) -> Result<(), Memory>
 
 // Adds the variable of a leaf.
 fn add_leaf(leaf: &Leaf, needed: &mut NumberSet) -> Result<(), Memory>
-    ensures grew { OnOk result ((n : ℕ) → has_number needed.old n ≡ true → has_number needed.new n ≡ true) }
+    ensures grew { OnOk result
+        ((n : ℕ) → has_number needed.old n ≡ true → has_number needed.new n ≡ true) }
     ensures there { OnOk result (IsLeafNeeded needed.new leaf.now) }
 {
     if let Leaf::Literal(l) = leaf {
@@ -65,7 +71,8 @@ fn add_leaf(leaf: &Leaf, needed: &mut NumberSet) -> Result<(), Memory>
 // Adds the gates whose clauses are among some ids.
 fn add_gates(log: &Log, ids: &[u64], needed: &mut NumberSet) -> Result<(), Memory>
     requires ids { All (IsId log.now.entries) ids.now }
-    ensures grew { OnOk result ((n : ℕ) → has_number needed.old n ≡ true → has_number needed.new n ≡ true) }
+    ensures grew { OnOk result
+        ((n : ℕ) → has_number needed.old n ≡ true → has_number needed.new n ≡ true) }
     ensures there { OnOk result (All (IsGateNeeded log.now.entries needed.new) ids.now) }
 {
     for id in ids {
@@ -77,7 +84,8 @@ fn add_gates(log: &Log, ids: &[u64], needed: &mut NumberSet) -> Result<(), Memor
 // Adds the gate of a gate's clause.
 fn add_own_gate(log: &Log, id: u64, needed: &mut NumberSet) -> Result<(), Memory>
     requires id { IsId log.now.entries id }
-    ensures grew { OnOk result ((n : ℕ) → has_number needed.old n ≡ true → has_number needed.new n ≡ true) }
+    ensures grew { OnOk result
+        ((n : ℕ) → has_number needed.old n ≡ true → has_number needed.new n ≡ true) }
     ensures there { OnOk result (IsGateNeeded log.now.entries needed.new id) }
 {
     if let Some(Origin::Gate { variable, .. }) = log.origin(id) {
@@ -88,7 +96,8 @@ fn add_own_gate(log: &Log, id: u64, needed: &mut NumberSet) -> Result<(), Memory
 
 // Adds the sides of all gates that are needed.
 fn add_all_sides(log: &Log, needed: &mut NumberSet) -> Result<(), Memory>
-    ensures { OnOk result (needed.new ≡ with_all_sides (reverse (names_of log.now.entries)) needed.old) }
+    ensures { OnOk result
+        (needed.new ≡ with_all_sides (reverse (names_of log.now.entries)) needed.old) }
 {
     for place in (0..log.names()).rev() {
         let (variable, name) = log.name_at(place);

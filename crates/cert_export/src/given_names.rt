@@ -28,7 +28,8 @@ pub(crate) trait Naming {
         ensures range { IfSome result IsVariable };
 }
 
-/// The names of the variables that the given clauses among some ids stand on. They take memory for these variables alone.
+/// The names of the variables that the given clauses among some ids stand on. They take memory for
+/// these variables alone.
 pub(crate) fn given_names<N: Naming>(
     alloc: Global,
     log: &Log,
@@ -36,9 +37,11 @@ pub(crate) fn given_names<N: Naming>(
     naming: &N,
 ) -> Result<Names, Memory>
     requires ids { All (IsId log.now.entries) ids.now }
-    requires known { (id : ℕ) (origin : Origin) (c : List Literal) → Contains ids.now id → numbered has_id log.now.entries id ≡ Some (Given origin c)
+    requires known { (id : ℕ) (origin : Origin) (c : List Literal) → Contains ids.now id
+        → numbered has_id log.now.entries id ≡ Some (Given origin c)
         → All (λ l. N.Knows naming.now (variable_of l)) c }
-    ensures { IfOk result (λ names. IsRenamingOf (N.target naming.now) log.now.entries ids.now (renaming names)) }
+    ensures { IfOk result
+        (λ names. IsRenamingOf (N.target naming.now) log.now.entries ids.now (renaming names)) }
 {
     let mut names = Names::new(alloc);
     for id in ids {

@@ -1,4 +1,5 @@
-//! What the definitions of `specs/` prove about one another. Each law is the contract of a function without parameters and with an empty body.
+//! What the definitions of `specs/` prove about one another. Each law is the contract of a function
+//! without parameters and with an empty body.
 
 ghost use Rattle.cert_export.specs.Renaming.{RenamedLinesAreDerived};
 ghost use Rattle.cert_export.specs.Expansion.{InstancesAreExpansion};
@@ -11,7 +12,8 @@ use dq_text::laws::written_numbers_are_read;
 use proof_checker::laws::proved_circuit_is_skolem;
 use skolem_checker::laws::mapping_is_as_told;
 
-/// A derived line stays derived under a partial renaming, by its hints up to the first that is falsified.
+/// A derived line stays derived under a partial renaming, by its hints up to the first that is
+/// falsified.
 pub fn renamed_lines_are_derived()
     ensures { RenamedLinesAreDerived }
 {}
@@ -21,7 +23,8 @@ pub fn instances_are_expansion()
     ensures { InstancesAreExpansion }
 {}
 
-/// The checker of refutations finds no fault in what is exported of an answer that rests on instances.
+/// The checker of refutations finds no fault in what is exported of an answer that rests on
+/// instances.
 pub fn exported_answer_refutes()
     ensures { ExportedAnswerRefutes }
 {}
@@ -36,7 +39,8 @@ pub fn circuit_numbers_are_injective()
     ensures { CircuitNumbersAreInjective }
 {}
 
-/// The given clauses that a circuit's proof rests on, renamed, are those of the negated matrix, under its ids.
+/// The given clauses that a circuit's proof rests on, renamed, are those of the negated matrix,
+/// under its ids.
 pub fn circuit_clauses_are_negated_matrix()
     ensures { CircuitClausesAreNegatedMatrix }
 {}
@@ -64,7 +68,8 @@ pub fn exported_symbols_map()
     mapping_is_as_told();
 }
 
-/// The checker of circuits' proofs finds no fault in what is exported of an answer that shows outputs to be right.
+/// The checker of circuits' proofs finds no fault in what is exported of an answer that shows
+/// outputs to be right.
 pub fn exported_answer_is_accepted()
     ensures { ExportedAnswerIsAccepted }
 {}

@@ -64,9 +64,12 @@ impl Leaves {
 
     // Gives a variable its leaf, unless it has one.
     fn insert(&mut self, variable: u64, leaf: Leaf) -> Result<(), Memory>
-        ensures kept { OnOk result ((v : ℕ) (out : Leaf) → leaf_of self.old v ≡ Some out → leaf_of self.new v ≡ Some out) }
+        ensures kept { OnOk result
+            ((v : ℕ) (out : Leaf) → leaf_of self.old v ≡ Some out → leaf_of self.new v ≡ Some out) }
         ensures there { OnOk result (IsSome (leaf_of self.new variable)) }
-        ensures only { OnOk result ((v : ℕ) (out : Leaf) → leaf_of self.new v ≡ Some out → (leaf_of self.old v ≡ Some out) ⊎ ((v ≡ variable) × (out ≡ leaf))) }
+        ensures only { OnOk result
+            ((v : ℕ) (out : Leaf) → leaf_of self.new v ≡ Some out
+            → (leaf_of self.old v ≡ Some out) ⊎ ((v ≡ variable) × (out ≡ leaf))) }
     {
         if self.variables.contains(variable) {
             return Ok(());
@@ -101,8 +104,11 @@ pub(crate) fn fault_leaves(
 fn note_leaf(log: &Log, id: u64, f: &Formula, leaves: &mut Leaves) -> Result<(), Memory>
     requires id { IsId log.now.entries id }
     requires literal { HasLiteral f.now log.now.entries id }
-    ensures kept { OnOk result ((v : ℕ) (out : Leaf) → leaf_of leaves.old v ≡ Some out → leaf_of leaves.new v ≡ Some out) }
-    ensures there { OnOk result ((v : ℕ) (out : Leaf) → IsLeafAt f.now log.now.entries id v out → IsSome (leaf_of leaves.new v)) }
+    ensures kept { OnOk result
+        ((v : ℕ) (out : Leaf) → leaf_of leaves.old v ≡ Some out → leaf_of leaves.new v ≡ Some out) }
+    ensures there { OnOk result
+        ((v : ℕ) (out : Leaf) → IsLeafAt f.now log.now.entries id v out
+        → IsSome (leaf_of leaves.new v)) }
     ensures only { OnOk result ((v : ℕ) (out : Leaf) → leaf_of leaves.new v ≡ Some out
         → (leaf_of leaves.old v ≡ Some out) ⊎ IsLeafAt f.now log.now.entries id v out) }
 {
@@ -121,7 +127,8 @@ fn note_leaf(log: &Log, id: u64, f: &Formula, leaves: &mut Leaves) -> Result<(),
     Ok(())
 }
 
-// The variable of a literal of the matrix, by the numbers of its clause and of its place there, both from 1 on.
+// The variable of a literal of the matrix, by the numbers of its clause and of its place there,
+// both from 1 on.
 fn matrix_variable(f: &Formula, clause: u64, place: u64) -> u64
     requires { IsSome (matrix_literal f.now clause place) }
     ensures { option_map variable_of (matrix_literal f.now clause place) ≡ Some result }
@@ -147,8 +154,10 @@ pub(crate) fn fault_group(log: &Log, ids: &[u64]) -> u64
 // The group of a fault.
 fn own_group(log: &Log, id: u64) -> Option<u64>
     requires id { IsId log.now.entries id }
-    requires begins { (j i : ℕ) (out : Leaf) → origin_at log.now.entries id ≡ Some (Fault j i out) → (group : ℕ) × BeginsGroup log.now.entries id group }
-    ensures none { result ≡ None → (j i : ℕ) (out : Leaf) → origin_at log.now.entries id ≡ Some (Fault j i out) → ⊥ }
+    requires begins { (j i : ℕ) (out : Leaf) → origin_at log.now.entries id ≡ Some (Fault j i out)
+        → (group : ℕ) × BeginsGroup log.now.entries id group }
+    ensures none { result ≡ None → (j i : ℕ) (out : Leaf)
+        → origin_at log.now.entries id ≡ Some (Fault j i out) → ⊥ }
     ensures own { IfSome result (IsFaultOfGroup log.now.entries id) }
 {
     if let Some(Origin::Fault { .. }) = log.origin(id) {

@@ -1,8 +1,9 @@
 //! Certificates from a proof log: the expansion refutation that an answer stands for.
 //!
-//! The derived clauses that the answer reaches become lines. Their variables get the names that the format has for them, and
-//! literals that have none are left out. With fewer literals a hint can be falsified before the last one, so each line is derived
-//! once more as it is written, and its hints end there.
+//! The derived clauses that the answer reaches become lines. Their variables get the names that the
+//! format has for them, and literals that have none are left out. With fewer literals a hint can be
+//! falsified before the last one, so each line is derived once more as it is written, and its hints
+//! end there.
 #![tactic(auto)]
 
 pub use circuits::export_true;

@@ -23,7 +23,8 @@ impl Model for Names {
 
     ghost view = { λ n. record { variables = n.variables; names = n.names.items } };
 
-    ghost invariant = { λ n. IsNameTable (record { variables = n.variables; names = n.names.items }) };
+    ghost invariant = { λ n.
+        IsNameTable (record { variables = n.variables; names = n.names.items }) };
 }
 
 impl Names {
@@ -52,9 +53,12 @@ impl Names {
     pub(crate) fn insert(&mut self, variable: u64, name: u64) -> Result<(), Memory>
         requires from_one { 1 ≤ name }
         requires in_range { name < 2 ^ 62 }
-        ensures kept { OnOk result ((v n : ℕ) → renaming self.old v ≡ Some n → renaming self.new v ≡ Some n) }
+        ensures kept { OnOk result
+            ((v n : ℕ) → renaming self.old v ≡ Some n → renaming self.new v ≡ Some n) }
         ensures there { OnOk result (IsSome (renaming self.new variable)) }
-        ensures only { OnOk result ((v n : ℕ) → renaming self.new v ≡ Some n → (renaming self.old v ≡ Some n) ⊎ ((v ≡ variable) × (n ≡ name))) }
+        ensures only { OnOk result
+            ((v n : ℕ) → renaming self.new v ≡ Some n
+            → (renaming self.old v ≡ Some n) ⊎ ((v ≡ variable) × (n ≡ name))) }
     {
         if self.variables.contains(variable) {
             return Ok(());
@@ -81,7 +85,8 @@ impl Names {
 
     /// The literals on new names.
     pub(crate) fn clause(&self, alloc: Global, lits: &[Lit]) -> Result<Vec<Lit>, Memory>
-        ensures { IfOk result (λ clause. clause.items ≡ renamed_clause (renaming self.now) lits.now) }
+        ensures { IfOk result
+            (λ clause. clause.items ≡ renamed_clause (renaming self.now) lits.now) }
     {
         let mut clause = Vec::new(alloc);
         for l in lits {

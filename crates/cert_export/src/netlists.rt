@@ -45,8 +45,12 @@ fn add_inputs(circuit: &mut Circuit, count: u64) -> Result<(), Memory>
 // Adds the gates in their order.
 fn add_gates(log: &Log, f: &Formula, part: &Part, circuit: &mut Circuit) -> Result<(), Memory>
     requires can { IsExportable f.now log.now.entries part.now }
-    requires so_far { circuit.old ≡ record (exported_netlist f.now log.now.entries (part_of part.now)) { outputs = []; gates = [] } }
-    ensures { OnOk result (circuit.new ≡ record (exported_netlist f.now log.now.entries (part_of part.now)) { outputs = [] }) }
+    requires so_far { circuit.old
+        ≡ record (exported_netlist f.now log.now.entries (part_of part.now))
+        { outputs = []; gates = [] } }
+    ensures { OnOk result
+        (circuit.new
+        ≡ record (exported_netlist f.now log.now.entries (part_of part.now)) { outputs = [] }) }
 {
     for place in 0..part.gates.len() {
         let (variable, left, right) = file_gate(log, f, part, part.gates.items()[place]);
@@ -59,7 +63,8 @@ fn add_gates(log: &Log, f: &Formula, part: &Part, circuit: &mut Circuit) -> Resu
 fn file_gate(log: &Log, f: &Formula, part: &Part, v: u64) -> (u64, u64, u64)
     requires can { IsExportable f.now log.now.entries part.now }
     requires inside { Contains part.now.gates v }
-    ensures value { let gate = gate_of (circuit_renaming f.now log.now.entries (part_of part.now)) v (name_of log.now.entries v) in
+    ensures value { let gate = gate_of (circuit_renaming f.now log.now.entries (part_of part.now)) v
+        (name_of log.now.entries v) in
         result ≡ (gate.variable, gate.left, gate.right) }
     ensures range { result.0 ≤ 10 ^ 17 }
 {
@@ -79,8 +84,10 @@ fn file_gate(log: &Log, f: &Formula, part: &Part, v: u64) -> (u64, u64, u64)
 // Adds the outputs, one for each existential.
 fn add_outputs(log: &Log, f: &Formula, part: &Part, circuit: &mut Circuit) -> Result<(), Memory>
     requires can { IsExportable f.now log.now.entries part.now }
-    requires so_far { circuit.old ≡ record (exported_netlist f.now log.now.entries (part_of part.now)) { outputs = [] } }
-    ensures { OnOk result (circuit.new ≡ exported_netlist f.now log.now.entries (part_of part.now)) }
+    requires so_far { circuit.old
+        ≡ record (exported_netlist f.now log.now.entries (part_of part.now)) { outputs = [] } }
+    ensures { OnOk result
+        (circuit.new ≡ exported_netlist f.now log.now.entries (part_of part.now)) }
 {
     for y in f.existentials() {
         circuit.add_output(leaf_number(log, f, part, part.leaves.get(*y)))?;

@@ -13,8 +13,8 @@ use hint_log::Log;
 use number_tables::NumberSet;
 use std::alloc::Global;
 
-/// The group of the faults that the answer reaches, the leaves of the existentials in them, and the gates that these leaves
-/// and the proof rest on.
+/// The group of the faults that the answer reaches, the leaves of the existentials in them, and the
+/// gates that these leaves and the proof rest on.
 #[derive(Debug, Drop)]
 pub(crate) struct Part {
     pub(crate) group: u64,

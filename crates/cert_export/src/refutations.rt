@@ -25,8 +25,9 @@ use hint_log::laws::{reached_are_ids, rounds_are_steps};
 use hint_log::{Log, Origin};
 use std::alloc::Global;
 
-/// The expansion refutation that an answer stands for: the rows of all rounds, and for each learned clause and answer that it
-/// reaches a line. It takes time and memory for the rows and for what the answer reaches.
+/// The expansion refutation that an answer stands for: the rows of all rounds, and for each learned
+/// clause and answer that it reaches a line. It takes time and memory for the rows and for what the
+/// answer reaches.
 pub fn export_false(alloc: Global, log: &Log, id: u64, f: &Formula) -> Result<Dqr, Memory>
     requires formula { IsWellFormed f.now }
     requires productive { IsProductiveLog f.now log.now.entries }

@@ -23,7 +23,8 @@ pub(crate) fn number_symbols(alloc: Global, f: &Formula) -> Result<Symbols, Memo
 // Names the inputs, one for each of these variables.
 fn name_inputs(alloc: Global, variables: &[u64], symbols: &mut Symbols) -> Result<(), Memory>
     requires { symbols.old.inputs ≡ [] }
-    ensures { OnOk result (symbols.new ≡ record symbols.old { inputs = number_names 0 variables.now }) }
+    ensures { OnOk result
+        (symbols.new ≡ record symbols.old { inputs = number_names 0 variables.now }) }
 {
     for place in 0..variables.len() {
         let name = number_text(alloc, variables[place])?;
@@ -35,7 +36,8 @@ fn name_inputs(alloc: Global, variables: &[u64], symbols: &mut Symbols) -> Resul
 // Names the outputs, one for each of these variables.
 fn name_outputs(alloc: Global, variables: &[u64], symbols: &mut Symbols) -> Result<(), Memory>
     requires { symbols.old.outputs ≡ [] }
-    ensures { OnOk result (symbols.new ≡ record symbols.old { outputs = number_names 0 variables.now }) }
+    ensures { OnOk result
+        (symbols.new ≡ record symbols.old { outputs = number_names 0 variables.now }) }
 {
     for place in 0..variables.len() {
         let name = number_text(alloc, variables[place])?;

@@ -31,7 +31,8 @@ impl Model for Written {
 
     ghost Value = { WrittenLines };
 
-    ghost view = { λ w. record { clauses = w.clauses; numbers = w.numbers.items; steps = w.steps } };
+    ghost view = { λ w.
+        record { clauses = w.clauses; numbers = w.numbers.items; steps = w.steps } };
 }
 
 /// What lines are written from: some ids of a log, names for the variables of their clauses, and

@@ -1,4 +1,5 @@
--- How a certificate begins: by its header line, or by a line that states the verdict and then the header line.
+-- How a certificate begins: by its header line, or by a line that states the verdict and then the
+-- header line.
 use Rattle.std.specs.Prelude.{◌≡◌, ℕ, ◌+◌, ◌⊎◌, List, [], ◌∷◌, length, codes}
 use Rattle.dq_text.specs.Line.{TextLine, line_tokens, lines_from}
 use Rattle.cert_text.specs.declared.kinds.Kind.{Kind}

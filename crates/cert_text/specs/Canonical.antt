@@ -1,4 +1,5 @@
--- The canonical texts of refutations and of circuits' proofs: one space between tokens, and LF at the end of each line.
+-- The canonical texts of refutations and of circuits' proofs: one space between tokens, and LF at
+-- the end of each line.
 use Rattle.std.specs.Prelude.{ℕ, Bool, true, false, not, List, [], ◌∷◌, ◌++◌, length, codes}
 use Rattle.std.specs.List.{flat_map, zip}
 use Rattle.dq_lits.specs.Derivation.{ProofStep}
@@ -20,16 +21,21 @@ header_text rows steps = codes "p dqr " ++ (number_text rows ++ number_line step
 
 -- `u`, each universal with its bit as its sign, and `0`
 abbrev pub row_text : List ℕ → List Bool → List ℕ
-row_text universals row = codes "u " ++ (flat_map (λ x. signed_text x.1 x.0) (zip universals row) ++ line_end)
+row_text universals row =
+    codes "u " ++ (flat_map (λ x. signed_text x.1 x.0) (zip universals row) ++ line_end)
 
 -- the id, the literals and `0`, the hints and `0`
 abbrev pub step_text : ProofStep → List ℕ
-step_text s = number_text s.id ++ (flat_map literal_text s.literals ++ (codes "0 " ++ (flat_map number_text s.hints ++ line_end)))
+step_text s =
+    number_text s.id
+    ++ (flat_map literal_text s.literals
+    ++ (codes "0 " ++ (flat_map number_text s.hints ++ line_end)))
 
 -- the header, a line for each row, a line for each step
 abbrev pub canonical : List ℕ → Dqr → List ℕ
 canonical universals d =
-    header_text (length d.rows) (length d.steps) ++ (flat_map (row_text universals) d.rows ++ flat_map step_text d.steps)
+    header_text (length d.rows) (length d.steps)
+    ++ (flat_map (row_text universals) d.rows ++ flat_map step_text d.steps)
 
 abbrev pub proof_header_text : ℕ → List ℕ
 proof_header_text steps = codes "dqp " ++ number_line steps

@@ -1,4 +1,5 @@
--- The first fault of the text of a circuit's proof, line by line, or the proof: this project's own format.
+-- The first fault of the text of a circuit's proof, line by line, or the proof: this project's own
+-- format.
 use Rattle.std.specs.Prelude.{ℕ, ◌+◌, Bool, List, [], ◌∷◌, length, Result, Ok, Err}
 use Rattle.dq_lits.specs.Formula.{Dqbf}
 use Rattle.dq_text.specs.Line.{TextLine, line_tokens, lines_from}
@@ -24,15 +25,18 @@ first_proof_id f net = negated_clause_count f net + 1
 -- the steps behind the header
 abbrev pub read_proof_lines : Dqbf → Netlist → ℕ → List TextLine → ℕ → Result Dqp CertRefusal
 read_proof_lines f net count lines number =
-    and_read (read_some (step_line (is_proof_variable f net)) (first_proof_id f net) count lines number) (λ steps.
+    and_read
+    (read_some (step_line (is_proof_variable f net)) (first_proof_id f net) count lines number)
+    (λ steps.
     Ok (record { steps = steps.items }))
 
 abbrev pub read_proof : Dqbf → Netlist → List TextLine → ℕ → Result Dqp CertRefusal
 read_proof f net [] number = Err (refusal number BadHeader)
 read_proof f net (line ∷ lines) number =
-    and_read (at_line line.number (proof_header (line_tokens line.text))) (λ count. read_proof_lines f net count lines (line.number + 1))
+    and_read (at_line line.number (proof_header (line_tokens line.text)))
+    (λ count. read_proof_lines f net count lines (line.number + 1))
 
--- a proof over a formula and a circuit, or the first fault of its text, whose first line has this number; what stands
--- behind the last step is free text
+-- a proof over a formula and a circuit, or the first fault of its text, whose first line has this
+-- number; what stands behind the last step is free text
 abbrev pub circuit_proof_of : Dqbf → Netlist → List ℕ → ℕ → Result Dqp CertRefusal
 circuit_proof_of f net bytes first = read_proof f net (lines_from first bytes) first

@@ -11,12 +11,20 @@ conjunction = record {
   variables = 3;
   universals = 1 ∷ 2 ∷ [];
   existentials = record { variable = 3; sees = 1 ∷ 2 ∷ [] } ∷ [];
-  matrix = (negative 3 ∷ positive 1 ∷ []) ∷ (negative 3 ∷ positive 2 ∷ []) ∷ (positive 3 ∷ negative 1 ∷ negative 2 ∷ []) ∷ [];
+  matrix =
+      (negative 3 ∷ positive 1 ∷ []) ∷ (negative 3 ∷ positive 2 ∷ [])
+      ∷ (positive 3 ∷ negative 1 ∷ negative 2 ∷ []) ∷ [];
 }
 
 -- aag 3 2 0 1 1 / 2 / 4 / 6 / 6 2 4
 abbrev pub gate_circuit : Netlist
-gate_circuit = record { max_var = 3; inputs = 1 ∷ 2 ∷ []; outputs = 6 ∷ []; gates = record { variable = 3; left = 2; right = 4 } ∷ [] }
+gate_circuit =
+    record {
+      max_var = 3;
+      inputs = 1 ∷ 2 ∷ [];
+      outputs = 6 ∷ [];
+      gates = record { variable = 3; left = 2; right = 4 } ∷ [];
+    }
 
 -- aag 2 2 0 1 0 / 2 / 4 / 0
 abbrev pub false_circuit : Netlist

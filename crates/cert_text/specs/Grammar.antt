@@ -1,6 +1,7 @@
--- The grammar: which refutation a text spells for a formula, in this project's own format: rows for a universal expansion
--- (U. Bubeck, H. Kleine Büning, "Dependency quantified Horn formulas", 2006), and steps as in LRAT (L.
--- Cruz-Filipe et al., "Efficient certified RAT verification", 2017). Tokens stand between any spaces, tabs and CRs.
+-- The grammar: which refutation a text spells for a formula, in this project's own format: rows for
+-- a universal expansion (U. Bubeck, H. Kleine Büning, "Dependency quantified Horn formulas", 2006),
+-- and steps as in LRAT (L. Cruz-Filipe et al., "Efficient certified RAT verification", 2017).
+-- Tokens stand between any spaces, tabs and CRs.
 use Rattle.std.specs.Prelude.{◌≡◌, ℕ, ◌+◌, ◌*◌, ◌^◌, ◌<◌, ◌≤◌, ℤ, pos, neg_ℤ, Bool, true, false, List, [], ◌∷◌, ◌++◌, map, length, replicate, codes, IsSome}
 use Rattle.std.specs.List.{All, AllZip, zip}
 use Rattle.dq_lits.specs.Derivation.{ProofStep}
@@ -47,7 +48,9 @@ pub record SpellsRow (universals : List ℕ) (tokens : Tokens) (row : List Bool)
 
 -- the id, the literals and 0, the hints and 0
 abbrev pub step_numbers : ProofStep → List ℤ
-step_numbers s = pos s.id ∷ (map dimacs_number s.literals ++ (pos 0 ∷ (map (λ hint. pos hint) s.hints ++ pos 0 ∷ [])))
+step_numbers s =
+    pos s.id
+    ∷ (map dimacs_number s.literals ++ (pos 0 ∷ (map (λ hint. pos hint) s.hints ++ pos 0 ∷ [])))
 
 abbrev pub SpellsStep : Tokens → ProofStep → Type 0
 SpellsStep tokens s = map number_of tokens ≡ integers (step_numbers s)
@@ -68,7 +71,8 @@ abbrev pub AreSteps : (ℕ → Bool) → ℕ → List ProofStep → Type 0
 AreSteps is_variable id [] = Unit {0}
 AreSteps is_variable id (s ∷ ss) = IsStep is_variable id s × AreSteps is_variable (id + 1) ss
 
--- what a text can hold for a formula: whole rows, and steps that are numbered behind the instances of the clauses
+-- what a text can hold for a formula: whole rows, and steps that are numbered behind the instances
+-- of the clauses
 pub record IsDqrOf (f : Dqbf) (d : Dqr) : Type 0 where
   pub few_rows : length d.rows ≤ max_count
   pub few_steps : length d.steps ≤ max_count

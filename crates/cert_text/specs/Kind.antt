@@ -1,5 +1,5 @@
--- Which kind a certificate is: a circuit (ASCII AIGER) or a refutation, behind an optional line with the verdict, as
--- in the output of SAT solvers.
+-- Which kind a certificate is: a circuit (ASCII AIGER) or a refutation, behind an optional line
+-- with the verdict, as in the output of SAT solvers.
 use Rattle.std.specs.Prelude.{ℕ, ◌-◌, Bool, true, false, List, [], ◌∷◌, length, Option, Some, None, Result, Ok, Err, codes, if◌then◌else◌}
 use Rattle.std.specs.Str.{bytes_eq}
 use Rattle.dq_text.specs.Line.{TextLine, line_tokens, lines_from}
@@ -21,7 +21,8 @@ verdict_of_word word =
 
 -- the verdict of a line of two tokens, `s` and `TRUE` or `FALSE`
 abbrev pub stated_verdict : List (List ℕ) → Option Verdict
-stated_verdict (letter ∷ word ∷ []) = if bytes_eq letter (codes "s") then verdict_of_word word else None
+stated_verdict (letter ∷ word ∷ []) =
+    if bytes_eq letter (codes "s") then verdict_of_word word else None
 stated_verdict _ = None
 
 abbrev pub shown_verdict : Kind → Verdict
@@ -44,7 +45,8 @@ same_verdict False False = true
 
 -- a kind that doesn't show the verdict is refused
 abbrev pub agreeing : Verdict → Result Kind CertRefusal → Result Kind CertRefusal
-agreeing verdict (Ok kind) = if same_verdict (shown_verdict kind) verdict then Ok kind else Err (refusal 1 WrongVerdict)
+agreeing verdict (Ok kind) =
+    if same_verdict (shown_verdict kind) verdict then Ok kind else Err (refusal 1 WrongVerdict)
 agreeing verdict (Err fault) = Err fault
 
 -- the header line begins at the byte `at`; its number is 2 where it is missing
@@ -55,11 +57,13 @@ kind_at at (line ∷ _) = header_kind at line.number (line_tokens line.text)
 -- the verdict that the first line states, if it does, has to agree with the kind behind it
 abbrev pub kind_behind : ℕ → TextLine → List TextLine → Option Verdict → Result Kind CertRefusal
 kind_behind bytes line lines None = kind_at 0 (line ∷ [])
-kind_behind bytes line lines (Some verdict) = agreeing verdict (kind_at (bytes - length line.behind) lines)
+kind_behind bytes line lines (Some verdict) =
+    agreeing verdict (kind_at (bytes - length line.behind) lines)
 
 abbrev pub kind_of_lines : ℕ → List TextLine → Result Kind CertRefusal
 kind_of_lines bytes [] = Err (refusal 1 BadHeader)
-kind_of_lines bytes (line ∷ lines) = kind_behind bytes line lines (stated_verdict (line_tokens line.text))
+kind_of_lines bytes (line ∷ lines) =
+    kind_behind bytes line lines (stated_verdict (line_tokens line.text))
 
 -- by the lines of the text
 abbrev pub certificate_kind : List ℕ → Result Kind CertRefusal

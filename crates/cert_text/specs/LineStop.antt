@@ -20,7 +20,8 @@ IsMadeOf line (Err (Fault name)) made = line ≡ Err name
 IsMadeOf line (Err Memory) made = Unit {0}
 
 -- what is made of a value, if there is one
-abbrev pub and_then : {A B : Type 0} → (A → Result B CertFault) → Result A CertFault → Result B CertFault
+abbrev pub and_then : {A B : Type 0} → (A → Result B CertFault) → Result A CertFault
+    → Result B CertFault
 and_then make (Ok value) = make value
 and_then make (Err name) = Err name
 

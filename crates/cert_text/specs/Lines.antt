@@ -9,7 +9,8 @@ use Rattle.cert_text.specs.declared.faults.CertStop.{CertStop}
 use Rattle.cert_text.specs.declared.faults.CertStop.TheVariants.{Refused, Memory}
 
 -- what is read behind something, unless that is at fault
-abbrev pub and_read : {A B : Type 0} → Result A CertRefusal → (A → Result B CertRefusal) → Result B CertRefusal
+abbrev pub and_read : {A B : Type 0} → Result A CertRefusal → (A → Result B CertRefusal)
+    → Result B CertRefusal
 and_read (Ok value) next = next value
 and_read (Err fault) next = Err fault
 
@@ -27,24 +28,32 @@ pub record LinesRead (A : Type 0) : Type 0 where
 abbrev pub with_item : {A : Type 0} → A → LinesRead A → Result (LinesRead A) CertRefusal
 with_item item read = Ok (record read { items = item ∷ read.items })
 
--- so many lines, where the line at a place is read by `line_at`; a missing one would have the number
-abbrev pub read_some : {A : Type 0} → (ℕ → List (List ℕ) → Result A CertFault) → ℕ → ℕ → List TextLine → ℕ → Result (LinesRead A) CertRefusal
-read_some line_at place zero lines number = Ok (record { items = []; rest = lines; number = number })
+-- so many lines, where the line at a place is read by `line_at`; a missing one would have the
+-- number
+abbrev pub read_some : {A : Type 0} → (ℕ → List (List ℕ) → Result A CertFault) → ℕ → ℕ
+    → List TextLine → ℕ → Result (LinesRead A) CertRefusal
+read_some line_at place zero lines number =
+    Ok (record { items = []; rest = lines; number = number })
 read_some line_at place (suc count) [] number = Err (refusal number Truncated)
 read_some line_at place (suc count) (line ∷ lines) number =
     and_read (at_line line.number (line_at place (line_tokens line.text)))
-    (λ item. and_read (read_some line_at (place + 1) count lines (line.number + 1)) (with_item item))
+    (λ item.
+    and_read (read_some line_at (place + 1) count lines (line.number + 1)) (with_item item))
 
 -- the lines of the bytes that are left
-abbrev pub read_from : {A : Type 0} → (ℕ → List (List ℕ) → Result A CertFault) → ℕ → ℕ → LineCursor → Result (LinesRead A) CertRefusal
-read_from line_at place count left = read_some line_at place count (lines_from left.number left.rest) left.number
+abbrev pub read_from : {A : Type 0} → (ℕ → List (List ℕ) → Result A CertFault) → ℕ → ℕ → LineCursor
+    → Result (LinesRead A) CertRefusal
+read_from line_at place count left =
+    read_some line_at place count (lines_from left.number left.rest) left.number
 
 -- this was read, and these bytes are left
 abbrev pub read_up_to : {A : Type 0} → List A → LineCursor → LinesRead A
-read_up_to items left = record { items = items; rest = lines_from left.number left.rest; number = left.number }
+read_up_to items left =
+    record { items = items; rest = lines_from left.number left.rest; number = left.number }
 
 -- the same behind what was read before
-abbrev pub put_behind : {A : Type 0} → List A → Result (LinesRead A) CertRefusal → Result (LinesRead A) CertRefusal
+abbrev pub put_behind : {A : Type 0} → List A → Result (LinesRead A) CertRefusal
+    → Result (LinesRead A) CertRefusal
 put_behind before read = and_read read (λ r. Ok (record r { items = before ++ r.items }))
 
 -- the value, or the first fault, or want of memory
@@ -54,13 +63,15 @@ IsReading read (Err (Refused fault)) = read ≡ Err fault
 IsReading read (Err Memory) = Unit {0}
 
 -- the same, where these bytes are left
-abbrev pub IsReadingUpTo : {A : Type 0} → Result (LinesRead A) CertRefusal → Result (List A) CertStop → LineCursor → Type 0
+abbrev pub IsReadingUpTo : {A : Type 0} → Result (LinesRead A) CertRefusal
+    → Result (List A) CertStop → LineCursor → Type 0
 IsReadingUpTo read (Ok items) left = read ≡ Ok (read_up_to items left)
 IsReadingUpTo read (Err (Refused fault)) left = read ≡ Err fault
 IsReadingUpTo read (Err Memory) left = Unit {0}
 
 -- the same, where the items are left in `made`
-abbrev pub IsReadInto : {A : Type 0} → Result (LinesRead A) CertRefusal → Result (Unit {0}) CertStop → List A → LineCursor → Type 0
+abbrev pub IsReadInto : {A : Type 0} → Result (LinesRead A) CertRefusal → Result (Unit {0}) CertStop
+    → List A → LineCursor → Type 0
 IsReadInto read (Ok _) made left = read ≡ Ok (read_up_to made left)
 IsReadInto read (Err (Refused fault)) made left = read ≡ Err fault
 IsReadInto read (Err Memory) made left = Unit {0}

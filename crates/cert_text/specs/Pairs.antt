@@ -1,5 +1,5 @@
--- The variables of an expansion refutation: pairs of an existential and a row (universal expansion; U. Bubeck, H. Kleine
--- Büning, "Dependency quantified Horn formulas", 2006).
+-- The variables of an expansion refutation: pairs of an existential and a row (universal expansion;
+-- U. Bubeck, H. Kleine Büning, "Dependency quantified Horn formulas", 2006).
 use Rattle.std.specs.Prelude.{ℕ, ◌+◌, ◌-◌, ◌/◌, ◌%◌, ◌==◌, nat_lt, Bool, not, ◌&&◌, is_some}
 use Rattle.dq_lits.specs.Formula.{Dqbf, existential_of}
 
@@ -7,4 +7,5 @@ use Rattle.dq_lits.specs.Formula.{Dqbf, existential_of}
 abbrev pub is_pair_number : Dqbf → ℕ → ℕ → Bool
 is_pair_number f rows number =
     not (f.variables == 0) && (not (number == 0)
-    && (nat_lt ((number - 1) / f.variables) rows && is_some (existential_of f ((number - 1) % f.variables + 1))))
+    && (nat_lt ((number - 1) / f.variables) rows
+    && is_some (existential_of f ((number - 1) % f.variables + 1))))

@@ -1,5 +1,5 @@
--- The grammar: which proof a text spells over a formula and a circuit, in this project's own format; steps as in
--- LRAT (L. Cruz-Filipe et al., "Efficient certified RAT verification", 2017).
+-- The grammar: which proof a text spells over a formula and a circuit, in this project's own
+-- format; steps as in LRAT (L. Cruz-Filipe et al., "Efficient certified RAT verification", 2017).
 use Rattle.std.specs.Prelude.{◌≡◌, ℕ, ◌≤◌, pos, List, [], ◌∷◌, ◌++◌, length, codes}
 use Rattle.std.specs.List.{All, AllZip}
 use Rattle.dq_lits.specs.Formula.{Dqbf}
@@ -17,7 +17,8 @@ pub record SpellsProofHeader (tokens : Tokens) (steps : ℕ) : Type 0 where
   pub words : tokens ≡ codes "dqp" ∷ steps_token ∷ []
   pub steps_number : number_of steps_token ≡ Int (pos steps)
 
--- what a text can hold over a formula and a circuit: steps that are numbered behind the negated matrix
+-- what a text can hold over a formula and a circuit: steps that are numbered behind the negated
+-- matrix
 pub record IsDqpOf (f : Dqbf) (net : Netlist) (d : Dqp) : Type 0 where
   pub few_steps : length d.steps ≤ max_count
   pub steps : AreSteps (is_proof_variable f net) (first_proof_id f net) d.steps

@@ -10,9 +10,11 @@ use Rattle.cert_text.specs.declared.faults.CertFault.TheVariants.{BadLine, RowIn
 -- the numbers are the universals with signs, and 0 behind them; the bit of a universal is its sign
 abbrev pub row_of : List ℕ → List ℤ → Result (List Bool) CertFault
 row_of universals ns =
-    if same_numbers (map nat_abs ns) (universals ++ 0 ∷ []) then Ok (map is_positive (take (length universals) ns)) else Err RowIncomplete
+    if same_numbers (map nat_abs ns) (universals ++ 0 ∷ [])
+    then Ok (map is_positive (take (length universals) ns)) else Err RowIncomplete
 
 abbrev pub row_line : List ℕ → List (List ℕ) → Result (List Bool) CertFault
 row_line universals [] = Err BadLine
 row_line universals (letter ∷ tokens) =
-    if bytes_eq letter (codes "u") then and_then (row_of universals) (line_integers tokens) else Err BadLine
+    if bytes_eq letter (codes "u") then and_then (row_of universals) (line_integers tokens)
+    else Err BadLine

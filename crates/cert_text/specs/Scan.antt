@@ -1,4 +1,5 @@
--- The first fault of a refutation's text, line by line, or the refutation: this project's own format.
+-- The first fault of a refutation's text, line by line, or the refutation: this project's own
+-- format.
 use Rattle.std.specs.Prelude.{ℕ, ◌+◌, ◌*◌, List, [], ◌∷◌, length, Result, Ok, Err, if◌then◌else◌}
 use Rattle.dq_lits.specs.Formula.{Dqbf}
 use Rattle.dq_text.specs.BlankLine.{is_blank_line}
@@ -21,19 +22,24 @@ first_id f rows = rows * length f.matrix + 1
 -- only lines of blanks
 abbrev pub blank_lines : List TextLine → Result (Unit {0}) CertRefusal
 blank_lines [] = Ok tt
-blank_lines (line ∷ lines) = if is_blank_line line.text then blank_lines lines else Err (refusal line.number BadLine)
+blank_lines (line ∷ lines) =
+    if is_blank_line line.text then blank_lines lines else Err (refusal line.number BadLine)
 
 -- the rows, the steps, and nothing behind them
 abbrev pub read_body : Dqbf → Counts → List TextLine → ℕ → Result Dqr CertRefusal
 read_body f counts lines number =
     and_read (read_some (λ _. row_line f.universals) 0 counts.rows lines number) (λ rows.
-    and_read (read_some (step_line (is_pair_number f counts.rows)) (first_id f counts.rows) counts.steps rows.rest rows.number) (λ steps.
-    and_read (blank_lines steps.rest) (λ _. Ok (record { rows = rows.items; steps = steps.items }))))
+    and_read
+    (read_some (step_line (is_pair_number f counts.rows)) (first_id f counts.rows) counts.steps
+    rows.rest rows.number) (λ steps.
+    and_read (blank_lines steps.rest)
+    (λ _. Ok (record { rows = rows.items; steps = steps.items }))))
 
 abbrev pub read_lines : Dqbf → List TextLine → ℕ → Result Dqr CertRefusal
 read_lines f [] number = Err (refusal number BadHeader)
 read_lines f (line ∷ lines) number =
-    and_read (at_line line.number (header_of (line_tokens line.text))) (λ counts. read_body f counts lines (line.number + 1))
+    and_read (at_line line.number (header_of (line_tokens line.text)))
+    (λ counts. read_body f counts lines (line.number + 1))
 
 -- a refutation for a formula, or the first fault of its text, whose first line has this number
 abbrev pub refutation_of : Dqbf → List ℕ → ℕ → Result Dqr CertRefusal

@@ -4,10 +4,13 @@ use Rattle.std.specs.Int.{is_positive}
 use Rattle.dq_text.specs.Number.{number_of}
 use Rattle.cert_text.specs.Grammar.{Tokens, integers}
 
--- the first universals, so many, stand with signs in front of the tokens that are left, and the row has these signs
-pub record SignsTaken (universals : List ℕ) (tokens left : Tokens) (row : List Bool) (i : ℕ) : Type 0 where
+-- the first universals, so many, stand with signs in front of the tokens that are left, and the row
+-- has these signs
+pub record SignsTaken (universals : List ℕ) (tokens left : Tokens) (row : List Bool)
+    (i : ℕ) : Type 0 where
   pub numbers : List ℤ
   pub spelled : map number_of tokens ≡ integers numbers ++ map number_of left
   pub named : map nat_abs numbers ≡ take i universals
   pub whole : length row ≡ length universals
-  pub bits : (k : ℕ) → k < i → slice_index_or row k false ≡ is_positive (slice_index_or numbers k (pos 0))
+  pub bits : (k : ℕ) → k < i
+      → slice_index_or row k false ≡ is_positive (slice_index_or numbers k (pos 0))

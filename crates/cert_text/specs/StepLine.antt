@@ -1,5 +1,5 @@
--- A step's line: `id lits 0 hints 0`, the clause additions of LRAT (L. Cruz-Filipe et al., "Efficient certified RAT
--- verification", 2017).
+-- A step's line: `id lits 0 hints 0`, the clause additions of LRAT (L. Cruz-Filipe et al.,
+-- "Efficient certified RAT verification", 2017).
 use Rattle.std.specs.Prelude.{ℕ, ◌+◌, ◌==◌, nat_lt, ℤ, nat_abs, Bool, true, false, not, ◌&&◌, List, [], ◌∷◌, map, take, drop, Option, None, Some, Result, Ok, Err, if◌then◌else◌}
 use Rattle.std.specs.Int.{is_positive}
 use Rattle.std.specs.List.{list_all, position}
@@ -25,13 +25,18 @@ is_nil (_ ∷ _) = false
 abbrev pub step_of_parts : ℤ → List ℤ → List ℤ → List ℤ → Option ProofStep
 step_of_parts id literals hints more =
     if is_positive id && (list_all is_positive hints && is_nil more)
-    then Some (record { id = nat_abs id; literals = map dimacs_literal literals; hints = map nat_abs hints }) else None
+    then Some
+    (record { id = nat_abs id; literals = map dimacs_literal literals; hints = map nat_abs hints })
+    else None
 
 -- a positive id, literals and 0, positive hints and 0, and nothing more
 abbrev pub step_of : List ℤ → Option ProofStep
 step_of [] = None
 step_of (id ∷ ns) =
-    option_and_then (λ front. option_and_then (λ back. step_of_parts id front.0 back.0 back.1) (cut_at_zero front.1)) (cut_at_zero ns)
+    option_and_then
+    (λ front.
+    option_and_then (λ back. step_of_parts id front.0 back.0 back.1) (cut_at_zero front.1))
+    (cut_at_zero ns)
 
 abbrev pub shaped : Option ProofStep → Result ProofStep CertFault
 shaped None = Err BadLine
@@ -47,4 +52,6 @@ checked_step is_variable next step =
 
 -- where the proof has these variables, and this id comes next
 abbrev pub step_line : (ℕ → Bool) → ℕ → List (List ℕ) → Result ProofStep CertFault
-step_line is_variable next tokens = and_then (λ ns. and_then (checked_step is_variable next) (shaped (step_of ns))) (line_integers tokens)
+step_line is_variable next tokens =
+    and_then (λ ns. and_then (checked_step is_variable next) (shaped (step_of ns)))
+    (line_integers tokens)

@@ -6,7 +6,12 @@ use Rattle.dq_lits.specs.Literal.{dimacs_literal}
 use Rattle.cert_text.specs.declared.step_lines.StepNumbers.{StepNumbers}
 
 abbrev pub numbered_step : StepNumbers → ProofStep
-numbered_step s = record { id = s.id; literals = map dimacs_literal s.literals.now; hints = map nat_abs s.hints.now }
+numbered_step s =
+    record {
+      id = s.id;
+      literals = map dimacs_literal s.literals.now;
+      hints = map nat_abs s.hints.now;
+    }
 
 abbrev pub maybe_step : Option StepNumbers → Option ProofStep
 maybe_step s = option_map numbered_step s

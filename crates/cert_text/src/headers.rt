@@ -48,8 +48,8 @@ fn counts_from(rows: Option<u64>, steps: Option<u64>) -> Result<Counts, CertFaul
     Ok(Counts { rows, steps })
 }
 
-/// Reads the header line of a circuit's proof: exactly the tokens `dqp` and a natural number, which is
-/// how many steps follow.
+/// Reads the header line of a circuit's proof: exactly the tokens `dqp` and a natural number, which
+/// is how many steps follow.
 pub fn read_proof_header(line: &[u8]) -> Result<u64, CertFault>
     ensures { result ≡ proof_header (line_tokens line.now) }
 {

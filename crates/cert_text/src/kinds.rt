@@ -1,8 +1,8 @@
 /// What a certificate shows, and where its header line begins.
 #[derive(Clone, Copy, Debug, PartialEq, Eq)]
 pub enum Kind {
-    /// A circuit, which shows that a formula is true. Its header line begins at the byte `at`, counted
-    /// from 0, and has the number `line`.
+    /// A circuit, which shows that a formula is true. Its header line begins at the byte `at`,
+    /// counted from 0, and has the number `line`.
     Circuit { at: usize, line: u64 },
     /// A refutation, which shows that a formula is false.
     Refutation { at: usize, line: u64 },

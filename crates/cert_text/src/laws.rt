@@ -1,5 +1,5 @@
-//! What joins the grammars, the first faults and the canonical text. A law is the contract of a function
-//! without parameters and with an empty body.
+//! What joins the grammars, the first faults and the canonical text. A law is the contract of a
+//! function without parameters and with an empty body.
 
 ghost use Rattle.std.specs.Prelude.{◌≡◌, ℕ, ◌⊎◌, length, ◌↔◌, true, List, Ok, Err};
 ghost use Rattle.dq_lits.specs.Formula.{Dqbf};
@@ -24,48 +24,59 @@ pub fn beginning_tells_kind()
     ensures { (text : List ℕ) (kind : Kind) → Begins text kind ↔ (certificate_kind text ≡ Ok kind) }
 {}
 
-/// A text spells one refutation for a formula, or it has a first fault, and never both. The number of its first
-/// line says only which line a fault names. Every formula is lawful (`Formula::every_formula_is_lawful`).
+/// A text spells one refutation for a formula, or it has a first fault, and never both. The number
+/// of its first line says only which line a fault names. Every formula is lawful
+/// (`Formula::every_formula_is_lawful`).
 pub fn refutation_or_first_fault()
     ensures exact { (text : List ℕ) (first : ℕ) (f : Dqbf) (d : Dqr) → IsLawful f
         → SpellsRefutation text f d ↔ (refutation_of f text first ≡ Ok d) }
-    ensures unique { (text : List ℕ) (f : Dqbf) (d e : Dqr) → IsLawful f → SpellsRefutation text f d → SpellsRefutation text f e → d ≡ e }
+    ensures unique { (text : List ℕ) (f : Dqbf) (d e : Dqr) → IsLawful f → SpellsRefutation text f d
+        → SpellsRefutation text f e → d ≡ e }
     ensures either { (text : List ℕ) (first : ℕ) (f : Dqbf)
-        → ((d : Dqr) × SpellsRefutation text f d) ⊎ ((fault : CertRefusal) × (refutation_of f text first ≡ Err fault)) }
-    ensures allowed { (text : List ℕ) (first : ℕ) (f : Dqbf) (d : Dqr) → refutation_of f text first ≡ Ok d → IsDqrOf f d }
+        → ((d : Dqr) × SpellsRefutation text f d)
+        ⊎ ((fault : CertRefusal) × (refutation_of f text first ≡ Err fault)) }
+    ensures allowed { (text : List ℕ) (first : ℕ) (f : Dqbf) (d : Dqr)
+        → refutation_of f text first ≡ Ok d → IsDqrOf f d }
 {}
 
 /// The variables of a refutation are the numbers (k - 1) * V + y of an existential y and a row k.
 pub fn pairs_have_numbers()
-    ensures { (f : Dqbf) (rows number : ℕ) → IsLawful f → (is_pair_number f rows number ≡ true) ↔ IsPairNumber f rows number }
+    ensures { (f : Dqbf) (rows number : ℕ) → IsLawful f → (is_pair_number f rows number ≡ true)
+        ↔ IsPairNumber f rows number }
 {}
 
 /// The canonical text of a refutation spells it, so that reading it gives the refutation back.
 pub fn canonical_text_spells()
-    ensures spells { (f : Dqbf) (d : Dqr) → IsLawful f → IsDqrOf f d → SpellsRefutation (canonical f.universals d) f d }
-    ensures reads_back { (f : Dqbf) (d : Dqr) (first : ℕ) → IsLawful f → IsDqrOf f d → refutation_of f (canonical f.universals d) first ≡ Ok d }
+    ensures spells { (f : Dqbf) (d : Dqr) → IsLawful f → IsDqrOf f d
+        → SpellsRefutation (canonical f.universals d) f d }
+    ensures reads_back { (f : Dqbf) (d : Dqr) (first : ℕ) → IsLawful f → IsDqrOf f d
+        → refutation_of f (canonical f.universals d) first ≡ Ok d }
 {}
 
-/// A text spells one proof over a formula and a circuit, or it has a first fault, and never both. The number of its
-/// first line says only which line a fault names.
+/// A text spells one proof over a formula and a circuit, or it has a first fault, and never both.
+/// The number of its first line says only which line a fault names.
 pub fn proof_or_first_fault()
     ensures exact { (text : List ℕ) (first : ℕ) (f : Dqbf) (net : Netlist) (d : Dqp)
         → SpellsProof text f net d ↔ (circuit_proof_of f net text first ≡ Ok d) }
-    ensures unique { (text : List ℕ) (f : Dqbf) (net : Netlist) (d e : Dqp) → SpellsProof text f net d → SpellsProof text f net e → d ≡ e }
+    ensures unique { (text : List ℕ) (f : Dqbf) (net : Netlist) (d e : Dqp)
+        → SpellsProof text f net d → SpellsProof text f net e → d ≡ e }
     ensures either { (text : List ℕ) (first : ℕ) (f : Dqbf) (net : Netlist)
-        → ((d : Dqp) × SpellsProof text f net d) ⊎ ((fault : CertRefusal) × (circuit_proof_of f net text first ≡ Err fault)) }
+        → ((d : Dqp) × SpellsProof text f net d)
+        ⊎ ((fault : CertRefusal) × (circuit_proof_of f net text first ≡ Err fault)) }
     ensures allowed { (text : List ℕ) (first : ℕ) (f : Dqbf) (net : Netlist) (d : Dqp)
         → circuit_proof_of f net text first ≡ Ok d → IsDqpOf f net d }
 {}
 
 /// The canonical text of a circuit's proof spells it, so that reading it gives the proof back.
 pub fn canonical_proof_spells()
-    ensures spells { (f : Dqbf) (net : Netlist) (d : Dqp) → IsDqpOf f net d → SpellsProof (canonical_proof d) f net d }
+    ensures spells { (f : Dqbf) (net : Netlist) (d : Dqp) → IsDqpOf f net d
+        → SpellsProof (canonical_proof d) f net d }
     ensures reads_back { (f : Dqbf) (net : Netlist) (d : Dqp) (first : ℕ) → IsDqpOf f net d
         → circuit_proof_of f net (canonical_proof d) first ≡ Ok d }
 {}
 
 /// The first line of a circuit's proof has the id behind those of the negated matrix.
 pub fn negated_clauses_are_counted()
-    ensures { (f : Dqbf) (net : Netlist) (circuit_literal : ℕ → ℕ) → length (negated_clauses f net circuit_literal) ≡ negated_clause_count f net }
+    ensures { (f : Dqbf) (net : Netlist) (circuit_literal : ℕ → ℕ)
+        → length (negated_clauses f net circuit_literal) ≡ negated_clause_count f net }
 {}

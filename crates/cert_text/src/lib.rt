@@ -1,5 +1,5 @@
-//! The texts of certificates: which kind one is, and expansion refutations (`dqr`) and circuits' proofs (`dqp`),
-//! read exactly.
+//! The texts of certificates: which kind one is, and expansion refutations (`dqr`) and circuits'
+//! proofs (`dqp`), read exactly.
 #![tactic(auto)]
 
 pub use circuit_proofs::Dqp;

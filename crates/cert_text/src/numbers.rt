@@ -8,8 +8,8 @@ use crate::faults::{CertFault, LineStop};
 use dq_lits::Memory;
 use dq_text::{LineTokens, Number, read_number};
 
-/// Puts the numbers that the tokens are in place of those in the buffer. A token that isn't a number is
-/// named before one that is too big, wherever they stand.
+/// Puts the numbers that the tokens are in place of those in the buffer. A token that isn't a
+/// number is named before one that is too big, wherever they stand.
 pub fn take_integers(tokens: &mut LineTokens, integers: &mut Vec<i64>) -> Result<(), LineStop>
     ensures { IsMadeOf (line_integers tokens.old) result integers.new.items }
 {

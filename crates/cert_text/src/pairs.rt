@@ -5,8 +5,8 @@ ghost use Rattle.cert_text.specs.Pairs.{is_pair_number};
 
 use dq_formula::Formula;
 
-/// Pairs of an existential and a row: under row k the existential y is the variable (k - 1) * V + y, where V
-/// is the number of the formula's variables.
+/// Pairs of an existential and a row: under row k the existential y is the variable (k - 1) * V +
+/// y, where V is the number of the formula's variables.
 #[derive(Clone, Copy, Debug)]
 pub struct Pairs<'a> {
     pub formula: &'a Formula,

@@ -15,8 +15,9 @@ use crate::variables::Variables;
 use dq_lits::{Lit, Memory};
 use dq_text::{LineTokens, Number};
 
-/// Reads a step with the next id, over these variables, and answers its id; its literals and hints stand in
-/// the buffers then. It answers nothing where the line isn't such a one, and maybe where it is.
+/// Reads a step with the next id, over these variables, and answers its id; its literals and hints
+/// stand in the buffers then. It answers nothing where the line isn't such a one, and maybe where
+/// it is.
 pub fn take_plain_step(
     variables: Variables,
     next: u128,
@@ -24,8 +25,16 @@ pub fn take_plain_step(
     literals: &mut Vec<Lit>,
     hints: &mut Vec<u64>,
 ) -> Result<Option<u64>, Memory>
-    ensures spelled { IfOk result (λ found. IfSome found (λ id. SpellsStep (line_tokens line.now) (read_step id literals.new.items hints.new.items))) }
-    ensures lawful { IfOk result (λ found. IfSome found (λ id. IsStep (is_variable variables.entry) next (read_step id literals.new.items hints.new.items))) }
+    ensures spelled { IfOk result
+        (λ found.
+        IfSome found
+        (λ id. SpellsStep (line_tokens line.now)
+        (read_step id literals.new.items hints.new.items))) }
+    ensures lawful { IfOk result
+        (λ found.
+        IfSome found
+        (λ id. IsStep (is_variable variables.entry) next
+        (read_step id literals.new.items hints.new.items))) }
     ensures some { IfOk result (λ found. IfSome found (λ id. 1 ≤ id)) }
 {
     let mut tokens = LineTokens::new(line);
@@ -47,7 +56,8 @@ pub fn take_plain_step(
 
 // Takes the next id.
 fn take_id(next: u128, tokens: &mut LineTokens) -> Option<u64>
-    ensures taken { IfSome result (λ id. map number_of tokens.old ≡ Int (pos id) ∷ map number_of tokens.new) }
+    ensures taken { IfSome result
+        (λ id. map number_of tokens.old ≡ Int (pos id) ∷ map number_of tokens.new) }
     ensures next { IfSome result (λ id. id ≡ next) }
     ensures some { IfSome result (λ id. 1 ≤ id) }
 {
@@ -63,7 +73,10 @@ fn take_literals(
     tokens: &mut LineTokens,
     literals: &mut Vec<Lit>,
 ) -> Result<bool, Memory>
-    ensures { IfOk result (λ taken. IsTrue taken → LiteralsTaken (is_variable variables.entry) tokens.old tokens.new literals.new.items) }
+    ensures { IfOk result
+        (λ taken. IsTrue taken
+        → LiteralsTaken (is_variable variables.entry) tokens.old tokens.new
+        literals.new.items) }
 {
     literals.clear();
     while let Some(number) = tokens.next_number() {
@@ -103,7 +116,8 @@ pub fn literal(number: i64) -> Lit
 
 // Takes ids below this one, and the 0 behind them.
 fn take_hints(id: u64, tokens: &mut LineTokens, hints: &mut Vec<u64>) -> Result<bool, Memory>
-    ensures { IfOk result (λ taken. IsTrue taken → HintsTaken id tokens.old tokens.new hints.new.items) }
+    ensures { IfOk result
+        (λ taken. IsTrue taken → HintsTaken id tokens.old tokens.new hints.new.items) }
 {
     hints.clear();
     while let Some(number) = tokens.next_number() {

@@ -17,12 +17,12 @@ use dq_formula::Formula;
 use dq_text::Lines;
 use std::alloc::Global;
 
-/// Reads a circuit's proof for a formula and a circuit, from the line `dqp N` on, which has the number `first`:
-/// exactly the proof that the text spells, or its first fault by line and name. What stands behind the N
-/// steps is free text.
+/// Reads a circuit's proof for a formula and a circuit, from the line `dqp N` on, which has the
+/// number `first`: exactly the proof that the text spells, or its first fault by line and name.
+/// What stands behind the N steps is free text.
 ///
-/// The variables are those of the circuit, 1 to M, and M + j for 'clause j is false'. Which clauses have the
-/// ids before the first line's, the definition `negated_matrix` says.
+/// The variables are those of the circuit, 1 to M, and M + j for 'clause j is false'. Which clauses
+/// have the ids before the first line's, the definition `negated_matrix` says.
 pub fn read_dqp(
     alloc: Global,
     bytes: &[u8],
@@ -53,7 +53,9 @@ fn read_proof_lines(
     count: u64,
     lines: &mut Lines,
 ) -> Result<Dqp, CertStop>
-    ensures { IsReading (read_proof_lines f.now c.now count (lines_from lines.old.number lines.old.rest) lines.old.number) result }
+    ensures { IsReading
+        (read_proof_lines f.now c.now count (lines_from lines.old.number lines.old.rest)
+        lines.old.number) result }
 {
     let announced = Announced {
         variables: Variables::UpTo(last_variable(f, c)),
@@ -72,8 +74,8 @@ fn last_variable(f: &Formula, c: &Circuit) -> u64
     c.max_var() + f.clauses() as u64
 }
 
-// The id of the first step. No contract says how long the clauses are in all, but 128 bits hold any such
-// sum.
+// The id of the first step. No contract says how long the clauses are in all, but 128 bits hold any
+// such sum.
 fn first_id(f: &Formula, c: &Circuit) -> u128
     ensures id { result ≡ first_proof_id f.now c.now }
     ensures small { result < 2 ^ 127 }

@@ -18,8 +18,8 @@ use dq_formula::Formula;
 use dq_text::{Lines, is_blank};
 use std::alloc::Global;
 
-/// Reads an expansion refutation for a formula, from its header line on, which has the number `first`:
-/// exactly the refutation that the text spells, or its first fault by line and name.
+/// Reads an expansion refutation for a formula, from its header line on, which has the number
+/// `first`: exactly the refutation that the text spells, or its first fault by line and name.
 pub fn read_dqr(alloc: Global, bytes: &[u8], first: u64, f: &Formula) -> Result<Dqr, CertStop>
     requires { first + length bytes.now < 2 ^ 64 }
     ensures reading { IsReading (refutation_of f.now bytes.now first) result }
@@ -39,7 +39,9 @@ pub fn read_dqr(alloc: Global, bytes: &[u8], first: u64, f: &Formula) -> Result<
 // Reads the lines behind the header.
 fn read_body(alloc: Global, f: &Formula, counts: Counts, lines: &mut Lines) -> Result<Dqr, CertStop>
     requires { AreSmall counts }
-    ensures { IsReading (read_body f.now counts (lines_from lines.old.number lines.old.rest) lines.old.number) result }
+    ensures { IsReading
+        (read_body f.now counts (lines_from lines.old.number lines.old.rest) lines.old.number)
+        result }
 {
     let rows = read_rows(alloc, f.universals(), counts.rows, lines)?;
     let variables = Variables::Pairs(Pairs {

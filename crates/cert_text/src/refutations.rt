@@ -1,8 +1,8 @@
 use crate::steps::StepList;
 use dq_lits::RowList;
 
-/// An expansion refutation (`dqr`): rows of the universals, and a derivation from the instances of the
-/// clauses under them.
+/// An expansion refutation (`dqr`): rows of the universals, and a derivation from the instances of
+/// the clauses under them.
 #[derive(Debug, Drop)]
 pub struct Dqr {
     pub rows: RowList,

@@ -31,10 +31,11 @@ pub fn read_row(
     }
 }
 
-// The row of a line that is as it should be, read in one pass. It answers none where the line isn't such a one, and
-// maybe where it is.
+// The row of a line that is as it should be, read in one pass. It answers none where the line isn't
+// such a one, and maybe where it is.
 fn plain_row(alloc: Global, universals: &[u64], line: &[u8]) -> Result<Option<Row>, Memory>
-    ensures { IfOk result (λ found. IfSome found (λ row. row_line universals.now (line_tokens line.now) ≡ Ok row)) }
+    ensures { IfOk result
+        (λ found. IfSome found (λ row. row_line universals.now (line_tokens line.now) ≡ Ok row)) }
 {
     let mut tokens = LineTokens::new(line);
     match tokens.next() {
@@ -49,10 +50,12 @@ fn plain_row(alloc: Global, universals: &[u64], line: &[u8]) -> Result<Option<Ro
     })
 }
 
-// Takes the universals in order, with signs, and then 0 and the end of the line; the signs are written into the row.
+// Takes the universals in order, with signs, and then 0 and the end of the line; the signs are
+// written into the row.
 fn take_signs(universals: &[u64], tokens: &mut LineTokens, row: &mut Row) -> bool
     requires { length row.old ≡ length universals.now }
-    ensures { IsTrue result → and_then (row_of universals.now) (line_integers tokens.old) ≡ Ok row.new }
+    ensures { IsTrue result
+        → and_then (row_of universals.now) (line_integers tokens.old) ≡ Ok row.new }
 {
     for i in 0..universals.len() {
         let Some(Number::Int(n)) = tokens.next_number() else {

@@ -16,7 +16,8 @@ pub fn read_rows(
     count: u64,
     lines: &mut Lines,
 ) -> Result<RowList, CertStop>
-    ensures { IsReadingUpTo (read_from (λ _. row_line universals.now) 0 count lines.old) result lines.new }
+    ensures { IsReadingUpTo (read_from (λ _. row_line universals.now) 0 count lines.old) result
+        lines.new }
 {
     let mut rows = RowList::new(alloc);
     take_rows(alloc, universals, count, lines, &mut rows)?;
@@ -31,7 +32,9 @@ fn take_rows(
     lines: &mut Lines,
     rows: &mut RowList,
 ) -> Result<(), CertStop>
-    ensures { IsReadInto (put_behind rows.old (read_from (λ _. row_line universals.now) 0 count lines.old)) result rows.new lines.new }
+    ensures { IsReadInto
+        (put_behind rows.old (read_from (λ _. row_line universals.now) 0 count lines.old)) result
+        rows.new lines.new }
 {
     let mut integers = Vec::new(alloc);
     for k in 0..count {

@@ -46,15 +46,16 @@ impl StepBuffers {
     }
 }
 
-/// Reads a step with the next id, over these variables, and answers its id; its literals and hints stand in
-/// the buffers then.
+/// Reads a step with the next id, over these variables, and answers its id; its literals and hints
+/// stand in the buffers then.
 pub fn read_step(
     variables: Variables,
     next: u128,
     line: &[u8],
     buffers: &mut StepBuffers,
 ) -> Result<u64, LineStop>
-    ensures { IsStepOf (step_line (is_variable variables.entry) next (line_tokens line.now)) result buffers.new.literals.items buffers.new.hints.items }
+    ensures { IsStepOf (step_line (is_variable variables.entry) next (line_tokens line.now)) result
+        buffers.new.literals.items buffers.new.hints.items }
 {
     let plain = take_plain_step(
         variables,
@@ -76,7 +77,8 @@ fn take_step(
     line: &[u8],
     buffers: &mut StepBuffers,
 ) -> Result<u64, LineStop>
-    ensures { IsStepOf (step_line (is_variable variables.entry) next (line_tokens line.now)) result buffers.new.literals.items buffers.new.hints.items }
+    ensures { IsStepOf (step_line (is_variable variables.entry) next (line_tokens line.now)) result
+        buffers.new.literals.items buffers.new.hints.items }
 {
     take_integers(&mut LineTokens::new(line), &mut buffers.integers)?;
     let Some(numbers) = step_numbers(&buffers.integers) else {
@@ -136,9 +138,11 @@ fn are_positive(numbers: &[i64]) -> bool
 #[tactic(auto, using(crate::proofs::Checks::checked_numbers))]
 fn check_step(variables: Variables, next: u128, step: StepNumbers) -> Result<(), CertFault>
     ensures { MatchResult result
-        (λ _. (checked_step (is_variable variables.entry) next (numbered_step step.entry) ≡ Ok (numbered_step step.entry))
+        (λ _. (checked_step (is_variable variables.entry) next (numbered_step step.entry)
+        ≡ Ok (numbered_step step.entry))
         × All (λ n. 1 ≤ nat_abs n) step.entry.literals.now)
-        (λ name. checked_step (is_variable variables.entry) next (numbered_step step.entry) ≡ Err name) }
+        (λ name. checked_step (is_variable variables.entry) next (numbered_step step.entry)
+        ≡ Err name) }
 {
     if step.id as u128 != next {
         return Err(CertFault::IdOrder);
@@ -153,7 +157,9 @@ fn check_step(variables: Variables, next: u128, step: StepNumbers) -> Result<(),
 }
 
 fn are_on(variables: Variables, literals: &[i64]) -> bool
-    ensures variables { result ≡ list_all (λ n. is_variable variables.entry (variable_of (dimacs_literal n))) literals.now }
+    ensures variables { result
+        ≡ list_all (λ n. is_variable variables.entry (variable_of (dimacs_literal n)))
+        literals.now }
     ensures some { IsTrue result → All (λ n. 1 ≤ nat_abs n) literals.now }
 {
     literals.iter().all(|n| variables.has_literal(*n))

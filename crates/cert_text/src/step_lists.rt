@@ -66,7 +66,9 @@ fn take_steps(
 }
 
 fn push_step(id: u64, buffers: &StepBuffers, steps: &mut StepList) -> Result<(), Memory>
-    ensures { OnOk result (steps.new ≡ steps.old ++ read_step id buffers.now.literals.items buffers.now.hints.items ∷ []) }
+    ensures { OnOk result
+        (steps.new
+        ≡ steps.old ++ read_step id buffers.now.literals.items buffers.now.hints.items ∷ []) }
 {
     steps.push(Step {
         id,

@@ -7,7 +7,8 @@ use flat_lists::FlatLists;
 use std::alloc::Global;
 use std::marker::Model;
 
-/// A step: a clause, its id, and the ids of the clauses that it is derived from by unit propagation.
+/// A step: a clause, its id, and the ids of the clauses that it is derived from by unit
+/// propagation.
 #[derive(Clone, Copy, Debug)]
 pub struct Step<'a> {
     /// The id of the line's clause.
@@ -18,8 +19,8 @@ pub struct Step<'a> {
     pub hints: &'a [u64],
 }
 
-/// A list of steps. Their literals lie end to end, and so do their hints: a line takes no block of memory of
-/// its own.
+/// A list of steps. Their literals lie end to end, and so do their hints: a line takes no block of
+/// memory of its own.
 #[derive(Debug, Drop)]
 pub struct StepList {
     ids: Vec<u64>,

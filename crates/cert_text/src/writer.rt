@@ -19,12 +19,13 @@ use dq_lits::{Lit, Memory, Row};
 use dq_text::{push_all_spaced, push_last, push_spaced, push_word};
 use std::alloc::Global;
 
-/// The canonical text of a refutation for a formula: the header `p dqr K N`; for each row `u`, the universals
-/// in the formula's order, each with its bit as its sign, and `0`; then the steps. Where the
-/// refutation is one that a text can hold for the formula, reading the text gives it back.
+/// The canonical text of a refutation for a formula: the header `p dqr K N`; for each row `u`, the
+/// universals in the formula's order, each with its bit as its sign, and `0`; then the steps. Where
+/// the refutation is one that a text can hold for the formula, reading the text gives it back.
 pub fn write_dqr(alloc: Global, d: &Dqr, f: &Formula) -> Result<Vec<u8>, Memory>
     ensures canonical { IfOk result (λ text. text.items ≡ canonical f.now.universals d.now) }
-    ensures reads_back { IsDqrOf f.now d.now → IfOk result (λ text. (first : ℕ) → refutation_of f.now text.items first ≡ Ok d.now) }
+    ensures reads_back { IsDqrOf f.now d.now
+        → IfOk result (λ text. (first : ℕ) → refutation_of f.now text.items first ≡ Ok d.now) }
 {
     f.every_formula_is_lawful();
     let mut text = Vec::new(alloc);
@@ -35,8 +36,9 @@ pub fn write_dqr(alloc: Global, d: &Dqr, f: &Formula) -> Result<Vec<u8>, Memory>
     Ok(text)
 }
 
-/// The canonical text of a circuit's proof: the header `dqp N`, and then the steps. Where the proof is
-/// one that a text can hold over a formula and a circuit, reading the text over these gives it back.
+/// The canonical text of a circuit's proof: the header `dqp N`, and then the steps. Where the proof
+/// is one that a text can hold over a formula and a circuit, reading the text over these gives it
+/// back.
 pub fn write_dqp(alloc: Global, d: &Dqp) -> Result<Vec<u8>, Memory>
     ensures canonical { IfOk result (λ text. text.items ≡ canonical_proof d.now) }
     ensures reads_back { (f : Dqbf) (net : Netlist) (first : ℕ) → IsDqpOf f net d.now
@@ -86,7 +88,9 @@ fn write_literals(literals: &[Lit], text: &mut Vec<u8>) -> Result<(), Memory>
 
 // The universals, as far as the row has bits.
 fn write_bits(universals: &[u64], row: &Row, text: &mut Vec<u8>) -> Result<(), Memory>
-    ensures { OnOk result (text.new.items ≡ text.old.items ++ flat_map (λ x. signed_text x.1 x.0) (zip universals.now row.now)) }
+    ensures { OnOk result
+        (text.new.items
+        ≡ text.old.items ++ flat_map (λ x. signed_text x.1 x.0) (zip universals.now row.now)) }
 {
     for i in 0..universals.len().min(row.len()) {
         write_signed(row.get(i), universals[i], text)?;
@@ -103,7 +107,8 @@ fn write_row(universals: &[u64], row: &Row, text: &mut Vec<u8>) -> Result<(), Me
 }
 
 fn write_rows(universals: &[u64], rows: &[Row], text: &mut Vec<u8>) -> Result<(), Memory>
-    ensures { OnOk result (text.new.items ≡ text.old.items ++ flat_map (row_text universals.now) rows.now) }
+    ensures { OnOk result
+        (text.new.items ≡ text.old.items ++ flat_map (row_text universals.now) rows.now) }
 {
     let mut rest = rows;
     while let Some((first, behind)) = rest.split_first() {

@@ -14,24 +14,32 @@ use Rattle.circuit_cnf.specs.declared.checkers.Checker.{Checker}
 
 -- a positive literal for each universal, on the variable that is named for it
 abbrev pub AreInputs : List ℕ → List Literal → List Entry → Type 0
-AreInputs universals inputs entries = AreNamedAs entries inputs (map (λ x. named_literal (Input x) false) universals)
+AreInputs universals inputs entries =
+    AreNamedAs entries inputs (map (λ x. named_literal (Input x) false) universals)
 
 -- the group of the gates
 abbrev pub group_of : Checker → ℕ
 group_of checker = variable_of checker.gates.group.selector
 
--- the gates' group and names are known, every universal has its input, and what says that a clause is false says it of a group that was made
+-- the gates' group and names are known, every universal has its input, and what says that a clause
+-- is false says it of a group that was made
 pub record IsChecker (f : Dqbf) (checker : Checker) (entries : List Entry) : Type 0 where
   pub gates : AreKnown checker.gates entries
   pub inputs : AreInputs f.universals checker.inputs.items entries
-  pub bads : (v group j : ℕ) → name_of entries v ≡ Some (Bad group j) → IsSome (name_of entries group)
+  pub bads : (v group j : ℕ) → name_of entries v ≡ Some (Bad group j)
+      → IsSome (name_of entries group)
 
 -- what another engine's call adds leaves a checker as it is
 abbrev pub CheckersStay : Type 0
-CheckersStay = (f : Dqbf) (checker : Checker) (engine : Engine) (group : ℕ) (silent : Bool) (old new : ProofLog) → same_engine circuits engine ≡ false → group_of checker ≢ group
-    → Grew (IsAddedBy f engine group silent old.entries) old new → IsChecker f checker old.entries → IsChecker f checker new.entries
+CheckersStay =
+    (f : Dqbf) (checker : Checker) (engine : Engine) (group : ℕ) (silent : Bool)
+    (old new : ProofLog) → same_engine circuits engine ≡ false → group_of checker ≢ group
+    → Grew (IsAddedBy f engine group silent old.entries) old new → IsChecker f checker old.entries
+    → IsChecker f checker new.entries
 
 -- and so does a round
 abbrev pub CheckersStayWithRounds : Type 0
-CheckersStayWithRounds = (f : Dqbf) (checker : Checker) (entries : List Entry) (row values : List Bool) (j : ℕ) → IsChecker f checker entries
+CheckersStayWithRounds =
+    (f : Dqbf) (checker : Checker) (entries : List Entry) (row values : List Bool) (j : ℕ)
+    → IsChecker f checker entries
     → IsChecker f checker (Round row values j ∷ entries)

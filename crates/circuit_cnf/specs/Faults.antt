@@ -21,14 +21,17 @@ use Rattle.log_laws.specs.Engines.{circuits, IsAddedBy}
 
 -- the faults in the group have these leaves
 abbrev pub HaveOneLeaf : Dqbf → ℕ → (ℕ → Leaf) → List Entry → Type 0
-HaveOneLeaf f group leaf entries = (j i v : ℕ) (out : Leaf) (rest : List Literal) → Contains entries (Given (Fault j i out) (negative group ∷ rest))
+HaveOneLeaf f group leaf entries =
+    (j i v : ℕ) (out : Leaf) (rest : List Literal)
+    → Contains entries (Given (Fault j i out) (negative group ∷ rest))
     → option_map variable_of (matrix_literal f j i) ≡ Some v → out ≡ leaf v
 
 -- where the clause is false, so is its literal under the leaf: given, unless that is true anyway
 abbrev pub HasFault : ℕ → ℕ → ℕ → ℕ → Literal → Leaf → List Entry → Type 0
 HasFault group bad j i literal leaf entries =
     (leaf_clause (leaf_with_sign (not (is_negative literal)) leaf) ≡ None)
-    ⊎ ((tail : List Literal) × (leaf_clause (leaf_with_sign (not (is_negative literal)) leaf) ≡ Some tail)
+    ⊎ ((tail : List Literal)
+    × (leaf_clause (leaf_with_sign (not (is_negative literal)) leaf) ≡ Some tail)
     × Contains entries (Given (Fault j i leaf) (negative group ∷ negative bad ∷ tail)))
 
 -- the leaf of a variable: a universal's input, or its existential's output
@@ -38,42 +41,59 @@ leaf_by_place inputs outputs None (Some k) = slice_index_or outputs k (Constant 
 leaf_by_place inputs outputs None None = Constant false
 
 abbrev pub leaf_of : Dqbf → List Literal → List Leaf → ℕ → Leaf
-leaf_of f inputs outputs v = leaf_by_place inputs outputs (position (λ u. u == v) f.universals) (position (λ y. y == v) (map (λ y. y.variable) f.existentials))
+leaf_of f inputs outputs v =
+    leaf_by_place inputs outputs (position (λ u. u == v) f.universals)
+    (position (λ y. y == v) (map (λ y. y.variable) f.existentials))
 
 -- a fault more in the group leaves the groups that were given faults few
 abbrev pub AreFewWith : ℕ → List Entry → Type 0
-AreFewWith group entries = (j i : ℕ) (out : Leaf) (rest : List Literal) → length (fault_groups (Given (Fault j i out) (negative group ∷ rest) ∷ entries)) ≤ rounds_of entries + 1
+AreFewWith group entries =
+    (j i : ℕ) (out : Leaf) (rest : List Literal)
+    → length (fault_groups (Given (Fault j i out) (negative group ∷ rest) ∷ entries))
+    ≤ rounds_of entries + 1
 
 -- each of the first literals of a clause has its fault
 abbrev pub HaveFaults : Dqbf → ℕ → ℕ → ℕ → (ℕ → Leaf) → List Literal → ℕ → List Entry → Type 0
-HaveFaults f group bad j leaf clause count entries = (i : ℕ) (l : Literal) → i < count → slice_get clause i ≡ Some l → HasFault group bad j (i + 1) l (leaf (variable_of l)) entries
+HaveFaults f group bad j leaf clause count entries =
+    (i : ℕ) (l : Literal) → i < count → slice_get clause i ≡ Some l
+    → HasFault group bad j (i + 1) l (leaf (variable_of l)) entries
 
 -- the literal at a place says that this clause is false in the group
 pub record IsBadAt (group j : ℕ) (bads : List Literal) (entries : List Entry) : Type 0 where
-  pub named : name_of entries (variable_of (slice_index_or bads j (positive 0))) ≡ Some (Bad group (j + 1))
+  pub named : name_of entries (variable_of (slice_index_or bads j (positive 0)))
+      ≡ Some (Bad group (j + 1))
   pub positive_literal : is_negative (slice_index_or bads j (positive 0)) ≡ false
 
 -- each literal of each of the first clauses has its fault
 abbrev pub HaveAllFaults : Dqbf → ℕ → List Literal → (ℕ → Leaf) → ℕ → List Entry → Type 0
 HaveAllFaults f group bads leaf count entries = (j : ℕ) → j < count
-    → HaveFaults f group (variable_of (slice_index_or bads j (positive 0))) (j + 1) leaf (slice_index_or f.matrix j []) (length (slice_index_or f.matrix j [])) entries
+    → HaveFaults f group (variable_of (slice_index_or bads j (positive 0))) (j + 1) leaf
+    (slice_index_or f.matrix j []) (length (slice_index_or f.matrix j [])) entries
 
--- how a log grows by a group's clauses: whatever stood before the group, they go into a group that was made since
+-- how a log grows by a group's clauses: whatever stood before the group, they go into a group that
+-- was made since
 abbrev pub GrewByGroup : Dqbf → ℕ → ProofLog → ProofLog → Type 0
-GrewByGroup f group old new = (standing : ℕ) (start : List Entry) → name_of start group ≡ None → Grew (IsAddedBy f circuits standing true start) old new
+GrewByGroup f group old new =
+    (standing : ℕ) (start : List Entry) → name_of start group ≡ None
+    → Grew (IsAddedBy f circuits standing true start) old new
 
 -- each clause's variable, by its number, is named for it in the group
 abbrev pub AreBads : Dqbf → ℕ → List Literal → List Entry → Type 0
-AreBads f group bads entries = AreNamedAs entries bads (map (λ j. named_literal (Bad group j) false) (range_with_len 1 (length f.matrix)))
+AreBads f group bads entries =
+    AreNamedAs entries bads
+    (map (λ j. named_literal (Bad group j) false) (range_with_len 1 (length f.matrix)))
 
 -- names that are added say of the group's clauses alone that they are false
 abbrev pub NamesBadsAlone : ℕ → List Entry → List Entry → Type 0
-NamesBadsAlone group old new = (v : ℕ) (name : Name) → name_of new v ≡ Some name → (name_of old v ≡ Some name) ⊎ ((j : ℕ) × (name ≡ Bad group j))
+NamesBadsAlone group old new =
+    (v : ℕ) (name : Name) → name_of new v ≡ Some name
+    → (name_of old v ≡ Some name) ⊎ ((j : ℕ) × (name ≡ Bad group j))
 
 -- such names, and nothing is given
 pub record IsNamingBads (group : ℕ) (old new : List Entry) : Type 0 where
   pub names : NamesBadsAlone group old new
-  pub givens : (origin : Origin) (c : List Literal) → Contains new (Given origin c) → Contains old (Given origin c)
+  pub givens : (origin : Origin) (c : List Literal) → Contains new (Given origin c)
+      → Contains old (Given origin c)
 
 -- what the group says: which clauses are false where, and that one is
 pub record AreGiven (f : Dqbf) (group : ℕ) (leaf : ℕ → Leaf) (entries : List Entry) : Type 0 where

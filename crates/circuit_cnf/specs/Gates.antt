@@ -30,7 +30,8 @@ pair_cmp p q = ordering_then (nat_cmp p.0 q.0) (nat_cmp p.1 q.1)
 -- the clauses of the gate up to this part stand in the log
 abbrev pub HasGateClauses : List Entry → ℕ → ℕ → Literal → Literal → ℕ → Type 0
 HasGateClauses entries group v a b parts =
-    (i : ℕ) (rest : List Literal) → i ≤ parts → gate_rest v a b i ≡ Some rest → Contains entries (Given (Gate v i) (negative group ∷ rest))
+    (i : ℕ) (rest : List Literal) → i ≤ parts → gate_rest v a b i ≡ Some rest
+    → Contains entries (Given (Gate v i) (negative group ∷ rest))
 
 -- a clause of a gate, as its origin says
 abbrev pub IsGateClause : List Entry → Origin → List Literal → Type 0
@@ -39,29 +40,39 @@ IsGateClause earlier _ clause = ⊥
 
 -- each given clause of the group is a gate's
 abbrev pub IsGateGiven : ℕ → List Entry → Entry → Type 0
-IsGateGiven group earlier (Given origin clause) = IsInGroup group clause → IsGateClause earlier origin clause
+IsGateGiven group earlier (Given origin clause) =
+    IsInGroup group clause → IsGateClause earlier origin clause
 IsGateGiven group earlier _ = Unit {0}
 
 -- a gate has its name and its first clauses; the others wait for memory
 pub record IsUnfinished (gates : Gates) (entries : List Entry) (gate : Unfinished) : Type 0 where
   pub named : name_of entries gate.variable ≡ Some (And gate.left gate.right)
   pub few : gate.parts ≤ 3
-  pub given : HasGateClauses entries (variable_of gates.group.selector) gate.variable gate.left gate.right gate.parts
-  pub missing : (i : ℕ) (c : List Literal) → gate.parts < i → Contains entries (Given (Gate gate.variable i) c) → ⊥
-  pub unknown : get pair_cmp gates.variables (literal_code gate.left, literal_code gate.right) ≡ None
+  pub given : HasGateClauses entries (variable_of gates.group.selector) gate.variable gate.left
+      gate.right gate.parts
+  pub missing : (i : ℕ) (c : List Literal) → gate.parts < i
+      → Contains entries (Given (Gate gate.variable i) c) → ⊥
+  pub unknown : get pair_cmp gates.variables (literal_code gate.left, literal_code gate.right)
+      ≡ None
 
 abbrev pub IsNamedLast : Option Unfinished → ℕ → Type 0
 IsNamedLast unfinished v = (gate : Unfinished) × (unfinished ≡ Some gate) × (gate.variable ≡ v)
 
--- what was given is known: every gate's name by its sides, but for one that may be unfinished, and each of these has its clauses in the group
+-- what was given is known: every gate's name by its sides, but for one that may be unfinished, and
+-- each of these has its clauses in the group
 pub record AreKnown (gates : Gates) (entries : List Entry) : Type 0 where
   pub made : IsMade entries gates.group
   pub known : (a b : Literal) (v : ℕ) → name_of entries v ≡ Some (And a b)
-      → (get pair_cmp gates.variables (literal_code a, literal_code b) ≡ Some v) ⊎ IsNamedLast gates.unfinished v
-  pub sound : (a b : Literal) (v : ℕ) → get pair_cmp gates.variables (literal_code a, literal_code b) ≡ Some v → name_of entries v ≡ Some (And a b)
-  pub clauses : (a b : Literal) (v : ℕ) → get pair_cmp gates.variables (literal_code a, literal_code b) ≡ Some v
+      → (get pair_cmp gates.variables (literal_code a, literal_code b) ≡ Some v)
+      ⊎ IsNamedLast gates.unfinished v
+  pub sound : (a b : Literal) (v : ℕ)
+      → get pair_cmp gates.variables (literal_code a, literal_code b) ≡ Some v
+      → name_of entries v ≡ Some (And a b)
+  pub clauses : (a b : Literal) (v : ℕ)
+      → get pair_cmp gates.variables (literal_code a, literal_code b) ≡ Some v
       → HasGateClauses entries (variable_of gates.group.selector) v a b 3
-  pub origins : (v i : ℕ) (c : List Literal) → Contains entries (Given (Gate v i) c) → IsSome (name_of entries v)
+  pub origins : (v i : ℕ) (c : List Literal) → Contains entries (Given (Gate v i) c)
+      → IsSome (name_of entries v)
   pub own : Each (IsGateGiven (variable_of gates.group.selector)) entries
   pub last : (gate : Unfinished) → gates.unfinished ≡ Some gate → IsUnfinished gates entries gate
 
@@ -73,8 +84,10 @@ pub record IsPartGiven (old new : ProofLog) (group part : ℕ) (gate : Unfinishe
 
 -- no variable more says that a clause is false
 abbrev pub AreBadsStill : List Entry → List Entry → Type 0
-AreBadsStill old new = (v group j : ℕ) → name_of new v ≡ Some (Bad group j) → name_of old v ≡ Some (Bad group j)
+AreBadsStill old new =
+    (v group j : ℕ) → name_of new v ≡ Some (Bad group j) → name_of old v ≡ Some (Bad group j)
 
 -- how a log grows by the gates' group, whatever the formula is and whatever stood before
 abbrev pub GrewByGates : ℕ → ProofLog → ProofLog → Type 0
-GrewByGates group old new = (f : Dqbf) (start : List Entry) → Grew (IsAddedBy f circuits group true start) old new
+GrewByGates group old new =
+    (f : Dqbf) (start : List Entry) → Grew (IsAddedBy f circuits group true start) old new

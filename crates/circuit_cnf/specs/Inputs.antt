@@ -15,4 +15,5 @@ pub record HasNoGates (entries : List Entry) : Type 0 where
 
 -- the inputs that have names are of these universals
 abbrev pub AreInputsOf : List ℕ → List Entry → Type 0
-AreInputsOf universals entries = (v x : ℕ) → name_of entries v ≡ Some (Input x) → Contains universals x
+AreInputsOf universals entries =
+    (v x : ℕ) → name_of entries v ≡ Some (Input x) → Contains universals x

@@ -18,17 +18,22 @@ use Rattle.circuit_cnf.specs.Leaves.{HasLeaf}
 
 -- every clause is true wherever each existential has its output's value
 abbrev pub HoldEverywhere : Dqbf → (Existential → OutputFunction) → Type 0
-HoldEverywhere f output = (m : Assignment) → All (λ y. m y.variable ≡ (output y).value m) f.existentials → MatrixHolds f m
+HoldEverywhere f output =
+    (m : Assignment) → All (λ y. m y.variable ≡ (output y).value m) f.existentials → MatrixHolds f m
 
--- the answer rests on gates and on the faults of one group, in which the existentials have these nodes' leaves
-pub record ShowsOutputs (f : Dqbf) (graph : AigGraph) (nodes : List Node) (earlier : List Entry) (clause : List Literal) (hints : List ℕ) : Type 0 where
+-- the answer rests on gates and on the faults of one group, in which the existentials have these
+-- nodes' leaves
+pub record ShowsOutputs (f : Dqbf) (graph : AigGraph) (nodes : List Node) (earlier : List Entry)
+    (clause : List Literal) (hints : List ℕ) : Type 0 where
   pub rests : RestsOnCircuit earlier clause hints
   pub leaf : Existential → Leaf
   pub named : All (λ y. HasLeaf f graph earlier (output_node f nodes y) (leaf y)) f.existentials
-  pub outs : All (λ y. (out : Leaf) → IsFaultLeaf f earlier hints y out → out ≡ leaf y) f.existentials
+  pub outs : All (λ y. (out : Leaf) → IsFaultLeaf f earlier hints y out → out ≡ leaf y)
+      f.existentials
 
 -- the last entry is such an answer
-pub record IsShownBy (f : Dqbf) (graph : AigGraph) (nodes : List Node) (entries : List Entry) (id : ℕ) : Type 0 where
+pub record IsShownBy (f : Dqbf) (graph : AigGraph) (nodes : List Node) (entries : List Entry)
+    (id : ℕ) : Type 0 where
   pub clause : List Literal
   pub hints : List ℕ
   pub earlier : List Entry
@@ -38,10 +43,16 @@ pub record IsShownBy (f : Dqbf) (graph : AigGraph) (nodes : List Node) (entries 
 
 -- such outputs are right
 abbrev pub ShownOutputsHold : Type 0
-ShownOutputsHold = (f : Dqbf) (graph : AigGraph) (nodes : List Node) (earlier : List Entry) (clause : List Literal) (hints : List ℕ) → IsWellFormed f →
-    IsSoundAnswer f earlier clause hints → ShowsOutputs f graph nodes earlier clause hints → HoldEverywhere f (outputs_of f graph nodes)
+ShownOutputsHold =
+    (f : Dqbf) (graph : AigGraph) (nodes : List Node) (earlier : List Entry) (clause : List Literal)
+    (hints : List ℕ) → IsWellFormed f →
+    IsSoundAnswer f earlier clause hints → ShowsOutputs f graph nodes earlier clause hints
+    → HoldEverywhere f (outputs_of f graph nodes)
 
 -- and where they read what they may, the answer decides that the formula is true
 abbrev pub ShownOutputsDecide : Type 0
-ShownOutputsDecide = (f : Dqbf) (graph : AigGraph) (nodes : List Node) (earlier : List Entry) (clause : List Literal) (hints : List ℕ) →
-    ShowsOutputs f graph nodes earlier clause hints → ReadDeclared f (outputs_of f graph nodes) → DecidesTrue f earlier clause hints
+ShownOutputsDecide =
+    (f : Dqbf) (graph : AigGraph) (nodes : List Node) (earlier : List Entry) (clause : List Literal)
+    (hints : List ℕ) →
+    ShowsOutputs f graph nodes earlier clause hints → ReadDeclared f (outputs_of f graph nodes)
+    → DecidesTrue f earlier clause hints

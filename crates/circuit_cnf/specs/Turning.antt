@@ -17,9 +17,11 @@ use Rattle.log_laws.specs.Meaning.{IsSoundAnswer}
 use Rattle.circuit_cnf.specs.Leaves.{HasLeaf}
 
 -- each node has its leaf
-pub record AreLeavesOf (f : Dqbf) (graph : AigGraph) (entries : List Entry) (nodes : List Node) (leaves : List Leaf) : Type 0 where
+pub record AreLeavesOf (f : Dqbf) (graph : AigGraph) (entries : List Entry) (nodes : List Node)
+    (leaves : List Leaf) : Type 0 where
   pub count : length leaves ≡ length nodes
-  pub each : (k : ℕ) (node : Node) (leaf : Leaf) → slice_get nodes k ≡ Some node → slice_get leaves k ≡ Some leaf → HasLeaf f graph entries node leaf
+  pub each : (k : ℕ) (node : Node) (leaf : Leaf) → slice_get nodes k ≡ Some node
+      → slice_get leaves k ≡ Some leaf → HasLeaf f graph entries node leaf
 
 -- names stay
 abbrev pub NamesAreKept : List Entry → List Entry → Type 0
@@ -34,15 +36,19 @@ pub record IsHeldBy (f : Dqbf) (leaf : ℕ → Leaf) (old entries : List Entry) 
   pub last : id ≡ last_id entries
   pub names : NamesAreKept old earlier
   pub rests : RestsOnCircuit earlier clause hints
-  pub outs : (y : Existential) (out : Leaf) → IsFaultLeaf f earlier hints y out → out ≡ leaf y.variable
+  pub outs : (y : Existential) (out : Leaf) → IsFaultLeaf f earlier hints y out
+      → out ≡ leaf y.variable
   pub sound : IsSoundAnswer f earlier clause hints
 
 -- these values are those of a circuit under which a clause is false
-pub record AreFailing (f : Dqbf) (leaf : ℕ → Leaf) (old : List Entry) (values : Assignment) : Type 0 where
-  pub gates : (v : ℕ) (a b : Literal) → name_of old v ≡ Some (And a b) → values v ≡ (literal_true values a && literal_true values b)
+pub record AreFailing (f : Dqbf) (leaf : ℕ → Leaf) (old : List Entry)
+    (values : Assignment) : Type 0 where
+  pub gates : (v : ℕ) (a b : Literal) → name_of old v ≡ Some (And a b)
+      → values v ≡ (literal_true values a && literal_true values b)
   pub j : ℕ
   pub among : j < length f.matrix
-  pub is_false : clause_true (λ v. leaf_value values (leaf v)) (slice_index_or f.matrix j []) ≡ false
+  pub is_false : clause_true (λ v. leaf_value values (leaf v)) (slice_index_or f.matrix j [])
+      ≡ false
 
 -- a search that answers an id may decide
 abbrev pub is_silent_search : Result (Option ℕ) Stop → Bool

@@ -34,7 +34,8 @@ impl Checker {
         requires fit { O.Fits oracle.old log.old }
         requires none { HasNone circuits log.old.entries }
         ensures fit { O.Fits oracle.new log.new }
-        ensures grew { (group : ℕ) → Grew (IsAddedBy f.now circuits group true log.old.entries) log.old log.new }
+        ensures grew { (group : ℕ)
+            → Grew (IsAddedBy f.now circuits group true log.old.entries) log.old log.new }
         ensures made { IfOk result (λ c. IsChecker f.now c log.new.entries) }
         ensures fresh { IfOk result (λ c. name_of log.old.entries (group_of c) ≡ None) }
         ensures faults { fault_groups log.new.entries ≡ fault_groups log.old.entries }
@@ -66,8 +67,10 @@ fn name_inputs<O: Oracle>(
     requires fit { O.Fits oracle.old log.old }
     requires none { HasNone circuits log.old.entries }
     ensures fit { O.Fits oracle.new log.new }
-    ensures grew { (group : ℕ) → Grew (IsAddedBy f.now circuits group true log.old.entries) log.old log.new }
-    ensures inputs { IfOk result (λ inputs. AreInputs f.now.universals inputs.items log.new.entries) }
+    ensures grew { (group : ℕ)
+        → Grew (IsAddedBy f.now circuits group true log.old.entries) log.old log.new }
+    ensures inputs { IfOk result
+        (λ inputs. AreInputs f.now.universals inputs.items log.new.entries) }
     ensures none { HasNoGates log.new.entries }
     ensures faults { fault_groups log.new.entries ≡ fault_groups log.old.entries }
     ensures names { (v : ℕ) → name_of log.new.entries v ≡ None → name_of log.old.entries v ≡ None }

@@ -14,7 +14,8 @@ pub(crate) fn false_clause(f: &Formula, row: &Row, values: &Row) -> Option<u64>
     requires values_length { length values.now ≡ length f.now.existentials }
     ensures some { IfSome result (IsFalseClause f.now row.now values.now) }
     ensures none { result ≡ None → (j : ℕ) → j < length f.now.matrix
-        → clause_true (round_assignment f.now row.now values.now) (slice_index_or f.now.matrix j []) ≡ true }
+        → clause_true (round_assignment f.now row.now values.now) (slice_index_or f.now.matrix j [])
+        ≡ true }
 {
     for j in 0..f.clauses() {
         if !is_true(f, row, values, f.clause(j)) {

@@ -160,10 +160,12 @@ fn give_part<O: Oracle>(
     requires last { part ≤ 3 }
     requires from_one { 1 ≤ gate.now.variable }
     requires in_range { gate.now.variable < 2 ^ 62 }
-    requires named { name_of log.old.entries gate.now.variable ≡ Some (And gate.now.left gate.now.right) }
+    requires named { name_of log.old.entries gate.now.variable
+        ≡ Some (And gate.now.left gate.now.right) }
     requires sides { HasSides log.old.entries (And gate.now.left gate.now.right) }
     ensures fit { O.Fits oracle.new log.new }
-    ensures given { OnOk result (IsPartGiven log.old log.new (variable_of group.now.selector) part gate.now) }
+    ensures given { OnOk result
+        (IsPartGiven log.old log.new (variable_of group.now.selector) part gate.now) }
     ensures err { OnErr result (log.new ≡ log.old) }
 {
     let v = gate.variable;

@@ -1,4 +1,5 @@
-//! What a log's leaves and answers say of a graph's nodes. Each law is the contract of a function without parameters.
+//! What a log's leaves and answers say of a graph's nodes. Each law is the contract of a function
+//! without parameters.
 
 ghost use Rattle.circuit_cnf.specs.Checking.{CheckersStay, CheckersStayWithRounds};
 ghost use Rattle.circuit_cnf.specs.Failing.{FailuresRefuteRows};
@@ -25,7 +26,8 @@ pub fn shown_outputs_hold()
     leaves_have_nodes_values();
 }
 
-/// Where outputs that an answer shows read what they may, the answer decides that the formula is true.
+/// Where outputs that an answer shows read what they may, the answer decides that the formula is
+/// true.
 pub fn shown_outputs_decide()
     ensures { ShownOutputsDecide }
 {

@@ -1,4 +1,5 @@
-//! Circuits against the matrix, as clauses of a shared solver: an answer that rests on them shows that the outputs are right.
+//! Circuits against the matrix, as clauses of a shared solver: an answer that rests on them shows
+//! that the outputs are right.
 #![tactic(auto)]
 
 pub use checkers::Checker;

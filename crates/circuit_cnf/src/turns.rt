@@ -33,7 +33,8 @@ use std::alloc::Global;
 pub enum Turn {
     /// They do, on every row; the logged answer of this id shows it.
     Holds(u64),
-    /// They don't: a row, the outputs' values there, and the number, from 1 on, of a clause that is false with them.
+    /// They don't: a row, the outputs' values there, and the number, from 1 on, of a clause that is
+    /// false with them.
     Fails { row: Row, values: Row, j: u64 },
 }
 
@@ -48,8 +49,9 @@ struct Circuit<'g, 'f, 'o> {
 }
 
 impl Checker {
-    /// Whether every clause is true on every row, where the existentials have the values of these outputs, in order. It stops for want of
-    /// memory or at the log's limit. Before the next call the log needs a round, once the faults of this one were given.
+    /// Whether every clause is true on every row, where the existentials have the values of these
+    /// outputs, in order. It stops for want of memory or at the log's limit. Before the next call
+    /// the log needs a round, once the faults of this one were given.
     pub fn turn<O: Oracle>(
         &mut self,
         oracle: &mut O,
@@ -69,10 +71,14 @@ impl Checker {
         ensures fit { O.Fits oracle.new log.new }
         ensures checker { IsChecker f.now self.new log.new.entries }
         ensures group { group_of self.new ≡ group_of self.old }
-        ensures grew { Grew (IsAddedBy f.now circuits (group_of self.old) (is_silent result) log.old.entries) log.old log.new }
+        ensures grew { Grew
+            (IsAddedBy f.now circuits (group_of self.old) (is_silent result) log.old.entries)
+            log.old log.new }
         ensures few { length (fault_groups log.new.entries) ≤ rounds_of log.new.entries + 1 }
-        ensures holds { (id : ℕ) → result ≡ Ok (Turn.Holds id) → HoldEverywhere f.now (outputs_of f.now graph.now outputs.now) }
-        ensures shown { (id : ℕ) → result ≡ Ok (Turn.Holds id) → IsShownBy f.now graph.now outputs.now log.new.entries id }
+        ensures holds { (id : ℕ) → result ≡ Ok (Turn.Holds id)
+            → HoldEverywhere f.now (outputs_of f.now graph.now outputs.now) }
+        ensures shown { (id : ℕ) → result ≡ Ok (Turn.Holds id)
+            → IsShownBy f.now graph.now outputs.now log.new.entries id }
         ensures fails { (row values : List Bool) (j : ℕ) → result ≡ Ok (Turn.Fails row values j)
             → IsFailure f.now (outputs_of f.now graph.now outputs.now) row values j }
         ensures limit { IsErrOf result Stop.Limit → steps_of log.new.entries ≡ log.new.limit }
@@ -125,7 +131,8 @@ impl Checker {
         Ok(leaves)
     }
 
-    // Gives the faults under these leaves to a new group, and searches for values under which a clause is false.
+    // Gives the faults under these leaves to a new group, and searches for values under which a
+    // clause is false.
     fn search<O: Oracle>(
         &self,
         oracle: &mut O,
@@ -143,12 +150,17 @@ impl Checker {
         requires few { length (fault_groups log.old.entries) ≤ rounds_of log.old.entries }
         ensures fit { O.Fits oracle.new log.new }
         ensures checker { IsChecker f.now self.now log.new.entries }
-        ensures grew { Grew (IsAddedBy f.now circuits (group_of self.now) (is_silent_search result) log.old.entries) log.old log.new }
+        ensures grew { Grew
+            (IsAddedBy f.now circuits (group_of self.now) (is_silent_search result) log.old.entries)
+            log.old log.new }
         ensures few { length (fault_groups log.new.entries) ≤ rounds_of log.new.entries + 1 }
         ensures held { (id : ℕ) → result ≡ Ok (Some id)
-            → IsHeldBy f.now (leaf_of f.now self.now.inputs.items leaves.now) log.old.entries log.new.entries id }
+            → IsHeldBy f.now (leaf_of f.now self.now.inputs.items leaves.now) log.old.entries
+            log.new.entries id }
         ensures told { result ≡ Ok None → O.is_told oracle.new ≡ true }
-        ensures failing { result ≡ Ok None → AreFailing f.now (leaf_of f.now self.now.inputs.items leaves.now) log.old.entries (O.values oracle.new) }
+        ensures failing { result ≡ Ok None
+            → AreFailing f.now (leaf_of f.now self.now.inputs.items leaves.now) log.old.entries
+            (O.values oracle.new) }
         ensures limit { IsErrOf result Stop.Limit → steps_of log.new.entries ≡ log.new.limit }
     {
         let group = oracle.group(&self.tenant, log)?;

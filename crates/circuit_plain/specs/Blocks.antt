@@ -1,5 +1,5 @@
--- Rows by blocks: 256 rows with neighbouring numbers side by side, as the bits of four lanes of 64. Bit i of a row's
--- number is the bit of the input at place i.
+-- Rows by blocks: 256 rows with neighbouring numbers side by side, as the bits of four lanes of 64.
+-- Bit i of a row's number is the bit of the input at place i.
 use Rattle.std.specs.Prelude.{ℕ, ◌+◌, ◌*◌, ◌==◌, Bool, List, [], slice_index, slice_index_or}
 use Rattle.std.specs.Int.{bit_at}
 
@@ -19,6 +19,7 @@ row_number first l b = first + 64 * l + b
 abbrev pub number_bits : ℕ → ℕ → Bool
 number_bits k i = bit_at k i == 1
 
--- the same where the input at place i has another bit of the number, that at the place which a list gives it
+-- the same where the input at place i has another bit of the number, that at the place which a list
+-- gives it
 abbrev pub placed_bits : List ℕ → ℕ → ℕ → Bool
 placed_bits places k i = bit_at k (slice_index places i) == 1

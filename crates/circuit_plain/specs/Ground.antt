@@ -3,8 +3,8 @@ use Rattle.std.specs.Prelude.{ℕ, ◌<◌, length, Contains}
 use Rattle.circuit_plain.specs.declared.circuits.Gate.{Gate}
 use Rattle.circuit_plain.specs.Netlist.{Netlist, gate_at, left_variable, right_variable}
 
--- the least set of variables that holds the constant, the inputs, and a gate as soon as it holds the
--- variables of both right sides
+-- the least set of variables that holds the constant, the inputs, and a gate as soon as it holds
+-- the variables of both right sides
 pub data IsGrounded (net : Netlist) : ℕ → Type 0 where
   constant : IsGrounded net 0
   input : {v : ℕ} → Contains net.inputs v → IsGrounded net v

@@ -1,6 +1,6 @@
--- The combinational netlist of ASCII AIGER: inputs, outputs and and-gates over numbered variables (A. Biere,
--- "The AIGER And-Inverter Graph (AIG) Format", 2007; A. Biere, K. Heljanko, S. Wieringa, "AIGER 1.9 And
--- Beyond", FMV report 11/2, 2011).
+-- The combinational netlist of ASCII AIGER: inputs, outputs and and-gates over numbered variables
+-- (A. Biere, "The AIGER And-Inverter Graph (AIG) Format", 2007; A. Biere, K. Heljanko, S. Wieringa,
+-- "AIGER 1.9 And Beyond", FMV report 11/2, 2011).
 use Rattle.std.specs.Prelude.{◌≢◌, ℕ, ◌+◌, ◌*◌, ◌/◌, ◌%◌, ◌^◌, ◌<◌, ◌≤◌, ◌⊎◌, ◌==◌, ◌&&◌, Bool, not, List, map, if◌then◌else◌, All, AllPairs, Contains, slice_index_or}
 use Rattle.circuit_plain.specs.declared.circuits.Gate.{Gate}
 
@@ -20,8 +20,9 @@ signed_bit l bit = if literal_negated l then not bit else bit
 abbrev pub literal_bit : (ℕ → Bool) → ℕ → Bool
 literal_bit m l = signed_bit l (m (literal_variable l))
 
--- variables are numbered from 1 to `max_var`; variable 0 is the constant false, so that literal 0 is
--- false and literal 1 is true; outputs are literals, and a gate has its variable and two literals
+-- variables are numbered from 1 to `max_var`; variable 0 is the constant false, so that literal 0
+-- is false and literal 1 is true; outputs are literals, and a gate has its variable and two
+-- literals
 pub record Netlist : Type 0 where
   pub max_var : ℕ
   pub inputs : List ℕ
@@ -69,8 +70,8 @@ pub record IsGate (max_var : ℕ) (g : Gate) : Type 0 where
   pub left : IsLiteral max_var g.left
   pub right : IsLiteral max_var g.right
 
--- what each netlist of a `Circuit` keeps: its numbers are in range, and each variable is an input or a
--- gate at most once
+-- what each netlist of a `Circuit` keeps: its numbers are in range, and each variable is an input
+-- or a gate at most once
 pub record IsNetlist (net : Netlist) : Type 0 where
   pub numbered : net.max_var < 2 ^ 62
   pub inputs_fit : All (IsVariable net.max_var) net.inputs

@@ -12,7 +12,8 @@ IsSettled net places v =
 
 -- both right sides of a gate are settled
 abbrev pub IsReady : Netlist → List ℕ → Gate → Type 0
-IsReady net places g = IsSettled net places (left_variable g) × IsSettled net places (right_variable g)
+IsReady net places g =
+    IsSettled net places (left_variable g) × IsSettled net places (right_variable g)
 
 -- the places of all gates, each once, such that each gate stands behind the gates that it reads
 pub record IsOrder (net : Netlist) (order : List ℕ) : Type 0 where
@@ -24,5 +25,6 @@ pub record IsOrder (net : Netlist) (order : List ℕ) : Type 0 where
 
 -- with an order the constant, every input and every gate is in the least set
 abbrev pub OrdersGround : Type 0
-OrdersGround = (net : Netlist) (order : List ℕ) (v : ℕ) → IsOrder net order → (v ≡ 0) ⊎ IsDefined net v
+OrdersGround =
+    (net : Netlist) (order : List ℕ) (v : ℕ) → IsOrder net order → (v ≡ 0) ⊎ IsDefined net v
     → IsGrounded net v

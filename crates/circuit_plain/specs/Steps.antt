@@ -1,5 +1,5 @@
--- Words of private contracts: how far an evaluation, a walk and a sort have come. No public contract cites
--- them.
+-- Words of private contracts: how far an evaluation, a walk and a sort have come. No public
+-- contract cites them.
 use Rattle.std.specs.Prelude.{◌≡◌, ◌≢◌, ℕ, ◌<◌, ◌⊎◌, ◌↔◌, ◌==◌, ◌&&◌, ◌||◌, Bool, List, IsTrue, take, length, slice_index, All, AllPairs}
 use Rattle.circuit_plain.specs.declared.walks.Task.{Task}
 use Rattle.circuit_plain.specs.declared.walks.Task.TheVariants.{Visit, Leave}
@@ -18,7 +18,8 @@ MarksReach net old new = (v : ℕ) → IsTrue (new v) ↔ ((u : ℕ) × IsTrue (
 
 -- where a variable is marked, so are two others as well; nothing else changes
 abbrev pub IsSpread : (ℕ → Bool) → (ℕ → Bool) → ℕ → ℕ → ℕ → Type 0
-IsSpread old new from left right = (v : ℕ) → new v ≡ (old v || (old from && ((left == v) || (right == v))))
+IsSpread old new from left right =
+    (v : ℕ) → new v ≡ (old v || (old from && ((left == v) || (right == v))))
 
 -- the beginning of an order
 pub record IsPartialOrder (net : Netlist) (places : List ℕ) : Type 0 where

@@ -1,5 +1,5 @@
--- The value of a variable in a combinational AIGER netlist: false at the constant, an input's bit, and at
--- a gate the conjunction of its right sides. The gates may stand in any order.
+-- The value of a variable in a combinational AIGER netlist: false at the constant, an input's bit,
+-- and at a gate the conjunction of its right sides. The gates may stand in any order.
 use Rattle.std.specs.Prelude.{◌≡◌, ℕ, ◌<◌, Bool, false, ◌&&◌, length, slice_index, All, Contains}
 use Rattle.circuit_plain.specs.declared.circuits.Gate.{Gate}
 use Rattle.circuit_plain.specs.Ground.{IsGrounded}
@@ -33,7 +33,8 @@ GroundedHaveValues = (net : Netlist) (bits : ℕ → Bool) (v : ℕ)
 -- where two rows agree on the inputs that a variable reaches, it has the same value under both
 abbrev pub ValuesFollowReach : Type 0
 ValuesFollowReach = (net : Netlist) (bits others : ℕ → Bool) (v : ℕ) (b : Bool)
-    → ((i : ℕ) → i < length net.inputs → Reaches net v (slice_index net.inputs i) → bits i ≡ others i)
+    → ((i : ℕ) → i < length net.inputs → Reaches net v (slice_index net.inputs i)
+    → bits i ≡ others i)
     → HasValue net bits v b → HasValue net others v b
 
 -- a map that meets every gate's equation gives each variable its value

@@ -10,4 +10,5 @@ marked words i v = bit_at (slice_index words v) i == 1
 
 -- at each bit, the new marks stand at what the variables marked before reach
 abbrev pub WordsReach : Netlist → List ℕ → List ℕ → Type 0
-WordsReach net old new = (i v : ℕ) → IsTrue (marked new i v) ↔ ((u : ℕ) × IsTrue (marked old i u) × Reaches net u v)
+WordsReach net old new =
+    (i v : ℕ) → IsTrue (marked new i v) ↔ ((u : ℕ) × IsTrue (marked old i u) × Reaches net u v)

@@ -30,9 +30,11 @@ impl Circuit {
         requires a_place_a_variable { self.now.max_var < length values.old }
         ensures same_length { length values.new ≡ length values.old }
         ensures value { (l b v : ℕ) → l < 4 → b < 64 → (v ≡ 0) ⊎ IsDefined self.now v
-            → HasValue self.now (number_bits (row_number first l b)) v (block_bits values.new l b v) }
+            → HasValue self.now (number_bits (row_number first l b)) v
+            (block_bits values.new l b v) }
         ensures valuation { (l b : ℕ) → l < 4 → b < 64
-            → IsValuation self.now (number_bits (row_number first l b)) (block_bits values.new l b) }
+            → IsValuation self.now (number_bits (row_number first l b))
+            (block_bits values.new l b) }
     {
         let inputs = self.inputs().len();
         self.eval_block_by(order, &IN_ORDER[..inputs], first, values);

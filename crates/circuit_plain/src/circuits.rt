@@ -36,10 +36,20 @@ impl Model for Circuit {
     ghost Value = { Netlist };
 
     ghost view = { λ c.
-        record { max_var = c.max_var; inputs = c.inputs.items; outputs = c.outputs.items; gates = c.gates.items } };
+        record {
+          max_var = c.max_var;
+          inputs = c.inputs.items;
+          outputs = c.outputs.items;
+          gates = c.gates.items;
+        } };
 
     ghost invariant = { λ c. IsNetlist (
-        record { max_var = c.max_var; inputs = c.inputs.items; outputs = c.outputs.items; gates = c.gates.items }) };
+        record {
+          max_var = c.max_var;
+          inputs = c.inputs.items;
+          outputs = c.outputs.items;
+          gates = c.gates.items;
+        }) };
 }
 
 impl Circuit {
@@ -60,7 +70,8 @@ impl Circuit {
     pub fn add_input(&mut self, var: u64) -> Result<(), Memory>
         requires in_range { IsVariable self.old.max_var var }
         requires undefined { ¬ IsDefined self.old var }
-        ensures ok { OnOk result (self.new ≡ record self.old { inputs = self.old.inputs ++ var ∷ [] }) }
+        ensures ok { OnOk result
+            (self.new ≡ record self.old { inputs = self.old.inputs ++ var ∷ [] }) }
         ensures err { OnErr result (self.new ≡ self.old) }
     {
         self.inputs.push(var)?;
@@ -70,7 +81,8 @@ impl Circuit {
     /// Adds an output behind the others.
     pub fn add_output(&mut self, lit: u64) -> Result<(), Memory>
         requires { IsLiteral self.old.max_var lit }
-        ensures ok { OnOk result (self.new ≡ record self.old { outputs = self.old.outputs ++ lit ∷ [] }) }
+        ensures ok { OnOk result
+            (self.new ≡ record self.old { outputs = self.old.outputs ++ lit ∷ [] }) }
         ensures err { OnErr result (self.new ≡ self.old) }
     {
         self.outputs.push(lit)?;

@@ -28,8 +28,9 @@ impl Circuit {
         self.mark_sides(order, marks);
     }
 
-    /// At each bit of the words, which stand by variable, marks what the variables marked there reach through right
-    /// sides, whatever the values, beside these: 64 walks in one. It takes no memory.
+    /// At each bit of the words, which stand by variable, marks what the variables marked there
+    /// reach through right sides, whatever the values, beside these: 64 walks in one. It takes no
+    /// memory.
     pub fn reach_by_words(&self, order: &Order, words: &mut [u64])
         requires ordered { IsOrder self.now order.now }
         requires a_word_a_variable { length words.old ≡ self.now.max_var + 1 }

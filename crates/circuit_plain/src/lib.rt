@@ -3,8 +3,9 @@
 //!
 //! A contract sees a circuit as the plain record of its netlist. `specs/` defines the value of a
 //! variable, what a variable reaches and which gates can be ordered, as relations over gates in any
-//! order; `order` sorts the gates, and along its order `eval` and `reads` compute the first two, and
-//! `eval_block` the values under 256 rows at once. The laws in `laws` tie the definitions together.
+//! order; `order` sorts the gates, and along its order `eval` and `reads` compute the first two,
+//! and `eval_block` the values under 256 rows at once. The laws in `laws` tie the definitions
+//! together.
 #![tactic(auto)]
 
 pub use blocks::{Block, literal_lanes};

@@ -67,8 +67,8 @@ impl Circuit {
         let mut draft = self.empty_draft()?;
         let walked = depth_first(*self.gates.allocator(), &self.gates)?;
         self.put_all(&walked, &mut draft)?;
-        // The walk leaves every gate that can be put behind those that it reads, so that one round, which
-        // finds nothing more to put, follows. The rounds need no promise of the walk.
+        // The walk leaves every gate that can be put behind those that it reads, so that one round,
+        // which finds nothing more to put, follows. The rounds need no promise of the walk.
         while self.put_round(&mut draft)? {}
         match self.first_unsettled(&draft) {
             Some(place) => Err(OrderStop::Cyclic(place)),

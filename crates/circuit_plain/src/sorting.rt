@@ -20,7 +20,8 @@ pub(crate) struct Draft {
 impl Circuit {
     // No gate is put: the constant and the inputs are settled.
     pub(crate) fn empty_draft(&self) -> Result<Draft, Memory>
-        ensures { IfOk result (λ draft. IsDraft self.now draft.places.items (has_number draft.settled)) }
+        ensures { IfOk result
+            (λ draft. IsDraft self.now draft.places.items (has_number draft.settled)) }
     {
         let mut settled = NumberSet::new(*self.gates.allocator());
         settled.insert(0)?;
@@ -38,7 +39,8 @@ impl Circuit {
     fn put(&self, place: usize, draft: &mut Draft) -> Result<bool, Memory>
         requires in_range { place < length self.now.gates }
         requires draft { IsDraft self.now draft.old.places.items (has_number draft.old.settled) }
-        ensures draft { OnOk result (IsDraft self.now draft.new.places.items (has_number draft.new.settled)) }
+        ensures draft { OnOk result
+            (IsDraft self.now draft.new.places.items (has_number draft.new.settled)) }
         ensures added { IfOk result (λ added. OnTrue added (
             length draft.new.places.items ≡ length draft.old.places.items + 1)) }
         ensures passed { IfOk result (λ added. OnFalse added (
@@ -61,7 +63,8 @@ impl Circuit {
     pub(crate) fn put_all(&self, places: &[usize], draft: &mut Draft) -> Result<(), Memory>
         requires in_range { All (λ place. place < length self.now.gates) places.now }
         requires draft { IsDraft self.now draft.old.places.items (has_number draft.old.settled) }
-        ensures { OnOk result (IsDraft self.now draft.new.places.items (has_number draft.new.settled)) }
+        ensures { OnOk result
+            (IsDraft self.now draft.new.places.items (has_number draft.new.settled)) }
     {
         for place in places {
             self.put(*place, draft)?;
@@ -72,10 +75,12 @@ impl Circuit {
     // Tries each gate in turn, and says whether any was put.
     pub(crate) fn put_round(&self, draft: &mut Draft) -> Result<bool, Memory>
         requires { IsDraft self.now draft.old.places.items (has_number draft.old.settled) }
-        ensures draft { OnOk result (IsDraft self.now draft.new.places.items (has_number draft.new.settled)) }
+        ensures draft { OnOk result
+            (IsDraft self.now draft.new.places.items (has_number draft.new.settled)) }
         ensures added { IfOk result (λ added. OnTrue added (
             length draft.old.places.items < length draft.new.places.items)) }
-        ensures closed { IfOk result (λ added. OnFalse added (IsClosed self.now draft.new.places.items)) }
+        ensures closed { IfOk result
+            (λ added. OnFalse added (IsClosed self.now draft.new.places.items)) }
     {
         let mut added = false;
         for place in 0..self.gates.len() {

@@ -20,8 +20,8 @@ pub fn literal_bit(values: &Row, lit: u64) -> bool
 
 impl Circuit {
     /// Writes the value of the constant 0 and of each input and gate under `row`, which has the bit
-    /// of input i at place i; variable v has place v in `values`. Whatever stood there before counts
-    /// for nothing, and the places of other variables are left open. It takes no memory.
+    /// of input i at place i; variable v has place v in `values`. Whatever stood there before
+    /// counts for nothing, and the places of other variables are left open. It takes no memory.
     pub fn eval(&self, order: &Order, row: &Row, values: &mut Row)
         requires ordered { IsOrder self.now order.now }
         requires a_bit_an_input { length row.now ≡ length self.now.inputs }

@@ -13,9 +13,9 @@ enum Task {
     Leave(usize),
 }
 
-// The places of the gates in the order in which a depth-first walk leaves them: where the gates have
-// no cycle, each stands behind those that it reads. It promises places alone, since `order` tries
-// each of them. Its stack is a list, so a long chain takes no deep recursion.
+// The places of the gates in the order in which a depth-first walk leaves them: where the gates
+// have no cycle, each stands behind those that it reads. It promises places alone, since `order`
+// tries each of them. Its stack is a list, so a long chain takes no deep recursion.
 pub(crate) fn depth_first(alloc: Global, gates: &[Gate]) -> Result<Vec<usize>, Memory>
     ensures { IfOk result (λ places. All (λ place. place < length gates.now) places.items) }
 {
@@ -63,7 +63,8 @@ fn visit(
     requires a_mark_a_gate { length seen.old ≡ length gates.now }
     requires in_range { place < length gates.now }
     requires tasks_in_range { All (λ task. task_place task < length gates.now) tasks.old.items }
-    ensures in_range { OnOk result (All (λ task. task_place task < length gates.now) tasks.new.items) }
+    ensures in_range { OnOk result
+        (All (λ task. task_place task < length gates.now) tasks.new.items) }
     ensures ends { OnOk result (
         length tasks.new.items + 3 * count_by not seen.new
         ≤ length tasks.old.items + 3 * count_by not seen.old) }
@@ -85,7 +86,8 @@ fn visit_side(
     tasks: &mut Vec<Task>,
 ) -> Result<(), Memory>
     requires { All (λ task. task_place task < length seen.now) tasks.old.items }
-    ensures in_range { OnOk result (All (λ task. task_place task < length seen.now) tasks.new.items) }
+    ensures in_range { OnOk result
+        (All (λ task. task_place task < length seen.now) tasks.new.items) }
     ensures one_more { OnOk result (length tasks.new.items ≤ length tasks.old.items + 1) }
 {
     if let Some(place) = variables.place(side / 2) {

@@ -9,7 +9,8 @@ use Rattle.aig_graph.specs.declared.nodes.Node.{Node}
 use Rattle.aig_graph.specs.Graph.{AigGraph, IsNode, node_value, node_support}
 use Rattle.definition_order.specs.Order.{MayRead}
 
--- over n universals, input i is the universal at place i, and input n + k the existential at place k
+-- over n universals, input i is the universal at place i, and input n + k the existential at place
+-- k
 abbrev pub input_variable : Dqbf → ℕ → ℕ
 input_variable f i = slice_index (declared f) i
 
@@ -20,8 +21,10 @@ defining_output f graph node = record {
   support = map (input_variable f) (node_support graph node);
 }
 
--- the node reads what a definition of the existential may read alone, and wherever the matrix is true, the existential has its value
+-- the node reads what a definition of the existential may read alone, and wherever the matrix is
+-- true, the existential has its value
 pub record IsDefinition (f : Dqbf) (graph : AigGraph) (y : Existential) (node : Node) : Type 0 where
   pub is_node : IsNode graph node
   pub reads : All (MayRead f y) (defining_output f graph node).support
-  pub defines : (m : Assignment) → MatrixHolds f m → m y.variable ≡ (defining_output f graph node).value m
+  pub defines : (m : Assignment) → MatrixHolds f m
+      → m y.variable ≡ (defining_output f graph node).value m

@@ -16,7 +16,8 @@ mod reads;
 mod shared;
 mod sizes;
 
-/// The places of the existentials, those that see less first, and of those that see as many the one that is declared first.
+/// The places of the existentials, those that see less first, and of those that see as many the one
+/// that is declared first.
 pub fn existentials_in_order(alloc: Global, f: &Formula) -> Result<Vec<usize>, Memory>
     ensures { IfOk result (λ places. AreInOrder f.now places.items) }
 {
@@ -26,10 +27,12 @@ pub fn existentials_in_order(alloc: Global, f: &Formula) -> Result<Vec<usize>, M
     places_of(alloc, &sized)
 }
 
-/// The places of the existentials that a definition of this one may read: those that come before it in the order and see no more.
+/// The places of the existentials that a definition of this one may read: those that come before it
+/// in the order and see no more.
 pub fn shared_existentials(alloc: Global, f: &Formula, y: u64) -> Result<Vec<usize>, Memory>
     requires existential { IsSome (existential_of f.now y) }
-    ensures { (e : Existential) → existential_of f.now y ≡ Some e → IfOk result (λ places. ArePlacesOfShared f.now e places.items) }
+    ensures { (e : Existential) → existential_of f.now y ≡ Some e
+        → IfOk result (λ places. ArePlacesOfShared f.now e places.items) }
 {
     let mut places = Vec::new(alloc);
     for place in 0..f.existentials().len() {

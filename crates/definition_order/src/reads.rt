@@ -7,18 +7,20 @@ ghost use Rattle.definition_order.specs.Order.{IsSharedVariable, MayRead};
 use crate::shared::is_shared_at;
 use dq_formula::Formula;
 
-/// Whether a definition of the existential `y` may read a variable: a universal that `y` sees, or an existential that comes before `y` in the
-/// order and sees no more.
+/// Whether a definition of the existential `y` may read a variable: a universal that `y` sees, or
+/// an existential that comes before `y` in the order and sees no more.
 pub fn may_read(f: &Formula, y: u64, v: u64) -> bool
     requires existential { IsSome (existential_of f.now y) }
-    ensures { (e : Existential) → existential_of f.now y ≡ Some e → (IsTrue result ↔ MayRead f.now e v) }
+    ensures { (e : Existential) → existential_of f.now y ≡ Some e
+        → (IsTrue result ↔ MayRead f.now e v) }
 {
     f.sees(y, v) || is_shared(f, y, v)
 }
 
 fn is_shared(f: &Formula, y: u64, v: u64) -> bool
     requires existential { IsSome (existential_of f.now y) }
-    ensures { (e : Existential) → existential_of f.now y ≡ Some e → (IsTrue result ↔ IsSharedVariable f.now e v) }
+    ensures { (e : Existential) → existential_of f.now y ≡ Some e
+        → (IsTrue result ↔ IsSharedVariable f.now e v) }
 {
     f.every_formula_is_lawful();
     match f.existential_place(v) {

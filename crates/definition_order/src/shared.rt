@@ -12,7 +12,8 @@ use dq_formula::{Deps, Formula};
 pub(crate) fn is_shared_at(f: &Formula, place: usize, y: u64) -> bool
     requires place { place < length f.now.existentials }
     requires existential { IsSome (existential_of f.now y) }
-    ensures { (e z : Existential) → existential_of f.now y ≡ Some e → slice_get f.now.existentials place ≡ Some z
+    ensures { (e z : Existential) → existential_of f.now y ≡ Some e
+        → slice_get f.now.existentials place ≡ Some z
         → (IsTrue result ↔ IsShared f.now e z) }
 {
     f.every_formula_is_lawful();
@@ -23,7 +24,8 @@ pub(crate) fn is_shared_at(f: &Formula, place: usize, y: u64) -> bool
 fn comes_before(f: &Formula, z: u64, y: u64) -> bool
     requires first { IsSome (existential_of f.now z) }
     requires second { IsSome (existential_of f.now y) }
-    ensures { (d e : Existential) → existential_of f.now z ≡ Some d → existential_of f.now y ≡ Some e
+    ensures { (d e : Existential) → existential_of f.now z ≡ Some d
+        → existential_of f.now y ≡ Some e
         → (IsTrue result ↔ ComesBefore f.now d e) }
 {
     goes_first(
@@ -43,7 +45,8 @@ fn goes_first(few: usize, p: usize, many: usize, q: usize) -> bool
 // Where an existential stands among all of them.
 fn place_of(f: &Formula, y: u64) -> usize
     requires { IsSome (existential_of f.now y) }
-    ensures { (e : Existential) → existential_of f.now y ≡ Some e → result ≡ existential_place f.now e }
+    ensures { (e : Existential) → existential_of f.now y ≡ Some e
+        → result ≡ existential_place f.now e }
 {
     f.every_formula_is_lawful();
     match f.existential_place(y) {
@@ -55,7 +58,8 @@ fn place_of(f: &Formula, y: u64) -> usize
 fn sees_no_more(f: &Formula, z: u64, y: u64) -> bool
     requires first { IsSome (existential_of f.now z) }
     requires second { IsSome (existential_of f.now y) }
-    ensures { (d e : Existential) → existential_of f.now z ≡ Some d → existential_of f.now y ≡ Some e
+    ensures { (d e : Existential) → existential_of f.now z ≡ Some d
+        → existential_of f.now y ≡ Some e
         → (IsTrue result ↔ All (Contains e.sees) d.sees) }
 {
     match f.deps_of(z) {
@@ -68,7 +72,8 @@ fn sees_no_more(f: &Formula, z: u64, y: u64) -> bool
 fn sees_first(f: &Formula, y: u64, count: usize) -> bool
     requires existential { IsSome (existential_of f.now y) }
     requires few { count ≤ length f.now.universals }
-    ensures { (e : Existential) → existential_of f.now y ≡ Some e → (IsTrue result ↔ All (Contains e.sees) (take count f.now.universals)) }
+    ensures { (e : Existential) → existential_of f.now y ≡ Some e
+        → (IsTrue result ↔ All (Contains e.sees) (take count f.now.universals)) }
 {
     f.every_formula_is_lawful();
     match f.deps_of(y) {
@@ -81,7 +86,8 @@ fn sees_first(f: &Formula, y: u64, count: usize) -> bool
 fn sees_listed(f: &Formula, y: u64, xs: &[u64]) -> bool
     requires existential { IsSome (existential_of f.now y) }
     requires ordered { xs.now ≡ listed_universals f.now.universals xs.now }
-    ensures { (e : Existential) → existential_of f.now y ≡ Some e → (IsTrue result ↔ All (Contains e.sees) xs.now) }
+    ensures { (e : Existential) → existential_of f.now y ≡ Some e
+        → (IsTrue result ↔ All (Contains e.sees) xs.now) }
 {
     match f.deps_of(y) {
         Deps::FirstOf(n) => ends_within(f, xs, *n),
@@ -89,7 +95,8 @@ fn sees_listed(f: &Formula, y: u64, xs: &[u64]) -> bool
     }
 }
 
-// Whether universals in order of declaration are all among the first ones: whether the last of them is.
+// Whether universals in order of declaration are all among the first ones: whether the last of them
+// is.
 fn ends_within(f: &Formula, xs: &[u64], count: usize) -> bool
     requires ordered { xs.now ≡ listed_universals f.now.universals xs.now }
     ensures { IsTrue result ↔ All (Contains (take count f.now.universals)) xs.now }
@@ -104,7 +111,8 @@ fn ends_within(f: &Formula, xs: &[u64], count: usize) -> bool
     }
 }
 
-// Whether the first universals are all among some in order of declaration: whether the last of them has the same place there.
+// Whether the first universals are all among some in order of declaration: whether the last of them
+// has the same place there.
 fn begins_with_first(f: &Formula, vars: &[u64], count: usize) -> bool
     requires few { count ≤ length f.now.universals }
     requires ordered { vars.now ≡ listed_universals f.now.universals vars.now }
@@ -122,7 +130,8 @@ fn begins_with_first(f: &Formula, vars: &[u64], count: usize) -> bool
 
 fn sees_all(f: &Formula, y: u64, xs: &[u64]) -> bool
     requires { IsSome (existential_of f.now y) }
-    ensures { (e : Existential) → existential_of f.now y ≡ Some e → (IsTrue result ↔ All (Contains e.sees) xs.now) }
+    ensures { (e : Existential) → existential_of f.now y ≡ Some e
+        → (IsTrue result ↔ All (Contains e.sees) xs.now) }
 {
     for x in xs {
         if !f.sees(y, *x) {

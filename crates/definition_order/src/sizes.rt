@@ -11,7 +11,9 @@ use std::alloc::Global;
 
 // The places of all existentials, each behind the number of universals that the existential sees.
 pub(crate) fn sized_places(alloc: Global, f: &Formula) -> Result<Vec<(usize, usize)>, Memory>
-    ensures { IfOk result (λ sized. sized.items ≡ map (sized_place f.now) (range_with_len 0 (length f.now.existentials))) }
+    ensures { IfOk result
+        (λ sized. sized.items
+        ≡ map (sized_place f.now) (range_with_len 0 (length f.now.existentials))) }
 {
     let mut sized = Vec::new(alloc);
     for place in 0..f.existentials().len() {

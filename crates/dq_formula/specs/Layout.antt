@@ -1,4 +1,5 @@
--- How a formula lies in memory: the dependency sets in a map from the existentials, and the clauses end to end in one list.
+-- How a formula lies in memory: the dependency sets in a map from the existentials, and the clauses
+-- end to end in one list.
 use Rattle.std.specs.Prelude.{◌≡◌, ℕ, zero, suc, ◌-◌, ◌==◌, ◌≤◌, nat_eq, false, List, [], ◌∷◌, length, take, drop, map, slice_index}
 use Rattle.std.specs.List.{All, IsDistinct, list_any}
 use Rattle.std.specs.Map.{keys_of, values_of}
@@ -20,7 +21,8 @@ unseeing_entry v = (v, FirstOf 0)
 -- the clauses that lie end to end in a list from `start` on, by where each one ends
 abbrev pub clauses_at : ℕ → List ℕ → List Literal → List (List Literal)
 clauses_at start [] literals = []
-clauses_at start (end ∷ ends) literals = take (end - start) (drop start literals) ∷ clauses_at end ends literals
+clauses_at start (end ∷ ends) literals =
+    take (end - start) (drop start literals) ∷ clauses_at end ends literals
 
 -- where the clause at a place begins
 abbrev pub start_of : ℕ → List ℕ → ℕ → ℕ
@@ -44,7 +46,8 @@ abbrev pub IsInRange : ℕ → ℕ → Type 0
 IsInRange variables v = (1 ≤ v) × (v ≤ variables)
 
 -- what every formula keeps
-pub record IsKept (variables : ℕ) (universals : List ℕ) (entries : List (ℕ × Deps)) (ends : List ℕ) (literals : List Literal) : Type 0 where
+pub record IsKept (variables : ℕ) (universals : List ℕ) (entries : List (ℕ × Deps)) (ends : List ℕ)
+    (literals : List Literal) : Type 0 where
   pub universals_in_range : All (IsInRange variables) universals
   pub existentials_in_range : All (IsInRange variables) (keys_of entries)
   pub distinct_universals : IsDistinct nat_eq universals

@@ -1,5 +1,5 @@
--- What the prefix of a DQBF declares, and what it leaves free (DQDIMACS: a variable that occurs in a clause
--- and is not declared is an existential that sees nothing).
+-- What the prefix of a DQBF declares, and what it leaves free (DQDIMACS: a variable that occurs in
+-- a clause and is not declared is an existential that sees nothing).
 use Rattle.std.specs.Prelude.{◌≡◌, ℕ, ◌==◌, ◌≤◌, Bool, not, ◌&&◌, List, [], length, map, Some}
 use Rattle.std.specs.List.{All, list_any, filter, range_with_len}
 use Rattle.dq_lits.specs.Literal.{Literal, variable_of}
@@ -20,7 +20,8 @@ occurs matrix v = list_any (list_any (λ l. variable_of l == v)) matrix
 
 -- the variables that occur undeclared, in ascending order
 abbrev pub free_variables : Dqbf → List ℕ
-free_variables f = filter (λ v. not (is_declared f v) && occurs f.matrix v) (range_with_len 1 f.variables)
+free_variables f =
+    filter (λ v. not (is_declared f v) && occurs f.matrix v) (range_with_len 1 f.variables)
 
 -- an existential that sees nothing
 abbrev pub unseeing : ℕ → Existential

@@ -10,12 +10,16 @@ use Rattle.dq_formula.specs.declared.rules.Rule.{Rule}
 abbrev pub cube_true : Assignment → List Literal → Bool
 cube_true m cube = list_all (literal_true m) cube
 
--- the cube is over universals that the existential sees, and forces the bit wherever the matrix is true
+-- the cube is over universals that the existential sees, and forces the bit wherever the matrix is
+-- true
 pub record IsRule (f : Dqbf) (rule : Rule) : Type 0 where
-  pub over_seen : (y : Existential) → existential_of f rule.y ≡ Some y → All (λ l. Contains y.sees (variable_of l)) rule.cube
-  pub forced : (m : Assignment) → MatrixHolds f m → cube_true m rule.cube ≡ true → m rule.y ≡ rule.bit
+  pub over_seen : (y : Existential) → existential_of f rule.y ≡ Some y
+      → All (λ l. Contains y.sees (variable_of l)) rule.cube
+  pub forced : (m : Assignment) → MatrixHolds f m → cube_true m rule.cube ≡ true
+      → m rule.y ≡ rule.bit
 
 -- the bit of the first rule on the variable whose cube is true, else false
 abbrev pub rule_bit : List Rule → ℕ → Assignment → Bool
 rule_bit [] y m = false
-rule_bit (rule ∷ later) y m = if rule.y == y && cube_true m rule.cube then rule.bit else rule_bit later y m
+rule_bit (rule ∷ later) y m =
+    if rule.y == y && cube_true m rule.cube then rule.bit else rule_bit later y m

@@ -24,10 +24,11 @@ pub const MAX_VARIABLES: u64 = 1_000_000;
 /// The most clauses that a formula may have.
 pub const MAX_CLAUSES: usize = 10_000_000;
 
-/// A dependency quantified Boolean formula, as DQDIMACS (QDIMACS with `d` lines) writes it: the prefix,
-/// which gives each existential its dependency set, and the matrix.
+/// A dependency quantified Boolean formula, as DQDIMACS (QDIMACS with `d` lines) writes it: the
+/// prefix, which gives each existential its dependency set, and the matrix.
 ///
-/// A call that adds something answers `Memory` where a growth was refused, and then has changed nothing.
+/// A call that adds something answers `Memory` where a growth was refused, and then has changed
+/// nothing.
 #[derive(Debug, Drop)]
 pub struct Formula {
     vars: u64,
@@ -45,9 +46,11 @@ impl Model for Formula {
 
     ghost use Rattle.dq_formula.specs.Layout.{formula_of, IsKept};
 
-    ghost view = { λ f. formula_of f.vars f.universals.keys f.existentials.entries f.ends.items f.lits.items };
+    ghost view = { λ f.
+        formula_of f.vars f.universals.keys f.existentials.entries f.ends.items f.lits.items };
 
-    ghost invariant = { λ f. IsKept f.vars f.universals.keys f.existentials.entries f.ends.items f.lits.items };
+    ghost invariant = { λ f.
+        IsKept f.vars f.universals.keys f.existentials.entries f.ends.items f.lits.items };
 }
 
 // Where the clause at `j` begins.
@@ -74,7 +77,8 @@ fn clause_at<'a>(ends: &[usize], lits: &'a [Lit], j: usize) -> &'a [Lit]
 fn append(ends: &mut Vec<usize>, lits: &mut Vec<Lit>, clause: &[Lit]) -> Result<(), Memory>
     ensures end { OnOk result (ends.new.items ≡ ends.old.items ++ length lits.new.items ∷ []) }
     ensures literals { OnOk result (lits.new.items ≡ lits.old.items ++ clause.now) }
-    ensures err { OnErr result ((ends.new.items ≡ ends.old.items) × (lits.new.items ≡ lits.old.items)) }
+    ensures err { OnErr result
+        ((ends.new.items ≡ ends.old.items) × (lits.new.items ≡ lits.old.items)) }
 {
     ends.reserve(1)?;
     lits.extend_from_slice(clause)?;
@@ -97,7 +101,8 @@ fn picked(alloc: Global, xs: &[u64], places: &[usize]) -> Result<Vec<u64>, Memor
 // Puts keys without dependencies into a map that has room for them.
 fn insert_all(existentials: &mut IndexMap<u64, Deps>, keys: &[u64])
     requires { length keys.now ≤ spare existentials.old }
-    ensures { existentials.new.entries ≡ insert_all nat_eq existentials.old.entries (map unseeing_entry keys.now) }
+    ensures { existentials.new.entries
+        ≡ insert_all nat_eq existentials.old.entries (map unseeing_entry keys.now) }
 {
     for key in keys {
         existentials.insert(*key, Deps::FirstOf(0)).unwrap();
@@ -109,7 +114,8 @@ impl Formula {
     /// It takes no memory.
     pub fn new(alloc: Global, vars: u64) -> Formula
         requires { vars ≤ MAX_VARIABLES }
-        ensures { result ≡ record { variables = vars; universals = []; existentials = []; matrix = [] } }
+        ensures { result
+            ≡ record { variables = vars; universals = []; existentials = []; matrix = [] } }
     {
         Formula {
             vars,
@@ -232,12 +238,15 @@ impl Formula {
     // Searches universals that stand in order of declaration for the one at a place.
     fn finds(&self, vars: &[u64], place: usize) -> Result<usize, usize>
         ensures within { IsSearchInRange result (length vars.now) }
-        ensures found { IsBinarySearchResult (λ v. nat_cmp (position_or_len (λ u. u == v) self.now.universals) place) vars.now result }
+        ensures found { IsBinarySearchResult
+            (λ v. nat_cmp (position_or_len (λ u. u == v) self.now.universals) place) vars.now
+            result }
     {
         vars.binary_search_by_key(&place, |x| self.place(*x))
     }
 
-    // The place of a universal in the order of declaration; behind all of them for another variable.
+    // The place of a universal in the order of declaration; behind all of them for another
+    // variable.
     fn place(&self, x: u64) -> usize
         ensures { result ≡ position_or_len (λ u. u == x) self.now.universals }
     {
@@ -252,7 +261,9 @@ impl Formula {
     fn seen_bit(&self, deps: &Deps, row: &Row, i: usize) -> bool
         requires form { IsDependencySet self.now.universals deps.now }
         requires row_length { length row.now ≡ length self.now.universals }
-        ensures { result ≡ bit_of (map (row_assignment self.now row.now) (dependencies self.now.universals deps.now)) i }
+        ensures { result
+            ≡ bit_of
+            (map (row_assignment self.now row.now) (dependencies self.now.universals deps.now)) i }
     {
         let _ = &self.vars;
         match deps {
@@ -264,8 +275,8 @@ impl Formula {
         }
     }
 
-    /// Writes the bits of a row of the universals that an existential depends on, in order of declaration,
-    /// to the first places of `out`, and false behind them.
+    /// Writes the bits of a row of the universals that an existential depends on, in order of
+    /// declaration, to the first places of `out`, and false behind them.
     pub fn restrict(&self, y: u64, row: &Row, out: &mut Row)
         requires declared { IsSome (existential_of self.now y) }
         requires row_length { length row.now ≡ length self.now.universals }
@@ -285,7 +296,8 @@ impl Formula {
         requires first_length { length r1.now ≡ length self.now.universals }
         requires second_length { length r2.now ≡ length self.now.universals }
         ensures { IfSome (existential_of self.now y) (λ e. result
-            ≡ same_bits (restriction e (row_assignment self.now r1.now)) (restriction e (row_assignment self.now r2.now))) }
+            ≡ same_bits (restriction e (row_assignment self.now r1.now))
+            (restriction e (row_assignment self.now r2.now))) }
     {
         let deps = self.deps_of(y);
         for i in 0..deps.count() {
@@ -303,7 +315,8 @@ impl Formula {
         requires from_one { 1 ≤ v }
         requires in_range { v ≤ self.old.variables }
         requires undeclared { is_declared self.old v ≡ false }
-        ensures ok { OnOk result (self.new ≡ record self.old { universals = self.old.universals ++ v ∷ [] }) }
+        ensures ok { OnOk result
+            (self.new ≡ record self.old { universals = self.old.universals ++ v ∷ [] }) }
         ensures err { OnErr result (self.new ≡ self.old) }
     {
         self.universals.insert(v)?;
@@ -316,7 +329,8 @@ impl Formula {
         requires in_range { y ≤ self.old.variables }
         requires undeclared { is_declared self.old y ≡ false }
         ensures ok { OnOk result (self.new ≡ record self.old {
-          existentials = self.old.existentials ++ record { variable = y; sees = self.old.universals } ∷ [];
+          existentials = self.old.existentials
+              ++ record { variable = y; sees = self.old.universals } ∷ [];
         }) }
         ensures err { OnErr result (self.new ≡ self.old) }
     {
@@ -324,8 +338,8 @@ impl Formula {
         self.add_existential(y, Deps::FirstOf(count))
     }
 
-    /// Declares an existential that depends on the listed universals. They may stand in any order, and
-    /// may be repeated.
+    /// Declares an existential that depends on the listed universals. They may stand in any order,
+    /// and may be repeated.
     pub fn add_listed(&mut self, y: u64, xs: &[u64]) -> Result<(), Memory>
         requires from_one { 1 ≤ y }
         requires in_range { y ≤ self.old.variables }
@@ -357,7 +371,9 @@ impl Formula {
 
     // The places of variables in the order of declaration.
     fn places(&self, xs: &[u64]) -> Result<Vec<usize>, Memory>
-        ensures { IfOk result (λ places. places.items ≡ map (λ x. position_or_len (λ u. u == x) self.now.universals) xs.now) }
+        ensures { IfOk result
+            (λ places. places.items
+            ≡ map (λ x. position_or_len (λ u. u == x) self.now.universals) xs.now) }
     {
         let alloc = *self.lits.allocator();
         Ok(xs.iter().map(|x| self.place(*x)).collect(alloc)?)
@@ -382,15 +398,16 @@ impl Formula {
     pub fn add_clause(&mut self, lits: &[Lit]) -> Result<(), Memory>
         requires in_range { All (λ l. variable_of l ≤ self.old.variables) lits.now }
         requires few { length self.old.matrix < MAX_CLAUSES }
-        ensures ok { OnOk result (self.new ≡ record self.old { matrix = self.old.matrix ++ lits.now ∷ [] }) }
+        ensures ok { OnOk result
+            (self.new ≡ record self.old { matrix = self.old.matrix ++ lits.now ∷ [] }) }
         ensures err { OnErr result (self.new ≡ self.old) }
     {
         append(&mut self.ends, &mut self.lits, lits)?;
         Ok(())
     }
 
-    /// Declares each variable that occurs in a clause and is undeclared as an existential that depends
-    /// on nothing, in ascending order.
+    /// Declares each variable that occurs in a clause and is undeclared as an existential that
+    /// depends on nothing, in ascending order.
     pub fn add_free(&mut self) -> Result<(), Memory>
         ensures ok { OnOk result (self.new ≡ record self.old {
           existentials = self.old.existentials ++ map unseeing (free_variables self.old);
@@ -415,7 +432,9 @@ impl Formula {
 
     // The variables of those literals that stand on an undeclared one, in their order.
     fn undeclared(&self, lits: &[Lit]) -> Result<Vec<u64>, Memory>
-        ensures kept { IfOk result (λ vars. vars.items ≡ filter (λ v. not (is_declared self.now v)) (map variable_of lits.now)) }
+        ensures kept { IfOk result
+            (λ vars. vars.items
+            ≡ filter (λ v. not (is_declared self.now v)) (map variable_of lits.now)) }
         ensures from_one { IfOk result (λ vars. All (λ v. 1 ≤ v) vars.items) }
     {
         let mut vars = Vec::new(*self.lits.allocator());

@@ -1,5 +1,5 @@
--- Errors with a cause: an object that reaches outside counts its faults, and a failure is told only where the count rose
--- (the counters saturate, as `u64::saturating_add` does in Rust's std).
+-- Errors with a cause: an object that reaches outside counts its faults, and a failure is told only
+-- where the count rose (the counters saturate, as `u64::saturating_add` does in Rust's std).
 use Rattle.std.specs.Prelude.{◌≡◌, ℕ, ◌+◌, ◌-◌, ◌^◌, ◌≤◌, min, Result, OnOk, OnErr}
 
 -- the next value of a counter of 64 bits, which stays at its last value

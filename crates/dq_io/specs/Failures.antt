@@ -3,7 +3,8 @@ use Rattle.std.specs.Prelude.{ℕ, Bool, List, length, ◌==◌}
 use Rattle.std.specs.List.{list_any}
 use Rattle.dq_io.specs.Causes.{next_count}
 
--- the numbers of the calls that are to fail, the number of the last call (0 before the first), and the faults
+-- the numbers of the calls that are to fail, the number of the last call (0 before the first), and
+-- the faults
 pub record CallFailures : Type 0 where
   pub failing : List ℕ
   pub calls : ℕ

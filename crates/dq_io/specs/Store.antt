@@ -6,7 +6,8 @@ pub record NamedBytes : Type 0 where
   pub name : List ℕ
   pub bytes : List ℕ
 
--- the files, what is left to read of the open one, how many of its bytes were read, and how many times one was picked
+-- the files, what is left to read of the open one, how many of its bytes were read, and how many
+-- times one was picked
 pub record StoredFiles : Type 0 where
   pub files : List NamedBytes
   pub rest : List ℕ
@@ -39,7 +40,8 @@ file_at files place = slice_index_or files place (record { name = []; bytes = []
 -- the open file stands at a place of the list, and no more of its bytes were read than it has
 abbrev pub IsOpenAt : List NamedBytes → Option ℕ → ℕ → Type 0
 IsOpenAt files None given = given ≡ 0
-IsOpenAt files (Some place) given = (place < length files) × (given ≤ length (file_at files place).bytes)
+IsOpenAt files (Some place) given =
+    (place < length files) × (given ≤ length (file_at files place).bytes)
 
 -- what is left of the open file
 abbrev pub rest_from : List NamedBytes → Option ℕ → ℕ → List ℕ

@@ -8,8 +8,8 @@ use crate::errors::Failed;
 /// Files that are read by name, one at a time, through reads that may be short, as POSIX has them.
 /// Before the first `pick` nothing is left to read.
 ///
-/// What an object knows of its files it may tell or not. Faults it always counts: a call fails where
-/// the count rose and there alone, so that Ok says that no fault came.
+/// What an object knows of its files it may tell or not. Faults it always counts: a call fails
+/// where the count rose and there alone, so that Ok says that no fault came.
 pub trait Files {
     /// What is told of the file of a name.
     ghost held: { Self → List ℕ → Holding };
@@ -39,7 +39,8 @@ pub trait Files {
         ensures held { held self.new ≡ held self.old }
         ensures cause { HasCause (faults self.old) (faults self.new) result }
         ensures picked { picks self.new ≡ next_count (picks self.old) }
-        ensures reliable { reliable self.old ≡ true → IsErr result → held self.old name.now ≡ Absent }
+        ensures reliable { reliable self.old ≡ true → IsErr result
+            → held self.old name.now ≡ Absent }
         ensures still_reliable { reliable self.new ≡ reliable self.old };
 
     /// Moves bytes from the front of what is left into the front of the buffer, and says how many:

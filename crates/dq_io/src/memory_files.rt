@@ -11,8 +11,8 @@ use dq_lits::Memory;
 use std::alloc::Global;
 use std::marker::Model;
 
-/// Files in memory, for tests: they tell what is held, give at most so many bytes a read, and fail at
-/// the calls of given numbers. Of several files of one name the first counts.
+/// Files in memory, for tests: they tell what is held, give at most so many bytes a read, and fail
+/// at the calls of given numbers. Of several files of one name the first counts.
 #[derive(Debug, Drop)]
 pub struct MemFiles {
     greatest: usize,
@@ -78,7 +78,8 @@ impl Files for MemFiles {
     /// It fails where the call's number is among those that are to fail, or the name isn't held.
     fn pick(&mut self, name: &str) -> Result<(), Failed>
         ensures fails { is_err result
-            ≡ (fails_next self.old.failures || not (is_held (held_in self.old.store.files name.now))) }
+            ≡ (fails_next self.old.failures
+            || not (is_held (held_in self.old.store.files name.now))) }
         ensures ok { OnOk result (self.new ≡ record self.old {
           store = record self.old.store {
             rest = bytes_of (held_in self.old.store.files name.now);
@@ -88,7 +89,8 @@ impl Files for MemFiles {
           failures = called self.old.failures;
         }) }
         ensures err { OnErr result (self.new ≡ record self.old {
-          store = record self.old.store { rest = []; given = 0; picks = next_count self.old.store.picks };
+          store = record self.old.store
+              { rest = []; given = 0; picks = next_count self.old.store.picks };
           failures = faulted (called self.old.failures);
         }) }
         ensures cause { HasCause self.old.failures.faults self.new.failures.faults result }
@@ -103,8 +105,8 @@ impl Files for MemFiles {
         Ok(())
     }
 
-    /// It fails where the call's number is among those that are to fail. Else it gives as many bytes
-    /// as there are and as fit, but at most the greatest size.
+    /// It fails where the call's number is among those that are to fail. Else it gives as many
+    /// bytes as there are and as fit, but at most the greatest size.
     fn read(&mut self, buf: &mut [u8]) -> Result<usize, Failed>
         ensures fails { is_err result ≡ fails_next self.old.failures }
         ensures count { IfOk result (λ n.

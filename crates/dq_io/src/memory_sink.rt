@@ -34,8 +34,8 @@ impl Model for MemSink {
 }
 
 impl MemSink {
-    /// A sink that took nothing yet. A write takes at most `greatest` bytes. The calls of `write` are
-    /// counted from 1 on, and those whose numbers stand in `failing` are to fail.
+    /// A sink that took nothing yet. A write takes at most `greatest` bytes. The calls of `write`
+    /// are counted from 1 on, and those whose numbers stand in `failing` are to fail.
     pub fn new(alloc: Global, greatest: usize, failing: &[u64]) -> Result<MemSink, Memory>
         requires { 1 ≤ greatest }
         ensures { IfOk result (λ s. s ≡ record {

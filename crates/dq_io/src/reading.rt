@@ -11,8 +11,8 @@ use std::alloc::{AllocError, Global};
 const PIECE: usize = 65536;
 
 /// The file of that name, read to its end: up to the first read that gives nothing, since a short
-/// read isn't the end. It stops at a failed call, and once more than `limit` bytes were given. After
-/// an error the file may have been read in part.
+/// read isn't the end. It stops at a failed call, and once more than `limit` bytes were given.
+/// After an error the file may have been read in part.
 pub fn read_all<F: Files>(
     alloc: Global,
     files: &mut F,
@@ -37,7 +37,8 @@ pub fn read_all<F: Files>(
     ensures later { F.faults files.old ≤ F.faults files.new }
     ensures held { F.held files.new ≡ F.held files.old }
 
-    // One file is picked. Over files that are told to be reliable only one that isn't held is a fault.
+    // One file is picked. Over files that are told to be reliable only one that isn't held is a
+    // fault.
     ensures picked { F.picks files.new ≡ next_count (F.picks files.old) }
     ensures reliable { F.reliable files.old ≡ true → IsErrOf result ReadStop.Fault →
         F.held files.old name.now ≡ Absent }

@@ -1,5 +1,5 @@
-// The trusted edge: files and the output of the system that the program runs on. It tells nothing of
-// what they hold, and counts every error.
+// The trusted edge: files and the output of the system that the program runs on. It tells nothing
+// of what they hold, and counts every error.
 ghost use Rattle.std.specs.Prelude.{◌≡◌, ◌+◌, ◌<◌, ◌≤◌, ℕ, true, false, length, IfOk, OnOk, OnErr, Ok, None};
 ghost use Rattle.dq_io.specs.Causes.{HasCause, next_count};
 ghost use Rattle.dq_io.specs.Files.{Untold};
@@ -36,7 +36,8 @@ impl<R: rt::Files> Model for RealFiles<R> {
 
     ghost Value = { RealState };
 
-    ghost view = { λ f. record { is_open = is_some f.file; given = f.given; faults = f.faults; picks = f.picks } };
+    ghost view = { λ f.
+        record { is_open = is_some f.file; given = f.given; faults = f.faults; picks = f.picks } };
 }
 
 impl<R: rt::Files> RealFiles<R> {

@@ -6,8 +6,8 @@ use crate::errors::Failed;
 
 /// What takes bytes, through writes that may be short, as POSIX has them.
 ///
-/// What an object took it may tell or not. Faults it always counts: a call fails where the count rose
-/// and there alone, so that Ok says that no fault came.
+/// What an object took it may tell or not. Faults it always counts: a call fails where the count
+/// rose and there alone, so that Ok says that no fault came.
 pub trait Sink {
     /// The bytes taken so far, where told.
     ghost taken: { Self → Option (List ℕ) };

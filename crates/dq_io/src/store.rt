@@ -119,7 +119,8 @@ impl FileStore {
 
     /// Picks no file: a pick that failed.
     pub fn close(&mut self)
-        ensures { self.new ≡ record self.old { rest = []; given = 0; picks = next_count self.old.picks } }
+        ensures { self.new
+            ≡ record self.old { rest = []; given = 0; picks = next_count self.old.picks } }
     {
         self.picks = self.picks.saturating_add(1);
         self.place = None;

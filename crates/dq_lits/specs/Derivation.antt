@@ -1,5 +1,5 @@
--- Derivation by hinted unit propagation, as in LRAT without RAT steps, but strict: each hint propagates,
--- and the last one alone is falsified.
+-- Derivation by hinted unit propagation, as in LRAT without RAT steps, but strict: each hint
+-- propagates, and the last one alone is falsified.
 use Rattle.std.specs.Prelude.{◌≡◌, ℕ, ◌+◌, ◌==◌, Bool, true, false, not, ◌&&◌, List, [], ◌∷◌, map, Option, None, Some, if◌then◌else◌}
 use Rattle.std.specs.List.{list_any, list_all, filter}
 use Rattle.dq_lits.specs.Literal.{Assignment, Literal, opposite, same_literal, clause_true}
@@ -26,12 +26,14 @@ pub data Status : Type 0 where
 -- by its literals that aren't false
 abbrev pub status_by : List Literal → List Literal → Status
 status_by trues [] = falsified
-status_by trues (l ∷ rest) = if list_all (same_literal l) rest && not (holds trues l) then unit l else stuck
+status_by trues (l ∷ rest) =
+    if list_all (same_literal l) rest && not (holds trues l) then unit l else stuck
 
 -- a missing clause is of no use
 abbrev pub status_of : List Literal → Option (List Literal) → Status
 status_of trues None = stuck
-status_of trues (Some clause) = status_by trues (filter (λ l. not (holds trues (opposite l))) clause)
+status_of trues (Some clause) =
+    status_by trues (filter (λ l. not (holds trues (opposite l))) clause)
 
 -- a unit hint goes on; a falsified one has to be the last
 abbrev pub fault_by : Status → ℕ → List ℕ → (Literal → Option ℕ) → Option ℕ
@@ -44,14 +46,17 @@ fault_by stuck place _ _ = Some place
 abbrev pub hint_fault : LiveClauses → List Literal → ℕ → List ℕ → Option ℕ
 hint_fault live trues place [] = Some place
 hint_fault live trues place (hint ∷ hints) =
-    fault_by (status_of trues (live hint)) place hints (λ l. hint_fault live (l ∷ trues) (place + 1) hints)
+    fault_by (status_of trues (live hint)) place hints
+    (λ l. hint_fault live (l ∷ trues) (place + 1) hints)
 
 abbrev pub is_tautology : List Literal → Bool
 is_tautology clause = list_any (λ l. holds clause (opposite l)) clause
 
--- 0 where the line holds a literal beside its negation; else the fault of the hints, with every literal of the line false
+-- 0 where the line holds a literal beside its negation; else the fault of the hints, with every
+-- literal of the line false
 abbrev pub line_fault : LiveClauses → List Literal → List ℕ → Option ℕ
-line_fault live literals hints = if is_tautology literals then Some 0 else hint_fault live (map opposite literals) 1 hints
+line_fault live literals hints =
+    if is_tautology literals then Some 0 else hint_fault live (map opposite literals) 1 hints
 
 abbrev pub IsDerived : LiveClauses → List Literal → List ℕ → Type 0
 IsDerived live literals hints = line_fault live literals hints ≡ None
@@ -76,7 +81,8 @@ abbrev pub is_empty : List Literal → Bool
 is_empty [] = true
 is_empty (_ ∷ _) = false
 
--- the first fault of the steps to come, where `finished` tells whether the last step before them is empty
+-- the first fault of the steps to come, where `finished` tells whether the last step before them is
+-- empty
 abbrev pub steps_fault : Bool → LiveClauses → List ProofStep → Option ProofFault
 steps_fault finished live [] = if finished then None else Some unfinished
 steps_fault finished live (step ∷ steps) =
@@ -92,4 +98,5 @@ Derives live steps = proof_fault live steps ≡ None
 
 -- the assignment makes every live clause true
 abbrev pub MakesTrue : Assignment → LiveClauses → Type 0
-MakesTrue m live = (id : ℕ) (clause : List Literal) → live id ≡ Some clause → clause_true m clause ≡ true
+MakesTrue m live =
+    (id : ℕ) (clause : List Literal) → live id ≡ Some clause → clause_true m clause ≡ true

@@ -1,9 +1,11 @@
--- What a dependency quantified Boolean formula (DQBF) is: a prefix and a matrix (QDIMACS with `d` lines).
+-- What a dependency quantified Boolean formula (DQBF) is: a prefix and a matrix (QDIMACS with `d`
+-- lines).
 use Rattle.std.specs.Prelude.{ℕ, ◌≤◌, ◌≢◌, ◌==◌, Bool, List, ◌++◌, map, Option}
 use Rattle.std.specs.List.{All, AllPairs, Contains, find, list_any}
 use Rattle.dq_lits.specs.Literal.{Literal, variable_of}
 
--- an existential variable with its dependency set: the universals that it may see, in order of declaration
+-- an existential variable with its dependency set: the universals that it may see, in order of
+-- declaration
 pub record Existential : Type 0 where
   pub variable : ℕ
   pub sees : List ℕ

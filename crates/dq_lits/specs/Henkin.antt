@@ -18,7 +18,8 @@ same_bits (a ∷ as') (b ∷ bs) = same_bit a b && same_bits as' bs
 abbrev pub restriction : Existential → Assignment → List Bool
 restriction y m = map m y.sees
 
--- a function for each existential: the set of the bit lists over its dependency set at which it is true
+-- a function for each existential: the set of the bit lists over its dependency set at which it is
+-- true
 abbrev pub HenkinChoice : Type 0
 HenkinChoice = Existential → List (List Bool)
 

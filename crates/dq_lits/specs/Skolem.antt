@@ -5,7 +5,8 @@ use Rattle.dq_lits.specs.Literal.{Assignment}
 use Rattle.dq_lits.specs.Formula.{Existential, Dqbf}
 use Rattle.dq_lits.specs.Henkin.{MatrixHolds}
 
--- an output of a circuit or a graph: its value, and the variables in its cone (its structural support)
+-- an output of a circuit or a graph: its value, and the variables in its cone (its structural
+-- support)
 pub record OutputFunction : Type 0 where
   pub value : Assignment → Bool
   pub support : List ℕ
@@ -19,4 +20,5 @@ IsSupported o = (m n : Assignment) → All (λ x. m x ≡ n x) o.support → o.v
 pub record AreSkolemFunctions (f : Dqbf) (output : Existential → OutputFunction) : Type 0 where
   pub supported : All (λ y. IsSupported (output y)) f.existentials
   pub reads_declared : All (λ y. All (Contains y.sees) (output y).support) f.existentials
-  pub holds : (m : Assignment) → All (λ y. m y.variable ≡ (output y).value m) f.existentials → MatrixHolds f m
+  pub holds : (m : Assignment) → All (λ y. m y.variable ≡ (output y).value m) f.existentials
+      → MatrixHolds f m

@@ -1,8 +1,8 @@
 //! Literals, clauses and rows, and what a DQBF means.
 //!
-//! The types are exact: a contract sees a literal as a signed number, a clause as a list of literals
-//! and a row as a list of bits. `specs/` defines what a formula means, and what a certificate of its
-//! truth or falsehood proves; the laws in `laws` tie these definitions together.
+//! The types are exact: a contract sees a literal as a signed number, a clause as a list of
+//! literals and a row as a list of bits. `specs/` defines what a formula means, and what a
+//! certificate of its truth or falsehood proves; the laws in `laws` tie these definitions together.
 #![tactic(auto)]
 
 pub use clauses::Clause;

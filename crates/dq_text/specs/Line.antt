@@ -13,14 +13,16 @@ pub record TextLine : Type 0 where
 -- a byte that isn't LF, in front of lines
 abbrev pub extend_line : ℕ → ℕ → List TextLine → List TextLine
 extend_line byte number [] = record { text = byte ∷ []; number = number; behind = [] } ∷ []
-extend_line byte number (line ∷ lines) = record { text = byte ∷ line.text; number = number; behind = line.behind } ∷ lines
+extend_line byte number (line ∷ lines) =
+    record { text = byte ∷ line.text; number = number; behind = line.behind } ∷ lines
 
--- the lines of bytes whose first line has this number; a line ends at LF or at the end of the bytes,
--- and an empty piece behind the last LF is no line
+-- the lines of bytes whose first line has this number; a line ends at LF or at the end of the
+-- bytes, and an empty piece behind the last LF is no line
 abbrev pub lines_from : ℕ → List ℕ → List TextLine
 lines_from number [] = []
 lines_from number (byte ∷ bytes) =
-    if byte == 10 then record { text = []; number = number; behind = bytes } ∷ lines_from (number + 1) bytes
+    if byte == 10
+    then record { text = []; number = number; behind = bytes } ∷ lines_from (number + 1) bytes
     else extend_line byte number (lines_from number bytes)
 
 -- these bytes are a line with this text, with its LF if it has one, and then the others

@@ -22,4 +22,5 @@ pub record IsFirstToken (bytes token others : List ℕ) : Type 0 where
 -- these are all tokens of the bytes, in order
 abbrev pub AreLongestRuns : List ℕ → List (List ℕ) → Type 0
 AreLongestRuns bytes [] = All IsSeparator bytes
-AreLongestRuns bytes (token ∷ tokens) = (others : List ℕ) × IsFirstToken bytes token others × AreLongestRuns others tokens
+AreLongestRuns bytes (token ∷ tokens) =
+    (others : List ℕ) × IsFirstToken bytes token others × AreLongestRuns others tokens

@@ -23,7 +23,8 @@ unsigned_of digits =
 abbrev pub negative_of : List ℕ → Number
 negative_of digits =
     if not (are_digits digits) || (decimal_value digits == 0) then NotANumber else
-    if nat_lt (decimal_value digits) (10 ^ 18) then Int (neg_ℤ (pos (decimal_value digits))) else TooBig
+    if nat_lt (decimal_value digits) (10 ^ 18) then Int (neg_ℤ (pos (decimal_value digits)))
+    else TooBig
 
 abbrev pub number_of : List ℕ → Number
 number_of [] = NotANumber

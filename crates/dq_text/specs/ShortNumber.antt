@@ -13,7 +13,8 @@ pub record IsLeadingValue (bytes : List ℕ) (value count : ℕ) : Type 0 where
   pub value_is : value ≡ decimal_value (take count bytes)
   pub small : value < 10 ^ 18
 
--- these bytes are digits with this value, and then others, in which the token doesn't go on, with the tokens of what is left
+-- these bytes are digits with this value, and then others, in which the token doesn't go on, with
+-- the tokens of what is left
 pub record BeginsWithNatural (bytes : List ℕ) (value : ℕ) (left : List ℕ) : Type 0 where
   pub digits : List ℕ
   pub others : List ℕ

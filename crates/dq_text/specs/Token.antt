@@ -1,4 +1,5 @@
--- The tokens of a text: the longest runs of bytes other than space, tab, CR and LF, without comment lines.
+-- The tokens of a text: the longest runs of bytes other than space, tab, CR and LF, without comment
+-- lines.
 use Rattle.std.specs.Prelude.{ℕ, ◌+◌, ◌==◌, Bool, true, false, not, List, [], ◌∷◌, count_by, if◌then◌else◌}
 use Rattle.dq_text.specs.Bytes.{kind_of}
 use Rattle.dq_text.specs.declared.bytes.ByteKind.{ByteKind}
@@ -53,12 +54,14 @@ goes_on (byte ∷ _) = not (is_separator (kind_of byte))
 
 abbrev pub extend : ℕ → ℕ → ℕ → List TextToken → List TextToken
 extend byte line at [] = []
-extend byte line at (token ∷ tokens) = record { text = byte ∷ token.text; line = line; at = at } ∷ tokens
+extend byte line at (token ∷ tokens) =
+    record { text = byte ∷ token.text; line = line; at = at } ∷ tokens
 
 -- a byte of a token, in front of the bytes behind it and of their tokens
 abbrev pub put_byte : ℕ → ℕ → ℕ → List ℕ → List TextToken → List TextToken
 put_byte byte line at bytes tokens =
-    if goes_on bytes then extend byte line at tokens else record { text = byte ∷ []; line = line; at = at } ∷ tokens
+    if goes_on bytes then extend byte line at tokens
+    else record { text = byte ∷ []; line = line; at = at } ∷ tokens
 
 -- the tokens of bytes that stand at this place of this line
 abbrev pub tokens_from : LinePlace → ℕ → ℕ → List ℕ → List TextToken

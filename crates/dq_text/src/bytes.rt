@@ -7,7 +7,8 @@ pub enum ByteKind {
     /// A space, a tab or a CR.
     Blank,
     LineFeed,
-    /// The letter `c`, which begins a comment where it is the first byte of a line that isn't blank.
+    /// The letter `c`, which begins a comment where it is the first byte of a line that isn't
+    /// blank.
     LetterC,
     Other,
 }

@@ -15,7 +15,8 @@ pub struct Line<'a> {
     pub number: u64,
 }
 
-/// The lines of a text in order. LF alone ends a line, and behind the last LF no empty line follows.
+/// The lines of a text in order. LF alone ends a line, and behind the last LF no empty line
+/// follows.
 #[derive(Debug, Drop)]
 pub struct Lines<'a> {
     rest: &'a [u8],
@@ -51,7 +52,8 @@ impl<'a> Lines<'a> {
     /// The next line; none at the end.
     pub fn next(&mut self) -> Option<Line<'a>>
         ensures line { MatchOption result (self.old.rest ≡ [])
-            (λ l. lines_from self.old.number self.old.rest ≡ text_line l self.new.rest ∷ lines_from self.new.number self.new.rest) }
+            (λ l. lines_from self.old.number self.old.rest
+            ≡ text_line l self.new.rest ∷ lines_from self.new.number self.new.rest) }
         ensures first { IfSome result (λ l. IsFirstLine self.old.rest l.text.now self.new.rest) }
         ensures number { IfSome result (λ l. l.number ≡ self.old.number) }
         ensures next_number { IfSome result (λ _. self.new.number ≡ self.old.number + 1) }
@@ -134,7 +136,8 @@ impl<'a> LineTokens<'a> {
     /// The next token as a number; none at the end, then and from then on.
     #[inline(always)]
     pub fn next_number(&mut self) -> Option<Number>
-        ensures number { MatchOption result (self.old ≡ []) (λ n. map number_of self.old ≡ n ∷ map number_of self.new) }
+        ensures number { MatchOption result (self.old ≡ [])
+            (λ n. map number_of self.old ≡ n ∷ map number_of self.new) }
         ensures end { IfNone result (self.new ≡ []) }
     {
         let rest = skip_separators(self.rest);
@@ -148,7 +151,8 @@ impl<'a> LineTokens<'a> {
     // The same of any token.
     #[inline(never)]
     fn next_any(&mut self) -> Option<Number>
-        ensures number { MatchOption result (self.old ≡ []) (λ n. map number_of self.old ≡ n ∷ map number_of self.new) }
+        ensures number { MatchOption result (self.old ≡ [])
+            (λ n. map number_of self.old ≡ n ∷ map number_of self.new) }
         ensures end { IfNone result (self.new ≡ []) }
     {
         match self.next() {

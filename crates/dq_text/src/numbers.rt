@@ -62,7 +62,9 @@ pub fn natural(token: &[u8]) -> Option<u64>
 
 /// The value of decimal digits, at most 10^18; none where there are other bytes or no digits.
 fn capped_value(digits: &[u8]) -> Option<u64>
-    ensures { result ≡ (if are_digits digits.now then Some (min (decimal_value digits.now) (10 ^ 18)) else None) }
+    ensures { result
+        ≡ (if are_digits digits.now then Some (min (decimal_value digits.now) (10 ^ 18))
+        else None) }
 {
     if digits.is_empty() {
         return None;
@@ -77,7 +79,8 @@ fn capped_value(digits: &[u8]) -> Option<u64>
     Some(value)
 }
 
-/// Appends the decimal text of a number, without leading zeros. A refusal leaves the buffer as it was.
+/// Appends the decimal text of a number, without leading zeros. A refusal leaves the buffer as it
+/// was.
 pub fn push_number(buf: &mut Vec<u8>, n: i64) -> Result<(), Memory>
     ensures ok { OnOk result (buf.new.items ≡ buf.old.items ++ signed_decimal n) }
     ensures err { OnErr result (buf.new.items ≡ buf.old.items) }
@@ -87,7 +90,8 @@ pub fn push_number(buf: &mut Vec<u8>, n: i64) -> Result<(), Memory>
     Ok(())
 }
 
-/// Appends the decimal text of a natural number, without leading zeros. A refusal leaves the buffer as it was.
+/// Appends the decimal text of a natural number, without leading zeros. A refusal leaves the buffer
+/// as it was.
 pub fn push_natural(buf: &mut Vec<u8>, n: u64) -> Result<(), Memory>
     ensures ok { OnOk result (buf.new.items ≡ buf.old.items ++ decimal n) }
     ensures err { OnErr result (buf.new.items ≡ buf.old.items) }

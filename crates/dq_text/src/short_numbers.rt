@@ -12,10 +12,12 @@ use crate::cursors::separates;
 // Numbers of so many digits are below 10^18.
 const MOST_DIGITS: usize = 18;
 
-/// The number that is the first token, and the bytes behind it. There may be one where it finds none: one of 19 digits
-/// or more.
+/// The number that is the first token, and the bytes behind it. There may be one where it finds
+/// none: one of 19 digits or more.
 pub fn short_number(bytes: &[u8]) -> Option<(i64, &[u8])>
-    ensures { IfSome result (λ found. map number_of (line_tokens bytes.now) ≡ Int found.0 ∷ map number_of (line_tokens found.1.now)) }
+    ensures { IfSome result
+        (λ found. map number_of (line_tokens bytes.now)
+        ≡ Int found.0 ∷ map number_of (line_tokens found.1.now)) }
 {
     match bytes.split_first() {
         Some((b'-', digits)) => behind_minus(digits),
@@ -24,7 +26,9 @@ pub fn short_number(bytes: &[u8]) -> Option<(i64, &[u8])>
 }
 
 fn behind_minus(digits: &[u8]) -> Option<(i64, &[u8])>
-    ensures { IfSome result (λ found. map number_of (line_tokens (45 ∷ digits.now)) ≡ Int found.0 ∷ map number_of (line_tokens found.1.now)) }
+    ensures { IfSome result
+        (λ found. map number_of (line_tokens (45 ∷ digits.now))
+        ≡ Int found.0 ∷ map number_of (line_tokens found.1.now)) }
 {
     let (value, behind) = short_natural(digits)?;
     if value == 0 {
@@ -34,7 +38,9 @@ fn behind_minus(digits: &[u8]) -> Option<(i64, &[u8])>
 }
 
 fn without_minus(bytes: &[u8]) -> Option<(i64, &[u8])>
-    ensures { IfSome result (λ found. map number_of (line_tokens bytes.now) ≡ Int found.0 ∷ map number_of (line_tokens found.1.now)) }
+    ensures { IfSome result
+        (λ found. map number_of (line_tokens bytes.now)
+        ≡ Int found.0 ∷ map number_of (line_tokens found.1.now)) }
 {
     let (value, behind) = short_natural(bytes)?;
     Some((as_signed(value), behind))

@@ -35,7 +35,8 @@ impl<'a> Tokens<'a> {
 
     /// The tokens of a whole text. It takes no memory.
     pub fn new(bytes: &'a [u8]) -> Tokens<'a>
-        ensures { result ≡ record { left = tokens_of bytes.now; last_line = last_line_of bytes.now } }
+        ensures { result
+            ≡ record { left = tokens_of bytes.now; last_line = last_line_of bytes.now } }
     {
         Tokens {
             cursor: Cursor {
@@ -49,7 +50,8 @@ impl<'a> Tokens<'a> {
 
     /// The next token; none at the end of the text, then and from then on.
     pub fn next(&mut self) -> Option<Token<'a>>
-        ensures token { MatchOption result (self.old.left ≡ []) (λ t. self.old.left ≡ text_token t ∷ self.new.left) }
+        ensures token { MatchOption result (self.old.left ≡ [])
+            (λ t. self.old.left ≡ text_token t ∷ self.new.left) }
         ensures end { IfNone result (self.new.left ≡ []) }
         ensures last_line { self.new.last_line ≡ self.old.last_line }
     {

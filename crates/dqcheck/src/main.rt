@@ -1,4 +1,5 @@
-//! `dqcheck FORMULA CERT`: judges a certificate for a formula, writes one line, and ends with its status.
+//! `dqcheck FORMULA CERT`: judges a certificate for a formula, writes one line, and ends with its
+//! status.
 #![tactic(auto)]
 
 use std::process::ExitCode;

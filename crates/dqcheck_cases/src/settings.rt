@@ -46,7 +46,8 @@ impl Settings {
         })
     }
 
-    /// Runs the checker, and gives its status and what was written. Then words, reads and writes are as at the start.
+    /// Runs the checker, and gives its status and what was written. Then words, reads and writes
+    /// are as at the start.
     pub fn run(&mut self, alloc: Global) -> Result<(u8, Vec<u8>)> {
         let mut files = self.files(alloc)?;
         let mut sink = MemSink::new(alloc, self.writes.greatest.max(1), &self.writes.failing)?;

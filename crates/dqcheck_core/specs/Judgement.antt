@@ -1,4 +1,5 @@
--- What is to be said of a certificate: the first of its faults, or that it proves the formula true or false.
+-- What is to be said of a certificate: the first of its faults, or that it proves the formula true
+-- or false.
 use Rattle.std.specs.Prelude.{◌≡◌, ℕ, ◌+◌, ◌-◌, ◌<◌, ◌≤◌, ◌==◌, ◌⊎◌, Bool, false, List, [], ◌∷◌, length, take, drop, Option, None, Some, Result, Ok, Err, codes, if◌then◌else◌}
 use Rattle.std.specs.List.{filter, position}
 use Rattle.std.specs.Str.{bytes_eq}
@@ -44,7 +45,8 @@ first_line bytes = until (position (λ byte. byte == 10) bytes) bytes
 abbrev pub line_ends : List ℕ → ℕ
 line_ends bytes = length (filter (λ byte. byte == 10) bytes)
 
--- the number of the first line of a comment, which ends a text of so many line ends whose first line has the number h
+-- the number of the first line of a comment, which ends a text of so many line ends whose first
+-- line has the number h
 abbrev pub comment_line : ℕ → ℕ → List ℕ → ℕ
 comment_line h ends comment = h + (ends - line_ends comment)
 
@@ -60,9 +62,11 @@ as_proof (Err refusal) = Err refusal
 abbrev pub proof_in : Dqbf → ℕ → ℕ → Netlist → Option (List ℕ) → Result (Option Dqp) CertRefusal
 proof_in f h ends net None = Ok None
 proof_in f h ends net (Some comment) =
-    if begins_proof comment then as_proof (circuit_proof_of f net comment (comment_line h ends comment)) else Ok None
+    if begins_proof comment
+    then as_proof (circuit_proof_of f net comment (comment_line h ends comment)) else Ok None
 
--- the line of a fault of the mapping: the header is line h, then follow the inputs' lines and then the outputs'
+-- the line of a fault of the mapping: the header is line h, then follow the inputs' lines and then
+-- the outputs'
 abbrev pub mapping_line : ℕ → Netlist → MapPlace → ℕ
 mapping_line h net Whole = h
 mapping_line h net (Input place) = h + 1 + place
@@ -81,13 +85,15 @@ answer_of_derivation verdict (Some unfinished) = NoEmptyClause
 -- first the number of universals, then the rows
 abbrev pub IsTestedByRows : Dqbf → MappedCircuit → Answer → Type 0
 IsTestedByRows f c (Unproved n) = (max_row_universals < n) × (n ≡ length f.universals)
-IsTestedByRows f c (BadRow k) = (length f.universals ≤ max_row_universals) × IsRowsAnswer f c (Err k)
+IsTestedByRows f c (BadRow k) =
+    (length f.universals ≤ max_row_universals) × IsRowsAnswer f c (Err k)
 IsTestedByRows f c ValidTrue = (length f.universals ≤ max_row_universals) × IsRowsAnswer f c (Ok tt)
 IsTestedByRows f c _ = ⊥
 
 -- by its proof, or by its rows where it has none
 abbrev pub IsTestedBy : Option Dqp → Candidate → Answer → Type 0
-IsTestedBy (Some d) c answer = answer ≡ answer_of_derivation ValidTrue (circuit_proof_fault c d.steps)
+IsTestedBy (Some d) c answer =
+    answer ≡ answer_of_derivation ValidTrue (circuit_proof_fault c d.steps)
 IsTestedBy None c answer = IsTestedByRows c.formula c.circuit answer
 
 -- an output reads a universal that its existential may not see
@@ -106,17 +112,20 @@ abbrev pub IsTested : Option Dqp → Candidate → Answer → Type 0
 IsTested proof c answer = HasUndeclaredRead c answer ⊎ PassesReads proof c answer
 
 abbrev pub BehindMapping : ℕ → Netlist → Option Dqp → Result Candidate MapError → Answer → Type 0
-BehindMapping h net proof (Err fault) answer = answer ≡ Refused (mapping_line h net fault.at) (Mapping fault.name)
+BehindMapping h net proof (Err fault) answer =
+    answer ≡ Refused (mapping_line h net fault.at) (Mapping fault.name)
 BehindMapping h net proof (Ok c) answer = IsTested proof c answer
 
-abbrev pub BehindProof : ℕ → Netlist → Result (Option Dqp) CertRefusal → Result Candidate MapError → Answer → Type 0
+abbrev pub BehindProof : ℕ → Netlist → Result (Option Dqp) CertRefusal → Result Candidate MapError
+    → Answer → Type 0
 BehindProof h net (Err refusal) mapped answer = answer ≡ Refused refusal.line (Text refusal.name)
 BehindProof h net (Ok proof) mapped answer = BehindMapping h net proof mapped answer
 
 -- the text of a proof in the comment comes first, then the mapping, then the tests
 abbrev pub IsCircuitJudgement : Dqbf → ℕ → List ℕ → AagFile → Answer → Type 0
 IsCircuitJudgement f h text file answer =
-    BehindProof h file.circuit (proof_in f h (line_ends text) file.circuit file.comment) (candidate_of f file.circuit file.symbols) answer
+    BehindProof h file.circuit (proof_in f h (line_ends text) file.circuit file.comment)
+    (candidate_of f file.circuit file.symbols) answer
 
 -- the text, whose first line has the number h, isn't a circuit file
 pub record IsCircuitRefusal (h : ℕ) (text : List ℕ) (answer : Answer) : Type 0 where
@@ -137,8 +146,10 @@ answer_of_refutation f (Err refusal) = Refused refusal.line (Text refusal.name)
 
 -- by the kind of the certificate, and where its header line begins
 abbrev pub IsJudgementOf : Dqbf → List ℕ → Result Kind CertRefusal → Answer → Type 0
-IsJudgementOf f text (Ok (CircuitText at h)) answer = IsCircuitRefusal h (drop at text) answer ⊎ IsCircuitAnswer f h (drop at text) answer
-IsJudgementOf f text (Ok (Refutation at h)) answer = answer ≡ answer_of_refutation f (refutation_of f (drop at text) h)
+IsJudgementOf f text (Ok (CircuitText at h)) answer =
+    IsCircuitRefusal h (drop at text) answer ⊎ IsCircuitAnswer f h (drop at text) answer
+IsJudgementOf f text (Ok (Refutation at h)) answer =
+    answer ≡ answer_of_refutation f (refutation_of f (drop at text) h)
 IsJudgementOf f text (Err refusal) answer = answer ≡ Refused refusal.line (Text refusal.name)
 
 abbrev pub IsJudgement : Dqbf → List ℕ → Answer → Type 0

@@ -1,4 +1,5 @@
--- Words of private contracts: how large a circuit file can be, and what is answered where its reading stopped.
+-- Words of private contracts: how large a circuit file can be, and what is answered where its
+-- reading stopped.
 use Rattle.std.specs.Prelude.{◌≡◌, ◌≤◌, length}
 use Rattle.aiger_text.specs.declared.faults.AagStop.{AagStop}
 use Rattle.aiger_text.specs.declared.faults.AagStop.TheVariants.{Refused, Memory}

@@ -42,15 +42,18 @@ formula_fault_name Limit = codes "Limit"
 abbrev pub fault_text : List ℕ → ℕ → List ℕ → List ℕ
 fault_text word number name = word ++ (codes " " ++ (decimal number ++ (codes " " ++ name)))
 
--- the universals, each behind a space and with the sign that it has under the row of a number, whose lowest bit is that
--- of the first universal
+-- the universals, each behind a space and with the sign that it has under the row of a number,
+-- whose lowest bit is that of the first universal
 abbrev pub row_text : ℕ → List ℕ → List ℕ
 row_text k [] = []
-row_text k (x ∷ xs) = (if k % 2 == 1 then codes " " else codes " -") ++ (decimal x ++ row_text (k / 2) xs)
+row_text k (x ∷ xs) =
+    (if k % 2 == 1 then codes " " else codes " -") ++ (decimal x ++ row_text (k / 2) xs)
 
 abbrev pub answer_text : Dqbf → Answer → List ℕ
-answer_text f (Refused number name) = fault_text (codes "certificate") number (certificate_fault_name name)
-answer_text f (UndeclaredRead y x) = codes "INVALID reads " ++ (decimal y ++ (codes " " ++ decimal x))
+answer_text f (Refused number name) =
+    fault_text (codes "certificate") number (certificate_fault_name name)
+answer_text f (UndeclaredRead y x) =
+    codes "INVALID reads " ++ (decimal y ++ (codes " " ++ decimal x))
 answer_text f (BadRow k) = codes "INVALID row" ++ row_text k f.universals
 answer_text f (Unproved n) = codes "UNPROVED " ++ decimal n
 answer_text f (UnderivedStep id) = codes "INVALID step " ++ decimal id
@@ -63,7 +66,8 @@ text_of usage = line (codes "usage: dqcheck FORMULA CERT")
 text_of source_fault = line (codes "source fault")
 text_of long_formula = line (codes "too long formula")
 text_of long_certificate = line (codes "too long certificate")
-text_of (refused_formula fault) = line (fault_text (codes "refused") fault.line (formula_fault_name fault.name))
+text_of (refused_formula fault) =
+    line (fault_text (codes "refused") fault.line (formula_fault_name fault.name))
 text_of (judged f answer) = line (answer_text f answer)
 
 abbrev pub answer_status : Answer → ℕ

@@ -68,21 +68,26 @@ PickedOnce before now = now.picks ≡ next_count before.picks
 abbrev pub PickedTwice : FilesState → FilesState → Type 0
 PickedTwice before now = now.picks ≡ next_count (next_count before.picks)
 
--- Which report is due for the files of a command, by what the files told before the run and tell behind it: the formula's
--- file comes first, then its text, then the certificate's file and text. The certificate's file is picked only for a
--- formula, and no other file is picked.
+-- Which report is due for the files of a command, by what the files told before the run and tell
+-- behind it: the formula's file comes first, then its text, then the certificate's file and text.
+-- The certificate's file is picked only for a formula, and no other file is picked.
 abbrev pub IsDueFor : FilesState → FilesState → Command → Report → Type 0
 IsDueFor before now c usage = ⊥
 IsDueFor before now c source_fault =
     (IsUnreadable before now c.formula × PickedOnce before now)
-    ⊎ ((f : Dqbf) × IsFormulaOf (before.held c.formula) f × IsUnreadable before now c.certificate × PickedTwice before now)
-IsDueFor before now c long_formula = IsLong max_formula (before.held c.formula) × (max_formula < now.given) × PickedOnce before now
-IsDueFor before now c (refused_formula fault) = IsFaultOf (before.held c.formula) fault × PickedOnce before now
+    ⊎ ((f : Dqbf) × IsFormulaOf (before.held c.formula) f × IsUnreadable before now c.certificate
+    × PickedTwice before now)
+IsDueFor before now c long_formula =
+    IsLong max_formula (before.held c.formula) × (max_formula < now.given) × PickedOnce before now
+IsDueFor before now c (refused_formula fault) =
+    IsFaultOf (before.held c.formula) fault × PickedOnce before now
 IsDueFor before now c long_certificate =
-    (f : Dqbf) × IsFormulaOf (before.held c.formula) f × IsLong max_certificate (before.held c.certificate) × (max_certificate < now.given)
+    (f : Dqbf) × IsFormulaOf (before.held c.formula) f
+    × IsLong max_certificate (before.held c.certificate) × (max_certificate < now.given)
     × PickedTwice before now
 IsDueFor before now c (judged f answer) =
-    IsFormulaOf (before.held c.formula) f × IsAnswerTo f (before.held c.certificate) answer × PickedTwice before now
+    IsFormulaOf (before.held c.formula) f × IsAnswerTo f (before.held c.certificate) answer
+    × PickedTwice before now
 
 -- the words come before all
 abbrev pub IsDue : FilesState → FilesState → Option Command → Report → Type 0
@@ -96,30 +101,36 @@ IsDelivered before now report status =
     ⊎ ((status ≡ 4) × TakesPart before now (text_of report))
 
 -- a report was due, and was delivered
-pub record Reports (files now : FilesState) (words : List (List ℕ)) (taken taken_now : Option (List ℕ)) (status : ℕ) : Type 0 where
+pub record Reports (files now : FilesState) (words : List (List ℕ))
+    (taken taken_now : Option (List ℕ)) (status : ℕ) : Type 0 where
   pub report : Report
   pub due : IsDue files now (command_of words) report
   pub delivered : IsDelivered taken taken_now report status
 
 -- memory was wanted, and nothing written; or a report
-abbrev pub Ends : FilesState → FilesState → List (List ℕ) → Option (List ℕ) → Option (List ℕ) → ℕ → Type 0
-Ends files now words taken taken_now status = ((status ≡ 5) × (taken_now ≡ taken)) ⊎ Reports files now words taken taken_now status
+abbrev pub Ends : FilesState → FilesState → List (List ℕ) → Option (List ℕ) → Option (List ℕ) → ℕ
+    → Type 0
+Ends files now words taken taken_now status =
+    ((status ≡ 5) × (taken_now ≡ taken)) ⊎ Reports files now words taken taken_now status
 
 -- the words name files with these texts
-pub record AreTold (held : List ℕ → Holding) (words : List (List ℕ)) (formula certificate : List ℕ) : Type 0 where
+pub record AreTold (held : List ℕ → Holding) (words : List (List ℕ))
+    (formula certificate : List ℕ) : Type 0 where
   pub command : Command
   pub is : command_of words ≡ Some command
   pub formula_held : held command.formula ≡ Holds formula
   pub certificate_held : held command.certificate ≡ Holds certificate
 
 -- the line names a verdict that the certificate proves
-pub record IsProvedTrue (f : Dqbf) (certificate : List ℕ) (before now : Option (List ℕ)) : Type 0 where
+pub record IsProvedTrue (f : Dqbf) (certificate : List ℕ)
+    (before now : Option (List ℕ)) : Type 0 where
   pub accepted : IsJudgement f certificate ValidTrue
   pub circuit : HoldsSkolemCircuit f certificate
   pub is_true : IsTrueFormula f
   pub written : now ≡ append_known before (line (codes "VALID TRUE"))
 
-pub record IsProvedFalse (f : Dqbf) (certificate : List ℕ) (before now : Option (List ℕ)) : Type 0 where
+pub record IsProvedFalse (f : Dqbf) (certificate : List ℕ)
+    (before now : Option (List ℕ)) : Type 0 where
   pub accepted : IsJudgement f certificate ValidFalse
   pub is_false : IsFalseFormula f
   pub written : now ≡ append_known before (line (codes "VALID FALSE"))
@@ -132,7 +143,8 @@ pub record IsAcceptance (formula certificate : List ℕ) (before now : Option (L
   pub verdict : IsProvedTrue f certificate before now ⊎ IsProvedFalse f certificate before now
 
 -- what is said of a formula and a certificate, and written with that status
-pub record IsAnswered (f : Dqbf) (certificate : List ℕ) (before now : Option (List ℕ)) (status : ℕ) : Type 0 where
+pub record IsAnswered (f : Dqbf) (certificate : List ℕ) (before now : Option (List ℕ))
+    (status : ℕ) : Type 0 where
   pub answer : Answer
   pub is : IsJudgement f certificate answer
   pub ends_with : status ≡ answer_status answer

@@ -10,7 +10,8 @@ use skolem_checker::MapName;
 /// What is wrong with a certificate's text.
 #[derive(Clone, Copy, Debug, PartialEq, Eq)]
 pub enum CertificateFault {
-    /// Its first lines, its lines as a refutation, or those of the proof in its comment have this fault.
+    /// Its first lines, its lines as a refutation, or those of the proof in its comment have this
+    /// fault.
     Text(CertFault),
     /// It isn't a circuit file.
     Circuit(AagFault),
@@ -25,7 +26,8 @@ pub enum Answer {
     Refused { line: u64, name: CertificateFault },
     /// The output for this existential reaches the input for this universal, which it may not see.
     UndeclaredRead { existential: u64, universal: u64 },
-    /// Under the row with this number a clause is false. Bit i of the number is that of the universal at place i.
+    /// Under the row with this number a clause is false. Bit i of the number is that of the
+    /// universal at place i.
     BadRow { number: u32 },
     /// There is no proof, and too many universals to try all rows.
     Unproved { universals: usize },
@@ -33,7 +35,8 @@ pub enum Answer {
     UnderivedStep { id: u64 },
     /// Every step is derived, and the last one isn't the empty clause, or there is none.
     NoEmptyClause,
-    /// The circuit's outputs are Skolem functions, by its proof or by all rows, so the formula is true.
+    /// The circuit's outputs are Skolem functions, by its proof or by all rows, so the formula is
+    /// true.
     ValidTrue,
     /// The derivation shows that no choice of functions solves the formula, so it is false.
     ValidFalse,

@@ -1,4 +1,5 @@
-//! Judging a circuit: its text, the text of its proof, its mapping, its reads, and then its proof or its rows.
+//! Judging a circuit: its text, the text of its proof, its mapping, its reads, and then its proof
+//! or its rows.
 
 ghost use Rattle.std.specs.Prelude.{◌≡◌, ◌==◌, ◌+◌, ◌<◌, ◌≤◌, ◌^◌, ◌⊎◌, length, drop, Option, IfOk, IfSome};
 ghost use Rattle.std.specs.List.{position};
@@ -29,7 +30,8 @@ use std::alloc::Global;
 /// The most universals of which all rows are tried.
 const MAX_ROW_UNIVERSALS: usize = 20;
 
-// How many bytes are counted at a time: their count fits a byte, so that many are counted side by side.
+// How many bytes are counted at a time: their count fits a byte, so that many are counted side by
+// side.
 const BLOCK: usize = 240;
 
 /// Judges a circuit, whose header line begins at a place of the text and has the number `first`.
@@ -43,7 +45,9 @@ pub fn judge_circuit(
     requires well_formed { IsWellFormed f.now }
     requires fits { first + length text.items < 2 ^ 62 }
     requires inside { at ≤ length text.items }
-    ensures { IfOk result (λ answer. IsCircuitRefusal first (drop at text.items) answer ⊎ IsCircuitAnswer f.now first (drop at text.items) answer) }
+    ensures { IfOk result
+        (λ answer. IsCircuitRefusal first (drop at text.items) answer
+        ⊎ IsCircuitAnswer f.now first (drop at text.items) answer) }
 {
     let bytes = bytes_from(&text, at);
     let ends = line_ends(bytes);
@@ -139,7 +143,8 @@ fn comment_line(first: u64, ends: usize, comment: &[u8]) -> u64
     first + ends.saturating_sub(line_ends(comment)) as u64
 }
 
-// The proof in the circuit's comment, if it begins one. The comment ends a text of so many line ends.
+// The proof in the circuit's comment, if it begins one. The comment ends a text of so many line
+// ends.
 fn read_proof(
     alloc: Global,
     f: &Formula,
@@ -148,7 +153,8 @@ fn read_proof(
     file: &AagFile,
 ) -> Result<Option<Dqp>, CertStop>
     requires { first + ends < 2 ^ 62 }
-    ensures reading { IsReading (proof_in f.now first ends file.now.circuit file.now.comment) result }
+    ensures reading { IsReading (proof_in f.now first ends file.now.circuit file.now.comment)
+        result }
     ensures allowed { IfOk result (λ proof. IfSome proof (IsDqpOf f.now file.now.circuit)) }
 {
     let Some(comment) = &file.comment else {
@@ -176,7 +182,8 @@ fn mapping_line(header: u64, circuit: &Circuit, at: MapPlace) -> u64
     }
 }
 
-// Judges a circuit file that was read from a text of so many line ends. Its comment is let go once the proof was read.
+// Judges a circuit file that was read from a text of so many line ends. Its comment is let go once
+// the proof was read.
 fn judge_file(
     alloc: Global,
     f: &Formula,
@@ -188,7 +195,8 @@ fn judge_file(
     requires fits { first + ends < 2 ^ 62 }
     requires complete { IsComplete file.circuit }
     requires few { HasFewLines file.circuit }
-    ensures { IfOk result (BehindProof first file.circuit (proof_in f.now first ends file.circuit file.comment)
+    ensures { IfOk result
+        (BehindProof first file.circuit (proof_in f.now first ends file.circuit file.comment)
         (candidate_of f.now file.circuit file.symbols)) }
 {
     let read = read_proof(alloc, f, first, ends, &file);
@@ -215,7 +223,9 @@ fn judge_mapped(
     requires complete { IsComplete file.now.circuit }
     requires few { HasFewLines file.now.circuit }
     requires lawful { IfSome proof.now (IsDqpOf f.now file.now.circuit) }
-    ensures { IfOk result (BehindMapping first file.now.circuit proof.now (candidate_of f.now file.now.circuit file.now.symbols)) }
+    ensures { IfOk result
+        (BehindMapping first file.now.circuit proof.now
+        (candidate_of f.now file.now.circuit file.now.symbols)) }
 {
     match Bench::new(alloc, f, file) {
         Ok(mut bench) => judge_reads(alloc, f, &mut bench, proof),
@@ -271,7 +281,9 @@ fn judge_values(
 fn judge_proof(alloc: Global, bench: &Bench, proof: &Dqp) -> Result<Answer, Memory>
     requires few { HasFewLines bench.now.circuit.netlist }
     requires lawful { IsDqpOf bench.now.formula bench.now.circuit.netlist proof.now }
-    ensures { IfOk result (λ answer. answer ≡ answer_of_derivation ValidTrue (circuit_proof_fault bench.now proof.now.steps)) }
+    ensures { IfOk result
+        (λ answer. answer
+        ≡ answer_of_derivation ValidTrue (circuit_proof_fault bench.now proof.now.steps)) }
 {
     match by_proof(alloc, bench, proof) {
         Ok(()) => Ok(Answer::ValidTrue),

@@ -16,8 +16,8 @@ use dq_lits::Memory;
 use refutation_checker::{RefFault, check};
 use std::alloc::Global;
 
-/// Judges a certificate: the first fault that it has, or that it proves the formula true or false. Its text is let go as
-/// soon as it was read.
+/// Judges a certificate: the first fault that it has, or that it proves the formula true or false.
+/// Its text is let go as soon as it was read.
 pub fn judge(alloc: Global, f: &Formula, text: Vec<u8>) -> Result<Answer, Memory>
     requires well_formed { IsWellFormed f.now }
     requires length { length text.items < 2 ^ 61 }
@@ -41,7 +41,9 @@ fn judge_refutation(
     requires well_formed { IsWellFormed f.now }
     requires fits { first + length text.items < 2 ^ 62 }
     requires inside { at ≤ length text.items }
-    ensures { IfOk result (λ answer. answer ≡ answer_of_refutation f.now (refutation_of f.now (drop at text.items) first)) }
+    ensures { IfOk result
+        (λ answer. answer
+        ≡ answer_of_refutation f.now (refutation_of f.now (drop at text.items) first)) }
 {
     let read = read_dqr(alloc, &text[at..], first, f);
     drop(text);
@@ -57,7 +59,8 @@ fn judge_refutation(
 fn judge_derivation(alloc: Global, f: &Formula, d: &Dqr) -> Result<Answer, Memory>
     requires well_formed { IsWellFormed f.now }
     requires allowed { IsDqrOf f.now d.now }
-    ensures { IfOk result (λ answer. answer ≡ answer_of_derivation ValidFalse (refutation_fault f.now d.now)) }
+    ensures { IfOk result
+        (λ answer. answer ≡ answer_of_derivation ValidFalse (refutation_fault f.now d.now)) }
 {
     match check(alloc, f, d) {
         Ok(()) => Ok(Answer::ValidFalse),

@@ -1,5 +1,5 @@
-//! What the definitions of this crate give. A law is the contract of a function without parameters: who calls it may use
-//! what it ensures.
+//! What the definitions of this crate give. A law is the contract of a function without parameters:
+//! who calls it may use what it ensures.
 
 ghost use Rattle.std.specs.Prelude.{◌≡◌, ℕ, List};
 ghost use Rattle.dq_lits.specs.Formula.{Dqbf, IsWellFormed};
@@ -15,16 +15,20 @@ use skolem_checker::laws::{skolem_circuit_shows_true, tested_circuit_is_skolem};
 
 /// Only one thing is to be said of a certificate.
 pub fn one_judgement()
-    ensures { (f : Dqbf) (text : List ℕ) (a b : Answer) → IsJudgement f text a → IsJudgement f text b → a ≡ b }
+    ensures { (f : Dqbf) (text : List ℕ) (a b : Answer) → IsJudgement f text a
+        → IsJudgement f text b → a ≡ b }
 {
     circuit_or_first_fault();
 }
 
 /// An accepted certificate proves the verdict that is said of it.
 pub fn acceptance_is_sound()
-    ensures is_true { (f : Dqbf) (text : List ℕ) → IsWellFormed f → IsJudgement f text ValidTrue → IsTrueFormula f }
-    ensures circuit { (f : Dqbf) (text : List ℕ) → IsWellFormed f → IsJudgement f text ValidTrue → HoldsSkolemCircuit f text }
-    ensures is_false { (f : Dqbf) (text : List ℕ) → IsWellFormed f → IsJudgement f text ValidFalse → IsFalseFormula f }
+    ensures is_true { (f : Dqbf) (text : List ℕ) → IsWellFormed f → IsJudgement f text ValidTrue
+        → IsTrueFormula f }
+    ensures circuit { (f : Dqbf) (text : List ℕ) → IsWellFormed f → IsJudgement f text ValidTrue
+        → HoldsSkolemCircuit f text }
+    ensures is_false { (f : Dqbf) (text : List ℕ) → IsWellFormed f → IsJudgement f text ValidFalse
+        → IsFalseFormula f }
 {
     refutation_shows_false();
     proved_circuit_is_skolem();

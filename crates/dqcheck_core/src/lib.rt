@@ -1,8 +1,8 @@
 //! The checker: whether a certificate proves a formula true or false.
 //!
-//! `dqcheck_run` is a whole run of the program `dqcheck`: its contract says which line is written and with which status
-//! it ends. `judge` judges a certificate for a formula that was read. The laws in `laws` say that what is accepted is
-//! right.
+//! `dqcheck_run` is a whole run of the program `dqcheck`: its contract says which line is written
+//! and with which status it ends. `judge` judges a certificate for a formula that was read. The
+//! laws in `laws` say that what is accepted is right.
 #![tactic(auto)]
 
 pub use answers::{Answer, CertificateFault};

@@ -133,7 +133,8 @@ fn fault_line(alloc: Global, word: &str, number: u64, name: &str) -> Result<Vec<
 
 // The universals, each with the sign that it has under the row of a number.
 fn row_line(alloc: Global, f: &Formula, number: u32) -> Result<Vec<u8>, Memory>
-    ensures { IfOk result (λ bytes. bytes.items ≡ line (codes "INVALID row" ++ row_text number f.now.universals)) }
+    ensures { IfOk result
+        (λ bytes. bytes.items ≡ line (codes "INVALID row" ++ row_text number f.now.universals)) }
 {
     let mut text = Vec::new(alloc);
     push_text(&mut text, "INVALID row")?;

@@ -32,10 +32,11 @@ const MAX_CERTIFICATE: u64 = 1 << 40;
 
 /// Judges the certificate in one file for the formula in another, and writes one line.
 ///
-/// The words are the program's name and the files' names, as clap reads them. The status is 0 where the certificate is accepted, 1 where
-/// the words are others, 2 where the formula's text has a fault, 3 where a file can't be read, 4 where the line can't be
-/// written, 5 for want of memory, 6 where a file is too long, 7 where the certificate's text has a fault, 8 where the
-/// certificate is wrong, and 9 where it has no proof and there are too many universals to try all rows.
+/// The words are the program's name and the files' names, as clap reads them. The status is 0 where
+/// the certificate is accepted, 1 where the words are others, 2 where the formula's text has a
+/// fault, 3 where a file can't be read, 4 where the line can't be written, 5 for want of memory, 6
+/// where a file is too long, 7 where the certificate's text has a fault, 8 where the certificate is
+/// wrong, and 9 where it has no proof and there are too many universals to try all rows.
 pub fn dqcheck_run<F: Files, K: Sink>(
     alloc: Global,
     words: &[String],
@@ -43,16 +44,21 @@ pub fn dqcheck_run<F: Files, K: Sink>(
     out: &mut K,
 ) -> u8
     // What is written is the line that is due, and the status is that line's.
-    ensures ends { Ends (state_of F.Files files.old) (state_of F.Files files.new) (map string_bytes words.now)
+    ensures ends { Ends (state_of F.Files files.old) (state_of F.Files files.new)
+        (map string_bytes words.now)
         (K.taken out.old) (K.taken out.new) result }
 
-    // Over files that are told: what is accepted is right, and where nothing failed, the certificate is judged.
-    ensures accepted { (formula certificate : List ℕ) → AreTold (F.held files.old) (map string_bytes words.now) formula certificate
+    // Over files that are told: what is accepted is right, and where nothing failed, the
+    // certificate is judged.
+    ensures accepted { (formula certificate : List ℕ)
+        → AreTold (F.held files.old) (map string_bytes words.now) formula certificate
         → result ≡ 0 → IsAcceptance formula certificate (K.taken out.old) (K.taken out.new) }
     ensures answered { (formula certificate : List ℕ) (f : Dqbf)
         → AreTold (F.held files.old) (map string_bytes words.now) formula certificate
-        → length formula ≤ max_formula → length certificate ≤ max_certificate → SpellsFormula formula f
-        → ¬ Rose (F.faults files.old) (F.faults files.new) → ¬ Rose (K.faults out.old) (K.faults out.new) → result ≢ 5
+        → length formula ≤ max_formula → length certificate ≤ max_certificate
+        → SpellsFormula formula f
+        → ¬ Rose (F.faults files.old) (F.faults files.new)
+        → ¬ Rose (K.faults out.old) (K.faults out.new) → result ≢ 5
         → IsAnswered f certificate (K.taken out.old) (K.taken out.new) result }
 
     // Each refusal has its cause, over all files and sinks.
@@ -62,7 +68,8 @@ pub fn dqcheck_run<F: Files, K: Sink>(
     ensures long { result ≡ 6 → max_formula < F.given files.new }
 
     // No fault is passed over: where one was counted, its status comes, or a later cause's.
-    ensures unfaulted_files { result ≢ 3 → result ≢ 4 → result ≢ 5 → F.faults files.new ≡ F.faults files.old }
+    ensures unfaulted_files { result ≢ 3 → result ≢ 4 → result ≢ 5
+        → F.faults files.new ≡ F.faults files.old }
     ensures unfaulted_sink { result ≢ 4 → K.faults out.new ≡ K.faults out.old }
     ensures held { F.held files.new ≡ F.held files.old }
 {
@@ -97,7 +104,10 @@ fn report<F: Files>(alloc: Global, words: &[String], files: &mut F) -> Result<Ou
 // What is to be written where the words name two files.
 fn report_files<F: Files>(alloc: Global, names: FileNames, files: &mut F) -> Result<Output, Memory>
     ensures due { IfOk result (IsOutputDue (state_of F.Files files.old) (state_of F.Files files.new)
-        (Some (record { formula = names.entry.formula.now; certificate = names.entry.certificate.now }))) }
+        (Some (record {
+          formula = names.entry.formula.now;
+          certificate = names.entry.certificate.now;
+        }))) }
     ensures long { IfOk result (λ output. code output.status ≡ 6
         → max_formula < F.given files.new) }
     ensures unfaulted { IfOk result (λ output. code output.status ≢ 3
@@ -127,7 +137,8 @@ fn report_certificate<F: Files>(
     files: &mut F,
 ) -> Result<Output, Memory>
     requires { IsWellFormed formula.now }
-    ensures due { IfOk result (IsOutputBehind (state_of F.Files files.old) (state_of F.Files files.new)
+    ensures due { IfOk result
+        (IsOutputBehind (state_of F.Files files.old) (state_of F.Files files.new)
         names.entry.certificate.now formula.now) }
     ensures long { IfOk result (λ output. code output.status ≡ 6
         → max_certificate < F.given files.new) }

@@ -1,4 +1,5 @@
-//! The checker as a program runs it: over the words of its command line, the system's files and standard output.
+//! The checker as a program runs it: over the words of its command line, the system's files and
+//! standard output.
 //!
 //! Each program that is the checker is one call of `run`.
 #![tactic(auto)]
@@ -8,7 +9,8 @@ use dqcheck_core::{Status, dqcheck_run};
 use std::process::ExitCode;
 use std::{env, io};
 
-/// Judges the certificate that the command line names, writes one line, and answers the status to end with.
+/// Judges the certificate that the command line names, writes one line, and answers the status to
+/// end with.
 pub fn run(rt: &HostRuntime) -> ExitCode {
     let mut files = RealFiles::new(rt);
     let mut out = RealSink::new(rt);

@@ -20,7 +20,8 @@ names_among (word ∷ words) = if is_separator word then Some words
 
 -- two names, the formula's first
 abbrev pub command_named : List (List ℕ) → Option Command
-command_named (formula ∷ certificate ∷ []) = Some (record { formula = formula; certificate = certificate })
+command_named (formula ∷ certificate ∷ []) =
+    Some (record { formula = formula; certificate = certificate })
 command_named _ = None
 
 -- what the words spell, behind the program's own name

@@ -29,9 +29,13 @@ pub fn flags_are_refused()
 
 /// Behind `--` stand names, wherever it stands; a second one is a name.
 pub fn separator_is_read()
-    ensures first { dqcheck (codes "--" ∷ codes "-f" ∷ codes "--c" ∷ []) ≡ Some (files (codes "-f") (codes "--c")) }
-    ensures between { dqcheck (codes "f" ∷ codes "--" ∷ codes "--help" ∷ []) ≡ Some (files (codes "f") (codes "--help")) }
-    ensures last { dqcheck (codes "f" ∷ codes "c" ∷ codes "--" ∷ []) ≡ Some (files (codes "f") (codes "c")) }
-    ensures twice { dqcheck (codes "--" ∷ codes "f" ∷ codes "--" ∷ []) ≡ Some (files (codes "f") (codes "--")) }
+    ensures first { dqcheck (codes "--" ∷ codes "-f" ∷ codes "--c" ∷ [])
+        ≡ Some (files (codes "-f") (codes "--c")) }
+    ensures between { dqcheck (codes "f" ∷ codes "--" ∷ codes "--help" ∷ [])
+        ≡ Some (files (codes "f") (codes "--help")) }
+    ensures last { dqcheck (codes "f" ∷ codes "c" ∷ codes "--" ∷ [])
+        ≡ Some (files (codes "f") (codes "c")) }
+    ensures twice { dqcheck (codes "--" ∷ codes "f" ∷ codes "--" ∷ [])
+        ≡ Some (files (codes "f") (codes "--")) }
     ensures three { dqcheck (codes "f" ∷ codes "c" ∷ codes "--" ∷ codes "g" ∷ []) ≡ None }
 {}

@@ -40,7 +40,8 @@ fn checker_command<'a>(alloc: Global) -> Result<Command<'a>, AllocError>
 // The names in the matches, which have both.
 fn names_in<'a>(matches: &ArgMatches<'a>) -> FileNames<'a>
     requires { HasNames (rows_of (found_of matches.now)) }
-    ensures { named_by (rows_of (found_of matches.now)) ≡ record { formula = result.formula.now; certificate = result.certificate.now } }
+    ensures { named_by (rows_of (found_of matches.now))
+        ≡ record { formula = result.formula.now; certificate = result.certificate.now } }
 {
     match (matches.get_str("FORMULA"), matches.get_str("CERT")) {
         (Some(formula), Some(certificate)) => FileNames {
@@ -51,10 +52,13 @@ fn names_in<'a>(matches: &ArgMatches<'a>) -> FileNames<'a>
     }
 }
 
-/// The names that the words give; `None` where the words are refused. The first word is the program's own name.
+/// The names that the words give; `None` where the words are refused. The first word is the
+/// program's own name.
 pub fn file_names<'a>(alloc: Global, words: &'a [String]) -> Result<Option<FileNames<'a>>, Memory>
-    ensures { IfOk result (λ answer. MatchOption answer (command_of (map string_bytes words.now) ≡ None)
-        (λ names. command_of (map string_bytes words.now) ≡ Some (record { formula = names.formula.now; certificate = names.certificate.now }))) }
+    ensures { IfOk result
+        (λ answer. MatchOption answer (command_of (map string_bytes words.now) ≡ None)
+        (λ names. command_of (map string_bytes words.now)
+        ≡ Some (record { formula = names.formula.now; certificate = names.certificate.now }))) }
 {
     let command = checker_command(alloc)?;
     match command.try_get_matches_from(words) {

@@ -8,13 +8,15 @@ use Rattle.dq_formula.specs.Prefix.{free_variables, unseeing}
 
 -- no declarations and no clauses yet
 abbrev pub empty_formula : ℕ → Dqbf
-empty_formula variables = record { variables = variables; universals = []; existentials = []; matrix = [] }
+empty_formula variables =
+    record { variables = variables; universals = []; existentials = []; matrix = [] }
 
 abbrev pub add_universal : Dqbf → ℕ → Dqbf
 add_universal f v = record f { universals = f.universals ++ v ∷ [] }
 
 abbrev pub add_existential : Dqbf → ℕ → List ℕ → Dqbf
-add_existential f y sees = record f { existentials = f.existentials ++ record { variable = y; sees = sees } ∷ [] }
+add_existential f y sees =
+    record f { existentials = f.existentials ++ record { variable = y; sees = sees } ∷ [] }
 
 -- an `e` variable sees the universals declared before it
 abbrev pub add_first : Dqbf → ℕ → Dqbf

@@ -22,7 +22,8 @@ abbrev pub universals_text : List ℕ → List ℕ
 universals_text [] = []
 universals_text (x ∷ xs) = numbers_line 97 (x ∷ xs)
 
--- `e y 0` where it sees every universal (a dependency set has each of its universals once), else `d y x.. 0`
+-- `e y 0` where it sees every universal (a dependency set has each of its universals once), else `d
+-- y x.. 0`
 abbrev pub existential_line : ℕ → ℕ → List ℕ → List ℕ
 existential_line universals y seen =
     if length seen == universals then numbers_line 101 (y ∷ []) else numbers_line 100 (y ∷ seen)

@@ -74,14 +74,18 @@ InRange variables l = (1 ≤ variable_of l) × (variable_of l ≤ variables)
 abbrev pub AllInRange : ℕ → List (List Literal) → Type 0
 AllInRange variables clauses = AllByRecursion (AllByRecursion (InRange variables)) clauses
 
--- The tokens are the header, then parts in any order and number, then as many clauses as the header says.
--- The formula has what the parts declare, the clauses with their distinct literals, and the free variables.
+-- The tokens are the header, then parts in any order and number, then as many clauses as the header
+-- says. The formula has what the parts declare, the clauses with their distinct literals, and the
+-- free variables.
 pub record SpellsFormula (text : List ℕ) (f : Dqbf) : Type 0 where
   pub parts : List Part
   pub clauses : List (List Literal)
-  pub spelling : map (λ token. lexeme_of token.text) (tokens_of text) ≡ header f.variables (length clauses) ++ (flat_map part_lexemes parts ++ flat_map clause_lexemes clauses)
+  pub spelling : map (λ token. lexeme_of token.text) (tokens_of text)
+      ≡ header f.variables (length clauses)
+      ++ (flat_map part_lexemes parts ++ flat_map clause_lexemes clauses)
   pub few_variables : f.variables ≤ max_variables
   pub few_clauses : length clauses ≤ max_clauses
   pub lawful : AreLawfulParts (empty_formula f.variables) parts
   pub in_range : AllInRange f.variables clauses
-  pub formula : f ≡ with_free (fold add_spelled (fold declare (empty_formula f.variables) parts) clauses)
+  pub formula : f
+      ≡ with_free (fold add_spelled (fold declare (empty_formula f.variables) parts) clauses)

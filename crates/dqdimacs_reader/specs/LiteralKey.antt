@@ -1,4 +1,5 @@
--- A number of its own for each literal: twice the variable, and one more for a negated variable (as in AIGER).
+-- A number of its own for each literal: twice the variable, and one more for a negated variable (as
+-- in AIGER).
 use Rattle.std.specs.Prelude.{◌≡◌, ℕ, ◌+◌, ◌*◌, List, map, IfSome}
 use Rattle.dq_lits.specs.Literal.{Literal, positive, negative}
 use Rattle.number_tables.specs.Numbers.{has_number}

@@ -11,7 +11,8 @@ use Rattle.dqdimacs_reader.specs.declared.faults.FormulaFault.TheVariants.{NoHea
 use Rattle.dqdimacs_reader.specs.declared.lexemes.Lexeme.{Lexeme}
 use Rattle.dqdimacs_reader.specs.declared.lexemes.Lexeme.TheVariants.{P, Cnf, A, D, E, Natural, Negative, Large, NegativeLarge}
 
--- what was read: the header's number of clauses, and the formula so far, free variables not yet declared
+-- what was read: the header's number of clauses, and the formula so far, free variables not yet
+-- declared
 pub record Reading : Type 0 where
   pub clauses : ℕ
   pub formula : Dqbf
@@ -58,7 +59,8 @@ check_entry Large _ = Some TooBig
 check_entry _ _ = Some BadNumber
 
 -- the checks of a signed number, where letters have their own
-abbrev pub check_signed : Lexeme → Option FormulaFault → (ℕ → Option FormulaFault) → Option FormulaFault
+abbrev pub check_signed : Lexeme → Option FormulaFault → (ℕ → Option FormulaFault)
+    → Option FormulaFault
 check_signed P _ _ = Some HeaderTwice
 check_signed A letter _ = letter
 check_signed D letter _ = letter
@@ -84,7 +86,8 @@ check_declared r v =
 
 abbrev pub check_dependent : Reading → ℕ → Option FormulaFault
 check_dependent r y =
-    fault_if (y == 0) EmptyD (check_range r y (fault_if (is_declared r.formula y) DeclaredTwice None))
+    fault_if (y == 0) EmptyD
+    (check_range r y (fault_if (is_declared r.formula y) DeclaredTwice None))
 
 -- zero ends an item
 abbrev pub check_dependency : Reading → ℕ → Option FormulaFault
@@ -94,7 +97,8 @@ check_dependency r x =
 
 -- at the start of a clause
 abbrev pub check_clause : Reading → ℕ → Option FormulaFault
-check_clause r v = fault_if (length r.formula.matrix == r.clauses) TooManyClauses (check_range r v None)
+check_clause r v =
+    fault_if (length r.formula.matrix == r.clauses) TooManyClauses (check_range r v None)
 
 -- a set or an item behind the first clause
 abbrev pub check_part_letter : Reading → Option FormulaFault
@@ -134,7 +138,9 @@ with_formula r f = record r { formula = f }
 
 -- a clause's literal or its end
 abbrev pub literal_or_end : Reading → List Literal → ℕ → Literal → State
-literal_or_end r clause v l = if v == 0 then at_part (with_formula r (add_clause r.formula clause)) else in_clause r (add_literal clause l)
+literal_or_end r clause v l =
+    if v == 0 then at_part (with_formula r (add_clause r.formula clause))
+    else in_clause r (add_literal clause l)
 
 -- the state behind a token that passes its checks
 abbrev pub at_start : Reading → Lexeme → State
@@ -158,16 +164,23 @@ abbrev pub advance : State → Lexeme → State
 advance before_header _ = before_format
 advance before_format _ = before_variables
 advance before_variables lexeme = natural_or before_variables lexeme before_clauses
-advance (before_clauses v) lexeme = natural_or (before_clauses v) lexeme (λ c. at_part (record { clauses = c; formula = empty_formula v }))
+advance (before_clauses v) lexeme =
+    natural_or (before_clauses v) lexeme
+    (λ c. at_part (record { clauses = c; formula = empty_formula v }))
 advance (at_part r) lexeme = at_start r lexeme
 advance (in_universals r) lexeme =
-    natural_or (in_universals r) lexeme (λ v. if v == 0 then at_part r else in_universals (with_formula r (add_universal r.formula v)))
+    natural_or (in_universals r) lexeme
+    (λ v. if v == 0 then at_part r
+    else in_universals (with_formula r (add_universal r.formula v)))
 advance (in_existentials r) lexeme =
-    natural_or (in_existentials r) lexeme (λ v. if v == 0 then at_part r else in_existentials (with_formula r (add_first r.formula v)))
+    natural_or (in_existentials r) lexeme
+    (λ v. if v == 0 then at_part r
+    else in_existentials (with_formula r (add_first r.formula v)))
 advance (at_dependent r) lexeme = natural_or (at_dependent r) lexeme (λ y. in_dependencies r y [])
 advance (in_dependencies r y xs) lexeme =
     natural_or (in_dependencies r y xs) lexeme
-    (λ x. if x == 0 then at_part (with_formula r (add_listed r.formula y xs)) else in_dependencies r y (xs ++ x ∷ []))
+    (λ x. if x == 0 then at_part (with_formula r (add_listed r.formula y xs))
+    else in_dependencies r y (xs ++ x ∷ []))
 advance (in_clause r clause) lexeme = inside_clause r clause lexeme
 
 -- what the end of the text decides
@@ -176,7 +189,9 @@ at_end before_header = Err NoHeader
 at_end before_format = Err NoHeader
 at_end before_variables = Err NoHeader
 at_end (before_clauses _) = Err NoHeader
-at_end (at_part r) = if nat_lt (length r.formula.matrix) r.clauses then Err TooFewClauses else Ok (with_free r.formula)
+at_end (at_part r) =
+    if nat_lt (length r.formula.matrix) r.clauses then Err TooFewClauses
+    else Ok (with_free r.formula)
 at_end (in_universals _) = Err MissingZero
 at_end (in_existentials _) = Err MissingZero
 at_end (at_dependent _) = Err MissingZero

@@ -17,11 +17,16 @@ state_at Format clauses f y xs literals = before_format
 state_at Variables clauses f y xs literals = before_variables
 state_at Clauses clauses f y xs literals = before_clauses f.variables
 state_at Part clauses f y xs literals = at_part (record { clauses = clauses; formula = f })
-state_at Universals clauses f y xs literals = in_universals (record { clauses = clauses; formula = f })
-state_at Existentials clauses f y xs literals = in_existentials (record { clauses = clauses; formula = f })
-state_at Dependent clauses f y xs literals = at_dependent (record { clauses = clauses; formula = f })
-state_at Dependencies clauses f y xs literals = in_dependencies (record { clauses = clauses; formula = f }) y xs
-state_at Clause clauses f y xs literals = in_clause (record { clauses = clauses; formula = f }) literals
+state_at Universals clauses f y xs literals =
+    in_universals (record { clauses = clauses; formula = f })
+state_at Existentials clauses f y xs literals =
+    in_existentials (record { clauses = clauses; formula = f })
+state_at Dependent clauses f y xs literals =
+    at_dependent (record { clauses = clauses; formula = f })
+state_at Dependencies clauses f y xs literals =
+    in_dependencies (record { clauses = clauses; formula = f }) y xs
+state_at Clause clauses f y xs literals =
+    in_clause (record { clauses = clauses; formula = f }) literals
 
 abbrev pub state_of : Machine → State
 state_of m = state_at m.stage m.clauses m.formula m.dependent m.dependencies.items m.literals

@@ -1,4 +1,5 @@
-//! The checks of a token where it stands, in their order; see `specs/Machine.antt` for the whole table.
+//! The checks of a token where it stands, in their order; see `specs/Machine.antt` for the whole
+//! table.
 
 ghost use Rattle.std.specs.Prelude.{◌≡◌, ◌<◌};
 ghost use Rattle.dqdimacs_reader.specs.Machine.{Reading, wanted, is_p, is_cnf, check_natural, check_limit, check_entry, check_signed, check_declared, check_dependent, check_dependency, check_part_letter, check_clause, check_literal};
@@ -41,7 +42,8 @@ pub fn limit_fault(lexeme: Lexeme, limit: u64) -> Option<FormulaFault>
 
 /// Inside a set.
 pub fn declared_fault(formula: &Formula, lexeme: Lexeme) -> Option<FormulaFault>
-    ensures { result ≡ check_entry lexeme (check_declared (record { clauses = 0; formula = formula.now })) }
+    ensures { result
+        ≡ check_entry lexeme (check_declared (record { clauses = 0; formula = formula.now })) }
 {
     match lexeme {
         Lexeme::P => Some(FormulaFault::HeaderTwice),
@@ -56,7 +58,8 @@ pub fn declared_fault(formula: &Formula, lexeme: Lexeme) -> Option<FormulaFault>
 
 /// At the variable of an item.
 pub fn dependent_fault(formula: &Formula, lexeme: Lexeme) -> Option<FormulaFault>
-    ensures { result ≡ check_entry lexeme (check_dependent (record { clauses = 0; formula = formula.now })) }
+    ensures { result
+        ≡ check_entry lexeme (check_dependent (record { clauses = 0; formula = formula.now })) }
 {
     match lexeme {
         Lexeme::P => Some(FormulaFault::HeaderTwice),
@@ -71,7 +74,8 @@ pub fn dependent_fault(formula: &Formula, lexeme: Lexeme) -> Option<FormulaFault
 
 /// At a dependency of an item.
 pub fn dependency_fault(formula: &Formula, lexeme: Lexeme) -> Option<FormulaFault>
-    ensures { result ≡ check_entry lexeme (check_dependency (record { clauses = 0; formula = formula.now })) }
+    ensures { result
+        ≡ check_entry lexeme (check_dependency (record { clauses = 0; formula = formula.now })) }
 {
     match lexeme {
         Lexeme::P => Some(FormulaFault::HeaderTwice),
@@ -86,7 +90,8 @@ pub fn dependency_fault(formula: &Formula, lexeme: Lexeme) -> Option<FormulaFaul
 
 /// At the start of a set, an item or a clause, where the header states so many clauses.
 pub fn part_fault(formula: &Formula, clauses: u64, lexeme: Lexeme) -> Option<FormulaFault>
-    ensures { let r : Reading = record { clauses = clauses; formula = formula.now } in result ≡ check_signed lexeme (check_part_letter r) (check_clause r) }
+    ensures { let r : Reading = record { clauses = clauses; formula = formula.now } in result
+        ≡ check_signed lexeme (check_part_letter r) (check_clause r) }
 {
     match lexeme {
         Lexeme::P => Some(FormulaFault::HeaderTwice),

@@ -17,8 +17,8 @@ const FEW: usize = 16;
 pub struct DistinctLiterals {
     alloc: Global,
     literals: Vec<Lit>,
-    // The literals' keys, once there are too many literals to look through, so that a long clause is read in linear
-    // time. Most clauses are short, and have none.
+    // The literals' keys, once there are too many literals to look through, so that a long clause
+    // is read in linear time. Most clauses are short, and have none.
     keys: Option<NumberSet>,
 }
 
@@ -108,7 +108,8 @@ fn insert_key(
     literal: Lit,
 ) -> Result<bool, Memory>
     requires keys { IfSome keys.old (AreKeysOf literals.now) }
-    ensures is_new { IfOk result (λ is_new. is_new ≡ not (list_any (same_literal literal) literals.now)) }
+    ensures is_new { IfOk result
+        (λ is_new. is_new ≡ not (list_any (same_literal literal) literals.now)) }
     ensures keys { OnOk result (IfSome keys.new (AreKeysOf (add_literal literals.now literal))) }
     ensures err { OnErr result (IfSome keys.new (AreKeysOf literals.now)) }
 {
@@ -122,7 +123,8 @@ fn insert_key(
 // The same where there are keys.
 fn insert_into(literals: &[Lit], keys: &mut NumberSet, literal: Lit) -> Result<bool, Memory>
     requires keys { AreKeysOf literals.now keys.old }
-    ensures is_new { IfOk result (λ is_new. is_new ≡ not (list_any (same_literal literal) literals.now)) }
+    ensures is_new { IfOk result
+        (λ is_new. is_new ≡ not (list_any (same_literal literal) literals.now)) }
     ensures keys { OnOk result (AreKeysOf (add_literal literals.now literal) keys.new) }
     ensures err { OnErr result (keys.new ≡ keys.old) }
 {

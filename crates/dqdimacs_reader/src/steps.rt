@@ -95,7 +95,8 @@ fn declare_universal(machine: &mut Machine, v: u64) -> Result<(), Memory>
     requires stage { machine.old.stage ≡ Stage.Universals }
     requires ready { IsReady machine.old }
     requires passed { check_declared (reading_of machine.old) v ≡ None }
-    ensures state { OnOk result (state_of machine.new ≡ advance (state_of machine.old) (Lexeme.Natural v)) }
+    ensures state { OnOk result
+        (state_of machine.new ≡ advance (state_of machine.old) (Lexeme.Natural v)) }
     ensures ready { OnOk result (IsReady machine.new) }
 {
     if v == 0 {
@@ -110,7 +111,8 @@ fn declare_existential(machine: &mut Machine, v: u64) -> Result<(), Memory>
     requires stage { machine.old.stage ≡ Stage.Existentials }
     requires ready { IsReady machine.old }
     requires passed { check_declared (reading_of machine.old) v ≡ None }
-    ensures state { OnOk result (state_of machine.new ≡ advance (state_of machine.old) (Lexeme.Natural v)) }
+    ensures state { OnOk result
+        (state_of machine.new ≡ advance (state_of machine.old) (Lexeme.Natural v)) }
     ensures ready { OnOk result (IsReady machine.new) }
 {
     if v == 0 {
@@ -125,7 +127,8 @@ fn take_dependency(machine: &mut Machine, x: u64) -> Result<(), Memory>
     requires stage { machine.old.stage ≡ Stage.Dependencies }
     requires ready { IsReady machine.old }
     requires passed { check_dependency (reading_of machine.old) x ≡ None }
-    ensures state { OnOk result (state_of machine.new ≡ advance (state_of machine.old) (Lexeme.Natural x)) }
+    ensures state { OnOk result
+        (state_of machine.new ≡ advance (state_of machine.old) (Lexeme.Natural x)) }
     ensures ready { OnOk result (IsReady machine.new) }
 {
     if x == 0 {
@@ -144,7 +147,10 @@ fn take_literal(machine: &mut Machine, v: u64, negative: bool) -> Result<(), Mem
     requires stage { machine.old.stage ≡ Stage.Clause }
     requires ready { IsReady machine.old }
     requires in_range { v ≤ machine.old.formula.variables }
-    ensures state { OnOk result (state_of machine.new ≡ literal_or_end (reading_of machine.old) machine.old.literals v (literal_on negative v)) }
+    ensures state { OnOk result
+        (state_of machine.new
+        ≡ literal_or_end (reading_of machine.old) machine.old.literals v
+        (literal_on negative v)) }
     ensures ready { OnOk result (IsReady machine.new) }
 {
     if v == 0 {

@@ -10,8 +10,9 @@ use dq_lits::{Lit, Memory};
 use dq_text::{push_all_spaced, push_last, push_number, push_spaced, push_word};
 use std::alloc::Global;
 
-/// The canonical text of a formula: the header; a line `a` with all universals, where there are any; for each
-/// existential in order `e y 0` where it sees every universal, and else `d y x.. 0`; a line for each clause.
+/// The canonical text of a formula: the header; a line `a` with all universals, where there are
+/// any; for each existential in order `e y 0` where it sees every universal, and else `d y x.. 0`;
+/// a line for each clause.
 pub fn write(alloc: Global, f: &Formula) -> Result<Vec<u8>, Memory>
     ensures { IfOk result (λ text. text.items ≡ canonical f.now) }
 {
@@ -57,7 +58,8 @@ fn write_dependency(
     universals: usize,
     text: &mut Vec<u8>,
 ) -> Result<(), Memory>
-    ensures { OnOk result (text.new.items ≡ text.old.items ++ existential_line universals y seen.now) }
+    ensures { OnOk result
+        (text.new.items ≡ text.old.items ++ existential_line universals y seen.now) }
 {
     if seen.len() == universals {
         return write_line(b'e', &[y], text);
@@ -83,7 +85,9 @@ fn write_existential(f: &Formula, y: u64, text: &mut Vec<u8>) -> Result<(), Memo
 }
 
 fn write_existentials(f: &Formula, text: &mut Vec<u8>) -> Result<(), Memory>
-    ensures { OnOk result (text.new.items ≡ text.old.items ++ flat_map (existential_text f.now.universals) f.now.existentials) }
+    ensures { OnOk result
+        (text.new.items
+        ≡ text.old.items ++ flat_map (existential_text f.now.universals) f.now.existentials) }
 {
     f.every_formula_is_lawful();
     let existentials = f.existentials();

@@ -1,4 +1,5 @@
-//! `dqsolve solve [--steps N] [--bare] FILE`: decides a formula, writes the verdict with a certificate, and ends with its status.
+//! `dqsolve solve [--steps N] [--bare] FILE`: decides a formula, writes the verdict with a
+//! certificate, and ends with its status.
 #![tactic(auto)]
 
 use dq_io::{RealFiles, RealSink};

@@ -1,4 +1,5 @@
--- That the checker accepts what is written with a verdict, and that what small logs give is within the formats' limits.
+-- That the checker accepts what is written with a verdict, and that what small logs give is within
+-- the formats' limits.
 use Rattle.std.specs.Prelude.{◌≡◌, ◌+◌, ◌≤◌, Bool, List, length, None}
 use Rattle.dq_lits.specs.Formula.{Dqbf}
 use Rattle.dq_formula.specs.Prefix.{IsLawful}
@@ -19,18 +20,24 @@ use Rattle.dqsolve_core.specs.Shown.{IsWithinLimits, few_entries}
 
 -- a circuit with its proof
 abbrev pub ProvedCircuitsAreAccepted : Type 0
-ProvedCircuitsAreAccepted = (f : Dqbf) (file : AagFile) (proof : Dqp) (bare : Bool) → IsProvedCircuit f file proof → IsWritable file
+ProvedCircuitsAreAccepted =
+    (f : Dqbf) (file : AagFile) (proof : Dqp) (bare : Bool) → IsProvedCircuit f file proof
+    → IsWritable file
     → (length proof.steps ≤ max_count → IsDqpOf f file.circuit proof) → IsWithinLimits file proof
     → IsJudgement f (verdict_text bare f (is_true file proof)) ValidTrue
 
 -- a refutation
 abbrev pub RefutationsAreAccepted : Type 0
-RefutationsAreAccepted = (f : Dqbf) (d : Dqr) (bare : Bool) → IsLawful f → IsDqrOf f d → refutation_fault f d ≡ None
+RefutationsAreAccepted =
+    (f : Dqbf) (d : Dqr) (bare : Bool) → IsLawful f → IsDqrOf f d → refutation_fault f d ≡ None
     → IsJudgement f (verdict_text bare f (is_false d)) ValidFalse
 
--- a circuit has an input for each universal and no more gates than the log has names of gates, and a proof no more lines than the
--- log has learned clauses and answers
+-- a circuit has an input for each universal and no more gates than the log has names of gates, and
+-- a proof no more lines than the log has learned clauses and answers
 abbrev pub SmallLogsAreWithinLimits : Type 0
-SmallLogsAreWithinLimits = (f : Dqbf) (entries : List Entry) (file : AagFile) (proof : Dqp) → IsLawful f
-    → length file.circuit.gates ≤ count is_gate_name entries → file.circuit.max_var ≡ length f.universals + length file.circuit.gates
-    → length proof.steps ≤ count is_lemma entries → length entries ≤ few_entries → IsWithinLimits file proof
+SmallLogsAreWithinLimits =
+    (f : Dqbf) (entries : List Entry) (file : AagFile) (proof : Dqp) → IsLawful f
+    → length file.circuit.gates ≤ count is_gate_name entries
+    → file.circuit.max_var ≡ length f.universals + length file.circuit.gates
+    → length proof.steps ≤ count is_lemma entries → length entries ≤ few_entries
+    → IsWithinLimits file proof

@@ -19,13 +19,15 @@ pub record IsOutput (report : Report) (output : Output) : Type 0 where
   pub status : code output.status ≡ status_of report
   pub text : output.text.items ≡ text_of report
 
-pub record IsOutputDue (before now : FilesState) (log : ProofLog) (command : Option Command) (output : Output) : Type 0 where
+pub record IsOutputDue (before now : FilesState) (log : ProofLog) (command : Option Command)
+    (output : Output) : Type 0 where
   pub report : Report
   pub due : IsDue before now log command report
   pub is : IsOutput report output
 
 -- the text and the status of a verdict on a formula that was read
-pub record IsVerdictOutput (f : Dqbf) (log : ProofLog) (bare : Bool) (output : Output) : Type 0 where
+pub record IsVerdictOutput (f : Dqbf) (log : ProofLog) (bare : Bool)
+    (output : Output) : Type 0 where
   pub verdict : Verdict
   pub is : IsVerdict f log bare verdict
   pub status : code output.status ≡ verdict_status verdict

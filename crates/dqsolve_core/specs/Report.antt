@@ -36,11 +36,17 @@ pub data Report : Type 0 where
 
 -- the circuit with the proof in its comment
 abbrev pub with_proof : AagFile → Dqp → AagFile
-with_proof file proof = record { circuit = file.circuit; symbols = file.symbols; comment = Some (canonical_proof proof) }
+with_proof file proof =
+    record {
+      circuit = file.circuit;
+      symbols = file.symbols;
+      comment = Some (canonical_proof proof);
+    }
 
 -- `c rounds R learned L`
 abbrev pub counts_text : ℕ → ℕ → List ℕ
-counts_text rounds learned = codes "c rounds " ++ (decimal rounds ++ (codes " learned " ++ decimal learned))
+counts_text rounds learned =
+    codes "c rounds " ++ (decimal rounds ++ (codes " learned " ++ decimal learned))
 
 -- what stands behind the line with the verdict
 abbrev pub evidence_text : Dqbf → Verdict → List ℕ
@@ -54,7 +60,8 @@ verdict_word (is_false _) = codes "s FALSE"
 verdict_word (is_unknown _ _) = codes "s UNKNOWN"
 
 abbrev pub verdict_text : Bool → Dqbf → Verdict → List ℕ
-verdict_text bare f verdict = (if bare then [] else line (verdict_word verdict)) ++ evidence_text f verdict
+verdict_text bare f verdict =
+    (if bare then [] else line (verdict_word verdict)) ++ evidence_text f verdict
 
 abbrev pub demonstration_text : Demonstration → List ℕ
 demonstration_text Valid = codes " TRUE VALID"
@@ -64,13 +71,19 @@ demonstration_text CutOff = codes " UNKNOWN"
 -- `demo seed S size Z clauses C`, and what was shown
 abbrev pub demo_text : Planting → ℕ → Demonstration → List ℕ
 demo_text p clauses shown =
-    codes "demo seed " ++ (decimal p.seed ++ (codes " size " ++ (decimal p.size ++ (codes " clauses " ++ (decimal clauses ++ demonstration_text shown)))))
+    codes "demo seed "
+    ++ (decimal p.seed
+    ++ (codes " size "
+    ++ (decimal p.size
+    ++ (codes " clauses " ++ (decimal clauses ++ demonstration_text shown)))))
 
 abbrev pub text_of : Report → List ℕ
-text_of usage = line (codes "usage: dqsolve solve [--steps N] [--bare] FILE / dqsolve demo SEED SIZE")
+text_of usage =
+    line (codes "usage: dqsolve solve [--steps N] [--bare] FILE / dqsolve demo SEED SIZE")
 text_of source_fault = line (codes "source fault")
 text_of long_formula = line (codes "too long formula")
-text_of (refused_formula fault) = line (fault_text (codes "refused") fault.line (formula_fault_name fault.name))
+text_of (refused_formula fault) =
+    line (fault_text (codes "refused") fault.line (formula_fault_name fault.name))
 text_of (solved bare f verdict) = verdict_text bare f verdict
 text_of (demonstrated p clauses shown) = line (demo_text p clauses shown)
 

@@ -16,18 +16,23 @@ use Rattle.dqsolve_core.specs.declared.demonstrations.Demonstration.{Demonstrati
 use Rattle.dqsolve_core.specs.Report.{Verdict, Report, usage, source_fault, long_formula, refused_formula, solved, demonstrated, verdict_text, verdict_status, demo_text, demonstration_status, text_of, status_of}
 use Rattle.dqsolve_core.specs.Shown.{IsVerdict, IsDemonstration}
 
--- Which report is due for a search, by what the files told before the run and tell behind it, and by the search's log: the
--- formula's file comes first, then its text, then the search. No other file is picked.
+-- Which report is due for a search, by what the files told before the run and tell behind it, and
+-- by the search's log: the formula's file comes first, then its text, then the search. No other
+-- file is picked.
 abbrev pub IsDueFor : FilesState → FilesState → ProofLog → Search → Report → Type 0
 IsDueFor before now log c usage = ⊥
 IsDueFor before now log c source_fault = IsUnreadable before now c.file × PickedOnce before now
-IsDueFor before now log c long_formula = IsLong max_formula (before.held c.file) × (max_formula < now.given) × PickedOnce before now
-IsDueFor before now log c (refused_formula fault) = IsFaultOf (before.held c.file) fault × PickedOnce before now
+IsDueFor before now log c long_formula =
+    IsLong max_formula (before.held c.file) × (max_formula < now.given) × PickedOnce before now
+IsDueFor before now log c (refused_formula fault) =
+    IsFaultOf (before.held c.file) fault × PickedOnce before now
 IsDueFor before now log c (solved bare f verdict) =
-    (bare ≡ c.bare) × IsFormulaOf (before.held c.file) f × (log.limit ≡ c.steps) × IsVerdict f log bare verdict × PickedOnce before now
+    (bare ≡ c.bare) × IsFormulaOf (before.held c.file) f × (log.limit ≡ c.steps)
+    × IsVerdict f log bare verdict × PickedOnce before now
 IsDueFor before now log c (demonstrated _ _ _) = ⊥
 
--- which report is due for a planted formula, by the search's log, in the default number of steps; no file is picked
+-- which report is due for a planted formula, by the search's log, in the default number of steps;
+-- no file is picked
 abbrev pub IsDueForDemo : FilesState → FilesState → ProofLog → Planting → Report → Type 0
 IsDueForDemo before now log p usage = ⊥
 IsDueForDemo before now log p source_fault = ⊥
@@ -35,7 +40,8 @@ IsDueForDemo before now log p long_formula = ⊥
 IsDueForDemo before now log p (refused_formula _) = ⊥
 IsDueForDemo before now log p (solved _ _ _) = ⊥
 IsDueForDemo before now log p (demonstrated q clauses shown) =
-    (q ≡ p) × (log.limit ≡ default_steps) × IsDemonstration p log clauses shown × (now.picks ≡ before.picks)
+    (q ≡ p) × (log.limit ≡ default_steps) × IsDemonstration p log clauses shown
+    × (now.picks ≡ before.picks)
 
 -- the words come before all
 abbrev pub IsDue : FilesState → FilesState → ProofLog → Option Command → Report → Type 0
@@ -50,13 +56,15 @@ IsDelivered before now report status =
     ⊎ ((status ≡ 4) × TakesPart before now (text_of report))
 
 -- a report was due, and was delivered
-pub record Reports (files now : FilesState) (words : List (List ℕ)) (log : ProofLog) (taken taken_now : Option (List ℕ)) (status : ℕ) : Type 0 where
+pub record Reports (files now : FilesState) (words : List (List ℕ)) (log : ProofLog)
+    (taken taken_now : Option (List ℕ)) (status : ℕ) : Type 0 where
   pub report : Report
   pub due : IsDue files now log (command_of words) report
   pub delivered : IsDelivered taken taken_now report status
 
 -- memory was wanted, and nothing written; or a report
-abbrev pub Ends : FilesState → FilesState → List (List ℕ) → ProofLog → Option (List ℕ) → Option (List ℕ) → ℕ → Type 0
+abbrev pub Ends : FilesState → FilesState → List (List ℕ) → ProofLog → Option (List ℕ)
+    → Option (List ℕ) → ℕ → Type 0
 Ends files now words log taken taken_now status =
     ((status ≡ 5) × (taken_now ≡ taken)) ⊎ Reports files now words log taken taken_now status
 
@@ -83,13 +91,15 @@ abbrev pub IsRunLog : FilesState → Option Command → ProofLog → Type 0
 IsRunLog files command log = (log.entries ≡ []) ⊎ IsWorkOn files command log
 
 -- the words name a file with this text
-pub record IsTold (held : List ℕ → Holding) (words : List (List ℕ)) (formula : List ℕ) : Type 0 where
+pub record IsTold (held : List ℕ → Holding) (words : List (List ℕ))
+    (formula : List ℕ) : Type 0 where
   pub command : Search
   pub is : command_of words ≡ Some (solve command)
   pub formula_held : held command.file ≡ Holds formula
 
 -- a verdict on a formula, in as many steps as were asked for at most, written with that status
-pub record IsSolved (f : Dqbf) (log : ProofLog) (c : Search) (before now : Option (List ℕ)) (status : ℕ) : Type 0 where
+pub record IsSolved (f : Dqbf) (log : ProofLog) (c : Search) (before now : Option (List ℕ))
+    (status : ℕ) : Type 0 where
   pub verdict : Verdict
   pub limit : log.limit ≡ c.steps
   pub is : IsVerdict f log c.bare verdict
@@ -97,14 +107,16 @@ pub record IsSolved (f : Dqbf) (log : ProofLog) (c : Search) (before now : Optio
   pub written : now ≡ append_known before (verdict_text c.bare f verdict)
 
 -- the text is a formula's, and what is written is a verdict on it
-pub record IsSolution (formula : List ℕ) (log : ProofLog) (c : Search) (before now : Option (List ℕ)) (status : ℕ) : Type 0 where
+pub record IsSolution (formula : List ℕ) (log : ProofLog) (c : Search)
+    (before now : Option (List ℕ)) (status : ℕ) : Type 0 where
   pub f : Dqbf
   pub spelled : SpellsFormula formula f
   pub well_formed : IsWellFormed f
   pub solved : IsSolved f log c before now status
 
 -- what was shown of the planted formula, in the default number of steps, written with its status
-pub record IsDemonstratedRun (p : Planting) (log : ProofLog) (before now : Option (List ℕ)) (status : ℕ) : Type 0 where
+pub record IsDemonstratedRun (p : Planting) (log : ProofLog) (before now : Option (List ℕ))
+    (status : ℕ) : Type 0 where
   pub clauses : ℕ
   pub shown : Demonstration
   pub limit : log.limit ≡ default_steps

@@ -25,26 +25,31 @@ use Rattle.dqsolve_core.specs.Report.{Verdict, is_true, is_false, is_unknown, ve
 abbrev pub few_entries : ℕ
 few_entries = 400000000
 
--- the numbers of a circuit and its proof are within the formats' limits; the others are no greater than these
+-- the numbers of a circuit and its proof are within the formats' limits; the others are no greater
+-- than these
 pub record IsWithinLimits (file : AagFile) (proof : Dqp) : Type 0 where
   pub variables : file.circuit.max_var ≤ max_count
   pub steps : length proof.steps ≤ max_count
 
--- the circuit has Skolem functions, its proof shows it, and the checker accepts what is written where it is within the formats' limits
-pub record IsShownTrue (f : Dqbf) (log : ProofLog) (bare : Bool) (file : AagFile) (proof : Dqp) : Type 0 where
+-- the circuit has Skolem functions, its proof shows it, and the checker accepts what is written
+-- where it is within the formats' limits
+pub record IsShownTrue (f : Dqbf) (log : ProofLog) (bare : Bool) (file : AagFile)
+    (proof : Dqp) : Type 0 where
   pub true_formula : IsTrueFormula f
   pub circuit : IsProvedCircuit f file proof
-  pub accepted : IsWithinLimits file proof → IsJudgement f (verdict_text bare f (is_true file proof)) ValidTrue
+  pub accepted : IsWithinLimits file proof
+      → IsJudgement f (verdict_text bare f (is_true file proof)) ValidTrue
   pub within : length log.entries ≤ few_entries → IsWithinLimits file proof
 
--- the instances under the rounds' rows have no model, the refutation shows it, and the checker accepts what is written where it is
--- within the formats' limits
+-- the instances under the rounds' rows have no model, the refutation shows it, and the checker
+-- accepts what is written where it is within the formats' limits
 pub record IsShownFalse (f : Dqbf) (log : ProofLog) (bare : Bool) (d : Dqr) : Type 0 where
   pub false_formula : IsFalseFormula f
   pub rows : d.rows ≡ rows_of log.entries
   pub unsatisfiable : IsExpansionUnsatisfiable f d.rows
   pub refutes : refutation_fault f d ≡ None
-  pub accepted : length d.steps ≤ max_count → IsJudgement f (verdict_text bare f (is_false d)) ValidFalse
+  pub accepted : length d.steps ≤ max_count
+      → IsJudgement f (verdict_text bare f (is_false d)) ValidFalse
   pub within : length log.entries ≤ few_entries → length d.steps ≤ max_count
 
 -- all steps were done, each productive, and no answer decides the formula
@@ -64,7 +69,8 @@ pub record IsVerdict (f : Dqbf) (log : ProofLog) (bare : Bool) (verdict : Verdic
   pub productive : IsProductiveLog f log.entries
   pub shown : IsShown f log bare verdict
 
--- an answer of the log decides that the formula is true, and a circuit with its proof is exported of it
+-- an answer of the log decides that the formula is true, and a circuit with its proof is exported
+-- of it
 pub record IsExportedOf (f : Dqbf) (log : ProofLog) (file : AagFile) (proof : Dqp) : Type 0 where
   pub id : ℕ
   pub decided : IsDecidedTrue f log.entries id
@@ -95,7 +101,8 @@ IsDemonstrated f log Large = IsDemonstratedLarge f log
 IsDemonstrated f log CutOff = IsCutOff f log
 
 -- the search's log of productive work on the planted formula, of so many clauses, shows that much
-pub record IsDemonstration (p : Planting) (log : ProofLog) (clauses : ℕ) (shown : Demonstration) : Type 0 where
+pub record IsDemonstration (p : Planting) (log : ProofLog) (clauses : ℕ)
+    (shown : Demonstration) : Type 0 where
   pub clauses_are : clauses ≡ length (planted_formula p.seed p.size).matrix
   pub productive : IsProductiveLog (planted_formula p.seed p.size) log.entries
   pub is : IsDemonstrated (planted_formula p.seed p.size) log shown

@@ -27,7 +27,8 @@ use hint_log::{Log, Stop};
 use planted_formulas::laws::planted_formulas_are_true;
 use std::alloc::Global;
 
-/// The judge numbers the lines of a text by bytes, for texts of fewer bytes than this. No run comes there.
+/// The judge numbers the lines of a text by bytes, for texts of fewer bytes than this. No run comes
+/// there.
 const MAX_TEXT: usize = 1 << 61;
 
 /// What was shown of a planted formula.
@@ -128,7 +129,8 @@ fn demo_line(
     clauses: usize,
     shown: Demonstration,
 ) -> Result<Vec<u8>, Memory>
-    ensures { IfOk result (λ text. text.items ≡ line (demo_text (planting_of asked) clauses shown)) }
+    ensures { IfOk result
+        (λ text. text.items ≡ line (demo_text (planting_of asked) clauses shown)) }
 {
     let seed = asked.seed;
     let size = asked.size;

@@ -1,4 +1,5 @@
-//! What the checker says of what is written. A law is the contract of a function without parameters.
+//! What the checker says of what is written. A law is the contract of a function without
+//! parameters.
 
 ghost use Rattle.dqsolve_core.specs.Accepted.{ProvedCircuitsAreAccepted, RefutationsAreAccepted, SmallLogsAreWithinLimits};
 
@@ -17,7 +18,8 @@ pub fn refutations_are_accepted()
     cert_text::laws::canonical_text_spells();
 }
 
-/// Where the log has at most 400,000,000 entries, a circuit and its proof are within the formats' limits.
+/// Where the log has at most 400,000,000 entries, a circuit and its proof are within the formats'
+/// limits.
 pub fn small_logs_are_within_limits()
     ensures { SmallLogsAreWithinLimits }
 {}

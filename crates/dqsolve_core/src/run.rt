@@ -38,13 +38,14 @@ const MAX_FORMULA: u64 = 1 << 30;
 /// The most steps of a search on a planted formula.
 const DEFAULT_STEPS: u64 = 1_000_000;
 
-/// Decides the formula in a file, and writes the verdict with a certificate; or decides a planted formula, judges the certificate, and
-/// writes a line on it.
+/// Decides the formula in a file, and writes the verdict with a certificate; or decides a planted
+/// formula, judges the certificate, and writes a line on it.
 ///
-/// The words are the program's name and those of `solve [--steps N] [--bare] FILE` or of `demo SEED SIZE`, as clap reads them. The log is
-/// emptied first, and then has the search's entries. The status is 10 where the formula is true, 20 where it is false, 0 where the steps
-/// didn't suffice, 1 where the words are others, 2 where the formula's text has a fault, 3 where the file can't be read, 4 where the text
-/// can't be written, 5 for want of memory, and 6 where the file is too long.
+/// The words are the program's name and those of `solve [--steps N] [--bare] FILE` or of `demo SEED
+/// SIZE`, as clap reads them. The log is emptied first, and then has the search's entries. The
+/// status is 10 where the formula is true, 20 where it is false, 0 where the steps didn't suffice,
+/// 1 where the words are others, 2 where the formula's text has a fault, 3 where the file can't be
+/// read, 4 where the text can't be written, 5 for want of memory, and 6 where the file is too long.
 pub fn dqsolve_run<F: Files, K: Sink>(
     alloc: Global,
     words: &[String],
@@ -52,20 +53,28 @@ pub fn dqsolve_run<F: Files, K: Sink>(
     out: &mut K,
     log: &mut Log,
 ) -> u8
-    // What is written is the text that is due, and the status is that text's. The log is the run's own.
-    ensures ends { Ends (state_of F.Files files.old) (state_of F.Files files.new) (map string_bytes words.now) log.new
+    // What is written is the text that is due, and the status is that text's. The log is the run's
+    // own.
+    ensures ends { Ends (state_of F.Files files.old) (state_of F.Files files.new)
+        (map string_bytes words.now) log.new
         (K.taken out.old) (K.taken out.new) result }
-    ensures log { IsRunLog (state_of F.Files files.old) (command_of (map string_bytes words.now)) log.new }
+    ensures log { IsRunLog (state_of F.Files files.old) (command_of (map string_bytes words.now))
+        log.new }
 
     // Over a file that is told: a verdict is right, and where nothing failed, there is one.
-    ensures right { (formula : List ℕ) (told : IsTold (F.held files.old) (map string_bytes words.now) formula)
-        → is_verdict_status result ≡ true → IsSolution formula log.new told.command (K.taken out.old) (K.taken out.new) result }
-    ensures solved { (formula : List ℕ) (f : Dqbf) (told : IsTold (F.held files.old) (map string_bytes words.now) formula)
+    ensures right { (formula : List ℕ)
+        (told : IsTold (F.held files.old) (map string_bytes words.now) formula)
+        → is_verdict_status result ≡ true
+        → IsSolution formula log.new told.command (K.taken out.old) (K.taken out.new) result }
+    ensures solved { (formula : List ℕ) (f : Dqbf)
+        (told : IsTold (F.held files.old) (map string_bytes words.now) formula)
         → length formula ≤ max_formula → SpellsFormula formula f
-        → ¬ Rose (F.faults files.old) (F.faults files.new) → ¬ Rose (K.faults out.old) (K.faults out.new) → result ≢ 5
+        → ¬ Rose (F.faults files.old) (F.faults files.new)
+        → ¬ Rose (K.faults out.old) (K.faults out.new) → result ≢ 5
         → IsSolved f log.new told.command (K.taken out.old) (K.taken out.new) result }
 
-    // A planted formula is searched and its certificate judged, and where the sink doesn't fail, the line is written.
+    // A planted formula is searched and its certificate judged, and where the sink doesn't fail,
+    // the line is written.
     ensures demonstrated { (p : Planting) → command_of (map string_bytes words.now) ≡ Some (demo p)
         → ¬ Rose (K.faults out.old) (K.faults out.new) → result ≢ 5
         → IsDemonstratedRun p log.new (K.taken out.old) (K.taken out.new) result }
@@ -78,7 +87,8 @@ pub fn dqsolve_run<F: Files, K: Sink>(
     ensures long { result ≡ 6 → max_formula < F.given files.new }
 
     // No fault is passed over: where one was counted, its status comes, or a later cause's.
-    ensures unfaulted_files { result ≢ 3 → result ≢ 4 → result ≢ 5 → F.faults files.new ≡ F.faults files.old }
+    ensures unfaulted_files { result ≢ 3 → result ≢ 4 → result ≢ 5
+        → F.faults files.new ≡ F.faults files.old }
     ensures unfaulted_sink { result ≢ 4 → K.faults out.new ≡ K.faults out.old }
     ensures held { F.held files.new ≡ F.held files.old }
 {
@@ -99,9 +109,11 @@ fn report<F: Files>(
     files: &mut F,
     log: &mut Log,
 ) -> Result<Output, Memory>
-    ensures due { IfOk result (IsOutputDue (state_of F.Files files.old) (state_of F.Files files.new) log.new
+    ensures due { IfOk result
+        (IsOutputDue (state_of F.Files files.old) (state_of F.Files files.new) log.new
         (command_of (map string_bytes words.now))) }
-    ensures log { IsRunLog (state_of F.Files files.old) (command_of (map string_bytes words.now)) log.new }
+    ensures log { IsRunLog (state_of F.Files files.old) (command_of (map string_bytes words.now))
+        log.new }
     ensures long { IfOk result (λ output. code output.status ≡ 6
         → max_formula < F.given files.new) }
     ensures unfaulted { IfOk result (λ output. code output.status ≢ 3
@@ -124,7 +136,8 @@ fn report_demo(alloc: Global, asked: DemoWords, log: &mut Log) -> Result<Output,
     requires most { asked.size ≤ most_size }
     ensures demonstrated { IfOk result (IsDemoOutput (planting_of asked) log.new) }
     ensures limit { log.new.limit ≡ default_steps }
-    ensures log { (log.new.entries ≡ []) ⊎ IsProductiveLog (planted_formula asked.seed asked.size) log.new.entries }
+    ensures log { (log.new.entries ≡ [])
+        ⊎ IsProductiveLog (planted_formula asked.seed asked.size) log.new.entries }
 {
     log.rewind(DEFAULT_STEPS);
     let f = planted_formula(alloc, asked.seed, asked.size)?;
@@ -139,7 +152,8 @@ fn report_file<F: Files>(
     log: &mut Log,
 ) -> Result<Output, Memory>
     requires steps { asked.steps ≤ max_count }
-    ensures due { IfOk result (IsOutputDue (state_of F.Files files.old) (state_of F.Files files.new) log.new
+    ensures due { IfOk result
+        (IsOutputDue (state_of F.Files files.old) (state_of F.Files files.new) log.new
         (Some (solve (search_of asked.entry)))) }
     ensures log { IsRunLog (state_of F.Files files.old)
         (Some (solve (search_of asked.entry))) log.new }

@@ -73,7 +73,8 @@ pub(crate) fn search<O: Oracle>(
     ensures productive { IsProductiveLog f.now log.new.entries }
     ensures limit_same { log.new.limit ≡ log.old.limit }
     ensures is_true { (id : ℕ) → result ≡ Ok (Found.Shown id) → IsTrueFormula f.now }
-    ensures shown { (id : ℕ) → result ≡ Ok (Found.Shown id) → IsDecidedTrue f.now log.new.entries id }
+    ensures shown { (id : ℕ) → result ≡ Ok (Found.Shown id)
+        → IsDecidedTrue f.now log.new.entries id }
     ensures refuted { (id : ℕ) → result ≡ Ok (Found.Refuted id) → IsShownFalse f.now log.new id }
     ensures undecided { OnErr result (IsUndecided f.now log.new.entries) }
     ensures limit { IsErrOf result Stop.Limit → steps_of log.new.entries ≡ log.new.limit }
@@ -192,7 +193,8 @@ fn with_verdict(
     bare: bool,
     evidence: Vec<u8>,
 ) -> Result<Vec<u8>, Memory>
-    ensures { IfOk result (λ text. text.items ≡ (if bare then [] else verdict.now) ++ evidence.items) }
+    ensures { IfOk result
+        (λ text. text.items ≡ (if bare then [] else verdict.now) ++ evidence.items) }
 {
     if bare {
         return Ok(evidence);

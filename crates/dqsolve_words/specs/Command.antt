@@ -1,5 +1,5 @@
--- What the words of a command line ask for, by clap's own meaning of a command with subcommands. The first word is the program's own
--- name.
+-- What the words of a command line ask for, by clap's own meaning of a command with subcommands.
+-- The first word is the program's own name.
 use Rattle.std.specs.Prelude.{ℕ, ◌≤◌, Bool, true, false, List, [], ◌∷◌, Option, None, Some, codes, option_map, option_and_then, if◌then◌else◌}
 use Rattle.std.specs.Option.{option_map_or}
 use Rattle.std.specs.Str.{bytes_eq}
@@ -11,7 +11,8 @@ use Rattle.clap.specs.ValueTests.{is_unsigned_in}
 use Rattle.clap.specs.Walk.{Row, Rule, first_of}
 use Rattle.clap.specs.declared.builder.action.ArgAction.TheVariants.{Set, SetTrue}
 
--- a search with so many steps at most, whether the line with the verdict is left out, and the name of the formula's file
+-- a search with so many steps at most, whether the line with the verdict is left out, and the name
+-- of the formula's file
 pub record Search : Type 0 where
   pub steps : ℕ
   pub bare : Bool
@@ -59,7 +60,8 @@ demo_shape = record (without_flags (new_shape (codes "demo"))) {
 -- dqsolve, with its subcommands and without `help`
 abbrev pub solver_app : App
 solver_app = with_subcommand (with_subcommand
-    (on_top (λ top. record (without_flags top) { disable_help_subcommand = true }) (new_app (codes "dqsolve"))) solve_shape) demo_shape
+    (on_top (λ top. record (without_flags top) { disable_help_subcommand = true })
+    (new_app (codes "dqsolve"))) solve_shape) demo_shape
 
 abbrev pub least_steps : ℕ
 least_steps = 1
@@ -85,11 +87,15 @@ IsInRange (demo p) = (p.seed ≤ most_seed) × (least_size ≤ p.size) × (p.siz
 
 -- a number in a range, in decimal digits, perhaps behind a plus
 abbrev pub number_in : ℕ → ℕ → List ℕ → Option ℕ
-number_in least most text = if is_unsigned_in least most text then Some (digits_value 10 (without_leading_plus text)) else None
+number_in least most text =
+    if is_unsigned_in least most text then Some (digits_value 10 (without_leading_plus text))
+    else None
 
 -- how many steps are asked for
 abbrev pub steps_in : List Row → Option ℕ
-steps_in rows = option_map_or (number_in least_steps most_steps) (first_of (codes "steps") rows) (Some default_steps)
+steps_in rows =
+    option_map_or (number_in least_steps most_steps) (first_of (codes "steps") rows)
+    (Some default_steps)
 
 -- whether a flag is given
 abbrev pub has_flag : List ℕ → List Row → Bool
@@ -98,18 +104,25 @@ has_flag id rows = option_map_or (λ value. bytes_eq value (codes "true")) (firs
 -- what is asked of `solve`
 abbrev pub solve_in : List Row → Option Search
 solve_in rows = option_and_then
-    (λ file. option_map (λ steps. record { steps = steps; bare = has_flag (codes "bare") rows; file = file }) (steps_in rows))
+    (λ file.
+    option_map
+    (λ steps. record { steps = steps; bare = has_flag (codes "bare") rows; file = file })
+    (steps_in rows))
     (first_of (codes "FILE") rows)
 
 -- what is asked of `demo`
 abbrev pub demo_in : List Row → Option Planting
 demo_in rows = option_and_then
-    (λ seed. option_map (λ size. record { seed = seed; size = size }) (option_and_then (number_in least_size most_size) (first_of (codes "SIZE") rows)))
+    (λ seed.
+    option_map (λ size. record { seed = seed; size = size })
+    (option_and_then (number_in least_size most_size) (first_of (codes "SIZE") rows)))
     (option_and_then (number_in 0 most_seed) (first_of (codes "SEED") rows))
 
 -- what is asked of the subcommand of a name
 abbrev pub asked_of : List ℕ → List Row → Option Command
-asked_of name rows = if bytes_eq name (codes "demo") then option_map demo (demo_in rows) else option_map solve (solve_in rows)
+asked_of name rows =
+    if bytes_eq name (codes "demo") then option_map demo (demo_in rows)
+    else option_map solve (solve_in rows)
 
 -- what is asked of the subcommand that was named
 abbrev pub command_in : Option (List ℕ × List Row) → Option Command
@@ -120,7 +133,8 @@ abbrev pub without_fault : Kinds → Option Command → Option Command
 without_fault [] command = command
 without_fault (_ ∷ _) command = None
 
--- what the words ask for, where the command has no fault at them; what callers need of it stands in the laws, so it doesn't
--- unfold in their proofs
+-- what the words ask for, where the command has no fault at them; what callers need of it stands in
+-- the laws, so it doesn't unfold in their proofs
 unfoldable pub command_of : List (List ℕ) → Option Command
-command_of words = without_fault (fault_of solver_app words) (command_in (subcommand_of solver_app words))
+command_of words =
+    without_fault (fault_of solver_app words) (command_in (subcommand_of solver_app words))

@@ -6,27 +6,38 @@ ghost use Rattle.dqsolve_words.specs.Examples.{solving, planting, dqsolve};
 
 /// Options stand before or behind the name, the number of steps also behind `=`.
 pub fn options_are_taken()
-    ensures none { dqsolve (codes "solve" ∷ codes "f" ∷ []) ≡ Some (solving default_steps false (codes "f")) }
-    ensures steps { dqsolve (codes "solve" ∷ codes "--steps" ∷ codes "7" ∷ codes "f" ∷ []) ≡ Some (solving 7 false (codes "f")) }
-    ensures behind { dqsolve (codes "solve" ∷ codes "f" ∷ codes "--bare" ∷ codes "--steps=7" ∷ []) ≡ Some (solving 7 true (codes "f")) }
-    ensures plus { dqsolve (codes "solve" ∷ codes "--steps" ∷ codes "+007" ∷ codes "f" ∷ []) ≡ Some (solving 7 false (codes "f")) }
-    ensures separator { dqsolve (codes "solve" ∷ codes "--bare" ∷ codes "--" ∷ codes "--steps" ∷ []) ≡ Some (solving default_steps true (codes "--steps")) }
+    ensures none { dqsolve (codes "solve" ∷ codes "f" ∷ [])
+        ≡ Some (solving default_steps false (codes "f")) }
+    ensures steps { dqsolve (codes "solve" ∷ codes "--steps" ∷ codes "7" ∷ codes "f" ∷ [])
+        ≡ Some (solving 7 false (codes "f")) }
+    ensures behind { dqsolve (codes "solve" ∷ codes "f" ∷ codes "--bare" ∷ codes "--steps=7" ∷ [])
+        ≡ Some (solving 7 true (codes "f")) }
+    ensures plus { dqsolve (codes "solve" ∷ codes "--steps" ∷ codes "+007" ∷ codes "f" ∷ [])
+        ≡ Some (solving 7 false (codes "f")) }
+    ensures separator { dqsolve (codes "solve" ∷ codes "--bare" ∷ codes "--" ∷ codes "--steps" ∷ [])
+        ≡ Some (solving default_steps true (codes "--steps")) }
 {}
 
 /// Numbers of steps outside the range are refused, and what isn't a number.
 pub fn other_steps_are_refused()
-    ensures most { dqsolve (codes "solve" ∷ codes "--steps" ∷ codes "1000000000" ∷ codes "f" ∷ []) ≡ Some (solving 1000000000 false (codes "f")) }
+    ensures most { dqsolve (codes "solve" ∷ codes "--steps" ∷ codes "1000000000" ∷ codes "f" ∷ [])
+        ≡ Some (solving 1000000000 false (codes "f")) }
     ensures none { dqsolve (codes "solve" ∷ codes "--steps" ∷ codes "0" ∷ codes "f" ∷ []) ≡ None }
-    ensures more { dqsolve (codes "solve" ∷ codes "--steps" ∷ codes "1000000001" ∷ codes "f" ∷ []) ≡ None }
-    ensures word { dqsolve (codes "solve" ∷ codes "--steps" ∷ codes "many" ∷ codes "f" ∷ []) ≡ None }
+    ensures more { dqsolve (codes "solve" ∷ codes "--steps" ∷ codes "1000000001" ∷ codes "f" ∷ [])
+        ≡ None }
+    ensures word { dqsolve (codes "solve" ∷ codes "--steps" ∷ codes "many" ∷ codes "f" ∷ [])
+        ≡ None }
     ensures missing { dqsolve (codes "solve" ∷ codes "f" ∷ codes "--steps" ∷ []) ≡ None }
-    ensures twice { dqsolve (codes "solve" ∷ codes "--steps" ∷ codes "1" ∷ codes "--steps" ∷ codes "1" ∷ codes "f" ∷ []) ≡ None }
+    ensures twice { dqsolve
+        (codes "solve" ∷ codes "--steps" ∷ codes "1" ∷ codes "--steps" ∷ codes "1" ∷ codes "f" ∷ [])
+        ≡ None }
 {}
 
 /// A seed and a size are taken in their ranges, and need no more words.
 pub fn plantings_are_taken()
     ensures taken { dqsolve (codes "demo" ∷ codes "1" ∷ codes "3" ∷ []) ≡ Some (planting 1 3) }
-    ensures ends { dqsolve (codes "demo" ∷ codes "2147483647" ∷ codes "10000" ∷ []) ≡ Some (planting 2147483647 10000) }
+    ensures ends { dqsolve (codes "demo" ∷ codes "2147483647" ∷ codes "10000" ∷ [])
+        ≡ Some (planting 2147483647 10000) }
     ensures seed { dqsolve (codes "demo" ∷ codes "2147483648" ∷ codes "1" ∷ []) ≡ None }
     ensures least { dqsolve (codes "demo" ∷ codes "1" ∷ codes "0" ∷ []) ≡ None }
     ensures most { dqsolve (codes "demo" ∷ codes "1" ∷ codes "10001" ∷ []) ≡ None }

@@ -1,7 +1,7 @@
 //! What callers need of `command_of`.
 //!
-//! Each law is the contract of a function without parameters and with an empty body: it holds of all words, and a caller
-//! that needs it calls the function.
+//! Each law is the contract of a function without parameters and with an empty body: it holds of
+//! all words, and a caller that needs it calls the function.
 
 ghost use Rattle.std.specs.Prelude.{◌≡◌, ℕ, List, Some};
 ghost use Rattle.dqsolve_words.specs.Command.{Command, IsInRange, command_of};

@@ -1,7 +1,8 @@
 //! The words of the solver's command line, read with `clap`.
 //!
-//! `command_words` gives what `dqsolve solve [--steps N] [--bare] FILE` or `dqsolve demo SEED SIZE` asks for. What the words mean is clap's
-//! own meaning of a command with subcommands; `examples` says it of command lines that are written out.
+//! `command_words` gives what `dqsolve solve [--steps N] [--bare] FILE` or `dqsolve demo SEED SIZE`
+//! asks for. What the words mean is clap's own meaning of a command with subcommands; `examples`
+//! says it of command lines that are written out.
 #![tactic(auto)]
 
 pub use names::{CommandWords, DemoWords, SolveWords, command_words};

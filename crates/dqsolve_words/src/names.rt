@@ -31,7 +31,8 @@ const LEAST_SIZE: u64 = 1;
 /// The greatest size.
 const MOST_SIZE: u64 = 10_000;
 
-/// A search with so many steps at most, whether the line with the verdict is left out, and the name of the formula's file.
+/// A search with so many steps at most, whether the line with the verdict is left out, and the name
+/// of the formula's file.
 #[derive(Clone, Copy)]
 pub struct SolveWords<'a> {
     pub steps: u64,
@@ -171,7 +172,9 @@ fn solve_in<'a>(matches: &ArgMatches<'a>) -> Option<SolveWords<'a>>
 
 // The number in a range that the matches give a name.
 fn named_number<'a>(matches: &ArgMatches<'a>, id: &str, least: u64, most: u64) -> Option<u64>
-    ensures { result ≡ option_and_then (number_in least most) (first_of id.now (rows_of (found_of matches.now))) }
+    ensures { result
+        ≡ option_and_then (number_in least most)
+        (first_of id.now (rows_of (found_of matches.now))) }
 {
     match matches.get_str(id) {
         Some(text) => number_in(text, least, most),
@@ -223,7 +226,8 @@ pub fn command_words<'a>(
     alloc: Global,
     words: &'a [String],
 ) -> Result<Option<CommandWords<'a>>, Memory>
-    ensures { IfOk result (λ answer. option_map command_said answer ≡ command_of (map string_bytes words.now)) }
+    ensures { IfOk result
+        (λ answer. option_map command_said answer ≡ command_of (map string_bytes words.now)) }
 {
     let command = solver_command(alloc)?;
     match command.try_get_matches_from(words) {

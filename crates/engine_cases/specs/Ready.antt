@@ -11,7 +11,8 @@ use Rattle.padoa_definitions.specs.Copies.{IsPadoa}
 use Rattle.padoa_definitions.specs.declared.padoa.Padoa.{Padoa}
 
 -- every turn so far had its round
-pub record IsOpen (f : Dqbf) (graph : AigGraph) (checker : Checker) (entries : List Entry) : Type 0 where
+pub record IsOpen (f : Dqbf) (graph : AigGraph) (checker : Checker)
+    (entries : List Entry) : Type 0 where
   pub inputs : graph.inputs ≡ length f.universals
   pub checked : IsChecker f checker entries
   pub faults : length (fault_groups entries) ≤ rounds_of entries

@@ -162,7 +162,8 @@ fn is_true(f: &Formula, point: &Point, l: Lit) -> bool
     }
 }
 
-/// Writes each candidate's values under all rows, the first row first, and which universals it reads.
+/// Writes each candidate's values under all rows, the first row first, and which universals it
+/// reads.
 pub fn show_candidates(
     alloc: Global,
     f: &Formula,

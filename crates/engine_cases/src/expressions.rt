@@ -1,5 +1,5 @@
-//! Outputs that a table states: for each existential an expression in reverse Polish notation, over universals and their negations, with
-//! `t` and `f` for the constants, and `&`.
+//! Outputs that a table states: for each existential an expression in reverse Polish notation, over
+//! universals and their negations, with `t` and `f` for the constants, and `&`.
 
 ghost use Rattle.std.specs.Prelude.{◌≡◌, length, IfOk, IfSome, All};
 ghost use Rattle.dq_lits.specs.Formula.{IsWellFormed};

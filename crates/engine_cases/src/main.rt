@@ -1,6 +1,7 @@
 //! Runs the search's engines, over the solver, on a table of cases.
 //!
-//! It reads the table `cases`, a command a line, and prints what each case gives; `tables` says which commands there are.
+//! It reads the table `cases`, a command a line, and prints what each case gives; `tables` says
+//! which commands there are.
 #![tactic(auto)]
 
 mod circuits;

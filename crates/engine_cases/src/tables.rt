@@ -1,15 +1,19 @@
 //! The commands of a table.
 //!
-//! `formula TEXT` says which formula is meant from there on: DQDIMACS, with `/` for an end of a line. Each further command begins with an
-//! empty log and a new solver, and prints which names and given clauses the log has at first and after each step. `turns NAME : OUTPUTS ;
-//! OUTPUTS ..` lets the circuits' checker judge outputs, until some hold, and prints what each turn told. `rows NAME : ROW ; ROW ..` adds
-//! rows to the expansion, until they are refuted, and prints for each row of a model whether the clauses hold there and the candidates have
-//! its bits; `points` does the same, and prints the bits, and the candidates' values under all rows. `decide NAME : LIMIT` runs the loop in so
-//! many steps, and prints `true`, `false` or `limit`; `rounds` prints how many rounds it took, too. `refute` does
-//! the same, exports the refutation, and prints what the checker says of its text; `certificate` prints that text, too. `define NAME : Y Y ..`
-//! asks for definitions of existentials, and prints the definition's values under all rows of the universals and the existentials, or that there
-//! is none. `force NAME : Y BIT ROW` asks whether an existential is forced to have a bit at a row, and prints the rule, or a row with values of
-//! the existentials at which it has the other bit. Lines that begin with `#` are comments.
+//! `formula TEXT` says which formula is meant from there on: DQDIMACS, with `/` for an end of a
+//! line. Each further command begins with an empty log and a new solver, and prints which names and
+//! given clauses the log has at first and after each step. `turns NAME : OUTPUTS ; OUTPUTS ..` lets
+//! the circuits' checker judge outputs, until some hold, and prints what each turn told. `rows NAME
+//! : ROW ; ROW ..` adds rows to the expansion, until they are refuted, and prints for each row of a
+//! model whether the clauses hold there and the candidates have its bits; `points` does the same,
+//! and prints the bits, and the candidates' values under all rows. `decide NAME : LIMIT` runs the
+//! loop in so many steps, and prints `true`, `false` or `limit`; `rounds` prints how many rounds it
+//! took, too. `refute` does the same, exports the refutation, and prints what the checker says of
+//! its text; `certificate` prints that text, too. `define NAME : Y Y ..` asks for definitions of
+//! existentials, and prints the definition's values under all rows of the universals and the
+//! existentials, or that there is none. `force NAME : Y BIT ROW` asks whether an existential is
+//! forced to have a bit at a row, and prints the rule, or a row with values of the existentials at
+//! which it has the other bit. Lines that begin with `#` are comments.
 
 ghost use Rattle.dq_lits.specs.Formula.{IsWellFormed};
 

@@ -1,5 +1,5 @@
--- For each dependency set the rows that are the first to show their bits there, in order of these bits, so that a row's first one is found by
--- binary search.
+-- For each dependency set the rows that are the first to show their bits there, in order of these
+-- bits, so that a row's first one is found by binary search.
 use Rattle.std.specs.Prelude.{◌≡◌, ℕ, ◌≤◌, ◌<◌, Bool, true, List, [], map, length, Option, None, Some, slice_get, slice_index, slice_index_or}
 use Rattle.std.specs.List.{Contains, position_or_len}
 use Rattle.std.specs.List.Sorted.{IsSortedBy}
@@ -16,8 +16,8 @@ pub record RowOrder : Type 0 where
   pub places : List ℕ
   pub learnt : ℕ
 
--- for each existential, by its place, the place of one with the same dependency set that stands for it, and an order for those that stand
--- for themselves
+-- for each existential, by its place, the place of one with the same dependency set that stands for
+-- it, and an order for those that stand for themselves
 pub record RowIndex : Type 0 where
   pub leaders : List ℕ
   pub orders : List RowOrder
@@ -42,25 +42,36 @@ abbrev pub found_cmp : Dqbf → List ℕ → List Bool → Option (List Bool) �
 found_cmp f sees row None = Less
 found_cmp f sees row (Some r) = bits_cmp (seen_by f sees r) (seen_by f sees row)
 
--- the place of the first row that shows the same bits as this one; the number of rows where none does
+-- the place of the first row that shows the same bits as this one; the number of rows where none
+-- does
 abbrev pub first_alike : Dqbf → List ℕ → List (List Bool) → List Bool → ℕ
-first_alike f sees rows row = position_or_len (λ r. same_bits (seen_by f sees row) (seen_by f sees r)) rows
+first_alike f sees rows row =
+    position_or_len (λ r. same_bits (seen_by f sees row) (seen_by f sees r)) rows
 
--- the places stand in order, they are those of first rows, and each row that was looked at agrees with one of them
-pub record IsRowOrder (f : Dqbf) (sees : List ℕ) (rows : List (List Bool)) (o : RowOrder) : Type 0 where
+-- the places stand in order, they are those of first rows, and each row that was looked at agrees
+-- with one of them
+pub record IsRowOrder (f : Dqbf) (sees : List ℕ) (rows : List (List Bool))
+    (o : RowOrder) : Type 0 where
   pub within : o.learnt ≤ length rows
-  pub sorted : IsSortedBy (λ a b. is_lt (bits_cmp (seen_by f sees (row_at rows a)) (seen_by f sees (row_at rows b)))) o.places
-  pub firsts : (k : ℕ) → Contains o.places k → (k < o.learnt) × (first_alike f sees rows (row_at rows k) ≡ k)
-  pub whole : (k : ℕ) → k < o.learnt → (p : ℕ) × Contains o.places p × (same_bits (seen_by f sees (row_at rows k)) (seen_by f sees (row_at rows p)) ≡ true)
+  pub sorted : IsSortedBy
+      (λ a b. is_lt (bits_cmp (seen_by f sees (row_at rows a)) (seen_by f sees (row_at rows b))))
+      o.places
+  pub firsts : (k : ℕ) → Contains o.places k
+      → (k < o.learnt) × (first_alike f sees rows (row_at rows k) ≡ k)
+  pub whole : (k : ℕ) → k < o.learnt
+      → (p : ℕ) × Contains o.places p
+      × (same_bits (seen_by f sees (row_at rows k)) (seen_by f sees (row_at rows p)) ≡ true)
 
 -- the existential at the first place has the dependency set of the one at the second
 pub record IsLeader (f : Dqbf) (leader place : ℕ) : Type 0 where
   pub not_behind : leader ≤ place
-  pub same_set : (y : Existential) → slice_get f.existentials place ≡ Some y → (z : Existential) × (slice_get f.existentials leader ≡ Some z) × (z.sees ≡ y.sees)
+  pub same_set : (y : Existential) → slice_get f.existentials place ≡ Some y
+      → (z : Existential) × (slice_get f.existentials leader ≡ Some z) × (z.sees ≡ y.sees)
 
 pub record AreLeaders (f : Dqbf) (leaders : List ℕ) : Type 0 where
   pub many : length leaders ≡ length f.existentials
-  pub each : (place : ℕ) → place < length f.existentials → IsLeader f (slice_index leaders place) place
+  pub each : (place : ℕ) → place < length f.existentials
+      → IsLeader f (slice_index leaders place) place
 
 abbrev pub no_order : RowOrder
 no_order = record { places = []; learnt = 0 }
@@ -68,12 +79,18 @@ no_order = record { places = []; learnt = 0 }
 pub record IsRowIndex (f : Dqbf) (rows : List (List Bool)) (index : RowIndex) : Type 0 where
   pub leaders : AreLeaders f index.leaders
   pub many : length index.orders ≡ length f.existentials
-  pub orders : (place : ℕ) (y : Existential) → slice_get f.existentials place ≡ Some y → IsRowOrder f y.sees rows (slice_index_or index.orders place no_order)
+  pub orders : (place : ℕ) (y : Existential) → slice_get f.existentials place ≡ Some y
+      → IsRowOrder f y.sees rows (slice_index_or index.orders place no_order)
 
--- the place of the first row that agrees with this one on what the existential at a place sees; the number of rows where none does
+-- the place of the first row that agrees with this one on what the existential at a place sees; the
+-- number of rows where none does
 abbrev pub IsFirstRow : Dqbf → List (List Bool) → List Bool → ℕ → ℕ → Type 0
-IsFirstRow f rows row place first = (y : Existential) → slice_get f.existentials place ≡ Some y → first ≡ position_or_len (agree_on f y row) rows
+IsFirstRow f rows row place first =
+    (y : Existential) → slice_get f.existentials place ≡ Some y
+    → first ≡ position_or_len (agree_on f y row) rows
 
 -- those of the first so many existentials
 abbrev pub AreFirstRows : Dqbf → List (List Bool) → List Bool → ℕ → List ℕ → Type 0
-AreFirstRows f rows row n firsts = (length firsts ≡ n) × ((place : ℕ) → place < n → IsFirstRow f rows row place (slice_index firsts place))
+AreFirstRows f rows row n firsts =
+    (length firsts ≡ n)
+    × ((place : ℕ) → place < n → IsFirstRow f rows row place (slice_index firsts place))

@@ -1,4 +1,5 @@
--- The table of an expansion: the rows of the first rounds, the arbiters of their pairs, and the instances that the log was given.
+-- The table of an expansion: the rows of the first rounds, the arbiters of their pairs, and the
+-- instances that the log was given.
 use Rattle.std.specs.Prelude.{◌≡◌, ℕ, ◌+◌, ◌-◌, ◌≤◌, Bool, false, List, [], ◌∷◌, map, length, Some, slice_get, slice_index_or}
 use Rattle.std.specs.List.{All, Contains, list_any, filter_map}
 use Rattle.dq_lits.specs.Literal.{Assignment, Literal, negative}
@@ -14,7 +15,8 @@ use Rattle.hint_log.specs.declared.origins.Origin.TheVariants.{Instance}
 use Rattle.log_laws.specs.Engines.{instances, part, IsOwnGiven}
 use Rattle.expansion.specs.FirstRows.{RowIndex, IsRowIndex}
 
--- the group of the instances; for each row the variables of its pairs, in order of the existentials; and where first rows are found
+-- the group of the instances; for each row the variables of its pairs, in order of the
+-- existentials; and where first rows are found
 pub record TableState : Type 0 where
   pub group : ℕ
   pub existentials : List ℕ
@@ -24,28 +26,37 @@ pub record TableState : Type 0 where
 
 -- the variables are named as the arbiters of a row
 abbrev pub AreArbiters : Dqbf → List Entry → List (List Bool) → List Bool → List ℕ → Type 0
-AreArbiters f entries rows row variables = map (name_of entries) variables ≡ map (λ y. Some (arbiter f rows row y)) f.existentials
+AreArbiters f entries rows row variables =
+    map (name_of entries) variables ≡ map (λ y. Some (arbiter f rows row y)) f.existentials
 
 -- the instance of clause j under row k of the rows, both counted from 0, was given to the group
-pub record HasInstance (f : Dqbf) (group : ℕ) (rows : List (List Bool)) (own : List Entry) (k j : ℕ) (row : List Bool) (clause : List Literal) : Type 0 where
+pub record HasInstance (f : Dqbf) (group : ℕ) (rows : List (List Bool)) (own : List Entry) (k j : ℕ)
+    (row : List Bool) (clause : List Literal) : Type 0 where
   pub rest : List Literal
   pub given : Contains own (Given (Instance (k + 1) (j + 1)) (negative group ∷ rest))
   pub named : AreNamedAs own rest (filter_map (on_arbiter f rows row) clause)
 
 -- the variable is one of a row's pairs
 abbrev pub IsOfPairs : List (List ℕ) → ℕ → Type 0
-IsOfPairs pairs v = (k : ℕ) × (variables : List ℕ) × (slice_get pairs k ≡ Some variables) × Contains variables v
+IsOfPairs pairs v =
+    (k : ℕ) × (variables : List ℕ) × (slice_get pairs k ≡ Some variables) × Contains variables v
 
--- the part of the log that the table made: the arbiters' names and the instances under its rows, all of these and no others
+-- the part of the log that the table made: the arbiters' names and the instances under its rows,
+-- all of these and no others
 pub record IsTablePart (f : Dqbf) (t : TableState) (own : List Entry) : Type 0 where
   pub whole : All (λ row. length row ≡ length f.universals) t.rows
   pub pairs_long : length t.pairs ≡ length t.rows
-  pub names : (v k y : ℕ) → name_of own v ≡ Some (Pair k y) → (k ≤ length t.rows) × IsOfPairs t.pairs v
-  pub given : (k j : ℕ) (c : List Literal) → Contains own (Given (Instance k j) c) → k ≤ length t.rows
-  pub arbiters : (k : ℕ) (row : List Bool) (variables : List ℕ) → slice_get t.rows k ≡ Some row → slice_get t.pairs k ≡ Some variables
+  pub names : (v k y : ℕ) → name_of own v ≡ Some (Pair k y)
+      → (k ≤ length t.rows) × IsOfPairs t.pairs v
+  pub given : (k j : ℕ) (c : List Literal) → Contains own (Given (Instance k j) c)
+      → k ≤ length t.rows
+  pub arbiters : (k : ℕ) (row : List Bool) (variables : List ℕ) → slice_get t.rows k ≡ Some row
+      → slice_get t.pairs k ≡ Some variables
       → AreArbiters f own t.rows row variables
-  pub complete : (k j : ℕ) (row : List Bool) (clause : List Literal) → slice_get t.rows k ≡ Some row → slice_get f.matrix j ≡ Some clause
-      → list_any (universal_literal_true f row) clause ≡ false → HasInstance f t.group t.rows own k j row clause
+  pub complete : (k j : ℕ) (row : List Bool) (clause : List Literal) → slice_get t.rows k ≡ Some row
+      → slice_get f.matrix j ≡ Some clause
+      → list_any (universal_literal_true f row) clause ≡ false
+      → HasInstance f t.group t.rows own k j row clause
 
 pub record IsTable (f : Dqbf) (t : TableState) (entries : List Entry) : Type 0 where
   pub group : name_of entries t.group ≡ Some (Selector t.group)
@@ -76,7 +87,8 @@ point_bits p k y = assignment_of p.variables (slice_index_or p.rows (k - 1) []) 
 pub record ArePoints (f : Dqbf) (rows : List (List Bool)) (points : PointBits) : Type 0 where
   pub model : Assignment
   pub holds_there : IsExpansionModel f rows model
-  pub bits : (k : ℕ) (row : List Bool) → slice_get rows k ≡ Some row → All (λ y. points (k + 1) y.variable ≡ model (pair_number f rows row y)) f.existentials
+  pub bits : (k : ℕ) (row : List Bool) → slice_get rows k ≡ Some row
+      → All (λ y. points (k + 1) y.variable ≡ model (pair_number f rows row y)) f.existentials
 
 -- the last entry is an answer that rests on instances alone
 pub record IsRefutedBy (entries : List Entry) (id : ℕ) : Type 0 where

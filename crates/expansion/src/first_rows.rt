@@ -11,8 +11,9 @@ use dq_lits::{Memory, Row};
 use std::alloc::Global;
 use std::marker::Model;
 
-/// The first rows of each dependency set. They take a place for each, and never a row's bits; a row is found in time for its bits that are
-/// seen and the logarithm of the rows, once for each dependency set.
+/// The first rows of each dependency set. They take a place for each, and never a row's bits; a row
+/// is found in time for its bits that are seen and the logarithm of the rows, once for each
+/// dependency set.
 #[derive(Debug, Drop)]
 pub(crate) struct FirstRows {
     leaders: Vec<usize>,

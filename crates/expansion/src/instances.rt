@@ -94,8 +94,11 @@ fn on_arbiters(
 ) -> Result<Vec<Lit>, Memory>
     requires each { length variables.now ≡ length f.now.existentials }
     requires in_range { AreInRange variables.now }
-    ensures { (own : List Entry) (rows : List (List Bool)) (row : List Bool) → AreArbiters f.now own rows row variables.now
-        → IfOk result (λ literals. AreNamedAs own literals.items (filter_map (on_arbiter f.now rows row) clause.now)) }
+    ensures { (own : List Entry) (rows : List (List Bool)) (row : List Bool)
+        → AreArbiters f.now own rows row variables.now
+        → IfOk result
+        (λ literals.
+        AreNamedAs own literals.items (filter_map (on_arbiter f.now rows row) clause.now)) }
 {
     let mut literals = Vec::new(alloc);
     for l in clause {

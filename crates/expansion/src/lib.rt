@@ -1,5 +1,6 @@
-//! Universal expansion over a shared solver: the instances of the matrix under the rounds' rows, on arbiters, the variables of pairs of an
-//! existential and a row's bits that it sees (U. Bubeck, H. Kleine Büning, "Dependency quantified Horn formulas", 2006).
+//! Universal expansion over a shared solver: the instances of the matrix under the rounds' rows, on
+//! arbiters, the variables of pairs of an existential and a row's bits that it sees (U. Bubeck, H.
+//! Kleine Büning, "Dependency quantified Horn formulas", 2006).
 #![tactic(auto)]
 
 pub use points::Points;

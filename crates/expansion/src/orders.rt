@@ -16,8 +16,8 @@ use std::alloc::Global;
 use std::cmp::Ordering;
 use std::marker::Model;
 
-/// The rows that are the first to show their bits at the universals that an existential sees, in order of these bits. Rows are looked at
-/// when they are first needed.
+/// The rows that are the first to show their bits at the universals that an existential sees, in
+/// order of these bits. Rows are looked at when they are first needed.
 #[derive(Debug, Drop)]
 pub(crate) struct Order {
     places: Vec<usize>,
@@ -43,7 +43,8 @@ impl Order {
         }
     }
 
-    /// The place of the first row that agrees with this one on what an existential sees; the number of rows where none does.
+    /// The place of the first row that agrees with this one on what an existential sees; the number
+    /// of rows where none does.
     pub(crate) fn find(
         &mut self,
         f: &Formula,
@@ -56,7 +57,8 @@ impl Order {
         requires row_length { length row.now ≡ length f.now.universals }
         requires order { IsRowOrder f.now (sees_of (existential_of f.now y)) rows.now self.old }
         ensures order { IsRowOrder f.now (sees_of (existential_of f.now y)) rows.now self.new }
-        ensures first { IfOk result (λ k. k ≡ first_alike f.now (sees_of (existential_of f.now y)) rows.now row.now) }
+        ensures first { IfOk result
+            (λ k. k ≡ first_alike f.now (sees_of (existential_of f.now y)) rows.now row.now) }
     {
         for k in self.learnt..rows.len() {
             self.learn(f, y, rows, k)?;
@@ -103,7 +105,9 @@ fn search(f: &Formula, y: u64, rows: &[Row], row: &Row, places: &[usize]) -> Res
     requires whole { All (λ r. length r ≡ length f.now.universals) rows.now }
     requires row_length { length row.now ≡ length f.now.universals }
     ensures within { IsSearchInRange result (length places.now) }
-    ensures found { IsBinarySearchResult (λ k. found_cmp f.now (sees_of (existential_of f.now y)) row.now (slice_get rows.now k)) places.now result }
+    ensures found { IsBinarySearchResult
+        (λ k. found_cmp f.now (sees_of (existential_of f.now y)) row.now (slice_get rows.now k))
+        places.now result }
 {
     places.binary_search_by(|k| compare_at(f, y, rows, row, *k))
 }
@@ -112,7 +116,8 @@ fn compare_at(f: &Formula, y: u64, rows: &[Row], row: &Row, k: usize) -> Orderin
     requires declared { IsSome (existential_of f.now y) }
     requires whole { All (λ r. length r ≡ length f.now.universals) rows.now }
     requires row_length { length row.now ≡ length f.now.universals }
-    ensures { result ≡ found_cmp f.now (sees_of (existential_of f.now y)) row.now (slice_get rows.now k) }
+    ensures { result
+        ≡ found_cmp f.now (sees_of (existential_of f.now y)) row.now (slice_get rows.now k) }
 {
     match rows.get(k) {
         Some(r) => compare_on(f, y, r, row),
@@ -125,7 +130,9 @@ fn compare_on(f: &Formula, y: u64, r1: &Row, r2: &Row) -> Ordering
     requires declared { IsSome (existential_of f.now y) }
     requires first_length { length r1.now ≡ length f.now.universals }
     requires second_length { length r2.now ≡ length f.now.universals }
-    ensures { result ≡ bits_cmp (seen_by f.now (sees_of (existential_of f.now y)) r1.now) (seen_by f.now (sees_of (existential_of f.now y)) r2.now) }
+    ensures { result
+        ≡ bits_cmp (seen_by f.now (sees_of (existential_of f.now y)) r1.now)
+        (seen_by f.now (sees_of (existential_of f.now y)) r2.now) }
 {
     let deps = f.deps_of(y);
     for i in 0..count(deps) {
@@ -147,11 +154,13 @@ fn count(deps: &Deps) -> usize
     }
 }
 
-// The bit of a row at the universal that stands at `i` in a dependency set; false behind the set's end.
+// The bit of a row at the universal that stands at `i` in a dependency set; false behind the set's
+// end.
 fn seen_bit(f: &Formula, deps: &Deps, row: &Row, i: usize) -> bool
     requires form { IsDependencySet f.now.universals deps.now }
     requires row_length { length row.now ≡ length f.now.universals }
-    ensures { result ≡ bit_of (map (row_assignment f.now row.now) (dependencies f.now.universals deps.now)) i }
+    ensures { result
+        ≡ bit_of (map (row_assignment f.now row.now) (dependencies f.now.universals deps.now)) i }
 {
     f.every_formula_is_lawful();
     match deps {

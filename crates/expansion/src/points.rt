@@ -7,11 +7,13 @@ use dq_lits::{Memory, Row, RowList};
 use std::alloc::Global;
 use std::marker::Model;
 
-/// A bit for each existential under each row of a table: the values of a model of all its instances.
+/// A bit for each existential under each row of a table: the values of a model of all its
+/// instances.
 #[derive(Debug, Drop)]
 pub struct Points {
     pub(crate) existentials: Vec<u64>,
-    // Their places, in order of the variables. No contract speaks of it, since what is found there is compared.
+    // Their places, in order of the variables. No contract speaks of it, since what is found there
+    // is compared.
     pub(crate) order: Vec<usize>,
     pub(crate) bits: RowList,
 }
@@ -51,7 +53,8 @@ pub(crate) fn places_in_order(alloc: Global, variables: &[u64]) -> Result<Vec<us
     Ok(places)
 }
 
-// The bit of a variable, where each of these has the bit at its place; false for others. The order proposes a place.
+// The bit of a variable, where each of these has the bit at its place; false for others. The order
+// proposes a place.
 fn bit_by_order(variables: &[u64], order: &[usize], row: &Row, y: u64) -> bool
     requires { AllPairs (λ v w. v ≢ w) variables.now }
     ensures { result ≡ assignment_of variables.now row.now y }

@@ -53,7 +53,14 @@ impl Model for Table {
 
     ghost Value = { TableState };
 
-    ghost view = { λ t. record { group = variable_of t.group.selector; existentials = t.existentials.items; rows = t.rows; pairs = t.pairs; first_rows = t.first_rows } };
+    ghost view = { λ t.
+        record {
+          group = variable_of t.group.selector;
+          existentials = t.existentials.items;
+          rows = t.rows;
+          pairs = t.pairs;
+          first_rows = t.first_rows;
+        } };
 
     ghost invariant = { λ t. is_negative t.group.selector ≡ false };
 }
@@ -69,7 +76,8 @@ impl Table {
         requires fit { O.Fits oracle.old log.old }
         requires none { HasNone instances log.old.entries }
         ensures fit { O.Fits oracle.new log.new }
-        ensures grew { (group : ℕ) → Grew (IsAddedBy f.now instances group true log.old.entries) log.old log.new }
+        ensures grew { (group : ℕ)
+            → Grew (IsAddedBy f.now instances group true log.old.entries) log.old log.new }
         ensures unnamed { IfOk result (λ t. name_of log.old.entries t.group ≡ None) }
         ensures made { IfOk result (λ t. IsTable f.now t log.new.entries) }
         ensures rows { IfOk result (λ t. t.rows ≡ []) }
@@ -106,8 +114,9 @@ impl Table {
         &self.rows.items()[k as usize - 1]
     }
 
-    /// Adds the row of the newest round, and gives the oracle the instances of the matrix under it, each once. Where memory is wanting the
-    /// table stays as it was, but for what it knows of the order of its rows.
+    /// Adds the row of the newest round, and gives the oracle the instances of the matrix under it,
+    /// each once. Where memory is wanting the table stays as it was, but for what it knows of the
+    /// order of its rows.
     pub fn add_row<O: Oracle>(
         &mut self,
         oracle: &mut O,
@@ -122,11 +131,13 @@ impl Table {
         requires row_length { length row.now ≡ length f.now.universals }
         requires few { length (fault_groups log.old.entries) ≤ rounds_of log.old.entries + 1 }
         ensures fit { O.Fits oracle.new log.new }
-        ensures grew { (first : List Entry) → Grew (IsAddedBy f.now instances self.old.group true first) log.old log.new }
+        ensures grew { (first : List Entry)
+            → Grew (IsAddedBy f.now instances self.old.group true first) log.old log.new }
         ensures group { self.new.group ≡ self.old.group }
         ensures table { OnOk result (IsFullTable f.now self.new log.new.entries) }
         ensures rows { OnOk result (self.new.rows ≡ self.old.rows ++ row.now ∷ []) }
-        ensures err { OnErr result (self.new ≡ record self.old { first_rows = self.new.first_rows }) }
+        ensures err { OnErr result
+            (self.new ≡ record self.old { first_rows = self.new.first_rows }) }
     {
         let new = NewRow { f, row };
         let firsts = self.find_rows(&new)?;
@@ -197,21 +208,27 @@ impl Table {
         Ok(())
     }
 
-    /// A model of all instances, or an answer that there is none. It stops for want of memory or at the log's limit, and may be called
-    /// again then.
+    /// A model of all instances, or an answer that there is none. It stops for want of memory or at
+    /// the log's limit, and may be called again then.
     pub fn solve<O: Oracle>(&mut self, oracle: &mut O, log: &mut Log) -> Result<Exp, Stop>
         requires fit { O.Fits oracle.old log.old }
         requires table { (f : Dqbf) × IsFullTable f self.old log.old.entries }
         ensures fit { O.Fits oracle.new log.new }
         ensures same { self.new ≡ self.old }
         ensures grew { (f : Dqbf) → IsFullTable f self.old log.old.entries
-            → Grew (IsAddedBy f instances self.old.group (is_silent result) log.old.entries) log.old log.new }
-        ensures table { (f : Dqbf) → IsFullTable f self.old log.old.entries → IsFullTable f self.new log.new.entries }
-        ensures point_variables { (points : PointState) → result ≡ Ok (Exp.Model points) → points.variables ≡ self.old.existentials }
-        ensures point_rows { (points : PointState) → result ≡ Ok (Exp.Model points) → length points.rows ≡ length self.old.rows }
-        ensures model { (f : Dqbf) (points : PointState) → IsFullTable f self.old log.old.entries → result ≡ Ok (Exp.Model points)
+            → Grew (IsAddedBy f instances self.old.group (is_silent result) log.old.entries) log.old
+            log.new }
+        ensures table { (f : Dqbf) → IsFullTable f self.old log.old.entries
+            → IsFullTable f self.new log.new.entries }
+        ensures point_variables { (points : PointState) → result ≡ Ok (Exp.Model points)
+            → points.variables ≡ self.old.existentials }
+        ensures point_rows { (points : PointState) → result ≡ Ok (Exp.Model points)
+            → length points.rows ≡ length self.old.rows }
+        ensures model { (f : Dqbf) (points : PointState) → IsFullTable f self.old log.old.entries
+            → result ≡ Ok (Exp.Model points)
             → ArePoints f self.old.rows (point_bits points) }
-        ensures refuted { (f : Dqbf) (id : ℕ) → IsFullTable f self.old log.old.entries → result ≡ Ok (Exp.Refuted id)
+        ensures refuted { (f : Dqbf) (id : ℕ) → IsFullTable f self.old log.old.entries
+            → result ≡ Ok (Exp.Refuted id)
             → IsExpansionUnsatisfiable f self.old.rows }
         ensures shown { (id : ℕ) → result ≡ Ok (Exp.Refuted id) → IsRefutedBy log.new.entries id }
         ensures limit { IsErrOf result Stop.Limit → steps_of log.new.entries ≡ log.new.limit }
@@ -229,7 +246,8 @@ impl Table {
         requires made { All (All (O.HasVariable oracle.now)) self.now.pairs }
         requires distinct { AllPairs (λ v w. v ≢ w) self.now.existentials }
         ensures variables { IfOk result (λ points. points.variables ≡ self.now.existentials) }
-        ensures bits { IfOk result (λ points. points.rows ≡ map (map (O.values oracle.now)) self.now.pairs) }
+        ensures bits { IfOk result
+            (λ points. points.rows ≡ map (map (O.values oracle.now)) self.now.pairs) }
     {
         let existentials = Vec::from_slice(self.alloc, &self.existentials)?;
         let order = Vec::from_slice(self.alloc, &self.order)?;

@@ -1,4 +1,5 @@
-//! Lists that lie end to end in one vector: a list costs its elements and 8 bytes, and no block of its own.
+//! Lists that lie end to end in one vector: a list costs its elements and 8 bytes, and no block of
+//! its own.
 #![tactic(auto)]
 
 ghost use Rattle.std.specs.Prelude.{◌≡◌, ◌-◌, ◌<◌, ◌∷◌, ◌++◌, [], length, take, slice_index_or, OnOk, OnErr};
@@ -53,7 +54,8 @@ fn list_at<'a, T: Copy>(ends: &[usize], items: &'a [T], place: usize) -> &'a [T]
 fn append<T: Copy>(ends: &mut Vec<usize>, items: &mut Vec<T>, list: &[T]) -> Result<(), AllocError>
     ensures end { OnOk result (ends.new.items ≡ ends.old.items ++ length items.new.items ∷ []) }
     ensures items { OnOk result (items.new.items ≡ items.old.items ++ list.now) }
-    ensures err { OnErr result ((ends.new.items ≡ ends.old.items) × (items.new.items ≡ items.old.items)) }
+    ensures err { OnErr result
+        ((ends.new.items ≡ ends.old.items) × (items.new.items ≡ items.old.items)) }
 {
     ends.reserve(1)?;
     items.extend_from_slice(list)?;

@@ -17,29 +17,37 @@ IsImplied f clause = (m : Assignment) → MatrixHolds f m → clause_true m clau
 
 -- wherever the matrix and all literals of the cube are true, the literal is
 abbrev pub Implies : Dqbf → List Literal → Literal → Type 0
-Implies f cube l = (m : Assignment) → MatrixHolds f m → cube_true m cube ≡ true → literal_true m l ≡ true
+Implies f cube l =
+    (m : Assignment) → MatrixHolds f m → cube_true m cube ≡ true → literal_true m l ≡ true
 
 abbrev pub AreReadable : Dqbf → Existential → List Literal → Type 0
 AreReadable f y literals = All (λ l. MayRead f y (variable_of l)) literals
 
--- wherever the matrix is true, the literal is true exactly where all literals of the cube are, which a definition may read
-pub record IsConjunction (f : Dqbf) (y : Existential) (l : Literal) (cube : List Literal) : Type 0 where
+-- wherever the matrix is true, the literal is true exactly where all literals of the cube are,
+-- which a definition may read
+pub record IsConjunction (f : Dqbf) (y : Existential) (l : Literal)
+    (cube : List Literal) : Type 0 where
   pub reads : AreReadable f y cube
   pub same : (m : Assignment) → MatrixHolds f m → literal_true m l ≡ cube_true m cube
 
 -- where the condition is true, the variable has the value of a literal
 abbrev pub IsHalf : Dqbf → ℕ → Half → Type 0
-IsHalf f y half = (m : Assignment) → MatrixHolds f m → literal_true m half.condition ≡ true → m y ≡ literal_true m half.value
+IsHalf f y half =
+    (m : Assignment) → MatrixHolds f m → literal_true m half.condition ≡ true
+    → m y ≡ literal_true m half.value
 
 -- the literals of a choice
 abbrev pub choice_literals : Choice → List Literal
 choice_literals choice = choice.condition ∷ choice.then_value ∷ choice.else_value ∷ []
 
--- wherever the matrix is true, the existential has the value of the second literal where the first is true, else of the third
+-- wherever the matrix is true, the existential has the value of the second literal where the first
+-- is true, else of the third
 pub record IsChoice (f : Dqbf) (y : Existential) (choice : Choice) : Type 0 where
   pub reads : AreReadable f y (choice_literals choice)
   pub same : (m : Assignment) → MatrixHolds f m
-      → m y.variable ≡ (if literal_true m choice.condition then literal_true m choice.then_value else literal_true m choice.else_value)
+      → m y.variable
+      ≡ (if literal_true m choice.condition then literal_true m choice.then_value
+      else literal_true m choice.else_value)
 
 -- input i is the variable at place i of those declared
 abbrev pub literal_node : Dqbf → Literal → Node

@@ -1,4 +1,5 @@
-//! Gates that choose between two inputs by a third one; with opposite inputs they are exclusive ors.
+//! Gates that choose between two inputs by a third one; with opposite inputs they are exclusive
+//! ors.
 
 ghost use Rattle.std.specs.Prelude.{◌≡◌, ◌<◌, ◌≤◌, ◌^◌, true, IfOk, IfSome, Some};
 ghost use Rattle.dq_lits.specs.Formula.{Existential, existential_of};
@@ -12,7 +13,8 @@ use dq_lits::{Lit, Memory};
 use std::alloc::Global;
 use std::collections::BTreeMap;
 
-/// The literal whose value the output has where the condition is true, and the two clauses that are to say so.
+/// The literal whose value the output has where the condition is true, and the two clauses that are
+/// to say so.
 #[derive(Clone, Copy)]
 pub(crate) struct Half {
     pub(crate) condition: Lit,
@@ -48,8 +50,8 @@ impl Triple {
     }
 }
 
-// Clauses of three literals that have some literal, each by its two other ones. Whoever uses such a clause reads it, as it does a half: no
-// contract speaks of what is in these maps.
+// Clauses of three literals that have some literal, each by its two other ones. Whoever uses such a
+// clause reads it, as it does a half: no contract speaks of what is in these maps.
 type Thirds = BTreeMap<((u64, bool), (u64, bool)), u32>;
 
 type Halves = BTreeMap<(u64, bool), Half>;
@@ -102,7 +104,8 @@ fn half_by(triple: &Triple, thirds: &Thirds) -> Option<Half> {
     })
 }
 
-// The choice of this half and the one that was noted for the opposite condition; else this one is noted.
+// The choice of this half and the one that was noted for the opposite condition; else this one is
+// noted.
 fn choice_with(
     output: &Output,
     half: Option<Half>,

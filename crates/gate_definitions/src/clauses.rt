@@ -33,14 +33,17 @@ pub(crate) fn implies(f: &Formula, number: u32, cube: &[Lit], l: Lit) -> bool
 
 // Whether the clause has no other literals than this one and the negations of those.
 fn is_within(clause: &[Lit], cube: &[Lit], l: Lit) -> bool
-    ensures { result ≡ list_all (λ k. same_literal k l || list_any (λ c. same_literal c (opposite k)) cube.now) clause.now }
+    ensures { result
+        ≡ list_all (λ k. same_literal k l || list_any (λ c. same_literal c (opposite k)) cube.now)
+        clause.now }
 {
     clause.iter().all(|k| *k == l || cube.contains(&k.not()))
 }
 
 /// The negations of a clause's other literals.
 pub(crate) fn premises(alloc: Global, clause: &[Lit], l: Lit) -> Result<Vec<Lit>, Memory>
-    ensures { IfOk result (λ cube. cube.items ≡ map opposite (filter (λ k. not (same_literal k l)) clause.now)) }
+    ensures { IfOk result
+        (λ cube. cube.items ≡ map opposite (filter (λ k. not (same_literal k l)) clause.now)) }
 {
     let mut cube = Vec::new(alloc);
     for k in clause {

@@ -1,4 +1,5 @@
-//! Gates with one output that is true where all inputs are: a long clause, and for each of its other literals a short one.
+//! Gates with one output that is true where all inputs are: a long clause, and for each of its
+//! other literals a short one.
 
 ghost use Rattle.std.specs.Prelude.{◌≡◌, ◌∷◌, [], true, IfOk, IfSome, Some, All};
 ghost use Rattle.dq_lits.specs.Formula.{Existential, existential_of};
@@ -12,8 +13,8 @@ use dq_lits::{Lit, Memory};
 use std::alloc::Global;
 use std::collections::BTreeMap;
 
-// The clauses of two literals that have the negation of some literal, each by its other literal. Whoever uses such a clause reads it, so that
-// no contract speaks of what is in the map.
+// The clauses of two literals that have the negation of some literal, each by its other literal.
+// Whoever uses such a clause reads it, so that no contract speaks of what is in the map.
 type Consequences = BTreeMap<(u64, bool), u32>;
 
 /// Literals that are all true where `l` is, and nowhere else, by the clauses on an output.
@@ -102,7 +103,8 @@ fn beside(f: &Formula, number: u32, l: Lit) -> Option<Lit> {
     }
 }
 
-// Whether there is a short clause for each other literal; a clause that is longer than that isn't read through.
+// Whether there is a short clause for each other literal; a clause that is longer than that isn't
+// read through.
 fn has_shorts(clause: &[Lit], l: Lit, shorts: &Consequences) -> bool {
     clause.len() <= shorts.len() + 1
         && clause

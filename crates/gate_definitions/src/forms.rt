@@ -134,7 +134,8 @@ fn choice_node(output: &Output, choice: &Choice, graph: &mut Graph) -> Result<No
 // The node, or its negation.
 fn signed(node: Node, negated: bool) -> Node
     ensures node { (graph : AigGraph) → IsNode graph node → IsNode graph result }
-    ensures value { (graph : AigGraph) (inputs : ℕ → Bool) → node_value graph inputs result ≡ with_sign negated (node_value graph inputs node) }
+    ensures value { (graph : AigGraph) (inputs : ℕ → Bool)
+        → node_value graph inputs result ≡ with_sign negated (node_value graph inputs node) }
     ensures support { (graph : AigGraph) → node_support graph result ≡ node_support graph node }
 {
     if negated { node.not() } else { node }

@@ -1,6 +1,8 @@
-//! Definitions of existentials that the clauses state: the gates of a circuit that was written in clauses.
+//! Definitions of existentials that the clauses state: the gates of a circuit that was written in
+//! clauses.
 //!
-//! Nothing is asked of a solver: a gate is read off the clauses on its output. Gates of other forms are not found, which costs time alone.
+//! Nothing is asked of a solver: a gate is read off the clauses on its output. Gates of other forms
+//! are not found, which costs time alone.
 #![tactic(auto)]
 
 ghost use Rattle.std.specs.Prelude.{◌≡◌, ◌+◌, length, IfOk, IsSome, Some};
@@ -33,8 +35,8 @@ pub struct Gates {
 }
 
 impl Gates {
-    /// The clauses by their existentials. It takes time and memory by the number of existentials and of literals in clauses; the only error is
-    /// want of memory.
+    /// The clauses by their existentials. It takes time and memory by the number of existentials
+    /// and of literals in clauses; the only error is want of memory.
     pub fn new(alloc: Global, f: &Formula) -> Result<Gates, Memory> {
         Ok(Gates {
             alloc,
@@ -42,15 +44,17 @@ impl Gates {
         })
     }
 
-    /// A definition of an existential that the clauses state, over what such a definition may read: a conjunction or a disjunction of
-    /// literals, one literal, a constant, a choice between two literals by a third, or an exclusive or of two. None is found where the clauses
-    /// state no such gate. Time follows the clauses on the existential. The only error is want of memory; a refused call leaves the graph as
-    /// it was, but for gates that were made.
+    /// A definition of an existential that the clauses state, over what such a definition may read:
+    /// a conjunction or a disjunction of literals, one literal, a constant, a choice between two
+    /// literals by a third, or an exclusive or of two. None is found where the clauses state no
+    /// such gate. Time follows the clauses on the existential. The only error is want of memory; a
+    /// refused call leaves the graph as it was, but for gates that were made.
     pub fn read(&self, f: &Formula, y: u64, graph: &mut Graph) -> Result<Option<Node>, Memory>
         requires existential { IsSome (existential_of f.now y) }
         requires inputs { graph.old.inputs ≡ length f.now.universals + length f.now.existentials }
         ensures extends { Extends graph.old graph.new }
-        ensures gate { (e : Existential) → existential_of f.now y ≡ Some e → IfOk result (λ found. (node : Node) → found ≡ Some node
+        ensures gate { (e : Existential) → existential_of f.now y ≡ Some e
+            → IfOk result (λ found. (node : Node) → found ≡ Some node
             → IsDefinition f.now graph.new e node) }
     {
         f.every_formula_is_lawful();

@@ -20,7 +20,8 @@ pub(crate) fn key(l: Lit) -> (u64, bool) {
 /// Whether a definition may read all of these literals' variables.
 pub(crate) fn all_readable(f: &Formula, y: u64, lits: &[Lit]) -> bool
     requires existential { IsSome (existential_of f.now y) }
-    ensures { result ≡ true → (e : Existential) → existential_of f.now y ≡ Some e → AreReadable f.now e lits.now }
+    ensures { result ≡ true → (e : Existential) → existential_of f.now y ≡ Some e
+        → AreReadable f.now e lits.now }
 {
     for l in lits {
         if !may_read(f, y, l.var()) {

@@ -22,7 +22,8 @@ is_circuit_name _ = false
 -- the sides of a gate stand on inputs and gates that were named before
 abbrev pub HasSides : List Entry → Name → Type 0
 HasSides entries (And a b) =
-    (is_circuit_name (name_of entries (variable_of a)) ≡ true) × (is_circuit_name (name_of entries (variable_of b)) ≡ true)
+    (is_circuit_name (name_of entries (variable_of a)) ≡ true)
+    × (is_circuit_name (name_of entries (variable_of b)) ≡ true)
 HasSides entries _ = Unit {0}
 
 -- an entry has this id

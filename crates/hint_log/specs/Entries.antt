@@ -1,5 +1,6 @@
--- A proof log, newest entry first: what a search named, was given, learned, answered and tried. Clauses that were derived have hints, as
--- in LRAT (L. Cruz-Filipe, M. Heule, W. Hunt, M. Kaufmann, P. Schneider-Kamp, "Efficient certified RAT verification", 2017).
+-- A proof log, newest entry first: what a search named, was given, learned, answered and tried.
+-- Clauses that were derived have hints, as in LRAT (L. Cruz-Filipe, M. Heule, W. Hunt, M. Kaufmann,
+-- P. Schneider-Kamp, "Efficient certified RAT verification", 2017).
 use Rattle.std.specs.Prelude.{ℕ, ◌+◌, ◌==◌, Bool, true, false, ◌&&◌, List, [], ◌∷◌, ◌++◌, Option, Some, None, if◌then◌else◌}
 use Rattle.std.specs.Option.{option_and_then}
 use Rattle.dq_lits.specs.Literal.{Literal}
@@ -16,7 +17,8 @@ pub data Entry : Type 0 where
   Learned : List Literal → List ℕ → Entry
   -- a clause that shows that some groups can't be true together, with the hints that derive it
   Answer : List Literal → List ℕ → Entry
-  -- candidates failed: a row, the values of the existentials there, and the number of a clause that is false
+  -- candidates failed: a row, the values of the existentials there, and the number of a clause that
+  -- is false
   Round : List Bool → List Bool → ℕ → Entry
 
 pub record ProofLog : Type 0 where

@@ -1,4 +1,5 @@
--- How a log is kept: what each entry is, in order of time, and the names, the clauses and the rounds in lists of their own.
+-- How a log is kept: what each entry is, in order of time, and the names, the clauses and the
+-- rounds in lists of their own.
 use Rattle.std.specs.Prelude.{◌≡◌, ℕ, ◌≤◌, ◌<◌, ◌^◌, true, false, List, [], ◌∷◌, reverse, length, slice_index}
 use Rattle.std.specs.List.{AllByRecursion}
 use Rattle.dq_lits.specs.Literal.{Literal, positive, negative}
@@ -23,10 +24,16 @@ pub record KeptClause : Type 0 where
 abbrev pub entry_by : ClauseKind → List Literal → List ℕ → Entry
 entry_by OfInstance literals ns = Given (Instance (slice_index ns 0) (slice_index ns 1)) literals
 entry_by OfGate literals ns = Given (Gate (slice_index ns 0) (slice_index ns 1)) literals
-entry_by OfFalseFault literals ns = Given (Fault (slice_index ns 0) (slice_index ns 1) (Constant false)) literals
-entry_by OfTrueFault literals ns = Given (Fault (slice_index ns 0) (slice_index ns 1) (Constant true)) literals
-entry_by OfPositiveFault literals ns = Given (Fault (slice_index ns 0) (slice_index ns 1) (LeafLiteral (positive (slice_index ns 2)))) literals
-entry_by OfNegativeFault literals ns = Given (Fault (slice_index ns 0) (slice_index ns 1) (LeafLiteral (negative (slice_index ns 2)))) literals
+entry_by OfFalseFault literals ns =
+    Given (Fault (slice_index ns 0) (slice_index ns 1) (Constant false)) literals
+entry_by OfTrueFault literals ns =
+    Given (Fault (slice_index ns 0) (slice_index ns 1) (Constant true)) literals
+entry_by OfPositiveFault literals ns =
+    Given (Fault (slice_index ns 0) (slice_index ns 1) (LeafLiteral (positive (slice_index ns 2))))
+    literals
+entry_by OfNegativeFault literals ns =
+    Given (Fault (slice_index ns 0) (slice_index ns 1) (LeafLiteral (negative (slice_index ns 2))))
+    literals
 entry_by OfCopy literals ns = Given (Copy (slice_index ns 0) (slice_index ns 1)) literals
 entry_by OfLink literals ns = Given (Link (slice_index ns 0) (slice_index ns 1)) literals
 entry_by OfLemma literals hints = Learned literals hints
@@ -36,8 +43,10 @@ entry_by OfAnswer literals hints = Answer literals hints
 abbrev pub HasNumbers : ClauseKind → List ℕ → Type 0
 HasNumbers OfLemma ns = Unit {0}
 HasNumbers OfAnswer ns = Unit {0}
-HasNumbers OfPositiveFault ns = (3 ≤ length ns) × (1 ≤ slice_index ns 2) × (slice_index ns 2 < 2 ^ 62)
-HasNumbers OfNegativeFault ns = (3 ≤ length ns) × (1 ≤ slice_index ns 2) × (slice_index ns 2 < 2 ^ 62)
+HasNumbers OfPositiveFault ns =
+    (3 ≤ length ns) × (1 ≤ slice_index ns 2) × (slice_index ns 2 < 2 ^ 62)
+HasNumbers OfNegativeFault ns =
+    (3 ≤ length ns) × (1 ≤ slice_index ns 2) × (slice_index ns 2 < 2 ^ 62)
 HasNumbers _ ns = 2 ≤ length ns
 
 abbrev pub HasOwnNumbers : KeptClause → Type 0
@@ -51,31 +60,44 @@ round_entry r = Round r.row r.values r.clause
 
 -- the clauses by their parts
 abbrev pub kept_clauses : List ClauseKind → List (List Literal) → List (List ℕ) → List KeptClause
-kept_clauses (k ∷ kinds) (c ∷ literals) (ns ∷ numbers) = record { kind = k; literals = c; numbers = ns } ∷ kept_clauses kinds literals numbers
+kept_clauses (k ∷ kinds) (c ∷ literals) (ns ∷ numbers) =
+    record { kind = k; literals = c; numbers = ns } ∷ kept_clauses kinds literals numbers
 kept_clauses _ _ _ = []
 
 -- the entries, newest first, from what is kept, newest first
-abbrev pub interleaved : List EntryKind → List (ℕ × Name) → List KeptClause → List KeptRound → List Entry
-interleaved (Naming ∷ kinds) ((v, name) ∷ names) clauses rounds = Named v name ∷ interleaved kinds names clauses rounds
-interleaved (Clause ∷ kinds) names (c ∷ clauses) rounds = clause_entry c ∷ interleaved kinds names clauses rounds
-interleaved (Failure ∷ kinds) names clauses (r ∷ rounds) = round_entry r ∷ interleaved kinds names clauses rounds
+abbrev pub interleaved : List EntryKind → List (ℕ × Name) → List KeptClause → List KeptRound
+    → List Entry
+interleaved (Naming ∷ kinds) ((v, name) ∷ names) clauses rounds =
+    Named v name ∷ interleaved kinds names clauses rounds
+interleaved (Clause ∷ kinds) names (c ∷ clauses) rounds =
+    clause_entry c ∷ interleaved kinds names clauses rounds
+interleaved (Failure ∷ kinds) names clauses (r ∷ rounds) =
+    round_entry r ∷ interleaved kinds names clauses rounds
 interleaved _ _ _ _ = []
 
 -- each entry has what it is in the list of its kind, and nothing else is there
-abbrev pub AreInterleaved : List EntryKind → List (ℕ × Name) → List KeptClause → List KeptRound → Type 0
+abbrev pub AreInterleaved : List EntryKind → List (ℕ × Name) → List KeptClause → List KeptRound
+    → Type 0
 AreInterleaved [] [] [] [] = Unit {0}
-AreInterleaved (Naming ∷ kinds) (_ ∷ names) clauses rounds = AreInterleaved kinds names clauses rounds
-AreInterleaved (Clause ∷ kinds) names (_ ∷ clauses) rounds = AreInterleaved kinds names clauses rounds
-AreInterleaved (Failure ∷ kinds) names clauses (_ ∷ rounds) = AreInterleaved kinds names clauses rounds
+AreInterleaved (Naming ∷ kinds) (_ ∷ names) clauses rounds =
+    AreInterleaved kinds names clauses rounds
+AreInterleaved (Clause ∷ kinds) names (_ ∷ clauses) rounds =
+    AreInterleaved kinds names clauses rounds
+AreInterleaved (Failure ∷ kinds) names clauses (_ ∷ rounds) =
+    AreInterleaved kinds names clauses rounds
 AreInterleaved _ _ _ _ = ⊥
 
-abbrev pub log_entries : List EntryKind → List (ℕ × Name) → List ClauseKind → List (List Literal) → List (List ℕ) → List KeptRound → List Entry
+abbrev pub log_entries : List EntryKind → List (ℕ × Name) → List ClauseKind → List (List Literal)
+    → List (List ℕ) → List KeptRound → List Entry
 log_entries kinds names clause_kinds literals numbers rounds =
-    interleaved (reverse kinds) (reverse names) (reverse (kept_clauses clause_kinds literals numbers)) (reverse rounds)
+    interleaved (reverse kinds) (reverse names)
+    (reverse (kept_clauses clause_kinds literals numbers)) (reverse rounds)
 
-pub record IsKept (limit steps : ℕ) (kinds : List EntryKind) (names : List (ℕ × Name)) (clause_kinds : List ClauseKind) (literals : List (List Literal))
+pub record IsKept (limit steps : ℕ) (kinds : List EntryKind) (names : List (ℕ × Name))
+    (clause_kinds : List ClauseKind) (literals : List (List Literal))
     (numbers : List (List ℕ)) (rounds : List KeptRound) : Type 0 where
-  pub interleaved : AreInterleaved (reverse kinds) (reverse names) (reverse (kept_clauses clause_kinds literals numbers)) (reverse rounds)
+  pub interleaved : AreInterleaved (reverse kinds) (reverse names)
+      (reverse (kept_clauses clause_kinds literals numbers)) (reverse rounds)
   pub literals_long : length literals ≡ length clause_kinds
   pub numbers_long : length numbers ≡ length clause_kinds
   pub numbers_are : AllByRecursion HasOwnNumbers (kept_clauses clause_kinds literals numbers)

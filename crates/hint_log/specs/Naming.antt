@@ -26,7 +26,8 @@ abbrev pub named_literal : Name → Bool → NamedLiteral
 named_literal n b = record { name = n; negated = b }
 
 abbrev pub name_literal : List Entry → Literal → Option NamedLiteral
-name_literal entries l = option_map (λ n. named_literal n (is_negative l)) (name_of entries (variable_of l))
+name_literal entries l =
+    option_map (λ n. named_literal n (is_negative l)) (name_of entries (variable_of l))
 
 -- the literals stand on variables of these names, with these signs
 abbrev pub AreNamedAs : List Entry → List Literal → List NamedLiteral → Type 0
@@ -50,7 +51,9 @@ abbrev pub arbiter : Dqbf → List (List Bool) → List Bool → Existential →
 arbiter f rows row y = Pair (position_or_len (agree_on f y row) rows + 1) y.variable
 
 abbrev pub on_arbiter : Dqbf → List (List Bool) → List Bool → Literal → Option NamedLiteral
-on_arbiter f rows row l = option_map (λ y. named_literal (arbiter f rows row y) (is_negative l)) (existential_of f (variable_of l))
+on_arbiter f rows row l =
+    option_map (λ y. named_literal (arbiter f rows row y) (is_negative l))
+    (existential_of f (variable_of l))
 
 -- universals by a row, and existentials by their values
 abbrev pub by_universality : Bool → Bool → Bool → Bool
@@ -59,4 +62,5 @@ by_universality false universal existential = existential
 
 abbrev pub round_assignment : Dqbf → List Bool → List Bool → Assignment
 round_assignment f row values v =
-    by_universality (is_universal f v) (row_assignment f row v) (assignment_of (map (λ y. y.variable) f.existentials) values v)
+    by_universality (is_universal f v) (row_assignment f row v)
+    (assignment_of (map (λ y. y.variable) f.existentials) values v)

@@ -1,6 +1,7 @@
--- A log of productive work for a formula. Each of its points speaks of an entry and the earlier ones, so that it stays true as the log grows.
--- Clause learning is by first unique implication points (J. Marques-Silva, K. Sakallah, "GRASP", 1999; M. Moskewicz et al., "Chaff", 2001),
--- hints as in LRAT (L. Cruz-Filipe et al., 2017).
+-- A log of productive work for a formula. Each of its points speaks of an entry and the earlier
+-- ones, so that it stays true as the log grows. Clause learning is by first unique implication
+-- points (J. Marques-Silva, K. Sakallah, "GRASP", 1999; M. Moskewicz et al., "Chaff", 2001), hints
+-- as in LRAT (L. Cruz-Filipe et al., 2017).
 use Rattle.std.specs.Prelude.{◌≡◌, ℕ, ◌+◌, ◌≤◌, Bool, true, false, List, [], ◌∷◌, map, length, Some, if◌then◌else◌}
 use Rattle.std.specs.List.{Contains, list_any}
 use Rattle.dq_lits.specs.Literal.{Assignment, Literal, negative, variable_of, opposite, same_literal, clause_true}
@@ -18,7 +19,8 @@ use Rattle.hint_log.specs.Growth.{Each}
 use Rattle.hint_log.specs.Naming.{is_selector, numbered_from_one, rows_of, round_assignment}
 use Rattle.hint_log.specs.Origins.{IsOriginsClause}
 
--- an input stands for a universal of the formula; so a gate's cone, whose sides were named before, reaches inputs of universals alone
+-- an input stands for a universal of the formula; so a gate's cone, whose sides were named before,
+-- reaches inputs of universals alone
 abbrev pub IsRightlyNamed : Dqbf → Name → Type 0
 IsRightlyNamed f (Input x) = Contains f.universals x
 IsRightlyNamed f _ = Unit {0}
@@ -35,11 +37,13 @@ IsDerivedByHints earlier (Learned clause hints) = IsDerived (clause_at earlier) 
 IsDerivedByHints earlier (Answer clause hints) = IsDerived (clause_at earlier) clause hints
 IsDerivedByHints earlier _ = Unit {0}
 
--- where these literals are true, every clause has a true literal, or two that aren't false: propagation has come to its end
+-- where these literals are true, every clause has a true literal, or two that aren't false:
+-- propagation has come to its end
 abbrev pub IsClosed : LiveClauses → List Literal → Type 0
 IsClosed live trues = (id : ℕ) → status_of trues (live id) ≡ stuck
 
--- the clause makes a literal true where propagation to its end over all clauses had given it no value
+-- the clause makes a literal true where propagation to its end over all clauses had given it no
+-- value
 pub record IsNewByPropagation (earlier : List Entry) (clause : List Literal) : Type 0 where
   pub literal : Literal
   pub trues : List Literal
@@ -48,7 +52,8 @@ pub record IsNewByPropagation (earlier : List Entry) (clause : List Literal) : T
   pub consistent : is_tautology trues ≡ false
   pub not_true : holds trues literal ≡ false
   pub not_false : holds trues (opposite literal) ≡ false
-  pub rest_false : (l : Literal) → holds clause l ≡ true → same_literal l literal ≡ false → holds trues (opposite l) ≡ true
+  pub rest_false : (l : Literal) → holds clause l ≡ true → same_literal l literal ≡ false
+      → holds trues (opposite l) ≡ true
   pub closed : IsClosed (clause_at earlier) trues
 
 -- point 3: every learned clause is new by propagation
@@ -57,7 +62,8 @@ IsNewLemma earlier (Learned clause hints) = IsNewByPropagation earlier clause
 IsNewLemma earlier _ = Unit {0}
 
 -- a row that wasn't tried, with values under which a clause is false
-pub record IsNewFailure (f : Dqbf) (earlier : List Entry) (row values : List Bool) (j : ℕ) : Type 0 where
+pub record IsNewFailure (f : Dqbf) (earlier : List Entry) (row values : List Bool)
+    (j : ℕ) : Type 0 where
   pub row_length : length row ≡ length f.universals
   pub values_length : length values ≡ length f.existentials
   pub untried : Contains (rows_of earlier) row → ⊥
@@ -87,16 +93,20 @@ is_fault _ = false
 
 abbrev pub with_group : List Literal → List ℕ → List ℕ
 with_group [] groups = groups
-with_group (l ∷ _) groups = if list_any (λ g. same_literal (negative g) l) groups then groups else variable_of l ∷ groups
+with_group (l ∷ _) groups =
+    if list_any (λ g. same_literal (negative g) l) groups then groups else variable_of l ∷ groups
 
 -- the groups that were given faults, each once
 abbrev pub fault_groups : List Entry → List ℕ
 fault_groups [] = []
-fault_groups (Given origin clause ∷ earlier) = if is_fault origin then with_group clause (fault_groups earlier) else fault_groups earlier
+fault_groups (Given origin clause ∷ earlier) =
+    if is_fault origin then with_group clause (fault_groups earlier) else fault_groups earlier
 fault_groups (_ ∷ earlier) = fault_groups earlier
 
--- no two given clauses have one origin, faults aside, and the groups that were given faults are at most one more than the rounds
-pub record IsFirstOfOrigin (earlier : List Entry) (origin : Origin) (clause : List Literal) : Type 0 where
+-- no two given clauses have one origin, faults aside, and the groups that were given faults are at
+-- most one more than the rounds
+pub record IsFirstOfOrigin (earlier : List Entry) (origin : Origin)
+    (clause : List Literal) : Type 0 where
   pub first : is_fault origin ≡ false → (c : List Literal) → Contains earlier (Given origin c) → ⊥
   pub groups : length (fault_groups (Given origin clause ∷ earlier)) ≤ rounds_of earlier + 1
 

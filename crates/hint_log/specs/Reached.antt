@@ -7,7 +7,8 @@ use Rattle.hint_log.specs.Entries.{hints_at}
 -- the id itself, and the hints of each id reached
 pub data Reaches (entries : List Entry) (id : ℕ) : ℕ → Type 0 where
   itself : Reaches entries id id
-  by_hint : (at hint : ℕ) (hints : List ℕ) → Reaches entries id at → hints_at entries at ≡ Some hints → Contains hints hint → Reaches entries id hint
+  by_hint : (at hint : ℕ) (hints : List ℕ) → Reaches entries id at
+      → hints_at entries at ≡ Some hints → Contains hints hint → Reaches entries id hint
 
 -- these ids, ascending
 pub record AreReached (entries : List Entry) (id : ℕ) (ids : List ℕ) : Type 0 where

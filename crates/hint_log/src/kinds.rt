@@ -1,7 +1,8 @@
 //! How entries are kept: what each one is, and what its numbers stand for.
 //!
-//! A clause costs its literals, its numbers, and 18 bytes: its kind, that it is a clause, and where its literals and its
-//! numbers end. The numbers of what was derived are its hints; those of a given clause are its origin's, in the order of its fields.
+//! A clause costs its literals, its numbers, and 18 bytes: its kind, that it is a clause, and where
+//! its literals and its numbers end. The numbers of what was derived are its hints; those of a
+//! given clause are its origin's, in the order of its fields.
 
 ghost use Rattle.std.specs.Prelude.{◌≡◌, ◌≤◌, [], length, slice_index, if◌then◌else◌};
 ghost use Rattle.hint_log.specs.Entries.{hints_of, origin_of, is_counted};
@@ -19,7 +20,8 @@ pub enum EntryKind {
     Failure,
 }
 
-/// What a clause is. A fault is of a kind by its output: a constant, or a literal of this sign, whose variable is a number more.
+/// What a clause is. A fault is of a kind by its output: a constant, or a literal of this sign,
+/// whose variable is a number more.
 #[derive(Clone, Copy, Debug)]
 pub enum ClauseKind {
     OfInstance,
@@ -34,7 +36,8 @@ pub enum ClauseKind {
     OfAnswer,
 }
 
-/// A round: the row, the values of the existentials there, and the number of a clause that is false.
+/// A round: the row, the values of the existentials there, and the number of a clause that is
+/// false.
 #[derive(Debug, Drop)]
 pub struct KeptRound {
     pub row: Row,

@@ -1,8 +1,8 @@
 //! The proof log of a search: what it named, was given, learned, answered and tried, in order.
 //!
-//! Every solver variable has a name, every given clause an origin, and every learned clause and every answer the hints that
-//! derive it. Learned clauses and rounds count as steps, and the log takes no more of them than its limit. `Log::trim` gives
-//! the ids that an answer rests on.
+//! Every solver variable has a name, every given clause an origin, and every learned clause and
+//! every answer the hints that derive it. Learned clauses and rounds count as steps, and the log
+//! takes no more of them than its limit. `Log::trim` gives the ids that an answer rests on.
 #![tactic(auto)]
 
 pub use logs::Log;

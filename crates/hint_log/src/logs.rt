@@ -38,9 +38,16 @@ impl Model for Log {
 
     ghost Value = { ProofLog };
 
-    ghost view = { λ l. record { limit = l.limit; entries = log_entries l.entries.items l.names.entries l.kinds.items l.literals l.numbers l.rounds.items } };
+    ghost view = { λ l.
+        record {
+          limit = l.limit;
+          entries = log_entries l.entries.items l.names.entries l.kinds.items l.literals l.numbers
+              l.rounds.items;
+        } };
 
-    ghost invariant = { λ l. IsKept l.limit l.steps l.entries.items l.names.entries l.kinds.items l.literals l.numbers l.rounds.items };
+    ghost invariant = { λ l.
+        IsKept l.limit l.steps l.entries.items l.names.entries l.kinds.items l.literals l.numbers
+        l.rounds.items };
 }
 
 impl Log {
@@ -146,8 +153,8 @@ impl Log {
         Ok(id)
     }
 
-    /// Logs that candidates failed, unless the limit is reached: a row, the existentials' values there, and the number of
-    /// a clause that is false.
+    /// Logs that candidates failed, unless the limit is reached: a row, the existentials' values
+    /// there, and the number of a clause that is false.
     pub fn round(&mut self, row: &Row, values: &Row, j: u64) -> Result<(), Stop>
         ensures ok { OnOk result (self.new ≡ with_entry self.old (Round row.now values.now j)) }
         ensures err { OnErr result (self.new ≡ self.old) }
@@ -277,7 +284,8 @@ impl Log {
         output: Leaf,
     ) -> Result<u64, Memory>
         requires { AreNamed self.old.entries lits.now }
-        ensures ok { OnOk result (self.new ≡ with_entry self.old (Given (Fault clause place output) lits.now)) }
+        ensures ok { OnOk result
+            (self.new ≡ with_entry self.old (Given (Fault clause place output) lits.now)) }
         ensures id { IfOk result (λ id. id ≡ last_id self.new.entries) }
         ensures err { OnErr result (self.new ≡ self.old) }
     {
@@ -296,7 +304,10 @@ impl Log {
         output: &Lit,
     ) -> Result<u64, Memory>
         requires { AreNamed self.old.entries lits.now }
-        ensures ok { OnOk result (self.new ≡ with_entry self.old (Given (Fault clause place (LeafLiteral output.now)) lits.now)) }
+        ensures ok { OnOk result
+            (self.new
+            ≡ with_entry self.old
+            (Given (Fault clause place (LeafLiteral output.now)) lits.now)) }
         ensures id { IfOk result (λ id. id ≡ last_id self.new.entries) }
         ensures err { OnErr result (self.new ≡ self.old) }
     {
@@ -318,10 +329,12 @@ impl Log {
 
     // Adds a clause, and answers its id.
     fn append(&mut self, kind: ClauseKind, lits: &[Lit], numbers: &[u64]) -> Result<u64, Memory>
-        requires counted { is_counted (entry_by kind lits.now numbers.now) ≡ true → steps_of self.old.entries < self.old.limit }
+        requires counted { is_counted (entry_by kind lits.now numbers.now) ≡ true
+            → steps_of self.old.entries < self.old.limit }
         requires asked { MayFollow self.old.entries (entry_by kind lits.now numbers.now) }
         requires numbers { HasNumbers kind numbers.now }
-        ensures ok { OnOk result (self.new ≡ with_entry self.old (entry_by kind lits.now numbers.now)) }
+        ensures ok { OnOk result
+            (self.new ≡ with_entry self.old (entry_by kind lits.now numbers.now)) }
         ensures id { IfOk result (λ id. id ≡ last_id self.new.entries) }
         ensures err { OnErr result (self.new ≡ self.old) }
     {

@@ -5,8 +5,8 @@ use dq_lits::Lit;
 pub enum Name {
     /// The group of this number, which is the selector's own variable, is active.
     Selector { group: u64 },
-    /// The arbiter of a pair: the value of an existential under the row of a round, the first that agrees on what the
-    /// existential sees.
+    /// The arbiter of a pair: the value of an existential under the row of a round, the first that
+    /// agrees on what the existential sees.
     Pair { round: u64, existential: u64 },
     /// A universal in the circuits that are checked.
     Input { universal: u64 },

@@ -15,13 +15,14 @@ pub enum Origin {
         round: u64,
         clause: u64,
     },
-    /// One of the three clauses of the gate that a variable is named for; parts are numbered from 1 to 3.
+    /// One of the three clauses of the gate that a variable is named for; parts are numbered from 1
+    /// to 3.
     Gate {
         variable: u64,
         part: u64,
     },
-    /// Where a clause is false, the literal at this place of it, counted from 1, is false under an output; or, with zeros, that
-    /// some clause is false.
+    /// Where a clause is false, the literal at this place of it, counted from 1, is false under an
+    /// output; or, with zeros, that some clause is false.
     Fault {
         clause: u64,
         place: u64,
@@ -32,7 +33,8 @@ pub enum Origin {
         side: u64,
         clause: u64,
     },
-    /// One of the two clauses by which a variable has the same value in both copies; parts are numbered from 1 to 2.
+    /// One of the two clauses by which a variable has the same value in both copies; parts are
+    /// numbered from 1 to 2.
     Link {
         variable: u64,
         part: u64,

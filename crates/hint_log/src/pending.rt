@@ -33,7 +33,8 @@ impl Pending {
 
     /// Adds an id.
     pub fn insert(&mut self, id: u64) -> Result<(), Memory>
-        ensures { OnOk result ((v : ℕ) → is_pending self.new v ≡ (if id == v then true else is_pending self.old v)) }
+        ensures { OnOk result
+            ((v : ℕ) → is_pending self.new v ≡ (if id == v then true else is_pending self.old v)) }
     {
         self.ids.insert(id)?;
         Ok(())
@@ -41,9 +42,12 @@ impl Pending {
 
     /// Adds these ids.
     pub fn insert_all(&mut self, ids: &[u64]) -> Result<(), Memory>
-        ensures kept { OnOk result ((v : ℕ) → is_pending self.old v ≡ true → is_pending self.new v ≡ true) }
+        ensures kept { OnOk result
+            ((v : ℕ) → is_pending self.old v ≡ true → is_pending self.new v ≡ true) }
         ensures added { OnOk result ((v : ℕ) → Contains ids.now v → is_pending self.new v ≡ true) }
-        ensures only { OnOk result ((v : ℕ) → is_pending self.new v ≡ true → (is_pending self.old v ≡ true) ⊎ Contains ids.now v) }
+        ensures only { OnOk result
+            ((v : ℕ) → is_pending self.new v ≡ true
+            → (is_pending self.old v ≡ true) ⊎ Contains ids.now v) }
     {
         for id in ids {
             self.insert(*id)?;

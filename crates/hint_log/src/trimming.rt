@@ -1,7 +1,7 @@
 //! What an answer rests on.
 //!
-//! The greatest id that is still to be looked at is taken out, and its hints are added. Since a hint is a smaller id, each id is
-//! taken out once, and no id is looked at that isn't reached.
+//! The greatest id that is still to be looked at is taken out, and its hints are added. Since a
+//! hint is a smaller id, each id is taken out once, and no id is looked at that isn't reached.
 
 ghost use Rattle.std.specs.Prelude.{reverse, IfOk};
 ghost use Rattle.hint_log.specs.Conditions.{IsId};
@@ -12,7 +12,8 @@ use crate::pending::none_pending;
 use dq_lits::{Ids, Memory};
 
 impl Log {
-    /// The ids that the clause with an id rests on: its own, and all that are reached from it by hints, ascending.
+    /// The ids that the clause with an id rests on: its own, and all that are reached from it by
+    /// hints, ascending.
     pub fn trim(&self, id: u64) -> Result<Ids, Memory>
         requires { IsId self.now.entries id }
         ensures { IfOk result (AreReached self.now.entries id) }

@@ -1,5 +1,5 @@
--- Craig interpolants of an answer of a log, between the given clauses of two sides (W. Craig, 1957; K. McMillan, "Interpolation and SAT-based
--- model checking", 2003).
+-- Craig interpolants of an answer of a log, between the given clauses of two sides (W. Craig, 1957;
+-- K. McMillan, "Interpolation and SAT-based model checking", 2003).
 use Rattle.std.specs.Prelude.{◌≡◌, ℕ, ◌==◌, ◌⊎◌, Bool, true, false, ◌&&◌, List, Option, Some, IsSome}
 use Rattle.std.specs.List.{Contains, list_any}
 use Rattle.std.specs.Map.{lookup}
@@ -20,7 +20,8 @@ pub record Partition : Type 0 where
   pub shared : List (ℕ × Node)
 
 abbrev pub partition : List Entry → ℕ → List Literal → List (ℕ × Node) → Partition
-partition entries id a_side shared = record { entries = entries; id = id; a_side = a_side; shared = shared }
+partition entries id a_side shared =
+    record { entries = entries; id = id; a_side = a_side; shared = shared }
 
 -- the node of a variable: the first that is listed
 abbrev pub node_of : List (ℕ × Node) → ℕ → Option Node
@@ -28,7 +29,8 @@ node_of pairs v = lookup (λ w. v == w) pairs
 
 -- a clause is on the A side where it negates a selector that is assumed there
 abbrev pub is_on_a : Partition → List Literal → Bool
-is_on_a q clause = list_any (λ l. holds q.a_side (opposite l) && is_selector q.entries (variable_of l)) clause
+is_on_a q clause =
+    list_any (λ l. holds q.a_side (opposite l) && is_selector q.entries (variable_of l)) clause
 
 -- a given clause that the answer reaches
 pub record IsReachedGiven (q : Partition) (at : ℕ) (clause : List Literal) : Type 0 where
@@ -38,7 +40,9 @@ pub record IsReachedGiven (q : Partition) (at : ℕ) (clause : List Literal) : T
 
 -- the given clauses of a side, A where `side` is true, are true
 abbrev pub SideHolds : Partition → Bool → Assignment → Type 0
-SideHolds q side m = (at : ℕ) (clause : List Literal) → IsReachedGiven q at clause → is_on_a q clause ≡ side → clause_true m clause ≡ true
+SideHolds q side m =
+    (at : ℕ) (clause : List Literal) → IsReachedGiven q at clause → is_on_a q clause ≡ side
+    → clause_true m clause ≡ true
 
 -- an assumption of the B side: one that the answer's clause negates and that isn't of the A side
 pub record IsOther (q : Partition) (l : Literal) : Type 0 where
@@ -73,7 +77,8 @@ AreNodes shared graph = (v : ℕ) (n : Node) → node_of shared v ≡ Some n →
 
 -- shared variables have the values of their nodes
 abbrev pub Agrees : List (ℕ × Node) → AigGraph → (ℕ → Bool) → Assignment → Type 0
-Agrees shared graph inputs m = (v : ℕ) (n : Node) → node_of shared v ≡ Some n → node_value graph inputs n ≡ m v
+Agrees shared graph inputs m =
+    (v : ℕ) (n : Node) → node_of shared v ≡ Some n → node_value graph inputs n ≡ m v
 
 -- an input that the node of a shared variable reads
 pub record IsSharedInput (shared : List (ℕ × Node)) (graph : AigGraph) (i : ℕ) : Type 0 where
@@ -83,13 +88,19 @@ pub record IsSharedInput (shared : List (ℕ × Node)) (graph : AigGraph) (i : �
   pub reads : Contains (node_support graph node) i
 
 abbrev pub ReadsShared : List (ℕ × Node) → AigGraph → Node → Type 0
-ReadsShared shared graph node = (i : ℕ) → Contains (node_support graph node) i → IsSharedInput shared graph i
+ReadsShared shared graph node =
+    (i : ℕ) → Contains (node_support graph node) i → IsSharedInput shared graph i
 
--- the node is true wherever the A side is, it contradicts the B side, and it reads what the nodes of shared variables read alone
+-- the node is true wherever the A side is, it contradicts the B side, and it reads what the nodes
+-- of shared variables read alone
 pub record IsInterpolant (q : Partition) (graph : AigGraph) (node : Node) : Type 0 where
   pub is_node : IsNode graph node
-  pub follows : (inputs : ℕ → Bool) (m : Assignment) → Agrees q.shared graph inputs m → SideHolds q true m →
-      ((l : Literal) → holds q.a_side l ≡ true → literal_true m l ≡ true) → node_value graph inputs node ≡ true
-  pub contradicts : (inputs : ℕ → Bool) (m : Assignment) → Agrees q.shared graph inputs m → SideHolds q false m →
-      ((l : Literal) → IsOther q l → literal_true m l ≡ true) → node_value graph inputs node ≡ true → ⊥
+  pub follows : (inputs : ℕ → Bool) (m : Assignment) → Agrees q.shared graph inputs m
+      → SideHolds q true m →
+      ((l : Literal) → holds q.a_side l ≡ true → literal_true m l ≡ true)
+      → node_value graph inputs node ≡ true
+  pub contradicts : (inputs : ℕ → Bool) (m : Assignment) → Agrees q.shared graph inputs m
+      → SideHolds q false m →
+      ((l : Literal) → IsOther q l → literal_true m l ≡ true) → node_value graph inputs node ≡ true
+      → ⊥
   pub reads : ReadsShared q.shared graph node

@@ -15,7 +15,8 @@ trues_of first (link ∷ links) = link.pivot ∷ trues_of first links
 pub record Leads (live : LiveClauses) (trues : List Literal) (link : Link) : Type 0 where
   pub clause : List Literal
   pub clause_is : live link.hint ≡ Some clause
-  pub leads : (l : Literal) → holds clause l ≡ true → (l ≡ link.pivot) ⊎ (holds trues (opposite l) ≡ true)
+  pub leads : (l : Literal) → holds clause l ≡ true
+      → (l ≡ link.pivot) ⊎ (holds trues (opposite l) ≡ true)
 
 abbrev pub AreLed : LiveClauses → List Literal → List Link → Type 0
 AreLed live first [] = Unit {0}
@@ -32,7 +33,8 @@ AreHinted hints [] = Unit {0}
 AreHinted hints (link ∷ links) = Contains hints link.hint × AreHinted hints links
 
 -- what a replay finds
-pub record IsReplay (live : LiveClauses) (first : List Literal) (hints : List ℕ) (links : List Link) (last : ℕ) : Type 0 where
+pub record IsReplay (live : LiveClauses) (first : List Literal) (hints : List ℕ) (links : List Link)
+    (last : ℕ) : Type 0 where
   pub led : AreLed live first links
   pub hinted : AreHinted hints links
   pub last_hinted : Contains hints last
@@ -46,7 +48,8 @@ abbrev pub is_open : List Literal → Literal → Bool
 is_open trues l = not (holds trues (opposite l))
 
 -- what a replay keeps
-pub record IsReplaying (live : LiveClauses) (first : List Literal) (hints : List ℕ) (i : ℕ) (trues : List Literal) (links : List Link) : Type 0 where
+pub record IsReplaying (live : LiveClauses) (first : List Literal) (hints : List ℕ) (i : ℕ)
+    (trues : List Literal) (links : List Link) : Type 0 where
   pub same : AreSame trues (trues_of first links)
   pub left : hint_fault live trues (i + 1) (drop i hints) ≡ None
   pub led : AreLed live first links
@@ -55,4 +58,5 @@ pub record IsReplaying (live : LiveClauses) (first : List Literal) (hints : List
 -- what isn't given is derived by its hints
 abbrev pub AreDerived : List Entry → Type 0
 AreDerived entries = (id : ℕ) (clause : List Literal) (hints : List ℕ) →
-    clause_at entries id ≡ Some clause → origin_at entries id ≡ None → hints_at entries id ≡ Some hints → IsDerived (clause_at entries) clause hints
+    clause_at entries id ≡ Some clause → origin_at entries id ≡ None
+    → hints_at entries id ≡ Some hints → IsDerived (clause_at entries) clause hints

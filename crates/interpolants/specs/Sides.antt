@@ -12,7 +12,8 @@ use Rattle.interpolants.specs.declared.sides.Side.{Side}
 
 -- the selectors among these literals
 abbrev pub AreSelectors : List Entry → List Literal → List Literal → Type 0
-AreSelectors entries literals selectors = (l : Literal) → holds selectors l ≡ (holds literals l && is_selector entries (variable_of l))
+AreSelectors entries literals selectors =
+    (l : Literal) → holds selectors l ≡ (holds literals l && is_selector entries (variable_of l))
 
 -- exactly the variables of the A side
 pub record AreOfA (q : Partition) (variables : List Literal) : Type 0 where
@@ -23,7 +24,8 @@ pub record AreOfA (q : Partition) (variables : List Literal) : Type 0 where
 pub record AreOfSome (q : Partition) (ids : List ℕ) (variables : List Literal) : Type 0 where
   pub sound : (v : ℕ) → holds variables (positive v) ≡ true → IsOfA q v
   pub assumed : (v : ℕ) → stands_on q.a_side v ≡ true → holds variables (positive v) ≡ true
-  pub given : (at : ℕ) → Contains ids at → (clause : List Literal) → IsReachedGiven q at clause → is_on_a q clause ≡ true →
+  pub given : (at : ℕ) → Contains ids at → (clause : List Literal) → IsReachedGiven q at clause
+      → is_on_a q clause ≡ true →
       (v : ℕ) → stands_on clause v ≡ true → holds variables (positive v) ≡ true
 
 -- the side of a partition, with its selectors and its variables

@@ -1,4 +1,5 @@
-//! The partial interpolant of a derived clause: its hints are replayed, and their clauses are resolved, the last one first.
+//! The partial interpolant of a derived clause: its hints are replayed, and their clauses are
+//! resolved, the last one first.
 
 ghost use Rattle.std.specs.Prelude.{◌≡◌, ◌&&◌, ◌||◌, ℕ, List, true, false, IfOk, None};
 ghost use Rattle.dq_lits.specs.Literal.{Literal, variable_of};
@@ -93,8 +94,10 @@ fn resolved(graph: &mut Graph, local: bool, p: Node, r: Node) -> Result<Node, Me
     requires p { IsNode graph.old p }
     requires r { IsNode graph.old r }
     ensures extends { Extends graph.old graph.new }
-    ensures or { IfOk result (λ n. local ≡ true → IsMade (λ x y. x || y) graph.old graph.new p r n) }
-    ensures and { IfOk result (λ n. local ≡ false → IsMade (λ x y. x && y) graph.old graph.new p r n) }
+    ensures or { IfOk result
+        (λ n. local ≡ true → IsMade (λ x y. x || y) graph.old graph.new p r n) }
+    ensures and { IfOk result
+        (λ n. local ≡ false → IsMade (λ x y. x && y) graph.old graph.new p r n) }
 {
     if local {
         graph.or(p, r)

@@ -36,7 +36,8 @@ impl LiteralSet {
     }
 
     pub(crate) fn add(&mut self, l: Lit) -> Result<(), Memory>
-        ensures { OnOk result ((k : Literal) → holds self.new k ≡ (same_literal k l || holds self.old k)) }
+        ensures { OnOk result
+            ((k : Literal) → holds self.new k ≡ (same_literal k l || holds self.old k)) }
     {
         if l.is_neg() {
             self.negatives.insert(l.var())?;

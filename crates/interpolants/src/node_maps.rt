@@ -52,7 +52,9 @@ impl NodeMap {
 
     /// Gives a number a node.
     pub(crate) fn put(&mut self, number: u64, node: Node) -> Result<(), Memory>
-        ensures { OnOk result ((n : ℕ) → node_of self.new n ≡ (if number == n then Some node else node_of self.old n)) }
+        ensures { OnOk result
+            ((n : ℕ)
+            → node_of self.new n ≡ (if number == n then Some node else node_of self.old n)) }
     {
         self.nodes.insert(number, node)?;
         Ok(())

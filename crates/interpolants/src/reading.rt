@@ -20,9 +20,10 @@ use hint_log::Log;
 use hint_log::laws::{ids_stay, reached_are_ids};
 use std::alloc::Global;
 
-/// An interpolant of an answer: a node over the nodes of shared variables. With A the given clauses that the answer reaches whose
-/// selector is in `a_side`, and B the others, it is true wherever A's clauses and `a_side` are, and false wherever B's clauses and the
-/// other assumptions of the answer are. Every variable of both sides is shared.
+/// An interpolant of an answer: a node over the nodes of shared variables. With A the given clauses
+/// that the answer reaches whose selector is in `a_side`, and B the others, it is true wherever A's
+/// clauses and `a_side` are, and false wherever B's clauses and the other assumptions of the answer
+/// are. Every variable of both sides is shared.
 ///
 /// Work and memory follow the clauses that the answer reaches.
 pub fn from_log(
@@ -39,7 +40,8 @@ pub fn from_log(
     requires shares { SharesAll (partition log.now.entries id a_side.now shared.now) }
     requires nodes { AreNodes shared.now graph.old }
     ensures extends { Extends graph.old graph.new }
-    ensures interpolant { IfOk result (IsInterpolant (partition log.now.entries id a_side.now shared.now) graph.new) }
+    ensures interpolant { IfOk result
+        (IsInterpolant (partition log.now.entries id a_side.now shared.now) graph.new) }
 {
     log.every_log_is_lawful();
     ids_stay();

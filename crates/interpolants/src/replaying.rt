@@ -46,7 +46,10 @@ pub(crate) fn propagate(
     requires none { chain.old ≡ [] }
     requires same { AreSame trues.old (map opposite clause.now) }
     requires derived { IsDerived (clause_at log.now.entries) clause.now hints.now }
-    ensures { IfOk result (λ last. IsReplay (clause_at log.now.entries) (map opposite clause.now) hints.now chain.new last) }
+    ensures { IfOk result
+        (λ last.
+        IsReplay (clause_at log.now.entries) (map opposite clause.now) hints.now chain.new
+        last) }
 {
     let _ = clause;
     for hint in hints {

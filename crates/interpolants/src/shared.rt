@@ -53,7 +53,8 @@ pub(crate) fn with_asked(
 // A literal's node, by its variable's.
 fn literal_node(n: Node, l: Lit) -> Node
     ensures node { (graph : AigGraph) → IsNode graph n → IsNode graph result }
-    ensures value { (graph : AigGraph) (inputs : ℕ → Bool) (m : Assignment) → node_value graph inputs n ≡ m (variable_of l)
+    ensures value { (graph : AigGraph) (inputs : ℕ → Bool) (m : Assignment)
+        → node_value graph inputs n ≡ m (variable_of l)
         → node_value graph inputs result ≡ literal_true m l }
     ensures support { (graph : AigGraph) → node_support graph result ≡ node_support graph n }
 {
@@ -64,7 +65,8 @@ fn or_shared(graph: &mut Graph, shared: &NodeMap, node: Node, l: Lit) -> Result<
     requires nodes { AreNodes shared.now graph.old }
     requires node { IsNode graph.old node }
     ensures extends { Extends graph.old graph.new }
-    ensures more { IfOk result (λ n. (clause : List Literal) → IsSharedPart shared.now graph.old clause node
+    ensures more { IfOk result
+        (λ n. (clause : List Literal) → IsSharedPart shared.now graph.old clause node
         → IsSharedPart shared.now graph.new (clause ++ l ∷ []) n) }
 {
     match shared.get(l.var()) {

@@ -45,7 +45,9 @@ pub(crate) fn side_of(
     requires ids { AreReached log.now.entries id ids.now }
     requires named { AreNamed log.now.entries a_side.now }
     ensures same { IfOk result (λ side. AreSame side.assumed a_side.now) }
-    ensures side { IfOk result (λ side. (shared : List (ℕ × NodeValue)) → IsSide (partition log.now.entries id side.assumed shared) side) }
+    ensures side { IfOk result
+        (λ side. (shared : List (ℕ × NodeValue))
+        → IsSide (partition log.now.entries id side.assumed shared) side) }
 {
     let assumed = set_of(alloc, a_side)?;
     let selectors = selectors_of(alloc, log, a_side)?;
@@ -83,7 +85,9 @@ fn is_selector(name: Name) -> bool
 }
 
 fn add_variables(set: &mut LiteralSet, lits: &[Lit]) -> Result<(), Memory>
-    ensures { OnOk result ((v : ℕ) → holds set.new (positive v) ≡ (holds set.old (positive v) || stands_on lits.now v)) }
+    ensures { OnOk result
+        ((v : ℕ)
+        → holds set.new (positive v) ≡ (holds set.old (positive v) || stands_on lits.now v)) }
 {
     for l in lits {
         set.add(Lit::pos(l.var()))?;

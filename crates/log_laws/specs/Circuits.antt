@@ -1,4 +1,5 @@
--- The values of a log's variables by what they are named for, and of existentials by their leaves in a circuit.
+-- The values of a log's variables by what they are named for, and of existentials by their leaves
+-- in a circuit.
 use Rattle.std.specs.Prelude.{◌==◌, ℕ, Bool, true, false, ◌&&◌, List, [], ◌∷◌, Option, None, Some, if◌then◌else◌}
 use Rattle.dq_lits.specs.Literal.{Assignment, literal_true}
 use Rattle.dq_lits.specs.Formula.{Existential, Dqbf, is_universal, existential_of}
@@ -10,7 +11,8 @@ use Rattle.hint_log.specs.declared.origins.Leaf.{Leaf}
 use Rattle.hint_log.specs.declared.origins.Leaf.TheVariants.{Constant, Literal as LeafLiteral}
 use Rattle.hint_log.specs.Naming.{by_universality}
 
--- a name's value: selectors are true, inputs are as given, and so is which clauses are false; a gate has the value of its sides
+-- a name's value: selectors are true, inputs are as given, and so is which clauses are false; a
+-- gate has the value of its sides
 abbrev pub name_value : Assignment → (ℕ → Bool) → Assignment → Name → Bool
 name_value m bad earlier (Selector _) = true
 name_value m bad earlier (Input x) = m x
@@ -21,7 +23,8 @@ name_value m bad earlier _ = false
 -- each variable's value, by its name
 abbrev pub value_in : Assignment → (ℕ → Bool) → List Entry → Assignment
 value_in m bad [] v = false
-value_in m bad (Named w name ∷ earlier) v = if v == w then name_value m bad (value_in m bad earlier) name else value_in m bad earlier v
+value_in m bad (Named w name ∷ earlier) v =
+    if v == w then name_value m bad (value_in m bad earlier) name else value_in m bad earlier v
 value_in m bad (_ ∷ earlier) v = value_in m bad earlier v
 
 abbrev pub leaf_value : Assignment → Leaf → Bool
@@ -38,4 +41,5 @@ existential_bit bit (Some y) = bit y
 
 -- universals as given, and existentials by these bits
 abbrev pub by_bits : Dqbf → Assignment → (Existential → Bool) → Assignment
-by_bits f m bit v = by_universality (is_universal f v) (m v) (existential_bit bit (existential_of f v))
+by_bits f m bit v =
+    by_universality (is_universal f v) (m v) (existential_bit bit (existential_of f v))

@@ -15,7 +15,8 @@ use Rattle.hint_log.specs.Growth.{Each, Grew}
 use Rattle.hint_log.specs.Naming.{rows_of}
 use Rattle.hint_log.specs.ProductiveLog.{IsRightlyNamed, MatchesOrigin, RefutesNewRow, FollowsModel, IsNotRepeated, fault_groups}
 
--- who checks circuits, who holds the instances of the rows, and who compares two copies of the matrix
+-- who checks circuits, who holds the instances of the rows, and who compares two copies of the
+-- matrix
 pub data Engine : Type 0 where
   circuits : Engine
   instances : Engine
@@ -59,42 +60,50 @@ IsInGroup group clause = (rest : List Literal) × (clause ≡ negative group ∷
 
 -- a given clause of an engine goes into its standing group or into one that was made since
 abbrev pub IsInNewGroup : ℕ → List Entry → List Literal → Type 0
-IsInNewGroup group old clause = (g : ℕ) × IsInGroup g clause × ((g ≡ group) ⊎ (name_of old g ≡ None))
+IsInNewGroup group old clause =
+    (g : ℕ) × IsInGroup g clause × ((g ≡ group) ⊎ (name_of old g ≡ None))
 
 -- what an engine's call names: a variable without a name, and its own names or selectors
-pub record IsNamedBy (f : Dqbf) (engine : Engine) (earlier : List Entry) (v : ℕ) (name : Name) : Type 0 where
+pub record IsNamedBy (f : Dqbf) (engine : Engine) (earlier : List Entry) (v : ℕ)
+    (name : Name) : Type 0 where
   pub unnamed : name_of earlier v ≡ None
   pub own : (name_engine name ≡ None) ⊎ (name_engine name ≡ Some engine)
   pub rightly : IsRightlyNamed f name
 
 -- what it gives: clauses of its own origins, the first of each, into its groups
-pub record IsGivenBy (f : Dqbf) (engine : Engine) (group : ℕ) (old earlier : List Entry) (origin : Origin) (clause : List Literal) : Type 0 where
+pub record IsGivenBy (f : Dqbf) (engine : Engine) (group : ℕ) (old earlier : List Entry)
+    (origin : Origin) (clause : List Literal) : Type 0 where
   pub own : origin_engine origin ≡ engine
   pub in_group : IsInNewGroup group old clause
   pub matches_origin : MatchesOrigin f earlier (Given origin clause)
   pub not_repeated : IsNotRepeated earlier (Given origin clause)
 
--- What an engine's call adds to a log, in which `old` stood before: names, given clauses, what was learned, and answers, none of which
--- decides where the call is silent.
+-- What an engine's call adds to a log, in which `old` stood before: names, given clauses, what was
+-- learned, and answers, none of which decides where the call is silent.
 abbrev pub IsAddedBy : Dqbf → Engine → ℕ → Bool → List Entry → List Entry → Entry → Type 0
 IsAddedBy f engine group silent old earlier (Named v name) = IsNamedBy f engine earlier v name
-IsAddedBy f engine group silent old earlier (Given origin clause) = IsGivenBy f engine group old earlier origin clause
-IsAddedBy f engine group silent old earlier (Answer clause hints) = silent ≡ true → DecidesNothing f earlier (Answer clause hints)
+IsAddedBy f engine group silent old earlier (Given origin clause) =
+    IsGivenBy f engine group old earlier origin clause
+IsAddedBy f engine group silent old earlier (Answer clause hints) =
+    silent ≡ true → DecidesNothing f earlier (Answer clause hints)
 IsAddedBy f engine group silent old earlier (Round _ _ _) = ⊥
 IsAddedBy f engine group silent old earlier _ = Unit {0}
 
 -- each given clause of the group is of the engine, and is its origin's
 abbrev pub IsOwnGiven : Dqbf → Engine → ℕ → List Entry → Entry → Type 0
-IsOwnGiven f engine group earlier (Given origin clause) = IsInGroup group clause → (origin_engine origin ≡ engine) × MatchesOrigin f earlier (Given origin clause)
+IsOwnGiven f engine group earlier (Given origin clause) =
+    IsInGroup group clause
+    → (origin_engine origin ≡ engine) × MatchesOrigin f earlier (Given origin clause)
 IsOwnGiven f engine group earlier _ = Unit {0}
 
 -- no name and no given clause of the engine yet
 abbrev pub HasNone : Engine → List Entry → Type 0
 HasNone engine entries = (e : Entry) → is_own engine e ≡ true → Contains entries e → ⊥
 
--- What such a call leaves: the points of a productive log that engines and loop keep between them, rows, names, the other engines' parts, and
--- the groups that are not its own.
-pub record LeavesRest (f : Dqbf) (engine : Engine) (group : ℕ) (silent : Bool) (old new : List Entry) : Type 0 where
+-- What such a call leaves: the points of a productive log that engines and loop keep between them,
+-- rows, names, the other engines' parts, and the groups that are not its own.
+pub record LeavesRest (f : Dqbf) (engine : Engine) (group : ℕ) (silent : Bool)
+    (old new : List Entry) : Type 0 where
   pub origins : Each (MatchesOrigin f) old → Each (MatchesOrigin f) new
   pub new_rows : Each (RefutesNewRow f) old → Each (RefutesNewRow f) new
   pub models : Each (FollowsModel f) old → Each (FollowsModel f) new
@@ -104,10 +113,13 @@ pub record LeavesRest (f : Dqbf) (engine : Engine) (group : ℕ) (silent : Bool)
   pub rounds : rounds_of new ≡ rounds_of old
   pub names : (v : ℕ) (name : Name) → name_of old v ≡ Some name → name_of new v ≡ Some name
   pub others : (other : Engine) → same_engine other engine ≡ false → part other new ≡ part other old
-  pub groups : (other : Engine) (mine : ℕ) (name : Name) → mine ≢ group → name_of old mine ≡ Some name → Each (IsOwnGiven f other mine) old
+  pub groups : (other : Engine) (mine : ℕ) (name : Name) → mine ≢ group
+      → name_of old mine ≡ Some name → Each (IsOwnGiven f other mine) old
       → Each (IsOwnGiven f other mine) new
   pub faults : same_engine engine circuits ≡ false → fault_groups new ≡ fault_groups old
 
 abbrev pub EnginesLeaveRest : Type 0
-EnginesLeaveRest = (f : Dqbf) (engine : Engine) (group : ℕ) (silent : Bool) (old new : ProofLog) → Grew (IsAddedBy f engine group silent old.entries) old new
+EnginesLeaveRest =
+    (f : Dqbf) (engine : Engine) (group : ℕ) (silent : Bool) (old new : ProofLog)
+    → Grew (IsAddedBy f engine group silent old.entries) old new
     → LeavesRest f engine group silent old.entries new.entries

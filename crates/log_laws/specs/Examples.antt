@@ -39,7 +39,8 @@ pub record MissesAlone (f : Dqbf) (entries : List Entry) (point : Point) : Type 
 abbrev pub existential : ℕ → List ℕ → Existential
 existential y xs = record { variable = y; sees = xs }
 
--- p cnf 3 4 / a 1 0 / d 2 0 / d 3 0 / 2 3 0 / 1 2 -3 0 / -1 -2 3 0 / -1 -2 -3 0: 2 is to be the negation of 1, which it doesn't see
+-- p cnf 3 4 / a 1 0 / d 2 0 / d 3 0 / 2 3 0 / 1 2 -3 0 / -1 -2 3 0 / -1 -2 -3 0: 2 is to be the
+-- negation of 1, which it doesn't see
 abbrev pub blind_negation : Dqbf
 blind_negation = record {
   variables = 3;
@@ -53,7 +54,8 @@ blind_negation = record {
       ∷ [];
 }
 
--- candidates that are always 0 fail where 1 is 0, and the instances of that row are given: group 1, and arbiters 2 and 3
+-- candidates that are always 0 fail where 1 is 0, and the instances of that row are given: group 1,
+-- and arbiters 2 and 3
 abbrev pub tried_once : List Entry
 tried_once =
     Given (Instance 1 2) (negative 1 ∷ positive 2 ∷ negative 3 ∷ [])
@@ -64,7 +66,8 @@ tried_once =
     ∷ Named 1 (Selector 1)
     ∷ []
 
--- so 2 has to be 1; that fails where 1 is 1, whose instances have the same arbiters, and together they have no model
+-- so 2 has to be 1; that fails where 1 is 1, whose instances have the same arbiters, and together
+-- they have no model
 abbrev pub refuted : List Entry
 refuted =
     Answer (negative 1 ∷ []) (3 ∷ 5 ∷ 6 ∷ [])
@@ -98,7 +101,8 @@ instances_ignored = Round (true ∷ []) (false ∷ false ∷ []) 1 ∷ tried_onc
 abbrev pub instance_given_twice : List Entry
 instance_given_twice = Given (Instance 1 1) (negative 1 ∷ positive 2 ∷ positive 3 ∷ []) ∷ tried_once
 
--- p cnf 3 3 / a 1 2 0 / d 3 1 2 0 / -3 1 0 / -3 2 0 / 3 -1 -2 0: 3 is to be the conjunction of 1 and 2, which it sees
+-- p cnf 3 3 / a 1 2 0 / d 3 1 2 0 / -3 1 0 / -3 2 0 / 3 -1 -2 0: 3 is to be the conjunction of 1
+-- and 2, which it sees
 abbrev pub seen_conjunction : Dqbf
 seen_conjunction = record {
   variables = 3;
@@ -150,7 +154,9 @@ shown =
 
 -- in one group, 3 is the gate and input 2
 abbrev pub second_output : List Entry
-second_output = Given (Fault 3 1 (LeafLiteral (positive 2))) (negative 5 ∷ negative 8 ∷ negative 2 ∷ []) ∷ faults_given
+second_output =
+    Given (Fault 3 1 (LeafLiteral (positive 2))) (negative 5 ∷ negative 8 ∷ negative 2 ∷ [])
+    ∷ faults_given
 
 -- faults in a further group, before any candidates failed
 abbrev pub second_turn_at_once : List Entry

@@ -13,7 +13,8 @@ ghost use Rattle.log_laws.specs.Meaning.{HasAnswer};
 use crate::laws::{decided_false_is_false, decided_true_is_true};
 use dq_lits::laws::no_formula_is_both;
 
-/// A log that decides that a formula is false, and not that it is true. After its first row nothing is decided.
+/// A log that decides that a formula is false, and not that it is true. After its first row nothing
+/// is decided.
 pub fn false_formula_is_refuted()
     ensures well_formed { IsWellFormed blind_negation }
     ensures logged { AreLogged refuted }
@@ -30,7 +31,8 @@ pub fn false_formula_is_refuted()
     no_formula_is_both();
 }
 
-/// A log that decides that a formula is true, and not that it is false. With the faults alone nothing is decided.
+/// A log that decides that a formula is true, and not that it is false. With the faults alone
+/// nothing is decided.
 pub fn true_formula_is_shown()
     ensures well_formed { IsWellFormed seen_conjunction }
     ensures logged { AreLogged shown }
@@ -56,7 +58,8 @@ pub fn each_point_can_be_missed_alone()
     ensures repeats { MissesAlone blind_negation instance_given_twice single_givens }
 {}
 
-/// An existential with two outputs in one group misses the first point, and a second turn of faults before any round the last.
+/// An existential with two outputs in one group misses the first point, and a second turn of faults
+/// before any round the last.
 pub fn turns_have_one_output_and_a_round()
     ensures second_output { MissesAlone seen_conjunction second_output matching_origins }
     ensures second_turn { MissesAlone seen_conjunction second_turn_at_once single_givens }

@@ -1,7 +1,7 @@
 //! What a log tells of its formula, by the definitions of `specs/` and those of `hint_log` alone.
 //!
-//! Each law is the contract of a function without parameters: it holds of all formulas and logs, and a caller that needs it calls the
-//! function.
+//! Each law is the contract of a function without parameters: it holds of all formulas and logs,
+//! and a caller that needs it calls the function.
 
 ghost use Rattle.log_laws.specs.Engines.{EnginesLeaveRest};
 ghost use Rattle.log_laws.specs.Meaning.{InstancesHaveNoModel, DecidedFalseIsFalse, DecidedTrueIsTrue, LeavesSolve, RoundsAreFew, ClosedClausesAreSettled, NewClausesAreUnknown};
@@ -23,7 +23,8 @@ pub fn decided_false_is_false()
     expansion_lifts();
 }
 
-/// Where an answer rests on gates and on faults of one group, each clause is true once the existentials have their leaves' values.
+/// Where an answer rests on gates and on faults of one group, each clause is true once the
+/// existentials have their leaves' values.
 pub fn leaves_solve()
     ensures { LeavesSolve }
 {
@@ -43,17 +44,20 @@ pub fn rounds_are_few()
     ensures { RoundsAreFew }
 {}
 
-/// Where propagation has come to its end, each clause has a true literal, or two literals that aren't false.
+/// Where propagation has come to its end, each clause has a true literal, or two literals that
+/// aren't false.
 pub fn closed_clauses_are_settled()
     ensures { ClosedClausesAreSettled }
 {}
 
-/// A learned clause that is new by propagation has no literal beside its negation, and it contains no earlier clause.
+/// A learned clause that is new by propagation has no literal beside its negation, and it contains
+/// no earlier clause.
 pub fn new_clauses_are_unknown()
     ensures { NewClausesAreUnknown }
 {}
 
-/// What an engine's call adds to a log leaves the rest: the points that engines keep, rows, names, and the other engines' parts and groups.
+/// What an engine's call adds to a log leaves the rest: the points that engines keep, rows, names,
+/// and the other engines' parts and groups.
 pub fn engines_leave_the_rest()
     ensures { EnginesLeaveRest }
 {}

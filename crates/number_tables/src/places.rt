@@ -105,7 +105,9 @@ fn grow(table: &mut Vec<u32>, number: usize) -> Result<(), Memory>
     requires small { number < 2 ^ 40 }
     requires past { length table.old.items ≤ number }
     ensures within { OnOk result (number < length table.new.items) }
-    ensures same { (n : ℕ) → slice_index_or table.new.items n 4294967295 ≡ slice_index_or table.old.items n 4294967295 }
+    ensures same { (n : ℕ)
+        → slice_index_or table.new.items n 4294967295
+        ≡ slice_index_or table.old.items n 4294967295 }
     ensures err { OnErr result (table.new.items ≡ table.old.items) }
 {
     table.resize((number / GROWTH + 1) * GROWTH, NOWHERE)?;

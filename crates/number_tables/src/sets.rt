@@ -66,12 +66,13 @@ impl NumberSet {
         self.place(number).is_some()
     }
 
-    /// Adds a number behind the others, unless it is there already, and says whether it wasn't. The only error is want
-    /// of memory, and then nothing changed.
+    /// Adds a number behind the others, unless it is there already, and says whether it wasn't. The
+    /// only error is want of memory, and then nothing changed.
     pub fn insert(&mut self, number: u64) -> Result<bool, Memory>
         ensures added { IfOk result (λ is_new. is_new ≡ not (has_number self.old number)) }
         ensures numbers { OnOk result (self.new ≡ with_number self.old number) }
-        ensures there { OnOk result ((n : ℕ) → has_number self.new n ≡ (has_number self.old n || (number == n))) }
+        ensures there { OnOk result
+            ((n : ℕ) → has_number self.new n ≡ (has_number self.old n || (number == n))) }
         ensures err { OnErr result (self.new ≡ self.old) }
     {
         if self.contains(number) {
@@ -83,7 +84,8 @@ impl NumberSet {
         Ok(true)
     }
 
-    /// Adds a number that isn't there, behind the others. The only error is want of memory, and then nothing changed.
+    /// Adds a number that isn't there, behind the others. The only error is want of memory, and
+    /// then nothing changed.
     pub fn push(&mut self, number: u64) -> Result<(), Memory>
         requires { ¬ Contains self.old number }
         ensures ok { OnOk result (self.new ≡ self.old ++ number ∷ []) }

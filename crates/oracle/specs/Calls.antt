@@ -31,7 +31,8 @@ IsLearnedEntry earlier (Learned _ _) = Unit {0}
 IsLearnedEntry earlier _ = ⊥
 
 -- the values make every clause true, of whatever group, and all that was assumed
-pub record IsModelUnder (values : Assignment) (live : LiveClauses) (assumptions : List Literal) : Type 0 where
+pub record IsModelUnder (values : Assignment) (live : LiveClauses)
+    (assumptions : List Literal) : Type 0 where
   pub clauses : MakesTrue values live
   pub assumptions_true : All (λ l. literal_true values l ≡ true) assumptions
 

@@ -1,4 +1,5 @@
--- What a solver holds, against the log: the log's clauses under their ids, and the variables that it names.
+-- What a solver holds, against the log: the log's clauses under their ids, and the variables that
+-- it names.
 use Rattle.std.specs.Prelude.{◌≡◌, ℕ, zero, suc, ◌≤◌, true, List, length, Some, None, IsSome, slice_get, Contains}
 use Rattle.dq_lits.specs.Literal.{Literal, variable_of}
 use Rattle.dq_lits.specs.Derivation.{LiveClauses, holds}
@@ -21,8 +22,10 @@ live_in clauses (suc i) = slice_get clauses i
 -- the clause holds every literal on a selector of every clause that it hints
 abbrev pub HoldsHintedSelectors : List Entry → List Literal → List ℕ → Type 0
 HoldsHintedSelectors earlier clause hints =
-    (hint : ℕ) → Contains hints hint → (hinted : List Literal) → clause_at earlier hint ≡ Some hinted
-    → (l : Literal) → holds hinted l ≡ true → is_selector earlier (variable_of l) ≡ true → holds clause l ≡ true
+    (hint : ℕ) → Contains hints hint → (hinted : List Literal)
+    → clause_at earlier hint ≡ Some hinted
+    → (l : Literal) → holds hinted l ≡ true → is_selector earlier (variable_of l) ≡ true
+    → holds clause l ≡ true
 
 abbrev pub KeepsHintedSelectors : List Entry → Entry → Type 0
 KeepsHintedSelectors earlier (Learned clause hints) = HoldsHintedSelectors earlier clause hints

@@ -33,9 +33,12 @@ pub record Stands (entries : List Entry) (l : Literal) : Type 0 where
 
 -- selectors stand only negated, in what was given, learned and answered
 abbrev pub NegatesSelectors : List Entry → Type 0
-NegatesSelectors entries = (id : ℕ) (clause : List Literal) (l : Literal) → clause_at entries id ≡ Some clause → holds clause l ≡ true → Stands entries l
+NegatesSelectors entries =
+    (id : ℕ) (clause : List Literal) (l : Literal) → clause_at entries id ≡ Some clause
+    → holds clause l ≡ true → Stands entries l
 
--- every given clause is of a group; what was learned or answered is derived, new and keeps the selectors that it rests on
+-- every given clause is of a group; what was learned or answered is derived, new and keeps the
+-- selectors that it rests on
 pub record IsSearched (entries : List Entry) : Type 0 where
   pub logged : AreLogged entries
   pub selectors : (v g : ℕ) → name_of entries v ≡ Some (Selector g) → g ≡ v
@@ -48,5 +51,7 @@ pub record IsSearched (entries : List Entry) : Type 0 where
 -- the assignment makes every clause true that was given to a group whose selector is assumed
 abbrev pub MakesActiveTrue : Assignment → List Entry → List Literal → Type 0
 MakesActiveTrue m entries assumptions =
-    (origin : Origin) (group : ℕ) (rest : List Literal) → Contains entries (Given origin (negative group ∷ rest)) → holds assumptions (positive group) ≡ true
+    (origin : Origin) (group : ℕ) (rest : List Literal)
+    → Contains entries (Given origin (negative group ∷ rest))
+    → holds assumptions (positive group) ≡ true
     → clause_true m (negative group ∷ rest) ≡ true

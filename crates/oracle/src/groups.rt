@@ -17,7 +17,7 @@ impl Group {
     }
 }
 
-/// Who makes groups. A tenant's groups are its own: every group has a selector that no group had before, so that the token needs nothing to
-/// tell it from others.
+/// Who makes groups. A tenant's groups are its own: every group has a selector that no group had
+/// before, so that the token needs nothing to tell it from others.
 #[derive(Debug, Drop)]
 pub struct Tenant;

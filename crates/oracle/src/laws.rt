@@ -1,4 +1,5 @@
-//! What the answers of a search show. Each law is the contract of a function without parameters and with an empty body.
+//! What the answers of a search show. Each law is the contract of a function without parameters and
+//! with an empty body.
 
 ghost use Rattle.std.specs.Prelude.{◌≡◌, ℕ, true, List, Some};
 ghost use Rattle.std.specs.List.{All};
@@ -14,15 +15,20 @@ ghost use Rattle.oracle.specs.Searched.{IsSearched, IsGivenToGroup, MakesActiveT
 
 use dq_lits::laws::derived_line_is_implied;
 
-/// Where a search answered Unsat, no assignment makes the clauses of the active groups and the assumptions true.
+/// Where a search answered Unsat, no assignment makes the clauses of the active groups and the
+/// assumptions true.
 pub fn unsat_excludes_every_assignment()
-    ensures { (old new : ProofLog) (assumptions : List Literal) (id : ℕ) → IsSearched new.entries → IsRefutedUnder old new assumptions id
-        → (m : Assignment) → MakesActiveTrue m new.entries assumptions → All (λ l. literal_true m l ≡ true) assumptions → ⊥ }
+    ensures { (old new : ProofLog) (assumptions : List Literal) (id : ℕ) → IsSearched new.entries
+        → IsRefutedUnder old new assumptions id
+        → (m : Assignment) → MakesActiveTrue m new.entries assumptions
+        → All (λ l. literal_true m l ≡ true) assumptions → ⊥ }
 {
     derived_line_is_implied();
 }
 
-/// Clauses that hold the selectors of the clauses that they hint hold the selectors of all that they reach by hints.
+/// Clauses that hold the selectors of the clauses that they hint hold the selectors of all that
+/// they reach by hints.
 pub fn selectors_are_kept_along_hints()
-    ensures { (entries : List Entry) → AreLogged entries → Each IsGivenToGroup entries → Each KeepsHintedSelectors entries → KeepsSelectors entries }
+    ensures { (entries : List Entry) → AreLogged entries → Each IsGivenToGroup entries
+        → Each KeepsHintedSelectors entries → KeepsSelectors entries }
 {}

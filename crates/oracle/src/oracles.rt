@@ -24,10 +24,11 @@ pub enum Answer {
     Unsat(u64),
 }
 
-/// A solver that several tenants share. It goes with one log, to which it adds what it learns; where it is handed that log, it has to
-/// fit, and fits again afterwards, whatever the answer is.
+/// A solver that several tenants share. It goes with one log, to which it adds what it learns;
+/// where it is handed that log, it has to fit, and fits again afterwards, whatever the answer is.
 pub trait Oracle {
-    /// The solver goes with the log: the clauses held are the log's, and the variables those that it names.
+    /// The solver goes with the log: the clauses held are the log's, and the variables those that
+    /// it names.
     ghost Fits: { Self → ProofLog → Type 0 };
 
     /// The variable was made here.
@@ -62,25 +63,32 @@ pub trait Oracle {
     fn group(&mut self, who: &Tenant, log: &mut Log) -> Result<Group, Memory>
         requires fit { Fits self.old log.old }
         ensures fit { Fits self.new log.new }
-        ensures unnamed { IfOk result (λ g. name_of log.old.entries (variable_of g.selector) ≡ None) }
+        ensures unnamed { IfOk result
+            (λ g. name_of log.old.entries (variable_of g.selector) ≡ None) }
         ensures made { IfOk result (λ g. IsMade log.new.entries g) }
-        ensures ok { IfOk result (λ g. log.new ≡ with_entry log.old (Named (variable_of g.selector) (Selector (variable_of g.selector)))) }
+        ensures ok { IfOk result
+            (λ g. log.new
+            ≡ with_entry log.old
+            (Named (variable_of g.selector) (Selector (variable_of g.selector)))) }
         ensures err { OnErr result (log.new ≡ log.old) }
         ensures err_self { OnErr result (self.new ≡ self.old) };
 
-    /// Holds a clause of a group: its negated selector, and then these literals. Answers the clause's id.
+    /// Holds a clause of a group: its negated selector, and then these literals. Answers the
+    /// clause's id.
     fn add(&mut self, g: &Group, lits: &[Lit], origin: Origin, log: &mut Log) -> Result<u64, Memory>
         requires fit { Fits self.old log.old }
         requires made { IsMade log.old.entries g.now }
         requires plain { All (IsPlain log.old.entries) lits.now }
         ensures fit { Fits self.new log.new }
-        ensures ok { OnOk result (log.new ≡ with_entry log.old (Given origin (opposite g.now.selector ∷ lits.now))) }
+        ensures ok { OnOk result
+            (log.new ≡ with_entry log.old (Given origin (opposite g.now.selector ∷ lits.now))) }
         ensures id { IfOk result (λ id. id ≡ last_id log.new.entries) }
         ensures err { OnErr result (log.new ≡ log.old) }
         ensures err_self { OnErr result (self.new ≡ self.old) };
 
-    /// Searches for values that make the clauses of the active groups and the assumptions true. It stops for want of memory, or
-    /// where the log's limit is reached and a further clause would have to be learned; a further search is lawful then.
+    /// Searches for values that make the clauses of the active groups and the assumptions true. It
+    /// stops for want of memory, or where the log's limit is reached and a further clause would
+    /// have to be learned; a further search is lawful then.
     fn solve(&mut self, active: &[Group], assume: &[Lit], log: &mut Log) -> Result<Answer, Stop>
         requires fit { Fits self.old log.old }
         requires made { All (IsMade log.old.entries) active.now }
@@ -89,8 +97,11 @@ pub trait Oracle {
         ensures fit { Fits self.new log.new }
         ensures told { result ≡ Ok Answer.Sat → is_told self.new ≡ true }
         ensures sat { result ≡ Ok Answer.Sat
-            → Grew IsLearnedEntry log.old log.new × IsModelUnder (values self.new) (clause_at log.new.entries) (assumed active.now assume.now) }
-        ensures unsat { (id : ℕ) → result ≡ Ok (Answer.Unsat id) → IsRefutedUnder log.old log.new (assumed active.now assume.now) id }
+            → Grew IsLearnedEntry log.old log.new
+            × IsModelUnder (values self.new) (clause_at log.new.entries)
+            (assumed active.now assume.now) }
+        ensures unsat { (id : ℕ) → result ≡ Ok (Answer.Unsat id)
+            → IsRefutedUnder log.old log.new (assumed active.now assume.now) id }
         ensures stop { OnErr result (Grew IsLearnedEntry log.old log.new) }
         ensures limit { result ≡ Err Stop.Limit → steps_of log.new.entries ≡ log.new.limit };
 
@@ -104,8 +115,10 @@ pub trait Oracle {
     ghost searched: { (s : Self) (log : ProofLog) → Fits s log → IsSearched log.entries };
 
     /// The variables that have names were made here.
-    ghost made: { (s : Self) (log : ProofLog) (v : ℕ) → Fits s log → IsSome (name_of log.entries v) → HasVariable s v };
+    ghost made: { (s : Self) (log : ProofLog) (v : ℕ) → Fits s log → IsSome (name_of log.entries v)
+        → HasVariable s v };
 
     /// A round is none of the solver's business.
-    ghost round: { (s : Self) (log : ProofLog) (row values : List Bool) (j : ℕ) → Fits s log → Fits s (with_entry log (Round row values j)) };
+    ghost round: { (s : Self) (log : ProofLog) (row values : List Bool) (j : ℕ) → Fits s log
+        → Fits s (with_entry log (Round row values j)) };
 }

@@ -1,4 +1,5 @@
--- Two copies of the matrix in a log, and equations between the copies of each variable, all in groups of their own (A. Padoa, 1900).
+-- Two copies of the matrix in a log, and equations between the copies of each variable, all in
+-- groups of their own (A. Padoa, 1900).
 use Rattle.std.specs.Prelude.{◌≡◌, ◌⊎◌, ◌+◌, ◌==◌, ℕ, Bool, true, false, List, ◌∷◌, ◌++◌, map, length, Some, slice_get}
 use Rattle.std.specs.List.{Contains}
 use Rattle.dq_lits.specs.Literal.{Literal, negative, variable_of, is_negative}
@@ -32,18 +33,21 @@ group_variable g = variable_of g.selector
 
 -- each given clause of the group has an origin that passes the test, and is its origin's
 abbrev pub IsGroupGiven : Dqbf → (Origin → Bool) → ℕ → List Entry → Entry → Type 0
-IsGroupGiven f test group earlier (Given origin clause) = IsInGroup group clause → (test origin ≡ true) × MatchesOrigin f earlier (Given origin clause)
+IsGroupGiven f test group earlier (Given origin clause) =
+    IsInGroup group clause → (test origin ≡ true) × MatchesOrigin f earlier (Given origin clause)
 IsGroupGiven f test group earlier _ = Unit {0}
 
 -- a clause of the group with this origin, on variables of these names
-pub record IsGivenIn (entries : List Entry) (group : ℕ) (origin : Origin) (names : List NamedLiteral) : Type 0 where
+pub record IsGivenIn (entries : List Entry) (group : ℕ) (origin : Origin)
+    (names : List NamedLiteral) : Type 0 where
   pub rest : List Literal
   pub given : Contains entries (Given origin (negative group ∷ rest))
   pub named : AreNamedAs entries rest names
 
 -- positive literals on the copies of these variables
 abbrev pub AreCopiesOf : List Entry → ℕ → List ℕ → List Literal → Type 0
-AreCopiesOf entries side variables copies = AreNamedAs entries copies (map (λ v. named_literal (CopyOf side v) false) variables)
+AreCopiesOf entries side variables copies =
+    AreNamedAs entries copies (map (λ v. named_literal (CopyOf side v) false) variables)
 
 -- both copies of a variable are named for it
 abbrev pub AreTwins : List Entry → Twins → Type 0
@@ -56,10 +60,13 @@ abbrev pub copies_of : MatrixCopy → List Literal
 copies_of copy = copy.universals.items ++ copy.existentials.items
 
 abbrev pub copy_names : ℕ → List Literal → List NamedLiteral
-copy_names side clause = map (λ l. named_literal (CopyOf side (variable_of l)) (is_negative l)) clause
+copy_names side clause =
+    map (λ l. named_literal (CopyOf side (variable_of l)) (is_negative l)) clause
 
--- one side's variables are named, and its group has all clauses of the matrix on them, and no others
-pub record IsMatrixCopy (f : Dqbf) (side : ℕ) (copy : MatrixCopy) (entries : List Entry) : Type 0 where
+-- one side's variables are named, and its group has all clauses of the matrix on them, and no
+-- others
+pub record IsMatrixCopy (f : Dqbf) (side : ℕ) (copy : MatrixCopy)
+    (entries : List Entry) : Type 0 where
   pub made : IsMade entries copy.group
   pub universals : AreCopiesOf entries side f.universals copy.universals.items
   pub existentials : AreCopiesOf entries side (existential_variables f) copy.existentials.items
@@ -71,14 +78,17 @@ pub record IsMatrixCopy (f : Dqbf) (side : ℕ) (copy : MatrixCopy) (entries : L
 pub record IsLink (f : Dqbf) (x : ℕ) (group : Group) (entries : List Entry) : Type 0 where
   pub made : IsMade entries group
   pub own : Each (IsGroupGiven f (is_link_of x) (group_variable group)) entries
-  pub whole : (i : ℕ) → (i ≡ 1) ⊎ (i ≡ 2) → IsGivenIn entries (group_variable group) (Link x i) (link_names x i)
+  pub whole : (i : ℕ) → (i ≡ 1) ⊎ (i ≡ 2)
+      → IsGivenIn entries (group_variable group) (Link x i) (link_names x i)
 
 -- the copies, and an equation for each declared variable
 pub record IsPadoa (f : Dqbf) (p : Padoa) (entries : List Entry) : Type 0 where
   pub first : IsMatrixCopy f 1 p.first entries
   pub second : IsMatrixCopy f 2 p.second entries
   pub as_many : length p.links.items ≡ length (declared f)
-  pub links : (i x : ℕ) (g : Group) → slice_get (declared f) i ≡ Some x → slice_get p.links.items i ≡ Some g → IsLink f x g entries
+  pub links : (i x : ℕ) (g : Group) → slice_get (declared f) i ≡ Some x
+      → slice_get p.links.items i ≡ Some g → IsLink f x g entries
 
 abbrev pub groups_of : Padoa → List ℕ
-groups_of p = group_variable p.first.group ∷ group_variable p.second.group ∷ map group_variable p.links.items
+groups_of p =
+    group_variable p.first.group ∷ group_variable p.second.group ∷ map group_variable p.links.items

@@ -18,11 +18,13 @@ pub record IsSample (f : Dqbf) (row values : List Bool) : Type 0 where
   pub values_length : length values ≡ length f.existentials
   pub holds_there : MatrixHolds f (round_assignment f row values)
 
--- two of them that agree on what a definition of the existential may read, and in which it is true and false
+-- two of them that agree on what a definition of the existential may read, and in which it is true
+-- and false
 pub record IsFreePair (f : Dqbf) (y : Existential) (pair : Pair) : Type 0 where
   pub first : IsSample f pair.row1 pair.values1
   pub second : IsSample f pair.row2 pair.values2
-  pub agree : (v : ℕ) → MayRead f y v → round_assignment f pair.row1 pair.values1 v ≡ round_assignment f pair.row2 pair.values2 v
+  pub agree : (v : ℕ) → MayRead f y v
+      → round_assignment f pair.row1 pair.values1 v ≡ round_assignment f pair.row2 pair.values2 v
   pub is_true : round_assignment f pair.row1 pair.values1 y.variable ≡ true
   pub is_false : round_assignment f pair.row2 pair.values2 y.variable ≡ false
 
@@ -31,7 +33,10 @@ abbrev pub IsFound : Dqbf → AigGraph → Existential → Found → Type 0
 IsFound f graph y (Defined node) = IsDefinition f graph y node
 IsFound f graph y (Free pair) = IsFreePair f y pair
 
--- every solving choice has the value of a definition, with each existential that this reads at that choice's value
+-- every solving choice has the value of a definition, with each existential that this reads at that
+-- choice's value
 abbrev pub DefinitionsAreForced : Type 0
-DefinitionsAreForced = (f : Dqbf) (graph : AigGraph) (y : Existential) (node : Node) → IsDefinition f graph y node →
-    (choice : HenkinChoice) → Solves choice f → (m : Assignment) → Follows f choice m → m y.variable ≡ (defining_output f graph node).value m
+DefinitionsAreForced =
+    (f : Dqbf) (graph : AigGraph) (y : Existential) (node : Node) → IsDefinition f graph y node →
+    (choice : HenkinChoice) → Solves choice f → (m : Assignment) → Follows f choice m
+    → m y.variable ≡ (defining_output f graph node).value m

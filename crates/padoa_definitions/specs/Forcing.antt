@@ -11,14 +11,17 @@ use Rattle.padoa_definitions.specs.declared.forcing.Forced.{Forced}
 use Rattle.padoa_definitions.specs.declared.forcing.Forced.TheVariants.{Rule as ByRule, Loose}
 
 -- a rule that forces the existential to this bit, and whose cube is true at the row
-pub record IsForcedBy (f : Dqbf) (y : Existential) (row : List Bool) (bit : Bool) (rule : Rule) : Type 0 where
+pub record IsForcedBy (f : Dqbf) (y : Existential) (row : List Bool) (bit : Bool)
+    (rule : Rule) : Type 0 where
   pub variable_is : rule.y ≡ y.variable
   pub bit_is : rule.bit ≡ bit
   pub at_row : cube_true (row_assignment f row) rule.cube ≡ true
   pub is_rule : IsRule f rule
 
--- a sample that gives the existential the same bits to see as the row does, and in which it has the other bit
-pub record IsLoose (f : Dqbf) (y : Existential) (row : List Bool) (bit : Bool) (other values : List Bool) : Type 0 where
+-- a sample that gives the existential the same bits to see as the row does, and in which it has the
+-- other bit
+pub record IsLoose (f : Dqbf) (y : Existential) (row : List Bool) (bit : Bool)
+    (other values : List Bool) : Type 0 where
   pub sample : IsSample f other values
   pub agree : restriction y (row_assignment f other) ≡ restriction y (row_assignment f row)
   pub differs : round_assignment f other values y.variable ≡ not bit

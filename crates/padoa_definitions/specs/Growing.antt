@@ -18,12 +18,16 @@ use Rattle.padoa_definitions.specs.Copies.{is_copy_of, is_link_of, IsGroupGiven,
 
 -- names, and clauses in groups that were made since, wherever one begins to look
 abbrev pub GrewAnew : Dqbf → ProofLog → ProofLog → Type 0
-GrewAnew f old new = (standing : ℕ) (start : List Entry) → ((v : ℕ) → name_of old.entries v ≡ None → name_of start v ≡ None)
+GrewAnew f old new =
+    (standing : ℕ) (start : List Entry)
+    → ((v : ℕ) → name_of old.entries v ≡ None → name_of start v ≡ None)
     → Grew (IsAddedBy f copies standing true start) old new
 
 -- clauses in one group, which is the standing one or was made since
 abbrev pub GrewIn : Dqbf → ℕ → ProofLog → ProofLog → Type 0
-GrewIn f group old new = (standing : ℕ) (start : List Entry) → (group ≡ standing) ⊎ (name_of start group ≡ None) → Grew (IsAddedBy f copies standing true start) old new
+GrewIn f group old new =
+    (standing : ℕ) (start : List Entry) → (group ≡ standing) ⊎ (name_of start group ≡ None)
+    → Grew (IsAddedBy f copies standing true start) old new
 
 -- there is room for a given clause more
 abbrev pub HasFewFaults : List Entry → Type 0
@@ -38,24 +42,31 @@ is_side_name side _ = false
 -- what is new: such names, and given clauses of origins that pass the test
 pub record Adds (f : Dqbf) (side : ℕ) (test : Origin → Bool) (old new : ProofLog) : Type 0 where
   pub grew : GrewAnew f old new
-  pub names : (v : ℕ) (n : Name) → name_of new.entries v ≡ Some n → (name_of old.entries v ≡ Some n) ⊎ (is_side_name side n ≡ true)
-  pub givens : (origin : Origin) (c : List Literal) → Contains new.entries (Given origin c) → Contains old.entries (Given origin c) ⊎ (test origin ≡ true)
+  pub names : (v : ℕ) (n : Name) → name_of new.entries v ≡ Some n
+      → (name_of old.entries v ≡ Some n) ⊎ (is_side_name side n ≡ true)
+  pub givens : (origin : Origin) (c : List Literal) → Contains new.entries (Given origin c)
+      → Contains old.entries (Given origin c) ⊎ (test origin ≡ true)
 
 -- no variable is the copy of one of these
 abbrev pub AreUncopied : ℕ → List ℕ → List Entry → Type 0
-AreUncopied side variables entries = (v x : ℕ) → Contains variables x → name_of entries v ≡ Some (CopyOf side x) → ⊥
+AreUncopied side variables entries =
+    (v x : ℕ) → Contains variables x → name_of entries v ≡ Some (CopyOf side x) → ⊥
 
 -- only copies of these variables were named
 pub record NamesCopies (side : ℕ) (variables : List ℕ) (old new : List Entry) : Type 0 where
-  pub names : (v : ℕ) (n : Name) → name_of new v ≡ Some n → (name_of old v ≡ Some n) ⊎ ((x : ℕ) × (n ≡ CopyOf side x) × Contains variables x)
-  pub givens : (origin : Origin) (c : List Literal) → Contains new (Given origin c) → Contains old (Given origin c)
+  pub names : (v : ℕ) (n : Name) → name_of new v ≡ Some n
+      → (name_of old v ≡ Some n) ⊎ ((x : ℕ) × (n ≡ CopyOf side x) × Contains variables x)
+  pub givens : (origin : Origin) (c : List Literal) → Contains new (Given origin c)
+      → Contains old (Given origin c)
 
 -- the first of these variables have copies, and the others have none
-pub record AreNamedSoFar (side : ℕ) (variables : List ℕ) (i : ℕ) (old new : ProofLog) (lits : List Literal) : Type 0 where
+pub record AreNamedSoFar (side : ℕ) (variables : List ℕ) (i : ℕ) (old new : ProofLog)
+    (lits : List Literal) : Type 0 where
   pub grew : (f : Dqbf) → GrewAnew f old new
   pub named : AreCopiesOf new.entries side (take i variables) lits
   pub only : NamesCopies side variables old.entries new.entries
-  pub fresh : (v k x : ℕ) → i ≤ k → slice_get variables k ≡ Some x → name_of new.entries v ≡ Some (CopyOf side x) → ⊥
+  pub fresh : (v k x : ℕ) → i ≤ k → slice_get variables k ≡ Some x
+      → name_of new.entries v ≡ Some (CopyOf side x) → ⊥
 
 -- no copy of a clause was given on this side
 abbrev pub AreUngiven : ℕ → List Entry → Type 0
@@ -67,9 +78,11 @@ pub record AreGivenSoFar (f : Dqbf) (side group j : ℕ) (old new : ProofLog) : 
   pub names : (v : ℕ) → name_of new.entries v ≡ name_of old.entries v
   pub few : HasFewFaults new.entries
   pub own : Each (IsGroupGiven f (is_copy_of side) group) new.entries
-  pub givens : (origin : Origin) (c : List Literal) → Contains new.entries (Given origin c) → Contains old.entries (Given origin c) ⊎ (is_copy_of side origin ≡ true)
+  pub givens : (origin : Origin) (c : List Literal) → Contains new.entries (Given origin c)
+      → Contains old.entries (Given origin c) ⊎ (is_copy_of side origin ≡ true)
   pub later : (k : ℕ) (c : List Literal) → j < k → Contains new.entries (Given (Copy side k) c) → ⊥
-  pub given : (k : ℕ) (clause : List Literal) → k < j → slice_get f.matrix k ≡ Some clause → IsGivenIn new.entries group (Copy side (k + 1)) (copy_names side clause)
+  pub given : (k : ℕ) (clause : List Literal) → k < j → slice_get f.matrix k ≡ Some clause
+      → IsGivenIn new.entries group (Copy side (k + 1)) (copy_names side clause)
 
 -- no equation of this variable was given
 abbrev pub IsUnlinked : ℕ → List Entry → Type 0
@@ -80,18 +93,22 @@ is_any_link (Link v i) = true
 is_any_link _ = false
 
 -- the first declared variables have their equations, and the others have none
-pub record AreLinkedSoFar (f : Dqbf) (i : ℕ) (old new : ProofLog) (groups : List Group) : Type 0 where
+pub record AreLinkedSoFar (f : Dqbf) (i : ℕ) (old new : ProofLog)
+    (groups : List Group) : Type 0 where
   pub adds : Adds f 0 is_any_link old new
   pub as_many : length groups ≡ i
   pub later : (k x : ℕ) → i ≤ k → slice_get (declared f) k ≡ Some x → IsUnlinked x new.entries
-  pub links : (k x : ℕ) (g : Group) → slice_get (declared f) k ≡ Some x → slice_get groups k ≡ Some g → IsLink f x g new.entries
-  pub fresh : (k : ℕ) (g : Group) → slice_get groups k ≡ Some g → name_of old.entries (group_variable g) ≡ None
+  pub links : (k x : ℕ) (g : Group) → slice_get (declared f) k ≡ Some x
+      → slice_get groups k ≡ Some g → IsLink f x g new.entries
+  pub fresh : (k : ℕ) (g : Group) → slice_get groups k ≡ Some g
+      → name_of old.entries (group_variable g) ≡ None
 
 -- the copy of a clause, by its number from 0 on
 pub record IsClauseGiven (f : Dqbf) (side group j : ℕ) (old new : ProofLog) : Type 0 where
   pub rest : List Literal
   pub added : new ≡ with_entry old (Given (Copy side (j + 1)) (negative group ∷ rest))
-  pub named : (clause : List Literal) → slice_get f.matrix j ≡ Some clause → AreNamedAs old.entries rest (copy_names side clause)
+  pub named : (clause : List Literal) → slice_get f.matrix j ≡ Some clause
+      → AreNamedAs old.entries rest (copy_names side clause)
 
 -- the first so many parts of an equation were given, and the others weren't
 pub record AreEquated (f : Dqbf) (x group parts : ℕ) (old new : ProofLog) : Type 0 where
@@ -99,6 +116,7 @@ pub record AreEquated (f : Dqbf) (x group parts : ℕ) (old new : ProofLog) : Ty
   pub names : (v : ℕ) → name_of new.entries v ≡ name_of old.entries v
   pub few : HasFewFaults new.entries
   pub own : Each (IsGroupGiven f (is_link_of x) group) new.entries
-  pub givens : (origin : Origin) (c : List Literal) → Contains new.entries (Given origin c) → Contains old.entries (Given origin c) ⊎ (is_link_of x origin ≡ true)
+  pub givens : (origin : Origin) (c : List Literal) → Contains new.entries (Given origin c)
+      → Contains old.entries (Given origin c) ⊎ (is_link_of x origin ≡ true)
   pub later : (i : ℕ) (c : List Literal) → parts < i → Contains new.entries (Given (Link x i) c) → ⊥
   pub given : (i : ℕ) → 1 ≤ i → i ≤ parts → IsGivenIn new.entries group (Link x i) (link_names x i)

@@ -31,15 +31,20 @@ copied_assignment entries m v = value_by m (name_of entries v)
 
 -- the literals stand on first copies
 abbrev pub AreFirstCopies : List Entry → List Literal → Type 0
-AreFirstCopies entries lits = All (λ l. (v : ℕ) × (name_of entries (variable_of l) ≡ Some (CopyOf 1 v))) lits
+AreFirstCopies entries lits =
+    All (λ l. (v : ℕ) × (name_of entries (variable_of l) ≡ Some (CopyOf 1 v))) lits
 
--- an answer whose clause has negated selectors and negated assumptions alone, and is true wherever the matrix is
-pub record ShowsClause (f : Dqbf) (entries : List Entry) (asked : List Literal) (id : ℕ) : Type 0 where
+-- an answer whose clause has negated selectors and negated assumptions alone, and is true wherever
+-- the matrix is
+pub record ShowsClause (f : Dqbf) (entries : List Entry) (asked : List Literal)
+    (id : ℕ) : Type 0 where
   pub clause : List Literal
   pub is_id : IsId entries id
   pub clause_is : clause_at entries id ≡ Some clause
-  pub negated : (l : Literal) → holds clause l ≡ true → IsSelectorLiteral entries (opposite l) ⊎ (holds asked (opposite l) ≡ true)
-  pub implied : (m : Assignment) → MatrixHolds f m → clause_true (copied_assignment entries m) clause ≡ true
+  pub negated : (l : Literal) → holds clause l ≡ true
+      → IsSelectorLiteral entries (opposite l) ⊎ (holds asked (opposite l) ≡ true)
+  pub implied : (m : Assignment) → MatrixHolds f m
+      → clause_true (copied_assignment entries m) clause ≡ true
 
 -- the literal where the bit is true, else its negation
 abbrev pub signed_literal : Literal → Bool → Literal
@@ -48,15 +53,20 @@ signed_literal l false = opposite l
 
 -- the copies of the universals at these places, with the row's bits
 abbrev pub row_copies : MatrixCopy → List Bool → List ℕ → List Literal
-row_copies copy row places = map (λ p. signed_literal (slice_index_or copy.universals.items p (positive 0)) (bit_of row p)) places
+row_copies copy row places =
+    map (λ p. signed_literal (slice_index_or copy.universals.items p (positive 0)) (bit_of row p))
+    places
 
--- what a literal of an answer's clause puts into a cube: on the variable that was copied, but for one, with the other sign
+-- what a literal of an answer's clause puts into a cube: on the variable that was copied, but for
+-- one, with the other sign
 abbrev pub cube_literal : ℕ → Bool → Option Name → Option Literal
-cube_literal y negated (Some (CopyOf side v)) = if v == y then None else Some (signed_literal (positive v) negated)
+cube_literal y negated (Some (CopyOf side v)) =
+    if v == y then None else Some (signed_literal (positive v) negated)
 cube_literal y negated _ = None
 
 abbrev pub cube_of : List Entry → ℕ → List Literal → List Literal
-cube_of entries y clause = filter_map (λ l. cube_literal y (is_negative l) (name_of entries (variable_of l))) clause
+cube_of entries y clause =
+    filter_map (λ l. cube_literal y (is_negative l) (name_of entries (variable_of l))) clause
 
 -- the name is a copy's of a variable that a literal can have, or no copy's
 abbrev pub IsLiteralName : Option Name → Type 0

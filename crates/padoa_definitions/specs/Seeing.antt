@@ -9,5 +9,7 @@ pub record ArePlaces (variables : List ℕ) (set : ℕ → Type 0) (places : Lis
 
 -- those of the first so many
 pub record ArePlacesSoFar (universals sees : List ℕ) (i : ℕ) (places : List ℕ) : Type 0 where
-  pub sound : (p : ℕ) → Contains places p → (x : ℕ) × (slice_get universals p ≡ Some x) × Contains sees x
-  pub complete : (k x : ℕ) → k < i → slice_get sees k ≡ Some x → (p : ℕ) × (slice_get universals p ≡ Some x) × Contains places p
+  pub sound : (p : ℕ) → Contains places p
+      → (x : ℕ) × (slice_get universals p ≡ Some x) × Contains sees x
+  pub complete : (k x : ℕ) → k < i → slice_get sees k ≡ Some x
+      → (p : ℕ) × (slice_get universals p ≡ Some x) × Contains places p

@@ -11,8 +11,11 @@ use Rattle.padoa_definitions.specs.declared.padoa.Padoa.{Padoa}
 -- the standing group of the other call is none of the copies' groups
 abbrev pub EnginesLeaveCopies : Type 0
 EnginesLeaveCopies =
-    (f : Dqbf) (p : Padoa) (engine : Engine) (group : ℕ) (silent : Bool) (old new : ProofLog) → Grew (IsAddedBy f engine group silent old.entries) old new
+    (f : Dqbf) (p : Padoa) (engine : Engine) (group : ℕ) (silent : Bool) (old new : ProofLog)
+    → Grew (IsAddedBy f engine group silent old.entries) old new
     → All (λ g. g ≢ group) (groups_of p) → IsPadoa f p old.entries → IsPadoa f p new.entries
 
 abbrev pub RoundsLeaveCopies : Type 0
-RoundsLeaveCopies = (f : Dqbf) (p : Padoa) (entries : List Entry) (row values : List Bool) (j : ℕ) → IsPadoa f p entries → IsPadoa f p (Round row values j ∷ entries)
+RoundsLeaveCopies =
+    (f : Dqbf) (p : Padoa) (entries : List Entry) (row values : List Bool) (j : ℕ)
+    → IsPadoa f p entries → IsPadoa f p (Round row values j ∷ entries)

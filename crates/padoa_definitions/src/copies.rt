@@ -17,7 +17,8 @@ use hint_log::{Log, Name};
 use oracle::{Group, Oracle};
 use std::alloc::Global;
 
-/// A copy of the matrix: the group of its clauses, and the copies of the universals and of the existentials, in order of declaration.
+/// A copy of the matrix: the group of its clauses, and the copies of the universals and of the
+/// existentials, in order of declaration.
 #[derive(Debug, Drop)]
 pub struct MatrixCopy {
     pub(crate) group: Group,
@@ -62,7 +63,8 @@ pub(crate) fn name_copies<O: Oracle>(
     ensures fit { O.Fits oracle.new log.new }
     ensures grew { (f : Dqbf) → GrewAnew f log.old log.new }
     ensures only { NamesCopies side variables.now log.old.entries log.new.entries }
-    ensures named { IfOk result (λ lits. AreCopiesOf log.new.entries side variables.now lits.items) }
+    ensures named { IfOk result
+        (λ lits. AreCopiesOf log.new.entries side variables.now lits.items) }
 {
     let mut lits = Vec::new(alloc);
     for x in variables {
@@ -82,7 +84,8 @@ pub(crate) fn copied_clause(
     requires bound { All (λ l. Contains (declared f.now) (variable_of l)) clause.now }
     requires universals { length copy.now.universals.items ≡ length f.now.universals }
     requires existentials { length copy.now.existentials.items ≡ length f.now.existentials }
-    ensures { (entries : List Entry) (side : ℕ) → AreCopiesOf entries side f.now.universals copy.now.universals.items
+    ensures { (entries : List Entry) (side : ℕ)
+        → AreCopiesOf entries side f.now.universals copy.now.universals.items
         → AreCopiesOf entries side (existential_variables f.now) copy.now.existentials.items
         → IfOk result (λ lits. AreNamedAs entries lits.items (copy_names side clause.now)) }
 {
@@ -98,9 +101,11 @@ fn copied_literal(copy: &MatrixCopy, f: &Formula, l: Lit) -> Lit
     requires bound { Contains (declared f.now) (variable_of l) }
     requires universals { length copy.now.universals.items ≡ length f.now.universals }
     requires existentials { length copy.now.existentials.items ≡ length f.now.existentials }
-    ensures { (entries : List Entry) (side : ℕ) → AreCopiesOf entries side f.now.universals copy.now.universals.items
+    ensures { (entries : List Entry) (side : ℕ)
+        → AreCopiesOf entries side f.now.universals copy.now.universals.items
         → AreCopiesOf entries side (existential_variables f.now) copy.now.existentials.items
-        → name_literal entries result ≡ Some (named_literal (CopyOf side (variable_of l)) (is_negative l)) }
+        → name_literal entries result
+        ≡ Some (named_literal (CopyOf side (variable_of l)) (is_negative l)) }
 {
     let variable = copied_variable(copy, f, l.var());
     if l.is_neg() { variable.not() } else { variable }
@@ -111,7 +116,8 @@ pub(crate) fn copied_variable(copy: &MatrixCopy, f: &Formula, v: u64) -> Lit
     requires bound { Contains (declared f.now) v }
     requires universals { length copy.now.universals.items ≡ length f.now.universals }
     requires existentials { length copy.now.existentials.items ≡ length f.now.existentials }
-    ensures { (entries : List Entry) (side : ℕ) → AreCopiesOf entries side f.now.universals copy.now.universals.items
+    ensures { (entries : List Entry) (side : ℕ)
+        → AreCopiesOf entries side f.now.universals copy.now.universals.items
         → AreCopiesOf entries side (existential_variables f.now) copy.now.existentials.items
         → name_literal entries result ≡ Some (named_literal (CopyOf side v) false) }
 {

@@ -17,8 +17,9 @@ use hint_log::laws::names_are_unique;
 use hint_log::{Log, Stop};
 use oracle::{Answer, Oracle};
 
-/// Two rows, each with values of the existentials, that make the matrix true: what a definition of the existential may read is the same in
-/// both, and it is true in the first and false in the second.
+/// Two rows, each with values of the existentials, that make the matrix true: what a definition of
+/// the existential may read is the same in both, and it is true in the first and false in the
+/// second.
 #[derive(Debug, Drop)]
 pub struct Pair {
     pub row1: Row,
@@ -46,8 +47,9 @@ pub(crate) struct Question<'f, 'p> {
 }
 
 impl Padoa {
-    /// A definition of an existential over the universals that it sees and the existentials that come before it and see no more, or values
-    /// that show that there is none. It stops for want of memory or at the log's limit, and may be called again then.
+    /// A definition of an existential over the universals that it sees and the existentials that
+    /// come before it and see no more, or values that show that there is none. It stops for want of
+    /// memory or at the log's limit, and may be called again then.
     pub fn define<O: Oracle>(
         &mut self,
         oracle: &mut O,
@@ -64,9 +66,11 @@ impl Padoa {
         ensures fit { O.Fits oracle.new log.new }
         ensures same { self.new ≡ self.old }
         ensures padoa { IsPadoa f.now self.new log.new.entries }
-        ensures grew { (group : ℕ) → Grew (IsAddedBy f.now copies group true log.old.entries) log.old log.new }
+        ensures grew { (group : ℕ)
+            → Grew (IsAddedBy f.now copies group true log.old.entries) log.old log.new }
         ensures extends { Extends graph.old graph.new }
-        ensures found { (e : Existential) → existential_of f.now y ≡ Some e → IfOk result (IsFound f.now graph.new e) }
+        ensures found { (e : Existential) → existential_of f.now y ≡ Some e
+            → IfOk result (IsFound f.now graph.new e) }
         ensures limit { IsErrOf result Stop.Limit → steps_of log.new.entries ≡ log.new.limit }
     {
         names_are_unique();

@@ -29,14 +29,15 @@ use oracle::{Answer, Oracle};
 pub enum Forced {
     /// It is, by this rule.
     Rule(Rule),
-    /// It isn't: with these values the matrix is true under this row, at which the existential sees the same and has the other bit.
+    /// It isn't: with these values the matrix is true under this row, at which the existential sees
+    /// the same and has the other bit.
     Loose { row: Row, values: Row },
 }
 
 impl Padoa {
-    /// Whether an existential has this bit wherever the matrix is true and it sees what it sees at this row: a rule that says so, whose cube
-    /// is a part of the row, or values that show that it hasn't. It stops for want of memory or at the log's limit, and may be called
-    /// again then.
+    /// Whether an existential has this bit wherever the matrix is true and it sees what it sees at
+    /// this row: a rule that says so, whose cube is a part of the row, or values that show that it
+    /// hasn't. It stops for want of memory or at the log's limit, and may be called again then.
     pub fn force<O: Oracle>(
         &mut self,
         oracle: &mut O,
@@ -54,8 +55,10 @@ impl Padoa {
         ensures fit { O.Fits oracle.new log.new }
         ensures same { self.new ≡ self.old }
         ensures padoa { IsPadoa f.now self.new log.new.entries }
-        ensures grew { (group : ℕ) → Grew (IsAddedBy f.now copies group true log.old.entries) log.old log.new }
-        ensures forced { (e : Existential) → existential_of f.now y ≡ Some e → IfOk result (IsForced f.now e row.now bit) }
+        ensures grew { (group : ℕ)
+            → Grew (IsAddedBy f.now copies group true log.old.entries) log.old log.new }
+        ensures forced { (e : Existential) → existential_of f.now y ≡ Some e
+            → IfOk result (IsForced f.now e row.now bit) }
         ensures limit { IsErrOf result Stop.Limit → steps_of log.new.entries ≡ log.new.limit }
     {
         names_are_unique();
@@ -80,7 +83,8 @@ impl Padoa {
     fn row_copies(&self, own: Lit, row: &Row, places: &[usize]) -> Result<Vec<Lit>, Memory>
         requires row { All (λ p. p < length row.now) places.now }
         requires copies { All (λ p. p < length self.now.first.universals.items) places.now }
-        ensures { IfOk result (λ lits. lits.items ≡ own ∷ row_copies self.now.first row.now places.now) }
+        ensures { IfOk result
+            (λ lits. lits.items ≡ own ∷ row_copies self.now.first row.now places.now) }
     {
         let mut lits = Vec::new(self.alloc);
         lits.push(own)?;
@@ -105,11 +109,14 @@ impl Padoa {
         requires apart { is_tautology asked.now ≡ false }
         ensures fit { O.Fits oracle.new log.new }
         ensures padoa { IsPadoa f.now self.now log.new.entries }
-        ensures grew { (group : ℕ) → Grew (IsAddedBy f.now copies group true log.old.entries) log.old log.new }
+        ensures grew { (group : ℕ)
+            → Grew (IsAddedBy f.now copies group true log.old.entries) log.old log.new }
         ensures told { result ≡ Ok Answer.Sat → O.is_told oracle.new ≡ true }
         ensures sat { result ≡ Ok Answer.Sat
-            → IsModelUnder (O.values oracle.new) (clause_at log.new.entries) (assumed (self.now.first.group ∷ []) asked.now) }
-        ensures unsat { (id : ℕ) → result ≡ Ok (Answer.Unsat id) → ShowsClause f.now log.new.entries asked.now id }
+            → IsModelUnder (O.values oracle.new) (clause_at log.new.entries)
+            (assumed (self.now.first.group ∷ []) asked.now) }
+        ensures unsat { (id : ℕ) → result ≡ Ok (Answer.Unsat id)
+            → ShowsClause f.now log.new.entries asked.now id }
         ensures limit { IsErrOf result Stop.Limit → steps_of log.new.entries ≡ log.new.limit }
     {
         derived_line_is_implied();

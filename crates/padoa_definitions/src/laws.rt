@@ -1,4 +1,5 @@
-//! What definitions say, and what leaves the copies as they stand. Each law is the contract of a function without parameters.
+//! What definitions say, and what leaves the copies as they stand. Each law is the contract of a
+//! function without parameters.
 
 ghost use Rattle.padoa_definitions.specs.Defining.{DefinitionsAreForced};
 ghost use Rattle.padoa_definitions.specs.Standing.{EnginesLeaveCopies, RoundsLeaveCopies};

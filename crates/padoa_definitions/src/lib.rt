@@ -1,9 +1,12 @@
-//! Padoa's method: whether an existential is defined by the universals that it sees and by earlier existentials that see no more.
+//! Padoa's method: whether an existential is defined by the universals that it sees and by earlier
+//! existentials that see no more.
 //!
-//! Two copies of the matrix are given to the oracle once, each in a group, and an equation between the copies of each variable, each in a
-//! group of its own. An existential is defined where the copies can't be true together while what its definition may read agrees and it
-//! is true in one copy alone: then an interpolant of the answer is its definition. Else the values that were found show that it isn't.
-//! The first copy alone shows whether it is forced to have a bit where it sees what it sees at a row.
+//! Two copies of the matrix are given to the oracle once, each in a group, and an equation between
+//! the copies of each variable, each in a group of its own. An existential is defined where the
+//! copies can't be true together while what its definition may read agrees and it is true in one
+//! copy alone: then an interpolant of the answer is its definition. Else the values that were found
+//! show that it isn't. The first copy alone shows whether it is forced to have a bit where it sees
+//! what it sees at a row.
 #![tactic(auto)]
 
 pub use copies::MatrixCopy;

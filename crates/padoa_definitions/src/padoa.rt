@@ -14,7 +14,8 @@ use hint_log::Log;
 use oracle::{Group, Oracle};
 use std::alloc::Global;
 
-/// What was given to the oracle once: two copies of the matrix, and an equation for each declared variable.
+/// What was given to the oracle once: two copies of the matrix, and an equation for each declared
+/// variable.
 #[derive(Debug, Drop)]
 pub struct Padoa {
     pub(crate) alloc: Global,
@@ -36,9 +37,11 @@ impl Padoa {
         requires none { HasNone copies log.old.entries }
         requires few { HasFewFaults log.old.entries }
         ensures fit { O.Fits oracle.new log.new }
-        ensures grew { (group : ℕ) → Grew (IsAddedBy f.now copies group true log.old.entries) log.old log.new }
+        ensures grew { (group : ℕ)
+            → Grew (IsAddedBy f.now copies group true log.old.entries) log.old log.new }
         ensures made { IfOk result (λ p. IsPadoa f.now p log.new.entries) }
-        ensures fresh { IfOk result (λ p. All (λ g. name_of log.old.entries g ≡ None) (groups_of p)) }
+        ensures fresh { IfOk result
+            (λ p. All (λ g. name_of log.old.entries g ≡ None) (groups_of p)) }
     {
         let who = oracle.tenant()?;
         let setup = Setup {

@@ -79,10 +79,14 @@ impl Padoa {
     /// The values of both copies that a search found.
     pub(crate) fn pair<O: Oracle>(&self, oracle: &O) -> Result<Pair, Memory>
         requires told { O.is_told oracle.now ≡ true }
-        requires first_universals { All (λ l. O.HasVariable oracle.now (variable_of l)) self.now.first.universals.items }
-        requires first_existentials { All (λ l. O.HasVariable oracle.now (variable_of l)) self.now.first.existentials.items }
-        requires second_universals { All (λ l. O.HasVariable oracle.now (variable_of l)) self.now.second.universals.items }
-        requires second_existentials { All (λ l. O.HasVariable oracle.now (variable_of l)) self.now.second.existentials.items }
+        requires first_universals { All (λ l. O.HasVariable oracle.now (variable_of l))
+            self.now.first.universals.items }
+        requires first_existentials { All (λ l. O.HasVariable oracle.now (variable_of l))
+            self.now.first.existentials.items }
+        requires second_universals { All (λ l. O.HasVariable oracle.now (variable_of l))
+            self.now.second.universals.items }
+        requires second_existentials { All (λ l. O.HasVariable oracle.now (variable_of l))
+            self.now.second.existentials.items }
         ensures { IfOk result (IsPairOf self.now (O.values oracle.now)) }
     {
         let row1 = row_of_values(self.alloc, oracle, &self.first.universals)?;

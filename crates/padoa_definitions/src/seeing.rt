@@ -48,7 +48,8 @@ pub(crate) fn shared_places(alloc: Global, f: &Formula, y: u64) -> Result<Vec<us
 // Puts the places of existentials behind others, as places of declared variables.
 fn push_existentials(places: &mut Vec<usize>, f: &Formula, more: &[usize]) -> Result<(), Memory>
     requires { All (λ k. k < length f.now.existentials) more.now }
-    ensures { OnOk result (places.new.items ≡ places.old.items ++ map (λ k. length f.now.universals + k) more.now) }
+    ensures { OnOk result
+        (places.new.items ≡ places.old.items ++ map (λ k. length f.now.universals + k) more.now) }
 {
     f.every_formula_is_lawful();
     let first = f.universals().len();

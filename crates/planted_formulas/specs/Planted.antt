@@ -1,6 +1,7 @@
--- Formulas with planted functions: each existential is a gate over two universals, which are all that it sees, and the matrix is the
--- gates' clauses (G. S. Tseitin, 1968). What stands where is drawn by a linear congruential generator, with the multiplier and the
--- increment of the example of `rand` in the C standard.
+-- Formulas with planted functions: each existential is a gate over two universals, which are all
+-- that it sees, and the matrix is the gates' clauses (G. S. Tseitin, 1968). What stands where is
+-- drawn by a linear congruential generator, with the multiplier and the increment of the example of
+-- `rand` in the C standard.
 use Rattle.std.specs.Prelude.{ℕ, zero, suc, ◌+◌, ◌*◌, ◌/◌, ◌%◌, ◌==◌, List, [], ◌∷◌, map, if◌then◌else◌}
 use Rattle.std.specs.List.{flat_map, range_with_len}
 use Rattle.dq_lits.specs.Literal.{Literal, positive, negative}
@@ -21,7 +22,8 @@ state_after seed (suc draws) = next_state (state_after seed draws)
 abbrev pub drawn : ℕ → ℕ → ℕ
 drawn state bound = (state / 65536) % bound
 
--- a universal other than `a` of those from 1 to n: `b`, or where it is the same, the one behind it, and 1 behind the last
+-- a universal other than `a` of those from 1 to n: `b`, or where it is the same, the one behind it,
+-- and 1 behind the last
 abbrev pub other_than : ℕ → ℕ → ℕ → ℕ
 other_than n a b = if b == a then a % n + 1 else b
 
@@ -36,9 +38,12 @@ gate_by n output first second third = record {
 
 -- the gate that is drawn next
 abbrev pub next_gate : ℕ → ℕ → ℕ → PlantedGate
-next_gate n output state = gate_by n output (next_state state) (next_state (next_state state)) (next_state (next_state (next_state state)))
+next_gate n output state =
+    gate_by n output (next_state state) (next_state (next_state state))
+    (next_state (next_state (next_state state)))
 
--- the gate at a place, counted from 0, behind three draws for each gate before it: its variable is behind the universals'
+-- the gate at a place, counted from 0, behind three draws for each gate before it: its variable is
+-- behind the universals'
 abbrev pub planted_gate : ℕ → ℕ → ℕ → PlantedGate
 planted_gate seed n place = next_gate n (n + 1 + place) (state_after seed (3 * place))
 
@@ -46,7 +51,9 @@ abbrev pub planted_gates : ℕ → ℕ → ℕ → List PlantedGate
 planted_gates seed n count = map (planted_gate seed n) (range_with_len 0 count)
 
 abbrev pub and_clauses : ℕ → ℕ → ℕ → List (List Literal)
-and_clauses y a b = (negative y ∷ positive a ∷ []) ∷ (negative y ∷ positive b ∷ []) ∷ (positive y ∷ negative a ∷ negative b ∷ []) ∷ []
+and_clauses y a b =
+    (negative y ∷ positive a ∷ []) ∷ (negative y ∷ positive b ∷ [])
+    ∷ (positive y ∷ negative a ∷ negative b ∷ []) ∷ []
 
 abbrev pub xor_clauses : ℕ → ℕ → ℕ → List (List Literal)
 xor_clauses y a b =
@@ -55,11 +62,13 @@ xor_clauses y a b =
 
 -- that the gate's variable has its value
 abbrev pub gate_clauses : PlantedGate → List (List Literal)
-gate_clauses g = if g.is_xor then xor_clauses g.output g.left g.right else and_clauses g.output g.left g.right
+gate_clauses g =
+    if g.is_xor then xor_clauses g.output g.left g.right else and_clauses g.output g.left g.right
 
 -- it sees the two universals of its gate
 abbrev pub gate_existential : List ℕ → PlantedGate → Existential
-gate_existential universals g = record { variable = g.output; sees = listed_universals universals (g.left ∷ g.right ∷ []) }
+gate_existential universals g =
+    record { variable = g.output; sees = listed_universals universals (g.left ∷ g.right ∷ []) }
 
 -- universals 1 to n, and gates over them
 abbrev pub formula_of_gates : ℕ → ℕ → List PlantedGate → Dqbf
@@ -72,4 +81,5 @@ formula_of_gates variables n gates = record {
 
 -- as many gates as are asked for, over one universal more
 abbrev pub planted_formula : ℕ → ℕ → Dqbf
-planted_formula seed size = formula_of_gates (size + 1 + size) (size + 1) (planted_gates seed (size + 1) size)
+planted_formula seed size =
+    formula_of_gates (size + 1 + size) (size + 1) (planted_gates seed (size + 1) size)

@@ -13,7 +13,8 @@ pub(crate) fn add_clauses(f: &mut Formula, gate: &PlantedGate) -> Result<(), Mem
     requires left { (1 ≤ gate.now.left) × (gate.now.left ≤ f.old.variables) }
     requires right { (1 ≤ gate.now.right) × (gate.now.right ≤ f.old.variables) }
     requires few { length f.old.matrix + 4 ≤ MAX_CLAUSES }
-    ensures { OnOk result (f.new ≡ record f.old { matrix = f.old.matrix ++ gate_clauses gate.now }) }
+    ensures { OnOk result
+        (f.new ≡ record f.old { matrix = f.old.matrix ++ gate_clauses gate.now }) }
 {
     f.every_formula_is_lawful();
     if gate.is_xor {

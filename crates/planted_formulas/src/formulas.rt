@@ -36,7 +36,8 @@ pub fn planted_formula(alloc: Global, seed: u64, size: u64) -> Result<Formula, M
 fn add_universals(f: &mut Formula, n: u64) -> Result<(), Memory>
     requires in_range { n ≤ f.old.variables }
     requires few { n < 2 ^ 31 }
-    requires none { f.old ≡ record { variables = f.old.variables; universals = []; existentials = []; matrix = [] } }
+    requires none { f.old
+        ≡ record { variables = f.old.variables; universals = []; existentials = []; matrix = [] } }
     ensures { OnOk result (f.new ≡ formula_of_gates f.old.variables n []) }
 {
     for place in 0..n {

@@ -1,4 +1,5 @@
-//! What holds of the formulas. A law is the contract of a function without parameters: who calls it may use what it ensures.
+//! What holds of the formulas. A law is the contract of a function without parameters: who calls it
+//! may use what it ensures.
 
 ghost use Rattle.std.specs.Prelude.{ℕ, ◌≤◌};
 ghost use Rattle.dq_lits.specs.Formula.{IsWellFormed};

@@ -1,5 +1,5 @@
--- Whether a derivation shows that a circuit makes every clause of a formula true: it refutes that the gates have their values
--- and some clause is false.
+-- Whether a derivation shows that a circuit makes every clause of a formula true: it refutes that
+-- the gates have their values and some clause is false.
 use Rattle.std.specs.Prelude.{ℕ, ◌*◌, ◌==◌, List, slice_index, Option, if◌then◌else◌}
 use Rattle.std.specs.List.{list_any, position_or_len}
 use Rattle.dq_lits.specs.Derivation.{LiveClauses, ProofStep, ProofFault, proof_fault}
@@ -7,7 +7,8 @@ use Rattle.cert_text.specs.NegatedMatrix.{negated_matrix}
 use Rattle.skolem_checker.specs.Checks.{Candidate}
 use Rattle.skolem_checker.specs.SkolemCircuit.{MappedCircuit}
 
--- the literal for a variable of the formula: its input's, where an input stands for it, and else its output's
+-- the literal for a variable of the formula: its input's, where an input stands for it, and else
+-- its output's
 abbrev pub circuit_literal : MappedCircuit → ℕ → ℕ
 circuit_literal c v =
     if list_any (λ x. x == v) c.mapping.inputs
@@ -18,6 +19,7 @@ circuit_literal c v =
 abbrev pub negated_candidate : Candidate → LiveClauses
 negated_candidate c = negated_matrix c.formula c.circuit.netlist (circuit_literal c.circuit)
 
--- the first line that isn't derived from these clauses and the lines before it, or that the last one isn't empty
+-- the first line that isn't derived from these clauses and the lines before it, or that the last
+-- one isn't empty
 abbrev pub circuit_proof_fault : Candidate → List ProofStep → Option ProofFault
 circuit_proof_fault c steps = proof_fault (negated_candidate c) steps

@@ -1,4 +1,5 @@
--- Words of private contracts: the clauses of the negated matrix one at a time, in the forms that take no memory.
+-- Words of private contracts: the clauses of the negated matrix one at a time, in the forms that
+-- take no memory.
 use Rattle.std.specs.Prelude.{ℕ, ◌+◌, ◌==◌, not, List, [], ◌∷◌, ◌++◌, map, length, Option, None, Some}
 use Rattle.std.specs.List.{filter, range_with_len}
 use Rattle.dq_lits.specs.Literal.{Literal, positive}
@@ -21,7 +22,9 @@ short_literals c = optional c.first ++ (optional c.second ++ optional c.third)
 
 -- the clause that some clause of the formula is false
 abbrev pub last_literals : Candidate → List Literal
-last_literals c = map (λ bad. positive bad) (range_with_len (c.circuit.netlist.max_var + 1) (length c.formula.matrix))
+last_literals c =
+    map (λ bad. positive bad)
+    (range_with_len (c.circuit.netlist.max_var + 1) (length c.formula.matrix))
 
 -- the literals of a clause in one of these forms
 abbrev pub literals_of : Candidate → NegatedClause → Option (List Literal)

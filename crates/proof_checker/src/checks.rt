@@ -17,12 +17,12 @@ use skolem_checker::Bench;
 use sparse_proofs::first_fault;
 use std::alloc::Global;
 
-/// Whether a proof shows that a circuit makes every clause true: every line is derived, in order, from the negated matrix
-/// and the lines before it, and the last line is the empty clause. Else it answers the first line that isn't derived, or
-/// that the empty clause is missing.
+/// Whether a proof shows that a circuit makes every clause true: every line is derived, in order,
+/// from the negated matrix and the lines before it, and the last line is the empty clause. Else it
+/// answers the first line that isn't derived, or that the empty clause is missing.
 ///
-/// It takes memory for the lines, for the variables that occur in them and in the clauses that they hint, and for the
-/// formula, whatever the circuit's largest variable is.
+/// It takes memory for the lines, for the variables that occur in them and in the clauses that they
+/// hint, and for the formula, whatever the circuit's largest variable is.
 pub fn by_proof(alloc: Global, bench: &Bench, p: &Dqp) -> Result<(), ProofFault>
     requires few { bench.now.circuit.netlist.max_var ≤ max_count }
     requires lawful { IsDqpOf bench.now.formula bench.now.circuit.netlist p.now }
@@ -54,7 +54,8 @@ fn lines_fault(
     steps: &StepList,
 ) -> Result<Option<LineFault>, Memory>
     requires { AreProofLines bench.now first steps.now }
-    ensures { IfOk result (λ fault. proof_fault_in fault ≡ circuit_proof_fault bench.now steps.now) }
+    ensures { IfOk result
+        (λ fault. proof_fault_in fault ≡ circuit_proof_fault bench.now steps.now) }
 {
     bench.circuit().every_circuit_is_a_netlist();
     let _ = bench.formula().clauses();

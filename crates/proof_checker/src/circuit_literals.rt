@@ -25,7 +25,11 @@ impl<'c> Model for CircuitLiterals<'c> {
 
     ghost Value = { MappedCircuit };
 
-    ghost view = { λ c. record { netlist = c.circuit.now; mapping = record { inputs = c.inputs; outputs = c.outputs } } };
+    ghost view = { λ c.
+        record {
+          netlist = c.circuit.now;
+          mapping = record { inputs = c.inputs; outputs = c.outputs };
+        } };
 }
 
 // The variables by place.

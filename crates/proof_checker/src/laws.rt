@@ -1,5 +1,5 @@
-//! What a circuit's proof without a fault shows. Each law is the contract of a function that does nothing: who calls it may
-//! use what it ensures.
+//! What a circuit's proof without a fault shows. Each law is the contract of a function that does
+//! nothing: who calls it may use what it ensures.
 
 ghost use Rattle.std.specs.Prelude.{◌≡◌, List, Ok, None};
 ghost use Rattle.dq_lits.specs.Derivation.{ProofStep};
@@ -15,11 +15,14 @@ ghost use Rattle.proof_checker.specs.CircuitProof.{circuit_proof_fault};
 use dq_lits::laws::derivation_is_sound;
 use skolem_checker::laws::{skolem_circuit_shows_true, tested_circuit_is_skolem};
 
-/// Where the negated matrix is refuted, every clause is true under every row of the universals with the outputs' values.
+/// Where the negated matrix is refuted, every clause is true under every row of the universals with
+/// the outputs' values.
 pub fn refuted_negation_solves()
-    ensures { (c : Candidate) (symbols : SymbolTable) (steps : List ProofStep) → IsWellFormed c.formula
+    ensures { (c : Candidate) (symbols : SymbolTable) (steps : List ProofStep)
+        → IsWellFormed c.formula
         → IsNetlist c.circuit.netlist → IsComplete c.circuit.netlist
-        → candidate_of c.formula c.circuit.netlist symbols ≡ Ok c → circuit_proof_fault c steps ≡ None
+        → candidate_of c.formula c.circuit.netlist symbols ≡ Ok c
+        → circuit_proof_fault c steps ≡ None
         → (m : Assignment) → FollowsCircuit c.formula c.circuit m → MatrixHolds c.formula m }
 {
     derivation_is_sound();
@@ -27,10 +30,12 @@ pub fn refuted_negation_solves()
 
 /// A circuit that is mapped, reads declared universals alone and has a proof is a Skolem circuit.
 pub fn proved_circuit_is_skolem()
-    ensures { (c : Candidate) (symbols : SymbolTable) (steps : List ProofStep) → IsWellFormed c.formula
+    ensures { (c : Candidate) (symbols : SymbolTable) (steps : List ProofStep)
+        → IsWellFormed c.formula
         → IsNetlist c.circuit.netlist → IsComplete c.circuit.netlist
         → candidate_of c.formula c.circuit.netlist symbols ≡ Ok c
-        → IsReadsAnswer (ReadsUniversal c.circuit) c.formula (Ok tt) → circuit_proof_fault c steps ≡ None
+        → IsReadsAnswer (ReadsUniversal c.circuit) c.formula (Ok tt)
+        → circuit_proof_fault c steps ≡ None
         → IsSkolemCircuit c.formula c.circuit.netlist symbols }
 {
     refuted_negation_solves();
@@ -39,10 +44,12 @@ pub fn proved_circuit_is_skolem()
 
 /// Such a circuit shows that the formula is true.
 pub fn proved_circuit_shows_true()
-    ensures { (c : Candidate) (symbols : SymbolTable) (steps : List ProofStep) → IsWellFormed c.formula
+    ensures { (c : Candidate) (symbols : SymbolTable) (steps : List ProofStep)
+        → IsWellFormed c.formula
         → IsNetlist c.circuit.netlist → IsComplete c.circuit.netlist
         → candidate_of c.formula c.circuit.netlist symbols ≡ Ok c
-        → IsReadsAnswer (ReadsUniversal c.circuit) c.formula (Ok tt) → circuit_proof_fault c steps ≡ None
+        → IsReadsAnswer (ReadsUniversal c.circuit) c.formula (Ok tt)
+        → circuit_proof_fault c steps ≡ None
         → IsTrueFormula c.formula }
 {
     proved_circuit_is_skolem();

@@ -1,9 +1,10 @@
-//! Circuits' proofs: whether the steps of a `dqp` show that a circuit makes every clause of a formula true, for
-//! any number of universals.
+//! Circuits' proofs: whether the steps of a `dqp` show that a circuit makes every clause of a
+//! formula true, for any number of universals.
 //!
-//! The lines refute the negated matrix, the clauses which say that the gates have their values and some clause of the
-//! formula is false. Its clauses are read off the circuit and the formula as the lines hint them, and variables are
-//! numbered as they occur, so that memory follows the lines that are there, whatever numbers they name.
+//! The lines refute the negated matrix, the clauses which say that the gates have their values and
+//! some clause of the formula is false. Its clauses are read off the circuit and the formula as the
+//! lines hint them, and variables are numbered as they occur, so that memory follows the lines that
+//! are there, whatever numbers they name.
 #![tactic(auto)]
 
 pub use checks::by_proof;

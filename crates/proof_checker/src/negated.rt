@@ -20,7 +20,8 @@ use skolem_checker::Bench;
 use std::alloc::Global;
 use std::marker::Model;
 
-/// The negated matrix of a formula under a circuit. It takes memory as the formula does; a clause takes none.
+/// The negated matrix of a formula under a circuit. It takes memory as the formula does; a clause
+/// takes none.
 #[derive(Drop)]
 pub(crate) struct NegatedMatrix<'b> {
     formula: &'b Formula,
@@ -75,7 +76,9 @@ fn push_literals(all: &mut Vec<(u64, Lit)>, bad: u64, clause: &[Lit]) -> Result<
 // One of the clauses of the gates, of which each has three; none where a constant makes it true.
 fn gate_clause(circuit: &Circuit, i: u64) -> Option<ShortClause>
     requires { i / 3 < length circuit.now.gates }
-    ensures { option_map short_literals result ≡ option_and_then without_constants (slice_get (flat_map gate_clauses circuit.now.gates) i) }
+    ensures { option_map short_literals result
+        ≡ option_and_then without_constants
+        (slice_get (flat_map gate_clauses circuit.now.gates) i) }
 {
     circuit.every_circuit_is_a_netlist();
     let (variable, left, right) = circuit.gate((i / 3) as usize);
@@ -113,7 +116,8 @@ impl<'b> NegatedMatrix<'b> {
 
     // The clause at a place behind those of the gates.
     fn formula_clause(&self, i: u64) -> NegatedClause
-        ensures { literals_of self.now result ≡ option_and_then without_constants (slice_get (formula_clauses self.now) i) }
+        ensures { literals_of self.now result
+            ≡ option_and_then without_constants (slice_get (formula_clauses self.now) i) }
     {
         let literals: &[(u64, Lit)] = &self.literals;
         let _ = self.formula.clauses();

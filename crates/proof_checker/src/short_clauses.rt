@@ -1,4 +1,5 @@
-//! Clauses of at most three of a circuit's literals, with the constants put in. They take no memory.
+//! Clauses of at most three of a circuit's literals, with the constants put in. They take no
+//! memory.
 
 ghost use Rattle.std.specs.Prelude.{◌≡◌, ◌≢◌, ◌==◌, ◌<◌, ◌≤◌, ◌∷◌, [], length, take, Some, IsSome};
 ghost use Rattle.std.specs.List.{list_any, slice_get};

@@ -12,4 +12,5 @@ abbrev pub stand_in : List ℕ → ℕ → ℕ
 stand_in alike v = let w = slice_index_or alike v 0 in if w == 0 then v else w
 
 abbrev pub AreAlike : Dqbf → List ℕ → Type 0
-AreAlike f alike = (v : ℕ) → set_of (existential_of f (stand_in alike v)) ≡ set_of (existential_of f v)
+AreAlike f alike =
+    (v : ℕ) → set_of (existential_of f (stand_in alike v)) ≡ set_of (existential_of f v)

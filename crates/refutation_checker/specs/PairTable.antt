@@ -17,7 +17,8 @@ abbrev pub expanded : Dqbf → List (List Bool) → Expanded
 expanded f rows = record { formula = f; rows = rows }
 
 -- whole rows, existentials with one dependency set, and first rows for some blocks
-pub record IsPairTable (f : Dqbf) (rows : List (List Bool)) (alike : List ℕ) (lowest : ℕ) (numbers : List ℕ) (firsts : List (List ℕ)) : Type 0 where
+pub record IsPairTable (f : Dqbf) (rows : List (List Bool)) (alike : List ℕ) (lowest : ℕ)
+    (numbers : List ℕ) (firsts : List (List ℕ)) : Type 0 where
   pub few : length rows ≤ max_count
   pub whole : All (λ row. length row ≡ length f.universals) rows
   pub stands : AreAlike f alike
@@ -32,8 +33,10 @@ AreBlocks n numbers = All (IsBlock n.formula (length n.rows)) numbers
 -- the literals of the clause at j under the row at k, on their pairs
 abbrev pub instance_literals : Dqbf → List (List Bool) → ℕ × ℕ → List Literal
 instance_literals f rows at =
-    map (λ l. on_variable (pair_of f rows (slice_index_or rows at.0 []) (variable_of l)) l) (existential_part f (slice_index_or f.matrix at.1 []))
+    map (λ l. on_variable (pair_of f rows (slice_index_or rows at.0 []) (variable_of l)) l)
+    (existential_part f (slice_index_or f.matrix at.1 []))
 
 -- the clause at j under the row at k
 abbrev pub instance_in : Dqbf → List (List Bool) → ℕ × ℕ → Option (List Literal)
-instance_in f rows at = instance_clause f rows (slice_index_or rows at.0 []) (slice_index_or f.matrix at.1 [])
+instance_in f rows at =
+    instance_clause f rows (slice_index_or rows at.0 []) (slice_index_or f.matrix at.1 [])

@@ -28,7 +28,8 @@ IsBlock f rows number = IsSome (existential_of f (number / blocks rows))
 -- the first rows that agree with each row of such a block
 abbrev pub block_firsts : Dqbf → List (List Bool) → ℕ → List ℕ
 block_firsts f rows number =
-    map (first_row f rows (number / blocks (length rows))) (take 16 (drop (number % blocks (length rows) * 16) rows))
+    map (first_row f rows (number / blocks (length rows)))
+    (take 16 (drop (number % blocks (length rows) * 16) rows))
 
 -- the existential literals of a clause
 abbrev pub existential_part : Dqbf → List Literal → List Literal

@@ -1,5 +1,5 @@
--- Whether an expansion refutation proves that a formula is false: its lines are derived from the instances of the
--- clauses under its rows, and the last line is the empty clause.
+-- Whether an expansion refutation proves that a formula is false: its lines are derived from the
+-- instances of the clauses under its rows, and the last line is the empty clause.
 use Rattle.std.specs.Prelude.{ℕ, ◌+◌, ◌-◌, ◌/◌, ◌%◌, Bool, List, map, Option, None, Some}
 use Rattle.std.specs.List.{slice_get}
 use Rattle.dq_lits.specs.Derivation.{ProofStep, ProofFault, proof_fault}
@@ -14,10 +14,12 @@ normal_of f rows number (Some row) (Some y) = pair_number f rows row y
 normal_of f rows number (Some row) None = number
 normal_of f rows number None _ = number
 
--- a line may name the pair of y under row k by (k - 1) * V + y, also where an earlier row agrees with row k on what y sees
+-- a line may name the pair of y under row k by (k - 1) * V + y, also where an earlier row agrees
+-- with row k on what y sees
 abbrev pub normal_number : Dqbf → List (List Bool) → ℕ → ℕ
 normal_number f rows number =
-    normal_of f rows number (slice_get rows ((number - 1) / f.variables)) (existential_of f ((number - 1) % f.variables + 1))
+    normal_of f rows number (slice_get rows ((number - 1) / f.variables))
+    (existential_of f ((number - 1) % f.variables + 1))
 
 abbrev pub normal_literal : Dqbf → List (List Bool) → Literal → Literal
 normal_literal f rows l = on_variable (normal_number f rows (variable_of l)) l

@@ -9,7 +9,8 @@ use dq_lits::Memory;
 use std::alloc::Global;
 use std::collections::BTreeMap;
 
-/// By variable, an existential with the same dependency set: the first one that has it in the same form.
+/// By variable, an existential with the same dependency set: the first one that has it in the same
+/// form.
 pub(crate) fn alike_existentials(alloc: Global, f: &Formula) -> Result<Vec<u64>, Memory>
     ensures { IfOk result (λ alike. AreAlike f.now alike.items) }
 {

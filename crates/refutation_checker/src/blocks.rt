@@ -1,9 +1,9 @@
-//! Which blocks of rows occur in a refutation, with which dependency sets: those of its lines, and of the instances that
-//! they hint, as far as these can be read.
+//! Which blocks of rows occur in a refutation, with which dependency sets: those of its lines, and
+//! of the instances that they hint, as far as these can be read.
 //!
-//! Before the hint at place i a line has assigned no more than its own literals and one for each earlier hint. So an
-//! instance that is no use has its second literal that isn't false among the next two, and is read no further: what is
-//! kept follows the lines, however long the clauses are.
+//! Before the hint at place i a line has assigned no more than its own literals and one for each
+//! earlier hint. So an instance that is no use has its second literal that isn't false among the
+//! next two, and is read no further: what is kept follows the lines, however long the clauses are.
 
 ghost use Rattle.std.specs.Prelude.{◌≡◌, ◌<◌, true, length, All, IfOk, OnOk, IsSome, map};
 ghost use Rattle.dq_lits.specs.Formula.{existential_of};
@@ -18,14 +18,16 @@ use dq_lits::{Clause, Lit, Memory};
 use number_tables::NumberSet;
 use std::alloc::Global;
 
-// The blocks that were seen. Many literals in turn stand in one block: the latest one isn't looked up again.
+// The blocks that were seen. Many literals in turn stand in one block: the latest one isn't looked
+// up again.
 #[derive(Drop)]
 struct SeenBlocks {
     numbers: NumberSet,
     latest: u64,
 }
 
-/// Finds and keeps the first rows of all that occurs in some steps and in the instances that they hint.
+/// Finds and keeps the first rows of all that occurs in some steps and in the instances that they
+/// hint.
 pub(crate) fn learn_steps(
     alloc: Global,
     table: &mut PairTable,
@@ -33,7 +35,10 @@ pub(crate) fn learn_steps(
     steps: &StepList,
 ) -> Result<(), Memory>
     requires parts { parts.now ≡ map (existential_part table.old.formula) table.old.formula.matrix }
-    requires pairs { All (λ step. All (λ l. is_pair_number table.old.formula (length table.old.rows) (variable_of l) ≡ true) step.literals) steps.now }
+    requires pairs { All
+        (λ step.
+        All (λ l. is_pair_number table.old.formula (length table.old.rows) (variable_of l)
+        ≡ true) step.literals) steps.now }
     ensures { table.new ≡ table.old }
 {
     let blocks = blocks_of(alloc, table, parts, steps)?;
@@ -48,7 +53,10 @@ fn blocks_of(
     steps: &StepList,
 ) -> Result<Vec<u64>, Memory>
     requires parts { parts.now ≡ map (existential_part table.now.formula) table.now.formula.matrix }
-    requires pairs { All (λ step. All (λ l. is_pair_number table.now.formula (length table.now.rows) (variable_of l) ≡ true) step.literals) steps.now }
+    requires pairs { All
+        (λ step.
+        All (λ l. is_pair_number table.now.formula (length table.now.rows) (variable_of l)
+        ≡ true) step.literals) steps.now }
     ensures { IfOk result (λ blocks. AreBlocks table.now blocks.items) }
 {
     let mut seen = SeenBlocks {
@@ -68,7 +76,10 @@ fn see_steps(
     seen: &mut SeenBlocks,
 ) -> Result<(), Memory>
     requires parts { parts.now ≡ map (existential_part table.now.formula) table.now.formula.matrix }
-    requires pairs { All (λ step. All (λ l. is_pair_number table.now.formula (length table.now.rows) (variable_of l) ≡ true) step.literals) steps.now }
+    requires pairs { All
+        (λ step.
+        All (λ l. is_pair_number table.now.formula (length table.now.rows) (variable_of l)
+        ≡ true) step.literals) steps.now }
     requires seen { AreBlocks table.now seen.old.numbers }
     ensures { OnOk result (AreBlocks table.now seen.new.numbers) }
 {
@@ -130,7 +141,8 @@ fn see_part(
     k: usize,
     seen: &mut SeenBlocks,
 ) -> Result<(), Memory>
-    requires declared { All (λ l. IsSome (existential_of table.now.formula (variable_of l))) part.now }
+    requires declared { All (λ l. IsSome (existential_of table.now.formula (variable_of l)))
+        part.now }
     requires row { k < length table.now.rows }
     requires seen { AreBlocks table.now seen.old.numbers }
     ensures { OnOk result (AreBlocks table.now seen.new.numbers) }
@@ -146,7 +158,9 @@ fn see_part(
 
 // The blocks of a step.
 fn see_line(table: &PairTable, lits: &[Lit], seen: &mut SeenBlocks) -> Result<(), Memory>
-    requires pairs { All (λ l. is_pair_number table.now.formula (length table.now.rows) (variable_of l) ≡ true) lits.now }
+    requires pairs { All
+        (λ l. is_pair_number table.now.formula (length table.now.rows) (variable_of l) ≡ true)
+        lits.now }
     requires seen { AreBlocks table.now seen.old.numbers }
     ensures { OnOk result (AreBlocks table.now seen.new.numbers) }
 {

@@ -27,10 +27,11 @@ use std::alloc::Global;
 
 const MARKS_PER_LINE: usize = 32;
 
-/// Whether a refutation shows that a formula is false: every line is derived, in order, from the instances of the
-/// clauses under the rows and from the lines before it, and the last line is the empty clause. Else it answers the
-/// first line that isn't derived, or that the empty clause is missing. A pair may stand in a line by the number of any
-/// row that agrees on what its existential sees.
+/// Whether a refutation shows that a formula is false: every line is derived, in order, from the
+/// instances of the clauses under the rows and from the lines before it, and the last line is the
+/// empty clause. Else it answers the first line that isn't derived, or that the empty clause is
+/// missing. A pair may stand in a line by the number of any row that agrees on what its existential
+/// sees.
 pub fn check(alloc: Global, f: &Formula, d: &Dqr) -> Result<(), RefFault>
     requires well_formed { IsWellFormed f.now }
     requires lawful { IsDqrOf f.now d.now }
@@ -46,7 +47,8 @@ pub fn check(alloc: Global, f: &Formula, d: &Dqr) -> Result<(), RefFault>
     answer(fault)
 }
 
-// How many pairs have a mark at hand: all of them where the lines are not too few, so that memory follows the lines.
+// How many pairs have a mark at hand: all of them where the lines are not too few, so that memory
+// follows the lines.
 fn near_pairs(table: &PairTable, lines: usize) -> usize {
     let pairs = table
         .rows()
@@ -76,8 +78,12 @@ fn lines_fault(
     requires parts { parts.now ≡ map (existential_part table.now.formula) table.now.formula.matrix }
     requires clauses { clauses.now ≡ line_clauses table.now steps.now }
     requires few { length steps.now ≤ max_count }
-    requires numbered { AreSteps (is_pair_number table.now.formula (length table.now.rows)) (first_id table.now.formula (length table.now.rows)) steps.now }
-    ensures { IfOk result (λ fault. proof_fault_in fault ≡ proof_fault (instance_at table.now.formula table.now.rows) (normal_steps table.now steps.now)) }
+    requires numbered { AreSteps (is_pair_number table.now.formula (length table.now.rows))
+        (first_id table.now.formula (length table.now.rows)) steps.now }
+    ensures { IfOk result
+        (λ fault. proof_fault_in fault
+        ≡ proof_fault (instance_at table.now.formula table.now.rows)
+        (normal_steps table.now steps.now)) }
 {
     let first = table.first_line();
     let instances = Instances { table, parts };

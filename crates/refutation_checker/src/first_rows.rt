@@ -61,9 +61,9 @@ impl FirstRows {
 
 /// For each row, the first one that agrees with it on what an existential sees.
 ///
-/// The rows have labels, at first all the same. Each universal that the existential sees splits them: two rows still
-/// have the same label where they had the same and have the same bit. So it takes time for the rows, once for each such
-/// universal.
+/// The rows have labels, at first all the same. Each universal that the existential sees splits
+/// them: two rows still have the same label where they had the same and have the same bit. So it
+/// takes time for the rows, once for each such universal.
 pub(crate) fn first_rows(alloc: Global, f: &Formula, rows: &[Row], y: u64) -> Result<Ids, Memory>
     requires declared { IsSome (existential_of f.now y) }
     requires whole { All (λ other. length other ≡ length f.now.universals) rows.now }
@@ -177,10 +177,12 @@ fn note_all(alloc: Global, keys: &[u64], seen: &mut [usize]) -> Result<Ids, Memo
     Ok(places)
 }
 
-// The first place that was seen of a key: this one, unless there was another; `none` stands where there was none.
+// The first place that was seen of a key: this one, unless there was another; `none` stands where
+// there was none.
 fn note(seen: &mut [usize], key: usize, place: usize, none: usize) -> usize
     requires { key < length seen.old }
-    ensures first { result ≡ (if slice_index seen.old key == none then place else slice_index seen.old key) }
+    ensures first { result
+        ≡ (if slice_index seen.old key == none then place else slice_index seen.old key) }
     ensures noted { seen.new ≡ slice_set seen.old key result }
 {
     let before = seen[key];

@@ -14,7 +14,8 @@ pub(crate) struct Instances<'f, 'r, 't, 'p> {
     pub table: &'t PairTable<'f, 'r>,
     /// The existential literals of each clause.
     pub parts: &'p [Clause],
-    ghost parts_are: { parts.now ≡ map (existential_part table.now.formula) table.now.formula.matrix },
+    ghost parts_are: { parts.now
+        ≡ map (existential_part table.now.formula) table.now.formula.matrix },
 }
 
 impl<'f, 'r, 't, 'p> Base for Instances<'f, 'r, 't, 'p> {

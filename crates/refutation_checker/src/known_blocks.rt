@@ -10,8 +10,8 @@ use flat_lists::FlatLists;
 use number_tables::NumberSet;
 use std::alloc::Global;
 
-/// The first rows of some blocks. Blocks are counted from the lowest one, so that the numbers of blocks that stand side
-/// by side are small.
+/// The first rows of some blocks. Blocks are counted from the lowest one, so that the numbers of
+/// blocks that stand side by side are small.
 #[derive(Drop)]
 pub(crate) struct KnownBlocks {
     pub lowest: u64,
@@ -36,7 +36,8 @@ impl KnownBlocks {
     /// The first rows of a block, if they are kept.
     pub(crate) fn get(&self, block: u64) -> Option<&[u64]>
         requires { length self.now.firsts ≡ length self.now.numbers }
-        ensures { (f : Dqbf) (rows : List (List Bool)) → AreKnown f rows self.now.lowest self.now.numbers self.now.firsts
+        ensures { (f : Dqbf) (rows : List (List Bool))
+            → AreKnown f rows self.now.lowest self.now.numbers self.now.firsts
             → IfSome result (λ firsts. firsts.now ≡ block_firsts f rows block) }
     {
         if block < self.lowest {
@@ -49,7 +50,8 @@ impl KnownBlocks {
     /// Keeps the first rows of a block, unless it is below the lowest one or was kept before.
     pub(crate) fn put(&mut self, block: u64, firsts: &[u64]) -> Result<(), Memory>
         ensures { (f : Dqbf) (rows : List (List Bool)) → firsts.now ≡ block_firsts f rows block
-            → AreKnown f rows self.old.lowest self.old.numbers self.old.firsts → AreKnown f rows self.new.lowest self.new.numbers self.new.firsts }
+            → AreKnown f rows self.old.lowest self.old.numbers self.old.firsts
+            → AreKnown f rows self.new.lowest self.new.numbers self.new.firsts }
     {
         if block < self.lowest {
             return Ok(());

@@ -1,10 +1,10 @@
-//! Expansion refutations: whether the rows and steps of a `dqr` show that no choice of functions solves a
-//! formula.
+//! Expansion refutations: whether the rows and steps of a `dqr` show that no choice of functions
+//! solves a formula.
 //!
-//! The clauses of the formula are taken under each row of the universals (universal expansion), and each line has to be
-//! derived from these instances and the lines before it by hinted unit propagation. Neither the instances nor the pairs
-//! of rows and existentials are laid out: instances are read from the formula on demand, and a line marks the pairs that
-//! it assigns.
+//! The clauses of the formula are taken under each row of the universals (universal expansion), and
+//! each line has to be derived from these instances and the lines before it by hinted unit
+//! propagation. Neither the instances nor the pairs of rows and existentials are laid out:
+//! instances are read from the formula on demand, and a line marks the pairs that it assigns.
 #![tactic(auto)]
 
 pub use checks::check;

@@ -43,7 +43,10 @@ pub(crate) fn line_clauses(
     table: &PairTable,
     steps: &StepList,
 ) -> Result<FlatLists<Lit>, Memory>
-    requires { All (λ step. All (λ l. is_pair_number table.now.formula (length table.now.rows) (variable_of l) ≡ true) step.literals) steps.now }
+    requires { All
+        (λ step.
+        All (λ l. is_pair_number table.now.formula (length table.now.rows) (variable_of l)
+        ≡ true) step.literals) steps.now }
     ensures { IfOk result (λ clauses. clauses ≡ line_clauses table.now steps.now) }
 {
     let mut clauses = FlatLists::new(alloc);
@@ -57,7 +60,9 @@ pub(crate) fn line_clauses(
 
 // Puts a line's literals, on their pairs, in place of those in the buffer.
 fn take_clause(table: &PairTable, lits: &[Lit], clause: &mut Vec<Lit>) -> Result<(), Memory>
-    requires { All (λ l. is_pair_number table.now.formula (length table.now.rows) (variable_of l) ≡ true) lits.now }
+    requires { All
+        (λ l. is_pair_number table.now.formula (length table.now.rows) (variable_of l) ≡ true)
+        lits.now }
     ensures { OnOk result (clause.new.items ≡ line_clause table.now lits.now) }
 {
     clause.clear();

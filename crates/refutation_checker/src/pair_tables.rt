@@ -22,15 +22,16 @@ use dq_lits::{Lit, Memory, Row};
 use std::alloc::Global;
 use std::marker::Model;
 
-// How many rows a block has. In larger ones a row that occurs alone takes more memory; in smaller ones rows that occur
-// together do.
+// How many rows a block has. In larger ones a row that occurs alone takes more memory; in smaller
+// ones rows that occur together do.
 const BLOCK_ROWS: usize = 16;
 
 /// A formula's existentials under some rows: which pairs they are.
 ///
-/// For each dependency set and block of rows that it learnt it keeps the first row that agrees with each row of the
-/// block; others are found anew each time. So its memory is that of the formula and of the blocks that occur, and while
-/// it learns that of the rows once, however many existentials there are.
+/// For each dependency set and block of rows that it learnt it keeps the first row that agrees with
+/// each row of the block; others are found anew each time. So its memory is that of the formula and
+/// of the blocks that occur, and while it learns that of the rows once, however many existentials
+/// there are.
 #[derive(Drop)]
 pub(crate) struct PairTable<'f, 'r> {
     formula: &'f Formula,
@@ -48,7 +49,9 @@ impl<'f, 'r> Model for PairTable<'f, 'r> {
 
     ghost view = { λ t. expanded t.formula.now t.rows.now };
 
-    ghost invariant = { λ t. IsPairTable t.formula.now t.rows.now t.alike.items t.known.lowest t.known.numbers t.known.firsts };
+    ghost invariant = { λ t.
+        IsPairTable t.formula.now t.rows.now t.alike.items t.known.lowest t.known.numbers
+        t.known.firsts };
 }
 
 impl<'f, 'r> PairTable<'f, 'r> {
@@ -94,8 +97,8 @@ impl<'f, 'r> PairTable<'f, 'r> {
         (rows.len() / BLOCK_ROWS + 1) as u64
     }
 
-    /// The number of an existential's dependency set and the block of the row at `k`. In ascending order those of one
-    /// set stand side by side.
+    /// The number of an existential's dependency set and the block of the row at `k`. In ascending
+    /// order those of one set stand side by side.
     pub(crate) fn block(&self, y: u64, k: usize) -> u64
         requires declared { IsSome (existential_of self.now.formula y) }
         requires row { k < length self.now.rows }
@@ -113,7 +116,8 @@ impl<'f, 'r> PairTable<'f, 'r> {
     fn known_row(&self, y: u64, k: usize) -> Option<u64>
         requires declared { IsSome (existential_of self.now.formula y) }
         requires row { k < length self.now.rows }
-        ensures { IfSome result (λ first. first ≡ first_row self.now.formula self.now.rows y (row_at self.now k)) }
+        ensures { IfSome result
+            (λ first. first ≡ first_row self.now.formula self.now.rows y (row_at self.now k)) }
     {
         let block = self.block(y, k);
         match self.known.get(block) {
@@ -151,8 +155,8 @@ impl<'f, 'r> PairTable<'f, 'r> {
 
     /// Finds the first rows of these blocks, and keeps them in place of those that were kept.
     ///
-    /// Those of all rows are found for one dependency set at a time, and anew where the set changes: for blocks in
-    /// ascending order, once for each set.
+    /// Those of all rows are found for one dependency set at a time, and anew where the set
+    /// changes: for blocks in ascending order, once for each set.
     pub(crate) fn learn(&mut self, alloc: Global, blocks: &[u64]) -> Result<(), Memory>
         requires { AreBlocks self.old blocks.now }
         ensures { self.new ≡ self.old }
@@ -219,7 +223,8 @@ impl<'f, 'r> PairTable<'f, 'r> {
     pub(crate) fn literal(&self, l: Lit, y: u64, k: usize) -> Lit
         requires declared { IsSome (existential_of self.now.formula y) }
         requires row { k < length self.now.rows }
-        ensures { result ≡ on_variable (pair_of self.now.formula self.now.rows (row_at self.now k) y) l }
+        ensures { result
+            ≡ on_variable (pair_of self.now.formula self.now.rows (row_at self.now k) y) l }
     {
         let pair = self.pair(y, k);
         if l.is_neg() {
@@ -251,10 +256,11 @@ impl<'f, 'r> PairTable<'f, 'r> {
         (rows.len() * self.formula().clauses() + 1) as u64
     }
 
-    /// The places of the row and the clause whose instance has this id, if it has a clause: if no universal literal is
-    /// true.
+    /// The places of the row and the clause whose instance has this id, if it has a clause: if no
+    /// universal literal is true.
     pub(crate) fn instance(&self, id: u64) -> Option<(usize, usize)>
-        ensures within { IfSome result (λ at. (at.0 < length self.now.rows) × (at.1 < length self.now.formula.matrix)) }
+        ensures within { IfSome result
+            (λ at. (at.0 < length self.now.rows) × (at.1 < length self.now.formula.matrix)) }
         ensures clause { instance_at self.now.formula self.now.rows id
             ≡ option_map (instance_literals self.now.formula self.now.rows) result }
     {
@@ -270,7 +276,8 @@ impl<'f, 'r> PairTable<'f, 'r> {
 
     /// The places of the row and the clause whose instance has this id.
     pub(crate) fn places(&self, id: u64) -> Option<(usize, usize)>
-        ensures within { IfSome result (λ at. (at.0 < length self.now.rows) × (at.1 < length self.now.formula.matrix)) }
+        ensures within { IfSome result
+            (λ at. (at.0 < length self.now.rows) × (at.1 < length self.now.formula.matrix)) }
         ensures clause { instance_at self.now.formula self.now.rows id
             ≡ option_and_then (instance_in self.now.formula self.now.rows) result }
     {

@@ -47,7 +47,8 @@ definition_in (Defined node) = Some node
 definition_in (Free pair) = None
 
 -- what is known of the existentials' functions
-pub record AreKnown (f : Dqbf) (graph : AigGraph) (definitions : List (Option Node)) (rules : List Rule) : Type 0 where
+pub record AreKnown (f : Dqbf) (graph : AigGraph) (definitions : List (Option Node))
+    (rules : List Rule) : Type 0 where
   pub one_each : length definitions ≡ length f.existentials
   pub defined : AreDefinitions f graph definitions
   pub forced : All (IsRule f) rules
@@ -63,7 +64,8 @@ pub record AreApart (t : TableState) (c : Checker) (p : Padoa) : Type 0 where
   pub copies_checkers : All (λ g. g ≢ group_of c) (groups_of p)
 
 -- before a turn
-pub record IsSearch (f : Dqbf) (graph : AigGraph) (t : TableState) (c : Checker) (p : Padoa) (entries : List Entry) : Type 0 where
+pub record IsSearch (f : Dqbf) (graph : AigGraph) (t : TableState) (c : Checker) (p : Padoa)
+    (entries : List Entry) : Type 0 where
   pub kept : IsKept f entries
   pub undecided : IsUndecided f entries
   pub table : IsFullTable f t entries
@@ -74,13 +76,15 @@ pub record IsSearch (f : Dqbf) (graph : AigGraph) (t : TableState) (c : Checker)
   pub faults : length (fault_groups entries) ≤ rounds_of entries
 
 -- outputs that have the bits of a model of the instances under these rows, at all their pairs
-pub record AreCandidates (f : Dqbf) (rows : List (List Bool)) (output : Existential → OutputFunction) : Type 0 where
+pub record AreCandidates (f : Dqbf) (rows : List (List Bool))
+    (output : Existential → OutputFunction) : Type 0 where
   pub points : PointBits
   pub are_points : ArePoints f rows points
   pub agree : AgreeAtPairs f rows points output
 
 -- a node for each existential: such outputs, which read what they may
-pub record AreBuilt (f : Dqbf) (graph : AigGraph) (rows : List (List Bool)) (nodes : List Node) : Type 0 where
+pub record AreBuilt (f : Dqbf) (graph : AigGraph) (rows : List (List Bool))
+    (nodes : List Node) : Type 0 where
   pub one_each : length nodes ≡ length f.existentials
   pub are_nodes : All (IsNode graph) nodes
   pub reads : ReadDeclared f (outputs_of f graph nodes)
@@ -88,7 +92,8 @@ pub record AreBuilt (f : Dqbf) (graph : AigGraph) (rows : List (List Bool)) (nod
 
 -- the search goes on after the entries that were added, whatever checks the circuits
 abbrev pub GoesOn : Dqbf → TableState → Padoa → List Entry → List Entry → Type 0
-GoesOn f t p old new = (graph : AigGraph) (c : Checker) → IsSearch f graph t c p old → IsSearch f graph t c p new
+GoesOn f t p old new =
+    (graph : AigGraph) (c : Checker) → IsSearch f graph t c p old → IsSearch f graph t c p new
 
 -- no step was lost
 pub record LogGrew (old new : ProofLog) : Type 0 where
@@ -96,7 +101,8 @@ pub record LogGrew (old new : ProofLog) : Type 0 where
   pub limit : new.limit ≡ old.limit
 
 -- after candidates failed, before the round
-pub record AreRefuted (f : Dqbf) (t : TableState) (c : Checker) (p : Padoa) (entries : List Entry) : Type 0 where
+pub record AreRefuted (f : Dqbf) (t : TableState) (c : Checker) (p : Padoa)
+    (entries : List Entry) : Type 0 where
   pub kept : IsKept f entries
   pub undecided : IsUndecided f entries
   pub table : IsFullTable f t entries
@@ -106,7 +112,8 @@ pub record AreRefuted (f : Dqbf) (t : TableState) (c : Checker) (p : Padoa) (ent
   pub faults : length (fault_groups entries) ≤ rounds_of entries + 1
 
 -- after the round, before its row is added to the table
-pub record IsRoundLogged (f : Dqbf) (t : TableState) (c : Checker) (p : Padoa) (row : List Bool) (entries : List Entry) : Type 0 where
+pub record IsRoundLogged (f : Dqbf) (t : TableState) (c : Checker) (p : Padoa) (row : List Bool)
+    (entries : List Entry) : Type 0 where
   pub kept : IsKept f entries
   pub undecided : IsUndecided f entries
   pub table : IsTable f t entries
@@ -117,8 +124,10 @@ pub record IsRoundLogged (f : Dqbf) (t : TableState) (c : Checker) (p : Padoa) (
   pub apart : AreApart t c p
   pub faults : length (fault_groups entries) ≤ rounds_of entries
 
--- a node for each existential: the outputs are Skolem functions, and the last entry is an answer that shows it
-pub record IsShownTrue (f : Dqbf) (graph : AigGraph) (nodes : List Node) (log : ProofLog) (id : ℕ) : Type 0 where
+-- a node for each existential: the outputs are Skolem functions, and the last entry is an answer
+-- that shows it
+pub record IsShownTrue (f : Dqbf) (graph : AigGraph) (nodes : List Node) (log : ProofLog)
+    (id : ℕ) : Type 0 where
   pub one_each : length nodes ≡ length f.existentials
   pub are_nodes : All (IsNode graph) nodes
   pub functions : AreSkolemFunctions f (outputs_of f graph nodes)

@@ -30,8 +30,9 @@ pub enum Verdict {
     False(u64),
 }
 
-/// Decides a formula: outputs that are Skolem functions, or that there are none, each with the id of the logged answer that shows it. It
-/// stops for want of memory or at the log's limit; a verdict that needs no further step comes at the limit too.
+/// Decides a formula: outputs that are Skolem functions, or that there are none, each with the id
+/// of the logged answer that shows it. It stops for want of memory or at the log's limit; a verdict
+/// that needs no further step comes at the limit too.
 pub fn decide<O: Oracle>(
     alloc: Global,
     oracle: &mut O,
@@ -48,8 +49,10 @@ pub fn decide<O: Oracle>(
     ensures productive { IsProductiveLog f.now log.new.entries }
     ensures selectors { KeepsSelectors log.new.entries }
     ensures limit_same { log.new.limit ≡ log.old.limit }
-    ensures shown_true { (nodes : _) (id : ℕ) → result ≡ Ok (Verdict.True nodes id) → IsShownTrue f.now graph.new nodes log.new id }
-    ensures shown_false { (id : ℕ) → result ≡ Ok (Verdict.False id) → IsShownFalse f.now log.new id }
+    ensures shown_true { (nodes : _) (id : ℕ) → result ≡ Ok (Verdict.True nodes id)
+        → IsShownTrue f.now graph.new nodes log.new id }
+    ensures shown_false { (id : ℕ) → result ≡ Ok (Verdict.False id)
+        → IsShownFalse f.now log.new id }
     ensures undecided { OnErr result (IsUndecided f.now log.new.entries) }
     ensures limit { IsErrOf result Stop.Limit → steps_of log.new.entries ≡ log.new.limit }
 {

@@ -50,7 +50,8 @@ impl Definitions {
     // Nothing is known yet.
     fn none(alloc: Global, padoa: Padoa, gates: Gates, f: &Formula) -> Result<Definitions, Memory>
         ensures padoa { IfOk result (λ d. d.padoa ≡ padoa) }
-        ensures known { (graph : _) → IfOk result (λ d. AreKnown f.now graph d.nodes.items d.rules.items) }
+        ensures known { (graph : _)
+            → IfOk result (λ d. AreKnown f.now graph d.nodes.items d.rules.items) }
     {
         Ok(Definitions {
             padoa,
@@ -138,7 +139,8 @@ impl Definitions {
         Ok(())
     }
 
-    // The gate that the clauses state of an existential, else what the solver says of its definition.
+    // The gate that the clauses state of an existential, else what the solver says of its
+    // definition.
     fn ask<O: Oracle>(
         &mut self,
         oracle: &mut O,

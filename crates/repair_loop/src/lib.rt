@@ -1,5 +1,6 @@
-//! The search by counterexamples: candidates from a model of the expansion, a check of the circuits, and a row more where they fail
-//! (the loop of Pedant: F.-X. Reichl, F. Slivovsky, S. Szeider, "Certified DQBF solving by definition extraction", 2021).
+//! The search by counterexamples: candidates from a model of the expansion, a check of the
+//! circuits, and a row more where they fail (the loop of Pedant: F.-X. Reichl, F. Slivovsky, S.
+//! Szeider, "Certified DQBF solving by definition extraction", 2021).
 #![tactic(auto)]
 
 pub use decisions::{Verdict, decide};

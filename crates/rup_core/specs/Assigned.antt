@@ -2,7 +2,8 @@
 use Rattle.std.specs.Prelude.{ℕ, List}
 use Rattle.dq_lits.specs.Literal.{Literal}
 
--- the literals made true, newest first; there is room for those of the variables from 1 to `variables`
+-- the literals made true, newest first; there is room for those of the variables from 1 to
+-- `variables`
 pub record Assigned : Type 0 where
   pub variables : ℕ
   pub trues : List Literal

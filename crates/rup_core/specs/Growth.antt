@@ -6,7 +6,8 @@ use Rattle.dq_lits.specs.Derivation.{LiveClauses, ProofStep}
 
 -- lines have the ids from `first` on, one by one
 abbrev pub AreNumbered : ℕ → List ProofStep → Type 0
-AreNumbered first steps = (k : ℕ) (step : ProofStep) → slice_get steps k ≡ Some step → step.id ≡ first + k
+AreNumbered first steps =
+    (k : ℕ) (step : ProofStep) → slice_get steps k ≡ Some step → step.id ≡ first + k
 
 abbrev pub clause_of : Option ProofStep → Option (List Literal)
 clause_of None = None
@@ -15,4 +16,5 @@ clause_of (Some step) = Some step.literals
 -- the first `count` lines have clauses
 abbrev pub grown : LiveClauses → ℕ → List ProofStep → ℕ → LiveClauses
 grown live first steps count id =
-    if nat_lt id first then live id else (if nat_lt (id - first) count then clause_of (slice_get steps (id - first)) else None)
+    if nat_lt id first then live id
+    else (if nat_lt (id - first) count then clause_of (slice_get steps (id - first)) else None)

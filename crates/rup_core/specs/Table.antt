@@ -1,4 +1,5 @@
--- The values of variables: a table, in which variable v has place v - 1, and a map for the variables beyond it.
+-- The values of variables: a table, in which variable v has place v - 1, and a map for the
+-- variables beyond it.
 use Rattle.std.specs.Prelude.{◌≡◌, ℕ, suc, ◌<◌, Bool, true, false, List, length, slice_index_or, Option, None, Some}
 use Rattle.std.specs.BTreeMap.{BTreeMap, get}
 use Rattle.std.specs.Ordering.{nat_cmp}
@@ -15,7 +16,8 @@ IsTold Unassigned plain negated = (plain ≡ false) × (negated ≡ false)
 
 abbrev pub Tells : List TruthValue → List Literal → Type 0
 Tells values trues = (i : ℕ) → i < length values →
-    IsTold (slice_index_or values i Unassigned) (holds trues (positive (suc i))) (holds trues (negative (suc i)))
+    IsTold (slice_index_or values i Unassigned) (holds trues (positive (suc i)))
+    (holds trues (negative (suc i)))
 
 -- the value of a variable in the map
 abbrev pub far_value : Option Bool → TruthValue
@@ -24,12 +26,15 @@ far_value (Some true) = True
 far_value (Some false) = False
 
 abbrev pub TellsFar : ℕ → BTreeMap ℕ Bool → List Literal → Type 0
-TellsFar n far trues = (v : ℕ) → n < v → IsTold (far_value (get nat_cmp far v)) (holds trues (positive v)) (holds trues (negative v))
+TellsFar n far trues =
+    (v : ℕ) → n < v
+    → IsTold (far_value (get nat_cmp far v)) (holds trues (positive v)) (holds trues (negative v))
 
 -- a variable with a value stands in one of the literals
 abbrev pub StandsOnlyOn : List TruthValue → List Literal → Type 0
 StandsOnlyOn values literals = (i : ℕ) → i < length values →
-    holds literals (positive (suc i)) ≡ false → holds literals (negative (suc i)) ≡ false → slice_index_or values i Unassigned ≡ Unassigned
+    holds literals (positive (suc i)) ≡ false → holds literals (negative (suc i)) ≡ false
+    → slice_index_or values i Unassigned ≡ Unassigned
 
 abbrev pub is_assigned : TruthValue → Bool
 is_assigned True = true

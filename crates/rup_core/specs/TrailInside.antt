@@ -11,5 +11,6 @@ pub record IsTrail (t : Inside) : Type 0 where
   pub told : Tells t.near.items (reverse t.literals.items)
   pub far_told : TellsFar (length t.near.items) t.far (reverse t.literals.items)
   -- there is room for a literal of each variable of the table that has no value yet
-  pub room : length t.literals.items + length t.near.items ≤ vec_capacity t.literals + count_by is_assigned t.near.items
+  pub room : length t.literals.items + length t.near.items
+      ≤ vec_capacity t.literals + count_by is_assigned t.near.items
   pub whole : length t.near.items ≤ vec_capacity t.literals

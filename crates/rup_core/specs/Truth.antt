@@ -6,7 +6,8 @@ use Rattle.rup_core.specs.declared.trails.TruthValue.{TruthValue}
 use Rattle.rup_core.specs.declared.trails.TruthValue.TheVariants.{True, False, Unassigned}
 
 abbrev pub literal_value : List Literal → Literal → TruthValue
-literal_value trues l = if holds trues (opposite l) then False else (if holds trues l then True else Unassigned)
+literal_value trues l =
+    if holds trues (opposite l) then False else (if holds trues l then True else Unassigned)
 
 -- as sets
 abbrev pub AreSame : List Literal → List Literal → Type 0

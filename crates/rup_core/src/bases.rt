@@ -13,7 +13,8 @@ pub struct FewLiterals {
     pub count: usize,
 }
 
-/// Clauses with ids, read a literal at a time: a hint takes one call of `size`, and one of `lit` for each literal.
+/// Clauses with ids, read a literal at a time: a hint takes one call of `size`, and one of `lit`
+/// for each literal.
 pub trait Base {
     /// The clauses that have an id.
     ghost clauses: { Self → LiveClauses };
@@ -22,12 +23,14 @@ pub trait Base {
     fn size(&self, id: u64) -> Option<usize>
         ensures { result ≡ clause_size (clauses self.now id) };
 
-    /// The literal at a place of the clause with this id; places are counted from 0. A clause may hold a literal twice.
+    /// The literal at a place of the clause with this id; places are counted from 0. A clause may
+    /// hold a literal twice.
     fn lit(&self, id: u64, i: usize) -> Lit
         requires { IsSome (literal_at (clauses self.now id) i) }
         ensures { literal_at (clauses self.now id) i ≡ Some result };
 
-    /// The literals of the clause with this id, if they lie in memory. There may be a clause where it answers none.
+    /// The literals of the clause with this id, if they lie in memory. There may be a clause where
+    /// it answers none.
     fn held(&self, id: u64) -> Option<&[Lit]>
         ensures { IfSome result (λ literals. clauses self.now id ≡ Some literals.now) }
     {
@@ -35,9 +38,11 @@ pub trait Base {
         None
     }
 
-    /// The literals of the clause with this id, if it is made at once. There may be a clause where it answers none.
+    /// The literals of the clause with this id, if it is made at once. There may be a clause where
+    /// it answers none.
     fn few(&self, id: u64) -> Option<FewLiterals>
-        ensures clause { IfSome result (λ few. clauses self.now id ≡ Some (take few.count few.literals)) }
+        ensures clause { IfSome result
+            (λ few. clauses self.now id ≡ Some (take few.count few.literals)) }
         ensures within { IfSome result (λ few. few.count ≤ 3) }
     {
         let _ = id;

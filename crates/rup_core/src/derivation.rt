@@ -16,16 +16,17 @@ use dq_lits::{Lit, Memory};
 pub enum Derived {
     /// Each hint but the last propagates, and the last one is falsified.
     Yes,
-    /// The place of the first hint at fault, counted from 1: one behind the last where all hints propagate and none is
-    /// falsified, and 0 where the line holds a literal beside its negation.
+    /// The place of the first hint at fault, counted from 1: one behind the last where all hints
+    /// propagate and none is falsified, and 0 where the line holds a literal beside its negation.
     No(usize),
 }
 
-/// Whether a line is derived by its hints from the clauses of a base, or the place of its fault. There are marks for
-/// every variable of the line and of the clauses that it hints; a hint may also be an id that no clause has.
+/// Whether a line is derived by its hints from the clauses of a base, or the place of its fault.
+/// There are marks for every variable of the line and of the clauses that it hints; a hint may also
+/// be an id that no clause has.
 ///
-/// It takes time in proportion to the line and the clauses that it hints, and no memory. Afterwards no variable is
-/// marked, whatever the answer is.
+/// It takes time in proportion to the line and the clauses that it hints, and no memory. Afterwards
+/// no variable is marked, whatever the answer is.
 pub fn derive<B: Base>(marks: &mut Marks, lits: &[Lit], hints: &[u64], base: &B) -> Derived
     requires { LineStandsWithin marks.old (B.clauses base.now) lits.now hints.now }
     ensures same { marks.new ≡ marks.old }
@@ -37,8 +38,8 @@ pub fn derive<B: Base>(marks: &mut Marks, lits: &[Lit], hints: &[u64], base: &B)
     }
 }
 
-/// The same, whichever variables the line and the clauses that it hints stand on. It takes memory for those beyond the
-/// marks that are assigned, and gives it back.
+/// The same, whichever variables the line and the clauses that it hints stand on. It takes memory
+/// for those beyond the marks that are assigned, and gives it back.
 pub fn derive_any<B: Base>(
     marks: &mut Marks,
     lits: &[Lit],
@@ -46,8 +47,10 @@ pub fn derive_any<B: Base>(
     base: &B,
 ) -> Result<Derived, Memory>
     ensures same { marks.new ≡ marks.old }
-    ensures answer { IfOk result (λ derived. fault_in derived ≡ line_fault (B.clauses base.now) lits.now hints.now) }
-    ensures marked { LineStandsWithin marks.old (B.clauses base.now) lits.now hints.now → IsOk result }
+    ensures answer { IfOk result
+        (λ derived. fault_in derived ≡ line_fault (B.clauses base.now) lits.now hints.now) }
+    ensures marked { LineStandsWithin marks.old (B.clauses base.now) lits.now hints.now
+        → IsOk result }
 {
     let fault = line_fault(&mut marks.trail, lits, hints, base);
     marks.trail.clear();
@@ -66,8 +69,10 @@ fn line_fault<B: Base>(
 ) -> Result<Option<usize>, Memory>
     requires { trail.old.trues ≡ [] }
     ensures variables { trail.new.variables ≡ trail.old.variables }
-    ensures fault { IfOk result (λ fault. fault ≡ line_fault (B.clauses base.now) lits.now hints.now) }
-    ensures marked { LineStandsWithin trail.old.variables (B.clauses base.now) lits.now hints.now → IsOk result }
+    ensures fault { IfOk result
+        (λ fault. fault ≡ line_fault (B.clauses base.now) lits.now hints.now) }
+    ensures marked { LineStandsWithin trail.old.variables (B.clauses base.now) lits.now hints.now
+        → IsOk result }
 {
     if !assume_false(trail, lits)? {
         return Ok(Some(0));
@@ -80,7 +85,8 @@ fn assume_false(trail: &mut Trail, lits: &[Lit]) -> Result<bool, Memory>
     requires { trail.old.trues ≡ [] }
     ensures variables { trail.new.variables ≡ trail.old.variables }
     ensures consistent { IfOk result (λ consistent. consistent ≡ not (is_tautology lits.now)) }
-    ensures assumed { IfOk result (λ consistent. consistent ≡ true → AreSame trail.new.trues (map opposite lits.now)) }
+    ensures assumed { IfOk result
+        (λ consistent. consistent ≡ true → AreSame trail.new.trues (map opposite lits.now)) }
     ensures marked { StandsWithin trail.old.variables lits.now → IsOk result }
 {
     for l in lits {
@@ -93,11 +99,14 @@ fn assume_false(trail: &mut Trail, lits: &[Lit]) -> Result<bool, Memory>
     Ok(true)
 }
 
-// The place of the first hint at fault, or one behind the last. The literals that were made true stay so.
+// The place of the first hint at fault, or one behind the last. The literals that were made true
+// stay so.
 fn hint_fault<B: Base>(trail: &mut Trail, hints: &[u64], base: &B) -> Result<Option<usize>, Memory>
     ensures variables { trail.new.variables ≡ trail.old.variables }
-    ensures fault { IfOk result (λ fault. fault ≡ hint_fault (B.clauses base.now) trail.old.trues 1 hints.now) }
-    ensures marked { All (λ id. IfSome (B.clauses base.now id) (StandsWithin trail.old.variables)) hints.now → IsOk result }
+    ensures fault { IfOk result
+        (λ fault. fault ≡ hint_fault (B.clauses base.now) trail.old.trues 1 hints.now) }
+    ensures marked { All (λ id. IfSome (B.clauses base.now id) (StandsWithin trail.old.variables))
+        hints.now → IsOk result }
 {
     for (i, hint) in hints.iter().enumerate() {
         match status_of(base, *hint, trail) {

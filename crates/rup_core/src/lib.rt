@@ -1,9 +1,10 @@
 //! Hinted unit propagation: whether a line of a proof is derived.
 //!
-//! A line is a clause with hints, the ids of clauses that are held. It is derived where its clause holds no literal
-//! beside its negation, and where, with every literal of the clause false, each hinted clause but the last is unit in
-//! its turn and the last one is falsified. These are the steps of LRAT (L. Cruz-Filipe et al., "Efficient certified RAT
-//! verification", 2017) without RAT, and stricter: a hint that is satisfied, or falsified before the last, is a fault.
+//! A line is a clause with hints, the ids of clauses that are held. It is derived where its clause
+//! holds no literal beside its negation, and where, with every literal of the clause false, each
+//! hinted clause but the last is unit in its turn and the last one is falsified. These are the
+//! steps of LRAT (L. Cruz-Filipe et al., "Efficient certified RAT verification", 2017) without RAT,
+//! and stricter: a hint that is satisfied, or falsified before the last, is a fault.
 #![tactic(auto)]
 
 pub use bases::{Base, FewLiterals};

@@ -5,8 +5,8 @@ use dq_lits::Memory;
 use std::alloc::Global;
 use std::marker::Model;
 
-/// The memory of [`derive`](crate::derive): a mark for each of the first variables, a map for marks beyond them, and the
-/// trail that takes the marks back. Between calls no variable is marked.
+/// The memory of [`derive`](crate::derive): a mark for each of the first variables, a map for marks
+/// beyond them, and the trail that takes the marks back. Between calls no variable is marked.
 #[derive(Debug, Drop)]
 pub struct Marks {
     pub(crate) trail: Trail,

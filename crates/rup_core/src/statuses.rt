@@ -19,12 +19,13 @@ pub(crate) enum Status {
     Stuck,
 }
 
-/// How the clause with this id stands; where no clause has it, it is of no use. A clause is read as far as that takes: no
-/// further than its second literal that isn't false.
+/// How the clause with this id stands; where no clause has it, it is of no use. A clause is read as
+/// far as that takes: no further than its second literal that isn't false.
 pub(crate) fn status_of<B: Base>(base: &B, id: u64, trail: &Trail) -> Status
     ensures status { seen result ≡ status_of trail.now.trues (B.clauses base.now id) }
     ensures free { UnitIsFree trail.now.trues (seen result) }
-    ensures within { (n : ℕ) → IfSome (B.clauses base.now id) (StandsWithin n) → UnitStandsWithin n (seen result) }
+    ensures within { (n : ℕ) → IfSome (B.clauses base.now id) (StandsWithin n)
+        → UnitStandsWithin n (seen result) }
 {
     match base.held(id) {
         Some(lits) => status_among(lits, trail),
@@ -36,7 +37,8 @@ pub(crate) fn status_of<B: Base>(base: &B, id: u64, trail: &Trail) -> Status
 fn status_made<B: Base>(base: &B, id: u64, trail: &Trail) -> Status
     ensures status { seen result ≡ status_of trail.now.trues (B.clauses base.now id) }
     ensures free { UnitIsFree trail.now.trues (seen result) }
-    ensures within { (n : ℕ) → IfSome (B.clauses base.now id) (StandsWithin n) → UnitStandsWithin n (seen result) }
+    ensures within { (n : ℕ) → IfSome (B.clauses base.now id) (StandsWithin n)
+        → UnitStandsWithin n (seen result) }
 {
     match base.few(id) {
         Some(few) => status_among(&few.literals[..few.count], trail),
@@ -64,7 +66,8 @@ fn status_among(lits: &[Lit], trail: &Trail) -> Status
 fn status_read<B: Base>(base: &B, id: u64, trail: &Trail) -> Status
     ensures status { seen result ≡ status_of trail.now.trues (B.clauses base.now id) }
     ensures free { UnitIsFree trail.now.trues (seen result) }
-    ensures within { (n : ℕ) → IfSome (B.clauses base.now id) (StandsWithin n) → UnitStandsWithin n (seen result) }
+    ensures within { (n : ℕ) → IfSome (B.clauses base.now id) (StandsWithin n)
+        → UnitStandsWithin n (seen result) }
 {
     let Some(size) = base.size(id) else {
         return Status::Stuck;

@@ -1,4 +1,5 @@
-//! Proofs: lines one after another, each derived from the clauses of a base and the lines before it.
+//! Proofs: lines one after another, each derived from the clauses of a base and the lines before
+//! it.
 
 ghost use Rattle.std.specs.Prelude.{◌≡◌, ◌+◌, ◌<◌, ◌≤◌, ◌^◌, ℕ, List, None, length, All, IfSome, IfOk, IsOk};
 ghost use Rattle.std.specs.List.{slice_get};
@@ -94,9 +95,10 @@ impl<'a, B: Base, S: Steps> Base for Grown<'a, B, S> {
     }
 }
 
-/// The first fault of a proof whose lines have the ids from `first` on, behind those of the base; none where every line
-/// is derived and the last one is the empty clause. There are marks for every variable of the lines and of the clauses
-/// that they hint. It takes time in proportion to the lines and the clauses that they hint, and no memory.
+/// The first fault of a proof whose lines have the ids from `first` on, behind those of the base;
+/// none where every line is derived and the last one is the empty clause. There are marks for every
+/// variable of the lines and of the clauses that they hint. It takes time in proportion to the
+/// lines and the clauses that they hint, and no memory.
 pub fn first_fault<B: Base, S: Steps>(
     marks: &mut Marks,
     base: &B,
@@ -106,7 +108,9 @@ pub fn first_fault<B: Base, S: Steps>(
     requires behind { (id : ℕ) → first ≤ id → B.clauses base.now id ≡ None }
     requires numbered { AreNumbered first (S.steps steps.now) }
     requires few { first + length (S.steps steps.now) ≤ 2 ^ 64 }
-    requires in_range { All (λ step. LineStandsWithin marks.old (B.clauses base.now) step.literals step.hints) (S.steps steps.now) }
+    requires in_range { All
+        (λ step. LineStandsWithin marks.old (B.clauses base.now) step.literals step.hints)
+        (S.steps steps.now) }
     ensures same { marks.new ≡ marks.old }
     ensures answer { proof_fault_in result ≡ proof_fault (B.clauses base.now) (S.steps steps.now) }
 {
@@ -116,8 +120,8 @@ pub fn first_fault<B: Base, S: Steps>(
     }
 }
 
-/// The same, whichever variables the lines and the clauses that they hint stand on. At each line it takes memory for
-/// the variables beyond the marks that are assigned, and gives it back.
+/// The same, whichever variables the lines and the clauses that they hint stand on. At each line it
+/// takes memory for the variables beyond the marks that are assigned, and gives it back.
 pub fn first_fault_any<B: Base, S: Steps>(
     marks: &mut Marks,
     base: &B,
@@ -128,8 +132,11 @@ pub fn first_fault_any<B: Base, S: Steps>(
     requires numbered { AreNumbered first (S.steps steps.now) }
     requires few { first + length (S.steps steps.now) ≤ 2 ^ 64 }
     ensures same { marks.new ≡ marks.old }
-    ensures answer { IfOk result (λ fault. proof_fault_in fault ≡ proof_fault (B.clauses base.now) (S.steps steps.now)) }
-    ensures marked { All (λ step. LineStandsWithin marks.old (B.clauses base.now) step.literals step.hints) (S.steps steps.now) → IsOk result }
+    ensures answer { IfOk result
+        (λ fault. proof_fault_in fault ≡ proof_fault (B.clauses base.now) (S.steps steps.now)) }
+    ensures marked { All
+        (λ step. LineStandsWithin marks.old (B.clauses base.now) step.literals step.hints)
+        (S.steps steps.now) → IsOk result }
 {
     let mut finished = false;
     for k in 0..steps.len() {

@@ -20,10 +20,10 @@ pub(crate) enum TruthValue {
 
 /// The literals that were made true, in order.
 ///
-/// Each variable keeps its value, so that a literal's value is one look-up, and the literals made true are kept beside
-/// them, so that undoing takes time for these alone. The first variables have a table, and room for their literals from
-/// the start; those beyond it stand in an ordered map, so that memory and time follow what is made true, whichever
-/// numbers its variables have.
+/// Each variable keeps its value, so that a literal's value is one look-up, and the literals made
+/// true are kept beside them, so that undoing takes time for these alone. The first variables have
+/// a table, and room for their literals from the start; those beyond it stand in an ordered map, so
+/// that memory and time follow what is made true, whichever numbers its variables have.
 #[derive(Debug, Drop)]
 pub(crate) struct Trail {
     // The value of variable v at place v - 1.
@@ -71,7 +71,8 @@ impl Trail {
 
     // The value of a literal's variable.
     fn variable_value(&self, l: Lit) -> TruthValue
-        ensures { IsTold result (holds self.now.trues (positive (variable_of l))) (holds self.now.trues (negative (variable_of l))) }
+        ensures { IsTold result (holds self.now.trues (positive (variable_of l)))
+            (holds self.now.trues (negative (variable_of l))) }
     {
         let place = place_of(l);
         if place < self.near.len() {
@@ -80,7 +81,8 @@ impl Trail {
         far_value(self.far.get(&l.var()))
     }
 
-    /// Makes an unassigned literal true. It takes no memory for the variables that room was taken for.
+    /// Makes an unassigned literal true. It takes no memory for the variables that room was taken
+    /// for.
     pub(crate) fn assign(&mut self, l: Lit) -> Result<(), Memory>
         requires { literal_value self.old.trues l ≡ TruthValue.Unassigned }
         ensures ok { OnOk result (self.new ≡ record self.old { trues = l ∷ self.old.trues }) }

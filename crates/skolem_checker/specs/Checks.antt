@@ -17,7 +17,8 @@ pub record Candidate : Type 0 where
   pub circuit : MappedCircuit
 
 abbrev pub with_mapping : Dqbf → Netlist → Result Mapping MapError → Result Candidate MapError
-with_mapping f net (Ok mapping) = Ok (record { formula = f; circuit = record { netlist = net; mapping = mapping } })
+with_mapping f net (Ok mapping) =
+    Ok (record { formula = f; circuit = record { netlist = net; mapping = mapping } })
 with_mapping f net (Err fault) = Err fault
 
 abbrev pub candidate_of : Dqbf → Netlist → SymbolTable → Result Candidate MapError
@@ -33,11 +34,14 @@ existential_at f place = slice_index_or f.existentials place no_existential
 -- of the universals before this place the existential reads declared ones alone
 abbrev pub ReadsDeclaredBefore : (ℕ → ℕ → Type 0) → Dqbf → Existential → ℕ → Type 0
 ReadsDeclaredBefore Reads f y end =
-    (q : ℕ) → q < end → Reads y.variable (slice_index f.universals q) → Contains y.sees (slice_index f.universals q)
+    (q : ℕ) → q < end → Reads y.variable (slice_index f.universals q)
+    → Contains y.sees (slice_index f.universals q)
 
 -- every existential reads declared universals alone
 abbrev pub ReadsDeclared : (ℕ → ℕ → Type 0) → Dqbf → Type 0
-ReadsDeclared Reads f = (p : ℕ) → p < length f.existentials → ReadsDeclaredBefore Reads f (existential_at f p) (length f.universals)
+ReadsDeclared Reads f =
+    (p : ℕ) → p < length f.existentials
+    → ReadsDeclaredBefore Reads f (existential_at f p) (length f.universals)
 
 -- the first undeclared universal that an existential reads
 pub record IsFirstRead (Reads : ℕ → ℕ → Type 0) (f : Dqbf) (y : Existential) (x : ℕ) : Type 0 where
@@ -54,7 +58,8 @@ pub record IsFirstUndeclared (Reads : ℕ → ℕ → Type 0) (f : Dqbf) (y x : 
   pub in_range : place < length f.existentials
   pub is : (existential_at f place).variable ≡ y
   pub read : IsFirstRead Reads f (existential_at f place) x
-  pub first : (p : ℕ) → p < place → ReadsDeclaredBefore Reads f (existential_at f p) (length f.universals)
+  pub first : (p : ℕ) → p < place
+      → ReadsDeclaredBefore Reads f (existential_at f p) (length f.universals)
 
 -- every read is declared, or this is the first that isn't
 abbrev pub IsReadsAnswer : (ℕ → ℕ → Type 0) → Dqbf → Result (Unit {0}) (ℕ × ℕ) → Type 0
@@ -65,7 +70,8 @@ IsReadsAnswer Reads f (Err read) = IsFirstUndeclared Reads f read.0 read.1
 abbrev pub IsRow : Dqbf → ℕ → Assignment → Type 0
 IsRow f k m = (i : ℕ) → i < length f.universals → m (slice_index f.universals i) ≡ (bit_at k i == 1)
 
--- under the row of a number, with the outputs' values, every clause is true; or some clause is false
+-- under the row of a number, with the outputs' values, every clause is true; or some clause is
+-- false
 abbrev pub RowHolds : Dqbf → MappedCircuit → ℕ → Type 0
 RowHolds f c k = (m : Assignment) → IsRow f k m → FollowsCircuit f c m → MatrixHolds f m
 

@@ -1,5 +1,6 @@
--- Which input of a circuit stands for which universal, and which output for which existential: by symbols that are
--- the variables' numbers (DQDIMACS), or in the order of declaration where there is no symbol (AIGER).
+-- Which input of a circuit stands for which universal, and which output for which existential: by
+-- symbols that are the variables' numbers (DQDIMACS), or in the order of declaration where there is
+-- no symbol (AIGER).
 use Rattle.std.specs.Prelude.{ℕ, zero, suc, ◌+◌, ◌<◌, ◌==◌, pos, negsuc, Bool, not, ◌||◌, List, [], ◌∷◌, ◌++◌, length, Option, None, Some, is_some, Result, Ok, Err, if◌then◌else◌}
 use Rattle.std.specs.List.{list_any, range_with_len}
 use Rattle.dq_lits.specs.Formula.{Dqbf}
@@ -57,11 +58,13 @@ abbrev pub symbol_variable : Dqbf → Kind → List ℕ → Option (List ℕ) �
 symbol_variable f kind earlier None = Err SymbolMissing
 symbol_variable f kind earlier (Some name) = new_variable f kind earlier (natural (number_of name))
 
-abbrev pub behind_symbol : Kind → ℕ → Result ℕ MapName → (ℕ → Result (List ℕ) MapError) → Result (List ℕ) MapError
+abbrev pub behind_symbol : Kind → ℕ → Result ℕ MapName → (ℕ → Result (List ℕ) MapError)
+    → Result (List ℕ) MapError
 behind_symbol kind place (Ok v) next = next v
 behind_symbol kind place (Err name) next = Err (record { name = name; at = place_of kind place })
 
--- the variables that the symbols of so many places name from a place on, behind the earlier ones; or the first fault
+-- the variables that the symbols of so many places name from a place on, behind the earlier ones;
+-- or the first fault
 abbrev pub named_from : Dqbf → Kind → SymbolTable → ℕ → ℕ → List ℕ → Result (List ℕ) MapError
 named_from f kind symbols zero place earlier = Ok earlier
 named_from f kind symbols (suc count) place earlier =
@@ -70,13 +73,15 @@ named_from f kind symbols (suc count) place earlier =
 
 -- one of so many places has a symbol
 abbrev pub has_symbol : SymbolTable → Kind → ℕ → Bool
-has_symbol symbols kind count = list_any (λ place. is_some (symbol_at symbols kind place)) (range_with_len 0 count)
+has_symbol symbols kind count =
+    list_any (λ place. is_some (symbol_at symbols kind place)) (range_with_len 0 count)
 
 abbrev pub with_outputs : List ℕ → Result (List ℕ) MapError → Result Mapping MapError
 with_outputs inputs (Ok outputs) = Ok (record { inputs = inputs; outputs = outputs })
 with_outputs inputs (Err fault) = Err fault
 
-abbrev pub behind_inputs : Result (List ℕ) MapError → Result (List ℕ) MapError → Result Mapping MapError
+abbrev pub behind_inputs : Result (List ℕ) MapError → Result (List ℕ) MapError
+    → Result Mapping MapError
 behind_inputs (Ok inputs) outputs = with_outputs inputs outputs
 behind_inputs (Err fault) outputs = Err fault
 
@@ -91,9 +96,12 @@ mapping_in_order f = record { inputs = f.universals; outputs = existential_varia
 -- the mapping, or its first fault: the counts, then each input, then each output
 abbrev pub mapping_of : Dqbf → Netlist → SymbolTable → Result Mapping MapError
 mapping_of f net symbols =
-    if not (length net.inputs == length f.universals) then Err (record { name = InputCount; at = Whole }) else
-    if not (length net.outputs == length f.existentials) then Err (record { name = OutputCount; at = Whole }) else
-    if has_symbol symbols Inputs (length net.inputs) || has_symbol symbols Outputs (length net.outputs)
+    if not (length net.inputs == length f.universals)
+    then Err (record { name = InputCount; at = Whole }) else
+    if not (length net.outputs == length f.existentials)
+    then Err (record { name = OutputCount; at = Whole }) else
+    if has_symbol symbols Inputs (length net.inputs)
+    || has_symbol symbols Outputs (length net.outputs)
     then mapping_by_symbols f symbols
     else Ok (mapping_in_order f)
 

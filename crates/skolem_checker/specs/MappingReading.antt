@@ -1,4 +1,5 @@
--- How far a reading of the symbols has come, a word of private contracts; and what `Bench::new` answers.
+-- How far a reading of the symbols has come, a word of private contracts; and what `Bench::new`
+-- answers.
 use Rattle.std.specs.Prelude.{◌≡◌, ℕ, ◌==◌, Bool, List, Result, Ok, Err}
 use Rattle.std.specs.List.{list_any}
 use Rattle.dq_lits.specs.Row.{bit_of}

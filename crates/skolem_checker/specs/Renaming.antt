@@ -1,6 +1,6 @@
--- Words of private contracts: a netlist with other numbers for its variables. Without gaps they are numbered as in the
--- binary format of AIGER (A. Biere, "The AIGER And-Inverter Graph (AIG) Format", 2007): the constant, then the inputs,
--- then the gates, here in the order of the file.
+-- Words of private contracts: a netlist with other numbers for its variables. Without gaps they are
+-- numbered as in the binary format of AIGER (A. Biere, "The AIGER And-Inverter Graph (AIG) Format",
+-- 2007): the constant, then the inputs, then the gates, here in the order of the file.
 use Rattle.std.specs.Prelude.{ℕ, ◌+◌, ◌*◌, ◌%◌, ◌==◌, List, ◌∷◌, ◌++◌, length, map, take}
 use Rattle.std.specs.List.{position_or_len}
 use Rattle.circuit_plain.specs.declared.circuits.Gate.{Gate}
@@ -41,7 +41,11 @@ dense_number net v = number_in (known_variables net) v
 abbrev pub renumbered_first : Netlist → ℕ → ℕ → ℕ → Netlist
 renumbered_first net inputs gates outputs =
     renamed (dense_number net) (length net.inputs + length net.gates)
-    (record net { inputs = take inputs net.inputs; gates = take gates net.gates; outputs = take outputs net.outputs })
+    (record net {
+      inputs = take inputs net.inputs;
+      gates = take gates net.gates;
+      outputs = take outputs net.outputs;
+    })
 
 -- the netlist with the least numbers
 abbrev pub renumbered : Netlist → Netlist

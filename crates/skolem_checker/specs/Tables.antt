@@ -1,5 +1,5 @@
--- Words of private contracts: the tables by which the checks find a variable's circuit literal, and what they compute by
--- them.
+-- Words of private contracts: the tables by which the checks find a variable's circuit literal, and
+-- what they compute by them.
 use Rattle.std.specs.Prelude.{◌≡◌, ◌≢◌, ℕ, ◌+◌, ◌*◌, ◌/◌, ◌%◌, ◌<◌, ◌==◌, Bool, true, List, length, slice_index, All, AllPairs, Contains, map}
 use Rattle.std.specs.Int.{bit_at}
 use Rattle.std.specs.List.{position_or_len, list_all}
@@ -21,7 +21,8 @@ pub record IsOneToOne (declared variables : List ℕ) : Type 0 where
 
 -- the value written at each key
 abbrev pub IsWritten : List ℕ → List ℕ → List ℕ → Type 0
-IsWritten table keys values = (i : ℕ) → i < length keys → slice_index table (slice_index keys i) ≡ slice_index values i
+IsWritten table keys values =
+    (i : ℕ) → i < length keys → slice_index table (slice_index keys i) ≡ slice_index values i
 
 -- the numbers from 0 on
 pub record AreNumbers (numbers : List ℕ) (n : ℕ) : Type 0 where
@@ -40,7 +41,8 @@ pub record IsMapping (f : Dqbf) (net : Netlist) (mapping : Mapping) : Type 0 whe
   pub outputs : IsOneToOne (existential_variables f) mapping.outputs
 
 -- the literal of each variable
-pub record IsLiteralTable (f : Dqbf) (net : Netlist) (mapping : Mapping) (literals : List ℕ) : Type 0 where
+pub record IsLiteralTable (f : Dqbf) (net : Netlist) (mapping : Mapping)
+    (literals : List ℕ) : Type 0 where
   pub a_literal_a_variable : length literals ≡ f.variables + 1
   pub input_literals : (i : ℕ) → i < length mapping.inputs
       → slice_index literals (slice_index mapping.inputs i) ≡ 2 * slice_index net.inputs i
@@ -49,9 +51,11 @@ pub record IsLiteralTable (f : Dqbf) (net : Netlist) (mapping : Mapping) (litera
 -- the place of each existential's output
 pub record IsPlaceTable (f : Dqbf) (mapping : Mapping) (places : List ℕ) : Type 0 where
   pub a_place_a_variable : length places ≡ f.variables + 1
-  pub output_places : (o : ℕ) → o < length mapping.outputs → slice_index places (slice_index mapping.outputs o) ≡ o
+  pub output_places : (o : ℕ) → o < length mapping.outputs
+      → slice_index places (slice_index mapping.outputs o) ≡ o
 
-pub record AreTables (f : Dqbf) (net : Netlist) (mapping : Mapping) (literals places : List ℕ) : Type 0 where
+pub record AreTables (f : Dqbf) (net : Netlist) (mapping : Mapping)
+    (literals places : List ℕ) : Type 0 where
   pub mapped : IsMapping f net mapping
   pub by_literal : IsLiteralTable f net mapping literals
   pub by_place : IsPlaceTable f mapping places
@@ -59,7 +63,8 @@ pub record AreTables (f : Dqbf) (net : Netlist) (mapping : Mapping) (literals pl
 -- the output for an existential reaches the input for a universal, by the tables
 abbrev pub ReadsByTables : Netlist → List ℕ → List ℕ → ℕ → ℕ → Type 0
 ReadsByTables net literals places y x =
-    Reaches net (literal_variable (slice_index net.outputs (slice_index places y))) (literal_variable (slice_index literals x))
+    Reaches net (literal_variable (slice_index net.outputs (slice_index places y)))
+    (literal_variable (slice_index literals x))
 
 -- the same by marks of what is reached
 abbrev pub ReadsByMarks : (ℕ → Bool) → List ℕ → ℕ → ℕ → Type 0
@@ -82,7 +87,8 @@ abbrev pub row_bit : List ℕ → ℕ → Bool
 row_bit lanes r = lane_bit lanes (r / 64) (r % 64)
 
 -- the clauses' test under the row of a number
-pub record RowTest (f : Dqbf) (net : Netlist) (literals places : List ℕ) (k : ℕ) (holds : Bool) : Type 0 where
+pub record RowTest (f : Dqbf) (net : Netlist) (literals places : List ℕ) (k : ℕ)
+    (holds : Bool) : Type 0 where
   pub bits : ℕ → Bool
   pub values : ℕ → Bool
   pub are_bits : AreRowBits places k bits (length places)

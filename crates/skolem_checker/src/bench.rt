@@ -26,8 +26,9 @@ const MAX_UNIVERSALS: usize = 20;
 #[derive(Debug, Drop)]
 pub struct Bench<'a> {
     formula: &'a Formula,
-    // The circuit that is tested. Its largest variable may be far beyond its lines, so that the tests run on a copy
-    // with the least numbers: order, literals and rows by variable are the copy's.
+    // The circuit that is tested. Its largest variable may be far beyond its lines, so that the
+    // tests run on a copy with the least numbers: order, literals and rows by variable are the
+    // copy's.
     circuit: &'a Circuit,
     copy: Circuit,
     order: Order,
@@ -67,7 +68,8 @@ fn ordered(circuit: &Circuit) -> Result<Order, Memory>
     }
 }
 
-// A block for the circuit's variables, where there are few enough universals that all rows are tried.
+// A block for the circuit's variables, where there are few enough universals that all rows are
+// tried.
 fn row_block(alloc: Global, f: &Formula, circuit: &Circuit) -> Result<Block, Memory>
     ensures kept { IsNetlist circuit.now }
     ensures ok { IfOk result (λ block. length f.now.universals ≤ 20
@@ -82,9 +84,10 @@ fn row_block(alloc: Global, f: &Formula, circuit: &Circuit) -> Result<Block, Mem
 }
 
 impl<'a> Bench<'a> {
-    /// Maps the circuit's inputs to the formula's universals and its outputs to the existentials, and takes all the
-    /// memory that the tests need: by the circuit's lines and the formula, whatever the circuit's largest variable. A
-    /// fault of the mapping is the first one: the counts, then each input, then each output.
+    /// Maps the circuit's inputs to the formula's universals and its outputs to the existentials,
+    /// and takes all the memory that the tests need: by the circuit's lines and the formula,
+    /// whatever the circuit's largest variable. A fault of the mapping is the first one: the
+    /// counts, then each input, then each output.
     pub fn new(alloc: Global, f: &'a Formula, a: &'a AagFile) -> Result<Bench<'a>, BenchStop>
         requires well_formed { IsWellFormed f.now }
         requires complete { IsComplete a.now.circuit }
@@ -143,9 +146,9 @@ impl<'a> Bench<'a> {
         &self.mapped.outputs
     }
 
-    /// Whether each existential's output reaches inputs for universals of its dependency set alone, whatever the
-    /// values; else the first existential that reaches another one, and the first such universal, both in the order of
-    /// declaration. It takes no memory.
+    /// Whether each existential's output reaches inputs for universals of its dependency set alone,
+    /// whatever the values; else the first existential that reaches another one, and the first such
+    /// universal, both in the order of declaration. It takes no memory.
     pub fn reads_ok(&mut self) -> Result<(), (u64, u64)>
         ensures same { self.new ≡ self.old }
         ensures answer { IsReadsAnswer (ReadsUniversal self.old.circuit) self.old.formula result }
@@ -159,9 +162,9 @@ impl<'a> Bench<'a> {
         undeclared_read(&tested, &self.places, &mut self.words)
     }
 
-    /// Whether every clause is true under every row of the universals, with the outputs' values; else the number of
-    /// the first row under which one is false. Bit i of a row's number is the bit of the universal at place i. It takes
-    /// no memory.
+    /// Whether every clause is true under every row of the universals, with the outputs' values;
+    /// else the number of the first row under which one is false. Bit i of a row's number is the
+    /// bit of the universal at place i. It takes no memory.
     pub fn by_all_rows(&mut self) -> Result<(), u32>
         requires { length self.old.formula.universals ≤ 20 }
         ensures same { self.new ≡ self.old }

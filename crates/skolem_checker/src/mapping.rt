@@ -161,7 +161,8 @@ fn named_variables(
     symbols: &Symbols,
     count: usize,
 ) -> Result<Vec<u64>, BenchStop>
-    ensures { Answers (λ variables. variables.items) (named_from f.now kind symbols.now count 0 []) result }
+    ensures { Answers (λ variables. variables.items) (named_from f.now kind symbols.now count 0 [])
+        result }
 {
     let mut seen = Row::new(alloc, f.vars() as usize + 1)?;
     let mut variables = Vec::new(alloc);
@@ -188,8 +189,12 @@ fn has_symbol(symbols: &Symbols, kind: Kind, count: usize) -> bool
 }
 
 fn counts_fault(f: &Formula, file: &AagFile) -> Option<MapName>
-    ensures none { result ≡ None → (length file.now.circuit.inputs ≡ length f.now.universals) × (length file.now.circuit.outputs ≡ length f.now.existentials) }
-    ensures some { (name : MapName) → result ≡ Some name → mapping_of f.now file.now.circuit file.now.symbols ≡ Err (record { name = name; at = Whole }) }
+    ensures none { result ≡ None
+        → (length file.now.circuit.inputs ≡ length f.now.universals)
+        × (length file.now.circuit.outputs ≡ length f.now.existentials) }
+    ensures some { (name : MapName) → result ≡ Some name
+        → mapping_of f.now file.now.circuit file.now.symbols
+        ≡ Err (record { name = name; at = Whole }) }
 {
     if file.circuit.inputs().len() != f.universals().len() {
         return Some(MapName::InputCount);

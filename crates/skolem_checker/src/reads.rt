@@ -1,5 +1,6 @@
-//! What the outputs read. 64 outputs are walked at a time, with a bit for each; a test of whole words tells where none of
-//! them reads what its existential may not see, and only where that fails are they looked at one by one.
+//! What the outputs read. 64 outputs are walked at a time, with a bit for each; a test of whole
+//! words tells where none of them reads what its existential may not see, and only where that fails
+//! are they looked at one by one.
 
 ghost use Rattle.std.specs.Prelude.{◌≡◌, ◌+◌, ◌*◌, ◌<◌, ◌≤◌, ℕ, Some, length, slice_index, All, IsSome, MatchOption, IfOk};
 ghost use Rattle.dq_lits.specs.Formula.{Existential, existential_of};
@@ -63,7 +64,8 @@ fn first_undeclared(f: &Formula, literals: &[u64], words: &[u64], i: usize, y: u
     None
 }
 
-// The first of these existentials that reads an undeclared universal by its marks, and the first such universal.
+// The first of these existentials that reads an undeclared universal by its marks, and the first
+// such universal.
 fn first_read_one_by_one(
     f: &Formula,
     literals: &[u64],
@@ -73,7 +75,8 @@ fn first_read_one_by_one(
     requires declared { All (λ y. IsSome (existential_of f.now y)) ys.now }
     requires few { length ys.now ≤ 64 }
     requires fit { All (HasLiteral literals.now (length words.now)) f.now.universals }
-    ensures { MatchOption result (AreDeclared f.now literals.now ys.now words.now) (λ read. IsFirstIn f.now literals.now ys.now words.now read.0 read.1) }
+    ensures { MatchOption result (AreDeclared f.now literals.now ys.now words.now)
+        (λ read. IsFirstIn f.now literals.now ys.now words.now read.0 read.1) }
 {
     for (i, y) in ys.iter().enumerate() {
         if let Some(x) = first_undeclared(f, literals, words, i, *y) {
@@ -144,8 +147,8 @@ fn mark_reached(circuit: &Circuit, order: &Order, places: &[u64], ys: &[u64], wo
     circuit.reach_by_words(order, words);
 }
 
-// The first of a batch of existentials whose output reaches an input for a universal that it may not see, and the first
-// such universal.
+// The first of a batch of existentials whose output reaches an input for a universal that it may
+// not see, and the first such universal.
 fn undeclared_in_batch(
     tested: &Tested,
     places: &[u64],
@@ -175,8 +178,8 @@ fn undeclared_in_batch(
     first_read(tested, ys, words)
 }
 
-/// The first existential whose output reaches an input for a universal that it may not see, and the first such
-/// universal.
+/// The first existential whose output reaches an input for a universal that it may not see, and the
+/// first such universal.
 pub(crate) fn undeclared_read(
     tested: &Tested,
     places: &[u64],

@@ -1,5 +1,5 @@
-//! A copy of a circuit whose variables have the least numbers. A file's header may state any largest variable; rows by
-//! variable over the copy are as long as the circuit.
+//! A copy of a circuit whose variables have the least numbers. A file's header may state any
+//! largest variable; rows by variable over the copy are as long as the circuit.
 
 ghost use Rattle.std.specs.Prelude.{◌≡◌, ◌*◌, ◌+◌, ◌<◌, ◌^◌, length, take, Contains, IfOk, OnOk};
 ghost use Rattle.circuit_plain.specs.Netlist.{IsNetlist, literal_variable};
@@ -13,7 +13,8 @@ use std::alloc::Global;
 
 fn learn_inputs(circuit: &Circuit, known: &mut NumberSet) -> Result<(), Memory>
     requires { known.old ≡ take 1 (known_variables circuit.now) }
-    ensures { OnOk result (known.new ≡ take (length circuit.now.inputs + 1) (known_variables circuit.now)) }
+    ensures { OnOk result
+        (known.new ≡ take (length circuit.now.inputs + 1) (known_variables circuit.now)) }
 {
     circuit.every_circuit_is_a_netlist();
     for variable in circuit.inputs() {
@@ -69,7 +70,8 @@ fn renumbered_literal(known: &NumberSet, literal: u64) -> u64
 fn copy_inputs(circuit: &Circuit, known: &NumberSet, copy: &mut Circuit) -> Result<(), Memory>
     requires known { known.now ≡ known_variables circuit.now }
     requires start { copy.old ≡ renumbered_first circuit.now 0 0 0 }
-    ensures { OnOk result (copy.new ≡ renumbered_first circuit.now (length circuit.now.inputs) 0 0) }
+    ensures { OnOk result
+        (copy.new ≡ renumbered_first circuit.now (length circuit.now.inputs) 0 0) }
 {
     circuit.every_circuit_is_a_netlist();
     for variable in circuit.inputs() {
@@ -82,7 +84,10 @@ fn copy_gates(circuit: &Circuit, known: &NumberSet, copy: &mut Circuit) -> Resul
     requires complete { IsComplete circuit.now }
     requires known { known.now ≡ known_variables circuit.now }
     requires start { copy.old ≡ renumbered_first circuit.now (length circuit.now.inputs) 0 0 }
-    ensures { OnOk result (copy.new ≡ renumbered_first circuit.now (length circuit.now.inputs) (length circuit.now.gates) 0) }
+    ensures { OnOk result
+        (copy.new
+        ≡ renumbered_first circuit.now (length circuit.now.inputs) (length circuit.now.gates)
+        0) }
 {
     circuit.every_circuit_is_a_netlist();
     for i in 0..circuit.gates() {
@@ -98,7 +103,8 @@ fn copy_gates(circuit: &Circuit, known: &NumberSet, copy: &mut Circuit) -> Resul
 fn copy_outputs(circuit: &Circuit, known: &NumberSet, copy: &mut Circuit) -> Result<(), Memory>
     requires complete { IsComplete circuit.now }
     requires known { known.now ≡ known_variables circuit.now }
-    requires start { copy.old ≡ renumbered_first circuit.now (length circuit.now.inputs) (length circuit.now.gates) 0 }
+    requires start { copy.old
+        ≡ renumbered_first circuit.now (length circuit.now.inputs) (length circuit.now.gates) 0 }
     ensures { OnOk result (copy.new ≡ renumbered circuit.now) }
 {
     for output in circuit.outputs() {

@@ -48,10 +48,12 @@ fn clause_lanes(clause: &[Lit], literals: &[u64], values: &Block) -> u64x4
 
 // Whether every clause has one.
 fn matrix_lanes(f: &Formula, literals: &[u64], values: &Block) -> u64x4
-    requires { All (All (λ l. HasLiteral literals.now (length values.now) (variable_of l))) f.now.matrix }
+    requires { All (All (λ l. HasLiteral literals.now (length values.now) (variable_of l)))
+        f.now.matrix }
     ensures four { length result ≡ 4 }
     ensures bits { (l b : ℕ) → l < 4 → b < 64 → lane_bit result l b
-        ≡ list_all (clause_true (circuit_assignment literals.now (block_bits values.now l b))) f.now.matrix }
+        ≡ list_all (clause_true (circuit_assignment literals.now (block_bits values.now l b)))
+        f.now.matrix }
 {
     let mut hold = u64x4::splat(u64::MAX);
     for j in 0..f.clauses() {

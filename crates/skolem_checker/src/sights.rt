@@ -37,7 +37,8 @@ fn sees_all(f: &Formula, y: u64) -> bool
     }
 }
 
-/// Whether, by the marks, each of these existentials reads declared universals alone. It may say no where they do.
+/// Whether, by the marks, each of these existentials reads declared universals alone. It may say no
+/// where they do.
 pub(crate) fn are_declared(
     tested: &Tested,
     ys: &[u64],
@@ -68,7 +69,8 @@ fn note_sets(f: &Formula, ys: &[u64], listed: &mut [u64], stops: &mut [u64])
     requires stops_words { length stops.old ≡ length f.now.universals + 1 }
     ensures listed_length { length listed.new ≡ length listed.old }
     ensures stops_length { length stops.new ≡ length stops.old }
-    ensures noted { (i : ℕ) (e : Existential) → IsAt f.now ys.now i e → IsNoted f.now listed.new stops.new i e }
+    ensures noted { (i : ℕ) (e : Existential) → IsAt f.now ys.now i e
+        → IsNoted f.now listed.new stops.new i e }
 {
     clear(listed);
     clear(stops);
@@ -86,8 +88,10 @@ fn note_set(f: &Formula, set: &Deps, i: usize, listed: &mut [u64], stops: &mut [
     requires nothing { IsUnnoted listed.old stops.old i }
     ensures listed_length { length listed.new ≡ length listed.old }
     ensures stops_length { length stops.new ≡ length stops.old }
-    ensures noted { IsSetNoted f.now listed.new stops.new i (dependencies f.now.universals set.now) }
-    ensures others { (j : ℕ) → j ≢ i → AreSameAt listed.old listed.new j × AreSameAt stops.old stops.new j }
+    ensures noted { IsSetNoted f.now listed.new stops.new i
+        (dependencies f.now.universals set.now) }
+    ensures others { (j : ℕ) → j ≢ i
+        → AreSameAt listed.old listed.new j × AreSameAt stops.old stops.new j }
 {
     match set {
         Deps::FirstOf(n) => set_bit(stops, *n, i),
@@ -104,7 +108,8 @@ fn list(f: &Formula, universals: &[u64], i: usize, listed: &mut [u64])
     requires listed_words { length listed.old ≡ length f.now.universals }
     requires nothing { (q : ℕ) → marked listed.old i q ≡ false }
     ensures same_length { length listed.new ≡ length listed.old }
-    ensures lists { (q : ℕ) → q < length f.now.universals → marked listed.new i q ≡ true → Contains universals.now (slice_index f.now.universals q) }
+    ensures lists { (q : ℕ) → q < length f.now.universals → marked listed.new i q ≡ true
+        → Contains universals.now (slice_index f.now.universals q) }
     ensures others { (j : ℕ) → j ≢ i → AreSameAt listed.old listed.new j }
 {
     for x in universals {
@@ -116,7 +121,8 @@ fn list_one(f: &Formula, x: u64, i: usize, listed: &mut [u64])
     requires bit { i < 64 }
     requires listed_words { length listed.old ≡ length f.now.universals }
     ensures same_length { length listed.new ≡ length listed.old }
-    ensures lists { (q : ℕ) → marked listed.new i q ≡ true → (marked listed.old i q ≡ true) ⊎ (slice_index f.now.universals q ≡ x) }
+    ensures lists { (q : ℕ) → marked listed.new i q ≡ true
+        → (marked listed.old i q ≡ true) ⊎ (slice_index f.now.universals q ≡ x) }
     ensures others { (j : ℕ) → j ≢ i → AreSameAt listed.old listed.new j }
 {
     if let Some(place) = f.universal_place(x) {
@@ -136,7 +142,8 @@ fn are_allowed(
     requires listed_words { length listed.now ≡ length f.now.universals }
     requires stops_words { length stops.now ≡ length f.now.universals + 1 }
     ensures { result ≡ true → (i q : ℕ) → i < 64 → q < length f.now.universals
-        → ReadsByMarks (marked reached.now i) literals.now 0 (slice_index f.now.universals q) → IsAllowed listed.now stops.now i q }
+        → ReadsByMarks (marked reached.now i) literals.now 0 (slice_index f.now.universals q)
+        → IsAllowed listed.now stops.now i q }
 {
     let mut open = u64::MAX;
     for (q, x) in f.universals().iter().enumerate() {

@@ -54,7 +54,9 @@ pub(crate) fn universal_places(
     f: &Formula,
     universals: &[u64],
 ) -> Result<Vec<usize>, Memory>
-    ensures { IfOk result (λ places. places.items ≡ map (λ x. position_or_len (λ u. u == x) f.now.universals) universals.now) }
+    ensures { IfOk result
+        (λ places. places.items
+        ≡ map (λ x. position_or_len (λ u. u == x) f.now.universals) universals.now) }
 {
     Ok(
         universals
@@ -89,7 +91,8 @@ pub(crate) fn literal_table(
     mapped: &Mapped,
 ) -> Result<Vec<u64>, Memory>
     requires { IsMapping f.now circuit.now (mapping_in mapped.now) }
-    ensures { IfOk result (λ literals. IsLiteralTable f.now circuit.now (mapping_in mapped.now) literals.items) }
+    ensures { IfOk result
+        (λ literals. IsLiteralTable f.now circuit.now (mapping_in mapped.now) literals.items) }
 {
     f.every_formula_is_lawful();
     let inputs = input_literals(alloc, circuit)?;

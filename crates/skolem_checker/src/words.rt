@@ -19,7 +19,8 @@ pub(crate) fn set_bit(words: &mut [u64], at: usize, k: usize)
     requires in_range { at < length words.old }
     requires bit { k < 64 }
     ensures same_length { length words.new ≡ length words.old }
-    ensures set { (i v : ℕ) → marked words.new i v ≡ (marked words.old i v || ((k == i) && (at == v))) }
+    ensures set { (i v : ℕ)
+        → marked words.new i v ≡ (marked words.old i v || ((k == i) && (at == v))) }
 {
     words[at] |= 1u64 << k;
 }

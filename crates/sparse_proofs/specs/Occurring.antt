@@ -13,7 +13,8 @@ abbrev pub hinted_variables : LiveClauses → ℕ → List ℕ
 hinted_variables live id = clause_variables (live id)
 
 abbrev pub step_variables : LiveClauses → ProofStep → List ℕ
-step_variables live step = flat_map (hinted_variables live) step.hints ++ map variable_of step.literals
+step_variables live step =
+    flat_map (hinted_variables live) step.hints ++ map variable_of step.literals
 
 -- in order of their first occurrence
 abbrev pub occurring_variables : LiveClauses → List ProofStep → List ℕ

@@ -1,4 +1,5 @@
--- Literals on the variables that occur, which are numbered from 1 in order of their first occurrence.
+-- Literals on the variables that occur, which are numbered from 1 in order of their first
+-- occurrence.
 use Rattle.std.specs.Prelude.{ℕ, ◌+◌, ◌==◌, ◌++◌, List, [], ◌∷◌, map, fold, if◌then◌else◌}
 use Rattle.std.specs.List.{list_any, position_or_len}
 use Rattle.std.specs.Option.{option_map}
@@ -7,7 +8,8 @@ use Rattle.dq_lits.specs.Literal.{Literal, variable_of, on_variable}
 
 -- one more variable, where it didn't occur before
 abbrev pub with_variable : List ℕ → ℕ → List ℕ
-with_variable variables v = if list_any (λ variable. variable == v) variables then variables else variables ++ v ∷ []
+with_variable variables v =
+    if list_any (λ variable. variable == v) variables then variables else variables ++ v ∷ []
 
 abbrev pub with_variables : List ℕ → List ℕ → List ℕ
 with_variables variables vs = fold with_variable variables vs
@@ -23,4 +25,5 @@ abbrev pub renamed_clauses : List ℕ → LiveClauses → LiveClauses
 renamed_clauses variables live id = option_map (map (renamed_literal variables)) (live id)
 
 abbrev pub renamed_step : List ℕ → ProofStep → ProofStep
-renamed_step variables step = record step { literals = map (renamed_literal variables) step.literals }
+renamed_step variables step =
+    record step { literals = map (renamed_literal variables) step.literals }

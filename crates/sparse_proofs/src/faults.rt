@@ -9,9 +9,10 @@ use dq_lits::Memory;
 use rup_core::{Base, Marks, ProofFault, first_fault_any};
 use std::alloc::Global;
 
-/// The first fault of a proof whose lines have the ids from `first` on, behind those of the base; none where every line
-/// is derived and the last one is the empty clause. It takes memory as there are lines, and at each line for the
-/// variables that it assigns, which it gives back: nothing is kept of the clauses that lines hint.
+/// The first fault of a proof whose lines have the ids from `first` on, behind those of the base;
+/// none where every line is derived and the last one is the empty clause. It takes memory as there
+/// are lines, and at each line for the variables that it assigns, which it gives back: nothing is
+/// kept of the clauses that lines hint.
 pub fn first_fault<B: Base>(
     alloc: Global,
     base: &B,
@@ -21,7 +22,8 @@ pub fn first_fault<B: Base>(
     requires behind { (id : ℕ) → first ≤ id → B.clauses base.now id ≡ None }
     requires numbered { AreNumbered first steps.now }
     requires few { first + length steps.now ≤ 2 ^ 64 }
-    ensures { IfOk result (λ fault. proof_fault_in fault ≡ proof_fault (B.clauses base.now) steps.now) }
+    ensures { IfOk result
+        (λ fault. proof_fault_in fault ≡ proof_fault (B.clauses base.now) steps.now) }
 {
     let mut marks = Marks::new(alloc, steps.len())?;
     let lines = Lines { steps };
