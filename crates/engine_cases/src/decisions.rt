@@ -3,7 +3,7 @@
 ghost use Rattle.std.specs.Prelude.{◌≡◌, [], length};
 ghost use Rattle.dq_lits.specs.Formula.{IsWellFormed};
 
-use crate::reports::Detail;
+use crate::reports::{Detail, Report};
 use crate::scans::compare_verdict;
 use aig_graph::Graph;
 use anyhow::{Result, anyhow};
@@ -25,13 +25,43 @@ pub fn run(
     requires formula { IsWellFormed f.now }
 {
     let limit: u64 = limit.trim().parse()?;
+    let mut report = Report::new(alloc, detail);
+    let verdict = by_watches(alloc, f, limit, &mut report)?;
+    printed.push_str(&report.text)?;
+    compare_verdict(alloc, f, limit, verdict, printed)
+}
+
+// Decides a formula by the solver of the programs.
+fn by_watches(alloc: Global, f: &Formula, limit: u64, report: &mut Report) -> Result<&'static str>
+    requires formula { IsWellFormed f.now }
+{
     let mut oracle = Cdcl::new(alloc);
     let mut log = Log::new(alloc, limit);
-    let text = decided(alloc, &mut oracle, f, &mut log)?;
-    printed.push_str(text)?;
-    compare_verdict(alloc, f, limit, text, printed)?;
-    if let Detail::Bits = detail {
-        push_counts(alloc, &log, printed)?;
+    show_run(alloc, &mut oracle, f, &mut log, report)
+}
+
+// Decides a formula, and writes the verdict's word and, where it is asked for, how many rounds it
+// took.
+fn show_run<O: Oracle>(
+    alloc: Global,
+    oracle: &mut O,
+    f: &Formula,
+    log: &mut Log,
+    report: &mut Report,
+) -> Result<&'static str>
+    requires formula { IsWellFormed f.now }
+    requires fit { O.Fits oracle.old log.old }
+    requires empty { log.old.entries ≡ [] }
+{
+    let verdict = decided(alloc, oracle, f, log)?;
+    show_verdict(alloc, verdict, log, report)?;
+    Ok(verdict)
+}
+
+fn show_verdict(alloc: Global, verdict: &str, log: &Log, report: &mut Report) -> Result<()> {
+    report.text.push_str(verdict)?;
+    if let Detail::Bits = report.detail {
+        push_counts(alloc, log, &mut report.text)?;
     }
     Ok(())
 }

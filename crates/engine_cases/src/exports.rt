@@ -40,12 +40,33 @@ pub fn run(
     if limit > MAX_STEPS {
         return Err(anyhow!("too many steps: {limit}"));
     }
-    let mut oracle = Cdcl::new(alloc);
-    let mut log = Log::new(alloc, limit);
+    run_within(alloc, f, limit, detail, printed)
+}
+
+fn run_within(
+    alloc: Global,
+    f: &Formula,
+    limit: u64,
+    detail: Detail,
+    printed: &mut String,
+) -> Result<()>
+    requires formula { IsWellFormed f.now }
+    requires limit { limit ≤ max_count }
+{
     let mut report = Report::new(alloc, detail);
-    refute(alloc, &mut oracle, f, &mut log, &mut report)?;
+    by_watches(alloc, f, limit, &mut report)?;
     printed.push_str(&report.text)?;
     compare_refutation(alloc, f, limit, &report, printed)
+}
+
+// Refutes a formula by the solver of the programs.
+fn by_watches(alloc: Global, f: &Formula, limit: u64, report: &mut Report) -> Result<()>
+    requires formula { IsWellFormed f.now }
+    requires limit { limit ≤ max_count }
+{
+    let mut oracle = Cdcl::new(alloc);
+    let mut log = Log::new(alloc, limit);
+    refute(alloc, &mut oracle, f, &mut log, report)
 }
 
 /// Decides a formula, and prints what the checker says of the refutation.

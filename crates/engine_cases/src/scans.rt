@@ -23,10 +23,16 @@ pub fn compare_verdict(
 ) -> Result<()>
     requires formula { IsWellFormed f.now }
 {
+    let scanned = verdict_by_scans(alloc, f, limit)?;
+    push_other(verdict, scanned, printed)
+}
+
+fn verdict_by_scans(alloc: Global, f: &Formula, limit: u64) -> Result<&'static str>
+    requires formula { IsWellFormed f.now }
+{
     let mut oracle = Scan::new(alloc);
     let mut log = Log::new(alloc, limit);
-    let scanned = decided(alloc, &mut oracle, f, &mut log)?;
-    push_other(verdict, scanned, printed)
+    decided(alloc, &mut oracle, f, &mut log)
 }
 
 /// Prints what the checker says of the refutation by scans, where it is something else, or the
@@ -41,11 +47,18 @@ pub fn compare_refutation(
     requires formula { IsWellFormed f.now }
     requires limit { limit ≤ max_count }
 {
+    let mut scanned = Report::new(alloc, shown.detail);
+    refute_by_scans(alloc, f, limit, &mut scanned)?;
+    push_other(&shown.text, &scanned.text, printed)
+}
+
+fn refute_by_scans(alloc: Global, f: &Formula, limit: u64, report: &mut Report) -> Result<()>
+    requires formula { IsWellFormed f.now }
+    requires limit { limit ≤ max_count }
+{
     let mut oracle = Scan::new(alloc);
     let mut log = Log::new(alloc, limit);
-    let mut scanned = Report::new(alloc, shown.detail);
-    refute(alloc, &mut oracle, f, &mut log, &mut scanned)?;
-    push_other(&shown.text, &scanned.text, printed)
+    refute(alloc, &mut oracle, f, &mut log, report)
 }
 
 fn push_other(first: &str, second: &str, printed: &mut String) -> Result<()> {
