@@ -1,6 +1,6 @@
 //! Nodes put in for inputs.
 
-ghost use Rattle.std.specs.Prelude.{◌≡◌, ◌≤◌, ◌<◌, false, length, All, IfOk};
+ghost use Rattle.std.specs.Prelude.{◌≡◌, ◌≤◌, ◌<◌, false, length, All, IfOk, OnErr};
 ghost use Rattle.aig_graph.specs.Graph.{IsNode};
 ghost use Rattle.aig_graph.specs.Made.{Extends, HasMore};
 ghost use Rattle.aig_graph.specs.Putting.{AreConeGates, IsReady, AreReady, HasPutIn};
@@ -15,12 +15,30 @@ use std::collections::BTreeMap;
 impl Graph {
     /// A node with the value of this one where the last inputs have the values of these nodes, in
     /// order; the inputs before them stay. Work and memory follow the node's cone. A refused call
-    /// leaves gates that were made.
+    /// leaves the graph as it was.
     pub fn put_in(&mut self, node: Node, subs: &[Node]) -> Result<Node, Memory>
         requires node { IsNode self.old node }
         requires subs { All (IsNode self.old) subs.now }
         requires few { length subs.now ≤ self.old.inputs }
         ensures extends { Extends self.old self.new }
+        ensures grown { HasMore self.old self.new }
+        ensures made { IfOk result (IsPutIn self.old self.new node subs.now) }
+        ensures err { OnErr result (self.new ≡ self.old) }
+    {
+        let count = self.gates();
+        let made = self.cone_put_in(node, subs);
+        if made.is_err() {
+            self.cut(count);
+        }
+        made
+    }
+
+    // The same, gate by gate.
+    fn cone_put_in(&mut self, node: Node, subs: &[Node]) -> Result<Node, Memory>
+        requires node { IsNode self.old node }
+        requires subs { All (IsNode self.old) subs.now }
+        requires few { length subs.now ≤ self.old.inputs }
+        ensures grown { HasMore self.old self.new }
         ensures made { IfOk result (IsPutIn self.old self.new node subs.now) }
     {
         self.every_graph_is_lawful();

@@ -1,5 +1,5 @@
 -- Tokens that are natural numbers, as a line's reader takes them and as the grammar spells them.
-use Rattle.std.proofs.Common.{◌≡◌, ℕ, ◌<◌, ◌^◌, pos, List, [], ◌∷◌, map, Option, None, Some, refl, sym, ◌∙◌, ap, ap₂, arith, subst, option_and_then, option_map}
+use Rattle.std.proofs.Common.{◌≡◌, ℕ, ◌<◌, ◌^◌, pos, List, [], ◌∷◌, map, Option, None, Some, refl, sym, ◌∙◌, ap, ap₂, subst, option_and_then, option_map}
 use Rattle.std.specs.List.{AllByRecursion}
 use Rattle.dq_text.proofs.Naturals.{natural_spelled, natural_taken}
 use Rattle.dq_text.specs.Number.{natural_of, number_of}

@@ -1,6 +1,8 @@
 -- A line's fault is the reading's, and each line makes the rest shorter.
-use Rattle.std.proofs.Common.{◌≡◌, ℕ, ◌+◌, ◌<◌, inl, inr, List, [], ◌∷◌, length, Result, Ok, Err, refl, sym, ◌∙◌, ap, arith, subst, length-append}
+use Rattle.std.proofs.Common.{◌≡◌, ℕ, ◌+◌, ◌<◌, inl, inr, List, [], ◌∷◌, length, Result, Ok, Err, Some, refl, sym, ◌∙◌, ap, arith, subst, ◌++◌, append_assoc, length-append}
+use Rattle.std.specs.Result.{IfOk}
 use Rattle.dq_text.specs.Line.{TextLine, lines_from, IsFirstLine}
+use Rattle.aiger_text.specs.CommentLine.{IsBehindMark, IsCommentLine}
 use Rattle.aiger_text.specs.Scan.{Body, LineFault, read_body, IsAagReading}
 use Rattle.aiger_text.specs.Steps.{line_of, TakesLine, StopsAt}
 use Rattle.aiger_text.specs.declared.faults.AagStop.{AagStop}
@@ -8,6 +10,7 @@ use Rattle.aiger_text.specs.declared.faults.AagStop.TheVariants.{Memory as NoMem
 use Rattle.aiger_text.specs.declared.faults.LineStop.{LineStop}
 use Rattle.aiger_text.specs.declared.faults.LineStop.TheVariants.{Fault, Memory}
 use Rattle.aiger_text.specs.declared.files.AagFile.{AagFile}
+use Rattle.aiger_text.specs.declared.files.ReadCircuit.{ReadCircuit}
 
 no_memory : (first : ℕ) (scanned : Result AagFile LineFault) → IsAagReading first scanned (Err NoMemory)
 no_memory first (Ok file) = tt
@@ -34,3 +37,15 @@ shorter (byte ∷ bytes) text others number line lines first some =
       | inl with_feed ↦ omega (arith, ap length with_feed, length-append text (10 ∷ others))
       | inr alone ↦ omega (arith, ap length alone.1)
     ]
+
+-- one line more is read
+pub one_more : (all before rest lines : List TextLine) (line : TextLine) → all ≡ before ++ lines → lines ≡ line ∷ rest → all ≡ (before ++ line ∷ []) ++ rest
+one_more all before rest lines line so_far next =
+    so_far ∙ ap (λ ls. before ++ ls) next ∙ sym (append_assoc before (line ∷ []) rest)
+
+pub comment_stands : (result : Result ReadCircuit AagStop) (text : List ℕ) (first : ℕ) (comment : List ℕ) (line : ℕ) →
+    IfOk result (λ r. r.file.comment ≡ Some comment) → IfOk result (λ r. r.comment_line ≡ Some line) → IsBehindMark text first comment line →
+    IfOk result (λ r. IsCommentLine text first r.file.comment r.comment_line)
+comment_stands (Ok r) text first comment line comment_is line_is stands =
+    subst (λ c. IsCommentLine text first c r.comment_line) (sym comment_is) (subst (λ l. IsCommentLine text first (Some comment) l) (sym line_is) stands)
+comment_stands (Err stop) text first comment line comment_is line_is stands = tt

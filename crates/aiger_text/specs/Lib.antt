@@ -1,4 +1,5 @@
 pub mod Canonical
+pub mod CommentLine
 pub mod FirstFault
 pub mod Grammar
 pub mod LineStop

@@ -45,11 +45,15 @@ header_numbers None = Err BadHeader
 header_numbers (Some ns) =
     if nat_lt (length ns) 5 || nat_lt 9 (length ns) then Err BadHeader else limited_counts_of ns
 
--- `aag` and five to nine natural numbers
+-- this word and five to nine natural numbers
+abbrev pub header_behind : List ℕ → List (List ℕ) → Result Header AagFault
+header_behind first [] = Err BadHeader
+header_behind first (word ∷ tokens) =
+    if bytes_eq word first then header_numbers (numbers_of tokens) else Err BadHeader
+
+-- the header of the ASCII form begins with `aag`
 abbrev pub header_of : List (List ℕ) → Result Header AagFault
-header_of [] = Err BadHeader
-header_of (word ∷ tokens) =
-    if bytes_eq word (codes "aag") then header_numbers (numbers_of tokens) else Err BadHeader
+header_of tokens = header_behind (codes "aag") tokens
 
 -- the variable is an input or a gate
 abbrev pub is_defined : Netlist → ℕ → Bool

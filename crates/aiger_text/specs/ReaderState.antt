@@ -5,7 +5,7 @@ use Rattle.circuit_plain.specs.Netlist.{Netlist, IsVariable, IsLiteral, IsDefine
 use Rattle.aiger_text.specs.Lines.{is_defined}
 use Rattle.aiger_text.specs.Scan.{Body}
 use Rattle.aiger_text.specs.Symbol.{SymbolTable}
-use Rattle.aiger_text.specs.declared.body.Reader.{Reader}
+use Rattle.aiger_text.specs.declared.body.CircuitReader.{CircuitReader}
 use Rattle.aiger_text.specs.declared.headers.Header.{Header}
 use Rattle.aiger_text.specs.declared.headers.TheConstants.{MAX_COUNT}
 use Rattle.aiger_text.specs.declared.numbers.GateNumbers.{GateNumbers}
@@ -13,7 +13,7 @@ use Rattle.aiger_text.specs.declared.faults.AagFault.{AagFault}
 use Rattle.aiger_text.specs.declared.faults.LineStop.{LineStop}
 use Rattle.aiger_text.specs.declared.faults.LineStop.TheVariants.{Fault, Memory}
 
-abbrev pub body_of : Reader → Body
+abbrev pub body_of : CircuitReader → Body
 body_of r =
     record {
       header_line = r.header_line;
@@ -30,7 +30,7 @@ pub record IsSmall (h : Header) : Type 0 where
   pub gates : h.gates ≤ MAX_COUNT
 
 -- the set has the variables of the inputs and gates, and the circuit the header's range
-pub record IsReady (r : Reader) : Type 0 where
+pub record IsReady (r : CircuitReader) : Type 0 where
   pub defined : (v : ℕ) → has_number r.defined v ≡ is_defined r.circuit v
   pub max_var : r.circuit.max_var ≡ r.header.max_var
   pub small : IsSmall r.header
@@ -58,7 +58,7 @@ IsNetlistOf line (Err (Fault name)) net = line ≡ Err name
 IsNetlistOf line (Err Memory) net = Unit {0}
 
 -- the header and the symbols stay
-pub record SameElse (old new : Reader) : Type 0 where
+pub record SameElse (old new : CircuitReader) : Type 0 where
   pub header_line : new.header_line ≡ old.header_line
   pub header : new.header ≡ old.header
   pub symbols : new.symbols ≡ old.symbols
@@ -71,7 +71,7 @@ IsTableOf line (Err (Fault name)) table = line ≡ Err name
 IsTableOf line (Err Memory) table = Unit {0}
 
 -- the header and the netlist stay
-pub record SameButSymbols (old new : Reader) : Type 0 where
+pub record SameButSymbols (old new : CircuitReader) : Type 0 where
   pub header_line : new.header_line ≡ old.header_line
   pub header : new.header ≡ old.header
   pub netlist : new.circuit ≡ old.circuit

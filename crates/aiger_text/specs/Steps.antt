@@ -1,9 +1,9 @@
 -- What one line does to the reading.
-use Rattle.std.specs.Prelude.{◌≡◌, ℕ, false, List, Result, Ok, Err}
+use Rattle.std.specs.Prelude.{◌≡◌, ℕ, true, false, List, Some, Result, Ok, Err}
 use Rattle.dq_text.specs.Line.{TextLine}
 use Rattle.dq_text.specs.BlankLine.{is_blank_line}
 use Rattle.aiger_text.specs.Lines.{begins_comment}
-use Rattle.aiger_text.specs.Scan.{Body, LineFault, next_part, read_line}
+use Rattle.aiger_text.specs.Scan.{Body, LineFault, next_part, read_line, finish}
 use Rattle.aiger_text.specs.declared.body.Part.{Part}
 use Rattle.aiger_text.specs.declared.body.Part.TheVariants.{InputLine, OutputLine, GateLine, SymbolLine}
 use Rattle.aiger_text.specs.declared.faults.AagStop.{AagStop}
@@ -11,6 +11,8 @@ use Rattle.aiger_text.specs.declared.faults.AagStop.TheVariants.{Refused, Memory
 use Rattle.aiger_text.specs.declared.faults.LineStop.{LineStop}
 use Rattle.aiger_text.specs.declared.faults.LineStop.TheVariants.{Fault, Memory}
 use Rattle.aiger_text.specs.declared.files.AagFile.{AagFile}
+use Rattle.aiger_text.specs.declared.reader.Taken.{Taken}
+use Rattle.aiger_text.specs.declared.reader.Taken.TheVariants.{Line, CommentMark}
 
 abbrev pub line_of : List ℕ → ℕ → List ℕ → TextLine
 line_of text number behind = record { text = text; number = number; behind = behind }
@@ -36,3 +38,16 @@ IsSymbolIfLast InputLine text = Unit {0}
 IsSymbolIfLast OutputLine text = Unit {0}
 IsSymbolIfLast GateLine text = Unit {0}
 IsSymbolIfLast SymbolLine text = (is_blank_line text ≡ false) × (begins_comment text ≡ false)
+
+-- the line is the comment's mark, and ends the reading, whatever stands behind it
+pub record EndsAtMark (old : Body) (text : List ℕ) (new : Body) : Type 0 where
+  pub ends : (number : ℕ) (behind : List ℕ) (next : Body → Result AagFile LineFault)
+      → read_line (next_part old) old (line_of text number behind) next ≡ finish old (Some behind)
+  pub marks : begins_comment text ≡ true
+  pub same : new ≡ old
+
+-- what any line does
+abbrev pub TakesAnyLine : Body → List ℕ → Result Taken LineStop → Body → Type 0
+TakesAnyLine old text (Ok Line) new = TakesLine old text (Ok tt) new
+TakesAnyLine old text (Ok CommentMark) new = EndsAtMark old text new
+TakesAnyLine old text (Err stop) new = TakesLine old text (Err stop) new

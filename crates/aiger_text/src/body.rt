@@ -18,7 +18,7 @@ use std::alloc::Global;
 
 /// What was read behind the header, and the header's line.
 #[derive(Debug, Drop)]
-pub struct Reader {
+pub struct CircuitReader {
     pub header_line: u64,
     pub header: Header,
     pub circuit: Circuit,
@@ -40,13 +40,18 @@ pub enum Part {
 }
 
 /// Nothing is read behind the header.
-pub fn start_reader(alloc: Global, header_line: u64, header: Header, numbers: Vec<u64>) -> Reader
+pub fn start_reader(
+    alloc: Global,
+    header_line: u64,
+    header: Header,
+    numbers: Vec<u64>,
+) -> CircuitReader
     requires small { IsSmall header }
     requires line { header_line < 2 ^ 62 }
     ensures body { body_of result ≡ start header_line header }
     ensures ready { IsReady result }
 {
-    Reader {
+    CircuitReader {
         header_line,
         header,
         circuit: Circuit::new(alloc, header.max_var),
@@ -73,7 +78,7 @@ fn is_literal_in_range(max_var: u64, literal: u64) -> bool
 }
 
 // The variable of an input.
-fn input_variable(reader: &Reader, literal: u64) -> Result<u64, AagFault>
+fn input_variable(reader: &CircuitReader, literal: u64) -> Result<u64, AagFault>
     requires { IsReady reader.now }
     ensures { MatchResult result
         (λ v. (input_of reader.now.circuit literal ≡ Ok (with_input reader.now.circuit v))
@@ -93,7 +98,7 @@ fn input_variable(reader: &Reader, literal: u64) -> Result<u64, AagFault>
 }
 
 /// Reads the line of an input.
-pub fn take_input(reader: &mut Reader, line: &[u8]) -> Result<(), LineStop>
+pub fn take_input(reader: &mut CircuitReader, line: &[u8]) -> Result<(), LineStop>
     requires ready { IsReady reader.old }
     requires room { length reader.old.circuit.inputs < reader.old.header.inputs }
     ensures netlist { IsNetlistOf
@@ -110,7 +115,7 @@ pub fn take_input(reader: &mut Reader, line: &[u8]) -> Result<(), LineStop>
 }
 
 // The literal of an output.
-fn output_literal(reader: &Reader, literal: u64) -> Result<u64, AagFault>
+fn output_literal(reader: &CircuitReader, literal: u64) -> Result<u64, AagFault>
     requires { IsReady reader.now }
     ensures { MatchResult result
         (λ l. (output_of reader.now.circuit literal ≡ Ok (with_output reader.now.circuit l))
@@ -127,7 +132,7 @@ fn output_literal(reader: &Reader, literal: u64) -> Result<u64, AagFault>
 }
 
 /// Reads the line of an output.
-pub fn take_output(reader: &mut Reader, line: &[u8]) -> Result<(), LineStop>
+pub fn take_output(reader: &mut CircuitReader, line: &[u8]) -> Result<(), LineStop>
     requires ready { IsReady reader.old }
     requires room { length reader.old.circuit.outputs < reader.old.header.outputs }
     ensures netlist { IsNetlistOf
@@ -143,7 +148,7 @@ pub fn take_output(reader: &mut Reader, line: &[u8]) -> Result<(), LineStop>
 }
 
 // The variable of the gate that a line's numbers are.
-fn gate_variable(reader: &Reader, numbers: GateNumbers) -> Result<u64, AagFault>
+fn gate_variable(reader: &CircuitReader, numbers: GateNumbers) -> Result<u64, AagFault>
     requires { IsReady reader.now }
     ensures { MatchResult result
         (λ v. (gate_of reader.now.circuit numbers.lhs numbers.left numbers.right
@@ -178,7 +183,7 @@ fn is_gate_in_range(max_var: u64, numbers: GateNumbers) -> bool
 }
 
 /// Reads the line of a gate.
-pub fn take_gate(reader: &mut Reader, line: &[u8]) -> Result<(), LineStop>
+pub fn take_gate(reader: &mut CircuitReader, line: &[u8]) -> Result<(), LineStop>
     requires ready { IsReady reader.old }
     requires room { length reader.old.circuit.gates < reader.old.header.gates }
     ensures netlist { IsNetlistOf (gate_line reader.old.circuit (numbers_of (line_tokens line.now)))
@@ -196,7 +201,7 @@ pub fn take_gate(reader: &mut Reader, line: &[u8]) -> Result<(), LineStop>
 }
 
 /// Which line comes next.
-pub fn part_of(reader: &Reader) -> Part
+pub fn part_of(reader: &CircuitReader) -> Part
     ensures { result ≡ next_part (body_of reader.now) }
 {
     if (reader.circuit.inputs().len() as u64) < reader.header.inputs {

@@ -46,3 +46,10 @@ pub struct AagFile {
     pub symbols: Symbols,
     pub comment: Option<Text>,
 }
+
+/// A circuit file that was read, and the number of its comment's first line, if it has a comment.
+#[derive(Debug, Drop)]
+pub struct ReadCircuit {
+    pub file: AagFile,
+    pub comment_line: Option<u64>,
+}

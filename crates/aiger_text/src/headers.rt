@@ -1,10 +1,9 @@
 //! The header line.
 
-ghost use Rattle.std.specs.Prelude.{◌≡◌, ◌==◌, ◌≤◌, not, false, nat_lt, length, Some, None, IfOk, codes, if◌then◌else◌};
+ghost use Rattle.std.specs.Prelude.{◌≡◌, ◌==◌, ◌≤◌, not, false, nat_lt, length, Some, None, IfOk, if◌then◌else◌};
 ghost use Rattle.std.specs.List.{list_any};
-ghost use Rattle.std.specs.Str.{bytes_eq};
 ghost use Rattle.dq_text.specs.Line.{line_tokens};
-ghost use Rattle.aiger_text.specs.Lines.{max_count, counts_of, limited_counts_of, header_numbers, header_of};
+ghost use Rattle.aiger_text.specs.Lines.{max_count, counts_of, limited_counts_of, header_numbers, header_behind};
 ghost use Rattle.aiger_text.specs.LineStop.{IsLineOf};
 ghost use Rattle.aiger_text.specs.ReaderState.{IsSmall};
 
@@ -25,26 +24,21 @@ pub struct Header {
 /// The largest count of a header.
 pub const MAX_COUNT: u64 = 1_000_000_000;
 
-/// Reads the header line.
-pub fn read_header(line: &[u8], numbers: &mut Vec<u64>) -> Result<Header, LineStop>
-    ensures header { IsLineOf (header_of (line_tokens line.now)) result }
+/// Reads the header line, whose first word is that of the file's form. The buffer has its numbers
+/// afterwards.
+pub fn read_header(line: &[u8], first: &[u8], numbers: &mut Vec<u64>) -> Result<Header, LineStop>
+    ensures header { IsLineOf (header_behind first.now (line_tokens line.now)) result }
     ensures small { IfOk result IsSmall }
 {
     let mut tokens = LineTokens::new(line);
     let Some(word) = tokens.next() else {
         return Err(LineStop::Fault(AagFault::BadHeader));
     };
-    if !is_aag(word) {
+    if !is_word(word, first) {
         return Err(LineStop::Fault(AagFault::BadHeader));
     }
     let all = take_numbers(&mut tokens, numbers)?;
     Ok(header_from(all, numbers)?)
-}
-
-fn is_aag(word: &[u8]) -> bool
-    ensures { result ≡ bytes_eq word.now (codes "aag") }
-{
-    is_word(word, b"aag")
 }
 
 // The header of these numbers, if all its tokens are natural numbers.

@@ -1,9 +1,12 @@
 //! ASCII AIGER, the combinational part, read exactly and written.
 #![tactic(auto)]
 
-pub use faults::{AagFault, AagStop};
-pub use files::{AagFile, Text};
-pub use reader::read;
+pub use body::{CircuitReader, Part, part_of, start_reader, take_gate, take_input, take_output};
+pub use faults::{AagFault, AagStop, LineStop};
+pub use files::{AagFile, ReadCircuit, Text};
+pub use headers::{Header, read_header};
+pub use reader::{Taken, at_end, finish_file, read, take_line};
+pub use symbol_steps::take_symbol;
 pub use symbols::Symbols;
 pub use writer::write;
 

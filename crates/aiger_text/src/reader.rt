@@ -1,16 +1,17 @@
 //! Reading a circuit file.
 
-ghost use Rattle.std.specs.Prelude.{◌≡◌, ◌+◌, ◌<◌, ◌^◌, length, OnOk, IfOk, MatchOption};
+ghost use Rattle.std.specs.Prelude.{◌≡◌, ◌+◌, ◌<◌, ◌^◌, length, Some, None, OnOk, IfOk, MatchOption};
 ghost use Rattle.std.specs.Option.{option_copied};
 ghost use Rattle.aiger_text.specs.Grammar.{SpellsCircuit};
-ghost use Rattle.aiger_text.specs.Scan.{scan, finish, next_part, AllGrounded, IsAagReading};
+ghost use Rattle.aiger_text.specs.Scan.{scan, finish, next_part, at_end, AllGrounded, IsAagReading};
 ghost use Rattle.circuit_plain.specs.Ground.{IsFirstUngrounded};
-ghost use Rattle.aiger_text.specs.Steps.{TakesLine, StopsAt, IsSymbolIfLast};
+ghost use Rattle.aiger_text.specs.Steps.{TakesLine, TakesAnyLine, StopsAt, IsSymbolIfLast};
+ghost use Rattle.aiger_text.specs.CommentLine.{IsCommentLine, file_of};
 ghost use Rattle.aiger_text.specs.ReaderState.{body_of, IsReady};
 
-use crate::body::{Part, Reader, part_of, start_reader, take_gate, take_input, take_output};
+use crate::body::{CircuitReader, Part, part_of, start_reader, take_gate, take_input, take_output};
 use crate::faults::{AagFault, AagStop, LineStop};
-use crate::files::{AagFile, Text};
+use crate::files::{AagFile, ReadCircuit, Text};
 use crate::headers::read_header;
 use crate::laws::circuit_or_first_fault;
 use crate::symbol_lines::is_comment_mark;
@@ -22,49 +23,103 @@ use dq_lits::Memory;
 use dq_text::{Lines, is_blank};
 use std::alloc::Global;
 
+/// What a line was.
+#[derive(Clone, Copy, Debug, PartialEq, Eq)]
+pub enum Taken {
+    /// A line of the file.
+    Line,
+    /// The mark behind which the comment stands.
+    CommentMark,
+}
+
 /// Reads an ASCII AIGER file whose first line has the number `first`: exactly the circuit file that
 /// it spells within the limits, or its first fault by line and name.
-pub fn read(alloc: Global, bytes: &[u8], first: u64) -> Result<AagFile, AagStop>
+pub fn read(alloc: Global, bytes: &[u8], first: u64) -> Result<ReadCircuit, AagStop>
     requires { first + length bytes.now < 2 ^ 62 }
-    ensures exact { IsAagReading first (scan bytes.now first) result }
-    ensures spelled { IfOk result (SpellsCircuit bytes.now) }
+    ensures exact { IsAagReading first (scan bytes.now first) (file_of result) }
+    ensures spelled { IfOk result (λ read. SpellsCircuit bytes.now read.file) }
+    ensures comment { IfOk result
+        (λ read. IsCommentLine bytes.now first read.file.comment read.comment_line) }
 {
     circuit_or_first_fault();
     read_file(alloc, bytes, first)
 }
 
 // What the lines of a file give.
-fn read_file(alloc: Global, bytes: &[u8], first: u64) -> Result<AagFile, AagStop>
+fn read_file(alloc: Global, bytes: &[u8], first: u64) -> Result<ReadCircuit, AagStop>
     requires { first + length bytes.now < 2 ^ 62 }
-    ensures { IsAagReading first (scan bytes.now first) result }
+    ensures exact { IsAagReading first (scan bytes.now first) (file_of result) }
+    ensures comment { IfOk result
+        (λ read. IsCommentLine bytes.now first read.file.comment read.comment_line) }
 {
     let mut lines = Lines::new(bytes, first);
     let Some(line) = lines.next() else {
         return Err(refused(first, AagFault::BadHeader));
     };
     let mut numbers = Vec::new(alloc);
-    let header = match read_header(line.text, &mut numbers) {
+    let header = match read_header(line.text, b"aag", &mut numbers) {
         Ok(header) => header,
         Err(stop) => return Err(at_line(line.number, stop)),
     };
     let mut reader = start_reader(alloc, line.number, header, numbers);
     while let Some(line) = lines.next() {
-        match part_of(&reader) {
-            Part::SymbolLine if is_blank(line.text) => {}
-            Part::SymbolLine if is_comment_mark(line.text) => {
-                return finish_file(alloc, reader, Some(lines.rest()));
+        match take_line(alloc, &mut reader, line.text) {
+            Ok(Taken::Line) => {}
+            Ok(Taken::CommentMark) => {
+                return behind_mark(alloc, reader, lines.rest(), lines.number());
             }
-            part => {
-                if let Err(stop) = take_line(alloc, &mut reader, part, line.text) {
-                    return Err(at_line(line.number, stop));
-                }
-            }
+            Err(stop) => return Err(at_line(line.number, stop)),
         }
     }
+    at_end(alloc, reader, lines.number())
+}
+
+// The file whose comment begins on this line.
+fn behind_mark(
+    alloc: Global,
+    reader: CircuitReader,
+    comment: &[u8],
+    line: u64,
+) -> Result<ReadCircuit, AagStop>
+    requires { IsReady reader }
+    ensures exact { IsAagReading reader.header_line (finish (body_of reader) (Some comment.now))
+        (file_of result) }
+    ensures comment { IfOk result (λ read. read.file.comment ≡ Some comment.now) }
+    ensures line { IfOk result (λ read. read.comment_line ≡ Some line) }
+{
+    let file = finish_file(alloc, reader, Some(comment))?;
+    Ok(ReadCircuit {
+        file,
+        comment_line: Some(line),
+    })
+}
+
+/// The file where the text ends, and the next line would have this number.
+pub fn at_end(alloc: Global, reader: CircuitReader, number: u64) -> Result<ReadCircuit, AagStop>
+    requires { IsReady reader }
+    ensures exact { IsAagReading reader.header_line
+        (at_end (next_part (body_of reader)) (body_of reader) number) (file_of result) }
+    ensures comment { IfOk result (λ read. read.file.comment ≡ None) }
+    ensures line { IfOk result (λ read. read.comment_line ≡ None) }
+{
     match part_of(&reader) {
-        Part::SymbolLine => finish_file(alloc, reader, None),
-        _ => Err(refused(lines.number(), AagFault::Truncated)),
+        Part::SymbolLine => without_comment(alloc, reader),
+        _ => Err(refused(number, AagFault::Truncated)),
     }
+}
+
+fn without_comment(alloc: Global, reader: CircuitReader) -> Result<ReadCircuit, AagStop>
+    requires { IsReady reader }
+    ensures exact { IsAagReading reader.header_line (finish (body_of reader) None)
+        (file_of result) }
+    ensures comment { IfOk result (λ read. read.file.comment ≡ None) }
+    ensures line { IfOk result (λ read. read.comment_line ≡ None) }
+{
+    let file = finish_file(alloc, reader, None)?;
+    Ok(ReadCircuit {
+        file,
+        comment_line: None,
+    })
 }
 
 fn refused(line: u64, name: AagFault) -> AagStop
@@ -82,8 +137,30 @@ fn at_line(line: u64, stop: LineStop) -> AagStop
     }
 }
 
+/// Reads the next line behind the header.
+pub fn take_line(alloc: Global, reader: &mut CircuitReader, line: &[u8]) -> Result<Taken, LineStop>
+    requires ready { IsReady reader.old }
+    ensures line { TakesAnyLine (body_of reader.old) line.now result (body_of reader.new) }
+    ensures ready { OnOk result (IsReady reader.new) }
+    ensures header_line { reader.new.header_line ≡ reader.old.header_line }
+{
+    match part_of(reader) {
+        Part::SymbolLine if is_blank(line) => Ok(Taken::Line),
+        Part::SymbolLine if is_comment_mark(line) => Ok(Taken::CommentMark),
+        part => {
+            take_part(alloc, reader, part, line)?;
+            Ok(Taken::Line)
+        }
+    }
+}
+
 // Reads a line that is neither blank nor the comment's mark where symbols stand.
-fn take_line(alloc: Global, reader: &mut Reader, part: Part, line: &[u8]) -> Result<(), LineStop>
+fn take_part(
+    alloc: Global,
+    reader: &mut CircuitReader,
+    part: Part,
+    line: &[u8],
+) -> Result<(), LineStop>
     requires ready { IsReady reader.old }
     requires part { part ≡ next_part (body_of reader.old) }
     requires symbol { IsSymbolIfLast part line.now }
@@ -99,10 +176,15 @@ fn take_line(alloc: Global, reader: &mut Reader, part: Part, line: &[u8]) -> Res
     }
 }
 
-// The file as it stands, unless it names what it doesn't define or has a cycle.
-fn finish_file(alloc: Global, reader: Reader, comment: Option<&[u8]>) -> Result<AagFile, AagStop>
+/// The file as it stands, unless it names what it doesn't define or has a cycle.
+pub fn finish_file(
+    alloc: Global,
+    reader: CircuitReader,
+    comment: Option<&[u8]>,
+) -> Result<AagFile, AagStop>
     requires { IsReady reader }
-    ensures { IsAagReading reader.header_line
+    ensures comment { IfOk result (λ file. file.comment ≡ option_copied comment.entry) }
+    ensures exact { IsAagReading reader.header_line
         (finish (body_of reader) (option_copied comment.entry)) result }
 {
     if let Some(line) = first_undefined_line(&reader) {
@@ -112,7 +194,7 @@ fn finish_file(alloc: Global, reader: Reader, comment: Option<&[u8]>) -> Result<
         return Err(refused(gate_line(&reader, place), AagFault::Cyclic));
     }
     let comment = copy_comment(alloc, comment)?;
-    let Reader {
+    let CircuitReader {
         circuit,
         symbols,
         ..
@@ -140,7 +222,7 @@ fn cyclic_gate(circuit: &Circuit) -> Result<Option<usize>, Memory>
 }
 
 // The line of the gate at a place.
-fn gate_line(reader: &Reader, place: usize) -> u64
+fn gate_line(reader: &CircuitReader, place: usize) -> u64
     requires ready { IsReady reader.now }
     requires in_range { place < length reader.now.circuit.gates }
     ensures { result

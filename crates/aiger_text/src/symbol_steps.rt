@@ -5,14 +5,14 @@ ghost use Rattle.aiger_text.specs.Lines.{add_symbol, symbol_of, symbol_line};
 ghost use Rattle.aiger_text.specs.SymbolEntry.{entry_symbol};
 ghost use Rattle.aiger_text.specs.ReaderState.{IsReady, IsTableOf, SameButSymbols};
 
-use crate::body::Reader;
+use crate::body::CircuitReader;
 use crate::faults::{AagFault, LineStop};
 use crate::files::Text;
 use crate::symbol_lines::{SymbolEntry, symbol_entry};
 use std::alloc::Global;
 
 /// Reads the line of a symbol.
-pub fn take_symbol(alloc: Global, reader: &mut Reader, line: &[u8]) -> Result<(), LineStop>
+pub fn take_symbol(alloc: Global, reader: &mut CircuitReader, line: &[u8]) -> Result<(), LineStop>
     requires { IsReady reader.old }
     ensures symbols { IsTableOf
         (symbol_line reader.old.header reader.old.symbols (symbol_of line.now)) result
@@ -30,7 +30,7 @@ pub fn take_symbol(alloc: Global, reader: &mut Reader, line: &[u8]) -> Result<()
     }
 }
 
-fn name_input(alloc: Global, reader: &mut Reader, entry: SymbolEntry) -> Result<(), LineStop>
+fn name_input(alloc: Global, reader: &mut CircuitReader, entry: SymbolEntry) -> Result<(), LineStop>
     requires ready { IsReady reader.old }
     requires of_input { entry.of_input ≡ true }
     ensures symbols { IsTableOf
@@ -47,7 +47,11 @@ fn name_input(alloc: Global, reader: &mut Reader, entry: SymbolEntry) -> Result<
     Ok(())
 }
 
-fn name_output(alloc: Global, reader: &mut Reader, entry: SymbolEntry) -> Result<(), LineStop>
+fn name_output(
+    alloc: Global,
+    reader: &mut CircuitReader,
+    entry: SymbolEntry,
+) -> Result<(), LineStop>
     requires ready { IsReady reader.old }
     requires of_output { entry.of_input ≡ false }
     ensures symbols { IsTableOf

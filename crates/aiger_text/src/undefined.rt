@@ -6,11 +6,11 @@ ghost use Rattle.circuit_plain.specs.Netlist.{gate_at};
 ghost use Rattle.aiger_text.specs.Scan.{stands_on_defined, reads_defined, undefined_line};
 ghost use Rattle.aiger_text.specs.ReaderState.{body_of, IsReady};
 
-use crate::body::Reader;
+use crate::body::CircuitReader;
 
 /// The line of the first output, or else of the first gate, that names a variable that is neither
 /// input nor gate.
-pub fn first_undefined_line(reader: &Reader) -> Option<u64>
+pub fn first_undefined_line(reader: &CircuitReader) -> Option<u64>
     requires { IsReady reader.now }
     ensures { result ≡ undefined_line (body_of reader.now) }
 {
@@ -23,14 +23,14 @@ pub fn first_undefined_line(reader: &Reader) -> Option<u64>
 }
 
 // Whether a literal stands on the constant, an input or a gate.
-fn is_named(reader: &Reader, literal: u64) -> bool
+fn is_named(reader: &CircuitReader, literal: u64) -> bool
     requires { IsReady reader.now }
     ensures { result ≡ stands_on_defined reader.now.circuit literal }
 {
     literal / 2 == 0 || reader.defined.contains(literal / 2)
 }
 
-fn undefined_output(reader: &Reader) -> Option<usize>
+fn undefined_output(reader: &CircuitReader) -> Option<usize>
     requires { IsReady reader.now }
     ensures { result
         ≡ position (λ l. not (stands_on_defined reader.now.circuit l)) reader.now.circuit.outputs }
@@ -42,7 +42,7 @@ fn undefined_output(reader: &Reader) -> Option<usize>
         .position(|literal| !is_named(reader, *literal))
 }
 
-fn undefined_gate(reader: &Reader) -> Option<usize>
+fn undefined_gate(reader: &CircuitReader) -> Option<usize>
     requires { IsReady reader.now }
     ensures { result
         ≡ position (λ g. not (reads_defined reader.now.circuit g)) reader.now.circuit.gates }
@@ -56,7 +56,7 @@ fn undefined_gate(reader: &Reader) -> Option<usize>
 }
 
 // Whether the gate at place `i` reads a variable that is neither input nor gate.
-fn names_undefined(reader: &Reader, i: usize) -> bool
+fn names_undefined(reader: &CircuitReader, i: usize) -> bool
     requires ready { IsReady reader.now }
     requires in_range { i < length reader.now.circuit.gates }
     ensures { result ≡ not (reads_defined reader.now.circuit (gate_at reader.now.circuit i)) }

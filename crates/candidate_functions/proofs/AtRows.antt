@@ -9,6 +9,7 @@ use Rattle.dq_lits.specs.Literal.{Assignment, Literal, positive, negative, varia
 use Rattle.dq_lits.specs.Formula.{Existential, Dqbf, is_universal, existential_of, HasLawfulPrefix}
 use Rattle.dq_lits.specs.Expansion.{row_assignment, pair_number, pair_literal, universal_literal_true, instance_clause, InstanceHolds}
 use Rattle.definition_order.proofs.Declared.{variable, find_sound}
+use Rattle.candidate_functions.specs.AtRow.{IsAtRow}
 
 any_is : (v : ℕ) (xs : List ℕ) → list_any (λ x. x == v) xs ≡ true → Contains xs v
 any_is v [] h = cc
@@ -41,9 +42,8 @@ literal_true-same m n (positive v) h = h
 literal_true-same m n (negative v) h = ap not h
 
 -- what is fixed while a row of the table is looked at
-pub record AtRow (f : Dqbf) (rows : List (List Bool)) (row : List Bool) (m n : Assignment) : Type 0 where
-  pub universal : (v : ℕ) → is_universal f v ≡ true → n v ≡ row_assignment f row v
-  pub existential : (v : ℕ) (y : Existential) → existential_of f v ≡ Some y → n v ≡ m (pair_number f rows row y)
+abbrev pub AtRow : Dqbf → List (List Bool) → List Bool → Assignment → Assignment → Type 0
+AtRow f rows row m n = IsAtRow f rows row m n
 
 module _ (f : Dqbf) (rows : List (List Bool)) (row : List Bool) (m n : Assignment) (t : AtRow f rows row m n) where
   by_universal : (clause : List Literal) → list_any (universal_literal_true f row) clause ≡ true → clause_true n clause ≡ true

@@ -15,6 +15,7 @@ use Rattle.aig_graph.specs.Graph.{AigGraph, node_value, node_support}
 use Rattle.aig_graph.specs.Outputs.{node_output}
 use Rattle.aig_graph.specs.declared.nodes.Node.{Node}
 use Rattle.expansion.specs.Table.{PointBits, ArePoints}
+use Rattle.candidate_functions.specs.AtRow.{IsAtRow}
 use Rattle.candidate_functions.specs.Candidates.{SeesRow, AgreesAtPairs}
 use Rattle.candidate_functions.proofs.AtRows.{contains_mapped, apart, AtRow, clause_holds}
 use Rattle.candidate_functions.proofs.DeclaredPlaces.{is_found, all_from_contains, all_mapped, one_mapped}
@@ -30,16 +31,23 @@ existential_value f rows row m None = false
 existential_value f rows row m (Some y) = m (pair_number f rows row y)
 
 -- the row, and the model's bits at its pairs
-abbrev at_row : Dqbf → List (List Bool) → List Bool → Assignment → Assignment
+abbrev pub at_row : Dqbf → List (List Bool) → List Bool → Assignment → Assignment
 at_row f rows row m v = cond (is_universal f v) (row_assignment f row v) (existential_value f rows row m (existential_of f v))
 
-is_at_row : (f : Dqbf) → HasLawfulPrefix f → (rows : List (List Bool)) (row : List Bool) (m : Assignment) → AtRow f rows row m (at_row f rows row m)
+pub is_at_row : (f : Dqbf) → HasLawfulPrefix f → (rows : List (List Bool)) (row : List Bool) (m : Assignment) → AtRow f rows row m (at_row f rows row m)
 is_at_row f lawful rows row m = record {
   universal = λ v h. ap (λ b. cond b (row_assignment f row v) (existential_value f rows row m (existential_of f v))) h;
   existential = λ v y found.
       let no_universal : is_universal f v ≡ false = elim (cases_Bool (is_universal f v)) [ inl h ↦ absurd (apart f lawful v y found h) | inr h ↦ h ] in
       ap (λ b. cond b (row_assignment f row v) (existential_value f rows row m (existential_of f v))) no_universal ∙ ap (existential_value f rows row m) found;
 }
+
+-- where the instances of a row hold, a definition has the model's bit at its pair
+pub defined_at_pair : (f : Dqbf) (graph : AigGraph) (y : Existential) (node : Node) → existential_of f y.variable ≡ Some y → IsDefinition f graph y node →
+    (rows : List (List Bool)) (row : List Bool) (model : Assignment) → All (λ clause. InstanceHolds model (instance_clause f rows row clause)) f.matrix →
+    (m : Assignment) → IsAtRow f rows row model m → model (pair_number f rows row y) ≡ (defining_output f graph node).value m
+defined_at_pair f graph y node own is rows row model instances m t =
+    sym (t.existential y.variable y own) ∙ is.defines m (λ j e inside. clause_holds f rows row model m t (get_or f.matrix j e) (instances j e inside))
 
 same_bits_seen : (m n : Assignment) (xs : List ℕ) (x : ℕ) → map m xs ≡ map n xs → Contains xs x → m x ≡ n x
 same_bits_seen m n xs x same (k, below, is) =

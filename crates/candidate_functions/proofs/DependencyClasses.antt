@@ -1,8 +1,8 @@
 -- Classes of existentials with one dependency set, and where the universals of the set stand.
-use Rattle.std.proofs.Common.{◌≡◌, ℕ, ◌+◌, ◌<◌, ◌==◌, Bool, List, [], ◌∷◌, ◌++◌, length, take, get_or, slice_get, Option, None, Some, IsSome, IfSome, refl, sym, ◌∙◌, ap, subst, arith}
-use Rattle.std.specs.List.{All, Contains, position_or_len}
+use Rattle.std.proofs.Common.{◌≡◌, ℕ, ◌<◌, ◌↔◌, IsTrue, true, Bool, List, [], ◌∷◌, ◌++◌, length, slice_get, Option, None, Some, IsSome, IfSome, refl, sym, ◌∙◌, ap, subst, arith}
+use Rattle.std.specs.List.{All, Contains}
 use Rattle.std.specs.Option.{option_map}
-use Rattle.std.proofs.lemmas.List.{take_more, map-append, get_or_push, length_push}
+use Rattle.std.proofs.lemmas.List.{get_or_push, length_push}
 use Rattle.std.proofs.lemmas.List.Elements.{All-contains, All-map, All-weaker, All-push}
 use Rattle.std.proofs.lemmas.Option.{slice_get_within, get_or_from_slice_get, slice_get_read}
 use Rattle.dq_lits.specs.Formula.{Existential, Dqbf, existential_of}
@@ -17,19 +17,17 @@ use Rattle.candidate_functions.proofs.DeclaredPlaces.{is_found}
 use Rattle.definition_order.proofs.Declared.{sees_universals, some_existential}
 use Rattle.candidate_functions.proofs.LargerGraphs.{classes_stay}
 
-pub seen_among : (f : Dqbf) → IsLawful f → (v : ℕ) (xs : List ℕ) → IsSome (existential_of f v) → IfSome (existential_of f v) (λ y. xs ≡ y.sees) → All (Contains f.universals) xs
-seen_among f lawful v xs is h = some_existential f v (All (Contains f.universals) xs) is (λ y found.
-    let same : xs ≡ y.sees = subst (λ o. IfSome o (λ z. xs ≡ z.sees)) found h in
-    subst (All (Contains f.universals)) (sym same) (sees_universals f lawful v y found))
+-- a test of what two variables see, where both are existentials
+pub same_sets : (o p : Option Existential) (b : Bool) → IsSome o → IsSome p → ((d e : Existential) → o ≡ Some d → p ≡ Some e → IsTrue b ↔ (d.sees ≡ e.sees)) → b ≡ true
+    → option_map (λ (y : Existential). y.sees) o ≡ option_map (λ (y : Existential). y.sees) p
+same_sets None p b some_o some_p test is = cc
+same_sets (Some d) None b some_o some_p test is = cc
+same_sets (Some d) (Some e) b some_o some_p test is = ap Some ((test d e refl refl).0 is)
 
-place_more : (f : Dqbf) (xs : List ℕ) (i d : ℕ) → i < length xs → universal_places f (take (i + 1) xs) ≡ universal_places f (take i xs) ++ position_or_len (λ u. u == get_or xs i d) f.universals ∷ []
-place_more f xs i d lt = ap (universal_places f) (take_more xs i d lt) ∙ map-append (λ x. position_or_len (λ u. u == x) f.universals) (take i xs) (get_or xs i d ∷ [])
-
--- one place more, at the end of those that were found
-pub places_more : (f : Dqbf) (xs : List ℕ) (i d : ℕ) (old new : List ℕ) (p : ℕ) → i < length xs → new ≡ old ++ p ∷ [] → old ≡ universal_places f (take i xs)
-    → p ≡ position_or_len (λ u. u == get_or xs i d) f.universals → new ≡ universal_places f (take (i + 1) xs)
-places_more f xs i d old new p lt pushed before is =
-    pushed ∙ ap (λ ps. ps ++ p ∷ []) before ∙ ap (λ q. universal_places f (take i xs) ++ q ∷ []) is ∙ sym (place_more f xs i d lt)
+-- the places of what an existential sees
+pub places_told : (f : Dqbf) (v : ℕ) (places : List ℕ) → IfSome (existential_of f v) (λ y. places ≡ universal_places f y.sees)
+    → (y : Existential) → existential_of f v ≡ Some y → places ≡ universal_places f y.sees
+places_told f v places told y found = subst (λ o. IfSome o (λ z. places ≡ universal_places f z.sees)) found told
 
 pub places_below : (f : Dqbf) → IsLawful f → (v : ℕ) (places : List ℕ) (n : ℕ) → n ≡ length f.universals → IsSome (existential_of f v)
     → ((y : Existential) → existential_of f v ≡ Some y → places ≡ universal_places f y.sees) → All (λ p. p < n) places

@@ -1,3 +1,4 @@
+pub mod AtRow
 pub mod Candidates
 pub mod Pairs
 pub mod Settling

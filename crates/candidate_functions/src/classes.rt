@@ -6,9 +6,8 @@ ghost use Rattle.aig_graph.specs.Made.{Extends};
 ghost use Rattle.candidate_functions.specs.Pairs.{set_of, AreSeenPairs, IsClass, HasClass, HasClassLike};
 
 use crate::cubes::{Pair, all_pairs};
-use crate::places::seen_places;
 use aig_graph::Graph;
-use dq_formula::{Deps, Formula};
+use dq_formula::Formula;
 use dq_lits::Memory;
 use expansion::Table;
 use std::alloc::Global;
@@ -29,46 +28,43 @@ pub(crate) struct Classes {
     pub known: KnownSets,
 }
 
-// Dependency sets, each with a place.
+// For each existential, by place, one with the same dependency set, and for such a one the place of
+// its class.
 #[derive(Drop)]
 pub(crate) struct KnownSets {
-    prefixes: BTreeMap<usize, usize>,
-    lists: BTreeMap<Vec<u64>, usize>,
+    leaders: Vec<usize>,
+    places: BTreeMap<usize, usize>,
 }
 
 impl KnownSets {
     // It promises nothing of what it finds, since each answer is compared.
-    fn first_with(&mut self, alloc: Global, set: &Deps, next: usize) -> Result<usize, Memory> {
-        match set {
-            Deps::FirstOf(n) => {
-                if let Some(first) = self.prefixes.get(n) {
-                    return Ok(*first);
-                }
-                self.prefixes.insert(*n, next)?;
-            }
-            Deps::Listed(universals) => {
-                let key = Vec::from_slice(alloc, universals.items())?;
-                if let Some(first) = self.lists.get(&key) {
-                    return Ok(*first);
-                }
-                self.lists.insert(key, next)?;
-            }
+    fn first_with(&mut self, f: &Formula, y: u64, next: usize) -> Result<usize, Memory> {
+        let Some(place) = f.existential_place(y) else {
+            return Ok(next);
+        };
+        let Some(leader) = self.leaders.get(place) else {
+            return Ok(next);
+        };
+        if let Some(first) = self.places.get(leader) {
+            return Ok(*first);
         }
+        self.places.insert(*leader, next)?;
         Ok(next)
     }
 }
 
-pub(crate) fn no_classes(alloc: Global) -> Classes
-    ensures { result.classes.items ≡ [] }
+pub(crate) fn no_classes(alloc: Global, f: &Formula) -> Result<Classes, Memory>
+    ensures { IfOk result (λ made. made.classes.items ≡ []) }
 {
-    Classes {
+    let leaders = f.set_leaders(alloc)?;
+    Ok(Classes {
         alloc,
         classes: Vec::new(alloc),
         known: KnownSets {
-            prefixes: BTreeMap::new(alloc),
-            lists: BTreeMap::new(alloc),
+            leaders,
+            places: BTreeMap::new(alloc),
         },
-    }
+    })
 }
 
 impl Classes {
@@ -92,7 +88,7 @@ impl Classes {
             (λ place. HasClass f.now table.now.rows graph.new self.new.classes.items place y) }
     {
         let next = self.classes.len();
-        let first = self.known.first_with(self.alloc, f.deps_of(y), next)?;
+        let first = self.known.first_with(f, y, next)?;
         if is_class_of(f, &self.classes, first, y) {
             return Ok(first);
         }
@@ -117,7 +113,7 @@ fn seen_pairs(
         → IfOk result (λ pairs. AreSeenPairs f.now table.now.rows graph.new e.sees pairs.items) }
 {
     f.every_formula_is_lawful();
-    let places = seen_places(alloc, f, y)?;
+    let places = f.seen_places(alloc, y)?;
     all_pairs(alloc, table, &places, graph)
 }
 
@@ -129,25 +125,13 @@ fn is_class_of(f: &Formula, classes: &[Class], place: usize, y: u64) -> bool
     place < classes.len() && have_one_set(f, classes[place].y, y)
 }
 
-// Whether two variables have one dependency set, in one form.
+// Whether two variables have one dependency set.
 fn have_one_set(f: &Formula, v: u64, w: u64) -> bool
     requires { IsSome (existential_of f.now w) }
     ensures { result ≡ true → set_of f.now v ≡ set_of f.now w }
 {
-    f.is_existential(v) && are_same(f.deps_of(v), f.deps_of(w))
-}
-
-fn are_same(a: &Deps, b: &Deps) -> bool
-    ensures { result ≡ true → a.now ≡ b.now }
-{
-    match a {
-        Deps::FirstOf(m) => match b {
-            Deps::FirstOf(n) => *m == *n,
-            Deps::Listed(_) => false,
-        },
-        Deps::Listed(xs) => match b {
-            Deps::FirstOf(_) => false,
-            Deps::Listed(ys) => xs.items() == ys.items(),
-        },
+    if !f.is_existential(v) {
+        return false;
     }
+    f.have_one_set(v, w)
 }

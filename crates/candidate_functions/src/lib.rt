@@ -8,7 +8,7 @@ mod building;
 mod classes;
 mod cubes;
 mod definitions;
+pub mod laws;
 mod outputs;
 mod patches;
-mod places;
 mod rules;

@@ -53,7 +53,7 @@ pub(crate) fn first_outputs(
         (point_bits known.now.points.now) rules known.now.definitions.now graph.new
         (length known.now.f.now.existentials) nodes.items) }
 {
-    let mut classes = no_classes(alloc);
+    let mut classes = no_classes(alloc, known.f)?;
     let mut nodes = Vec::new(alloc);
     for place in 0..others.len() {
         let node = classes.first_output(known, place, others[place], graph)?;

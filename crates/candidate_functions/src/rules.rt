@@ -8,7 +8,6 @@ ghost use Rattle.aig_graph.specs.Graph.{IsNode};
 ghost use Rattle.aig_graph.specs.Made.{Extends};
 ghost use Rattle.candidate_functions.specs.Pairs.{input_literal, IsCubeNode, AreByRules};
 
-use crate::places::universal_place;
 use aig_graph::{Graph, Node};
 use dq_formula::{Formula, Rule};
 use dq_lits::{Lit, Memory};
@@ -91,5 +90,5 @@ fn input_literal(f: &Formula, l: Lit) -> Node
     requires universal { Contains f.now.universals (variable_of l) }
     ensures { result ≡ input_literal f.now l }
 {
-    Node::Input(universal_place(f, l.var()), l.is_neg())
+    Node::Input(f.place_of(l.var()), l.is_neg())
 }

@@ -10,6 +10,7 @@ use Rattle.hint_log.specs.Entries.{Learned}
 use Rattle.hint_log.specs.Conditions.{AreNamed, AreIds, IsId}
 use Rattle.hint_log.specs.Entries.{ProofLog, with_entry, clause_at, name_of, last_id}
 use Rattle.oracle.specs.Fit.{Fit, live_in}
+use Rattle.oracle.specs.Limits.{HasNextLemma}
 use Rattle.oracle.specs.Searched.{Stands}
 use Rattle.cdcl_core.specs.Growing.{HasLearned}
 use Rattle.cdcl_core.specs.declared.trails.Step.{Step}
@@ -19,7 +20,7 @@ use Rattle.cdcl_core.specs.Lessons.{IsLesson, IsJump, IsLanded, landed}
 use Rattle.cdcl_core.specs.declared.searchers.Searcher.{Searcher}
 use Rattle.cdcl_core.specs.Searching.{IsSearching}
 use Rattle.cdcl_core.proofs.HeldLiterals.{holds_first, holds_later}
-use Rattle.cdcl_core.proofs.Lessons.{lesson_derived, lesson_new, lesson_tied, lesson_stands, lesson_sound, lesson_guided, lesson_lands, guided_later, trail_named}
+use Rattle.cdcl_core.proofs.Lessons.{lesson_derived, lesson_new, lesson_tied, lesson_stands, lesson_active, lesson_sound, lesson_guided, lesson_lands, guided_later, trail_named}
 use Rattle.cdcl_core.proofs.FitLogs.{fit_learned}
 
 pub clauses_within : (held : List (List Literal)) (variables n : ℕ) (es : List Entry) → Fit held variables es → variables < n → All (λ c. All (λ l. variable_of l < n) c) held
@@ -88,6 +89,17 @@ module _ (assumptions : List Literal) (s : Searcher) (log : ProofLog) (new : Tra
       (lesson_new log.entries assumptions s.clauses.clauses s.variables s.trail new step marks clause hints d searching.fit searching.sound searching.guided decided chosen lesson)
       (lesson_tied log.entries assumptions s.clauses.clauses s.variables s.trail new step marks clause hints d searching.fit searching.sound searching.guided decided chosen lesson)
       (lesson_stands log.entries assumptions s.clauses.clauses s.variables s.trail new step marks clause hints d searching.fit searching.sound searching.guided decided chosen lesson)
+
+  -- what could be learned, whether the log has room for it or not
+  pub learn_next : HasNextLemma log.entries assumptions
+  learn_next = record {
+    clause = clause;
+    hints = hints;
+    derived = lesson_derived log.entries assumptions s.clauses.clauses s.variables s.trail new step marks clause hints d searching.fit searching.sound searching.guided decided chosen lesson;
+    new = lesson_new log.entries assumptions s.clauses.clauses s.variables s.trail new step marks clause hints d searching.fit searching.sound searching.guided decided chosen lesson;
+    stands = lesson_stands log.entries assumptions s.clauses.clauses s.variables s.trail new step marks clause hints d searching.fit searching.sound searching.guided decided chosen lesson;
+    active = lesson_active log.entries assumptions s.clauses.clauses s.variables s.trail new step marks clause hints d searching.fit searching.sound searching.guided decided chosen lesson;
+  }
 
   learn_sound : (back : Trailed) (id : ℕ) → IsJump new back marks → id ≡ last_id log.entries + 1 → IsSound (live_in (s.clauses.clauses ++ clause ∷ [])) (landed step id ∷ back.steps)
   learn_sound back id jump is =

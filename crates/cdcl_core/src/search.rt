@@ -8,10 +8,11 @@
 ghost use Rattle.std.specs.Prelude.{◌≡◌, ◌≤◌, ◌<◌, ◌+◌, ◌⊎◌, true, length, take, IfOk, OnErr, Ok, Err, IsSome, MatchOption};
 ghost use Rattle.dq_lits.specs.Literal.{Literal, variable_of, is_negative};
 ghost use Rattle.dq_lits.specs.Derivation.{holds, status_of, falsified};
-ghost use Rattle.hint_log.specs.Entries.{steps_of, name_of};
+ghost use Rattle.hint_log.specs.Entries.{name_of};
 ghost use Rattle.hint_log.specs.Naming.{is_selector};
 ghost use Rattle.hint_log.specs.ProductiveLog.{IsClosed};
 ghost use Rattle.oracle.specs.Fit.{Fit, live_in};
+ghost use Rattle.oracle.specs.Limits.{IsAtLimit};
 ghost use Rattle.cdcl_core.specs.Growing.{HasLearned};
 ghost use Rattle.cdcl_core.specs.Steps.{literals_of, IsFree};
 ghost use Rattle.cdcl_core.specs.Searching.{IsSearching, IsReady, IsAllGuarded, AreAssumptions, IsTurn, IsFound, KeepsPlaces};
@@ -41,7 +42,7 @@ pub(crate) fn search(
     ensures fit { Fit s.new.clauses.clauses s.new.variables log.new.entries }
     ensures places { KeepsPlaces s.old s.new }
     ensures stop { OnErr result (HasLearned log.old log.new) }
-    ensures limit { result ≡ Err Stop.Limit → steps_of log.new.entries ≡ log.new.limit }
+    ensures limit { result ≡ Err Stop.Limit → IsAtLimit log.new assumptions.now }
 {
     let mut made = 0usize;
     'turns: loop {
@@ -71,7 +72,7 @@ fn turn(
     ensures fit { Fit s.new.clauses.clauses s.new.variables log.new.entries }
     ensures places { KeepsPlaces s.old s.new }
     ensures stop { OnErr result (HasLearned log.old log.new) }
-    ensures limit { result ≡ Err Stop.Limit → steps_of log.new.entries ≡ log.new.limit }
+    ensures limit { result ≡ Err Stop.Limit → IsAtLimit log.new assumptions.now }
 {
     match s.clauses.propagate(&mut s.trail) {
         Some(id) => {
@@ -103,7 +104,7 @@ fn conflict(
     ensures fit { Fit s.new.clauses.clauses s.new.variables log.new.entries }
     ensures places { KeepsPlaces s.old s.new }
     ensures stop { OnErr result (HasLearned log.old log.new) }
-    ensures limit { result ≡ Err Stop.Limit → steps_of log.new.entries ≡ log.new.limit }
+    ensures limit { result ≡ Err Stop.Limit → IsAtLimit log.new assumptions.now }
 {
     match free_decision(&s.trail, assumptions) {
         Some(l) => {

@@ -152,4 +152,23 @@ impl Oracle for Cdcl {
       hinted = (tt, fit.hinted);
       kept = (tt, fit.kept);
     } };
+
+    ghost begun = { λ s log live fit. record {
+      count = fit.count;
+      same = fit.same;
+      in_range = fit.in_range;
+      all_named = fit.all_named;
+      logged = (tt, fit.logged);
+      selectors = fit.selectors;
+      grouped = (tt, fit.grouped);
+      negated = λ id c l at h.
+          record {
+            named = (fit.negated id c l at h).named;
+            negated = (fit.negated id c l at h).negated;
+          };
+      derived = (tt, fit.derived);
+      new = (tt, fit.new);
+      hinted = (tt, fit.hinted);
+      kept = (tt, fit.kept);
+    } };
 }

@@ -63,6 +63,25 @@ implied_negative entries clauses steps s stand sound implied sel = by_reason s.r
         let r = reason_of clauses id (literals_of steps) s.literal status in
         (stand id r.clause s.literal r.is r.implied.among).negated sel
 
+-- a selector that the trail makes true was assumed
+pub trail_assumed : (entries : List Entry) (assumptions : List Literal) (clauses : List (List Literal)) (steps : List Step) → AllStand entries (live_in clauses) → IsSound (live_in clauses) steps
+    → IsGuided entries assumptions steps → (t : Literal) → holds (literals_of steps) t ≡ true → is_selector entries (variable_of t) ≡ true → is_negative t ≡ false → holds assumptions t ≡ true
+trail_assumed entries assumptions clauses [] stand sound guided t on sel positive = cc
+trail_assumed entries assumptions clauses (s ∷ steps) stand sound guided t on sel positive =
+    elim (holds_cases s.literal (literals_of steps) t on) [
+      | inl e ↦
+          let here = sym (ap (λ x. is_selector entries (variable_of x)) e) ∙ sel in
+          let not_negative = sym positive ∙ ap is_negative e in
+          elim (cases_Bool (is_decision s)) [
+            | inl was ↦ elim (guided.0.chosen was) [
+              | inl a ↦ ap (holds assumptions) e ∙ a
+              | inr c ↦ absurd (false≢true (not_negative ∙ c.1 here))
+            ]
+            | inr other ↦ absurd (false≢true (not_negative ∙ implied_negative entries clauses steps s stand sound other here))
+          ]
+      | inr later ↦ trail_assumed entries assumptions clauses steps stand sound.1 guided.1 t later sel positive
+    ]
+
 -- what is below the newest level
 pub below_closed : (live : LiveClauses) (steps : List Step) (d : Literal) → IsSound live steps → decision_of steps ≡ Some d → IsClosed live (literals_of (under_level steps))
 below_closed live [] d sound is = cc
@@ -146,6 +165,11 @@ module _ (entries : List Entry) (assumptions : List Literal) (clauses : List (Li
     named = ap (λ v. is_some (name_of entries v)) (sym (opposite-variable l)) ∙ trail_named entries assumptions clauses (step ∷ new.steps) stand lesson_sound lesson_guided (opposite l) (on_trail l h);
     negated = lesson.negated entries stand l h;
   }
+
+  pub lesson_active : (l : Literal) → holds clause l ≡ true → is_selector entries (variable_of l) ≡ true → holds assumptions (opposite l) ≡ true
+  lesson_active l h sel =
+      trail_assumed entries assumptions clauses (step ∷ new.steps) stand lesson_sound lesson_guided (opposite l) (on_trail l h) (ap (is_selector entries) (opposite-variable l) ∙ sel)
+      (opposite-negative l ∙ ap not (lesson.negated entries stand l h sel))
 
   pub lesson_no_selector : is_selector entries (variable_of step.literal) ≡ false
   lesson_no_selector = false_from_ne_true (is_selector entries (variable_of step.literal)) (λ sel.

@@ -7,7 +7,7 @@ use Rattle.std.proofs.lemmas.Option.{slice_get-get_or}
 use Rattle.dq_lits.specs.Literal.{Literal, variable_of, opposite, same_literal}
 use Rattle.dq_lits.specs.Derivation.{LiveClauses, holds, status_of, unit}
 use Rattle.hint_log.specs.Entries.{Entry}
-use Rattle.hint_log.specs.Entries.{Named, Given, Learned, Answer, Round}
+use Rattle.hint_log.specs.Entries.{Named, Given, Learned, Answer, Round, Begun}
 use Rattle.hint_log.specs.Entries.{ProofLog, clause_at, name_of}
 use Rattle.hint_log.specs.Growth.{EachOf}
 use Rattle.hint_log.specs.Naming.{is_selector_name}
@@ -93,6 +93,7 @@ name_same es (Given o c ∷ more) each v = absurd each.0
 name_same es (Learned c hs ∷ more) each v = name_same es more each.1 v
 name_same es (Answer c hs ∷ more) each v = absurd each.0
 name_same es (Round r vs j ∷ more) each v = absurd each.0
+name_same es (Begun live ∷ more) each v = absurd each.0
 
 pub names_same : (old new : ProofLog) → HasLearned old new → (v : ℕ) → name_of new.entries v ≡ name_of old.entries v
 names_same old new learned v = ap (λ es. name_of es v) learned.grown ∙ name_same old.entries learned.more learned.each v

@@ -4,10 +4,11 @@ ghost use Rattle.std.specs.Prelude.{◌≡◌, ◌≤◌, ◌<◌, ◌+◌, ◌-
 ghost use Rattle.dq_lits.specs.Literal.{Literal, variable_of, opposite, positive};
 ghost use Rattle.dq_lits.specs.Derivation.{is_tautology};
 ghost use Rattle.hint_log.specs.Conditions.{AreNamed};
-ghost use Rattle.hint_log.specs.Entries.{steps_of, last_id, with_entry, clause_at};
+ghost use Rattle.hint_log.specs.Entries.{last_id, with_entry, clause_at};
 ghost use Rattle.hint_log.specs.Entries.{Given};
 ghost use Rattle.oracle.specs.Fit.{Fit};
 ghost use Rattle.oracle.specs.Calls.{IsMade, IsPlain, IsModelUnder, IsRefutedUnder, assumed};
+ghost use Rattle.oracle.specs.Limits.{IsAtLimit};
 ghost use Rattle.cdcl_scan.specs.Growing.{HasLearned};
 ghost use Rattle.cdcl_scan.specs.Steps.{literals_of, literal_value};
 ghost use Rattle.cdcl_scan.specs.Searching.{IsSearching, AreAssumptions, IsFound, HasRoom, KeepsPlaces};
@@ -114,7 +115,7 @@ pub(crate) fn find(
     ensures marks { HasRoom s.new }
     ensures model { length model.new ≡ length model.old }
     ensures stop { OnErr result (HasLearned log.old log.new) }
-    ensures limit { result ≡ Err Stop.Limit → steps_of log.new.entries ≡ log.new.limit }
+    ensures limit { result ≡ Err Stop.Limit → IsAtLimit log.new (assumed active.now assume.now) }
 {
     s.notes.begin()?;
     let assumptions = listed(s.alloc, active, assume)?;
@@ -158,7 +159,7 @@ fn search_and_keep(
     ensures places { KeepsPlaces s.old s.new }
     ensures model { length model.new ≡ length model.old }
     ensures stop { OnErr result (HasLearned log.old log.new) }
-    ensures limit { result ≡ Err Stop.Limit → steps_of log.new.entries ≡ log.new.limit }
+    ensures limit { result ≡ Err Stop.Limit → IsAtLimit log.new assumptions.now }
 {
     match search(s, assumptions, log)? {
         Answer::Sat => {

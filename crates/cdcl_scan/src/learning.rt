@@ -7,6 +7,7 @@ ghost use Rattle.hint_log.specs.Conditions.{AreNamed, AreIds};
 ghost use Rattle.hint_log.specs.Entries.{steps_of, last_id, with_entry};
 ghost use Rattle.hint_log.specs.Entries.{Learned};
 ghost use Rattle.oracle.specs.Fit.{Fit, live_in};
+ghost use Rattle.oracle.specs.Limits.{IsAtLimit};
 ghost use Rattle.cdcl_scan.specs.Growing.{HasLearned};
 ghost use Rattle.cdcl_scan.specs.Steps.{literals_of, decision_of, is_decision, IsFree};
 ghost use Rattle.cdcl_scan.specs.Marks.{is_level_marked};
@@ -42,7 +43,7 @@ pub(crate) fn learn(
     ensures places { KeepsPlaces s.old s.new }
     ensures fit { Fit s.new.clauses.clauses s.new.variables log.new.entries }
     ensures learned { HasLearned log.old log.new }
-    ensures limit { result ≡ Err Stop.Limit → steps_of log.new.entries ≡ log.new.limit }
+    ensures limit { result ≡ Err Stop.Limit → IsAtLimit log.new assumptions.now }
 {
     let first = analyse(
         &mut s.trail,

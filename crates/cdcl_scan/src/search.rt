@@ -8,10 +8,11 @@
 ghost use Rattle.std.specs.Prelude.{◌≡◌, ◌≤◌, ◌<◌, ◌+◌, ◌⊎◌, true, length, IfOk, OnErr, Ok, Err, IsSome, MatchOption};
 ghost use Rattle.dq_lits.specs.Literal.{variable_of, is_negative};
 ghost use Rattle.dq_lits.specs.Derivation.{holds, status_of, falsified};
-ghost use Rattle.hint_log.specs.Entries.{steps_of, name_of};
+ghost use Rattle.hint_log.specs.Entries.{name_of};
 ghost use Rattle.hint_log.specs.Naming.{is_selector};
 ghost use Rattle.hint_log.specs.ProductiveLog.{IsClosed};
 ghost use Rattle.oracle.specs.Fit.{Fit, live_in};
+ghost use Rattle.oracle.specs.Limits.{IsAtLimit};
 ghost use Rattle.cdcl_scan.specs.Growing.{HasLearned};
 ghost use Rattle.cdcl_scan.specs.Steps.{literals_of, IsFree};
 ghost use Rattle.cdcl_scan.specs.Searching.{IsSearching, AreAssumptions, IsTurn, IsFound, KeepsPlaces};
@@ -37,7 +38,7 @@ pub(crate) fn search(s: &mut Searcher, assumptions: &[Lit], log: &mut Log) -> Re
     ensures fit { Fit s.new.clauses.clauses s.new.variables log.new.entries }
     ensures places { KeepsPlaces s.old s.new }
     ensures stop { OnErr result (HasLearned log.old log.new) }
-    ensures limit { result ≡ Err Stop.Limit → steps_of log.new.entries ≡ log.new.limit }
+    ensures limit { result ≡ Err Stop.Limit → IsAtLimit log.new assumptions.now }
 {
     'turns: loop {
         match turn(s, assumptions, log)? {
@@ -58,7 +59,7 @@ fn turn(s: &mut Searcher, assumptions: &[Lit], log: &mut Log) -> Result<Option<F
     ensures fit { Fit s.new.clauses.clauses s.new.variables log.new.entries }
     ensures places { KeepsPlaces s.old s.new }
     ensures stop { OnErr result (HasLearned log.old log.new) }
-    ensures limit { result ≡ Err Stop.Limit → steps_of log.new.entries ≡ log.new.limit }
+    ensures limit { result ≡ Err Stop.Limit → IsAtLimit log.new assumptions.now }
 {
     match propagate(&mut s.trail, &s.clauses) {
         Some(id) => conflict(s, assumptions, id, log),
@@ -87,7 +88,7 @@ fn conflict(
     ensures fit { Fit s.new.clauses.clauses s.new.variables log.new.entries }
     ensures places { KeepsPlaces s.old s.new }
     ensures stop { OnErr result (HasLearned log.old log.new) }
-    ensures limit { result ≡ Err Stop.Limit → steps_of log.new.entries ≡ log.new.limit }
+    ensures limit { result ≡ Err Stop.Limit → IsAtLimit log.new assumptions.now }
 {
     match free_decision(&s.trail, assumptions) {
         Some(l) => {

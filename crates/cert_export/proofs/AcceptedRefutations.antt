@@ -20,10 +20,11 @@ use Rattle.hint_log.specs.Naming.{rows_of}
 use Rattle.cert_export.specs.Renaming.{Renaming, IsInjective, renamed_clause, IsPartOf}
 use Rattle.expansion.specs.Table.{IsRefutedBy}
 use Rattle.cert_export.specs.Lines.{is_derived, derived_ids, clause_or_empty, line_clause, line_step, line_steps}
-use Rattle.cert_export.specs.Expansion.{pair_of, pair_renaming, instance_id}
+use Rattle.cert_export.specs.Expansion.{pair_of, pair_renaming, instance_id, IsInstanceClause}
+use Rattle.cert_export.specs.Given.{EachGivenReached}
 use Rattle.hint_log.specs.Growth.{Each}
 use Rattle.hint_log.specs.Conditions.{MayFollow, AreLogged}
-use Rattle.hint_log.specs.ProductiveLog.{MatchesOrigin, IsDerivedByHints}
+use Rattle.hint_log.specs.ProductiveLog.{IsDerivedByHints}
 use Rattle.hint_log.specs.declared.names.Name.TheVariants.{Selector}
 use Rattle.cert_text.specs.Grammar.{AreSteps}
 use Rattle.cert_text.specs.Pairs.{is_pair_number}
@@ -31,11 +32,10 @@ use Rattle.cert_text.specs.Scan.{first_id}
 use Rattle.cert_export.specs.LineOrder.{IsRenamedBase, AreLineNumbers, AreLines, AreFinished}
 use Rattle.cert_export.proofs.Numbers.{lines_have_numbers, rising_filter}
 use Rattle.cert_export.proofs.Allowed.{consecutive, steps_allowed}
-use Rattle.hint_log.specs.Deciding.{IsInstance}
 use Rattle.cert_export.specs.Exported.{exported_steps, IsPairRenaming, last_instance, exported_number, ExportedAnswerRefutes, ExportedLinesAreAllowed}
 use Rattle.cert_export.proofs.PairNames.{IsPair, pair_parts, in_range, from_one, small_place, pairs_are_injective}
 use Rattle.cert_export.proofs.Instances.{instances_are_expansion}
-use Rattle.cert_export.proofs.Answers.{answer_there, reached_given, selectors_dropped}
+use Rattle.cert_export.proofs.Answers.{answer_there, selectors_dropped}
 use Rattle.cert_export.proofs.DerivedLines.{lines_are_derived}
 use Rattle.cert_export.proofs.ReachedLines.{rising_of, are_lines, are_finished}
 use Rattle.log_laws.proofs.Found.{find_sound}
@@ -132,12 +132,6 @@ module _ (f : Dqbf) (entries : List Entry) (id : ℕ) (lawful : Each MayFollow e
   id_is : id ≡ last_id all
   id_is = shown.last ∙ ap last_id shown.answered
 
-  pub usable : (h : ℕ) (origin : Origin) (c : List Literal) → Reaches entries id h → numbered has_id entries h ≡ Some (Given origin c) → IsInstance origin
-  usable h origin c reached at =
-      let reached' : Reaches all (last_id all) h = subst (λ n. Reaches all n h) id_is (subst (λ xs. Reaches xs id h) shown.answered reached) in
-      let at' : numbered has_id all h ≡ Some (Given origin c) = ap (λ xs. numbered has_id xs h) (sym shown.answered) ∙ at in
-      shown.decides.instances origin c (reached_given shown.earlier shown.clause shown.hints lawful' h origin c reached' at')
-
   answer_at : numbered has_id entries id ≡ Some (Answer shown.clause shown.hints)
   answer_at = ap (λ xs. numbered has_id xs id) shown.answered ∙ ap (numbered has_id all) id_is ∙ answer_there shown.earlier shown.clause shown.hints lawful'
 
@@ -154,20 +148,21 @@ module _ (f : Dqbf) (entries : List Entry) (id : ℕ) (lawful : Each MayFollow e
           by_option None e = refl
           by_option (Some x) e = let both : None ≡ Some x = sym (ap (pair_of f (rows_of entries)) there) ∙ part v x e in cc
 
-module _ (f : Dqbf) (entries : List Entry) (id : ℕ) (ids : List ℕ) (r : Renaming) (well : IsWellFormed f) (lawful : AreLogged entries) (given : Each (MatchesOrigin f) entries)
+module _ (f : Dqbf) (live : List ℕ) (entries : List Entry) (id : ℕ) (ids : List ℕ) (r : Renaming) (well : IsWellFormed f) (lawful : AreLogged entries)
+    (given : EachGivenReached (IsInstanceClause f live entries) entries id)
     (shown : IsRefutedBy entries id) (are : AreReached entries id ids) (names : IsPairRenaming f entries ids r) where
   abbrev C : ℕ
   C = length f.matrix
 
   abbrev IsUsed : Origin → List Literal → Type 0
-  IsUsed origin c = IsInstance origin × (renamed_clause r c ≡ renamed_clause (pair_renaming f entries) c)
+  IsUsed origin c = IsInstanceClause f live entries origin c × (renamed_clause r c ≡ renamed_clause (pair_renaming f entries) c)
 
   used : (h : ℕ) (origin : Origin) (c : List Literal) → Reaches entries id h → numbered has_id entries h ≡ Some (Given origin c) → IsUsed origin c
-  used h origin c reached at = (usable f entries id lawful shown h origin c reached at, names.whole h origin c (are.complete h reached) at)
+  used h origin c reached at = (given h origin c reached at, names.whole h origin c (are.complete h reached) at)
 
-  base_right : IsRenamedBase r (instance_id C) IsUsed (instance_at f (rows_of entries)) (last_instance f entries) entries
+  base_right : IsRenamedBase r (instance_id live C) IsUsed (instance_at f (rows_of entries)) (last_instance f entries) entries
   base_right h origin c at kept =
-      let b = instances_are_expansion f entries well lawful given h origin c at kept.0 in
+      let b = instances_are_expansion f live entries well lawful h origin c at kept.0 in
       (b.0 ∙ ap Some (sym kept.1), b.1)
 
   injective : IsInjective r
@@ -183,22 +178,22 @@ module _ (f : Dqbf) (entries : List Entry) (id : ℕ) (ids : List ℕ) (r : Rena
   finished = are_finished IsUsed entries lawful id (exported_number f entries ids) (last_instance f entries) numbers used r ids are
       (ap is_derived (answer_at f entries id lawful shown)) (answer_empty f entries id lawful shown r names.right)
 
-  accepted : Each IsDerivedByHints entries → proof_fault (instance_at f (rows_of entries)) (map (normal_step f (rows_of entries)) (exported_steps f entries ids r)) ≡ None
+  accepted : Each IsDerivedByHints entries → proof_fault (instance_at f (rows_of entries)) (map (normal_step f (rows_of entries)) (exported_steps f live entries ids r)) ≡ None
   accepted derived =
-      ap (proof_fault (instance_at f (rows_of entries))) (normal_steps f well entries r names.right (instance_id C) (exported_number f entries ids) (derived_ids entries ids))
-      ∙ lines_are_derived r (instance_id C) IsUsed (instance_at f (rows_of entries)) (last_instance f entries) entries (exported_number f entries ids) (derived_ids entries ids)
+      ap (proof_fault (instance_at f (rows_of entries))) (normal_steps f well entries r names.right (instance_id live C) (exported_number f entries ids) (derived_ids entries ids))
+      ∙ lines_are_derived r (instance_id live C) IsUsed (instance_at f (rows_of entries)) (last_instance f entries) entries (exported_number f entries ids) (derived_ids entries ids)
       injective lawful derived base_right lines false finished
 
-  allowed : AreSteps (is_pair_number f (length (rows_of entries))) (first_id f (length (rows_of entries))) (exported_steps f entries ids r)
+  allowed : AreSteps (is_pair_number f (length (rows_of entries))) (first_id f (length (rows_of entries))) (exported_steps f live entries ids r)
   allowed =
       let base = last_instance f entries in
       let rising = rising_filter (λ h. is_derived (numbered has_id entries h)) ids (rising_of ids (AllPairs-from_increasing ids are.ascending)) in
-      steps_allowed r (instance_id C) IsUsed (instance_at f (rows_of entries)) base entries (exported_number f entries ids) (is_pair_number f (length (rows_of entries)))
+      steps_allowed r (instance_id live C) IsUsed (instance_at f (rows_of entries)) base entries (exported_number f entries ids) (is_pair_number f (length (rows_of entries)))
       refl base_right (λ v x h. pair_right f well entries x (name_of entries v) (pair_parts f (rows_of entries) (name_of entries v) x (names.right v x h))) (derived_ids entries ids) [] (base + 1)
       lines (consecutive base (derived_ids entries ids) rising) (omega arith) (λ h inside. absurd (let b = inside.1 in omega arith))
 
 pub exported_answer_refutes : ExportedAnswerRefutes
-exported_answer_refutes f entries id ids r well lawful given derived shown are names = accepted f entries id ids r well lawful given shown are names derived
+exported_answer_refutes f live entries id ids r well lawful given derived shown are names = accepted f live entries id ids r well lawful given shown are names derived
 
 pub exported_lines_are_allowed : ExportedLinesAreAllowed
-exported_lines_are_allowed f entries id ids r well lawful given shown are names = allowed f entries id ids r well lawful given shown are names
+exported_lines_are_allowed f live entries id ids r well lawful given shown are names = allowed f live entries id ids r well lawful given shown are names

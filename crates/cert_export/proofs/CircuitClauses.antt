@@ -16,7 +16,7 @@ use Rattle.hint_log.specs.declared.names.Name.TheVariants.{Selector, Input, And,
 use Rattle.hint_log.specs.declared.origins.Leaf.{Leaf}
 use Rattle.hint_log.specs.declared.origins.Leaf.TheVariants.{Constant, Literal as LeafLiteral}
 use Rattle.hint_log.specs.declared.origins.Origin.{Origin}
-use Rattle.hint_log.specs.declared.origins.Origin.TheVariants.{Instance, Gate as GateOf, Fault, Copy, Link}
+use Rattle.hint_log.specs.declared.origins.Origin.TheVariants.{Instance, Gate as GateOf, Fault, Copy, Link, TermGate, Differ}
 use Rattle.circuit_plain.specs.Netlist.{Netlist}
 use Rattle.circuit_plain.specs.declared.circuits.Gate.{Gate}
 use Rattle.cert_text.specs.NegatedMatrix.{opposite_of, gate_clauses, literal_under, falsity_clauses, all_falsity_clauses, some_clause_false, as_literal, without_constants}
@@ -25,14 +25,14 @@ use Rattle.skolem_checker.specs.SkolemCircuit.{MappedCircuit}
 use Rattle.hint_log.specs.Growth.{Each}
 use Rattle.hint_log.specs.Naming.{numbered_from_one, named_literal, name_literal}
 use Rattle.hint_log.specs.Origins.{leaf_with_sign, leaf_clause, matrix_literal, gate_rest, IsGateRest, IsLeafOf, IsFaultRest, IsSomeFaultRest, IsOriginsClause}
+use Rattle.cert_export.specs.Given.{HasUniversalInputs}
 use Rattle.cert_export.specs.Renaming.{Renaming, renamed_clause}
 use Rattle.cert_export.specs.CircuitPart.{CircuitPart, max_number, circuit_number, circuit_renaming, or_zero, literal_code, leaf_code, gate_of, exported_netlist, exported_mapping, exported_candidate, last_base_id, circuit_id, IsOwnLeaf, IsCircuitClause, IsLeafInFile, IsCircuitPart}
 use Rattle.cert_export.specs.ExportedCircuit.{CircuitClausesAreNegatedMatrix}
-use Rattle.hint_log.specs.ProductiveLog.{MatchesOrigin}
 use Rattle.cert_export.proofs.Codes.{opposite_even, as_even, as_odd, AreVariables, no_constants, false_behind}
 use Rattle.cert_export.proofs.CircuitNumbers.{IsPlace, position_is, among, HasNumber, circuit_numbered, as_code, code_big, opposite_code, opposite_number, renamed_is, clause_codes}
 use Rattle.log_laws.proofs.ReachedClauses.{name_stays}
-use Rattle.log_laws.proofs.Found.{each_at, named_variable, find_there, numbered_among, split_at, variable, find_sound}
+use Rattle.log_laws.proofs.Found.{named_variable, find_there, numbered_among, split_at, variable, find_sound}
 use Rattle.log_laws.proofs.Solved.{split_literal, sides}
 use Rattle.cert_export.proofs.PairNames.{small_place, from_one}
 use Rattle.cert_export.proofs.Instances.{same_on}
@@ -222,13 +222,13 @@ bads_are : (xs : List ℕ) → map as_literal (map (λ bad. 2 * bad) xs) ≡ map
 bads_are [] = refl
 bads_are (x ∷ xs) = ap (λ q. q ∷ map as_literal (map (λ bad. 2 * bad) xs)) (as_even x) ∙ ap (λ qs. positive x ∷ qs) (bads_are xs)
 
-there_is : {X : Type 0} (xs : List X) (j : ℕ) → 1 ≤ j → j ≤ length xs → (x : X) × (numbered_from_one xs j ≡ Some x)
+pub there_is : {X : Type 0} (xs : List X) (j : ℕ) → 1 ≤ j → j ≤ length xs → (x : X) × (numbered_from_one xs j ≡ Some x)
 there_is xs zero h k = absurd (omega arith)
 there_is [] (suc j) h k = absurd (omega arith)
 there_is (y ∷ ys) (suc zero) h k = (y, refl)
 there_is (y ∷ ys) (suc (suc j)) h k = there_is ys (suc j) (omega arith) (omega arith)
 
-module _ (f : Dqbf) (all : List Entry) (e : CircuitPart) (well : IsWellFormed f) (lawful : Each MayFollow all) (given : Each (MatchesOrigin f) all) (part : IsCircuitPart f all e) where
+module _ (f : Dqbf) (all : List Entry) (e : CircuitPart) (well : IsWellFormed f) (lawful : Each MayFollow all) (given : HasUniversalInputs f all) (part : IsCircuitPart f all e) where
   abbrev r : Renaming
   r = circuit_renaming f all e
 
@@ -420,10 +420,12 @@ module _ (f : Dqbf) (all : List Entry) (e : CircuitPart) (well : IsWellFormed f)
         (g.0 ∙ ap Some (sym same), g.1)
     clause_right (Copy side j) c o mine = absurd mine
     clause_right (Link v i) c o mine = absurd mine
+    clause_right (TermGate v i) c o mine = absurd mine
+    clause_right (Differ y leaf part) c o mine = absurd mine
 
 pub circuit_clauses_are_negated_matrix : CircuitClausesAreNegatedMatrix
 circuit_clauses_are_negated_matrix f entries e well lawful given part id origin c at usable =
     let place = split_at entries id (Given origin c) at in
     let is : entries ≡ (place.0 ++ Given origin c ∷ []) ++ place.1 = place.2 ∙ sym (append_assoc place.0 (Given origin c ∷ []) place.1) in
     clause_right f entries e well lawful given part place.1 (place.0 ++ Given origin c ∷ []) is origin c
-    (each_at (MatchesOrigin f) place.0 place.1 (Given origin c) (subst (Each (MatchesOrigin f)) place.2 given)) usable
+    (usable.1 place.0 place.1 place.2) usable.0

@@ -8,12 +8,13 @@ use Rattle.std.proofs.lemmas.List.Sums.{passes_at_first}
 use Rattle.dq_lits.specs.Literal.{Literal, positive, negative, variable_of, is_negative, opposite, on_variable}
 use Rattle.dq_lits.specs.Formula.{Dqbf}
 use Rattle.hint_log.specs.Conditions.{is_circuit_name, MayFollow}
-use Rattle.hint_log.specs.Entries.{name_of, Entry, Named, Given, Learned, Answer, Round}
+use Rattle.hint_log.specs.Entries.{name_of, Entry, Named, Given, Learned, Answer, Round, Begun}
 use Rattle.hint_log.specs.declared.names.Name.{Name}
-use Rattle.hint_log.specs.declared.names.Name.TheVariants.{Selector, Pair, Input, And, Bad, Copy as CopyOf}
+use Rattle.hint_log.specs.declared.names.Name.TheVariants.{Selector, Pair, Input, And, Bad, Copy as CopyOf, Term}
 use Rattle.cert_text.specs.NegatedMatrix.{opposite_of, as_literal, without_constants}
 use Rattle.hint_log.specs.Growth.{Each}
 use Rattle.hint_log.specs.Naming.{numbered_from_one}
+use Rattle.cert_export.specs.Given.{HasUniversalInputs}
 use Rattle.cert_export.specs.Renaming.{Renaming, renamed_clause}
 use Rattle.cert_export.specs.CircuitPart.{CircuitPart, place_from_one, max_number, circuit_number, circuit_renaming, or_zero, aiger_literal, literal_code, IsInFile}
 use Rattle.cert_export.specs.ExportedCircuit.{CircuitNumbersAreInjective}
@@ -92,6 +93,7 @@ module _ (f : Dqbf) (e : CircuitPart) where
     by_bit true is h = by_option (eqb-true g e.group is) (numbered_from_one f.matrix j) refl h
     by_bit false is h = cc
   number_cases v (Some (CopyOf side u)) x h = cc
+  number_cases v (Some (Term p q)) x h = cc
 
   pub number_from_one : (v : ℕ) (o : Option Name) (x : ℕ) → circuit_number f e v o ≡ Some x → 1 ≤ x
   number_from_one v o x h = by_case (number_cases v o x h) where
@@ -145,6 +147,7 @@ input_universal f (Given origin c ∷ es) v x given h = input_universal f es v x
 input_universal f (Learned c hints ∷ es) v x given h = input_universal f es v x given.1 h
 input_universal f (Answer c hints ∷ es) v x given h = input_universal f es v x given.1 h
 input_universal f (Round row values j ∷ es) v x given h = input_universal f es v x given.1 h
+input_universal f (Begun live ∷ es) v x given h = input_universal f es v x given.1 h
 
 -- a literal whose variable has a number
 pub record HasNumber (r : Renaming) (l : Literal) : Type 0 where
@@ -152,7 +155,7 @@ pub record HasNumber (r : Renaming) (l : Literal) : Type 0 where
   pub is : r (variable_of l) ≡ Some number
   pub from_one : 1 ≤ number
 
-pub circuit_numbered : (f : Dqbf) (entries : List Entry) (e : CircuitPart) → Each (MatchesOrigin f) entries → (l : Literal) → is_circuit_name (name_of entries (variable_of l)) ≡ true →
+pub circuit_numbered : (f : Dqbf) (entries : List Entry) (e : CircuitPart) → HasUniversalInputs f entries → (l : Literal) → is_circuit_name (name_of entries (variable_of l)) ≡ true →
     IsInFile entries e.gates l → HasNumber (circuit_renaming f entries e) l
 circuit_numbered f entries e given l circuit in_file = by_option (name_of entries (variable_of l)) refl circuit where
   numbered : (n : ℕ) → circuit_renaming f entries e (variable_of l) ≡ Some n → HasNumber (circuit_renaming f entries e) l
@@ -162,11 +165,12 @@ circuit_numbered f entries e given l circuit in_file = by_option (name_of entrie
   by_option None is h = cc
   by_option (Some (Selector g)) is h = cc
   by_option (Some (Pair k y)) is h = cc
-  by_option (Some (Input x)) is h = numbered (position_or_len (λ z. z == x) f.universals + 1) (ap (circuit_number f e (variable_of l)) is ∙ place_there f.universals x (input_universal f entries (variable_of l) x given is))
+  by_option (Some (Input x)) is h = numbered (position_or_len (λ z. z == x) f.universals + 1) (ap (circuit_number f e (variable_of l)) is ∙ place_there f.universals x (given (variable_of l) x is))
   by_option (Some (And a b)) is h = numbered (length f.universals + (position_or_len (λ z. z == variable_of l) e.gates + 1))
       (ap (circuit_number f e (variable_of l)) is ∙ ap (option_map (λ p. length f.universals + p)) (place_there e.gates (variable_of l) (in_file a b is)))
   by_option (Some (Bad g j)) is h = cc
   by_option (Some (CopyOf side u)) is h = cc
+  by_option (Some (Term p q)) is h = cc
 
 module _ (r : Renaming) where
   pub code_at : (l : Literal) (h : HasNumber r l) → literal_code r l ≡ aiger_literal (is_negative l) h.number

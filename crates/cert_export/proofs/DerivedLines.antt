@@ -9,7 +9,7 @@ use Rattle.dq_lits.specs.Derivation.{LiveClauses, with_clause, unfinished, is_em
 use Rattle.hint_log.specs.Conditions.{IsId, AreIds}
 use Rattle.hint_log.specs.Entries.{has_id, numbered, clause_of, clause_at, hints_of}
 use Rattle.hint_log.specs.Entries.{Entry}
-use Rattle.hint_log.specs.Entries.{Named, Given, Learned, Answer, Round}
+use Rattle.hint_log.specs.Entries.{Named, Given, Learned, Answer, Round, Begun}
 use Rattle.hint_log.specs.declared.origins.Origin.{Origin}
 use Rattle.hint_log.specs.Growth.{Each}
 use Rattle.cert_export.specs.Renaming.{Renaming, IsInjective, renamed_clause, cut_hints, IsRenamedAt}
@@ -32,6 +32,7 @@ clause_there es h id = let t = there_is es h id.from_one id.last in by_entry t.0
   by_entry (Learned c hints) at has = (c, ap (option_and_then clause_of) at)
   by_entry (Answer c hints) at has = (c, ap (option_and_then clause_of) at)
   by_entry (Round row values j) at has = absurd (false≢true has)
+  by_entry (Begun live) at has = absurd (false≢true has)
 
 module _ (r : Renaming) (base_id : Origin → ℕ) (usable : Origin → List Literal → Type 0) (first : LiveClauses) (base : ℕ) (all : List Entry) (number : ℕ → ℕ)
     (injective : IsInjective r) (lawful : Each MayFollow all) (derived : Each IsDerivedByHints all) (right : IsRenamedBase r base_id usable first base all) where

@@ -1,24 +1,23 @@
 -- What an answer reaches that decides that a formula is true can be exported.
-use Rattle.std.proofs.Common.{◌≡◌, nat_le, ℕ, zero, suc, ◌+◌, ◌*◌, ◌≤◌, ◌<◌, ◌^◌, Bool, true, false, List, [], ◌∷◌, ◌++◌, map, take, length, length-append, get_or, slice_index, Option, None, Some, refl, sym, ◌∙◌, ap, subst, arith}
+use Rattle.std.proofs.Common.{◌≡◌, nat_le, ℕ, zero, suc, ◌+◌, ◌*◌, ◌≤◌, ◌<◌, Bool, true, false, List, [], ◌∷◌, map, length, length-append, get_or, slice_index, Option, None, Some, refl, sym, ◌∙◌, ap, subst, arith}
 use Rattle.std.specs.List.{All, Contains, sum_by}
-use Rattle.std.specs.List.Sorted.{IsStrictlyIncreasing}
-use Rattle.std.specs.Option.{option_map, option_and_then}
+use Rattle.std.specs.Option.{option_and_then}
 use Rattle.std.proofs.lemmas.Bool.{leb-true, and_parts}
 use Rattle.std.proofs.lemmas.List.{take_all, length-map}
 use Rattle.std.proofs.lemmas.List.Elements.{All-nil, All-cons, Contains-get_or}
 use Rattle.dq_lits.specs.Derivation.{is_tautology, IsDerived, ProofStep}
-use Rattle.dq_lits.specs.Formula.{Dqbf, IsWellFormed, HasLawfulPrefix, declared}
+use Rattle.dq_lits.specs.Formula.{Dqbf, IsWellFormed, HasLawfulPrefix}
 use Rattle.dq_lits.specs.Literal.{Literal, variable_of}
 use Rattle.hint_log.specs.Conditions.{IsId, AreLogged, AreNamed}
-use Rattle.hint_log.specs.Entries.{Entry, Named, Given, Learned, Answer, Round, ProofLog, has_id, numbered, clause_of, clause_at, last_id, count, name_of}
+use Rattle.hint_log.specs.Entries.{Entry, Named, Given, Learned, Answer, Round, Begun, ProofLog, has_id, numbered, clause_of, clause_at, last_id, count, name_of}
 use Rattle.hint_log.specs.Growth.{Each}
 use Rattle.hint_log.specs.Naming.{numbered_from_one}
-use Rattle.hint_log.specs.Origins.{matrix_literal, IsOriginsClause, IsFaultRest}
-use Rattle.hint_log.specs.ProductiveLog.{MatchesOrigin, IsDerivedByHints, IsProductiveLog}
+use Rattle.hint_log.specs.Origins.{IsOriginsClause, IsFaultRest}
+use Rattle.hint_log.specs.ProductiveLog.{IsDerivedByHints}
 use Rattle.hint_log.specs.Reached.{Reaches, by_hint, AreReached}
 use Rattle.hint_log.specs.declared.origins.Leaf.{Leaf}
 use Rattle.hint_log.specs.declared.origins.Origin.{Origin}
-use Rattle.hint_log.specs.declared.origins.Origin.TheVariants.{Instance, Gate, Fault, Copy, Link}
+use Rattle.hint_log.specs.declared.origins.Origin.TheVariants.{Instance, Gate, Fault, Copy, Link, TermGate, Differ}
 use Rattle.log_laws.proofs.Found.{each_at, split_at}
 use Rattle.log_laws.proofs.Solved.{split_literal}
 use Rattle.cert_text.specs.CircuitProof.{is_proof_variable, first_proof_id}
@@ -28,12 +27,13 @@ use Rattle.cert_text.specs.declared.circuit_proofs.Dqp.{Dqp}
 use Rattle.aiger_text.specs.declared.files.AagFile.{AagFile}
 use Rattle.circuit_plain.specs.Netlist.{Netlist}
 use Rattle.circuit_plain.specs.declared.circuits.Gate.{Gate as FileGate}
-use Rattle.cert_export.specs.CircuitPart.{CircuitPart, circuit_renaming, circuit_id, exported_netlist, last_base_id, last_negated, max_number, gate_of, IsCircuitClause}
-use Rattle.cert_export.specs.ExportedCircuit.{IsDecidedTrue, IsExportedPart, IsCircuitRenaming, IsProvedCircuit, IsWritable, ExportedAnswerIsProved, ExportedFileIsSpellable, is_gate_name, proof_steps, proof_number}
+use Rattle.proof_checker.specs.ProvedCircuit.{IsProvedCircuit}
+use Rattle.cert_export.specs.CircuitPart.{CircuitPart, circuit_renaming, circuit_id, exported_netlist, last_negated, max_number, gate_of, IsCircuitClause}
+use Rattle.cert_export.specs.ExportedCircuit.{IsDecidedTrue, CanExportTrue, IsCircuitRenaming, IsWritable, ExportedAnswerIsProved, ExportedFileIsSpellable, is_gate_name, proof_number}
 use Rattle.cert_export.specs.Lines.{is_derived, is_lemma, clause_or_empty, line_clause, line_number, line_steps, derived_ids}
 use Rattle.cert_export.specs.Negated.{IsOfCircuit, HasNegatedId, AreLengthsBefore}
 use Rattle.cert_export.specs.Netlists.{IsExportable}
-use Rattle.cert_export.specs.Parts.{part_of, IsSmall, AreDecided, AreCircuitIds, AreProofSteps, IsCircuitFile, IsExportedCircuit}
+use Rattle.cert_export.specs.Parts.{part_of, IsSmall, AreDecided, AreCircuitIds, AreProofSteps, IsExportedCircuit}
 use Rattle.cert_export.specs.declared.parts.Part.{Part}
 use Rattle.cert_export.specs.Renaming.{Renaming, IsInjective, renamed_clause}
 use Rattle.cert_export.specs.Written.{CanBeWritten}
@@ -64,6 +64,7 @@ derived_consistent entries r lemmas injective id derived = by_entry (numbered ha
       let own : IsDerived (clause_at p.1) c hints = each_at IsDerivedByHints p.0 p.1 (Answer c hints) (subst (Each IsDerivedByHints) p.2 lemmas) in
       ap (λ x. is_tautology (renamed_clause r (clause_or_empty x))) at ∙ renamed_consistent r (clause_at p.1) injective c hints own
   by_entry (Some (Round row values j)) at d = cc
+  by_entry (Some (Begun live)) at d = cc
 
 module _ (f : Dqbf) (entries : List Entry) (id : ℕ) (ids : List ℕ) (e : CircuitPart) (d : AreCircuitIds f entries id ids e) where
   small_numbers : max_number f e < 4611686018427387904
@@ -77,11 +78,11 @@ module _ (f : Dqbf) (entries : List Entry) (id : ℕ) (ids : List ℕ) (e : Circ
   usable_here : (h : ℕ) (origin : Origin) (c : List Literal) → Contains ids h → numbered has_id entries h ≡ Some (Given origin c) → IsCircuitClause f e origin c
   usable_here h origin c inside at = usable f entries id e d.decided.logged d.part h origin c (d.decided.reached.sound h inside) at
 
-  below_matrix : (h j i : ℕ) (out : Leaf) (c : List Literal) → numbered has_id entries h ≡ Some (Given (Fault j i out) c) → j ≤ length f.matrix
-  below_matrix h zero i out c at = omega arith
-  below_matrix h (suc j) i out c at =
+  below_matrix : (h j i : ℕ) (out : Leaf) (c : List Literal) → Contains ids h → numbered has_id entries h ≡ Some (Given (Fault j i out) c) → j ≤ length f.matrix
+  below_matrix h zero i out c inside at = omega arith
+  below_matrix h (suc j) i out c inside at =
       let p = split_at entries h (Given (Fault (suc j) i out) c) at in
-      let own : IsOriginsClause f p.1 (Fault (suc j) i out) c = each_at (MatchesOrigin f) p.0 p.1 (Given (Fault (suc j) i out) c) (subst (Each (MatchesOrigin f)) p.2 d.decided.givens_match_origins) in
+      let own : IsOriginsClause f p.1 (Fault (suc j) i out) c = d.decided.givens h (Fault (suc j) i out) c (d.decided.reached.sound h inside) at p.0 p.1 p.2 in
       let rest : IsFaultRest f p.1 own.group (suc j) i out own.rest = own.rest_is in
       let l = split_literal (numbered_from_one f.matrix (suc j)) i rest.literal rest.literal_is in
       (number_below f.matrix (suc j) l.0 l.1).1
@@ -89,14 +90,16 @@ module _ (f : Dqbf) (entries : List Entry) (id : ℕ) (ids : List ℕ) (e : Circ
   known : (h : ℕ) (origin : Origin) (c : List Literal) → Contains ids h → numbered has_id entries h ≡ Some (Given origin c) → HasNegatedId f.matrix e.gates origin
   known h origin c inside at =
       let mine = usable_here h origin c inside at in
-      let base = circuit_clauses_are_negated_matrix f entries e d.decided.well_formed d.decided.logged d.decided.givens_match_origins d.part.part h origin c at mine in
+      let base = circuit_clauses_are_negated_matrix f entries e d.decided.well_formed d.decided.logged d.decided.inputs d.part.part h origin c at (mine, d.decided.givens h origin c (d.decided.reached.sound h inside) at) in
       (of_circuit origin mine at, base.1) where
         of_circuit : (o : Origin) → IsCircuitClause f e o c → numbered has_id entries h ≡ Some (Given o c) → IsOfCircuit f.matrix e.gates o
         of_circuit (Instance k j) mine at = absurd mine
         of_circuit (Gate v i) mine at = mine
-        of_circuit (Fault j i out) mine at = below_matrix h j i out c at
+        of_circuit (Fault j i out) mine at = below_matrix h j i out c inside at
         of_circuit (Copy side j) mine at = absurd mine
         of_circuit (Link v i) mine at = absurd mine
+        of_circuit (TermGate v i) mine at = absurd mine
+        of_circuit (Differ y leaf part) mine at = absurd mine
 
   pub can_be_written : (r : Renaming) → IsCircuitRenaming f entries e ids r → CanBeWritten r (HasNegatedId f.matrix e.gates) entries ids
   can_be_written r names = record {
@@ -130,21 +133,22 @@ pub exportable : (f : Dqbf) (entries : List Entry) (id : ℕ) (ids : List ℕ) (
 exportable f entries id ids p d = record {
   logged = d.decided.logged;
   part = d.part.part;
-  netlist = exported_circuit_is_netlist f entries (part_of p) d.decided.logged d.decided.givens_match_origins d.part.part (small_numbers f entries id ids (part_of p) d);
+  netlist = exported_circuit_is_netlist f entries (part_of p) d.decided.logged d.decided.inputs d.part.part (small_numbers f entries id ids (part_of p) d);
   small = d.small;
 }
 
 -- the ids of a decided answer
-pub decided_ids : (f : Dqbf) (log : ProofLog) (id : ℕ) (ids : List ℕ) → IsWellFormed f → f.variables ≤ 1000000 → length f.matrix ≤ 10000000 → IsProductiveLog f log.entries → AreLogged log.entries → IsDecidedTrue f log.entries id →
+pub decided_ids : (f : Dqbf) (log : ProofLog) (id : ℕ) (ids : List ℕ) → IsWellFormed f → f.variables ≤ 1000000 → length f.matrix ≤ 10000000 → CanExportTrue f log.entries id → AreLogged log.entries →
     ((es : List Entry) (at i : ℕ) → AreLogged es → IsId es at → Reaches es at i → IsId es i) → IsId log.entries id → AreReached log.entries id ids → AreDecided f log.entries id ids
-decided_ids f log id ids well few_variables few_clauses productive logged decided reached_are_ids is_id are = record {
+decided_ids f log id ids well few_variables few_clauses can logged reached_are_ids is_id are = record {
   well_formed = well;
   few_variables = few_variables;
   few_clauses = few_clauses;
   logged = logged;
-  givens_match_origins = productive.givens_match_origins;
-  lemmas_are_derived = productive.lemmas_are_derived;
-  decided = decided;
+  inputs = can.inputs;
+  givens = can.givens;
+  lemmas_are_derived = can.lemmas_are_derived;
+  decided = can.decided;
   reached = are;
   are_ids = λ k d below. reached_are_ids log.entries id (get_or ids k d) logged is_id (are.sound (get_or ids k d) (Contains-get_or ids k d below));
 }
@@ -176,7 +180,7 @@ module _ (f : Dqbf) (entries : List Entry) (id : ℕ) (ids : List ℕ) (file : A
   pub is_proved : ExportedAnswerIsProved → IsProvedCircuit f file proof
   is_proved law =
       let few = decided.few_variables in
-      law f entries id x.part ids x.lines.0 file proof decided.well_formed decided.logged decided.givens_match_origins decided.lemmas_are_derived x.from.part decided.reached x.lines.1
+      law f entries id x.part ids x.lines.0 file proof decided.well_formed decided.logged decided.inputs decided.givens decided.lemmas_are_derived x.from.part decided.reached x.lines.1
       (small_numbers f entries id ids x.part x.from) (omega (arith, few)) x.written.circuit x.written.symbols x.lines.2
 
   pub is_few : length proof.steps ≤ count is_lemma entries
@@ -192,12 +196,12 @@ module _ (f : Dqbf) (entries : List Entry) (id : ℕ) (ids : List ℕ) (file : A
       let mapped = length-map f.existentials (λ y. y.variable) in
       let vars = decided.few_variables in
       let is = number_is in
-      law f entries x.part (record { circuit = file.circuit; symbols = file.symbols; comment = comment }) decided.well_formed.prefix (omega (arith, vars)) decided.logged decided.givens_match_origins x.from.part.part
+      law f entries x.part (record { circuit = file.circuit; symbols = file.symbols; comment = comment }) decided.well_formed.prefix (omega (arith, vars)) decided.logged decided.inputs x.from.part.part
       x.written.circuit x.written.symbols (omega (arith, few, is)) (omega (arith, most, long, mapped, vars))
 
   steps_allowed : AreSteps (is_proof_variable f file.circuit) (first_proof_id f file.circuit) proof.steps
   steps_allowed =
-      let allowed = exported_proof_is_allowed f entries id x.part ids x.lines.0 decided.well_formed decided.logged decided.givens_match_origins x.from.part decided.reached x.lines.1 in
+      let allowed = exported_proof_is_allowed f entries id x.part ids x.lines.0 decided.well_formed decided.logged decided.inputs decided.givens x.from.part decided.reached x.lines.1 in
       subst (λ (n : Netlist). AreSteps (is_proof_variable f n) (first_proof_id f n) proof.steps) (sym x.written.circuit)
       (subst (AreSteps (is_proof_variable f (exported_netlist f entries x.part)) (first_proof_id f (exported_netlist f entries x.part))) (sym x.lines.2) allowed)
 

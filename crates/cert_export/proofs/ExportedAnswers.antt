@@ -1,31 +1,30 @@
 -- An answer that shows outputs to be right is exported as a proof that the checker accepts and that a text can hold.
-use Rattle.std.proofs.Common.{◌≡◌, nat_le, ℕ, ◌+◌, ◌≤◌, true, false, inl, inr, List, [], ◌∷◌, length, get_or, Option, None, Some, refl, sym, ◌∙◌, ap, subst, arith}
-use Rattle.std.specs.List.{Contains}
+use Rattle.std.proofs.Common.{◌≡◌, nat_le, ℕ, ◌+◌, ◌≤◌, true, false, inl, inr, List, [], ◌∷◌, length, Option, None, Some, refl, sym, ◌∙◌, ap, subst, arith}
 use Rattle.std.proofs.lemmas.Bool.{and_from, le-leb}
 use Rattle.std.proofs.lemmas.List.{length-map}
-use Rattle.std.proofs.lemmas.List.Elements.{All-contains}
 use Rattle.std.proofs.lemmas.List.Kept.{AllPairs-from_increasing}
 use Rattle.dq_lits.specs.Literal.{Literal}
-use Rattle.dq_lits.specs.Formula.{Dqbf, Existential, IsWellFormed}
+use Rattle.dq_lits.specs.Formula.{Dqbf, IsWellFormed}
 use Rattle.dq_lits.specs.Derivation.{is_empty}
 use Rattle.hint_log.specs.Conditions.{MayFollow, AreLogged}
 use Rattle.hint_log.specs.Deciding.{ReachesGiven, IsCircuitGiven, ReadsInput, itself, left, right, LeafReads}
 use Rattle.hint_log.specs.Entries.{Entry, Given, Answer, has_id, last_id, numbered, name_of}
 use Rattle.hint_log.specs.Growth.{Each}
-use Rattle.hint_log.specs.ProductiveLog.{MatchesOrigin, IsDerivedByHints}
+use Rattle.hint_log.specs.ProductiveLog.{IsDerivedByHints}
 use Rattle.hint_log.specs.Reached.{Reaches, AreReached}
 use Rattle.hint_log.specs.declared.names.Name.TheVariants.{Selector}
 use Rattle.hint_log.specs.declared.origins.Leaf.{Leaf}
 use Rattle.hint_log.specs.declared.origins.Leaf.TheVariants.{Constant, Literal as LeafLiteral}
 use Rattle.hint_log.specs.declared.origins.Origin.{Origin}
-use Rattle.hint_log.specs.declared.origins.Origin.TheVariants.{Instance, Gate, Fault, Copy, Link}
+use Rattle.hint_log.specs.declared.origins.Origin.TheVariants.{Instance, Gate, Fault, Copy, Link, TermGate, Differ}
 use Rattle.cert_text.specs.CircuitProof.{is_proof_variable, first_proof_id}
 use Rattle.cert_text.specs.Grammar.{AreSteps}
 use Rattle.proof_checker.specs.CircuitProof.{negated_candidate, circuit_proof_fault}
-use Rattle.cert_export.specs.CircuitPart.{CircuitPart, circuit_number, circuit_renaming, circuit_id, IsCircuitClause, ReadSeen, exported_candidate, exported_netlist, last_base_id, gate_of, max_number}
+use Rattle.cert_export.specs.CircuitPart.{CircuitPart, circuit_number, circuit_renaming, circuit_id, IsCircuitClause, IsRightCircuitClause, exported_candidate, exported_netlist, last_base_id, gate_of, max_number}
 use Rattle.cert_export.specs.ExportedCircuit.{IsExportedPart, IsCircuitRenaming, proof_number, proof_steps, ExportedAnswerIsAccepted, ExportedProofIsAllowed}
 use Rattle.cert_export.specs.LineOrder.{IsRenamedBase, AreLineNumbers, AreLines, AreFinished}
 use Rattle.cert_export.specs.Lines.{clause_or_empty, is_derived, derived_ids, line_clause}
+use Rattle.cert_export.specs.Given.{HasUniversalInputs, IsGivenRightly, EachGivenReached}
 use Rattle.cert_export.specs.Renaming.{Renaming, IsInjective, renamed_clause, IsPartOf}
 use Rattle.cert_export.proofs.Allowed.{consecutive, steps_allowed}
 use Rattle.cert_export.proofs.Answers.{answer_there, reached_given, selectors_dropped}
@@ -71,6 +70,8 @@ module _ (f : Dqbf) (entries : List Entry) (id : ℕ) (e : CircuitPart) (lawful 
         )
         by_origin (Copy side j) there mine at = absurd mine
         by_origin (Link v i) there mine at = absurd mine
+        by_origin (TermGate v i) there mine at = absurd mine
+        by_origin (Differ y leaf part) there mine at = absurd mine
 
   answer_at : numbered has_id entries id ≡ Some (Answer x.decided.clause x.decided.hints)
   answer_at = ap (λ xs. numbered has_id xs id) x.decided.answered ∙ ap (numbered has_id all) id_is ∙ answer_there x.decided.earlier x.decided.clause x.decided.hints lawful'
@@ -105,17 +106,17 @@ module _ (f : Dqbf) (entries : List Entry) (e : CircuitPart) where
       omega (arith, gates)
 
 module _ (f : Dqbf) (entries : List Entry) (id : ℕ) (e : CircuitPart) (ids : List ℕ) (r : Renaming) (well : IsWellFormed f)
-    (lawful : AreLogged entries) (given : Each (MatchesOrigin f) entries) (x : IsExportedPart f entries id e) (are : AreReached entries id ids)
+    (lawful : AreLogged entries) (inputs : HasUniversalInputs f entries) (given : EachGivenReached (IsGivenRightly f entries) entries id) (x : IsExportedPart f entries id e) (are : AreReached entries id ids)
     (names : IsCircuitRenaming f entries e ids r) where
   abbrev IsUsed : Origin → List Literal → Type 0
-  IsUsed origin c = IsCircuitClause f e origin c × (renamed_clause r c ≡ renamed_clause (circuit_renaming f entries e) c)
+  IsUsed origin c = IsRightCircuitClause f entries e origin c × (renamed_clause r c ≡ renamed_clause (circuit_renaming f entries e) c)
 
   used : (h : ℕ) (origin : Origin) (c : List Literal) → Reaches entries id h → numbered has_id entries h ≡ Some (Given origin c) → IsUsed origin c
-  used h origin c reached at = (usable f entries id e lawful x h origin c reached at, names.whole h origin c (are.complete h reached) at)
+  used h origin c reached at = ((usable f entries id e lawful x h origin c reached at, given h origin c reached at), names.whole h origin c (are.complete h reached) at)
 
   base_right : IsRenamedBase r (circuit_id f e) IsUsed (negated_candidate (exported_candidate f entries e)) (last_base_id f e) entries
   base_right h origin c at kept =
-      let b = circuit_clauses_are_negated_matrix f entries e well lawful given x.part h origin c at kept.0 in
+      let b = circuit_clauses_are_negated_matrix f entries e well lawful inputs x.part h origin c at kept.0 in
       (b.0 ∙ ap Some (sym kept.1), b.1)
 
   injective : IsInjective r
@@ -146,7 +147,7 @@ module _ (f : Dqbf) (entries : List Entry) (id : ℕ) (e : CircuitPart) (ids : L
       lines (consecutive base (derived_ids entries ids) rising) (omega arith) (λ h inside. absurd (let b = inside.1 in omega arith)))
 
 pub exported_answer_is_accepted : ExportedAnswerIsAccepted
-exported_answer_is_accepted f entries id e ids r well lawful given derived x are names = accepted f entries id e ids r well lawful given x are names derived
+exported_answer_is_accepted f entries id e ids r well lawful inputs given derived x are names = accepted f entries id e ids r well lawful inputs given x are names derived
 
 pub exported_proof_is_allowed : ExportedProofIsAllowed
-exported_proof_is_allowed f entries id e ids r well lawful given x are names = allowed f entries id e ids r well lawful given x are names
+exported_proof_is_allowed f entries id e ids r well lawful inputs given x are names = allowed f entries id e ids r well lawful inputs given x are names

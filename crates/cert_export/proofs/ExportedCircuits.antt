@@ -8,9 +8,9 @@ use Rattle.std.proofs.lemmas.List.FromFn.{length-range_with_len}
 use Rattle.dq_lits.specs.Literal.{Literal, positive, negative, variable_of, is_negative}
 use Rattle.dq_lits.specs.Formula.{Dqbf, Existential, IsWellFormed}
 use Rattle.hint_log.specs.Conditions.{is_circuit_name, HasSides, MayFollow}
-use Rattle.hint_log.specs.Entries.{name_of, Entry, Named, Given, Learned, Answer, Round}
+use Rattle.hint_log.specs.Entries.{name_of, Entry, Named, Given, Learned, Answer, Round, Begun}
 use Rattle.hint_log.specs.declared.names.Name.{Name}
-use Rattle.hint_log.specs.declared.names.Name.TheVariants.{Selector, Pair, Input, And, Bad, Copy as CopyOf}
+use Rattle.hint_log.specs.declared.names.Name.TheVariants.{Selector, Pair, Input, And, Bad, Copy as CopyOf, Term}
 use Rattle.hint_log.specs.declared.origins.Leaf.{Leaf}
 use Rattle.hint_log.specs.declared.origins.Leaf.TheVariants.{Constant, Literal as LeafLiteral}
 use Rattle.circuit_plain.specs.Ground.{IsGrounded, constant, input, gate}
@@ -22,8 +22,8 @@ use Rattle.skolem_checker.specs.SkolemCircuit.{IsComplete}
 use Rattle.cert_export.specs.CircuitPart.{CircuitPart, max_number, circuit_renaming, or_zero, aiger_literal, literal_code, leaf_code, gate_of, exported_netlist, IsInFile, IsLeafInFile, IsCircuitPart}
 use Rattle.cert_export.specs.ExportedCircuit.{ExportedCircuitIsComplete, ExportedCircuitReadsSeen, ExportedCircuitIsNetlist}
 use Rattle.hint_log.specs.Growth.{Each}
+use Rattle.cert_export.specs.Given.{HasUniversalInputs}
 use Rattle.cert_export.specs.Renaming.{Renaming}
-use Rattle.hint_log.specs.ProductiveLog.{MatchesOrigin}
 use Rattle.hint_log.specs.Deciding.{ReadsInput, itself, left, right, LeafReads}
 use Rattle.cert_export.proofs.CircuitNumbers.{IsNumbered, number_cases, HasNumber, code_at, circuit_numbered, circuit_numbers_are_injective}
 use Rattle.cert_export.proofs.CircuitClauses.{range_at}
@@ -60,7 +60,7 @@ in_range a (suc n) (suc p) h =
     let b = r.1 in
     (suc r.0, omega arith, r.2)
 
-module _ (f : Dqbf) (all : List Entry) (e : CircuitPart) (lawful : Each MayFollow all) (given : Each (MatchesOrigin f) all) (part : IsCircuitPart f all e) where
+module _ (f : Dqbf) (all : List Entry) (e : CircuitPart) (lawful : Each MayFollow all) (given : HasUniversalInputs f all) (part : IsCircuitPart f all e) where
   abbrev r : Renaming
   r = circuit_renaming f all e
 
@@ -189,6 +189,7 @@ module _ (f : Dqbf) (all : List Entry) (e : CircuitPart) (lawful : Each MayFollo
             (gate (file_gate (variable_of l)) (mapped_inside file_gate e.gates (variable_of l) inside) (subst (IsGrounded net) (sym q.left_is) left_ground) (subst (IsGrounded net) (sym q.right_is) right_ground))
         by_name later (Bad g j) s c at = cc
         by_name later (CopyOf side u) s c at = cc
+        by_name later (Term p q) s c at = cc
 
         by_bit : ((k : Literal) → is_circuit_name (name_of es (variable_of k)) ≡ true → IsInFile all e.gates k → (m : ℕ) → r (variable_of k) ≡ Some m → IsGrounded net m) →
             (b : Bool) → (variable_of l == w) ≡ b → is_circuit_name (cond b (Some name) (name_of es (variable_of l))) ≡ true → IsGrounded net n
@@ -198,6 +199,7 @@ module _ (f : Dqbf) (all : List Entry) (e : CircuitPart) (lawful : Each MayFollo
   grounded (Learned c hints ∷ es) more is own l h in_file n number = grounded es (more ++ Learned c hints ∷ []) (is ∙ sym (append_assoc more (Learned c hints ∷ []) es)) own.1 l h in_file n number
   grounded (Answer c hints ∷ es) more is own l h in_file n number = grounded es (more ++ Answer c hints ∷ []) (is ∙ sym (append_assoc more (Answer c hints ∷ []) es)) own.1 l h in_file n number
   grounded (Round row values j ∷ es) more is own l h in_file n number = grounded es (more ++ Round row values j ∷ []) (is ∙ sym (append_assoc more (Round row values j ∷ []) es)) own.1 l h in_file n number
+  grounded (Begun live ∷ es) more is own l h in_file n number = grounded es (more ++ Begun live ∷ []) (is ∙ sym (append_assoc more (Begun live ∷ []) es)) own.1 l h in_file n number
 
   leaf_grounded : (leaf : Leaf) → IsLeafInFile all e.gates leaf → IsGrounded net (literal_variable (leaf_code r leaf))
   leaf_grounded (Constant true) h = constant
@@ -278,7 +280,7 @@ range_fits : (a n bound : ℕ) → 1 ≤ a → a + n ≤ bound + 1 → All (IsVa
 range_fits a zero bound one most = All-nil (IsVariable bound)
 range_fits a (suc n) bound one most = All-cons (IsVariable bound) a (range_with_len (a + 1) n) (one, omega (arith, most)) (range_fits (a + 1) n bound (omega arith) (omega (arith, most)))
 
-module _ (f : Dqbf) (all : List Entry) (e : CircuitPart) (lawful : Each MayFollow all) (given : Each (MatchesOrigin f) all) (part : IsCircuitPart f all e) (small : max_number f e < 2 ^ 62) where
+module _ (f : Dqbf) (all : List Entry) (e : CircuitPart) (lawful : Each MayFollow all) (given : HasUniversalInputs f all) (part : IsCircuitPart f all e) (small : max_number f e < 2 ^ 62) where
   -- numbers of the file's circuit are at most its largest
   number_small : (l : Literal) → is_circuit_name (name_of all (variable_of l)) ≡ true → (n : ℕ) → circuit_renaming f all e (variable_of l) ≡ Some n → n ≤ max_number f e
   number_small l circuit n is = by_case (number_cases f e (variable_of l) (name_of all (variable_of l)) n is) where

@@ -1,5 +1,5 @@
 -- What is exported of an answer that decides that a formula is true: its faults' leaves, and the gates that these and the proof rest on.
-use Rattle.std.proofs.Common.{◌≡◌, ◌≢◌, ℕ, zero, suc, ◌+◌, ◌≤◌, ◌<◌, ◌==◌, ◌⊎◌, ◌&&◌, inl, inr, Bool, true, false, cond, List, [], ◌∷◌, ◌++◌, length, get_or, reverse, Option, None, Some, IsSome, is_some, refl, sym, ◌∙◌, ap, subst, arith}
+use Rattle.std.proofs.Common.{◌≡◌, ◌≢◌, ℕ, zero, suc, ◌+◌, ◌≤◌, ◌<◌, ◌==◌, ◌&&◌, Bool, true, false, cond, List, [], ◌∷◌, ◌++◌, length, get_or, reverse, Option, None, Some, IsSome, is_some, refl, sym, ◌∙◌, ap, subst, arith}
 use Rattle.std.specs.List.{All, AllPairs, Contains}
 use Rattle.std.specs.Prelude.{slice_index_or}
 use Rattle.std.specs.Option.{option_map, option_and_then}
@@ -9,23 +9,23 @@ use Rattle.dq_lits.specs.Formula.{Dqbf, Existential}
 use Rattle.dq_lits.specs.Literal.{Literal, variable_of, negative}
 use Rattle.hint_log.specs.Conditions.{MayFollow, is_circuit_name}
 use Rattle.hint_log.specs.Deciding.{ReachesGiven, ReadsInput, itself, left, right, LeafReads, IsFaultLeaf}
-use Rattle.hint_log.specs.Entries.{Entry, Named, Given, Learned, Answer, Round, has_id, count, last_id, numbered, clause_of, hints_of, origin_of, clause_at, hints_at, origin_at, name_of, names_of}
+use Rattle.hint_log.specs.Entries.{Entry, Named, Given, Learned, Answer, Round, Begun, has_id, count, last_id, numbered, clause_of, hints_of, origin_of, hints_at, origin_at, name_of, names_of}
 use Rattle.hint_log.specs.Growth.{Each}
-use Rattle.hint_log.specs.Origins.{matrix_literal, IsOriginsClause, IsFaultOrSome, IsFaultRest, IsLeafOf, IsGateRest}
-use Rattle.hint_log.specs.ProductiveLog.{MatchesOrigin}
+use Rattle.hint_log.specs.Origins.{matrix_literal, IsOriginsClause, IsFaultRest, IsLeafOf, IsGateRest}
 use Rattle.hint_log.specs.Reached.{Reaches, itself as reaches_itself, by_hint}
 use Rattle.hint_log.specs.declared.names.Name.TheVariants.{And}
 use Rattle.hint_log.specs.declared.origins.Leaf.{Leaf}
 use Rattle.hint_log.specs.declared.origins.Leaf.TheVariants.{Constant, Literal as LeafLiteral}
 use Rattle.hint_log.specs.declared.origins.Origin.{Origin}
-use Rattle.hint_log.specs.declared.origins.Origin.TheVariants.{Instance, Gate, Fault, Copy, Link}
-use Rattle.log_laws.proofs.Found.{split_at, each_at}
+use Rattle.hint_log.specs.declared.origins.Origin.TheVariants.{Gate, Fault}
+use Rattle.log_laws.proofs.Found.{split_at}
 use Rattle.log_laws.proofs.LeafFunctions.{circuit_stays}
 use Rattle.log_laws.proofs.ReachedClauses.{name_stays, numbered_kept}
 use Rattle.number_tables.specs.Numbers.{has_number, place_of}
-use Rattle.cert_export.specs.CircuitPart.{CircuitPart, IsCircuitPart, IsInFile, IsLeafInFile, ReadSeen}
-use Rattle.cert_export.specs.ExportedCircuit.{IsDecidedTrue, IsExportedPart, is_gate_name}
-use Rattle.cert_export.specs.FaultLeaves.{LeafTable, leaf_of, or_false, output_leaf, IsLeafAt, IsLeafAmong, AreLeavesAmong, HasLeavesAmong, HasLiteral, HaveLiterals, AreOfGroup}
+use Rattle.cert_export.specs.CircuitPart.{CircuitPart, IsCircuitPart, IsInFile, IsLeafInFile}
+use Rattle.cert_export.specs.ExportedCircuit.{IsExportedPart, is_gate_name}
+use Rattle.cert_export.specs.FaultLeaves.{LeafTable, leaf_of, or_false, output_leaf, IsLeafAmong, AreLeavesAmong, HasLeavesAmong, HaveLiterals, AreOfGroup}
+use Rattle.cert_export.specs.Given.{IsGivenRightly}
 use Rattle.cert_export.specs.Needed.{with_all_sides, with_gates, IsLeafNeeded, IsGateNeeded, HasRoots}
 use Rattle.cert_export.specs.Parts.{AreDecided}
 use Rattle.cert_export.proofs.Answers.{answer_there, reached_given}
@@ -41,6 +41,7 @@ given_of es id o at = by_entry (numbered has_id es id) refl at where
   by_entry (Some (Learned c hints)) is at = cc
   by_entry (Some (Answer c hints)) is at = cc
   by_entry (Some (Round row values j)) is at = cc
+  by_entry (Some (Begun live)) is at = cc
 
 -- an id is at most the last
 within : (es : List Entry) (id : ℕ) (e : Entry) → numbered has_id es id ≡ Some e → id ≤ last_id es
@@ -58,20 +59,26 @@ newer f es g v j i k m out other c d o inside own own' =
     let same : g ≡ o.group = cc in
     o.one_leaf v j i k m out other d refl (subst (λ h. Contains es (Given (Fault k m other) (negative h ∷ d))) same inside) own own'
 
+-- what is right in a log is right in its older part
+given_before : (f : Dqbf) (e : Entry) (es : List Entry) (origin : Origin) (c : List Literal) → IsGivenRightly f (e ∷ es) origin c → IsGivenRightly f es origin c
+given_before f e es origin c rightly more before is = rightly (e ∷ more) before (ap (λ xs. e ∷ xs) is)
+
 -- in one group a variable has one leaf
-pub same_leaf : (f : Dqbf) (es : List Entry) (g v j i k m : ℕ) (out other : Leaf) (c d : List Literal) → Each (MatchesOrigin f) es → Contains es (Given (Fault j i out) (negative g ∷ c)) → Contains es (Given (Fault k m other) (negative g ∷ d)) →
+pub same_leaf : (f : Dqbf) (es : List Entry) (g v j i k m : ℕ) (out other : Leaf) (c d : List Literal) → IsGivenRightly f es (Fault j i out) (negative g ∷ c) → IsGivenRightly f es (Fault k m other) (negative g ∷ d) →
+    Contains es (Given (Fault j i out) (negative g ∷ c)) → Contains es (Given (Fault k m other) (negative g ∷ d)) →
     option_map variable_of (matrix_literal f j i) ≡ Some v → option_map variable_of (matrix_literal f k m) ≡ Some v → out ≡ other
-same_leaf f [] g v j i k m out other c d given (p, below, is) there own own' = absurd (omega arith)
-same_leaf f (e ∷ es) g v j i k m out other c d given (zero, below, is) (zero, below', is') own own' =
+same_leaf f [] g v j i k m out other c d mine theirs (p, below, is) there own own' = absurd (omega arith)
+same_leaf f (e ∷ es) g v j i k m out other c d mine theirs (zero, below, is) (zero, below', is') own own' =
     let both : Given (Fault j i out) (negative g ∷ c) ≡ Given (Fault k m other) (negative g ∷ d) = sym is ∙ is' in cc
-same_leaf f (e ∷ es) g v j i k m out other c d given (zero, below, is) (suc q, below', is') own own' =
+same_leaf f (e ∷ es) g v j i k m out other c d mine theirs (zero, below, is) (suc q, below', is') own own' =
     let inside : Contains es (Given (Fault k m other) (negative g ∷ d)) = (q, (let b : q < length es = omega arith in b), is') in
-    newer f es g v j i k m out other c d (subst (MatchesOrigin f es) is given.0) inside own own'
-same_leaf f (e ∷ es) g v j i k m out other c d given (suc p, below, is) (zero, below', is') own own' =
+    newer f es g v j i k m out other c d (mine [] es (ap (λ x. x ∷ es) is)) inside own own'
+same_leaf f (e ∷ es) g v j i k m out other c d mine theirs (suc p, below, is) (zero, below', is') own own' =
     let inside : Contains es (Given (Fault j i out) (negative g ∷ c)) = (p, (let b : p < length es = omega arith in b), is) in
-    sym (newer f es g v k m j i other out d c (subst (MatchesOrigin f es) is' given.0) inside own' own)
-same_leaf f (e ∷ es) g v j i k m out other c d given (suc p, below, is) (suc q, below', is') own own' =
-    same_leaf f es g v j i k m out other c d given.1 (p, (let b : p < length es = omega arith in b), is) (q, (let b : q < length es = omega arith in b), is') own own'
+    sym (newer f es g v k m j i other out d c (theirs [] es (ap (λ x. x ∷ es) is')) inside own' own)
+same_leaf f (e ∷ es) g v j i k m out other c d mine theirs (suc p, below, is) (suc q, below', is') own own' =
+    same_leaf f es g v j i k m out other c d (given_before f e es (Fault j i out) (negative g ∷ c) mine) (given_before f e es (Fault k m other) (negative g ∷ d) theirs)
+    (p, (let b : p < length es = omega arith in b), is) (q, (let b : q < length es = omega arith in b), is') own own'
 
 -- a leaf of a table is listed, or constant false
 listed_leaf : (P : Leaf → Type 0) (leaves : List Leaf) (place : ℕ) → All P leaves → P (Constant false) → P (slice_index_or leaves place (Constant false))
@@ -153,10 +160,10 @@ module _ (f : Dqbf) (entries : List Entry) (id : ℕ) (ids : List ℕ) (d : AreD
     pub is : entries ≡ more ++ Given origin c ∷ earlier
     pub matches : IsOriginsClause f earlier origin c
 
-  at_of : (h : ℕ) (origin : Origin) (c : List Literal) → numbered has_id entries h ≡ Some (Given origin c) → IsAt h origin c
-  at_of h origin c at =
+  at_of : (h : ℕ) (origin : Origin) (c : List Literal) → Contains ids h → numbered has_id entries h ≡ Some (Given origin c) → IsAt h origin c
+  at_of h origin c inside at =
       let place = split_at entries h (Given origin c) at in
-      record { more = place.0; earlier = place.1; is = place.2; matches = each_at (MatchesOrigin f) place.0 place.1 (Given origin c) (subst (Each (MatchesOrigin f)) place.2 d.givens_match_origins) }
+      record { more = place.0; earlier = place.1; is = place.2; matches = d.givens h origin c (d.reached.sound h inside) at place.0 place.1 place.2 }
 
   -- the group
   pub groups : (group : ℕ) × AreOfGroup entries ids group
@@ -176,7 +183,7 @@ module _ (f : Dqbf) (entries : List Entry) (id : ℕ) (ids : List ℕ) (d : AreD
   pub have_literals : HaveLiterals f entries ids
   have_literals h inside j i out one at =
       let g = given_of entries h (Fault j i out) at in
-      let rest = fault_rest h j i out g.0 one (at_of h (Fault j i out) g.0 g.1) in
+      let rest = fault_rest h j i out g.0 one (at_of h (Fault j i out) g.0 inside g.1) in
       ap is_some rest.literal_is
 
   own_from_one : (j i v : ℕ) → option_map variable_of (matrix_literal f j i) ≡ Some v → 1 ≤ j
@@ -196,19 +203,23 @@ module _ (f : Dqbf) (entries : List Entry) (id : ℕ) (ids : List ℕ) (d : AreD
 
     -- a fault among the ids, in the log
     in_log : (v : ℕ) (out : Leaf) (a : IsLeafAmong f entries ids v out) → (c : List Literal) × Contains entries (Given (Fault a.at.j a.at.i out) (negative d.decided.decides.rests.group ∷ c))
+        × IsGivenRightly f entries (Fault a.at.j a.at.i out) (negative d.decided.decides.rests.group ∷ c)
     in_log v out a =
         let g = given_of entries a.id (Fault a.at.j a.at.i out) a.at.is_fault in
         let mine = d.decided.decides.rests.circuit (Fault a.at.j a.at.i out) g.0 (reached_of a.id (Fault a.at.j a.at.i out) g.0 a.among g.1) in
         let place = split_at entries a.id (Given (Fault a.at.j a.at.i out) g.0) g.1 in
         let inside : Contains entries (Given (Fault a.at.j a.at.i out) g.0) = subst (λ es. Contains es (Given (Fault a.at.j a.at.i out) g.0)) (sym place.2)
-        (Contains-append_right place.0 (Given (Fault a.at.j a.at.i out) g.0 ∷ place.1) (Given (Fault a.at.j a.at.i out) g.0) (0, omega arith, refl)) in
-        (mine.0, subst (λ c. Contains entries (Given (Fault a.at.j a.at.i out) c)) mine.1 inside)
+        (Contains-append_right place.0 (Given (Fault a.at.j a.at.i out) g.0 ∷ place.1) (Given (Fault a.at.j a.at.i out) g.0) (0, omega arith, refl)) in (
+          mine.0,
+          subst (λ c. Contains entries (Given (Fault a.at.j a.at.i out) c)) mine.1 inside,
+          subst (IsGivenRightly f entries (Fault a.at.j a.at.i out)) mine.1 (d.givens a.id (Fault a.at.j a.at.i out) g.0 (d.reached.sound a.id a.among) g.1),
+        )
 
     one_leaf : (v : ℕ) (out other : Leaf) → IsLeafAmong f entries ids v out → IsLeafAmong f entries ids v other → out ≡ other
     one_leaf v out other a b =
         let p = in_log v out a in
         let q = in_log v other b in
-        same_leaf f entries d.decided.decides.rests.group v a.at.j a.at.i b.at.j b.at.i out other p.0 q.0 d.givens_match_origins p.1 q.1 a.at.own b.at.own
+        same_leaf f entries d.decided.decides.rests.group v a.at.j a.at.i b.at.j b.at.i out other p.0 q.0 p.2 q.2 p.1 q.1 a.at.own b.at.own
 
     out_is : (y : Existential) (out : Leaf) → IsFaultLeaf f d.decided.earlier d.decided.hints y out → out ≡ output_leaf t y
     out_is y out own =
@@ -239,7 +250,7 @@ module _ (f : Dqbf) (entries : List Entry) (id : ℕ) (ids : List ℕ) (d : AreD
       of_circuit : (l : Literal) → IsLeafAmong f entries ids y.variable (LeafLiteral l) → is_circuit_name (name_of entries (variable_of l)) ≡ true
       of_circuit l a =
           let g = given_of entries a.id (Fault a.at.j a.at.i (LeafLiteral l)) a.at.is_fault in
-          let at = at_of a.id (Fault a.at.j a.at.i (LeafLiteral l)) g.0 g.1 in
+          let at = at_of a.id (Fault a.at.j a.at.i (LeafLiteral l)) g.0 a.among g.1 in
           let rest = fault_rest a.id a.at.j a.at.i (LeafLiteral l) g.0 (own_from_one a.at.j a.at.i y.variable a.at.own) at in
           let leaf : IsLeafOf f at.earlier (variable_of rest.literal) (LeafLiteral l) = rest.leaf_is in
           let e = Given (Fault a.at.j a.at.i (LeafLiteral l)) g.0 in
@@ -256,7 +267,7 @@ module _ (f : Dqbf) (entries : List Entry) (id : ℕ) (ids : List ℕ) (d : AreD
     used : (h v i : ℕ) (c : List Literal) → Reaches entries id h → numbered has_id entries h ≡ Some (Given (Gate v i) c) → Contains gates v
     used h v i c reached at =
         let need : has_number roots v ≡ true = All-contains (IsGateNeeded entries roots) ids h have.gates_needed (d.reached.complete h reached) v i (ap (option_and_then origin_of) at) in
-        let place = at_of h (Gate v i) c at in
+        let place = at_of h (Gate v i) c (d.reached.complete h reached) at in
         let rest : IsGateRest place.earlier v i place.matches.rest = place.matches.rest_is in
         let named = name_stays place.more (Given (Gate v i) c ∷ place.earlier) v (And rest.left rest.right) (subst (Each MayFollow) place.is lawful) rest.named in
         subst (λ gs. Contains gs v) (sym gates_is) (gate_there needed entries v rest.left rest.right (ap (λ es. name_of es v) place.is ∙ named) (over_grows entries roots v need))

@@ -1,20 +1,19 @@
 -- Leaves of the variables in faults.
-use Rattle.std.proofs.Common.{◌≡◌, ℕ, zero, suc, ◌+◌, ◌-◌, ◌≤◌, ◌<◌, ◌⊎◌, inl, inr, true, false, List, [], ◌∷◌, ◌++◌, take, length, get_or, Option, None, Some, IsSome, is_some, refl, sym, ◌∙◌, ap, subst, arith}
+use Rattle.std.proofs.Common.{◌≡◌, ℕ, ◌+◌, ◌-◌, ◌≤◌, ◌<◌, ◌⊎◌, inl, inr, true, false, List, ◌∷◌, take, length, get_or, Option, None, Some, IsSome, is_some, refl, sym, ◌∙◌, ap, subst, arith}
 use Rattle.std.specs.List.{Contains}
 use Rattle.std.specs.Prelude.{slice_get, slice_index_or}
 use Rattle.std.specs.Option.{option_map, option_and_then}
 use Rattle.std.proofs.lemmas.List.{take_all, take_more}
 use Rattle.dq_lits.specs.Formula.{Dqbf}
-use Rattle.dq_lits.specs.Literal.{Literal, variable_of, negative}
+use Rattle.dq_lits.specs.Literal.{Literal, negative}
 use Rattle.hint_log.specs.Entries.{Entry, origin_at}
 use Rattle.hint_log.specs.Naming.{numbered_from_one}
-use Rattle.hint_log.specs.Origins.{matrix_literal}
 use Rattle.hint_log.specs.declared.origins.Leaf.{Leaf}
 use Rattle.hint_log.specs.declared.origins.Leaf.TheVariants.{Constant}
 use Rattle.hint_log.specs.declared.origins.Origin.TheVariants.{Fault}
 use Rattle.number_tables.specs.Numbers.{has_number, place_of}
 use Rattle.number_tables.proofs.NumberPlaces.{placed}
-use Rattle.cert_export.specs.FaultLeaves.{LeafTable, leaf_of, IsLeafAt, IsLeafAmong, AreLeavesAmong, HasLeavesAmong, BeginsGroup, IsFaultOfGroup, AreOfGroup}
+use Rattle.cert_export.specs.FaultLeaves.{LeafTable, leaf_of, IsLeafAt, AreLeavesAmong, HasLeavesAmong, BeginsGroup, IsFaultOfGroup, AreOfGroup}
 use Rattle.log_laws.proofs.Found.{slice_get_at}
 use Rattle.cert_export.proofs.GivenNames.{Contains-append_either}
 use Rattle.cert_export.proofs.PairNames.{from_one, small_place}

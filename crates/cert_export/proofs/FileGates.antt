@@ -1,6 +1,6 @@
 -- The exported circuit is made gate by gate and output by output.
-use Rattle.std.proofs.Common.{◌≡◌, ◌≢◌, ℕ, zero, suc, ◌+◌, ◌-◌, ◌*◌, ◌/◌, ◌%◌, ◌≤◌, ◌<◌, ◌==◌, Bool, true, false, cond, inl, inr, ◌⊎◌, List, [], ◌∷◌, ◌++◌, map, take, length, length-take, get_or, get_or-take, Option, None, Some, IsSome, is_some, refl, sym, ◌∙◌, ap, subst, arith}
-use Rattle.std.specs.List.{All, AllPairs, Contains, range_with_len}
+use Rattle.std.proofs.Common.{◌≡◌, ◌≢◌, ℕ, zero, suc, ◌+◌, ◌*◌, ◌/◌, ◌<◌, true, inl, inr, List, [], ◌∷◌, ◌++◌, map, take, length, length-take, get_or, get_or-take, Option, None, Some, IsSome, is_some, refl, sym, ◌∙◌, ap, subst, arith}
+use Rattle.std.specs.List.{All, Contains, range_with_len}
 use Rattle.std.specs.Prelude.{slice_index}
 use Rattle.std.proofs.lemmas.List.{get_or-map, length-map, take_more, get_or_default}
 use Rattle.std.proofs.lemmas.List.Elements.{All-contains}
@@ -10,13 +10,13 @@ use Rattle.dq_formula.specs.Prefix.{existential_variables}
 use Rattle.hint_log.specs.Conditions.{is_circuit_name, AreLogged}
 use Rattle.hint_log.specs.Entries.{Entry, name_of}
 use Rattle.hint_log.specs.declared.names.Name.{Name}
-use Rattle.hint_log.specs.declared.names.Name.TheVariants.{Selector, Pair, Input, And, Bad, Copy as CopyOf}
+use Rattle.hint_log.specs.declared.names.Name.TheVariants.{And}
 use Rattle.hint_log.specs.declared.origins.Leaf.{Leaf}
 use Rattle.hint_log.specs.declared.origins.Leaf.TheVariants.{Constant, Literal as LeafLiteral}
 use Rattle.circuit_plain.specs.Netlist.{Netlist, IsNetlist, IsVariable, IsLiteral, IsDefined, IsGate, variable_of_gate}
 use Rattle.circuit_plain.specs.declared.circuits.Gate.{Gate}
 use Rattle.log_laws.proofs.Solved.{sides}
-use Rattle.cert_export.specs.CircuitPart.{CircuitPart, IsCircuitPart, IsLeafInFile, IsInFile, circuit_renaming, gate_of, leaf_code, exported_netlist}
+use Rattle.cert_export.specs.CircuitPart.{CircuitPart, IsCircuitPart, IsLeafInFile, circuit_renaming, gate_of, leaf_code, exported_netlist}
 use Rattle.cert_export.specs.FaultLeaves.{LeafTable, leaf_of, or_false, output_leaf}
 use Rattle.cert_export.specs.Netlists.{IsLeafNamed}
 use Rattle.cert_export.proofs.Codes.{half_even}

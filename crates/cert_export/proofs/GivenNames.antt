@@ -1,12 +1,12 @@
 -- Variables of given clauses get their names.
-use Rattle.std.proofs.Common.{◌≡◌, ℕ, zero, suc, ◌++◌, true, false, is_some, ◌+◌, ◌-◌, ◌*◌, ◌≤◌, ◌<◌, ◌⊎◌, inl, inr, List, [], ◌∷◌, take, length, get_or, Option, None, Some, IsSome, refl, sym, ◌∙◌, ap, subst, arith}
+use Rattle.std.proofs.Common.{◌≡◌, ℕ, zero, suc, ◌++◌, true, false, is_some, ◌+◌, ◌≤◌, ◌<◌, ◌⊎◌, inl, inr, List, [], ◌∷◌, take, length, get_or, Option, None, Some, IsSome, refl, sym, ◌∙◌, ap, subst, arith}
 use Rattle.std.specs.List.{All, Contains, cons_option}
 use Rattle.std.specs.Option.{option_map, option_and_then}
 use Rattle.std.proofs.lemmas.Bool.{true≢false}
 use Rattle.std.proofs.lemmas.List.{take_all, take_more}
 use Rattle.std.proofs.lemmas.List.Elements.{All-nil, All-push, All-head, All-tail}
 use Rattle.dq_lits.specs.Literal.{Literal, variable_of, on_variable}
-use Rattle.hint_log.specs.Entries.{Entry, Named, Given, Learned, Answer, Round, has_id, numbered, clause_of, clause_at, origin_of, origin_at}
+use Rattle.hint_log.specs.Entries.{Entry, Named, Given, Learned, Answer, Round, Begun, has_id, numbered, clause_of, clause_at, origin_of, origin_at}
 use Rattle.hint_log.specs.declared.origins.Origin.{Origin}
 use Rattle.cert_export.specs.Renaming.{Renaming, renamed_literal, renamed_clause, IsPartOf, IsNamed, AreNamedIn, IsRenamingOf}
 
@@ -130,3 +130,4 @@ known_of P entries ids id clause known inside given there = by_entry (numbered h
   by_entry (Some (Learned c hints)) at g t = cc
   by_entry (Some (Answer c hints)) at g t = cc
   by_entry (Some (Round row values j)) at g t = cc
+  by_entry (Some (Begun live)) at g t = cc

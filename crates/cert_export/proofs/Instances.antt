@@ -1,6 +1,7 @@
 -- The instances given, renamed, are those of the expansion.
 use Rattle.std.proofs.Common.{◌≡◌, ℕ, zero, suc, ◌+◌, ◌-◌, ◌*◌, ◌%◌, ◌≤◌, ◌==◌, Bool, true, false, cond, List, [], ◌∷◌, ◌++◌, map, length, get_or, slice_get, Option, None, Some, refl, sym, ◌∙◌, ap, subst, arith, append_assoc, length-append, mul-le-mul_right, add-mul, one-mul}
 use Rattle.std.specs.List.{Contains, list_any, filter_map, cons_option, position_or_len}
+use Rattle.std.specs.List.Sorted.{IsStrictlyIncreasing}
 use Rattle.std.specs.Option.{option_map, option_and_then}
 use Rattle.std.proofs.lemmas.Bool.{false≢true, eqb-true, eq-eqb, cond-true, cond-false}
 use Rattle.std.proofs.lemmas.List.Sums.{passes_at_first}
@@ -11,25 +12,22 @@ use Rattle.dq_lits.specs.Formula.{Existential, Dqbf, existential_of, IsWellForme
 use Rattle.dq_lits.specs.Expansion.{agree_on, pair_number, pair_literal, universal_literal_true, instance_clause, instance_at}
 use Rattle.hint_log.specs.Entries.{has_id, is_round, row_of, row_at, count, rounds_of, numbered, name_of}
 use Rattle.hint_log.specs.Entries.{Entry}
-use Rattle.hint_log.specs.Entries.{Named, Given, Learned, Answer, Round}
+use Rattle.hint_log.specs.Entries.{Named, Given, Learned, Answer, Round, Begun}
 use Rattle.hint_log.specs.declared.names.Name.{Name}
 use Rattle.hint_log.specs.declared.names.Name.TheVariants.{Selector, Pair}
 use Rattle.hint_log.specs.declared.origins.Origin.{Origin}
-use Rattle.hint_log.specs.declared.origins.Origin.TheVariants.{Instance, Gate, Fault, Copy, Link}
+use Rattle.hint_log.specs.declared.origins.Origin.TheVariants.{Instance, Gate, Fault, Copy, Link, TermGate, Differ}
 use Rattle.hint_log.specs.Growth.{Each}
 use Rattle.hint_log.specs.Naming.{numbered_from_one, named_literal, name_literal, rows_of, arbiter, on_arbiter}
 use Rattle.hint_log.specs.Origins.{IsInstanceRest, IsOriginsClause}
 use Rattle.cert_export.specs.Renaming.{Renaming, renamed_literal, renamed_clause}
 use Rattle.cert_text.specs.Header.{max_count}
-use Rattle.dq_formula.specs.declared.formula.TheConstants.{MAX_CLAUSES}
 use Rattle.cert_export.specs.Exportable.{IsKnownInstance}
 use Rattle.cert_export.specs.Pairing.{IsOwnName, HasOwnNames}
-use Rattle.cert_export.specs.Expansion.{first_pair, pair_of, pair_renaming, instance_id, InstancesAreExpansion}
+use Rattle.cert_export.specs.Expansion.{first_pair, pair_of, pair_renaming, number_among, instance_id, IsInstanceClause, InstancesAreExpansion}
 use Rattle.hint_log.specs.Conditions.{MayFollow}
-use Rattle.hint_log.specs.ProductiveLog.{MatchesOrigin}
-use Rattle.hint_log.specs.Deciding.{IsInstance}
 use Rattle.log_laws.proofs.ReachedClauses.{name_stays}
-use Rattle.log_laws.proofs.Found.{each_at, named_variable, position_append, position_small, same_bits-refl, split_at, find_sound, slice_get_at}
+use Rattle.log_laws.proofs.Found.{named_variable, position_append, position_small, same_bits-refl, split_at, find_sound, slice_get_at}
 use Rattle.cert_export.proofs.PairNames.{in_range, same_bits-sound, rows_more, row_contained, from_one, small_place}
 use Rattle.dq_lits.specs.Henkin.{restriction, same_bits}
 use Rattle.dq_lits.specs.Expansion.{row_assignment}
@@ -42,6 +40,7 @@ rounds_are (Given origin c ∷ es) = rounds_are es
 rounds_are (Learned c hints ∷ es) = rounds_are es
 rounds_are (Answer c hints ∷ es) = rounds_are es
 rounds_are (Round row values j ∷ es) = length-append (rows_of es) (row ∷ []) ∙ ap (λ n. n + 1) (rounds_are es)
+rounds_are (Begun live ∷ es) = rounds_are es
 
 get_front : (xs ys : List (List Bool)) (i : ℕ) (x : List Bool) → slice_get xs i ≡ Some x → slice_get (xs ++ ys) i ≡ Some x
 get_front [] ys i x h = cc
@@ -68,6 +67,7 @@ row_place (Round r values j ∷ es) k row h = by_bit (row_place es k row) (k == 
       let place : k - 1 ≡ length (rows_of es) = omega (arith, number, many) in
       (omega (arith, number), ap (slice_get (rows_of es ++ r ∷ [])) place ∙ get_last (rows_of es) r ∙ ap Some same)
   by_bit before false e h = let b = before h in (b.0, get_front (rows_of es) (r ∷ []) (k - 1) row b.1)
+row_place (Begun live ∷ es) k row h = row_place es k row h
 
 pub same_on : (p : ℕ) (r l : Literal) → is_negative r ≡ is_negative l → on_variable p r ≡ on_variable p l
 same_on p (positive v) (positive w) e = refl
@@ -171,28 +171,28 @@ module _ (f : Dqbf) (well : IsWellFormed f) (all : List Entry) (lawful : Each Ma
           ap (λ o. cons_option o (renamed_clause r rest)) literal ∙ ap (λ xs. on_variable (pair_number f (rows_of all) row y) l ∷ xs) (later rest behind)
 
   -- an instance's clause is that of its number in the expansion
-  base_right : (es more : List Entry) (k j : ℕ) (c : List Literal) → all ≡ more ++ Given (Instance k j) c ∷ es → IsOriginsClause f es (Instance k j) c →
-      (instance_at f (rows_of all) (instance_id (length f.matrix) (Instance k j)) ≡ Some (renamed_clause r c)) × (instance_id (length f.matrix) (Instance k j) ≤ length (rows_of all) * length f.matrix)
-  base_right es more k j c is o =
-      let rest : IsInstanceRest f es k j o.rest = o.rest_is in
+  base_right : (es more : List Entry) (k j i : ℕ) (c : List Literal) → all ≡ more ++ Given (Instance k j) c ∷ es → IsOriginsClause f es (Instance k i) c →
+      (instance_at f (rows_of all) ((k - 1) * length f.matrix + i) ≡ Some (renamed_clause r c)) × ((k - 1) * length f.matrix + i ≤ length (rows_of all) * length f.matrix)
+  base_right es more k j i c is o =
+      let rest : IsInstanceRest f es k i o.rest = o.rest_is in
       let is' : all ≡ (more ++ Given (Instance k j) c ∷ []) ++ es = is ∙ sym (append_assoc more (Given (Instance k j) c ∷ []) es) in
       let among = row_contained es k rest.row rest.row_is in
       let place = row_place es k rest.row rest.row_is in
       let later = rows_more (more ++ Given (Instance k j) c ∷ []) es in
       let rows : rows_of all ≡ rows_of es ++ later.0 = ap rows_of is' ∙ later.1 in
       let row_there : slice_get (rows_of all) (k - 1) ≡ Some rest.row = ap (λ xs. slice_get xs (k - 1)) rows ∙ get_front (rows_of es) later.0 (k - 1) rest.row place.1 in
-      let clause_there = from_one f.matrix j rest.clause rest.clause_is in
+      let clause_there = from_one f.matrix i rest.clause rest.clause_is in
       let C = length f.matrix in
       let k1 = place.0 in
-      let j1 = clause_there.0 in
+      let i1 = clause_there.0 in
       let row_small = small_place (rows_of all) (k - 1) rest.row row_there in
-      let clause_small = small_place f.matrix (j - 1) rest.clause clause_there.1 in
-      let next : (k - 1) * C + j ≡ suc ((k - 1) * C + (j - 1)) = omega arith in
-      let rem = mod-mul-add (k - 1) C (j - 1) clause_small in
-      let quotient = div-mul-add (k - 1) C (j - 1) clause_small in
-      let body : instance_at f (rows_of all) (suc ((k - 1) * C + (j - 1))) ≡ instance_clause f (rows_of all) rest.row rest.clause =
-      ap (λ q. option_and_then (λ row. option_and_then (instance_clause f (rows_of all) row) (slice_get f.matrix (((k - 1) * C + (j - 1)) % C))) (slice_get (rows_of all) q)) quotient
-      ∙ ap (option_and_then (λ row. option_and_then (instance_clause f (rows_of all) row) (slice_get f.matrix (((k - 1) * C + (j - 1)) % C)))) row_there
+      let clause_small = small_place f.matrix (i - 1) rest.clause clause_there.1 in
+      let next : (k - 1) * C + i ≡ suc ((k - 1) * C + (i - 1)) = omega arith in
+      let rem = mod-mul-add (k - 1) C (i - 1) clause_small in
+      let quotient = div-mul-add (k - 1) C (i - 1) clause_small in
+      let body : instance_at f (rows_of all) (suc ((k - 1) * C + (i - 1))) ≡ instance_clause f (rows_of all) rest.row rest.clause =
+      ap (λ q. option_and_then (λ row. option_and_then (instance_clause f (rows_of all) row) (slice_get f.matrix (((k - 1) * C + (i - 1)) % C))) (slice_get (rows_of all) q)) quotient
+      ∙ ap (option_and_then (λ row. option_and_then (instance_clause f (rows_of all) row) (slice_get f.matrix (((k - 1) * C + (i - 1)) % C)))) row_there
       ∙ ap (λ q. option_and_then (instance_clause f (rows_of all) rest.row) (slice_get f.matrix q)) rem
       ∙ ap (option_and_then (instance_clause f (rows_of all) rest.row)) clause_there.1 in
       let open' : instance_clause f (rows_of all) rest.row rest.clause ≡ Some (filter_map (pair_literal f (rows_of all) rest.row) rest.clause) =
@@ -207,9 +207,9 @@ module _ (f : Dqbf) (well : IsWellFormed f) (all : List Entry) (lawful : Each Ma
       (ap (instance_at f (rows_of all)) next ∙ body ∙ open' ∙ ap Some (sym (dropped ∙ same)), omega (arith, up, parts, one, clause_small))
 
   -- so an instance's variables have their pairs' own names, or are its selector
-  own_instance : length (rows_of all) ≤ max_count → (es more : List Entry) (k j : ℕ) (c : List Literal) → all ≡ more ++ Given (Instance k j) c ∷ es → IsOriginsClause f es (Instance k j) c → HasOwnNames f all c
-  own_instance few es more k j c is o =
-      let rest : IsInstanceRest f es k j o.rest = o.rest_is in
+  own_instance : length (rows_of all) ≤ max_count → (es more : List Entry) (k j i : ℕ) (c : List Literal) → all ≡ more ++ Given (Instance k j) c ∷ es → IsOriginsClause f es (Instance k i) c → HasOwnNames f all c
+  own_instance few es more k j i c is o =
+      let rest : IsInstanceRest f es k i o.rest = o.rest_is in
       let is' : all ≡ (more ++ Given (Instance k j) c ∷ []) ++ es = is ∙ sym (append_assoc more (Given (Instance k j) c ∷ []) es) in
       let among = row_contained es k rest.row rest.row_is in
       let P : Literal → Type 0 = λ l. IsOwnName f (rows_of all) (name_of all (variable_of l)) in
@@ -218,48 +218,52 @@ module _ (f : Dqbf) (well : IsWellFormed f) (all : List Entry) (lawful : Each Ma
       subst (HasOwnNames f all) (sym o.clause_is) (All-cons P (negative o.group) o.rest first
       (own_names es (more ++ Given (Instance k j) c ∷ []) is' rest.row among few rest.clause o.rest rest.named))
 
-  known_instance : length (rows_of all) ≤ max_count → length f.matrix ≤ MAX_CLAUSES → (es more : List Entry) (k j : ℕ) (c : List Literal) → all ≡ more ++ Given (Instance k j) c ∷ es → IsOriginsClause f es (Instance k j) c →
-      IsKnownInstance (Instance k j)
-  known_instance few clauses es more k j c is o =
-      let rest : IsInstanceRest f es k j o.rest = o.rest_is in
+  known_instance : length (rows_of all) ≤ max_count → (live : List ℕ) → IsStrictlyIncreasing live → (es more : List Entry) (k j i : ℕ) (c : List Literal) → all ≡ more ++ Given (Instance k j) c ∷ es
+      → IsOriginsClause f es (Instance k i) c → Contains live j → IsKnownInstance live (Instance k j)
+  known_instance few live ascending es more k j i c is o among =
+      let rest : IsInstanceRest f es k i o.rest = o.rest_is in
       let is' : all ≡ (more ++ Given (Instance k j) c ∷ []) ++ es = is ∙ sym (append_assoc more (Given (Instance k j) c ∷ []) es) in
       let place = row_place es k rest.row rest.row_is in
       let small = small_place (rows_of es) (k - 1) rest.row place.1 in
       let later = rows_more (more ++ Given (Instance k j) c ∷ []) es in
       let many : length (rows_of all) ≡ length (rows_of es) + length later.0 = ap (λ xs. length (rows_of xs)) is' ∙ ap length later.1 ∙ length-append (rows_of es) later.0 in
       let low = place.0 in
-      let clause_there = from_one f.matrix j rest.clause rest.clause_is in
-      let j1 = clause_there.0 in
-      let clause_small = small_place f.matrix (j - 1) rest.clause clause_there.1 in
-      (low, omega (arith, low, small, many, few), omega (arith, j1, clause_small, clauses))
+      (low, omega (arith, low, small, many, few), ascending, among)
 
 pub instances_are_expansion : InstancesAreExpansion
-instances_are_expansion f entries well lawful given id origin c at usable = by_origin origin usable at where
-  by_origin : (o : Origin) → IsInstance o → numbered has_id entries id ≡ Some (Given o c) →
-      (instance_at f (rows_of entries) (instance_id (length f.matrix) o) ≡ Some (renamed_clause (pair_renaming f entries) c)) × (instance_id (length f.matrix) o ≤ length (rows_of entries) * length f.matrix)
+instances_are_expansion f live entries well lawful id origin c at usable = by_origin origin usable at where
+  by_origin : (o : Origin) → IsInstanceClause f live entries o c → numbered has_id entries id ≡ Some (Given o c) →
+      (instance_at f (rows_of entries) (instance_id live (length f.matrix) o) ≡ Some (renamed_clause (pair_renaming f entries) c)) × (instance_id live (length f.matrix) o ≤ length (rows_of entries) * length f.matrix)
   by_origin (Instance k j) mine at =
       let place = split_at entries id (Given (Instance k j) c) at in
-      base_right f well entries lawful place.1 place.0 k j c place.2 (each_at (MatchesOrigin f) place.0 place.1 (Given (Instance k j) c) (subst (Each (MatchesOrigin f)) place.2 given))
+      base_right f well entries lawful place.1 place.0 k j (number_among live j) c place.2 (mine.1 place.0 place.1 place.2)
   by_origin (Gate v i) mine at = absurd mine
   by_origin (Fault j i leaf) mine at = absurd mine
   by_origin (Copy side j) mine at = absurd mine
   by_origin (Link v i) mine at = absurd mine
+  by_origin (TermGate v i) mine at = absurd mine
+  by_origin (Differ y leaf part) mine at = absurd mine
 
-module _ (f : Dqbf) (entries : List Entry) (well : IsWellFormed f) (lawful : Each MayFollow entries) (given : Each (MatchesOrigin f) entries) (few : length (rows_of entries) ≤ max_count) where
-  pub own_given : (id : ℕ) (origin : Origin) (c : List Literal) → IsInstance origin → numbered has_id entries id ≡ Some (Given origin c) → HasOwnNames f entries c
+module _ (f : Dqbf) (live : List ℕ) (entries : List Entry) (well : IsWellFormed f) (lawful : Each MayFollow entries) (few : length (rows_of entries) ≤ max_count) where
+  pub own_given : (id : ℕ) (origin : Origin) (c : List Literal) → IsInstanceClause f live entries origin c → numbered has_id entries id ≡ Some (Given origin c) → HasOwnNames f entries c
   own_given id (Instance k j) c mine at =
       let place = split_at entries id (Given (Instance k j) c) at in
-      own_instance f well entries lawful few place.1 place.0 k j c place.2 (each_at (MatchesOrigin f) place.0 place.1 (Given (Instance k j) c) (subst (Each (MatchesOrigin f)) place.2 given))
+      own_instance f well entries lawful few place.1 place.0 k j (number_among live j) c place.2 (mine.1 place.0 place.1 place.2)
   own_given id (Gate v i) c mine at = absurd mine
   own_given id (Fault j i leaf) c mine at = absurd mine
   own_given id (Copy side j) c mine at = absurd mine
   own_given id (Link v i) c mine at = absurd mine
+  own_given id (TermGate v i) c mine at = absurd mine
+  own_given id (Differ y leaf part) c mine at = absurd mine
 
-  pub known_given : length f.matrix ≤ MAX_CLAUSES → (id : ℕ) (origin : Origin) (c : List Literal) → IsInstance origin → numbered has_id entries id ≡ Some (Given origin c) → IsKnownInstance origin
-  known_given clauses id (Instance k j) c mine at =
+  pub known_given : IsStrictlyIncreasing live → (id : ℕ) (origin : Origin) (c : List Literal) → IsInstanceClause f live entries origin c → numbered has_id entries id ≡ Some (Given origin c)
+      → IsKnownInstance live origin
+  known_given ascending id (Instance k j) c mine at =
       let place = split_at entries id (Given (Instance k j) c) at in
-      known_instance f well entries lawful few clauses place.1 place.0 k j c place.2 (each_at (MatchesOrigin f) place.0 place.1 (Given (Instance k j) c) (subst (Each (MatchesOrigin f)) place.2 given))
-  known_given clauses id (Gate v i) c mine at = absurd mine
-  known_given clauses id (Fault j i leaf) c mine at = absurd mine
-  known_given clauses id (Copy side j) c mine at = absurd mine
-  known_given clauses id (Link v i) c mine at = absurd mine
+      known_instance f well entries lawful few live ascending place.1 place.0 k j (number_among live j) c place.2 (mine.1 place.0 place.1 place.2) mine.0
+  known_given ascending id (Gate v i) c mine at = absurd mine
+  known_given ascending id (Fault j i leaf) c mine at = absurd mine
+  known_given ascending id (Copy side j) c mine at = absurd mine
+  known_given ascending id (Link v i) c mine at = absurd mine
+  known_given ascending id (TermGate v i) c mine at = absurd mine
+  known_given ascending id (Differ y leaf part) c mine at = absurd mine

@@ -17,10 +17,12 @@ mod ListedGates
 mod ExportedParts
 mod SmallNumbers
 mod FileGates
+mod GateVariables
 mod ExportableCircuits
 mod NeededHints
 mod WrittenLines
 mod ExportableAnswers
+mod ExportableLogs
 mod RoundRows
 mod LineCounts
 mod Codes

@@ -8,7 +8,7 @@ use Rattle.std.proofs.lemmas.List.Kept.{AllPairs-from_increasing}
 use Rattle.std.specs.List.Sorted.{IsStrictlyIncreasing}
 use Rattle.dq_lits.specs.Derivation.{ProofStep}
 use Rattle.dq_lits.specs.Formula.{Dqbf}
-use Rattle.hint_log.specs.Entries.{Entry, Named, Given, Learned, Answer, Round, has_id, numbered, count}
+use Rattle.hint_log.specs.Entries.{Entry, Named, Given, Learned, Answer, Round, Begun, has_id, numbered, count}
 use Rattle.cert_export.specs.Exportable.{AreExportedSteps}
 use Rattle.cert_export.specs.Exported.{exported_number}
 use Rattle.cert_export.specs.Expansion.{instance_id}
@@ -68,6 +68,7 @@ few_lemmas [] [] rising all = omega arith
 few_lemmas [] (x ∷ xs) rising all = let here : false ≡ true = All-head (IsLemmaOf []) x xs all in cc
 few_lemmas (Named v n ∷ es) xs rising all = few_lemmas es xs rising all
 few_lemmas (Round row values j ∷ es) xs rising all = few_lemmas es xs rising all
+few_lemmas (Begun live ∷ es) xs rising all = few_lemmas es xs rising all
 few_lemmas (Given o c ∷ es) xs rising all = few_lemmas es xs rising (not_given (Given o c) es (count has_id es + 1) xs refl all)
 few_lemmas (Learned c hints ∷ es) xs rising all =
     let n = count has_id es + 1 in
@@ -95,5 +96,5 @@ lines_few entries ids r base_id number steps ascending are =
     let few = few_lemmas entries (derived_ids entries ids) (rising_filter p ids (rising_of ids (AllPairs-from_increasing ids ascending))) (all_derived entries ids) in
     omega (arith, many, few)
 
-pub few_steps : (f : Dqbf) (entries : List Entry) (ids : List ℕ) (steps : List ProofStep) → IsStrictlyIncreasing ids → AreExportedSteps f entries ids steps → length steps ≤ count is_lemma entries
-few_steps f entries ids steps ascending exported = lines_few entries ids exported.0 (instance_id (length f.matrix)) (exported_number f entries ids) steps ascending exported.2
+pub few_steps : (f : Dqbf) (live : List ℕ) (entries : List Entry) (ids : List ℕ) (steps : List ProofStep) → IsStrictlyIncreasing ids → AreExportedSteps f live entries ids steps → length steps ≤ count is_lemma entries
+few_steps f live entries ids steps ascending exported = lines_few entries ids exported.0 (instance_id live (length f.matrix)) (exported_number f entries ids) steps ascending exported.2

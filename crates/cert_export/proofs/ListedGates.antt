@@ -1,16 +1,16 @@
 -- The needed gates of a log: each one is a gate of it, and with a gate they hold its sides.
-use Rattle.std.proofs.Common.{◌≡◌, ◌≢◌, ℕ, zero, suc, ◌+◌, ◌≤◌, ◌<◌, ◌==◌, ◌⊎◌, inl, inr, Bool, true, false, cond, List, [], ◌∷◌, ◌++◌, length, length-append, get_or, reverse, Option, None, Some, refl, sym, ◌∙◌, ap, subst, arith}
-use Rattle.std.specs.List.{All, AllPairs, Contains, list_any}
-use Rattle.std.proofs.lemmas.Bool.{eqb-true, eq-eqb, cond-true, cond-false, true≢false}
+use Rattle.std.proofs.Common.{◌≡◌, ◌≢◌, ℕ, ◌+◌, ◌≤◌, ◌==◌, ◌⊎◌, inl, inr, Bool, true, false, cond, List, [], ◌∷◌, ◌++◌, length, length-append, reverse, None, Some, refl, sym, ◌∙◌, ap, subst, arith}
+use Rattle.std.specs.List.{AllPairs, Contains}
+use Rattle.std.proofs.lemmas.Bool.{eqb-true, eq-eqb, cond-true, true≢false}
 use Rattle.std.proofs.lemmas.List.{reverse-append, get_or_default}
 use Rattle.std.proofs.lemmas.List.Quantifiers.{all_pairs_push}
-use Rattle.std.proofs.lemmas.List.Elements.{Contains-append_left, Contains-push, Contains-get_or}
+use Rattle.std.proofs.lemmas.List.Elements.{Contains-append_left, Contains-push}
 use Rattle.dq_lits.specs.Literal.{Literal, variable_of}
 use Rattle.hint_log.specs.Conditions.{is_circuit_name, HasSides, MayFollow}
-use Rattle.hint_log.specs.Entries.{Entry, Named, Given, Learned, Answer, Round, count, name_of, names_of}
+use Rattle.hint_log.specs.Entries.{Entry, Named, Given, Learned, Answer, Round, Begun, count, name_of, names_of}
 use Rattle.hint_log.specs.Growth.{Each}
 use Rattle.hint_log.specs.declared.names.Name.{Name}
-use Rattle.hint_log.specs.declared.names.Name.TheVariants.{Selector, Pair, Input, And, Bad, Copy as CopyOf}
+use Rattle.hint_log.specs.declared.names.Name.TheVariants.{Selector, Pair, Input, And, Bad, Copy as CopyOf, Term}
 use Rattle.number_tables.specs.Numbers.{has_number, with_number}
 use Rattle.cert_export.specs.ExportedCircuit.{is_gate_name}
 use Rattle.cert_export.specs.Needed.{with_sides, with_all_sides, with_gate, with_gates}
@@ -64,6 +64,7 @@ sides_grow s v (Pair k y) w h = h
 sides_grow s v (Input x) w h = h
 sides_grow s v (Bad g j) w h = h
 sides_grow s v (CopyOf side x) w h = h
+sides_grow s v (Term p q) w h = h
 
 -- a variable that has no name isn't a side
 sides_back : (es : List Entry) (s : List ℕ) (v w : ℕ) (n : Name) → HasSides es n → name_of es w ≡ None → has_number (with_sides s (v, n)) w ≡ true → has_number s w ≡ true
@@ -85,6 +86,7 @@ sides_back es s v w (Pair k y) sides none h = h
 sides_back es s v w (Input x) sides none h = h
 sides_back es s v w (Bad g j) sides none h = h
 sides_back es s v w (CopyOf side x) sides none h = h
+sides_back es s v w (Term p q) sides none h = h
 
 -- all sides, by the entries from the newest on
 abbrev pub sides_over : List Entry → List ℕ → List ℕ
@@ -94,6 +96,7 @@ sides_over (Given origin c ∷ es) s = sides_over es s
 sides_over (Learned c hints ∷ es) s = sides_over es s
 sides_over (Answer c hints ∷ es) s = sides_over es s
 sides_over (Round row values j ∷ es) s = sides_over es s
+sides_over (Begun live ∷ es) s = sides_over es s
 
 pub sides_are : (es : List Entry) (s : List ℕ) → with_all_sides (reverse (names_of es)) s ≡ sides_over es s
 sides_are [] s = refl
@@ -102,6 +105,7 @@ sides_are (Given origin c ∷ es) s = sides_are es s
 sides_are (Learned c hints ∷ es) s = sides_are es s
 sides_are (Answer c hints ∷ es) s = sides_are es s
 sides_are (Round row values j ∷ es) s = sides_are es s
+sides_are (Begun live ∷ es) s = sides_are es s
 
 pub over_grows : (es : List Entry) (s : List ℕ) → Grows s (sides_over es s)
 over_grows [] s w h = h
@@ -110,6 +114,7 @@ over_grows (Given origin c ∷ es) s w h = over_grows es s w h
 over_grows (Learned c hints ∷ es) s w h = over_grows es s w h
 over_grows (Answer c hints ∷ es) s w h = over_grows es s w h
 over_grows (Round row values j ∷ es) s w h = over_grows es s w h
+over_grows (Begun live ∷ es) s w h = over_grows es s w h
 
 -- a variable without a name is added by none
 over_back : (es : List Entry) (s : List ℕ) (w : ℕ) → Each MayFollow es → name_of es w ≡ None → has_number (sides_over es s) w ≡ true → has_number s w ≡ true
@@ -122,6 +127,7 @@ over_back (Given origin c ∷ es) s w lawful none h = over_back es s w lawful.1 
 over_back (Learned c hints ∷ es) s w lawful none h = over_back es s w lawful.1 none h
 over_back (Answer c hints ∷ es) s w lawful none h = over_back es s w lawful.1 none h
 over_back (Round row values j ∷ es) s w lawful none h = over_back es s w lawful.1 none h
+over_back (Begun live ∷ es) s w lawful none h = over_back es s w lawful.1 none h
 
 abbrev HasBoth : List ℕ → Literal → Literal → Type 0
 HasBoth s a b = (has_number s (variable_of a) ≡ true) × (has_number s (variable_of b) ≡ true)
@@ -148,6 +154,7 @@ over_closed (Given origin c ∷ es) s v a b lawful named h = over_closed es s v 
 over_closed (Learned c hints ∷ es) s v a b lawful named h = over_closed es s v a b lawful.1 named h
 over_closed (Answer c hints ∷ es) s v a b lawful named h = over_closed es s v a b lawful.1 named h
 over_closed (Round row values j ∷ es) s v a b lawful named h = over_closed es s v a b lawful.1 named h
+over_closed (Begun live ∷ es) s v a b lawful named h = over_closed es s v a b lawful.1 named h
 
 -- the needed gates, by the entries
 module _ (needed : List ℕ) where
@@ -158,6 +165,7 @@ module _ (needed : List ℕ) where
   gates_over (Learned c hints ∷ es) = gates_over es
   gates_over (Answer c hints ∷ es) = gates_over es
   gates_over (Round row values j ∷ es) = gates_over es
+  gates_over (Begun live ∷ es) = gates_over es
 
   gates_snoc : (gates : List ℕ) (names : List (ℕ × Name)) (named : ℕ × Name) → with_gates needed gates (names ++ named ∷ []) ≡ with_gate needed (with_gates needed gates names) named
   gates_snoc gates [] named = refl
@@ -170,6 +178,7 @@ module _ (needed : List ℕ) where
   gates_are (Learned c hints ∷ es) = gates_are es
   gates_are (Answer c hints ∷ es) = gates_are es
   gates_are (Round row values j ∷ es) = gates_are es
+  gates_are (Begun live ∷ es) = gates_are es
 
   -- a gate of the log that is needed
   pub record IsNeededGate (es : List Entry) (v : ℕ) : Type 0 where
@@ -191,6 +200,7 @@ module _ (needed : List ℕ) where
   gate_back gates u v (Input x) inside = inl inside
   gate_back gates u v (Bad g j) inside = inl inside
   gate_back gates u v (CopyOf side x) inside = inl inside
+  gate_back gates u v (Term p q) inside = inl inside
 
   pub gate_named : (es : List Entry) (v : ℕ) → Each MayFollow es → Contains (gates_over es) v → IsNeededGate es v
   gate_named [] v lawful (k, below, is) = absurd (omega arith)
@@ -209,6 +219,7 @@ module _ (needed : List ℕ) where
   gate_named (Learned c hints ∷ es) v lawful inside = let g = gate_named es v lawful.1 inside in record { left = g.left; right = g.right; named = g.named; is_needed = g.is_needed }
   gate_named (Answer c hints ∷ es) v lawful inside = let g = gate_named es v lawful.1 inside in record { left = g.left; right = g.right; named = g.named; is_needed = g.is_needed }
   gate_named (Round row values j ∷ es) v lawful inside = let g = gate_named es v lawful.1 inside in record { left = g.left; right = g.right; named = g.named; is_needed = g.is_needed }
+  gate_named (Begun live ∷ es) v lawful inside = let g = gate_named es v lawful.1 inside in record { left = g.left; right = g.right; named = g.named; is_needed = g.is_needed }
 
   gate_kept : (gates : List ℕ) (u v : ℕ) (n : Name) → Contains gates v → Contains (with_gate needed gates (u, n)) v
   gate_kept gates u v (And a b) inside = by_bit (has_number needed u) where
@@ -220,6 +231,7 @@ module _ (needed : List ℕ) where
   gate_kept gates u v (Input x) inside = inside
   gate_kept gates u v (Bad g j) inside = inside
   gate_kept gates u v (CopyOf side x) inside = inside
+  gate_kept gates u v (Term p q) inside = inside
 
   pub gate_there : (es : List Entry) (v : ℕ) (a b : Literal) → name_of es v ≡ Some (And a b) → has_number needed v ≡ true → Contains (gates_over es) v
   gate_there [] v a b named h = cc
@@ -238,6 +250,7 @@ module _ (needed : List ℕ) where
   gate_there (Learned c hints ∷ es) v a b named h = gate_there es v a b named h
   gate_there (Answer c hints ∷ es) v a b named h = gate_there es v a b named h
   gate_there (Round row values j ∷ es) v a b named h = gate_there es v a b named h
+  gate_there (Begun live ∷ es) v a b named h = gate_there es v a b named h
 
   gate_distinct : (gates : List ℕ) (u : ℕ) (n : Name) → AllPairs (λ v w. v ≢ w) gates → AllPairs (λ v w. v ≢ w) (with_gate needed gates (u, n))
   gate_distinct gates u (And a b) apart = by_bit (has_number needed u) where
@@ -249,6 +262,7 @@ module _ (needed : List ℕ) where
   gate_distinct gates u (Input x) apart = apart
   gate_distinct gates u (Bad g j) apart = apart
   gate_distinct gates u (CopyOf side x) apart = apart
+  gate_distinct gates u (Term p q) apart = apart
 
   pub gates_distinct : (es : List Entry) → AllPairs (λ v w. v ≢ w) (gates_over es)
   gates_distinct [] = λ i j d low high. absurd (omega arith)
@@ -257,6 +271,7 @@ module _ (needed : List ℕ) where
   gates_distinct (Learned c hints ∷ es) = gates_distinct es
   gates_distinct (Answer c hints ∷ es) = gates_distinct es
   gates_distinct (Round row values j ∷ es) = gates_distinct es
+  gates_distinct (Begun live ∷ es) = gates_distinct es
 
   gate_more : (gates : List ℕ) (v : ℕ) (n : Name) (m : ℕ) → length gates ≤ m → length (with_gate needed gates (v, n)) ≤ cond (is_gate_name (Named v n)) (m + 1) m
   gate_more gates v (And a b) m h = by_bit (has_number needed v) where
@@ -268,6 +283,7 @@ module _ (needed : List ℕ) where
   gate_more gates v (Input x) m h = h
   gate_more gates v (Bad g j) m h = h
   gate_more gates v (CopyOf side x) m h = h
+  gate_more gates v (Term p q) m h = h
 
   pub gates_few : (es : List Entry) → length (gates_over es) ≤ count is_gate_name es
   gates_few [] = omega arith
@@ -276,3 +292,4 @@ module _ (needed : List ℕ) where
   gates_few (Learned c hints ∷ es) = gates_few es
   gates_few (Answer c hints ∷ es) = gates_few es
   gates_few (Round row values j ∷ es) = gates_few es
+  gates_few (Begun live ∷ es) = gates_few es

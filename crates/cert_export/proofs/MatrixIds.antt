@@ -1,5 +1,5 @@
 -- Ids of the negated matrix are computed without overflow.
-use Rattle.std.proofs.Common.{◌≡◌, nat_lt, ℕ, zero, suc, ◌+◌, ◌-◌, ◌*◌, ◌<◌, ◌^◌, ◌==◌, ◌≤◌, Bool, true, false, cond, List, [], ◌∷◌, ◌++◌, take, length, get_or, slice_index, None, Some, refl, sym, ◌∙◌, ap, subst, arith}
+use Rattle.std.proofs.Common.{◌≡◌, nat_lt, ℕ, zero, suc, ◌+◌, ◌-◌, ◌*◌, ◌<◌, ◌^◌, ◌==◌, ◌≤◌, Bool, true, false, cond, List, take, length, slice_index, None, Some, refl, sym, ◌∙◌, ap, subst, arith}
 use Rattle.std.specs.List.{position_or_len, sum_by}
 use Rattle.dq_lits.specs.Literal.{Literal}
 use Rattle.hint_log.specs.declared.origins.Leaf.{Leaf}

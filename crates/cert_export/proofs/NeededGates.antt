@@ -1,20 +1,19 @@
 -- The gates that an exported circuit and its proof rest on.
-use Rattle.std.proofs.Common.{◌≡◌, ◌≢◌, ℕ, zero, suc, ◌+◌, ◌-◌, ◌≤◌, ◌<◌, ◌==◌, ◌||◌, ◌⊎◌, inl, inr, Bool, true, false, cond, List, [], ◌∷◌, ◌++◌, take, drop, length, get_or, reverse, Option, None, Some, refl, sym, ◌∙◌, ap, subst, arith}
-use Rattle.std.specs.List.{All, AllPairs, Contains, list_any}
-use Rattle.std.proofs.lemmas.Bool.{cases_Bool, eqb-true, eq-eqb, ne_eqb, cond-true, cond-false, or_right, true≢false}
+use Rattle.std.proofs.Common.{◌≡◌, ℕ, suc, ◌+◌, ◌-◌, ◌≤◌, ◌<◌, true, List, [], ◌∷◌, ◌++◌, take, drop, length, get_or, reverse, Some, sym, ◌∙◌, ap, subst, arith}
+use Rattle.std.specs.List.{All}
 use Rattle.std.proofs.lemmas.List.{take_all, take_more, reverse-append}
 use Rattle.std.proofs.lemmas.List.Elements.{All-push}
 use Rattle.std.proofs.Math.Seq.{drop-cons}
 use Rattle.std.specs.Prelude.{slice_get}
-use Rattle.hint_log.specs.Entries.{Entry, origin_at}
+use Rattle.hint_log.specs.Entries.{Entry}
 use Rattle.hint_log.specs.declared.names.Name.{Name}
 use Rattle.hint_log.specs.declared.origins.Leaf.{Leaf}
 use Rattle.hint_log.specs.declared.origins.Leaf.TheVariants.{Constant, Literal as LeafLiteral}
 use Rattle.log_laws.proofs.Found.{slice_get_at}
 use Rattle.cert_export.specs.Needed.{with_sides, with_all_sides, with_gate, with_gates, IsLeafNeeded, IsGateNeeded, HasRoots}
 use Rattle.cert_export.proofs.PairNames.{small_place}
-use Rattle.dq_lits.specs.Literal.{Literal, variable_of}
-use Rattle.number_tables.specs.Numbers.{has_number, with_number}
+use Rattle.dq_lits.specs.Literal.{variable_of}
+use Rattle.number_tables.specs.Numbers.{has_number}
 
 abbrev pub Grows : List ℕ → List ℕ → Type 0
 Grows old new = (n : ℕ) → has_number old n ≡ true → has_number new n ≡ true

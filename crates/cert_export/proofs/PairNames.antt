@@ -10,9 +10,9 @@ use Rattle.dq_lits.specs.Formula.{Existential, Dqbf, declared, existential_of, I
 use Rattle.dq_lits.specs.Expansion.{agree_on, pair_number}
 use Rattle.hint_log.specs.Entries.{is_round, row_of, row_at, count, numbered, name_of}
 use Rattle.hint_log.specs.Entries.{Entry}
-use Rattle.hint_log.specs.Entries.{Named, Given, Learned, Answer, Round}
+use Rattle.hint_log.specs.Entries.{Named, Given, Learned, Answer, Round, Begun}
 use Rattle.hint_log.specs.declared.names.Name.{Name}
-use Rattle.hint_log.specs.declared.names.Name.TheVariants.{Selector, Pair, Input, And, Bad, Copy as CopyOf}
+use Rattle.hint_log.specs.declared.names.Name.TheVariants.{Selector, Pair, Input, And, Bad, Copy as CopyOf, Term}
 use Rattle.hint_log.specs.Growth.{Each}
 use Rattle.hint_log.specs.Naming.{numbered_from_one, rows_of}
 use Rattle.cert_export.specs.Renaming.{IsInjective}
@@ -37,6 +37,7 @@ same_name (Given origin c ∷ es) v w n lawful h k = same_name es v w n lawful.1
 same_name (Learned c hints ∷ es) v w n lawful h k = same_name es v w n lawful.1 h k
 same_name (Answer c hints ∷ es) v w n lawful h k = same_name es v w n lawful.1 h k
 same_name (Round row values j ∷ es) v w n lawful h k = same_name es v w n lawful.1 h k
+same_name (Begun live ∷ es) v w n lawful h k = same_name es v w n lawful.1 h k
 
 pub record IsPair (f : Dqbf) (rows : List (List Bool)) (o : Option Name) (x : ℕ) : Type 0 where
   pub k : ℕ
@@ -67,6 +68,7 @@ pair_parts f rows (Some (Input g)) x h = cc
 pair_parts f rows (Some (And a b)) x h = cc
 pair_parts f rows (Some (Bad g j)) x h = cc
 pair_parts f rows (Some (CopyOf side v)) x h = cc
+pair_parts f rows (Some (Term p q)) x h = cc
 
 pub in_range : (f : Dqbf) → IsWellFormed f → (y : Existential) → Contains f.existentials y → (1 ≤ y.variable) × (y.variable ≤ f.variables)
 in_range f well y inside = All-contains (λ v. (1 ≤ v) × (v ≤ f.variables)) (declared f) y.variable well.prefix.in_range
@@ -119,6 +121,7 @@ rows_more (Given origin c ∷ more) es = rows_more more es
 rows_more (Learned c hints ∷ more) es = rows_more more es
 rows_more (Answer c hints ∷ more) es = rows_more more es
 rows_more (Round row values j ∷ more) es = let r = rows_more more es in (r.0 ++ row ∷ [], ap (λ rows. rows ++ row ∷ []) r.1 ∙ append_assoc (rows_of es) r.0 (row ∷ []))
+rows_more (Begun live ∷ more) es = rows_more more es
 
 pub row_contained : (es : List Entry) (k : ℕ) (row : List Bool) → row_at es k ≡ Some row → Contains (rows_of es) row
 row_contained [] k row h = cc
@@ -130,6 +133,7 @@ row_contained (Round r values j ∷ es) k row h = by_bit (row_contained es k row
   by_bit : (row_at es k ≡ Some row → Contains (rows_of es) row) → (b : Bool) → option_and_then row_of (cond b (Some (Round r values j)) (numbered is_round es k)) ≡ Some row → Contains (rows_of es ++ r ∷ []) row
   by_bit before true h = let same : r ≡ row = cc in subst (λ x. Contains (rows_of es ++ x ∷ []) row) (sym same) (Contains-push (rows_of es) row)
   by_bit before false h = Contains-append_left (rows_of es) (r ∷ []) row (before h)
+row_contained (Begun live ∷ es) k row h = row_contained es k row h
 
 pub same_bits-sound : (xs ys : List Bool) → same_bits xs ys ≡ true → xs ≡ ys
 same_bits-sound [] [] h = refl

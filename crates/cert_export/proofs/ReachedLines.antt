@@ -11,7 +11,7 @@ use Rattle.hint_log.specs.Conditions.{IsId}
 use Rattle.hint_log.specs.Entries.{has_id, count, last_id, numbered, hints_of, hints_at}
 use Rattle.hint_log.specs.Reached.{Reaches, itself, by_hint, AreReached}
 use Rattle.hint_log.specs.Entries.{Entry}
-use Rattle.hint_log.specs.Entries.{Named, Given, Learned, Answer, Round}
+use Rattle.hint_log.specs.Entries.{Named, Given, Learned, Answer, Round, Begun}
 use Rattle.hint_log.specs.declared.origins.Origin.{Origin}
 use Rattle.cert_export.specs.Lines.{is_derived, derived_ids, line_clause}
 use Rattle.cert_export.specs.LineOrder.{IsLine, AreLineNumbers, IsBaseId, IsHintable, IsNextLine, AreLines, AreFinished}
@@ -52,6 +52,7 @@ entry_hints earlier (Given origin c) h lawful inside = absurd (none_in h inside)
 entry_hints earlier (Learned c hints) h lawful inside = lawful.1 h inside
 entry_hints earlier (Answer c hints) h lawful inside = lawful.1 h inside
 entry_hints earlier (Round row values j) h lawful inside = absurd (none_in h inside)
+entry_hints earlier (Begun live) h lawful inside = absurd (none_in h inside)
 
 -- hints are earlier ids
 pub hints_below : (es : List Entry) → Each MayFollow es → (at h : ℕ) (hints : List ℕ) → hints_at es at ≡ Some hints → Contains hints h → (1 ≤ h) × (h < at)
@@ -192,6 +193,7 @@ module _ (usable : Origin → List Literal → Type 0) (entries : List Entry) (l
             let line = ap is_derived at in
             (next_line done rest x c hints rising.0 here (inr at) (ap (option_and_then (λ e. Some (hints_of e))) at) line known finished, later (x ∷ done) known_line (done_line line))
         by_entry later (Some (Round row values j)) at = absurd (false≢true (entry_at entries x (Round row values j) at).has)
+        by_entry later (Some (Begun live)) at = absurd (false≢true (entry_at entries x (Begun live) at).has)
 
   pub are_lines : (ids : List ℕ) → AreReached entries id ids → AreLines usable entries number base [] (derived_ids entries ids)
   are_lines ids are = walk ids [] (rising_of ids (AllPairs-from_increasing ids are.ascending)) are.sound (λ h r e at. inr (are.complete h r)) (λ h inside. absurd (none_in h inside))

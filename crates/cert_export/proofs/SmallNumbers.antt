@@ -1,25 +1,20 @@
 -- The numbers of an exported circuit are few.
-use Rattle.std.proofs.Common.{◌≡◌, ◌≢◌, nat_lt, ℕ, zero, suc, ◌+◌, ◌-◌, ◌*◌, ◌/◌, ◌%◌, ◌≤◌, ◌<◌, ◌^◌, ◌==◌, Bool, true, false, cond, ◌||◌, inl, inr, ◌⊎◌, List, [], ◌∷◌, ◌++◌, map, take, length, get_or, Option, None, Some, IsSome, IfSome, position, refl, sym, ◌∙◌, ap, subst, arith, length-append, eqb}
-use Rattle.std.specs.List.{All, AllPairs, Contains, list_any, position_or_len, range_with_len, IsDistinct}
+use Rattle.std.proofs.Common.{◌≡◌, nat_lt, ℕ, suc, ◌+◌, ◌≤◌, ◌<◌, ◌==◌, Bool, true, false, cond, ◌||◌, inl, inr, List, [], ◌∷◌, length, get_or, Option, None, Some, IfSome, position, refl, sym, ◌∙◌, arith, eqb}
+use Rattle.std.specs.List.{Contains, list_any, position_or_len}
 use Rattle.std.specs.Option.{option_map}
-use Rattle.std.proofs.lemmas.Bool.{cases_Bool, eqb-true, lt-ltb, ltb-true, true≢false}
+use Rattle.std.proofs.lemmas.Bool.{eqb-true, lt-ltb, ltb-true, true≢false}
 use Rattle.std.proofs.lemmas.Bool.Decides.{Decides-eqb}
-use Rattle.std.proofs.lemmas.List.{get_or_append_left, get_or_default}
-use Rattle.std.proofs.lemmas.List.Elements.{All-contains, Contains-append_left}
+use Rattle.std.proofs.lemmas.List.{get_or_default}
+use Rattle.std.proofs.lemmas.List.Elements.{All-contains}
 use Rattle.std.proofs.lemmas.List.Sums.{passes_at_first}
 use Rattle.std.proofs.lemmas.Map.Made.{IsDistinct-from_AllPairs}
 use Rattle.std.proofs.lemmas.Map.Steps.{length-le_from_distinct_below}
-use Rattle.dq_lits.specs.Literal.{Literal, variable_of}
 use Rattle.dq_lits.specs.Formula.{Dqbf, HasLawfulPrefix, declared}
-use Rattle.hint_log.specs.Conditions.{is_circuit_name}
-use Rattle.hint_log.specs.Entries.{Entry, name_of}
 use Rattle.hint_log.specs.Naming.{numbered_from_one}
 use Rattle.hint_log.specs.declared.names.Name.{Name}
-use Rattle.log_laws.proofs.Found.{variable}
-use Rattle.cert_export.specs.CircuitPart.{CircuitPart, place_from_one, circuit_number, circuit_renaming, max_number, or_zero}
+use Rattle.cert_export.specs.CircuitPart.{CircuitPart, place_from_one, circuit_number}
 use Rattle.cert_export.specs.Parts.{IsSmall}
 use Rattle.cert_export.proofs.CircuitNumbers.{position_below, among, number_below, IsNumbered, number_cases, number_from_one}
-use Rattle.cert_export.proofs.ListedGates.{inside_of}
 
 any_inside : (q : ℕ) (xs : List ℕ) → list_any (eqb q) xs ≡ true → Contains xs q
 any_inside q [] h = cc

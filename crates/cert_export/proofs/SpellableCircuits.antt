@@ -11,8 +11,7 @@ use Rattle.dq_lits.specs.Formula.{Dqbf, declared, HasLawfulPrefix}
 use Rattle.dq_formula.specs.Prefix.{existential_variables}
 use Rattle.hint_log.specs.Conditions.{AreLogged}
 use Rattle.hint_log.specs.Entries.{Entry, name_of}
-use Rattle.hint_log.specs.Growth.{Each}
-use Rattle.hint_log.specs.ProductiveLog.{MatchesOrigin}
+use Rattle.cert_export.specs.Given.{HasUniversalInputs}
 use Rattle.circuit_plain.specs.Ground.{IsGrounded, constant, input, gate}
 use Rattle.circuit_plain.specs.Netlist.{Netlist, IsDefined, literal_variable, variable_of_gate}
 use Rattle.aiger_text.specs.Grammar.{AreNames}
@@ -70,7 +69,7 @@ meant net n (input inside) = inr (inl inside)
 meant net n (gate g inside on_left on_right) = inr (inr (mapped_inside variable_of_gate net.gates g inside))
 
 module _ (f : Dqbf) (entries : List Entry) (e : CircuitPart) (prefix : HasLawfulPrefix f) (small : f.variables < 10 ^ 18) (lawful : AreLogged entries)
-    (given : Each (MatchesOrigin f) entries) (part : IsCircuitPart f entries e) (names : (n : ℕ) → n < 10 ^ 18 → IsName (decimal n))
+    (given : HasUniversalInputs f entries) (part : IsCircuitPart f entries e) (names : (n : ℕ) → n < 10 ^ 18 → IsName (decimal n))
     (few_variables : max_number f e ≤ 1000000000) (few_outputs : length f.existentials ≤ 1000000000) where
   abbrev net : Netlist
   net = exported_netlist f entries e

@@ -8,7 +8,7 @@ use Rattle.std.proofs.lemmas.List.Kept.{AllPairs-from_increasing}
 use Rattle.dq_lits.specs.Literal.{Literal, opposite}
 use Rattle.dq_lits.specs.Derivation.{is_tautology, ProofStep}
 use Rattle.hint_log.specs.Conditions.{IsId}
-use Rattle.hint_log.specs.Entries.{Entry, Named, Given, Learned, Answer, Round, has_id, numbered, clause_of, hints_of, origin_of, clause_at, hints_at, origin_at}
+use Rattle.hint_log.specs.Entries.{Entry, Named, Given, Learned, Answer, Round, Begun, has_id, numbered, clause_of, hints_of, origin_of, clause_at, hints_at, origin_at}
 use Rattle.hint_log.specs.declared.origins.Origin.{Origin}
 use Rattle.cert_export.specs.Lines.{clause_or_empty, hints_or_none, is_derived, derived_ids, line_number, number_by, new_number, renamed_clauses, line_clause, line_hints, line_step, line_steps}
 use Rattle.cert_export.specs.Renaming.{Renaming, renamed_clause, cut_hints}
@@ -36,6 +36,7 @@ given_entry (Some (Given o c)) origin clause h k = let a : o ≡ origin = cc in 
 given_entry (Some (Learned c hints)) origin clause h k = cc
 given_entry (Some (Answer c hints)) origin clause h k = cc
 given_entry (Some (Round row values j)) origin clause h k = cc
+given_entry (Some (Begun live)) origin clause h k = cc
 
 pub record IsDerivedEntry (o : Option Entry) (clause : List Literal) (hints : List ℕ) : Type 0 where
   pub derived : is_derived o ≡ true
@@ -49,6 +50,7 @@ derived_entry (Some (Given o c)) clause hints h k l = cc
 derived_entry (Some (Learned c hs)) clause hints h k l = record { derived = refl; clause_is = (let s : c ≡ clause = cc in s); hints_are = (let s : hs ≡ hints = cc in s) }
 derived_entry (Some (Answer c hs)) clause hints h k l = record { derived = refl; clause_is = (let s : c ≡ clause = cc in s); hints_are = (let s : hs ≡ hints = cc in s) }
 derived_entry (Some (Round row values j)) clause hints h k l = cc
+derived_entry (Some (Begun live)) clause hints h k l = cc
 
 pub clause_is : (o : Option Entry) (clause : List Literal) → option_and_then clause_of o ≡ Some clause → clause_or_empty o ≡ clause
 clause_is None clause k = cc
@@ -57,6 +59,7 @@ clause_is (Some (Given o c)) clause k = let s : c ≡ clause = cc in s
 clause_is (Some (Learned c hs)) clause k = let s : c ≡ clause = cc in s
 clause_is (Some (Answer c hs)) clause k = let s : c ≡ clause = cc in s
 clause_is (Some (Round row values j)) clause k = cc
+clause_is (Some (Begun live)) clause k = cc
 
 map_more : {X : Type 0} (g : ℕ → X) (ids : List ℕ) (i id : ℕ) → i < length ids → id ≡ get_or ids i id → map g (take (i + 1) ids) ≡ map g (take i ids) ++ g id ∷ []
 map_more g ids i id below is = ap (map g) (take_more ids i id below) ∙ map-append g (take i ids) (get_or ids i id ∷ []) ∙ ap (λ x. map g (take i ids) ++ g x ∷ []) (sym is)
@@ -235,3 +238,4 @@ module _ (r : Renaming) (base_id : Origin → ℕ) (knows : Origin → Type 0) (
       number_is (Some (Learned d hs)) k h = refl
       number_is (Some (Answer d hs)) k h = refl
       number_is (Some (Round row values j)) k h = cc
+      number_is (Some (Begun live)) k h = cc

@@ -21,6 +21,7 @@ use Rattle.circuit_plain.specs.Netlist.{Netlist}
 use Rattle.circuit_plain.specs.declared.circuits.Gate.{Gate}
 use Rattle.skolem_checker.specs.Checks.{Candidate}
 use Rattle.skolem_checker.specs.Mapping.{Mapping}
+use Rattle.cert_export.specs.Given.{IsGivenRightly}
 use Rattle.cert_export.specs.Renaming.{Renaming}
 
 -- what is exported of a log: the group whose faults are used, the variables of the file's gates,
@@ -120,6 +121,11 @@ IsCircuitClause f e (GateOf v i) c = Contains e.gates v
 IsCircuitClause f e (Fault j i out) c =
     ((rest : List Literal) × (c ≡ negative e.group ∷ rest)) × IsOwnLeaf f e j i out
 IsCircuitClause f e _ c = ⊥
+
+-- and by the formula they are what their origins stand for
+abbrev pub IsRightCircuitClause : Dqbf → List Entry → CircuitPart → Origin → List Literal → Type 0
+IsRightCircuitClause f entries e origin c =
+    IsCircuitClause f e origin c × IsGivenRightly f entries origin c
 
 -- where the literal stands on a gate, the file has the gate
 abbrev pub IsInFile : List Entry → List ℕ → Literal → Type 0

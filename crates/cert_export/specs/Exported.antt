@@ -1,12 +1,14 @@
 -- What is exported for a false formula, and that the checker of refutations accepts it.
 use Rattle.std.specs.Prelude.{◌≡◌, ℕ, ◌*◌, List, length, None}
+use Rattle.std.specs.List.{All}
+use Rattle.std.specs.List.Sorted.{IsStrictlyIncreasing}
 use Rattle.dq_lits.specs.Derivation.{ProofStep}
 use Rattle.dq_lits.specs.Formula.{Dqbf, IsWellFormed}
 use Rattle.hint_log.specs.Conditions.{AreLogged}
 use Rattle.hint_log.specs.Entries.{Entry}
 use Rattle.hint_log.specs.Growth.{Each}
 use Rattle.hint_log.specs.Naming.{rows_of}
-use Rattle.hint_log.specs.ProductiveLog.{MatchesOrigin, IsDerivedByHints}
+use Rattle.hint_log.specs.ProductiveLog.{IsDerivedByHints}
 use Rattle.hint_log.specs.Reached.{AreReached}
 use Rattle.cert_text.specs.Grammar.{AreSteps}
 use Rattle.cert_text.specs.Pairs.{is_pair_number}
@@ -15,7 +17,8 @@ use Rattle.expansion.specs.Table.{IsRefutedBy}
 use Rattle.refutation_checker.specs.Refutation.{refutation_fault}
 use Rattle.cert_export.specs.Renaming.{Renaming, IsRenamingOf}
 use Rattle.cert_export.specs.Lines.{derived_ids, line_number, line_steps}
-use Rattle.cert_export.specs.Expansion.{pair_renaming, instance_id}
+use Rattle.cert_export.specs.Expansion.{pair_renaming, instance_id, IsInstanceClause}
+use Rattle.cert_export.specs.Given.{EachGivenReached}
 
 -- the numbers of the pairs that the given clauses among these ids stand on; perhaps of further ones
 abbrev pub IsPairRenaming : Dqbf → List Entry → List ℕ → Renaming → Type 0
@@ -28,27 +31,42 @@ last_instance f entries = length (rows_of entries) * length f.matrix
 abbrev pub exported_number : Dqbf → List Entry → List ℕ → ℕ → ℕ
 exported_number f entries ids = line_number (last_instance f entries) (derived_ids entries ids)
 
-abbrev pub exported_steps : Dqbf → List Entry → List ℕ → Renaming → List ProofStep
-exported_steps f entries ids r =
-    line_steps r (instance_id (length f.matrix)) entries (exported_number f entries ids)
+-- the lines, where the formula's clauses have these numbers in the log
+abbrev pub exported_steps : Dqbf → List ℕ → List Entry → List ℕ → Renaming → List ProofStep
+exported_steps f live entries ids r =
+    line_steps r (instance_id live (length f.matrix)) entries (exported_number f entries ids)
     (derived_ids entries ids)
 
 -- the checker finds no fault
 abbrev pub ExportedAnswerRefutes : Type 0
 ExportedAnswerRefutes =
-    (f : Dqbf) (entries : List Entry) (id : ℕ) (ids : List ℕ) (r : Renaming) → IsWellFormed f
-    → AreLogged entries → Each (MatchesOrigin f) entries
+    (f : Dqbf) (live : List ℕ) (entries : List Entry) (id : ℕ) (ids : List ℕ) (r : Renaming)
+    → IsWellFormed f
+    → AreLogged entries → EachGivenReached (IsInstanceClause f live entries) entries id
     → Each IsDerivedByHints entries → IsRefutedBy entries id → AreReached entries id ids
     → IsPairRenaming f entries ids r
-    → refutation_fault f (record { rows = rows_of entries; steps = exported_steps f entries ids r })
+    → refutation_fault f
+    (record { rows = rows_of entries; steps = exported_steps f live entries ids r })
     ≡ None
 
 -- the lines are such as the format allows: numbered behind the instances, on pairs, with earlier
 -- hints
 abbrev pub ExportedLinesAreAllowed : Type 0
 ExportedLinesAreAllowed =
-    (f : Dqbf) (entries : List Entry) (id : ℕ) (ids : List ℕ) (r : Renaming) → IsWellFormed f
-    → AreLogged entries → Each (MatchesOrigin f) entries
+    (f : Dqbf) (live : List ℕ) (entries : List Entry) (id : ℕ) (ids : List ℕ) (r : Renaming)
+    → IsWellFormed f
+    → AreLogged entries → EachGivenReached (IsInstanceClause f live entries) entries id
     → IsRefutedBy entries id → AreReached entries id ids → IsPairRenaming f entries ids r
     → AreSteps (is_pair_number f (length (rows_of entries))) (first_id f (length (rows_of entries)))
-    (exported_steps f entries ids r)
+    (exported_steps f live entries ids r)
+
+-- the last entry is an answer that rests on instances of the formula's clauses, which have these
+-- ascending numbers in the log; every lemma is derived, and every round's row is whole
+pub record CanExportFalse (f : Dqbf) (live : List ℕ) (entries : List Entry)
+    (id : ℕ) : Type 0 where
+  pub refuted : IsRefutedBy entries id
+  pub instances : EachGivenReached (IsInstanceClause f live entries) entries id
+  pub numbers_ascend : IsStrictlyIncreasing live
+  pub one_each : length live ≡ length f.matrix
+  pub lemmas_are_derived : Each IsDerivedByHints entries
+  pub whole_rows : All (λ row. length row ≡ length f.universals) (rows_of entries)

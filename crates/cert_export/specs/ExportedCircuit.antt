@@ -2,8 +2,8 @@
 -- it.
 use Rattle.std.specs.Prelude.{◌≡◌, ℕ, ◌+◌, ◌<◌, ◌≤◌, ◌^◌, Bool, true, false, List, [], ◌∷◌, length, slice_index, Option, None, Some, Ok}
 use Rattle.std.specs.Fmt.{decimal}
-use Rattle.std.specs.List.{All, Contains}
-use Rattle.dq_lits.specs.Derivation.{ProofStep, Derives}
+use Rattle.std.specs.List.{All, Contains, range_with_len}
+use Rattle.dq_lits.specs.Derivation.{ProofStep}
 use Rattle.dq_lits.specs.Formula.{Dqbf, IsWellFormed, HasLawfulPrefix}
 use Rattle.dq_lits.specs.Literal.{Literal, negative}
 use Rattle.dq_formula.specs.Prefix.{existential_variables}
@@ -11,24 +11,25 @@ use Rattle.hint_log.specs.Conditions.{AreLogged}
 use Rattle.hint_log.specs.Deciding.{DecidesTrue, IsFaultLeaf}
 use Rattle.hint_log.specs.Entries.{Entry, Named, Given, Answer, has_id, last_id, numbered}
 use Rattle.hint_log.specs.Growth.{Each}
-use Rattle.hint_log.specs.ProductiveLog.{MatchesOrigin, IsDerivedByHints}
+use Rattle.hint_log.specs.ProductiveLog.{IsDerivedByHints}
 use Rattle.hint_log.specs.Reached.{Reaches, AreReached}
 use Rattle.hint_log.specs.declared.names.Name.TheVariants.{And}
 use Rattle.hint_log.specs.declared.origins.Leaf.{Leaf}
-use Rattle.hint_log.specs.declared.origins.Origin.{Origin}
 use Rattle.hint_log.specs.declared.origins.Origin.TheVariants.{Gate, Fault}
 use Rattle.aiger_text.specs.Lines.{max_count}
 use Rattle.aiger_text.specs.Spellable.{IsSpellable}
 use Rattle.aiger_text.specs.Symbol.{SymbolTable, name_at}
 use Rattle.aiger_text.specs.declared.files.AagFile.{AagFile}
-use Rattle.circuit_plain.specs.Netlist.{IsNetlist}
+use Rattle.circuit_plain.specs.Netlist.{IsNetlist, gate_variables}
 use Rattle.cert_text.specs.CircuitProof.{is_proof_variable, first_proof_id}
 use Rattle.cert_text.specs.Grammar.{AreSteps}
 use Rattle.cert_text.specs.declared.circuit_proofs.Dqp.{Dqp}
 use Rattle.proof_checker.specs.CircuitProof.{negated_candidate, circuit_proof_fault}
+use Rattle.proof_checker.specs.ProvedCircuit.{IsProvedCircuit}
 use Rattle.skolem_checker.specs.Checks.{candidate_of, ReadsDeclared}
-use Rattle.skolem_checker.specs.SkolemCircuit.{IsComplete, IsSkolemCircuit, ReadsUniversal}
-use Rattle.cert_export.specs.CircuitPart.{CircuitPart, IsCircuitPart, IsCircuitClause, ReadSeen, circuit_renaming, circuit_id, exported_netlist, exported_candidate, last_base_id, max_number}
+use Rattle.skolem_checker.specs.SkolemCircuit.{IsComplete, ReadsUniversal}
+use Rattle.cert_export.specs.CircuitPart.{CircuitPart, IsCircuitPart, IsRightCircuitClause, ReadSeen, circuit_renaming, circuit_id, exported_netlist, exported_candidate, last_base_id, max_number}
+use Rattle.cert_export.specs.Given.{HasUniversalInputs, IsGivenRightly, EachGivenReached}
 use Rattle.cert_export.specs.LineOrder.{IsRenamedBase}
 use Rattle.cert_export.specs.Lines.{derived_ids, line_number, line_steps}
 use Rattle.cert_export.specs.Renaming.{Renaming, IsInjective, IsRenamingOf}
@@ -39,26 +40,27 @@ CircuitNumbersAreInjective =
     (f : Dqbf) (entries : List Entry) (e : CircuitPart) → AreLogged entries
     → IsInjective (circuit_renaming f entries e)
 
--- the given clauses, renamed, are those of the negated matrix, under its ids
+-- given clauses that are their origins', renamed, are those of the negated matrix, under its ids
 abbrev pub CircuitClausesAreNegatedMatrix : Type 0
 CircuitClausesAreNegatedMatrix =
     (f : Dqbf) (entries : List Entry) (e : CircuitPart) → IsWellFormed f → AreLogged entries
-    → Each (MatchesOrigin f) entries → IsCircuitPart f entries e
-    → IsRenamedBase (circuit_renaming f entries e) (circuit_id f e) (IsCircuitClause f e)
+    → HasUniversalInputs f entries → IsCircuitPart f entries e
+    → IsRenamedBase (circuit_renaming f entries e) (circuit_id f e)
+    (IsRightCircuitClause f entries e)
     (negated_candidate (exported_candidate f entries e)) (last_base_id f e) entries
 
 -- every gate and every output can be evaluated
 abbrev pub ExportedCircuitIsComplete : Type 0
 ExportedCircuitIsComplete =
     (f : Dqbf) (entries : List Entry) (e : CircuitPart) → AreLogged entries
-    → Each (MatchesOrigin f) entries → IsCircuitPart f entries e
+    → HasUniversalInputs f entries → IsCircuitPart f entries e
     → IsComplete (exported_netlist f entries e)
 
 -- each output reads only what its existential sees
 abbrev pub ExportedCircuitReadsSeen : Type 0
 ExportedCircuitReadsSeen =
     (f : Dqbf) (entries : List Entry) (e : CircuitPart) → IsWellFormed f → AreLogged entries
-    → Each (MatchesOrigin f) entries → IsCircuitPart f entries e
+    → HasUniversalInputs f entries → IsCircuitPart f entries e
     → ReadSeen f entries e
     → ReadsDeclared (ReadsUniversal (exported_candidate f entries e).circuit) f
 
@@ -66,7 +68,7 @@ ExportedCircuitReadsSeen =
 abbrev pub ExportedCircuitIsNetlist : Type 0
 ExportedCircuitIsNetlist =
     (f : Dqbf) (entries : List Entry) (e : CircuitPart) → AreLogged entries
-    → Each (MatchesOrigin f) entries → IsCircuitPart f entries e
+    → HasUniversalInputs f entries → IsCircuitPart f entries e
     → max_number f e < 2 ^ 62 → IsNetlist (exported_netlist f entries e)
 
 -- each input's and each output's symbol is its variable's number
@@ -109,6 +111,14 @@ pub record IsDecidedTrue (f : Dqbf) (entries : List Entry) (id : ℕ) : Type 0 w
   pub last : id ≡ last_id entries
   pub decides : DecidesTrue f earlier clause hints
 
+-- and what the export reads of the log is right by the formula: inputs stand for its universals, and
+-- the given clauses that the answer rests on are their origins'; every lemma is derived
+pub record CanExportTrue (f : Dqbf) (entries : List Entry) (id : ℕ) : Type 0 where
+  pub decided : IsDecidedTrue f entries id
+  pub inputs : HasUniversalInputs f entries
+  pub givens : EachGivenReached (IsGivenRightly f entries) entries id
+  pub lemmas_are_derived : Each IsDerivedByHints entries
+
 -- what is exported of an answer: the group of the faults that it reaches, the existentials' leaves
 -- in these, and the gates of the leaves and those whose clauses it reaches
 pub record IsExportedPart (f : Dqbf) (entries : List Entry) (id : ℕ)
@@ -143,7 +153,8 @@ abbrev pub ExportedAnswerIsAccepted : Type 0
 ExportedAnswerIsAccepted =
     (f : Dqbf) (entries : List Entry) (id : ℕ) (e : CircuitPart) (ids : List ℕ) (r : Renaming)
     → IsWellFormed f
-    → AreLogged entries → Each (MatchesOrigin f) entries → Each IsDerivedByHints entries
+    → AreLogged entries → HasUniversalInputs f entries
+    → EachGivenReached (IsGivenRightly f entries) entries id → Each IsDerivedByHints entries
     → IsExportedPart f entries id e → AreReached entries id ids
     → IsCircuitRenaming f entries e ids r
     → circuit_proof_fault (exported_candidate f entries e) (proof_steps f entries e ids r) ≡ None
@@ -154,28 +165,19 @@ abbrev pub ExportedProofIsAllowed : Type 0
 ExportedProofIsAllowed =
     (f : Dqbf) (entries : List Entry) (id : ℕ) (e : CircuitPart) (ids : List ℕ) (r : Renaming)
     → IsWellFormed f
-    → AreLogged entries → Each (MatchesOrigin f) entries → IsExportedPart f entries id e
+    → AreLogged entries → HasUniversalInputs f entries
+    → EachGivenReached (IsGivenRightly f entries) entries id → IsExportedPart f entries id e
     → AreReached entries id ids → IsCircuitRenaming f entries e ids r
     → AreSteps (is_proof_variable f (exported_netlist f entries e))
     (first_proof_id f (exported_netlist f entries e)) (proof_steps f entries e ids r)
 
--- the file's circuit has Skolem functions, and the proof refutes its negated matrix
-pub record IsProvedCircuit (f : Dqbf) (file : AagFile) (proof : Dqp) : Type 0 where
-  pub skolem : IsSkolemCircuit f file.circuit file.symbols
-  pub derives : Derives
-      (negated_candidate
-      (record {
-        formula = f;
-        circuit = record { netlist = file.circuit; mapping = skolem.mapping };
-      }))
-      proof.steps
-
--- so it is with what is exported, where the outputs read what they may
+-- what is exported is a circuit with a proof that shows it, where the outputs read what they may
 abbrev pub ExportedAnswerIsProved : Type 0
 ExportedAnswerIsProved =
     (f : Dqbf) (entries : List Entry) (id : ℕ) (e : CircuitPart) (ids : List ℕ) (r : Renaming)
     (file : AagFile) (proof : Dqp)
-    → IsWellFormed f → AreLogged entries → Each (MatchesOrigin f) entries
+    → IsWellFormed f → AreLogged entries → HasUniversalInputs f entries
+    → EachGivenReached (IsGivenRightly f entries) entries id
     → Each IsDerivedByHints entries → IsExportedPart f entries id e → AreReached entries id ids
     → IsCircuitRenaming f entries e ids r → max_number f e < 2 ^ 62 → f.variables < 10 ^ 18
     → file.circuit ≡ exported_netlist f entries e → file.symbols ≡ number_symbols f
@@ -187,9 +189,18 @@ abbrev pub ExportedFileIsSpellable : Type 0
 ExportedFileIsSpellable =
     (f : Dqbf) (entries : List Entry) (e : CircuitPart) (file : AagFile) → HasLawfulPrefix f
     → f.variables < 10 ^ 18 → AreLogged entries
-    → Each (MatchesOrigin f) entries → IsCircuitPart f entries e
+    → HasUniversalInputs f entries → IsCircuitPart f entries e
     → file.circuit ≡ exported_netlist f entries e → file.symbols ≡ number_symbols f
     → max_number f e ≤ max_count → length f.existentials ≤ max_count → IsSpellable file
+
+-- inputs and then gates are numbered from 1 on, each in its order, and each symbol is its
+-- variable's number
+pub record IsNumberedFile (f : Dqbf) (file : AagFile) : Type 0 where
+  pub inputs : file.circuit.inputs ≡ range_with_len 1 (length f.universals)
+  pub gates : gate_variables file.circuit
+      ≡ range_with_len (length f.universals + 1) (length file.circuit.gates)
+  pub max_var : file.circuit.max_var ≡ length f.universals + length file.circuit.gates
+  pub symbols : file.symbols ≡ number_symbols f
 
 -- a text can hold the circuit and these symbols with any comment, where the numbers are within the
 -- format's limits

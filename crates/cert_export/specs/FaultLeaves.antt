@@ -1,5 +1,5 @@
 -- The leaves that variables have in the faults among some ids, and the group of these faults.
-use Rattle.std.specs.Prelude.{◌≡◌, ℕ, ◌≤◌, Bool, false, List, ◌∷◌, length, Option, None, Some, IsSome, slice_index_or}
+use Rattle.std.specs.Prelude.{◌≡◌, ℕ, ◌≤◌, false, List, ◌∷◌, Option, None, Some, IsSome, slice_index_or}
 use Rattle.std.specs.List.{Contains}
 use Rattle.std.specs.Option.{option_map}
 use Rattle.dq_lits.specs.Formula.{Dqbf, Existential}

@@ -14,3 +14,5 @@ pub mod FaultLeaves
 pub mod Needed
 pub mod Parts
 pub mod Netlists
+pub mod Given
+pub mod ExportableLogs

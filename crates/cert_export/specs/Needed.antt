@@ -1,7 +1,7 @@
 -- The gates that an exported circuit and its proof rest on.
-use Rattle.std.specs.Prelude.{◌≡◌, ℕ, Bool, true, false, List, [], ◌∷◌, Some, if◌then◌else◌}
+use Rattle.std.specs.Prelude.{◌≡◌, ℕ, true, List, [], ◌∷◌, Some, if◌then◌else◌}
 use Rattle.std.specs.List.{All}
-use Rattle.dq_lits.specs.Literal.{Literal, variable_of}
+use Rattle.dq_lits.specs.Literal.{variable_of}
 use Rattle.hint_log.specs.Entries.{Entry, origin_at}
 use Rattle.hint_log.specs.declared.names.Name.{Name}
 use Rattle.hint_log.specs.declared.names.Name.TheVariants.{And}

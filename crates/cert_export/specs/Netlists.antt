@@ -1,5 +1,5 @@
 -- What the exported circuit is made from.
-use Rattle.std.specs.Prelude.{◌≡◌, ℕ, List, IsSome}
+use Rattle.std.specs.Prelude.{List, IsSome}
 use Rattle.dq_lits.specs.Formula.{Dqbf}
 use Rattle.dq_lits.specs.Literal.{variable_of}
 use Rattle.hint_log.specs.Conditions.{AreLogged}

@@ -1,19 +1,19 @@
 -- What is exported of an answer, as it is kept.
-use Rattle.std.specs.Prelude.{◌≡◌, ℕ, ◌+◌, ◌*◌, ◌<◌, ◌≤◌, ◌^◌, List, length, Some}
-use Rattle.std.specs.List.{All, Contains, sum_by}
-use Rattle.std.specs.List.Sorted.{IsStrictlyIncreasing}
+use Rattle.std.specs.Prelude.{◌≡◌, ℕ, ◌≤◌, ◌^◌, List, length}
+use Rattle.std.specs.List.{All, sum_by}
 use Rattle.dq_lits.specs.Formula.{Dqbf, IsWellFormed}
 use Rattle.dq_lits.specs.Derivation.{ProofStep}
 use Rattle.hint_log.specs.Conditions.{IsId, AreLogged}
 use Rattle.hint_log.specs.Entries.{Entry, count}
 use Rattle.hint_log.specs.Growth.{Each}
-use Rattle.hint_log.specs.ProductiveLog.{MatchesOrigin, IsDerivedByHints}
+use Rattle.hint_log.specs.ProductiveLog.{IsDerivedByHints}
 use Rattle.hint_log.specs.Reached.{AreReached}
 use Rattle.aiger_text.specs.declared.files.AagFile.{AagFile}
 use Rattle.cert_text.specs.declared.circuit_proofs.Dqp.{Dqp}
 use Rattle.cert_export.specs.CircuitPart.{CircuitPart, exported_netlist}
 use Rattle.cert_export.specs.ExportedCircuit.{IsDecidedTrue, IsExportedPart, IsCircuitRenaming, number_symbols, proof_steps, is_gate_name}
 use Rattle.cert_export.specs.FaultLeaves.{output_leaf}
+use Rattle.cert_export.specs.Given.{HasUniversalInputs, IsGivenRightly, EachGivenReached}
 use Rattle.cert_export.specs.Renaming.{Renaming}
 use Rattle.cert_export.specs.declared.parts.Part.{Part}
 
@@ -26,14 +26,14 @@ pub record IsSmall (f : Dqbf) (gates : List ℕ) : Type 0 where
   pub few_gates : length gates ≤ 10 ^ 16
   pub few_clauses : length f.matrix ≤ 10000000
 
--- the ids that an answer reaches which decides that the formula is true, in a log of productive
--- work
+-- the ids that an answer reaches which decides that the formula is true, and can be exported
 pub record AreDecided (f : Dqbf) (entries : List Entry) (id : ℕ) (ids : List ℕ) : Type 0 where
   pub well_formed : IsWellFormed f
   pub few_variables : f.variables ≤ 1000000
   pub few_clauses : length f.matrix ≤ 10000000
   pub logged : AreLogged entries
-  pub givens_match_origins : Each (MatchesOrigin f) entries
+  pub inputs : HasUniversalInputs f entries
+  pub givens : EachGivenReached (IsGivenRightly f entries) entries id
   pub lemmas_are_derived : Each IsDerivedByHints entries
   pub decided : IsDecidedTrue f entries id
   pub reached : AreReached entries id ids

@@ -1,14 +1,14 @@
 //! The circuit and the proof of a true formula, from an answer that decides so.
 
-ghost use Rattle.std.specs.Prelude.{◌≡◌, ◌≤◌, ◌+◌, length, IfOk};
+ghost use Rattle.std.specs.Prelude.{◌≡◌, ◌≤◌, ◌+◌, ℕ, List, length, IfOk};
 ghost use Rattle.std.specs.List.{sum_by};
 ghost use Rattle.dq_lits.specs.Formula.{IsWellFormed};
 ghost use Rattle.hint_log.specs.Entries.{count};
-ghost use Rattle.hint_log.specs.ProductiveLog.{IsProductiveLog};
 ghost use Rattle.cert_text.specs.Header.{max_count};
 ghost use Rattle.cert_text.specs.ProofGrammar.{IsDqpOf};
 ghost use Rattle.cert_export.specs.CircuitPart.{exported_netlist};
-ghost use Rattle.cert_export.specs.ExportedCircuit.{IsDecidedTrue, IsProvedCircuit, IsWritable, is_gate_name};
+ghost use Rattle.cert_export.specs.ExportedCircuit.{CanExportTrue, IsNumberedFile, IsWritable, is_gate_name};
+ghost use Rattle.proof_checker.specs.ProvedCircuit.{IsProvedCircuit};
 ghost use Rattle.cert_export.specs.Lines.{is_lemma};
 ghost use Rattle.cert_export.specs.Negated.{AreLengthsBefore};
 ghost use Rattle.cert_export.specs.Parts.{part_of, AreDecided, AreCircuitIds, AreProofSteps, IsCircuitFile, IsExportedCircuit};
@@ -36,17 +36,18 @@ use std::alloc::Global;
 /// names and for what the answer reaches, and memory for the latter.
 pub fn export_true(alloc: Global, log: &Log, id: u64, f: &Formula) -> Result<(AagFile, Dqp), Memory>
     requires formula { IsWellFormed f.now }
-    requires productive { IsProductiveLog f.now log.now.entries }
-    requires decided { IsDecidedTrue f.now log.now.entries id }
+    requires decided { CanExportTrue f.now log.now.entries id }
     ensures proved { IfOk result (λ c. IsProvedCircuit f.now c.0 c.1) }
     ensures gates { IfOk result
         (λ c. length c.0.circuit.gates ≤ count is_gate_name log.now.entries) }
-    ensures numbers { IfOk result
-        (λ c. c.0.circuit.max_var ≡ length f.now.universals + length c.0.circuit.gates) }
+    ensures numbers { IfOk result (λ c. IsNumberedFile f.now c.0) }
     ensures few { IfOk result (λ c. length c.1.steps ≤ count is_lemma log.now.entries) }
     ensures spelled { IfOk result (λ c. IsWritable c.0) }
     ensures allowed { IfOk result
         (λ c. length c.1.steps ≤ max_count → IsDqpOf f.now c.0.circuit c.1) }
+    // Every line is that of an id that the answer reaches.
+    ensures exported { IfOk result (λ c. (ids : List ℕ)
+        × IsExportedCircuit f.now log.now.entries id ids c.0 c.1) }
 {
     f.every_formula_is_lawful();
     log.every_log_is_lawful();

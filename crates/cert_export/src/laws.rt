@@ -3,6 +3,7 @@
 
 ghost use Rattle.cert_export.specs.Renaming.{RenamedLinesAreDerived};
 ghost use Rattle.cert_export.specs.Expansion.{InstancesAreExpansion};
+ghost use Rattle.cert_export.specs.ExportableLogs.{ProductiveAnswersCanExport, SessionAnswersCanExport};
 ghost use Rattle.cert_export.specs.Exported.{ExportedAnswerRefutes, ExportedLinesAreAllowed};
 ghost use Rattle.cert_export.specs.ExportedCircuit.{CircuitNumbersAreInjective, CircuitClausesAreNegatedMatrix, ExportedCircuitIsComplete, ExportedCircuitReadsSeen, ExportedCircuitIsNetlist};
 ghost use Rattle.cert_export.specs.ExportedCircuit.{ExportedSymbolsMap, WrittenSymbolsAreNumbers, ExportedFileIsSpellable, ExportedAnswerIsAccepted, ExportedProofIsAllowed, ExportedAnswerIsProved};
@@ -98,3 +99,14 @@ pub fn exported_file_is_spellable()
 {
     numbers_are_names();
 }
+
+/// In a log of productive work for a formula, an answer that decides can be exported, with the
+/// clauses' own numbers.
+pub fn productive_answers_can_be_exported()
+    ensures { ProductiveAnswersCanExport }
+{}
+
+/// And in a session, of the formula that is live, with its clauses' numbers among all.
+pub fn session_answers_can_be_exported()
+    ensures { SessionAnswersCanExport }
+{}

@@ -7,7 +7,7 @@
 #![tactic(auto)]
 
 pub use circuits::export_true;
-pub use refutations::export_false;
+pub use refutations::{clause_numbers, export_false};
 
 mod bases;
 mod circuit_numbers;

@@ -12,7 +12,7 @@ use rup_core::{Base, Derived, Marks, derive_any};
 use std::alloc::Global;
 
 // Where an id stands among ascending ones, by halves.
-fn place(ids: &[u64], id: u64) -> usize
+pub(crate) fn place(ids: &[u64], id: u64) -> usize
     requires ascending { IsStrictlyIncreasing ids.now }
     requires there { Contains ids.now id }
     ensures value { result ≡ place_in ids.now id }

@@ -1,21 +1,23 @@
 //! The expansion refutation of a formula, from an answer that rests on instances.
 
-ghost use Rattle.std.specs.Prelude.{◌≡◌, ◌≤◌, None, length, IfOk};
+ghost use Rattle.std.specs.Prelude.{◌≡◌, ◌≤◌, ℕ, List, None, length, IfOk};
+ghost use Rattle.std.specs.List.{range_with_len};
 ghost use Rattle.dq_lits.specs.Formula.{IsWellFormed};
 ghost use Rattle.dq_formula.specs.declared.formula.TheConstants.{MAX_CLAUSES};
 ghost use Rattle.hint_log.specs.Entries.{count};
 ghost use Rattle.hint_log.specs.Naming.{rows_of};
-ghost use Rattle.hint_log.specs.ProductiveLog.{IsProductiveLog};
+ghost use Rattle.hint_log.specs.Reached.{AreReached};
 ghost use Rattle.cert_text.specs.Grammar.{IsDqrOf};
 ghost use Rattle.cert_text.specs.Header.{max_count};
-ghost use Rattle.expansion.specs.Table.{IsRefutedBy};
 ghost use Rattle.refutation_checker.specs.Refutation.{refutation_fault};
 ghost use Rattle.cert_export.specs.Expansion.{instance_id};
 ghost use Rattle.cert_export.specs.Lines.{is_lemma};
+ghost use Rattle.cert_export.specs.Exported.{CanExportFalse};
 ghost use Rattle.cert_export.specs.Exportable.{IsKnownInstance, AreExportable, AreExportedSteps};
 
 use crate::bases::Ground;
 use crate::given_names::given_names;
+use crate::lines::place;
 use crate::pairs::PairNumbers;
 use crate::written::{LineSource, write_lines};
 use cert_text::{Dqr, StepList};
@@ -26,17 +28,26 @@ use hint_log::{Log, Origin};
 use std::alloc::Global;
 
 /// The expansion refutation that an answer stands for: the rows of all rounds, and for each learned
-/// clause and answer that it reaches a line. It takes time and memory for the rows and for what the
-/// answer reaches.
-pub fn export_false(alloc: Global, log: &Log, id: u64, f: &Formula) -> Result<Dqr, Memory>
+/// clause and answer that it reaches a line. The formula's clauses have these numbers in the log, in
+/// order. It takes time and memory for the rows and for what the answer reaches, and for each
+/// instance the logarithm of the clauses.
+pub fn export_false(
+    alloc: Global,
+    log: &Log,
+    id: u64,
+    f: &Formula,
+    live: &[u64],
+) -> Result<Dqr, Memory>
     requires formula { IsWellFormed f.now }
-    requires productive { IsProductiveLog f.now log.now.entries }
-    requires refuted { IsRefutedBy log.now.entries id }
+    requires refuted { CanExportFalse f.now live.now log.now.entries id }
     requires limit { log.now.limit ≤ max_count }
     ensures rows { IfOk result (λ d. d.rows ≡ rows_of log.now.entries) }
     ensures accepted { IfOk result (λ d. refutation_fault f.now d ≡ None) }
     ensures few { IfOk result (λ d. length d.steps ≤ count is_lemma log.now.entries) }
     ensures spelled { IfOk result (λ d. length d.steps ≤ max_count → IsDqrOf f.now d) }
+    // Every line is that of an id that the answer reaches.
+    ensures lines { IfOk result (λ d. (ids : List ℕ) × AreReached log.now.entries id ids
+        × AreExportedSteps f.now live.now log.now.entries ids d.steps) }
 {
     f.every_formula_is_lawful();
     log.every_log_is_lawful();
@@ -45,8 +56,20 @@ pub fn export_false(alloc: Global, log: &Log, id: u64, f: &Formula) -> Result<Dq
     log.steps();
     let rows = round_rows(alloc, log)?;
     let ids = log.trim(id)?;
-    let steps = refutation_steps(alloc, log, ids.items(), f)?;
+    let steps = refutation_steps(alloc, log, ids.items(), f, live)?;
     Ok(Dqr { rows, steps })
+}
+
+/// The numbers of a formula's clauses in a log that is about no other: from 1 on, without gaps.
+pub fn clause_numbers(alloc: Global, f: &Formula) -> Result<Vec<u64>, Memory>
+    ensures { IfOk result
+        (λ numbers. numbers.items ≡ range_with_len 1 (length f.now.matrix)) }
+{
+    let mut numbers = Vec::new(alloc);
+    for place in 0..f.clauses() {
+        numbers.push(place as u64 + 1)?;
+    }
+    Ok(numbers)
 }
 
 // The rows of all rounds.
@@ -61,13 +84,20 @@ fn round_rows(alloc: Global, log: &Log) -> Result<RowList, Memory>
 }
 
 // The lines of the derived clauses among some ids.
-fn refutation_steps(alloc: Global, log: &Log, ids: &[u64], f: &Formula) -> Result<StepList, Memory>
-    requires { AreExportable f.now log.now.entries ids.now }
-    ensures { IfOk result (AreExportedSteps f.now log.now.entries ids.now) }
+fn refutation_steps(
+    alloc: Global,
+    log: &Log,
+    ids: &[u64],
+    f: &Formula,
+    live: &[u64],
+) -> Result<StepList, Memory>
+    requires { AreExportable f.now live.now log.now.entries ids.now }
+    ensures { IfOk result (AreExportedSteps f.now live.now log.now.entries ids.now) }
 {
     let names = given_names(alloc, log, ids, &PairNumbers { f, log })?;
     let base = Instances {
         clauses: f.clauses(),
+        live,
     };
     let last = log.rounds() * f.clauses() as u64;
     let source = LineSource {
@@ -80,21 +110,25 @@ fn refutation_steps(alloc: Global, log: &Log, ids: &[u64], f: &Formula) -> Resul
     write_lines(alloc, &source)
 }
 
-// The instances of so many clauses, by row and clause.
+// The instances of so many clauses, which have these numbers in the log, by row and clause.
 #[derive(Drop)]
-struct Instances {
+struct Instances<'a> {
     clauses: usize,
+    live: &'a [u64],
     ghost few: { clauses ≤ MAX_CLAUSES },
+    ghost few_live: { length live.now ≤ MAX_CLAUSES },
 }
 
-impl Ground for Instances {
-    ghost ids = { λ i. instance_id i.clauses };
+impl<'a> Ground for Instances<'a> {
+    ghost ids = { λ i. instance_id i.live.now i.clauses };
 
-    ghost Knows = { λ i. IsKnownInstance };
+    ghost Knows = { λ i. IsKnownInstance i.live.now };
 
     fn id(&self, origin: Origin) -> u64 {
         match origin {
-            Origin::Instance { round, clause } => (round - 1) * self.clauses as u64 + clause,
+            Origin::Instance { round, clause } => {
+                (round - 1) * self.clauses as u64 + (place(self.live, clause) as u64 + 1)
+            }
             _ => unreachable!(),
         }
     }

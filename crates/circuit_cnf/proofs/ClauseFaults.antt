@@ -10,13 +10,13 @@ use Rattle.hint_log.specs.Entries.{Entry}
 use Rattle.hint_log.specs.Entries.{Given}
 use Rattle.hint_log.specs.declared.origins.Leaf.{Leaf}
 use Rattle.hint_log.specs.declared.origins.Origin.TheVariants.{Fault}
-use Rattle.hint_log.specs.Entries.{ProofLog, with_entry, name_of, rounds_of}
+use Rattle.hint_log.specs.Entries.{ProofLog, with_entry, name_of}
 use Rattle.hint_log.specs.Growth.{Grew}
 use Rattle.hint_log.specs.declared.origins.Leaf.TheVariants.{Constant, Literal as LeafLiteral}
 use Rattle.hint_log.specs.Conditions.{is_circuit_name}
 use Rattle.hint_log.specs.Origins.{matrix_literal, IsLeafOf}
 use Rattle.log_laws.proofs.Found.{slice_get_at}
-use Rattle.hint_log.specs.ProductiveLog.{fault_groups, with_group}
+use Rattle.hint_log.specs.ProductiveLog.{fault_groups, with_group, fault_room}
 use Rattle.log_laws.specs.Engines.{circuits, IsAddedBy}
 use Rattle.log_laws.proofs.LargerLogs.{grown_then}
 use Rattle.aig_graph.proofs.LargerGraphs.{below_or_here}
@@ -41,7 +41,7 @@ group_twice group r s groups = by (list_any (λ g. same_literal (negative g) (ne
     or_true b h = ap (λ x. x || b) h
 
 pub few_more : (group j i : ℕ) (out : Leaf) (rest : List Literal) (es : List Entry) → AreFewWith group es → AreFewWith group (Given (Fault j i out) (negative group ∷ rest) ∷ es)
-few_more group j i out rest es few k l leaf more = subst (λ gs. length gs ≤ rounds_of es + 1) (sym (group_twice group more rest (fault_groups es))) (few j i out rest)
+few_more group j i out rest es few k l leaf more = subst (λ gs. length gs ≤ fault_room es) (sym (group_twice group more rest (fault_groups es))) (few j i out rest)
 
 -- what follows the fault of the next literal
 pub record IsNextFault (f : Dqbf) (group bad j place : ℕ) (l : Literal) (out : Leaf) (log new : ProofLog) : Type 0 where

@@ -10,10 +10,10 @@ use Rattle.aig_graph.specs.Graph.{AigGraph}
 use Rattle.aig_graph.proofs.LargerGraphs.{below_or_here}
 use Rattle.hint_log.specs.declared.names.Name.TheVariants.{Input as InputName}
 use Rattle.hint_log.specs.declared.origins.Leaf.TheVariants.{Literal as LeafLiteral}
-use Rattle.hint_log.specs.Entries.{ProofLog, rounds_of}
+use Rattle.hint_log.specs.Entries.{ProofLog}
 use Rattle.hint_log.specs.Growth.{Grew}
 use Rattle.hint_log.specs.Naming.{named_literal}
-use Rattle.hint_log.specs.ProductiveLog.{fault_groups}
+use Rattle.hint_log.specs.ProductiveLog.{fault_groups, fault_room}
 use Rattle.log_laws.specs.Engines.{circuits, IsAddedBy, LeavesRest}
 use Rattle.log_laws.proofs.LargerLogs.{leaves_rest, grown_then}
 use Rattle.log_laws.proofs.Kept.{named_stay}
@@ -29,7 +29,7 @@ pub record LiteralsSoFar (f : Dqbf) (graph : AigGraph) (inputs : List Literal) (
   pub grew : GrewByGates (variable_of first.group.selector) old log
   pub group : gates.group ≡ first.group
   pub faults : fault_groups log.entries ≡ fault_groups old.entries
-  pub few : length (fault_groups log.entries) ≤ rounds_of log.entries + 1
+  pub few : length (fault_groups log.entries) ≤ fault_room log.entries
   pub bads : AreBadsStill old.entries log.entries
   pub known : AreKnown gates log.entries
   pub ready : gates.unfinished ≡ None
@@ -62,7 +62,7 @@ literal_more f graph inputs marks first old gates log more new literals l i befo
   grew = grew_in_all first gates old log new before.grew before.group next.grew;
   group = next.group ∙ before.group;
   faults = next.faults ∙ before.faults;
-  few = subst (λ xs. length xs ≤ rounds_of new.entries + 1) (sym next.faults) (subst (λ n. length (fault_groups log.entries) ≤ n + 1) (sym rest.rounds) before.few);
+  few = subst (λ xs. length xs ≤ fault_room new.entries) (sym next.faults) (subst (λ n. length (fault_groups log.entries) ≤ n) (sym rest.room) before.few);
   bads = λ v group j is. before.bads v group j (next.bads v group j is);
   known = next.known;
   ready = next.ready;

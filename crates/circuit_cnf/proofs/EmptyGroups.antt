@@ -3,7 +3,7 @@ use Rattle.std.proofs.Common.{◌≡◌, ℕ, zero, suc, ◌<◌, ◌==◌, Bool
 use Rattle.std.specs.List.{Contains}
 use Rattle.dq_lits.specs.Literal.{Literal, negative}
 use Rattle.hint_log.specs.Entries.{Entry}
-use Rattle.hint_log.specs.Entries.{Named, Given, Learned, Answer, Round}
+use Rattle.hint_log.specs.Entries.{Named, Given, Learned, Answer, Round, Begun}
 use Rattle.hint_log.specs.declared.names.Name.{Name}
 use Rattle.hint_log.specs.declared.names.Name.TheVariants.{Selector}
 use Rattle.hint_log.specs.declared.origins.Origin.{Origin}
@@ -37,6 +37,7 @@ group_is_unused group (Given origin c ∷ es) unnamed grouped = (no, group_is_un
 group_is_unused group (Learned c h ∷ es) unnamed grouped = (tt, group_is_unused group es unnamed grouped.1)
 group_is_unused group (Answer c h ∷ es) unnamed grouped = (tt, group_is_unused group es unnamed grouped.1)
 group_is_unused group (Round r b j ∷ es) unnamed grouped = (tt, group_is_unused group es unnamed grouped.1)
+group_is_unused group (Begun live ∷ es) unnamed grouped = (tt, group_is_unused group es unnamed grouped.1)
 
 pub not_given_there : (group : ℕ) (es : List Entry) → Each (IsUnused group) es → (origin : Origin) (rest : List Literal) → Contains es (Given origin (negative group ∷ rest)) → ⊥
 not_given_there group [] unused origin rest (k, below, is) = absurd (omega arith)
@@ -53,6 +54,7 @@ no_gate_given group earlier (Given origin c) h = λ inside. absurd (h inside)
 no_gate_given group earlier (Learned c hints) h = tt
 no_gate_given group earlier (Answer c hints) h = tt
 no_gate_given group earlier (Round row values j) h = tt
+no_gate_given group earlier (Begun live) h = tt
 
 pub no_gates_given : (group : ℕ) (es : List Entry) → name_of es group ≡ None → Each IsGivenToGroup es → Each (IsGateGiven group) es
 no_gates_given group es unnamed grouped = each_weaker (IsUnused group) (IsGateGiven group) (no_gate_given group) es (group_is_unused group es unnamed grouped)

@@ -4,8 +4,8 @@ use Rattle.dq_lits.specs.Literal.{negative, variable_of}
 use Rattle.hint_log.specs.Entries.{Entry}
 use Rattle.hint_log.specs.Entries.{Given}
 use Rattle.hint_log.specs.declared.origins.Origin.TheVariants.{Gate}
-use Rattle.hint_log.specs.Entries.{ProofLog, with_entry, name_of, rounds_of}
-use Rattle.hint_log.specs.ProductiveLog.{fault_groups}
+use Rattle.hint_log.specs.Entries.{ProofLog, with_entry, name_of}
+use Rattle.hint_log.specs.ProductiveLog.{fault_groups, fault_room}
 use Rattle.log_laws.specs.Engines.{circuits, IsAddedBy}
 use Rattle.log_laws.proofs.LargerLogs.{grown_by, grown_then}
 use Rattle.circuit_cnf.specs.declared.gates.Gates.{Gates}
@@ -20,7 +20,7 @@ pub record PartsSoFar (first : Gates) (old : ProofLog) (gate : Unfinished) (gate
   pub group : gates.group ≡ first.group
   pub names : (v : ℕ) → name_of log.entries v ≡ name_of old.entries v
   pub faults : fault_groups log.entries ≡ fault_groups old.entries
-  pub few : length (fault_groups log.entries) ≤ rounds_of log.entries + 1
+  pub few : length (fault_groups log.entries) ≤ fault_room log.entries
   pub known : AreKnown gates log.entries
   pub last : gates.unfinished ≡ Some (record gate { parts = parts })
 

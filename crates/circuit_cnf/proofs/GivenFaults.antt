@@ -1,5 +1,5 @@
 -- A fault that is given to a group.
-use Rattle.std.proofs.Common.{◌≡◌, ℕ, zero, suc, ◌+◌, ◌≤◌, true, false, not, inr, List, ◌∷◌, length, Some, None, refl, sym, ◌∙◌, ap, arith}
+use Rattle.std.proofs.Common.{◌≡◌, ℕ, zero, suc, ◌≤◌, true, false, not, inr, List, ◌∷◌, length, Some, None, refl, sym, ◌∙◌, ap, arith}
 use Rattle.std.specs.List.{Contains}
 use Rattle.std.specs.Option.{option_map}
 use Rattle.std.proofs.lemmas.Bool.{false≢true}
@@ -10,10 +10,10 @@ use Rattle.hint_log.specs.Entries.{Given}
 use Rattle.hint_log.specs.declared.names.Name.TheVariants.{Selector, Bad}
 use Rattle.hint_log.specs.declared.origins.Leaf.{Leaf}
 use Rattle.hint_log.specs.declared.origins.Origin.TheVariants.{Fault}
-use Rattle.hint_log.specs.Entries.{ProofLog, with_entry, name_of, rounds_of}
+use Rattle.hint_log.specs.Entries.{ProofLog, with_entry, name_of}
 use Rattle.hint_log.specs.Growth.{Grew}
 use Rattle.hint_log.specs.Origins.{leaf_with_sign, leaf_clause, matrix_literal, IsLeafOf, IsFaultOrSome}
-use Rattle.hint_log.specs.ProductiveLog.{fault_groups}
+use Rattle.hint_log.specs.ProductiveLog.{fault_groups, fault_room}
 use Rattle.log_laws.specs.Engines.{circuits, IsGivenBy, IsAddedBy}
 use Rattle.log_laws.proofs.LargerLogs.{grown_by}
 use Rattle.circuit_cnf.proofs.GivenGates.{selector_is}
@@ -25,7 +25,7 @@ pub record IsFaultReady (f : Dqbf) (es : List Entry) (group bad : ℕ) (literal 
   pub literal_is : matrix_literal f clause place ≡ Some literal
   pub leaf_is : IsLeafOf f es (variable_of literal) output
   pub bad_is : name_of es bad ≡ Some (Bad group clause)
-  pub few : (rest : List Literal) → length (fault_groups (Given (Fault clause place output) (negative group ∷ rest) ∷ es)) ≤ rounds_of es + 1
+  pub few : (rest : List Literal) → length (fault_groups (Given (Fault clause place output) (negative group ∷ rest) ∷ es)) ≤ fault_room es
   pub one_leaf : (j i v : ℕ) (out : Leaf) (rest : List Literal) → Contains es (Given (Fault j i out) (negative group ∷ rest)) → option_map variable_of (matrix_literal f j i) ≡ Some v → v ≡ variable_of literal → out ≡ output
 
 fault_added : (f : Dqbf) (standing : ℕ) (start es : List Entry) (group bad : ℕ) (literal : Literal) (output : Leaf) (clause place : ℕ) (tail : List Literal) → IsFaultReady f es group bad literal output clause place →

@@ -1,5 +1,5 @@
 -- Gates that are given to a group.
-use Rattle.std.proofs.Common.{◌≡◌, ℕ, zero, suc, ◌+◌, ◌≤◌, ◌<◌, false, inl, inr, ◌⊎◌, List, ◌∷◌, length, Some, refl, arith}
+use Rattle.std.proofs.Common.{◌≡◌, ℕ, zero, suc, ◌≤◌, ◌<◌, false, inl, inr, ◌⊎◌, List, ◌∷◌, length, Some, refl, arith}
 use Rattle.std.specs.List.{Contains}
 use Rattle.dq_lits.specs.Literal.{Literal, positive, negative, variable_of, is_negative, opposite}
 use Rattle.dq_lits.specs.Formula.{Dqbf}
@@ -7,9 +7,9 @@ use Rattle.hint_log.specs.Entries.{Entry}
 use Rattle.hint_log.specs.Entries.{Given}
 use Rattle.hint_log.specs.declared.names.Name.TheVariants.{Selector, And}
 use Rattle.hint_log.specs.declared.origins.Origin.TheVariants.{Gate}
-use Rattle.hint_log.specs.Entries.{name_of, rounds_of}
+use Rattle.hint_log.specs.Entries.{name_of}
 use Rattle.hint_log.specs.Origins.{gate_rest}
-use Rattle.hint_log.specs.ProductiveLog.{fault_groups}
+use Rattle.hint_log.specs.ProductiveLog.{fault_groups, fault_room}
 use Rattle.log_laws.specs.Engines.{circuits, IsGivenBy}
 
 -- no clause of the gate from this part on, and what its clauses ask for
@@ -17,7 +17,7 @@ pub record IsReady (group v : ℕ) (a b : Literal) (part : ℕ) (es : List Entry
   pub is_group : name_of es group ≡ Some (Selector group)
   pub is_gate : name_of es v ≡ Some (And a b)
   pub fresh : (i : ℕ) (c : List Literal) → part ≤ i → Contains es (Given (Gate v i) c) → ⊥
-  pub few : length (fault_groups es) ≤ rounds_of es + 1
+  pub few : length (fault_groups es) ≤ fault_room es
 
 pub contains_cases : (e x : Entry) (es : List Entry) → Contains (e ∷ es) x → (e ≡ x) ⊎ Contains es x
 contains_cases e x es (zero, below, is) = inl is

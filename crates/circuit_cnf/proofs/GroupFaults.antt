@@ -13,11 +13,11 @@ use Rattle.hint_log.specs.declared.origins.Leaf.{Leaf}
 use Rattle.hint_log.specs.declared.origins.Leaf.TheVariants.{Constant, Literal as LeafLiteral}
 use Rattle.hint_log.specs.declared.origins.Origin.TheVariants.{Fault}
 use Rattle.hint_log.specs.Conditions.{is_circuit_name}
-use Rattle.hint_log.specs.Entries.{ProofLog, with_entry, name_of, rounds_of}
+use Rattle.hint_log.specs.Entries.{ProofLog, with_entry, name_of}
 use Rattle.hint_log.specs.Growth.{Grew}
 use Rattle.hint_log.specs.Naming.{name_literal, AreNamedAs}
 use Rattle.hint_log.specs.Origins.{matrix_literal, IsLeafOf}
-use Rattle.hint_log.specs.ProductiveLog.{fault_groups, with_group}
+use Rattle.hint_log.specs.ProductiveLog.{fault_groups, with_group, fault_room}
 use Rattle.log_laws.specs.Engines.{circuits, IsAddedBy, LeavesRest}
 use Rattle.log_laws.proofs.Found.{named_variable}
 use Rattle.log_laws.proofs.LargerLogs.{leaves_rest, grown_then}
@@ -42,8 +42,8 @@ after_bads f group leaf old new grew faults alone few one = record {
   grew = λ standing start unnamed. grew f standing start;
   stay = rest.names;
   names = alone.names;
-  few = λ j i out more. subst (λ gs. length (with_group (negative group ∷ more) gs) ≤ rounds_of new.entries + 1) (sym faults)
-      (subst (λ n. length (with_group (negative group ∷ more) (fault_groups old.entries)) ≤ n + 1) (sym rest.rounds) (few j i out more));
+  few = λ j i out more. subst (λ gs. length (with_group (negative group ∷ more) gs) ≤ fault_room new.entries) (sym faults)
+      (subst (λ n. length (with_group (negative group ∷ more) (fault_groups old.entries)) ≤ n) (sym rest.room) (few j i out more));
   one_leaf = λ j i v out more inside own. one j i v out more (alone.givens (Fault j i out) (negative group ∷ more) inside) own;
 } where
   rest : LeavesRest f circuits group true old.entries new.entries

@@ -1,5 +1,5 @@
 -- An answer to the gates' group and the faults' group.
-use Rattle.std.proofs.Common.{◌≡◌, ℕ, Bool, true, false, ◌||◌, inl, inr, ◌⊎◌, List, [], ◌∷◌, ◌++◌, Some, refl, sym, ◌∙◌, ap, subst}
+use Rattle.std.proofs.Common.{◌≡◌, ℕ, Bool, true, false, ◌||◌, inl, inr, ◌⊎◌, List, [], ◌∷◌, ◌++◌, None, Some, refl, sym, ◌∙◌, ap, subst}
 use Rattle.std.specs.List.{All, Contains}
 use Rattle.std.proofs.lemmas.Bool.{true≢false, or_cases, eq-eqb}
 use Rattle.std.proofs.lemmas.List.Elements.{All-cons, All-nil, Contains-append_right}
@@ -7,11 +7,11 @@ use Rattle.dq_lits.specs.Literal.{Literal, positive, negative, variable_of, oppo
 use Rattle.dq_lits.specs.Formula.{Dqbf, Existential}
 use Rattle.dq_lits.specs.Derivation.{holds}
 use Rattle.hint_log.specs.Entries.{Entry}
-use Rattle.hint_log.specs.Entries.{Named, Given, Learned, Answer, Round}
+use Rattle.hint_log.specs.Entries.{Named, Given, Learned, Answer, Round, Begun}
 use Rattle.hint_log.specs.declared.names.Name.TheVariants.{Selector}
 use Rattle.hint_log.specs.declared.origins.Leaf.{Leaf}
 use Rattle.hint_log.specs.declared.origins.Origin.{Origin}
-use Rattle.hint_log.specs.declared.origins.Origin.TheVariants.{Instance, Gate, Fault, Copy, Link}
+use Rattle.hint_log.specs.declared.origins.Origin.TheVariants.{Instance, Gate, Fault, Copy, Link, TermGate, Differ}
 use Rattle.hint_log.specs.Deciding.{ReachesGiven, IsCircuitGiven, IsFaultLeaf}
 use Rattle.hint_log.specs.Entries.{ProofLog, name_of}
 use Rattle.hint_log.specs.Growth.{Each, EachOf, Grew}
@@ -66,6 +66,7 @@ learned_givens (Given o d ∷ more) old h origin c inside = absurd h.0
 learned_givens (Learned d hints ∷ more) old h origin c inside = elim (contains_cases (Learned d hints) (Given origin c) (more ++ old) inside) [ inl is ↦ cc | inr later ↦ learned_givens more old h.1 origin c later ]
 learned_givens (Answer d hints ∷ more) old h origin c inside = absurd h.0
 learned_givens (Round row values j ∷ more) old h origin c inside = absurd h.0
+learned_givens (Begun live ∷ more) old h origin c inside = absurd h.0
 
 pub learned_names : (more old : List Entry) (v : ℕ) → EachOf IsLearnedEntry more old → name_of (more ++ old) v ≡ name_of old v
 learned_names [] old v h = refl
@@ -74,6 +75,7 @@ learned_names (Given origin c ∷ more) old v h = absurd h.0
 learned_names (Learned c hints ∷ more) old v h = learned_names more old v h.1
 learned_names (Answer c hints ∷ more) old v h = absurd h.0
 learned_names (Round row values j ∷ more) old v h = absurd h.0
+learned_names (Begun live ∷ more) old v h = absurd h.0
 
 learned_gate_given : (group : ℕ) (earlier : List Entry) (e : Entry) → IsLearnedEntry earlier e → IsGateGiven group earlier e
 learned_gate_given group earlier (Named v n) h = absurd h
@@ -81,6 +83,7 @@ learned_gate_given group earlier (Given origin c) h = absurd h
 learned_gate_given group earlier (Learned c hints) h = tt
 learned_gate_given group earlier (Answer c hints) h = absurd h
 learned_gate_given group earlier (Round row values j) h = absurd h
+learned_gate_given group earlier (Begun live) h = absurd h
 
 learned_own_given : (f : Dqbf) (group : ℕ) (earlier : List Entry) (e : Entry) → IsLearnedEntry earlier e → IsOwnGiven f circuits group earlier e
 learned_own_given f group earlier (Named v n) h = absurd h
@@ -88,6 +91,7 @@ learned_own_given f group earlier (Given origin c) h = absurd h
 learned_own_given f group earlier (Learned c hints) h = tt
 learned_own_given f group earlier (Answer c hints) h = absurd h
 learned_own_given f group earlier (Round row values j) h = absurd h
+learned_own_given f group earlier (Begun live) h = absurd h
 
 gate_is_circuit : (earlier : List Entry) (group : ℕ) (origin : Origin) (c : List Literal) → IsGateClause earlier origin c → IsCircuitGiven group origin c
 gate_is_circuit earlier group (Instance k j) c h = absurd h
@@ -95,6 +99,8 @@ gate_is_circuit earlier group (Gate v i) c h = tt
 gate_is_circuit earlier group (Fault j i leaf) c h = absurd h
 gate_is_circuit earlier group (Copy side j) c h = absurd h
 gate_is_circuit earlier group (Link v i) c h = absurd h
+gate_is_circuit earlier group (TermGate v i) c h = absurd h
+gate_is_circuit earlier group (Differ y leaf part) c h = absurd h
 
 gate_is_origins : (f : Dqbf) (earlier : List Entry) (origin : Origin) (c : List Literal) → IsGateClause earlier origin c → IsOriginsClause f earlier origin c
 gate_is_origins f earlier (Instance k j) c h = absurd h
@@ -102,6 +108,8 @@ gate_is_origins f earlier (Gate v i) c h = h f
 gate_is_origins f earlier (Fault j i leaf) c h = absurd h
 gate_is_origins f earlier (Copy side j) c h = absurd h
 gate_is_origins f earlier (Link v i) c h = absurd h
+gate_is_origins f earlier (TermGate v i) c h = absurd h
+gate_is_origins f earlier (Differ y leaf part) c h = absurd h
 
 fault_is_circuit : (group : ℕ) (origin : Origin) (c : List Literal) → origin_engine origin ≡ circuits → IsInGroup group c → IsCircuitGiven group origin c
 fault_is_circuit group (Instance k j) c h inside = cc
@@ -109,11 +117,14 @@ fault_is_circuit group (Gate v i) c h inside = tt
 fault_is_circuit group (Fault j i leaf) c h inside = inside
 fault_is_circuit group (Copy side j) c h inside = cc
 fault_is_circuit group (Link v i) c h inside = cc
+fault_is_circuit group (TermGate v i) c h inside = cc
+fault_is_circuit group (Differ y leaf part) c h inside = cc
 
 -- the two groups before the search
 pub record AreTwoGroups (f : Dqbf) (leaf : ℕ → Leaf) (gates faults : ℕ) (old entries : List Entry) : Type 0 where
   pub gates_named : name_of entries gates ≡ Some (Selector gates)
   pub faults_named : name_of entries faults ≡ Some (Selector faults)
+  pub faults_new : name_of old faults ≡ None
   pub names : NamesAreKept old entries
   pub gates_own : Each (IsGateGiven gates) entries
   pub faults_own : Each (IsOwnGiven f circuits faults) entries
@@ -123,6 +134,7 @@ pub two_groups_learned : (f : Dqbf) (leaf : ℕ → Leaf) (gates faults : ℕ) (
 two_groups_learned f leaf gates faults old log new g two = subst (AreTwoGroups f leaf gates faults old) (sym g.grown) (record {
   gates_named = learned_names g.more log.entries gates g.each ∙ two.gates_named;
   faults_named = learned_names g.more log.entries faults g.each ∙ two.faults_named;
+  faults_new = two.faults_new;
   names = λ v n is. learned_names g.more log.entries v g.each ∙ two.names v n is;
   gates_own = each_grown IsLearnedEntry (IsGateGiven gates) (learned_gate_given gates) g.more log.entries g.each two.gates_own;
   faults_own = each_grown IsLearnedEntry (IsOwnGiven f circuits faults) (learned_own_given f faults) g.more log.entries g.each two.faults_own;
@@ -144,6 +156,7 @@ held_by f leaf gates faults old log new id two searched_new r = record {
     group = faults;
     circuit = λ origin c reached. let place = split_at es reached.id (Given origin c) reached.is_given in circuit place.0 place.1 origin c place.2 (mine origin c reached);
   };
+  fresh = two.faults_new;
   outs = λ y out at. outs y out at (mine (Fault at.j at.i out) at.clause at.reached);
   sound = record {
     logged = searched.logged.1;

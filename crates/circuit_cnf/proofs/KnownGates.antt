@@ -10,7 +10,7 @@ use Rattle.std.specs.declared.cmp.Ordering.TheVariants.{Less, Equal, Greater}
 use Rattle.std.proofs.lemmas.Bool.{eqb-true, eq-eqb, false≢true, cond-true, cond-false, leb-true}
 use Rattle.dq_lits.specs.Literal.{Literal, positive, negative, variable_of}
 use Rattle.hint_log.specs.Entries.{Entry}
-use Rattle.hint_log.specs.Entries.{Named, Given, Learned, Answer, Round}
+use Rattle.hint_log.specs.Entries.{Named, Given, Learned, Answer, Round, Begun}
 use Rattle.hint_log.specs.declared.names.Name.{Name}
 use Rattle.hint_log.specs.declared.names.Name.TheVariants.{Selector, And, Bad}
 use Rattle.hint_log.specs.declared.origins.Origin.TheVariants.{Gate}
@@ -293,3 +293,4 @@ name_in_range (Given o c ∷ es) v n logged is = name_in_range es v n logged.1 i
 name_in_range (Learned c h ∷ es) v n logged is = name_in_range es v n logged.1 is
 name_in_range (Answer c h ∷ es) v n logged is = name_in_range es v n logged.1 is
 name_in_range (Round r b j ∷ es) v n logged is = name_in_range es v n logged.1 is
+name_in_range (Begun live ∷ es) v n logged is = name_in_range es v n logged.1 is

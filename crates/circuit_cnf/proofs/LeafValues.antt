@@ -10,7 +10,7 @@ use Rattle.aig_graph.specs.declared.nodes.Node.TheVariants.{Constant}
 use Rattle.aig_graph.specs.Graph.{AigGraph, with_sign, gate_value, node_value}
 use Rattle.aig_graph.proofs.LargerGraphs.{gate_value_in}
 use Rattle.hint_log.specs.Entries.{Entry}
-use Rattle.hint_log.specs.Entries.{Named, Given, Learned, Answer, Round}
+use Rattle.hint_log.specs.Entries.{Named, Given, Learned, Answer, Round, Begun}
 use Rattle.hint_log.specs.declared.names.Name.{Name}
 use Rattle.hint_log.specs.declared.names.Name.TheVariants.{Input as InputName, And}
 use Rattle.hint_log.specs.declared.origins.Leaf.{Leaf}
@@ -43,6 +43,7 @@ name_once (Given o c ∷ es) v w n logged at at' = name_once es v w n logged.1 a
 name_once (Learned c h ∷ es) v w n logged at at' = name_once es v w n logged.1 at at'
 name_once (Answer c h ∷ es) v w n logged at at' = name_once es v w n logged.1 at at'
 name_once (Round r b j ∷ es) v w n logged at at' = name_once es v w n logged.1 at at'
+name_once (Begun live ∷ es) v w n logged at at' = name_once es v w n logged.1 at at'
 
 signed : (values : Assignment) (negated : Bool) (v : ℕ) (b : Bool) → b ≡ values v → with_sign negated b ≡ leaf_value values (leaf_with_sign negated (LeafLiteral (positive v)))
 signed values false v b h = h

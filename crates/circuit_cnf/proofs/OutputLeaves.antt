@@ -1,5 +1,5 @@
 -- The leaves of outputs.
-use Rattle.std.proofs.Common.{◌≡◌, ℕ, zero, suc, ◌+◌, ◌≤◌, Bool, true, false, inl, inr, List, [], ◌∷◌, map, length, slice_get, Some, refl, sym, ◌∙◌, ap, subst, arith}
+use Rattle.std.proofs.Common.{◌≡◌, ℕ, zero, suc, ◌+◌, ◌≤◌, ◌<◌, Bool, true, false, inl, inr, List, [], ◌∷◌, map, length, slice_get, Some, refl, sym, ◌∙◌, ap, subst, arith}
 use Rattle.std.specs.Prelude.{◌↔◌}
 use Rattle.std.specs.List.{All, Contains}
 use Rattle.std.proofs.lemmas.List.Elements.{All-contains}
@@ -12,9 +12,9 @@ use Rattle.aig_graph.specs.Marking.{IsInCone, root, left, right}
 use Rattle.hint_log.specs.Entries.{Entry}
 use Rattle.hint_log.specs.declared.names.Name.TheVariants.{Input as InputName}
 use Rattle.hint_log.specs.declared.origins.Leaf.{Leaf}
-use Rattle.hint_log.specs.Entries.{ProofLog, name_of, rounds_of}
+use Rattle.hint_log.specs.Entries.{ProofLog, name_of}
 use Rattle.hint_log.specs.Naming.{named_literal}
-use Rattle.hint_log.specs.ProductiveLog.{fault_groups}
+use Rattle.hint_log.specs.ProductiveLog.{fault_groups, fault_room}
 use Rattle.log_laws.specs.Engines.{circuits, LeavesRest}
 use Rattle.log_laws.proofs.Found.{numbered_among}
 use Rattle.log_laws.proofs.LargerLogs.{leaves_rest}
@@ -28,15 +28,15 @@ use Rattle.circuit_cnf.specs.Turning.{AreLeavesOf}
 use Rattle.circuit_cnf.proofs.KnownGates.{some_stays}
 use Rattle.circuit_cnf.proofs.SideLeaves.{side_has_leaf}
 
-pub few_same : (group : ℕ) (old new : ProofLog) → GrewByGates group old new → fault_groups new.entries ≡ fault_groups old.entries → length (fault_groups old.entries) ≤ rounds_of old.entries →
-    length (fault_groups new.entries) ≤ rounds_of new.entries
+pub few_same : (group : ℕ) (old new : ProofLog) → GrewByGates group old new → fault_groups new.entries ≡ fault_groups old.entries → length (fault_groups old.entries) < fault_room old.entries →
+    length (fault_groups new.entries) < fault_room new.entries
 few_same group old new grew faults few =
     let rest = leaves_rest (record { variables = 0; universals = []; existentials = []; matrix = [] }) circuits group true old new (grew (record { variables = 0; universals = []; existentials = []; matrix = [] }) old.entries) in
-    let rounds = rest.rounds in
-    subst (λ gs. length gs ≤ rounds_of new.entries) (sym faults) (omega (arith, few, rounds))
+    let room = rest.room in
+    subst (λ gs. length gs < fault_room new.entries) (sym faults) (omega (arith, few, room))
 
-pub few_by_gates : (group : ℕ) (old new : ProofLog) → GrewByGates group old new → fault_groups new.entries ≡ fault_groups old.entries → length (fault_groups old.entries) ≤ rounds_of old.entries →
-    length (fault_groups new.entries) ≤ rounds_of new.entries + 1
+pub few_by_gates : (group : ℕ) (old new : ProofLog) → GrewByGates group old new → fault_groups new.entries ≡ fault_groups old.entries → length (fault_groups old.entries) < fault_room old.entries →
+    length (fault_groups new.entries) ≤ fault_room new.entries
 few_by_gates group old new grew faults few = let same = few_same group old new grew faults few in omega (arith, same)
 
 pub cone_checker : (f : Dqbf) (checker : Checker) (gates : Gates) (group : ℕ) (old log new : ProofLog) → IsChecker f checker old.entries → ((v : ℕ) → name_of log.entries v ≡ name_of old.entries v) → GrewByGates group log new →

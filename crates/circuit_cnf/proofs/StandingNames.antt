@@ -3,7 +3,7 @@ use Rattle.std.proofs.Common.{◌≡◌, ℕ, ◌==◌, Bool, true, false, cond,
 use Rattle.std.specs.List.{Contains}
 use Rattle.std.proofs.lemmas.Bool.{eqb-true}
 use Rattle.hint_log.specs.Entries.{Entry}
-use Rattle.hint_log.specs.Entries.{Named, Given, Learned, Answer, Round}
+use Rattle.hint_log.specs.Entries.{Named, Given, Learned, Answer, Round, Begun}
 use Rattle.hint_log.specs.declared.names.Name.{Name}
 use Rattle.hint_log.specs.Entries.{name_of}
 use Rattle.circuit_cnf.proofs.GivenGates.{contains_more, contains_first}
@@ -22,3 +22,4 @@ named_contains (Given o c ∷ es) v n is = contains_more (Given o c) (Named v n)
 named_contains (Learned c h ∷ es) v n is = contains_more (Learned c h) (Named v n) es (named_contains es v n is)
 named_contains (Answer c h ∷ es) v n is = contains_more (Answer c h) (Named v n) es (named_contains es v n is)
 named_contains (Round r b j ∷ es) v n is = contains_more (Round r b j) (Named v n) es (named_contains es v n is)
+named_contains (Begun live ∷ es) v n is = contains_more (Begun live) (Named v n) es (named_contains es v n is)

@@ -20,7 +20,7 @@ use Rattle.log_laws.proofs.Found.{slice_get_at}
 use Rattle.circuit_cnf.specs.Checking.{AreInputs}
 use Rattle.circuit_cnf.specs.Faults.{leaf_of, leaf_by_place}
 use Rattle.circuit_cnf.specs.Leaves.{HasLeaf}
-use Rattle.circuit_cnf.specs.Shown.{HoldEverywhere, ShowsOutputs, IsShownBy, ShownOutputsHold}
+use Rattle.circuit_cnf.specs.Shown.{HoldEverywhere, ShowsOutputs, IsShownBy, IsShownSince, ShownOutputsHold}
 use Rattle.circuit_cnf.specs.Turning.{AreLeavesOf, IsHeldBy}
 use Rattle.circuit_cnf.proofs.PrefixPlaces.{position_cases, some_place}
 use Rattle.circuit_cnf.proofs.SideLeaves.{input_at, leaf_is_circuit, leaf_stays}
@@ -91,7 +91,7 @@ module _ (f : Dqbf) (graph : AigGraph) (es : List Entry) (inputs : List Literal)
         (subst (HasLeaf f graph held.earlier (get_or nodes k (Constant false))) (sym leaf_is)
         (leaf_stays f graph es held.earlier held.names (get_or nodes k (Constant false)) (get_or leaves k (LeafConstant false)) (leaf_has k (omega (arith, below, node_count)))))
 
-  pub shown : (log : List Entry) (id : ℕ) → IsWellFormed f → length nodes ≡ length f.existentials → IsHeldBy f (leaf_of f inputs leaves) es log id → IsShownBy f graph nodes log id
+  shown : (log : List Entry) (id : ℕ) → IsWellFormed f → length nodes ≡ length f.existentials → IsHeldBy f (leaf_of f inputs leaves) es log id → IsShownBy f graph nodes log id
   shown log id well node_count held = record {
     clause = held.clause;
     hints = held.hints;
@@ -99,6 +99,14 @@ module _ (f : Dqbf) (graph : AigGraph) (es : List Entry) (inputs : List Literal)
     answered = held.answered;
     last = held.last;
     shows = shows log id well node_count held;
+  }
+
+  pub shown_since : (start log : List Entry) (id : ℕ) → IsWellFormed f → length nodes ≡ length f.existentials → ((v : ℕ) → name_of es v ≡ None → name_of start v ≡ None)
+      → IsHeldBy f (leaf_of f inputs leaves) es log id → IsShownSince f graph nodes start log id
+  unfolding shown shows
+  shown_since start log id well node_count earlier held = record {
+    shown = shown log id well node_count held;
+    fresh = earlier held.rests.group held.fresh;
   }
 
   pub outputs_hold : ShownOutputsHold → (log : List Entry) (id : ℕ) → IsWellFormed f → length nodes ≡ length f.existentials → IsHeldBy f (leaf_of f inputs leaves) es log id → HoldEverywhere f (outputs_of f graph nodes)

@@ -1,16 +1,16 @@
 -- How the log grows in a turn: a group, its clauses, what was learned, and an answer.
-use Rattle.std.proofs.Common.{◌≡◌, ℕ, ◌+◌, ◌≤◌, Bool, true, false, true≢false, cond, inl, inr, ◌⊎◌, List, [], ◌∷◌, ◌++◌, length, Option, Some, None, refl, sym, ◌∙◌, ap, subst, arith}
+use Rattle.std.proofs.Common.{◌≡◌, ℕ, ◌≤◌, Bool, true, false, true≢false, cond, inl, inr, ◌⊎◌, List, [], ◌∷◌, ◌++◌, length, Option, Some, None, refl, sym, ◌∙◌, ap, subst, arith}
 use Rattle.std.specs.List.{list_any}
 use Rattle.dq_lits.specs.Literal.{Literal, negative, same_literal}
 use Rattle.dq_lits.specs.Formula.{Dqbf}
 use Rattle.hint_log.specs.Entries.{Entry}
-use Rattle.hint_log.specs.Entries.{Named, Given, Learned, Answer, Round}
+use Rattle.hint_log.specs.Entries.{Named, Given, Learned, Answer, Round, Begun}
 use Rattle.hint_log.specs.declared.names.Name.{Name}
 use Rattle.hint_log.specs.declared.names.Name.TheVariants.{Selector}
 use Rattle.hint_log.specs.declared.origins.Leaf.TheVariants.{Constant}
-use Rattle.hint_log.specs.Entries.{ProofLog, with_entry, name_of, rounds_of}
+use Rattle.hint_log.specs.Entries.{ProofLog, with_entry, name_of}
 use Rattle.hint_log.specs.Growth.{EachOf, Grew}
-use Rattle.hint_log.specs.ProductiveLog.{fault_groups}
+use Rattle.hint_log.specs.ProductiveLog.{fault_groups, fault_room}
 use Rattle.log_laws.specs.Engines.{Engine, circuits, IsAddedBy, IsNamedBy}
 use Rattle.log_laws.proofs.LargerLogs.{leaves_rest, grown_by, grown_then}
 use Rattle.log_laws.proofs.Kept.{NamesStay, each_of_weaker}
@@ -24,6 +24,7 @@ module _ (f : Dqbf) (engine : Engine) (group : ℕ) (silent : Bool) (start : Lis
   quieter earlier (Learned c hints) h = h
   quieter earlier (Answer c hints) h = λ quiet. h refl
   quieter earlier (Round row values j) h = h
+  quieter earlier (Begun live) h = h
 
   learned_is_added : (earlier : List Entry) (e : Entry) → IsLearnedEntry earlier e → IsAddedBy f engine group silent start earlier e
   learned_is_added earlier (Named v n) h = absurd h
@@ -31,6 +32,7 @@ module _ (f : Dqbf) (engine : Engine) (group : ℕ) (silent : Bool) (start : Lis
   learned_is_added earlier (Learned c hints) h = tt
   learned_is_added earlier (Answer c hints) h = absurd h
   learned_is_added earlier (Round row values j) h = absurd h
+  learned_is_added earlier (Begun live) h = absurd h
 
   -- a silent growth is one that may decide
   pub any_silence : (old new : ProofLog) → Grew (IsAddedBy f engine group true start) old new → Grew (IsAddedBy f engine group silent start) old new
@@ -64,14 +66,22 @@ module _ (f : Dqbf) (engine : Engine) (group : ℕ) (silent : Bool) (start : Lis
       let named : IsNamedBy f engine old.entries sel (Selector sel) = record { unnamed = unnamed; own = inl refl; rightly = tt } in
       grown_by (IsAddedBy f engine group silent start) old new (Named sel (Selector sel)) is named
 
+-- what has no name later had none earlier
+unnamed_earlier : (first start : List Entry) → NamesStay first start → (v : ℕ) → name_of start v ≡ None → name_of first v ≡ None
+unnamed_earlier first start stay v unnamed = by (name_of first v) refl where
+  by : (o : Option Name) → name_of first v ≡ o → o ≡ None
+  by None e = refl
+  by (Some n) e = let both : None ≡ Some n = sym unnamed ∙ stay v n e in cc
+
+pub unnamed_before_gates : (f : Dqbf) (group : ℕ) (old log : ProofLog) → ((h : Dqbf) (start : List Entry) → Grew (IsAddedBy h circuits group true start) old log) → (v : ℕ) → name_of log.entries v ≡ None
+    → name_of old.entries v ≡ None
+unnamed_before_gates f group old log gates = unnamed_earlier old.entries log.entries (leaves_rest f circuits group true old log (gates f old.entries)).names
+
 -- what goes into a group made since a later log goes into one made since an earlier log
 module _ (f : Dqbf) (engine : Engine) (group : ℕ) (silent : Bool) (first start : List Entry) (stay : NamesStay first start) where
   new_before : (g : ℕ) → (g ≡ group) ⊎ (name_of start g ≡ None) → (g ≡ group) ⊎ (name_of first g ≡ None)
   new_before g (inl is) = inl is
-  new_before g (inr unnamed) = inr (by (name_of first g) refl) where
-    by : (o : Option Name) → name_of first g ≡ o → o ≡ None
-    by None e = refl
-    by (Some n) e = let both : None ≡ Some n = sym unnamed ∙ stay g n e in cc
+  new_before g (inr unnamed) = inr (unnamed_earlier first start stay g unnamed)
 
   earlier_start : (earlier : List Entry) (e : Entry) → IsAddedBy f engine group silent start earlier e → IsAddedBy f engine group silent first earlier e
   earlier_start earlier (Named v n) h = h
@@ -84,6 +94,7 @@ module _ (f : Dqbf) (engine : Engine) (group : ℕ) (silent : Bool) (first start
   earlier_start earlier (Learned c hints) h = h
   earlier_start earlier (Answer c hints) h = h
   earlier_start earlier (Round row values j) h = h
+  earlier_start earlier (Begun live) h = h
 
   pub grew_since : (old new : ProofLog) → Grew (IsAddedBy f engine group silent start) old new → Grew (IsAddedBy f engine group silent first) old new
   grew_since old new g = record {
@@ -102,27 +113,28 @@ turn_grew f group other silent old log new gates same searched =
     (grew_since f circuits group silent old.entries log.entries stay log new (subst (λ g. Grew (IsAddedBy f circuits g silent log.entries) log new) same searched))
 
 -- faults stay as they were
-pub learned_faults : (more old : List Entry) → EachOf IsLearnedEntry more old → (fault_groups (more ++ old) ≡ fault_groups old) × (rounds_of (more ++ old) ≡ rounds_of old)
+pub learned_faults : (more old : List Entry) → EachOf IsLearnedEntry more old → (fault_groups (more ++ old) ≡ fault_groups old) × (fault_room (more ++ old) ≡ fault_room old)
 learned_faults [] old h = (refl, refl)
 learned_faults (Named v n ∷ more) old h = absurd h.0
 learned_faults (Given origin c ∷ more) old h = absurd h.0
 learned_faults (Learned c hints ∷ more) old h = learned_faults more old h.1
 learned_faults (Answer c hints ∷ more) old h = absurd h.0
 learned_faults (Round row values j ∷ more) old h = absurd h.0
+learned_faults (Begun live ∷ more) old h = absurd h.0
 
 abbrev pub AreFewFaults : List Entry → Type 0
-AreFewFaults entries = length (fault_groups entries) ≤ rounds_of entries + 1
+AreFewFaults entries = length (fault_groups entries) ≤ fault_room entries
 
 pub few_learned : (old new : ProofLog) → Grew IsLearnedEntry old new → AreFewFaults old.entries → AreFewFaults new.entries
 few_learned old new g few =
     let same = learned_faults g.more old.entries g.each in
-    subst AreFewFaults (sym g.grown) (subst (λ gs. length gs ≤ rounds_of (g.more ++ old.entries) + 1) (sym same.0) (subst (λ n. length (fault_groups old.entries) ≤ n + 1) (sym same.1) few))
+    subst AreFewFaults (sym g.grown) (subst (λ gs. length gs ≤ fault_room (g.more ++ old.entries)) (sym same.0) (subst (λ n. length (fault_groups old.entries) ≤ n) (sym same.1) few))
 
 pub few_answered : (assumptions : List Literal) (old new : ProofLog) (id : ℕ) → IsRefutedUnder old new assumptions id → AreFewFaults old.entries → AreFewFaults new.entries
 few_answered assumptions old new id r few = subst (λ (l : ProofLog). AreFewFaults l.entries) (sym r.answered) (few_learned old r.before r.learned few)
 
 pub few_without : (group : ℕ) (es : List Entry) → AreFewWith group es → AreFewFaults es
 few_without group es few = by (list_any (λ g. same_literal (negative g) (negative group)) (fault_groups es)) (few 0 0 (Constant false) []) where
-  by : (b : Bool) → length (cond b (fault_groups es) (group ∷ fault_groups es)) ≤ rounds_of es + 1 → length (fault_groups es) ≤ rounds_of es + 1
+  by : (b : Bool) → length (cond b (fault_groups es) (group ∷ fault_groups es)) ≤ fault_room es → length (fault_groups es) ≤ fault_room es
   by true h = h
   by false h = omega (arith, h)

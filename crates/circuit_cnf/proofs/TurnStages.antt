@@ -1,15 +1,15 @@
 -- A turn's stages: its group, the group's clauses, and the search.
-use Rattle.std.proofs.Common.{◌≡◌, ◌≢◌, ℕ, ◌≤◌, Bool, true, false, List, ◌∷◌, length, Some, None, IsSome, refl, sym, ◌∙◌, ap, subst}
+use Rattle.std.proofs.Common.{◌≡◌, ◌≢◌, ℕ, ◌<◌, Bool, true, false, List, ◌∷◌, length, Some, None, IsSome, refl, sym, ◌∙◌, ap, subst}
 use Rattle.dq_lits.specs.Literal.{Literal, positive, negative, variable_of, is_negative}
 use Rattle.dq_lits.specs.Formula.{Dqbf}
 use Rattle.hint_log.specs.Entries.{Entry}
-use Rattle.hint_log.specs.Entries.{Named, Given, Learned, Answer, Round}
+use Rattle.hint_log.specs.Entries.{Named, Given, Learned, Answer, Round, Begun}
 use Rattle.hint_log.specs.declared.names.Name.TheVariants.{Selector}
 use Rattle.hint_log.specs.declared.origins.Leaf.{Leaf}
 use Rattle.hint_log.specs.declared.origins.Origin.TheVariants.{Fault}
-use Rattle.hint_log.specs.Entries.{ProofLog, with_entry, name_of, rounds_of}
+use Rattle.hint_log.specs.Entries.{ProofLog, with_entry, name_of}
 use Rattle.hint_log.specs.Growth.{Each, Grew}
-use Rattle.hint_log.specs.ProductiveLog.{fault_groups}
+use Rattle.hint_log.specs.ProductiveLog.{fault_groups, fault_room}
 use Rattle.log_laws.specs.Engines.{circuits, IsOwnGiven, IsAddedBy}
 use Rattle.log_laws.proofs.LargerLogs.{each_grown, grown_then}
 use Rattle.log_laws.proofs.Kept.{NamesStay, name_stays_by}
@@ -34,7 +34,7 @@ pub record IsGroupMade (f : Dqbf) (checker : Checker) (old log : ProofLog) (grou
   pub made : IsMade log.entries group
   pub is : log ≡ with_entry old (Named (variable_of group.selector) (Selector (variable_of group.selector)))
   pub grouped : Each IsGivenToGroup old.entries
-  pub few : length (fault_groups old.entries) ≤ rounds_of old.entries
+  pub few : length (fault_groups old.entries) < fault_room old.entries
 
 -- and says which clauses are false
 pub record AreFaultsSaid (f : Dqbf) (leaf : ℕ → Leaf) (group : ℕ) (old log : ProofLog) : Type 0 where
@@ -49,6 +49,7 @@ unused_own f group earlier (Given origin c) h = λ inside. absurd (h inside)
 unused_own f group earlier (Learned c hints) h = tt
 unused_own f group earlier (Answer c hints) h = tt
 unused_own f group earlier (Round row values j) h = tt
+unused_own f group earlier (Begun live) h = tt
 
 added_own : (f : Dqbf) (standing : ℕ) (start : List Entry) (group : ℕ) (earlier : List Entry) (e : Entry) → IsAddedBy f circuits standing true start earlier e → IsOwnGiven f circuits group earlier e
 added_own f standing start group earlier (Named v n) h = tt
@@ -56,6 +57,7 @@ added_own f standing start group earlier (Given origin c) h = λ inside. (h.own,
 added_own f standing start group earlier (Learned c hints) h = tt
 added_own f standing start group earlier (Answer c hints) h = tt
 added_own f standing start group earlier (Round row values j) h = absurd h
+added_own f standing start group earlier (Begun live) h = absurd h
 
 module _ (f : Dqbf) (checker : Checker) (leaf : ℕ → Leaf) (old first : ProofLog) (group : Group) (m : IsGroupMade f checker old first group) where
   abbrev sel : ℕ
@@ -105,6 +107,7 @@ module _ (f : Dqbf) (checker : Checker) (leaf : ℕ → Leaf) (old first : Proof
     faults_two_groups = record {
       gates_named = faults_checker.gates.made.named;
       faults_named = faults_made.named;
+      faults_new = m.unnamed;
       names = λ v n is. stay_then v n (stay_first v n is);
       gates_own = faults_checker.gates.own;
       faults_own = subst (Each (IsOwnGiven f circuits sel)) (sym since.grown)

@@ -6,7 +6,7 @@ use Rattle.std.proofs.lemmas.List.Elements.{Contains-append_right}
 use Rattle.dq_lits.specs.Literal.{Literal, negative, variable_of}
 use Rattle.dq_lits.specs.Formula.{Dqbf}
 use Rattle.hint_log.specs.Entries.{Entry}
-use Rattle.hint_log.specs.Entries.{Named, Given, Learned, Answer, Round}
+use Rattle.hint_log.specs.Entries.{Named, Given, Learned, Answer, Round, Begun}
 use Rattle.hint_log.specs.declared.names.Name.{Name}
 use Rattle.hint_log.specs.declared.names.Name.TheVariants.{Selector, Input, And, Bad}
 use Rattle.hint_log.specs.declared.origins.Origin.{Origin}
@@ -112,6 +112,7 @@ leaves_elsewhere gates es (Given origin d) h = record {
 leaves_elsewhere gates es (Learned c hints) h = leaves_plain gates es (Learned c hints) (λ v. refl) (λ origin d is. cc) (λ own. (tt, own))
 leaves_elsewhere gates es (Answer c hints) h = leaves_plain gates es (Answer c hints) (λ v. refl) (λ origin d is. cc) (λ own. (tt, own))
 leaves_elsewhere gates es (Round row values j) h = leaves_plain gates es (Round row values j) (λ v. refl) (λ origin d is. cc) (λ own. (tt, own))
+leaves_elsewhere gates es (Begun live) h = leaves_plain gates es (Begun live) (λ v. refl) (λ origin d is. cc) (λ own. (tt, own))
 
 pub all_elsewhere : (gates : Gates) (more old : List Entry) → EachOf (IsElsewhere (variable_of gates.group.selector)) more old → LeavesGates gates old (more ++ old)
 all_elsewhere gates [] old h = leaves_none gates old
@@ -123,6 +124,7 @@ learned_elsewhere group earlier (Given origin c) h = absurd h
 learned_elsewhere group earlier (Learned c hints) h = tt
 learned_elsewhere group earlier (Answer c hints) h = absurd h
 learned_elsewhere group earlier (Round row values j) h = absurd h
+learned_elsewhere group earlier (Begun live) h = absurd h
 
 pub learned_leaves : (gates : Gates) (old new : ProofLog) → Grew IsLearnedEntry old new → LeavesGates gates old.entries new.entries
 learned_leaves gates old new g = subst (LeavesGates gates old.entries) (sym g.grown)
@@ -151,6 +153,7 @@ module _ (f : Dqbf) (engine : Engine) (group : ℕ) (silent : Bool) (start : Lis
   others_elsewhere mine n differ apart named earlier (Learned c hints) h = tt
   others_elsewhere mine n differ apart named earlier (Answer c hints) h = tt
   others_elsewhere mine n differ apart named earlier (Round row values j) h = absurd h
+  others_elsewhere mine n differ apart named earlier (Begun live) h = absurd h
 
   no_gates_given : (mine : ℕ) (n : Name) → mine ≢ group → name_of start mine ≡ Some n → (earlier : List Entry) (e : Entry) → Added earlier e → IsGateGiven mine earlier e
   no_gates_given mine n apart named earlier (Named v m) h = tt
@@ -158,6 +161,7 @@ module _ (f : Dqbf) (engine : Engine) (group : ℕ) (silent : Bool) (start : Lis
   no_gates_given mine n apart named earlier (Learned c hints) h = tt
   no_gates_given mine n apart named earlier (Answer c hints) h = tt
   no_gates_given mine n apart named earlier (Round row values j) h = absurd h
+  no_gates_given mine n apart named earlier (Begun live) h = absurd h
 
   step_stays : (es : List Entry) (e : Entry) → Added es e → NamesStay es (e ∷ es)
   step_stays es (Named v n) h = name_stays_by es v n h.unnamed
@@ -165,6 +169,7 @@ module _ (f : Dqbf) (engine : Engine) (group : ℕ) (silent : Bool) (start : Lis
   step_stays es (Learned c hints) h = λ v n is. is
   step_stays es (Answer c hints) h = λ v n is. is
   step_stays es (Round row values j) h = absurd h
+  step_stays es (Begun live) h = absurd h
 
   pub added_stay : (more old : List Entry) → EachOf Added more old → NamesStay old (more ++ old)
   added_stay [] old h = λ v n is. is

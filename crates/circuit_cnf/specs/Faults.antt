@@ -12,10 +12,10 @@ use Rattle.hint_log.specs.declared.origins.Origin.TheVariants.{Fault}
 use Rattle.hint_log.specs.declared.names.Name.{Name}
 use Rattle.hint_log.specs.declared.names.Name.TheVariants.{Bad}
 use Rattle.hint_log.specs.declared.origins.Origin.{Origin}
-use Rattle.hint_log.specs.Entries.{ProofLog, name_of, rounds_of}
+use Rattle.hint_log.specs.Entries.{ProofLog, name_of}
 use Rattle.hint_log.specs.Growth.{Grew}
 use Rattle.hint_log.specs.Naming.{named_literal, AreNamedAs}
-use Rattle.hint_log.specs.ProductiveLog.{fault_groups}
+use Rattle.hint_log.specs.ProductiveLog.{fault_groups, fault_room}
 use Rattle.hint_log.specs.Origins.{leaf_with_sign, leaf_clause, matrix_literal}
 use Rattle.log_laws.specs.Engines.{circuits, IsAddedBy}
 
@@ -50,7 +50,7 @@ abbrev pub AreFewWith : ℕ → List Entry → Type 0
 AreFewWith group entries =
     (j i : ℕ) (out : Leaf) (rest : List Literal)
     → length (fault_groups (Given (Fault j i out) (negative group ∷ rest) ∷ entries))
-    ≤ rounds_of entries + 1
+    ≤ fault_room entries
 
 -- each of the first literals of a clause has its fault
 abbrev pub HaveFaults : Dqbf → ℕ → ℕ → ℕ → (ℕ → Leaf) → List Literal → ℕ → List Entry → Type 0

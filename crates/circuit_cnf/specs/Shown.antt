@@ -1,5 +1,5 @@
 -- What an answer says of outputs that it shows to be right.
-use Rattle.std.specs.Prelude.{◌≡◌, ℕ, List, ◌∷◌}
+use Rattle.std.specs.Prelude.{◌≡◌, ℕ, List, ◌∷◌, None}
 use Rattle.std.specs.List.{All}
 use Rattle.dq_lits.specs.Literal.{Assignment, Literal}
 use Rattle.dq_lits.specs.Formula.{Dqbf, Existential, IsWellFormed}
@@ -12,7 +12,7 @@ use Rattle.hint_log.specs.Entries.{Entry}
 use Rattle.hint_log.specs.Entries.{Answer}
 use Rattle.hint_log.specs.declared.origins.Leaf.{Leaf}
 use Rattle.hint_log.specs.Deciding.{RestsOnCircuit, IsFaultLeaf, DecidesTrue}
-use Rattle.hint_log.specs.Entries.{last_id}
+use Rattle.hint_log.specs.Entries.{name_of, last_id}
 use Rattle.log_laws.specs.Meaning.{IsSoundAnswer}
 use Rattle.circuit_cnf.specs.Leaves.{HasLeaf}
 
@@ -40,6 +40,13 @@ pub record IsShownBy (f : Dqbf) (graph : AigGraph) (nodes : List Node) (entries 
   pub answered : entries ≡ Answer clause hints ∷ earlier
   pub last : id ≡ last_id entries
   pub shows : ShowsOutputs f graph nodes earlier clause hints
+
+-- and the group was made since: the answer shows what it shows of the formula of this call, and
+-- rests on no earlier search's faults
+pub record IsShownSince (f : Dqbf) (graph : AigGraph) (nodes : List Node)
+    (old entries : List Entry) (id : ℕ) : Type 0 where
+  pub shown : IsShownBy f graph nodes entries id
+  pub fresh : name_of old shown.shows.rests.group ≡ None
 
 -- such outputs are right
 abbrev pub ShownOutputsHold : Type 0

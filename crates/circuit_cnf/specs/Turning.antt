@@ -1,5 +1,5 @@
 -- How a turn's search ends, for private contracts.
-use Rattle.std.specs.Prelude.{◌≡◌, ◌<◌, ◌&&◌, ℕ, Bool, true, false, List, [], ◌∷◌, length, Option, Some, Result, Ok, slice_get, slice_index_or}
+use Rattle.std.specs.Prelude.{◌≡◌, ◌<◌, ◌&&◌, ℕ, Bool, true, false, List, [], ◌∷◌, length, Option, None, Some, Result, Ok, slice_get, slice_index_or}
 use Rattle.dq_lits.specs.Literal.{Assignment, Literal, literal_true, clause_true}
 use Rattle.dq_lits.specs.Formula.{Dqbf, Existential}
 use Rattle.aig_graph.specs.declared.nodes.Node.{Node}
@@ -27,7 +27,8 @@ pub record AreLeavesOf (f : Dqbf) (graph : AigGraph) (entries : List Entry) (nod
 abbrev pub NamesAreKept : List Entry → List Entry → Type 0
 NamesAreKept old new = (v : ℕ) (name : Name) → name_of old v ≡ Some name → name_of new v ≡ Some name
 
--- the last entry is an answer that rests on the gates and on faults with these leaves
+-- the last entry is an answer that rests on the gates and on faults with these leaves, in a group
+-- that was made since
 pub record IsHeldBy (f : Dqbf) (leaf : ℕ → Leaf) (old entries : List Entry) (id : ℕ) : Type 0 where
   pub clause : List Literal
   pub hints : List ℕ
@@ -36,6 +37,7 @@ pub record IsHeldBy (f : Dqbf) (leaf : ℕ → Leaf) (old entries : List Entry) 
   pub last : id ≡ last_id entries
   pub names : NamesAreKept old earlier
   pub rests : RestsOnCircuit earlier clause hints
+  pub fresh : name_of old rests.group ≡ None
   pub outs : (y : Existential) (out : Leaf) → IsFaultLeaf f earlier hints y out
       → out ≡ leaf y.variable
   pub sound : IsSoundAnswer f earlier clause hints

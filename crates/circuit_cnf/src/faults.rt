@@ -10,7 +10,7 @@ ghost use Rattle.hint_log.specs.declared.origins.Origin.TheVariants.{Fault};
 ghost use Rattle.hint_log.specs.Entries.{name_of, rounds_of, with_entry};
 ghost use Rattle.hint_log.specs.Growth.{Grew};
 ghost use Rattle.hint_log.specs.Origins.{leaf_with_sign, matrix_literal, IsLeafOf};
-ghost use Rattle.hint_log.specs.ProductiveLog.{fault_groups};
+ghost use Rattle.hint_log.specs.ProductiveLog.{fault_groups, fault_room};
 ghost use Rattle.log_laws.specs.Engines.{circuits, IsAddedBy};
 ghost use Rattle.oracle.specs.Calls.{IsMade};
 ghost use Rattle.circuit_cnf.specs.Faults.{HasFault, HaveFaults, HaveOneLeaf, AreFewWith, IsBadAt, HaveAllFaults, IsNamingBads, NamesBadsAlone, AreGiven, GrewByGroup, AreBads};
@@ -239,7 +239,7 @@ impl<'g, 'f, 'l> Faults<'g, 'f, 'l> {
         requires few { (rest : List Literal)
             → length (fault_groups (Given (Fault at.clause at.place at.leaf)
             (negative (selector_in self.now) ∷ rest) ∷ log.old.entries))
-            ≤ rounds_of log.old.entries + 1 }
+            ≤ fault_room log.old.entries }
         requires one_leaf { (j i v : ℕ) (out : OriginLeaf) (rest : List Literal)
             → Contains log.old.entries
             (Given (Fault j i out) (negative (selector_in self.now) ∷ rest))

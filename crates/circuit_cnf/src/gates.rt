@@ -4,7 +4,7 @@ ghost use Rattle.hint_log.specs.declared.names.Name.TheVariants.{And};
 ghost use Rattle.hint_log.specs.declared.origins.Origin.TheVariants.{Gate};
 ghost use Rattle.hint_log.specs.Conditions.{HasSides};
 ghost use Rattle.hint_log.specs.Entries.{name_of, rounds_of};
-ghost use Rattle.hint_log.specs.ProductiveLog.{fault_groups};
+ghost use Rattle.hint_log.specs.ProductiveLog.{fault_groups, fault_room};
 ghost use Rattle.oracle.specs.Calls.{IsMade};
 ghost use Rattle.circuit_cnf.specs.Gates.{literal_code, AreKnown, AreBadsStill, IsPartGiven, GrewByGates};
 
@@ -44,7 +44,7 @@ impl Gates {
         requires known { AreKnown self.old log.old.entries }
         requires ready { self.old.unfinished ≡ None }
         requires sides { HasSides log.old.entries (And a b) }
-        requires few { length (fault_groups log.old.entries) ≤ rounds_of log.old.entries + 1 }
+        requires few { length (fault_groups log.old.entries) ≤ fault_room log.old.entries }
         ensures fit { O.Fits oracle.new log.new }
         ensures grew { GrewByGates (variable_of self.old.group.selector) log.old log.new }
         ensures group { self.new.group ≡ self.old.group }
@@ -74,7 +74,7 @@ impl Gates {
     pub(crate) fn finish<O: Oracle>(&mut self, oracle: &mut O, log: &mut Log) -> Result<(), Memory>
         requires fit { O.Fits oracle.old log.old }
         requires known { AreKnown self.old log.old.entries }
-        requires few { length (fault_groups log.old.entries) ≤ rounds_of log.old.entries + 1 }
+        requires few { length (fault_groups log.old.entries) ≤ fault_room log.old.entries }
         ensures fit { O.Fits oracle.new log.new }
         ensures grew { GrewByGates (variable_of self.old.group.selector) log.old log.new }
         ensures group { self.new.group ≡ self.old.group }
@@ -98,7 +98,7 @@ impl Gates {
         requires fit { O.Fits oracle.old log.old }
         requires known { AreKnown self.old log.old.entries }
         requires last { self.old.unfinished ≡ Some gate.now }
-        requires few { length (fault_groups log.old.entries) ≤ rounds_of log.old.entries + 1 }
+        requires few { length (fault_groups log.old.entries) ≤ fault_room log.old.entries }
         ensures fit { O.Fits oracle.new log.new }
         ensures grew { GrewByGates (variable_of self.old.group.selector) log.old log.new }
         ensures group { self.new.group ≡ self.old.group }
@@ -124,7 +124,7 @@ impl Gates {
         requires fit { O.Fits oracle.old log.old }
         requires known { AreKnown self.old log.old.entries }
         requires last { self.old.unfinished ≡ Some gate.now }
-        requires few { length (fault_groups log.old.entries) ≤ rounds_of log.old.entries + 1 }
+        requires few { length (fault_groups log.old.entries) ≤ fault_room log.old.entries }
         ensures fit { O.Fits oracle.new log.new }
         ensures grew { GrewByGates (variable_of self.old.group.selector) log.old log.new }
         ensures group { self.new.group ≡ self.old.group }

@@ -4,7 +4,7 @@ ghost use Rattle.dq_lits.specs.Row.{bit_of};
 ghost use Rattle.hint_log.specs.declared.origins.Leaf.TheVariants.{Literal as LeafLiteral};
 ghost use Rattle.hint_log.specs.Entries.{rounds_of};
 ghost use Rattle.hint_log.specs.Origins.{leaf_with_sign};
-ghost use Rattle.hint_log.specs.ProductiveLog.{fault_groups};
+ghost use Rattle.hint_log.specs.ProductiveLog.{fault_groups, fault_room};
 ghost use Rattle.aig_graph.specs.Graph.{IsEarlierNode, size_of};
 ghost use Rattle.circuit_cnf.specs.Checking.{AreInputs};
 ghost use Rattle.circuit_cnf.specs.Gates.{AreKnown, AreBadsStill, GrewByGates};
@@ -45,7 +45,7 @@ pub(crate) fn cone_literals<O: Oracle>(
     requires fit { O.Fits oracle.old log.old }
     requires known { AreKnown gates.old log.old.entries }
     requires ready { gates.old.unfinished ≡ None }
-    requires few { length (fault_groups log.old.entries) ≤ rounds_of log.old.entries + 1 }
+    requires few { length (fault_groups log.old.entries) ≤ fault_room log.old.entries }
     requires inputs { AreInputs cone.now.f.now.universals cone.now.inputs.now log.old.entries }
     ensures fit { O.Fits oracle.new log.new }
     ensures grew { GrewByGates (variable_of gates.old.group.selector) log.old log.new }
@@ -81,7 +81,7 @@ fn next_literal<O: Oracle>(
     requires fit { O.Fits oracle.old log.old }
     requires known { AreKnown gates.old log.old.entries }
     requires ready { gates.old.unfinished ≡ None }
-    requires few { length (fault_groups log.old.entries) ≤ rounds_of log.old.entries + 1 }
+    requires few { length (fault_groups log.old.entries) ≤ fault_room log.old.entries }
     requires inputs { AreInputs cone.now.f.now.universals cone.now.inputs.now log.old.entries }
     requires leaves { HaveLeaves cone.now.f.now cone.now.graph.now cone.now.marks.now literals.now
         log.old.entries }
@@ -117,7 +117,7 @@ fn gate_literal<O: Oracle>(
     requires fit { O.Fits oracle.old log.old }
     requires known { AreKnown gates.old log.old.entries }
     requires ready { gates.old.unfinished ≡ None }
-    requires few { length (fault_groups log.old.entries) ≤ rounds_of log.old.entries + 1 }
+    requires few { length (fault_groups log.old.entries) ≤ fault_room log.old.entries }
     requires inputs { AreInputs cone.now.f.now.universals cone.now.inputs.now log.old.entries }
     requires leaves { HaveLeaves cone.now.f.now cone.now.graph.now cone.now.marks.now literals.now
         log.old.entries }

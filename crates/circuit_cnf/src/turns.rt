@@ -1,19 +1,20 @@
-ghost use Rattle.std.specs.Prelude.{◌≡◌, ◌≤◌, ◌<◌, ◌+◌, ℕ, Bool, true, false, List, length, map, Contains, All, OnOk, IfOk, IsErrOf, Ok, Some, None, []};
+ghost use Rattle.std.specs.Prelude.{◌≡◌, ◌≤◌, ◌<◌, ◌+◌, ℕ, Bool, true, false, List, length, map, Contains, All, OnOk, IfOk, IsErrOf, Ok, Some, None, [], ◌∷◌};
 ghost use Rattle.dq_lits.specs.Formula.{IsWellFormed, declared};
-ghost use Rattle.dq_lits.specs.Literal.{variable_of};
+ghost use Rattle.dq_lits.specs.Literal.{positive, variable_of};
 ghost use Rattle.dq_lits.specs.Row.{bit_of};
-ghost use Rattle.hint_log.specs.Entries.{rounds_of, steps_of};
+ghost use Rattle.hint_log.specs.Entries.{rounds_of};
 ghost use Rattle.hint_log.specs.Growth.{Grew};
 ghost use Rattle.hint_log.specs.Origins.{IsLeafOf};
-ghost use Rattle.hint_log.specs.ProductiveLog.{fault_groups};
+ghost use Rattle.hint_log.specs.ProductiveLog.{fault_groups, fault_room};
 ghost use Rattle.log_laws.specs.Engines.{circuits, IsAddedBy};
+ghost use Rattle.oracle.specs.Limits.{IsAtLimit};
 ghost use Rattle.aig_graph.specs.Graph.{IsNode, node_value};
 ghost use Rattle.aig_graph.specs.Outputs.{outputs_of, ReadsUniversals};
 ghost use Rattle.circuit_cnf.specs.Checking.{group_of, IsChecker};
 ghost use Rattle.circuit_cnf.specs.Failing.{IsFailure, HasFalseClause, IsFailing, is_silent};
 ghost use Rattle.circuit_cnf.specs.Faults.{leaf_of};
 ghost use Rattle.circuit_cnf.specs.Gates.{GrewByGates};
-ghost use Rattle.circuit_cnf.specs.Shown.{HoldEverywhere, IsShownBy};
+ghost use Rattle.circuit_cnf.specs.Shown.{HoldEverywhere, IsShownSince};
 ghost use Rattle.circuit_cnf.specs.Turning.{AreLeavesOf, IsHeldBy, AreFailing, is_silent_search};
 
 use crate::checkers::Checker;
@@ -67,21 +68,22 @@ impl Checker {
         requires nodes { All (IsNode graph.now) outputs.now }
         requires read_universals { All (ReadsUniversals f.now graph.now) outputs.now }
         requires a_node_an_existential { length outputs.now ≡ length f.now.existentials }
-        requires few { length (fault_groups log.old.entries) ≤ rounds_of log.old.entries }
+        requires few { length (fault_groups log.old.entries) < fault_room log.old.entries }
         ensures fit { O.Fits oracle.new log.new }
         ensures checker { IsChecker f.now self.new log.new.entries }
         ensures group { group_of self.new ≡ group_of self.old }
         ensures grew { Grew
             (IsAddedBy f.now circuits (group_of self.old) (is_silent result) log.old.entries)
             log.old log.new }
-        ensures few { length (fault_groups log.new.entries) ≤ rounds_of log.new.entries + 1 }
+        ensures few { length (fault_groups log.new.entries) ≤ fault_room log.new.entries }
         ensures holds { (id : ℕ) → result ≡ Ok (Turn.Holds id)
             → HoldEverywhere f.now (outputs_of f.now graph.now outputs.now) }
         ensures shown { (id : ℕ) → result ≡ Ok (Turn.Holds id)
-            → IsShownBy f.now graph.now outputs.now log.new.entries id }
+            → IsShownSince f.now graph.now outputs.now log.old.entries log.new.entries id }
         ensures fails { (row values : List Bool) (j : ℕ) → result ≡ Ok (Turn.Fails row values j)
             → IsFailure f.now (outputs_of f.now graph.now outputs.now) row values j }
-        ensures limit { IsErrOf result Stop.Limit → steps_of log.new.entries ≡ log.new.limit }
+        ensures limit { IsErrOf result Stop.Limit → (group : ℕ)
+            × IsAtLimit log.new (positive (group_of self.old) ∷ positive group ∷ []) }
     {
         shown_outputs_hold();
         let circuit = Circuit { graph, f, outputs };
@@ -104,7 +106,7 @@ impl Checker {
         requires nodes { All (IsNode circuit.now.graph.now) circuit.now.outputs.now }
         requires read_universals { All (ReadsUniversals circuit.now.f.now circuit.now.graph.now)
             circuit.now.outputs.now }
-        requires few { length (fault_groups log.old.entries) ≤ rounds_of log.old.entries }
+        requires few { length (fault_groups log.old.entries) < fault_room log.old.entries }
         ensures fit { O.Fits oracle.new log.new }
         ensures checker { IsChecker circuit.now.f.now self.new log.new.entries }
         ensures group { group_of self.new ≡ group_of self.old }
@@ -147,13 +149,13 @@ impl Checker {
         requires output_count { length leaves.now ≡ length f.now.existentials }
         requires leaves { (v : ℕ) → Contains (declared f.now) v
             → IsLeafOf f.now log.old.entries v (leaf_of f.now self.now.inputs.items leaves.now v) }
-        requires few { length (fault_groups log.old.entries) ≤ rounds_of log.old.entries }
+        requires few { length (fault_groups log.old.entries) < fault_room log.old.entries }
         ensures fit { O.Fits oracle.new log.new }
         ensures checker { IsChecker f.now self.now log.new.entries }
         ensures grew { Grew
             (IsAddedBy f.now circuits (group_of self.now) (is_silent_search result) log.old.entries)
             log.old log.new }
-        ensures few { length (fault_groups log.new.entries) ≤ rounds_of log.new.entries + 1 }
+        ensures few { length (fault_groups log.new.entries) ≤ fault_room log.new.entries }
         ensures held { (id : ℕ) → result ≡ Ok (Some id)
             → IsHeldBy f.now (leaf_of f.now self.now.inputs.items leaves.now) log.old.entries
             log.new.entries id }
@@ -161,7 +163,8 @@ impl Checker {
         ensures failing { result ≡ Ok None
             → AreFailing f.now (leaf_of f.now self.now.inputs.items leaves.now) log.old.entries
             (O.values oracle.new) }
-        ensures limit { IsErrOf result Stop.Limit → steps_of log.new.entries ≡ log.new.limit }
+        ensures limit { IsErrOf result Stop.Limit → (group : ℕ)
+            × IsAtLimit log.new (positive (group_of self.now) ∷ positive group ∷ []) }
     {
         let group = oracle.group(&self.tenant, log)?;
         let faults = Faults {

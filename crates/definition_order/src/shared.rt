@@ -5,7 +5,6 @@ ghost use Rattle.dq_lits.specs.Formula.{Existential, existential_of};
 ghost use Rattle.dq_formula.specs.Dependencies.{listed_universals};
 ghost use Rattle.definition_order.specs.Order.{existential_place, ComesBefore, IsShared};
 
-use crate::sizes::seen;
 use dq_formula::{Deps, Formula};
 
 // Whether a definition of `y` may read the existential at a place.
@@ -29,9 +28,9 @@ fn comes_before(f: &Formula, z: u64, y: u64) -> bool
         → (IsTrue result ↔ ComesBefore f.now d e) }
 {
     goes_first(
-        seen(f, z).len(),
+        f.seen(z).len(),
         place_of(f, z),
-        seen(f, y).len(),
+        f.seen(y).len(),
         place_of(f, y),
     )
 }

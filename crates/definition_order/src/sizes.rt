@@ -1,11 +1,10 @@
 //! How much existentials see.
 
-ghost use Rattle.std.specs.Prelude.{◌≡◌, ◌<◌, length, map, IsSome, IfSome, IfOk, Some};
+ghost use Rattle.std.specs.Prelude.{◌≡◌, ◌<◌, length, map, IfOk};
 ghost use Rattle.std.specs.List.{range_with_len};
-ghost use Rattle.dq_lits.specs.Formula.{Existential, existential_of};
 ghost use Rattle.definition_order.specs.Sizes.{sized_place};
 
-use dq_formula::{Deps, Formula};
+use dq_formula::Formula;
 use dq_lits::Memory;
 use std::alloc::Global;
 
@@ -33,16 +32,5 @@ fn size_at(f: &Formula, place: usize) -> usize
     ensures { (result, place) ≡ sized_place f.now place }
 {
     f.every_formula_is_lawful();
-    seen(f, f.existentials()[place]).len()
-}
-
-// The universals that an existential sees.
-pub(crate) fn seen(f: &Formula, y: u64) -> &[u64]
-    requires declared { IsSome (existential_of f.now y) }
-    ensures { IfSome (existential_of f.now y) (λ e. result.now ≡ e.sees) }
-{
-    match f.deps_of(y) {
-        Deps::FirstOf(n) => &f.universals()[..*n],
-        Deps::Listed(vars) => vars.items(),
-    }
+    f.seen(f.existentials()[place]).len()
 }

@@ -1,23 +1,21 @@
 -- The variables that occur undeclared, in ascending order.
-use Rattle.std.proofs.Common.{◌≡◌, ℕ, ◌+◌, ◌-◌, ◌≤◌, ◌<◌, Bool, true, false, ◌||◌, ◌&&◌, List, [], ◌∷◌, length, map, take, drop, get_or, refl, ap, sym, ◌∙◌, subst, arith, cond, eqb, filter, take-append-drop}
-use Rattle.std.proofs.lemmas.List.{drop-drop, drop_all}
-use Rattle.std.proofs.lemmas.List.Elements.{All-map, All-filter, All-from_recursion, recursion_from_All, filter_agree}
-use Rattle.std.proofs.lemmas.List.Filters.{All-dedup}
+use Rattle.std.proofs.Common.{◌≡◌, ℕ, ◌+◌, ◌-◌, ◌≤◌, ◌<◌, Bool, true, false, true≢false, not, ◌||◌, ◌&&◌, List, [], ◌∷◌, ◌++◌, length, get_or, refl, ap, sym, ◌∙◌, subst, arith, cond, eqb, filter}
+use Rattle.std.proofs.lemmas.List.Elements.{All-nil, All-push, All-filter, All-from_recursion, recursion_from_All, filter_agree}
 use Rattle.std.proofs.lemmas.List.FromFn.{length-range_with_len, get_or-range_with_len}
 use Rattle.std.proofs.lemmas.List.Folds.{list_any-append}
-use Rattle.std.proofs.lemmas.List.Sorted.{list_any-IsPermutation, All-permutation}
-use Rattle.std.proofs.lemmas.Map.Keys.{IsStrictlyIncreasing-dedup, IsDistinct-from_apart, IsDistinct-head, IsDistinct-tail, IsDistinct-cons}
-use Rattle.std.specs.List.{list_any, All, AllByRecursion, IsDistinct, dedup, range_with_len}
+use Rattle.std.proofs.lemmas.List.Sorted.{list_any-IsPermutation, All-permutation, IsNonDecreasingBy-from_sort}
+use Rattle.std.proofs.lemmas.Map.Keys.{IsStrictlyIncreasing-from_distinct, IsDistinct-IsPermutation, IsDistinct-from_apart, IsDistinct-head, IsDistinct-tail, IsDistinct-cons}
+use Rattle.std.specs.List.{list_any, All, AllByRecursion, IsDistinct, range_with_len}
 use Rattle.std.specs.List.Sorted.{IsPermutation, IsSorted}
 use Rattle.std.specs.Ordering.{nat_cmp}
 use Rattle.std.proofs.lemmas.Bool.{eqb-true}
-use Rattle.std.proofs.lemmas.Map.Views.{any-filter_same}
-use Rattle.dq_formula.specs.Prefix.{occurs}
-use Rattle.dq_formula.proofs.Entries.{list_any-map}
+use Rattle.indexmap.specs.IndexSet.{insert_key}
+use Rattle.dq_lits.specs.Formula.{Dqbf}
+use Rattle.dq_formula.specs.Prefix.{occurs, is_declared, free_variables, AreUndeclaredIn}
+use Rattle.dq_formula.proofs.Entries.{eqb-flip}
 use Rattle.dq_lits.specs.Literal.{Literal, variable_of}
-use Rattle.dq_formula.specs.Layout.{clauses_at, AreEnds}
-use Rattle.dq_formula.proofs.Places.{has, Rise, at, at-filter, ne-false}
-use Rattle.dq_formula.proofs.Sorted.{Rise-from_increasing, dedup-any}
+use Rattle.dq_formula.proofs.Places.{has, flip, Rise, at, at-filter, ne-false}
+use Rattle.dq_formula.proofs.Sorted.{Rise-from_increasing}
 
 pub IsDistinct-range_with_len : (a n : ℕ) → IsDistinct eqb (range_with_len a n)
 IsDistinct-range_with_len a n = IsDistinct-from_apart eqb (range_with_len a n) (λ i j d l m.
@@ -33,45 +31,126 @@ at-range_with_len low n high (p ∷ ps) h le =
     let here : get_or (range_with_len low n) (p - low) 0 ≡ p = get_or-range_with_len low n (p - low) 0 (omega (arith, h.0, h.1)) ∙ (let e : low + (p - low) ≡ p = omega (arith, h.0) in e) in
     rw (here, at-range_with_len low n (p + 1) ps h.2 (omega (arith, h.0))) refl
 
--- numbers of a range, sorted and without repeats, are those of the range that are among them
-pub range-filter : (low n : ℕ) (vs sorted : List ℕ) → All (λ v. (low ≤ v) × (v < low + n)) vs → IsPermutation vs sorted → IsSorted nat_cmp sorted
-    → dedup eqb sorted ≡ filter (has vs) (range_with_len low n)
-range-filter low n vs sorted within moved order =
-    let ps = dedup eqb sorted in
+-- distinct numbers of a range, sorted, are those of the range that are among them
+pub range-filter : (low n : ℕ) (vs sorted : List ℕ) → All (λ v. (low ≤ v) × (v < low + n)) vs → IsDistinct eqb vs → IsPermutation vs sorted → IsSorted nat_cmp sorted
+    → sorted ≡ filter (has vs) (range_with_len low n)
+range-filter low n vs sorted within distinct moved order =
     let us = range_with_len low n in
-    let below : All (λ p. (low ≤ p) × (p < low + n)) ps = All-dedup eqb (λ p. (low ≤ p) × (p < low + n)) sorted (All-permutation (λ p. (low ≤ p) × (p < low + n)) vs sorted moved within) in
-    let rise : Rise low (low + n) ps = Rise-from_increasing low (low + n) ps (IsStrictlyIncreasing-dedup sorted order) below in
+    let below : All (λ p. (low ≤ p) × (p < low + n)) sorted = All-permutation (λ p. (low ≤ p) × (p < low + n)) vs sorted moved within in
+    let apart : IsDistinct eqb sorted = IsDistinct-IsPermutation eqb eqb-flip vs sorted moved distinct in
+    let up = IsStrictlyIncreasing-from_distinct sorted (IsNonDecreasingBy-from_sort (λ x. x) sorted order) apart in
+    let rise : Rise low (low + n) sorted = Rise-from_increasing low (low + n) sorted up below in
     let size : low + n ≡ low + length us = ap (λ k. low + k) (sym (length-range_with_len low n)) in
-    let picked : at us low ps ≡ filter (has (at us low ps)) us = at-filter us low ps (IsDistinct-range_with_len low n) (subst (λ k. Rise low k ps) size rise) in
-    let plain : at us low ps ≡ ps = at-range_with_len low n low ps rise (omega arith) in
-    let kept : ps ≡ filter (has ps) us = subst (λ qs. qs ≡ filter (has qs) us) plain picked in
-    kept ∙ filter_agree (has ps) (has vs) (λ u. dedup-any (λ x. eqb x u) sorted ∙ sym (list_any-IsPermutation (λ x. eqb x u) vs sorted moved)) us
+    let picked : at us low sorted ≡ filter (has (at us low sorted)) us = at-filter us low sorted (IsDistinct-range_with_len low n) (subst (λ k. Rise low k sorted) size rise) in
+    let plain : at us low sorted ≡ sorted = at-range_with_len low n low sorted rise (omega arith) in
+    let kept : sorted ≡ filter (has sorted) us = subst (λ qs. qs ≡ filter (has qs) us) plain picked in
+    kept ∙ filter_agree (has sorted) (has vs) (λ u. sym (list_any-IsPermutation (λ x. eqb x u) vs sorted moved)) us
 
--- a test of the literals of all clauses
-pub list_any-clauses_at : (p : Literal → Bool) (start : ℕ) (ends : List ℕ) (literals : List Literal) → AreEnds start ends (length literals)
-    → list_any (list_any p) (clauses_at start ends literals) ≡ list_any p (drop start literals)
-list_any-clauses_at p start [] literals h = rw (drop_all start literals (omega (arith, h))) refl
-list_any-clauses_at p start (end ∷ ends) literals h =
-    let rest : list_any (list_any p) (clauses_at end ends literals) ≡ list_any p (drop end literals) = list_any-clauses_at p end ends literals h.1 in
-    let far : drop (end - start) (drop start literals) ≡ drop end literals = drop-drop (end - start) start literals ∙ (let e : start + (end - start) ≡ end = omega (arith, h.0) in ap (λ n. drop n literals) e) in
-    ap (λ b. list_any p (take (end - start) (drop start literals)) || b) (rest ∙ ap (list_any p) (sym far))
-    ∙ sym (list_any-append p (take (end - start) (drop start literals)) (drop (end - start) (drop start literals)))
-    ∙ ap (list_any p) (take-append-drop (end - start) (drop start literals))
+-- the undeclared variables that occur, sorted
+pub free-variables : (f : Dqbf) (vs sorted : List ℕ) → AreUndeclaredIn f f.matrix vs → IsDistinct eqb vs → IsPermutation vs sorted → IsSorted nat_cmp sorted → sorted ≡ free_variables f
+free-variables f vs sorted are distinct moved order =
+    range-filter 1 f.variables vs sorted (λ k d l. let h = are.in_range k d l in (h.0, omega (arith, h.1))) distinct moved order
+    ∙ filter_agree (has vs) (λ v. not (is_declared f v) && occurs f.matrix v) are.complete (range_with_len 1 f.variables)
 
--- the variables of the literals on undeclared ones, sorted and without repeats
-pub free-variables : (variables : ℕ) (ends : List ℕ) (literals : List Literal) (q : ℕ → Bool) (vs sorted : List ℕ)
-    → vs ≡ filter q (map variable_of literals) → All (λ v. 1 ≤ v) vs → All (λ l. variable_of l ≤ variables) literals → AreEnds 0 ends (length literals)
-    → IsPermutation vs sorted → IsSorted nat_cmp sorted
-    → dedup eqb sorted ≡ filter (λ v. q v && occurs (clauses_at 0 ends literals) v) (range_with_len 1 variables)
-free-variables variables ends literals q vs sorted kept low high bounds moved order =
-    let below : All (λ v. v ≤ variables) vs = subst (All (λ v. v ≤ variables)) (sym kept) (All-filter q (λ v. v ≤ variables) (map variable_of literals) (All-map (λ v. v ≤ variables) variable_of literals high)) in
-    let within : All (λ v. (1 ≤ v) × (v < 1 + variables)) vs = λ k d l. (low k d l, let h : get_or vs k d ≤ variables = below k d l in omega arith) in
-    range-filter 1 variables vs sorted within moved order
-    ∙ filter_agree (has vs) (λ v. q v && occurs (clauses_at 0 ends literals) v) (λ v.
-    ap (λ xs. has xs v) kept
-    ∙ any-filter_same (λ x. eqb x v) q (q v) (λ x e. ap q (eqb-true x v e)) (map variable_of literals)
-    ∙ ap (λ b. q v && b) (list_any-map (λ x. eqb x v) variable_of literals ∙ sym (list_any-clauses_at (λ l. eqb (variable_of l) v) 0 ends literals bounds)))
-    (range_with_len 1 variables)
+-- no clause, and an empty one more
+pub none_undeclared : (f : Dqbf) → AreUndeclaredIn f [] []
+none_undeclared f = record { in_range = All-nil (λ v. (1 ≤ v) × (v ≤ f.variables)); complete = λ v. sym (and-false (not (is_declared f v))) }
+  where
+    and-false : (b : Bool) → (b && false) ≡ false
+    and-false true = refl
+    and-false false = refl
+
+occurs-push : (clauses : List (List Literal)) (c : List Literal) (v : ℕ) → occurs (clauses ++ c ∷ []) v ≡ (occurs clauses v || (list_any (λ l. eqb (variable_of l) v) c || false))
+occurs-push clauses c v = list_any-append (list_any (λ l. eqb (variable_of l) v)) clauses (c ∷ [])
+
+pub empty_clause_undeclared : (f : Dqbf) (clauses : List (List Literal)) (vs : List ℕ) → AreUndeclaredIn f clauses vs → AreUndeclaredIn f (clauses ++ [] ∷ []) vs
+empty_clause_undeclared f clauses vs are = record {
+  in_range = are.in_range;
+  complete = λ v. are.complete v ∙ ap (λ b. not (is_declared f v) && b) (sym (occurs-push clauses [] v ∙ or-false (occurs clauses v)));
+}
+  where
+    or-false : (b : Bool) → (b || (false || false)) ≡ b
+    or-false true = refl
+    or-false false = refl
+
+-- a literal more in the last clause
+occurs-literal : (clauses : List (List Literal)) (c : List Literal) (l : Literal) (v : ℕ) → occurs (clauses ++ (c ++ l ∷ []) ∷ []) v ≡ (occurs (clauses ++ c ∷ []) v || eqb (variable_of l) v)
+occurs-literal clauses c l v =
+    occurs-push clauses (c ++ l ∷ []) v
+    ∙ ap (λ b. occurs clauses v || (b || false)) (list_any-append (λ k. eqb (variable_of k) v) c (l ∷ []))
+    ∙ regroup (occurs clauses v) (list_any (λ k. eqb (variable_of k) v) c) (eqb (variable_of l) v)
+    ∙ ap (λ b. b || eqb (variable_of l) v) (sym (occurs-push clauses c v))
+  where
+    regroup : (a b e : Bool) → (a || ((b || (e || false)) || false)) ≡ ((a || (b || false)) || e)
+    regroup true b e = refl
+    regroup false true e = refl
+    regroup false false true = refl
+    regroup false false false = refl
+
+-- on a declared variable
+pub declared_literal : (f : Dqbf) (clauses : List (List Literal)) (c : List Literal) (l : Literal) (vs : List ℕ) → is_declared f (variable_of l) ≡ true
+    → AreUndeclaredIn f (clauses ++ c ∷ []) vs → AreUndeclaredIn f (clauses ++ (c ++ l ∷ []) ∷ []) vs
+declared_literal f clauses c l vs declared are = record {
+  in_range = are.in_range;
+  complete = λ v. are.complete v ∙ same v (eqb (variable_of l) v) refl ∙ ap (λ b. not (is_declared f v) && b) (sym (occurs-literal clauses c l v));
+}
+  where
+    absorbed : (d o : Bool) → d ≡ true → (not d && o) ≡ (not d && (o || true))
+    absorbed true o e = refl
+    absorbed false o e = absurd (true≢false (sym e))
+
+    or-no : (b : Bool) → b ≡ (b || false)
+    or-no true = refl
+    or-no false = refl
+
+    same : (v : ℕ) (e : Bool) → eqb (variable_of l) v ≡ e → (not (is_declared f v) && occurs (clauses ++ c ∷ []) v) ≡ (not (is_declared f v) && (occurs (clauses ++ c ∷ []) v || eqb (variable_of l) v))
+    same v true e = rw e (absorbed (is_declared f v) (occurs (clauses ++ c ∷ []) v) (ap (is_declared f) (sym (eqb-true (variable_of l) v e)) ∙ declared))
+    same v false e = rw e (ap (λ b. not (is_declared f v) && b) (or-no (occurs (clauses ++ c ∷ []) v)))
+
+-- on an undeclared one
+has-insert : (vs : List ℕ) (w v : ℕ) → has (insert_key eqb vs w) v ≡ (has vs v || eqb w v)
+has-insert vs w v = by (list_any (eqb w) vs) refl
+  where
+    or-same : (b e : Bool) → (e ≡ true → b ≡ true) → b ≡ (b || e)
+    or-same true e h = refl
+    or-same false true h = h refl
+    or-same false false h = refl
+
+    there : list_any (eqb w) vs ≡ true → eqb w v ≡ true → has vs v ≡ true
+    there h e = ap (has vs) (sym (eqb-true w v e)) ∙ ap (λ p. list_any p vs) (sym (flip w)) ∙ h
+
+    by : (b : Bool) → list_any (eqb w) vs ≡ b → has (insert_key eqb vs w) v ≡ (has vs v || eqb w v)
+    by true h = rw h (or-same (has vs v) (eqb w v) (there h))
+    by false h = rw h (list_any-append (λ x. eqb x v) vs (w ∷ []) ∙ ap (λ b. has vs v || b) (or-no (eqb w v)))
+      where
+        or-no : (b : Bool) → (b || false) ≡ b
+        or-no true = refl
+        or-no false = refl
+
+pub undeclared_literal : (f : Dqbf) (clauses : List (List Literal)) (c : List Literal) (l : Literal) (vs vs' : List ℕ) → is_declared f (variable_of l) ≡ false → 1 ≤ variable_of l → variable_of l ≤ f.variables
+    → vs' ≡ insert_key eqb vs (variable_of l) → AreUndeclaredIn f (clauses ++ c ∷ []) vs → AreUndeclaredIn f (clauses ++ (c ++ l ∷ []) ∷ []) vs'
+undeclared_literal f clauses c l vs vs' undeclared low high inserted are = record {
+  in_range = subst (All (λ v. (1 ≤ v) × (v ≤ f.variables))) (sym inserted) (within (list_any (eqb (variable_of l)) vs) refl);
+  complete = λ v. ap (λ ks. has ks v) inserted ∙ has-insert vs (variable_of l) v ∙ ap (λ b. b || eqb (variable_of l) v) (are.complete v)
+      ∙ same v (eqb (variable_of l) v) refl ∙ ap (λ b. not (is_declared f v) && b) (sym (occurs-literal clauses c l v));
+}
+  where
+    within : (b : Bool) → list_any (eqb (variable_of l)) vs ≡ b → All (λ v. (1 ≤ v) × (v ≤ f.variables)) (insert_key eqb vs (variable_of l))
+    within true h = rw h are.in_range
+    within false h = rw h (All-push (λ v. (1 ≤ v) × (v ≤ f.variables)) vs (variable_of l) are.in_range (low, high))
+
+    new : (d o : Bool) → d ≡ false → ((not d && o) || true) ≡ (not d && (o || true))
+    new true o e = absurd (true≢false e)
+    new false true e = refl
+    new false false e = refl
+
+    old : (d o : Bool) → ((not d && o) || false) ≡ (not d && (o || false))
+    old true o = refl
+    old false o = refl
+
+    same : (v : ℕ) (e : Bool) → eqb (variable_of l) v ≡ e → ((not (is_declared f v) && occurs (clauses ++ c ∷ []) v) || eqb (variable_of l) v) ≡ (not (is_declared f v) && (occurs (clauses ++ c ∷ []) v || eqb (variable_of l) v))
+    same v true e = rw e (new (is_declared f v) (occurs (clauses ++ c ∷ []) v) (ap (is_declared f) (sym (eqb-true (variable_of l) v e)) ∙ undeclared))
+    same v false e = rw e (old (is_declared f v) (occurs (clauses ++ c ∷ []) v))
 
 pub IsDistinct-filter : (p : ℕ → Bool) (xs : List ℕ) → IsDistinct eqb xs → IsDistinct eqb (filter p xs)
 IsDistinct-filter p [] d = d

@@ -52,17 +52,17 @@ AreNew-step variables us es v deps vs new =
           (λ k d l. list_any-append (λ x. eqb x (get_or vs k d)) (keys_of es) (v ∷ []) ∙ rw (rest k d l, apart k d l) refl);
     }
 
-no-declaration : (variables : ℕ) (us : List ℕ) (es : List (ℕ × Deps)) (ends : List ℕ) (literals : List Literal) (v : ℕ)
-    → has us v ≡ false → has (keys_of es) v ≡ false → is_declared (formula_of variables us es ends literals) v ≡ false
-no-declaration variables us es ends literals v a b =
+no-declaration : (variables : ℕ) (us : List ℕ) (es : List (ℕ × Deps)) (matrix : List (List Literal)) (v : ℕ)
+    → has us v ≡ false → has (keys_of es) v ≡ false → is_declared (formula_of variables us es matrix) v ≡ false
+no-declaration variables us es matrix v a b =
     ap (λ ks. has (us ++ ks) v) (map-variable us es) ∙ list_any-append (λ x. eqb x v) us (keys_of es) ∙ rw (a, b) refl
 
 -- new variables go behind the others, and the formula keeps what every formula keeps
-pub insert_all-unseeing : (variables : ℕ) (us : List ℕ) (ends : List ℕ) (literals : List Literal) (vs : List ℕ) (es : List (ℕ × Deps))
-    → IsKept variables us es ends literals → AreNew variables us (keys_of es) vs
-    → (insert_all eqb es (map unseeing_entry vs) ≡ es ++ map unseeing_entry vs) × IsKept variables us (es ++ map unseeing_entry vs) ends literals
-insert_all-unseeing variables us ends literals [] es kept new = (sym (append-nil es), rw append-nil kept)
-insert_all-unseeing variables us ends literals (v ∷ vs) es kept new =
+pub insert_all-unseeing : (variables : ℕ) (us : List ℕ) (matrix : List (List Literal)) (vs : List ℕ) (es : List (ℕ × Deps))
+    → IsKept variables us es matrix → AreNew variables us (keys_of es) vs
+    → (insert_all eqb es (map unseeing_entry vs) ≡ es ++ map unseeing_entry vs) × IsKept variables us (es ++ map unseeing_entry vs) matrix
+insert_all-unseeing variables us matrix [] es kept new = (sym (append-nil es), rw append-nil kept)
+insert_all-unseeing variables us matrix (v ∷ vs) es kept new =
     let es' = es ++ unseeing_entry v ∷ [] in
     let no-universal = All-head (λ w. has us w ≡ false) v vs new.no_universals in
     let no-key = All-head (λ w. has (keys_of es) w ≡ false) v vs new.no_keys in
@@ -71,24 +71,24 @@ insert_all-unseeing variables us ends literals (v ∷ vs) es kept new =
     let no-key' : list_any (eqb v) (keys_of es) ≡ false = ap (λ p. list_any p (keys_of es)) (flip v) ∙ no-key in
     let distinct : IsDistinct eqb (keys_of es') = subst (IsDistinct eqb) (sym keys) (IsDistinct-push nat_eq_equiv (keys_of es) v kept.distinct_existentials no-key') in
     let form : IsDependencySet us (FirstOf 0) = omega arith in
-    let kept' : IsKept variables us es' ends literals =
-    IsKept-existential variables us es ends literals v (FirstOf 0) kept range.0 range.1 (no-declaration variables us es ends literals v no-universal no-key) form distinct in
-    let rest = insert_all-unseeing variables us ends literals vs es' kept' (AreNew-step variables us es v (FirstOf 0) vs new) in
+    let kept' : IsKept variables us es' matrix =
+    IsKept-existential variables us es matrix v (FirstOf 0) kept range.0 range.1 (no-declaration variables us es matrix v no-universal no-key) form distinct in
+    let rest = insert_all-unseeing variables us matrix vs es' kept' (AreNew-step variables us es v (FirstOf 0) vs new) in
     let one : insert_entry eqb es v (FirstOf 0) ≡ es' = insert_entry-last es v (FirstOf 0) no-key in
     let whole : es' ++ map unseeing_entry vs ≡ es ++ unseeing_entry v ∷ map unseeing_entry vs = append_assoc es (unseeing_entry v ∷ []) (map unseeing_entry vs) in
-    (ap (λ done. insert_all eqb done (map unseeing_entry vs)) one ∙ rest.0 ∙ whole, subst (λ all. IsKept variables us all ends literals) whole rest.1)
+    (ap (λ done. insert_all eqb done (map unseeing_entry vs)) one ∙ rest.0 ∙ whole, subst (λ all. IsKept variables us all matrix) whole rest.1)
 
 -- the undeclared variables that occur are new
-pub AreNew-free : (variables : ℕ) (us : List ℕ) (es : List (ℕ × Deps)) (ends : List ℕ) (literals : List Literal)
-    → AreNew variables us (keys_of es) (free_variables (formula_of variables us es ends literals))
-AreNew-free variables us es ends literals =
-    let f = formula_of variables us es ends literals in
+pub AreNew-free : (variables : ℕ) (us : List ℕ) (es : List (ℕ × Deps)) (matrix : List (List Literal))
+    → AreNew variables us (keys_of es) (free_variables (formula_of variables us es matrix))
+AreNew-free variables us es matrix =
+    let f = formula_of variables us es matrix in
     let test : ℕ → Bool = λ v. not (is_declared f v) && occurs f.matrix v in
     let numbers = range_with_len 1 variables in
     let passed : All (λ v. test v ≡ true) (filter test numbers) = filter_passes test numbers in
     let range : All (λ v. (1 ≤ v) × (v < 1 + variables)) (filter test numbers) = All-filter test (λ v. (1 ≤ v) × (v < 1 + variables)) numbers (All-range 1 variables) in
     let parts : (k d : ℕ) → k < length (filter test numbers) → (has us (get_or (filter test numbers) k d) ≡ false) × (has (keys_of es) (get_or (filter test numbers) k d) ≡ false) =
-    λ k d l. undeclared-keys variables us es ends literals (get_or (filter test numbers) k d) (first (is_declared f (get_or (filter test numbers) k d)) (occurs f.matrix (get_or (filter test numbers) k d)) (passed k d l)) in
+    λ k d l. undeclared-keys variables us es matrix (get_or (filter test numbers) k d) (first (is_declared f (get_or (filter test numbers) k d)) (occurs f.matrix (get_or (filter test numbers) k d)) (passed k d l)) in
     record {
       in_range = λ k d l. let h = range k d l in (h.0, omega (arith, h.1));
       distinct = IsDistinct-filter test numbers (IsDistinct-range_with_len 1 variables);
@@ -101,10 +101,10 @@ AreNew-free variables us es ends literals =
     first false b h = refl
 
 -- and the formula then has them as existentials that see nothing
-pub formula_of-unseeing : (variables : ℕ) (us : List ℕ) (es : List (ℕ × Deps)) (ends : List ℕ) (literals : List Literal) (vs : List ℕ)
-    → formula_of variables us (es ++ map unseeing_entry vs) ends literals
-    ≡ record (formula_of variables us es ends literals) { existentials = map (existential us) es ++ map unseeing vs }
-formula_of-unseeing variables us es ends literals vs = rw (map-append (existential us) es (map unseeing_entry vs), each vs) refl
+pub formula_of-unseeing : (variables : ℕ) (us : List ℕ) (es : List (ℕ × Deps)) (matrix : List (List Literal)) (vs : List ℕ)
+    → formula_of variables us (es ++ map unseeing_entry vs) matrix
+    ≡ record (formula_of variables us es matrix) { existentials = map (existential us) es ++ map unseeing vs }
+formula_of-unseeing variables us es matrix vs = rw (map-append (existential us) es (map unseeing_entry vs), each vs) refl
   where
     each : (vs : List ℕ) → map (existential us) (map unseeing_entry vs) ≡ map unseeing vs
     each [] = refl

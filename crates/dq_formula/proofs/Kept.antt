@@ -1,5 +1,5 @@
 -- What every formula keeps, when a variable is declared or a clause is added.
-use Rattle.std.proofs.Common.{◌≡◌, ℕ, ◌≤◌, ◌<◌, ◌≢◌, Bool, true, false, ◌||◌, List, [], ◌∷◌, ◌++◌, length, map, get_or, refl, ap, sym, ◌∙◌, subst, arith, eqb, filter, true≢false, Option, None, Some, is_some, Contains, append-nil, length-append}
+use Rattle.std.proofs.Common.{◌≡◌, ℕ, ◌+◌, ◌≤◌, ◌≢◌, Bool, true, false, ◌||◌, List, [], ◌∷◌, ◌++◌, length, map, get_or, refl, ap, sym, ◌∙◌, subst, arith, eqb, filter, true≢false, Option, None, Some, is_some, Contains, append-nil, length-append}
 use Rattle.std.proofs.lemmas.List.{take-append-le, map_push, length_push}
 use Rattle.std.proofs.lemmas.List.Elements.{Contains-get_or, All-head, All-tail, All-push, All-append, All-contains, filter-append}
 use Rattle.std.proofs.lemmas.List.Folds.{list_any-append}
@@ -10,14 +10,13 @@ use Rattle.dq_formula.specs.declared.formula.TheConstants.{MAX_CLAUSES}
 use Rattle.dq_formula.specs.declared.dependencies.Deps.{Deps}
 use Rattle.dq_formula.specs.declared.dependencies.Deps.TheVariants.{FirstOf, Listed}
 use Rattle.dq_formula.specs.Dependencies.{dependencies, listed_universals, IsDependencySet}
-use Rattle.dq_formula.specs.Layout.{existential, clauses_at, formula_of, IsInRange, IsKept}
+use Rattle.dq_formula.specs.Layout.{existential, formula_of, IsInRange, IsKept}
 use Rattle.indexmap.specs.IndexSet.{insert_key}
 use Rattle.indexmap.specs.IndexMap.{IndexMap, insert_entry}
 use Rattle.indexmap.proofs.CallerLemmas.{insert_entry-new}
 use Rattle.std.proofs.lemmas.Map.Made.{is_some-lookup}
 use Rattle.dq_formula.specs.Prefix.{is_declared}
 use Rattle.dq_formula.proofs.Entries.{map-variable}
-use Rattle.dq_formula.proofs.Matrix.{clauses_at-push, AreEnds-push}
 use Rattle.dq_formula.proofs.Places.{has, flip, contains-has, has-contains, ne-false}
 use Rattle.dq_formula.proofs.Search.{All-kept}
 
@@ -56,15 +55,15 @@ existentials-push us v (entry ∷ es) sets =
     rw (here, rest) refl
 
 -- an undeclared variable is no key and no universal
-pub undeclared-keys : (variables : ℕ) (us : List ℕ) (es : List (ℕ × Deps)) (ends : List ℕ) (literals : List Literal) (v : ℕ)
-    → is_declared (formula_of variables us es ends literals) v ≡ false → (has us v ≡ false) × (has (keys_of es) v ≡ false)
-undeclared-keys variables us es ends literals v undeclared =
+pub undeclared-keys : (variables : ℕ) (us : List ℕ) (es : List (ℕ × Deps)) (matrix : List (List Literal)) (v : ℕ)
+    → is_declared (formula_of variables us es matrix) v ≡ false → (has us v ≡ false) × (has (keys_of es) v ≡ false)
+undeclared-keys variables us es matrix v undeclared =
     undeclared-parts us (keys_of es) v (ap (λ ks. has (us ++ ks) v) (sym (map-variable us es)) ∙ undeclared)
 
-universal-new : (variables : ℕ) (us : List ℕ) (es : List (ℕ × Deps)) (ends : List ℕ) (literals : List Literal) (v : ℕ) (us' : List ℕ)
-    → is_declared (formula_of variables us es ends literals) v ≡ false → us' ≡ insert_key eqb us v → us' ≡ us ++ v ∷ []
-universal-new variables us es ends literals v us' undeclared inserted =
-    let none = (undeclared-keys variables us es ends literals v undeclared).0 in
+universal-new : (variables : ℕ) (us : List ℕ) (es : List (ℕ × Deps)) (matrix : List (List Literal)) (v : ℕ) (us' : List ℕ)
+    → is_declared (formula_of variables us es matrix) v ≡ false → us' ≡ insert_key eqb us v → us' ≡ us ++ v ∷ []
+universal-new variables us es matrix v us' undeclared inserted =
+    let none = (undeclared-keys variables us es matrix v undeclared).0 in
     inserted ∙ rw (flip v, none) refl
 
 disjoint-push : (us : List ℕ) (v : ℕ) (ks : List ℕ) → All (λ y. has us y ≡ false) ks → has ks v ≡ false → All (λ y. has (us ++ v ∷ []) y ≡ false) ks
@@ -74,12 +73,12 @@ disjoint-push us v ks apart none k d l =
     list_any-append (λ x. eqb x y) us (v ∷ []) ∙ rw (apart k d l, ne-false v y other) refl
 
 -- a universal is added behind the others
-pub IsKept-universal : (variables : ℕ) (us : List ℕ) (es : List (ℕ × Deps)) (ends : List ℕ) (literals : List Literal) (v : ℕ) (us' : List ℕ)
-    → IsKept variables us es ends literals → 1 ≤ v → v ≤ variables → is_declared (formula_of variables us es ends literals) v ≡ false
-    → us' ≡ insert_key eqb us v → IsDistinct eqb us' → IsKept variables us' es ends literals
-IsKept-universal variables us es ends literals v us' kept low high undeclared inserted distinct =
-    let new = universal-new variables us es ends literals v us' undeclared inserted in
-    let parts = undeclared-keys variables us es ends literals v undeclared in
+pub IsKept-universal : (variables : ℕ) (us : List ℕ) (es : List (ℕ × Deps)) (matrix : List (List Literal)) (v : ℕ) (us' : List ℕ)
+    → IsKept variables us es matrix → 1 ≤ v → v ≤ variables → is_declared (formula_of variables us es matrix) v ≡ false
+    → us' ≡ insert_key eqb us v → IsDistinct eqb us' → IsKept variables us' es matrix
+IsKept-universal variables us es matrix v us' kept low high undeclared inserted distinct =
+    let new = universal-new variables us es matrix v us' undeclared inserted in
+    let parts = undeclared-keys variables us es matrix v undeclared in
     record {
       universals_in_range = subst (All (IsInRange variables)) (sym new) (All-push (IsInRange variables) us v kept.universals_in_range (low, high));
       existentials_in_range = kept.existentials_in_range;
@@ -88,22 +87,21 @@ IsKept-universal variables us es ends literals v us' kept low high undeclared in
       disjoint = subst (λ xs. All (λ y. has xs y ≡ false) (keys_of es)) (sym new) (disjoint-push us v (keys_of es) kept.disjoint parts.1);
       sets = subst (λ xs. All (IsDependencySet xs) (values_of es)) (sym new) (λ k d l. IsDependencySet-push us v (get_or (values_of es) k d) parts.0 (kept.sets k d l));
       literals_in_range = kept.literals_in_range;
-      clauses_end = kept.clauses_end;
       few_variables = kept.few_variables;
       few_clauses = kept.few_clauses;
     }
 
-pub formula_of-universal : (variables : ℕ) (us : List ℕ) (es : List (ℕ × Deps)) (ends : List ℕ) (literals : List Literal) (v : ℕ) (us' : List ℕ)
-    → IsKept variables us es ends literals → is_declared (formula_of variables us es ends literals) v ≡ false → us' ≡ insert_key eqb us v
-    → formula_of variables us' es ends literals ≡ record (formula_of variables us es ends literals) { universals = us ++ v ∷ [] }
-formula_of-universal variables us es ends literals v us' kept undeclared inserted =
-    rw (universal-new variables us es ends literals v us' undeclared inserted, existentials-push us v es kept.sets) refl
+pub formula_of-universal : (variables : ℕ) (us : List ℕ) (es : List (ℕ × Deps)) (matrix : List (List Literal)) (v : ℕ) (us' : List ℕ)
+    → IsKept variables us es matrix → is_declared (formula_of variables us es matrix) v ≡ false → us' ≡ insert_key eqb us v
+    → formula_of variables us' es matrix ≡ record (formula_of variables us es matrix) { universals = us ++ v ∷ [] }
+formula_of-universal variables us es matrix v us' kept undeclared inserted =
+    rw (universal-new variables us es matrix v us' undeclared inserted, existentials-push us v es kept.sets) refl
 
 -- a key that is not there goes last
-pub existential-new : {S : Type 0} (variables : ℕ) (us : List ℕ) (m : IndexMap ℕ Deps S) (ends : List ℕ) (literals : List Literal) (y : ℕ) (deps : Deps) {es' : List (ℕ × Deps)}
-    → is_declared (formula_of variables us m.entries ends literals) y ≡ false → es' ≡ insert_entry eqb m.entries y deps → es' ≡ m.entries ++ (y, deps) ∷ []
-existential-new variables us m ends literals y deps undeclared inserted =
-    let none : list_any (eqb y) (keys_of m.entries) ≡ false = ap (λ p. list_any p (keys_of m.entries)) (flip y) ∙ (undeclared-keys variables us m.entries ends literals y undeclared).1 in
+pub existential-new : {S : Type 0} (variables : ℕ) (us : List ℕ) (m : IndexMap ℕ Deps S) (matrix : List (List Literal)) (y : ℕ) (deps : Deps) {es' : List (ℕ × Deps)}
+    → is_declared (formula_of variables us m.entries matrix) y ≡ false → es' ≡ insert_entry eqb m.entries y deps → es' ≡ m.entries ++ (y, deps) ∷ []
+existential-new variables us m matrix y deps undeclared inserted =
+    let none : list_any (eqb y) (keys_of m.entries) ≡ false = ap (λ p. list_any p (keys_of m.entries)) (flip y) ∙ (undeclared-keys variables us m.entries matrix y undeclared).1 in
     inserted ∙ insert_entry-new eqb m y deps (absent (lookup (eqb y) m.entries) (is_some-lookup (eqb y) m.entries ∙ none))
   where
     absent : (o : Option Deps) → is_some o ≡ false → o ≡ None
@@ -111,11 +109,11 @@ existential-new variables us m ends literals y deps undeclared inserted =
     absent (Some d) h = absurd (true≢false h)
 
 -- an existential is added behind the others
-pub IsKept-existential : (variables : ℕ) (us : List ℕ) (es : List (ℕ × Deps)) (ends : List ℕ) (literals : List Literal) (y : ℕ) (deps : Deps)
-    → IsKept variables us es ends literals → 1 ≤ y → y ≤ variables → is_declared (formula_of variables us es ends literals) y ≡ false
-    → IsDependencySet us deps → IsDistinct eqb (keys_of (es ++ (y, deps) ∷ [])) → IsKept variables us (es ++ (y, deps) ∷ []) ends literals
-IsKept-existential variables us es ends literals y deps kept low high undeclared form distinct =
-    let parts = undeclared-keys variables us es ends literals y undeclared in
+pub IsKept-existential : (variables : ℕ) (us : List ℕ) (es : List (ℕ × Deps)) (matrix : List (List Literal)) (y : ℕ) (deps : Deps)
+    → IsKept variables us es matrix → 1 ≤ y → y ≤ variables → is_declared (formula_of variables us es matrix) y ≡ false
+    → IsDependencySet us deps → IsDistinct eqb (keys_of (es ++ (y, deps) ∷ [])) → IsKept variables us (es ++ (y, deps) ∷ []) matrix
+IsKept-existential variables us es matrix y deps kept low high undeclared form distinct =
+    let parts = undeclared-keys variables us es matrix y undeclared in
     let keys : keys_of (es ++ (y, deps) ∷ []) ≡ keys_of es ++ y ∷ [] = map_push (λ (e : ℕ × Deps). e.0) es (y, deps) in
     let values : values_of (es ++ (y, deps) ∷ []) ≡ values_of es ++ deps ∷ [] = map_push (λ (e : ℕ × Deps). e.1) es (y, deps) in
     record {
@@ -126,34 +124,27 @@ IsKept-existential variables us es ends literals y deps kept low high undeclared
       disjoint = subst (All (λ x. has us x ≡ false)) (sym keys) (All-push (λ x. has us x ≡ false) (keys_of es) y kept.disjoint parts.0);
       sets = subst (All (IsDependencySet us)) (sym values) (All-push (IsDependencySet us) (values_of es) deps kept.sets form);
       literals_in_range = kept.literals_in_range;
-      clauses_end = kept.clauses_end;
       few_variables = kept.few_variables;
       few_clauses = kept.few_clauses;
     }
 
-pub formula_of-existential : (variables : ℕ) (us : List ℕ) (es : List (ℕ × Deps)) (ends : List ℕ) (literals : List Literal) (entry : ℕ × Deps)
-    → formula_of variables us (es ++ entry ∷ []) ends literals
-    ≡ record (formula_of variables us es ends literals) { existentials = map (existential us) es ++ existential us entry ∷ [] }
-formula_of-existential variables us es ends literals entry = rw (map_push (existential us) es entry) refl
+pub formula_of-existential : (variables : ℕ) (us : List ℕ) (es : List (ℕ × Deps)) (matrix : List (List Literal)) (entry : ℕ × Deps)
+    → formula_of variables us (es ++ entry ∷ []) matrix
+    ≡ record (formula_of variables us es matrix) { existentials = map (existential us) es ++ existential us entry ∷ [] }
+formula_of-existential variables us es matrix entry = rw (map_push (existential us) es entry) refl
 
--- a clause is added behind the others
-pub IsKept-clause : (variables : ℕ) (us : List ℕ) (es : List (ℕ × Deps)) (ends : List ℕ) (literals more : List Literal) (end : ℕ)
-    → IsKept variables us es ends literals → All (λ l. variable_of l ≤ variables) more → length (literals ++ more) ≡ end → length ends < MAX_CLAUSES
-    → IsKept variables us es (ends ++ end ∷ []) (literals ++ more)
-IsKept-clause variables us es ends literals more end kept within size few = record {
+-- clauses are added behind the others
+pub IsKept-clauses : (variables : ℕ) (us : List ℕ) (es : List (ℕ × Deps)) (matrix more : List (List Literal))
+    → IsKept variables us es matrix → All (All (λ l. variable_of l ≤ variables)) more → length matrix + length more ≤ MAX_CLAUSES
+    → IsKept variables us es (matrix ++ more)
+IsKept-clauses variables us es matrix more kept within few = record {
   universals_in_range = kept.universals_in_range;
   existentials_in_range = kept.existentials_in_range;
   distinct_universals = kept.distinct_universals;
   distinct_existentials = kept.distinct_existentials;
   disjoint = kept.disjoint;
   sets = kept.sets;
-  literals_in_range = All-append (λ l. variable_of l ≤ variables) literals more kept.literals_in_range within;
-  clauses_end = rw size (AreEnds-push 0 ends (length literals) end (omega (arith, size, length-append literals more)) kept.clauses_end);
+  literals_in_range = All-append (All (λ l. variable_of l ≤ variables)) matrix more kept.literals_in_range within;
   few_variables = kept.few_variables;
-  few_clauses = omega (arith, few, length_push ends end);
+  few_clauses = omega (arith, few, length-append matrix more);
 }
-
-pub formula_of-clause : (variables : ℕ) (us : List ℕ) (es : List (ℕ × Deps)) (ends : List ℕ) (literals more : List Literal) (end : ℕ)
-    → IsKept variables us es ends literals → length (literals ++ more) ≡ end
-    → formula_of variables us es (ends ++ end ∷ []) (literals ++ more) ≡ record (formula_of variables us es ends literals) { matrix = clauses_at 0 ends literals ++ more ∷ [] }
-formula_of-clause variables us es ends literals more end kept size = rw (clauses_at-push 0 ends literals more end size kept.clauses_end) refl

@@ -23,6 +23,12 @@ abbrev pub free_variables : Dqbf → List ℕ
 free_variables f =
     filter (λ v. not (is_declared f v) && occurs f.matrix v) (range_with_len 1 f.variables)
 
+-- these are the undeclared variables that occur in some of the clauses
+pub record AreUndeclaredIn (f : Dqbf) (clauses : List (List Literal)) (variables : List ℕ) : Type 0 where
+  pub in_range : All (λ v. (1 ≤ v) × (v ≤ f.variables)) variables
+  pub complete : (v : ℕ)
+      → list_any (λ x. x == v) variables ≡ (not (is_declared f v) && occurs clauses v)
+
 -- an existential that sees nothing
 abbrev pub unseeing : ℕ → Existential
 unseeing v = record { variable = v; sees = [] }

@@ -1,5 +1,5 @@
-ghost use Rattle.std.specs.Prelude.{◌≡◌, ◌-◌, ◌==◌, ◌≤◌, ◌<◌, false, true, not, ◌&&◌, Some, None, [], ◌∷◌, ◌++◌, length, map, is_some, slice_index, slice_index_or, filter, All, Contains, nat_eq, IsTrue, IsSome, IfSome, IfOk, OnOk, OnErr, position, ◌↔◌};
-ghost use Rattle.std.specs.List.{position_or_len};
+ghost use Rattle.std.specs.Prelude.{◌≡◌, ◌≢◌, ◌+◌, ◌-◌, ◌==◌, ◌≤◌, ◌<◌, false, true, not, ◌&&◌, Some, None, [], ◌∷◌, ◌++◌, List, length, map, is_some, slice_get, slice_index, slice_index_or, filter, All, Contains, nat_eq, IsTrue, IsSome, IfSome, IfOk, OnOk, OnErr, position, ◌↔◌};
+ghost use Rattle.std.specs.List.{AllPairs, position_or_len};
 ghost use Rattle.std.specs.List.Sorted.{IsBinarySearchResult, IsSearchInRange};
 ghost use Rattle.std.specs.Ordering.{nat_cmp};
 ghost use Rattle.dq_lits.specs.Row.{bit_of};
@@ -7,12 +7,14 @@ ghost use Rattle.indexmap.specs.IndexMap.{spare, insert_all};
 ghost use Rattle.dq_lits.specs.Formula.{is_universal, existential_of};
 ghost use Rattle.dq_lits.specs.Henkin.{restriction, same_bits};
 ghost use Rattle.dq_lits.specs.Expansion.{row_assignment};
-ghost use Rattle.dq_lits.specs.Literal.{variable_of};
+ghost use Rattle.dq_lits.specs.Literal.{Literal, variable_of};
 ghost use Rattle.dq_formula.specs.Dependencies.{padded, dependencies, listed_universals, IsDependencySet};
-ghost use Rattle.dq_formula.specs.Layout.{existential, unseeing_entry, start_of, clauses_at, AreEnds};
-ghost use Rattle.dq_formula.specs.Prefix.{IsLawful, is_declared, existential_variables, free_variables, unseeing};
+ghost use Rattle.dq_formula.specs.Layout.{existential, unseeing_entry};
+ghost use Rattle.dq_formula.specs.Xor.{xor_clauses};
+ghost use Rattle.dq_formula.specs.Prefix.{IsLawful, AreUndeclaredIn, is_declared, existential_variables, free_variables, unseeing};
 
 use crate::dependencies::{Deps, Vars};
+use crate::matrix::Matrix;
 use dq_lits::{Lit, Memory, Row};
 use indexmap::{IndexMap, IndexSet};
 use std::alloc::Global;
@@ -20,6 +22,9 @@ use std::marker::Model;
 
 /// The most variables that a formula may have.
 pub const MAX_VARIABLES: u64 = 1_000_000;
+
+/// The most literals that an XOR line may have.
+pub const MAX_XOR: usize = 5;
 
 /// The most clauses that a formula may have.
 pub const MAX_CLAUSES: usize = 10_000_000;
@@ -34,9 +39,7 @@ pub struct Formula {
     vars: u64,
     universals: IndexSet<u64>,
     existentials: IndexMap<u64, Deps>,
-    // Where each clause ends in `lits`, in which the clauses lie end to end.
-    ends: Vec<usize>,
-    lits: Vec<Lit>,
+    matrix: Matrix,
 }
 
 impl Model for Formula {
@@ -47,43 +50,10 @@ impl Model for Formula {
     ghost use Rattle.dq_formula.specs.Layout.{formula_of, IsKept};
 
     ghost view = { λ f.
-        formula_of f.vars f.universals.keys f.existentials.entries f.ends.items f.lits.items };
+        formula_of f.vars f.universals.keys f.existentials.entries f.matrix };
 
     ghost invariant = { λ f.
-        IsKept f.vars f.universals.keys f.existentials.entries f.ends.items f.lits.items };
-}
-
-// Where the clause at `j` begins.
-fn start_of(ends: &[usize], j: usize) -> usize
-    requires { j < length ends.now }
-    ensures { result ≡ start_of 0 ends.now j }
-{
-    if j == 0 { 0 } else { ends[j - 1] }
-}
-
-// The clause at `j` of those that lie end to end.
-#[tactic(auto, using(crate::proofs::Matrix::clause_bounds))]
-fn clause_at<'a>(ends: &[usize], lits: &'a [Lit], j: usize) -> &'a [Lit]
-    requires within { j < length ends.now }
-    requires bounds { AreEnds 0 ends.now (length lits.now) }
-    ensures { result.now ≡ slice_index_or (clauses_at 0 ends.now lits.now) j [] }
-{
-    let start = start_of(ends, j);
-    let end = ends[j];
-    &lits[start..end]
-}
-
-// Adds a clause behind those that lie end to end.
-fn append(ends: &mut Vec<usize>, lits: &mut Vec<Lit>, clause: &[Lit]) -> Result<(), Memory>
-    ensures end { OnOk result (ends.new.items ≡ ends.old.items ++ length lits.new.items ∷ []) }
-    ensures literals { OnOk result (lits.new.items ≡ lits.old.items ++ clause.now) }
-    ensures err { OnErr result
-        ((ends.new.items ≡ ends.old.items) × (lits.new.items ≡ lits.old.items)) }
-{
-    ends.reserve(1)?;
-    lits.extend_from_slice(clause)?;
-    ends.push(lits.len()).unwrap();
-    Ok(())
+        IsKept f.vars f.universals.keys f.existentials.entries f.matrix };
 }
 
 // The elements at these places.
@@ -121,8 +91,7 @@ impl Formula {
             vars,
             universals: IndexSet::new(alloc),
             existentials: IndexMap::new(alloc),
-            ends: Vec::new(alloc),
-            lits: Vec::new(alloc),
+            matrix: Matrix::new(alloc),
         }
     }
 
@@ -195,7 +164,7 @@ impl Formula {
         ensures value { result ≡ length self.now.matrix }
         ensures few { result ≤ MAX_CLAUSES }
     {
-        self.ends.len()
+        self.matrix.len()
     }
 
     /// The literals of a clause, in order; clauses are counted from 0.
@@ -203,8 +172,7 @@ impl Formula {
         requires { j < length self.now.matrix }
         ensures { result.now ≡ slice_index_or self.now.matrix j [] }
     {
-        let ends: &[usize] = &self.ends;
-        clause_at(ends, &self.lits, j)
+        self.matrix.clause(j)
     }
 
     /// The dependency set of an existential.
@@ -242,13 +210,15 @@ impl Formula {
             (λ v. nat_cmp (position_or_len (λ u. u == v) self.now.universals) place) vars.now
             result }
     {
-        vars.binary_search_by_key(&place, |x| self.place(*x))
+        vars.binary_search_by_key(&place, |x| self.place_of(*x))
     }
 
-    // The place of a universal in the order of declaration; behind all of them for another
-    // variable.
-    fn place(&self, x: u64) -> usize
-        ensures { result ≡ position_or_len (λ u. u == x) self.now.universals }
+    /// The place of a universal in the order of declaration, counted from 0; for another variable
+    /// the number of universals.
+    pub fn place_of(&self, x: u64) -> usize
+        ensures place { result ≡ position_or_len (λ u. u == x) self.now.universals }
+        ensures found { Contains self.now.universals x
+            → slice_get self.now.universals result ≡ Some x }
     {
         match self.universal_place(x) {
             Some(place) => place,
@@ -269,7 +239,7 @@ impl Formula {
         match deps {
             Deps::FirstOf(n) => i < *n && row.get(i),
             Deps::Listed(vars) => match vars.items().get(i) {
-                Some(x) => row.get(self.place(*x)),
+                Some(x) => row.get(self.place_of(*x)),
                 None => false,
             },
         }
@@ -364,7 +334,7 @@ impl Formula {
         let mut places = self.places(xs)?;
         places.sort_unstable();
         places.dedup();
-        let alloc = *self.lits.allocator();
+        let alloc = self.matrix.alloc();
         let vars = picked(alloc, self.universals.as_slice(), &places)?;
         Ok(Vars::from_vec(vars))
     }
@@ -375,8 +345,8 @@ impl Formula {
             (λ places. places.items
             ≡ map (λ x. position_or_len (λ u. u == x) self.now.universals) xs.now) }
     {
-        let alloc = *self.lits.allocator();
-        Ok(xs.iter().map(|x| self.place(*x)).collect(alloc)?)
+        let alloc = self.matrix.alloc();
+        Ok(xs.iter().map(|x| self.place_of(*x)).collect(alloc)?)
     }
 
     // Declares an existential with this dependency set.
@@ -402,8 +372,32 @@ impl Formula {
             (self.new ≡ record self.old { matrix = self.old.matrix ++ lits.now ∷ [] }) }
         ensures err { OnErr result (self.new ≡ self.old) }
     {
-        append(&mut self.ends, &mut self.lits, lits)?;
+        self.matrix.push(lits)
+    }
+
+    /// Adds the clauses of an XOR line with these literals, one for each choice of an even number of
+    /// literals that are negated, behind those added before.
+    pub fn add_xor(&mut self, lits: &[Lit]) -> Result<(), Memory>
+        requires some { 1 ≤ length lits.now }
+        requires few { length lits.now ≤ MAX_XOR }
+        requires apart { AllPairs (λ k l. variable_of k ≢ variable_of l) lits.now }
+        requires in_range { All (λ l. variable_of l ≤ self.old.variables) lits.now }
+        requires few_clauses { length self.old.matrix + length (xor_clauses lits.now)
+            ≤ MAX_CLAUSES }
+        ensures ok { OnOk result
+            (self.new ≡ record self.old { matrix = self.old.matrix ++ xor_clauses lits.now }) }
+        ensures err { OnErr result (self.new ≡ self.old) }
+    {
+        self.matrix.push_xor(lits)?;
         Ok(())
+    }
+
+    /// Makes room for so many clauses more, with so many literals in all, so that where memory is
+    /// wanting it shows here.
+    pub fn reserve(&mut self, clauses: usize, literals: usize) -> Result<(), Memory>
+        ensures { self.new ≡ self.old }
+    {
+        self.matrix.reserve(clauses, literals)
     }
 
     /// Declares each variable that occurs in a clause and is undeclared as an existential that
@@ -424,26 +418,48 @@ impl Formula {
     fn free_variables(&self) -> Result<Vec<u64>, Memory>
         ensures { IfOk result (λ free. free.items ≡ free_variables self.now) }
     {
-        let mut free = self.undeclared(&self.lits)?;
+        let undeclared = self.undeclared()?;
+        let mut free = Vec::from_slice(self.matrix.alloc(), undeclared.as_slice())?;
         free.sort_unstable();
-        free.dedup();
         Ok(free)
     }
 
-    // The variables of those literals that stand on an undeclared one, in their order.
-    fn undeclared(&self, lits: &[Lit]) -> Result<Vec<u64>, Memory>
-        ensures kept { IfOk result
-            (λ vars. vars.items
-            ≡ filter (λ v. not (is_declared self.now v)) (map variable_of lits.now)) }
-        ensures from_one { IfOk result (λ vars. All (λ v. 1 ≤ v) vars.items) }
+    // The variables that occur undeclared, each once.
+    fn undeclared(&self) -> Result<IndexSet<u64>, Memory>
+        ensures { IfOk result (λ vars. AreUndeclaredIn self.now self.now.matrix vars.keys) }
     {
-        let mut vars = Vec::new(*self.lits.allocator());
-        for lit in lits {
-            let v = lit.var();
-            if !self.is_declared(v) {
-                vars.push(v)?;
-            }
+        self.every_formula_is_lawful();
+        let mut vars = IndexSet::new(self.matrix.alloc());
+        for j in 0..self.clauses() {
+            self.add_undeclared(self.clause(j), &mut vars)?;
         }
         Ok(vars)
+    }
+
+    // Adds the undeclared variables of a clause to those of earlier ones.
+    fn add_undeclared(&self, clause: &[Lit], vars: &mut IndexSet<u64>) -> Result<(), Memory>
+        requires { All (λ l. variable_of l ≤ self.now.variables) clause.now }
+        ensures { (earlier : List (List Literal)) → AreUndeclaredIn self.now earlier vars.old.keys
+            → OnOk result
+            (AreUndeclaredIn self.now (earlier ++ clause.now ∷ []) vars.new.keys) }
+    {
+        for lit in clause {
+            self.add_if_undeclared(*lit, vars)?;
+        }
+        Ok(())
+    }
+
+    fn add_if_undeclared(&self, lit: Lit, vars: &mut IndexSet<u64>) -> Result<(), Memory>
+        requires { variable_of lit ≤ self.now.variables }
+        ensures { (clauses : List (List Literal)) (clause : List Literal)
+            → AreUndeclaredIn self.now (clauses ++ clause ∷ []) vars.old.keys → OnOk result
+            (AreUndeclaredIn self.now (clauses ++ (clause ++ lit ∷ []) ∷ []) vars.new.keys) }
+    {
+        let v = lit.var();
+        if self.is_declared(v) {
+            return Ok(());
+        }
+        vars.insert(v)?;
+        Ok(())
     }
 }

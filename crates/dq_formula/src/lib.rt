@@ -5,9 +5,17 @@
 #![tactic(auto)]
 
 pub use dependencies::{Deps, Vars};
-pub use formula::{Formula, MAX_CLAUSES, MAX_VARIABLES};
+pub use formula::{Formula, MAX_CLAUSES, MAX_VARIABLES, MAX_XOR};
+pub use laws::xor_clauses_are_exact;
 pub use rules::Rule;
+pub use sets::is_subset;
 
+mod blocks;
 mod dependencies;
 mod formula;
+mod laws;
+mod leaders;
+mod matrix;
 mod rules;
+mod sets;
+mod xors;

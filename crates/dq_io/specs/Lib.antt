@@ -1,5 +1,6 @@
 pub mod Causes
 pub mod Failures
+pub mod Feeding
 pub mod Files
 pub mod Memory
 pub mod Real

@@ -47,6 +47,17 @@ impl From<Failed> for ReadStop {
     }
 }
 
+/// Why a file wasn't fed to its end.
+#[derive(Clone, Copy, Debug, PartialEq, Eq, Error)]
+pub enum FeedStop {
+    /// The files counted a fault.
+    #[error("the file can't be read")]
+    Fault,
+    /// The file gave more bytes than the limit.
+    #[error("the file is too long")]
+    TooLong,
+}
+
 /// A sink counted a fault before it had taken all bytes.
 #[derive(Clone, Copy, Debug, PartialEq, Eq, Error)]
 #[error("the output can't be written")]

@@ -2,11 +2,12 @@
 //!
 //! Code that reads or writes is generic over the traits `Files` and `Sink`. Their clauses say which
 //! bytes go where, for objects that tell, and that each failure has a counted fault behind it.
-//! `read_all` and `write_all` do the loops. `MemFiles` and `MemSink` fail at given calls,
+//! `read_all`, `feed_all` and `write_all` do the loops. `MemFiles` and `MemSink` fail at given calls,
 //! `NeverFailFiles` and `NeverFailSink` never do, and `RealFiles` and `RealSink` are the system's.
 #![tactic(auto)]
 
-pub use errors::{Failed, ReadStop, SinkFault};
+pub use errors::{Failed, FeedStop, ReadStop, SinkFault};
+pub use feeding::{Feed, feed_all};
 pub use files::Files;
 pub use memory_files::MemFiles;
 pub use memory_sink::MemSink;
@@ -18,6 +19,7 @@ pub use writing::write_all;
 
 mod errors;
 mod failures;
+mod feeding;
 mod files;
 mod memory_files;
 mod memory_sink;

@@ -1,8 +1,13 @@
 mod TokenCuts
 mod FirstLine
+mod JoinedLines
+mod KeptBytes
 pub mod LineWords
 mod LongestRuns
 pub mod Naturals
 pub mod Numerals
+mod PiecedLines
+mod PiecedTokens
 mod ShortNumbers
 mod TokenLines
+mod WholeTokens

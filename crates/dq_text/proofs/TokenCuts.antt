@@ -18,7 +18,7 @@ use Rattle.dq_text.specs.declared.cursors.LinePlace.TheVariants.{LineStart, InLi
 abbrev pub run : List ℕ → ℕ
 run bytes = position_or_len (λ byte. is_separator (kind_of byte)) bytes
 
-run-none : (bytes : List ℕ) → goes_on bytes ≡ false → run bytes ≡ 0
+pub run-none : (bytes : List ℕ) → goes_on bytes ≡ false → run bytes ≡ 0
 run-none [] h = refl
 run-none (byte ∷ bytes) h = ap (λ b. cond b (1 + run bytes) 0) h
 
@@ -64,7 +64,7 @@ put_run byte line at bytes more =
           ∙ ap (λ k. cut_at (suc k) line at (byte ∷ bytes)) (sym none)
     ]
 
-run-more : (byte : ℕ) (bytes : List ℕ) → is_separator (kind_of byte) ≡ false → run (byte ∷ bytes) ≡ suc (run bytes)
+pub run-more : (byte : ℕ) (bytes : List ℕ) → is_separator (kind_of byte) ≡ false → run (byte ∷ bytes) ≡ suc (run bytes)
 run-more byte bytes h = let next : 1 + run bytes ≡ suc (run bytes) = omega arith in ap (λ b. cond (not b) (1 + run bytes) 0) h ∙ next
 
 -- in a line, the bytes up to the first separator are the first token
@@ -76,7 +76,7 @@ cut_in_line (byte ∷ bytes) line at h =
     ∙ put_run byte line at bytes (λ goes. cut_in_line bytes line (at + 1) goes)
     ∙ ap (λ k. cut_at k line at (byte ∷ bytes)) (sym (run-more byte bytes visible))
 
-token_byte_visible : (kind : ByteKind) (place : LinePlace) → is_in_token kind place ≡ true → is_separator kind ≡ false
+pub token_byte_visible : (kind : ByteKind) (place : LinePlace) → is_in_token kind place ≡ true → is_separator kind ≡ false
 token_byte_visible Blank place h = cc
 token_byte_visible LineFeed place h = cc
 token_byte_visible LetterC place h = refl

@@ -2,11 +2,14 @@ pub mod BlankLine
 pub mod Bytes
 pub mod Cursor
 pub mod Line
+pub mod LinePieces
 pub mod LinesInside
 pub mod LongestRuns
 pub mod Number
 pub mod NumberedTokens
+pub mod Pieces
 pub mod ShortNumber
+pub mod Summary
 pub mod TextLine
 pub mod Token
 pub mod TokensInside

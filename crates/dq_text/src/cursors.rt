@@ -27,7 +27,8 @@ pub struct Cursor<'a> {
     pub place: LinePlace,
 }
 
-fn next_place(kind: ByteKind, place: LinePlace) -> LinePlace
+/// Where the byte behind one of this kind stands.
+pub fn next_place(kind: ByteKind, place: LinePlace) -> LinePlace
     ensures { result ≡ place_after kind place }
 {
     match (kind, place) {
@@ -39,7 +40,8 @@ fn next_place(kind: ByteKind, place: LinePlace) -> LinePlace
     }
 }
 
-fn is_token_byte(kind: ByteKind, place: LinePlace) -> bool
+/// Whether a byte of this kind belongs to a token here.
+pub fn is_token_byte(kind: ByteKind, place: LinePlace) -> bool
     ensures { result ≡ is_in_token kind place }
 {
     match (kind, place) {

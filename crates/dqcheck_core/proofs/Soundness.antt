@@ -87,20 +87,22 @@ true_is_no_refutation : (f : Dqbf) (read : Result Dqr CertRefusal) → ValidTrue
 true_is_no_refutation f (Ok d) same = true_is_no_derivation (refutation_fault f d) same
 true_is_no_refutation f (Err refusal) same = true_is_no_refusal refusal.line (Text refusal.name) same
 
-circuit_by_kind : TestsLaw → (kind : Result Kind CertRefusal) (f : Dqbf) (text : List ℕ) → IsWellFormed f → IsJudgementOf f text kind ValidTrue → HoldsSkolemCircuit f text
-circuit_by_kind law (Ok (CircuitText at h)) f text formed (inl r) = absurd (true_is_no_refusal r.fault.line (Circuit r.fault.name) r.is)
-circuit_by_kind law (Ok (CircuitText at h)) f text formed (inr r) = record {
+circuit_by_kind : TestsLaw → (kind : Result Kind CertRefusal) (f : Dqbf) (text : List ℕ) → certificate_kind text ≡ kind → IsWellFormed f → IsJudgementOf f text kind ValidTrue → HoldsSkolemCircuit f text
+circuit_by_kind law (Ok (CircuitText at h)) f text is formed (inl r) = absurd (true_is_no_refusal r.fault.line (Circuit r.fault.name) r.is)
+circuit_by_kind law (Ok (CircuitText at h)) f text is formed (inr r) = record {
   at = at;
+  header_line = h;
+  kind = is;
   file = r.file;
   spelled = r.spelled;
   skolem = true_by_proof law f r.file.circuit r.file.symbols formed r.spelled.lawful (spelled_complete (drop at text) r.file r.spelled) h
       (proof_in f h (line_ends (drop at text)) r.file.circuit r.file.comment) r.is;
 }
-circuit_by_kind law (Ok (Refutation at h)) f text formed r = absurd (true_is_no_refutation f (refutation_of f (drop at text) h) r)
-circuit_by_kind law (Err refusal) f text formed r = absurd (true_is_no_refusal refusal.line (Text refusal.name) r)
+circuit_by_kind law (Ok (Refutation at h)) f text is formed r = absurd (true_is_no_refutation f (refutation_of f (drop at text) h) r)
+circuit_by_kind law (Err refusal) f text is formed r = absurd (true_is_no_refusal refusal.line (Text refusal.name) r)
 
 pub accepted_circuit : TestsLaw → (f : Dqbf) (text : List ℕ) → IsWellFormed f → IsJudgement f text ValidTrue → HoldsSkolemCircuit f text
-accepted_circuit law f text formed r = circuit_by_kind law (certificate_kind text) f text formed r
+accepted_circuit law f text formed r = circuit_by_kind law (certificate_kind text) f text refl formed r
 
 pub accepted_is_true : TestsLaw → (f : Dqbf) (text : List ℕ) → IsWellFormed f → IsJudgement f text ValidTrue → IsTrueFormula f
 accepted_is_true law f text formed r =

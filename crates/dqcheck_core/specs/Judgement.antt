@@ -155,9 +155,12 @@ IsJudgementOf f text (Err refusal) answer = answer ≡ Refused refusal.line (Tex
 abbrev pub IsJudgement : Dqbf → List ℕ → Answer → Type 0
 IsJudgement f text answer = IsJudgementOf f text (certificate_kind text) answer
 
--- the text spells, behind its first lines, a circuit that is made of Skolem functions
+-- the text is a circuit's by its first lines, and spells behind these one that is made of Skolem
+-- functions
 pub record HoldsSkolemCircuit (f : Dqbf) (text : List ℕ) : Type 0 where
   pub at : ℕ
+  pub header_line : ℕ
+  pub kind : certificate_kind text ≡ Ok (CircuitText at header_line)
   pub file : AagFile
   pub spelled : SpellsCircuit (drop at text) file
   pub skolem : IsSkolemCircuit f file.circuit file.symbols

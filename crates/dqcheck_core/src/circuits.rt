@@ -54,7 +54,7 @@ pub fn judge_circuit(
     let read = aiger_text::read(alloc, bytes, first);
     drop(text);
     match read {
-        Ok(file) => judge_file(alloc, f, first, ends, file),
+        Ok(read) => judge_file(alloc, f, first, ends, read.file),
         Err(stop) => stopped(stop),
     }
 }

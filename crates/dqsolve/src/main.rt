@@ -2,25 +2,8 @@
 //! certificate, and ends with its status.
 #![tactic(auto)]
 
-use dq_io::{RealFiles, RealSink};
-use dqsolve_core::{Status, dqsolve_run};
-use hint_log::Log;
 use std::process::ExitCode;
-use std::{env, io};
 
 fn main(rt: HostRuntime) -> ExitCode {
-    let mut files = RealFiles::new(&rt);
-    let mut out = RealSink::new(&rt);
-    let mut log = Log::new(rt.alloc(), 0);
-    let status = match words(&rt) {
-        Ok(words) => dqsolve_run(rt.alloc(), &words, &mut files, &mut out, &mut log),
-        Err(error) if error.kind() == io::ErrorKind::OutOfMemory => Status::WantOfMemory.code(),
-        Err(_) => dqsolve_run(rt.alloc(), &[], &mut files, &mut out, &mut log),
-    };
-    ExitCode::from(status)
-}
-
-// The words of the command line, the program's name first.
-fn words(rt: &HostRuntime) -> io::Result<Vec<String>> {
-    Ok(env::args(rt)?.collect(rt.alloc())?)
+    dqsolve_program::run(&rt)
 }

@@ -1,5 +1,6 @@
 -- From what the search and the exports answer to a verdict's output.
 use Rattle.std.proofs.Common.{◌≡◌, ◌+◌, ◌-◌, ◌≤◌, ℕ, Bool, sym, ap, subst, arith, List, length, None, Result, Ok, Err}
+use Rattle.std.specs.List.{range_with_len}
 use Rattle.dq_lits.specs.Expansion.{IsExpansionUnsatisfiable}
 use Rattle.dq_lits.specs.Formula.{Dqbf}
 use Rattle.dq_lits.specs.Henkin.{IsTrueFormula, IsFalseFormula}
@@ -11,6 +12,7 @@ use Rattle.hint_log.specs.Deciding.{IsUndecided}
 use Rattle.hint_log.specs.Entries.{Entry, ProofLog, count, rounds_of, steps_of}
 use Rattle.hint_log.specs.Naming.{rows_of}
 use Rattle.hint_log.specs.ProductiveLog.{IsProductiveLog}
+use Rattle.hint_log.specs.Reached.{AreReached}
 use Rattle.hint_log.specs.declared.stops.Stop.{Stop}
 use Rattle.aiger_text.specs.declared.files.AagFile.{AagFile}
 use Rattle.cert_text.specs.Grammar.{IsDqrOf}
@@ -18,10 +20,14 @@ use Rattle.cert_text.specs.Header.{max_count}
 use Rattle.cert_text.specs.ProofGrammar.{IsDqpOf}
 use Rattle.cert_text.specs.declared.circuit_proofs.Dqp.{Dqp}
 use Rattle.cert_text.specs.declared.refutations.Dqr.{Dqr}
-use Rattle.cert_export.specs.ExportedCircuit.{IsDecidedTrue, IsProvedCircuit, IsWritable, is_gate_name}
+use Rattle.cert_export.specs.Exportable.{AreExportedSteps}
+use Rattle.cert_export.specs.ExportedCircuit.{IsDecidedTrue, IsNumberedFile, IsWritable, is_gate_name}
 use Rattle.cert_export.specs.Lines.{is_lemma}
+use Rattle.cert_export.specs.Parts.{IsExportedCircuit}
+use Rattle.proof_checker.specs.ProvedCircuit.{IsProvedCircuit}
 use Rattle.refutation_checker.specs.Refutation.{refutation_fault}
-use Rattle.repair_loop.specs.Searching.{IsShownTrue as IsFoundTrue}
+use Rattle.repair_loop.specs.Searching.{IsShownTrue as IsFoundTrue, IsShownFalse as IsFoundFalse}
+use Rattle.repair_loop.specs.Stopping.{IsStoppedAtLimit}
 use Rattle.dqsolve_core.specs.Accepted.{ProvedCircuitsAreAccepted, RefutationsAreAccepted, SmallLogsAreWithinLimits}
 use Rattle.dqsolve_core.specs.Outputs.{IsVerdictOutput}
 use Rattle.dqsolve_core.specs.Report.{is_unknown, verdict_text}
@@ -55,53 +61,57 @@ decided law f graph nodes log id s = record {
 }
 
 -- what the export of a circuit gives
-pub record IsExportedCircuit (f : Dqbf) (entries : List Entry) (file : AagFile) (proof : Dqp) : Type 0 where
+pub record IsWrittenCircuit (f : Dqbf) (entries : List Entry) (id : ℕ) (file : AagFile) (proof : Dqp) : Type 0 where
   pub proved : IsProvedCircuit f file proof
   pub gates : length file.circuit.gates ≤ count is_gate_name entries
-  pub numbers : file.circuit.max_var ≡ length f.universals + length file.circuit.gates
+  pub numbers : IsNumberedFile f file
   pub few : length proof.steps ≤ count is_lemma entries
   pub spelled : IsWritable file
   pub allowed : length proof.steps ≤ max_count → IsDqpOf f file.circuit proof
+  pub exported : (ids : List ℕ) × IsExportedCircuit f entries id ids file proof
 
-pub shown_true : ProvedCircuitsAreAccepted → SmallLogsAreWithinLimits → (f : Dqbf) (log : ProofLog) (bare : Bool) (file : AagFile) (proof : Dqp)
-    → IsLawful f → IsTrueFormula f → IsExportedCircuit f log.entries file proof → IsShownTrue f log bare file proof
-shown_true accepted within f log bare file proof lawful is_so e = record {
+pub shown_true : ProvedCircuitsAreAccepted → SmallLogsAreWithinLimits → (f : Dqbf) (log : ProofLog) (id : ℕ) (bare : Bool) (file : AagFile) (proof : Dqp)
+    → IsLawful f → IsTrueFormula f → IsDecidedTrue f log.entries id → IsWrittenCircuit f log.entries id file proof → IsShownTrue f f log bare file proof
+shown_true accepted within f log id bare file proof lawful is_so decided e = record {
   true_formula = is_so;
   circuit = e.proved;
+  answered = (id, decided);
+  exported = λ _. record { id = id; decided = decided; ids = e.exported.0; exported = e.exported.1; circuit = e.proved; numbers = e.numbers };
   accepted = accepted f file proof bare e.proved e.spelled e.allowed;
-  within = within f log.entries file proof lawful e.gates e.numbers e.few;
+  within = λ _. within f log.entries file proof lawful e.gates e.numbers.max_var e.few;
 }
 
 -- what the export of a refutation gives
-pub record IsExportedRefutation (f : Dqbf) (entries : List Entry) (d : Dqr) : Type 0 where
+pub record IsWrittenRefutation (f : Dqbf) (entries : List Entry) (id : ℕ) (d : Dqr) : Type 0 where
   pub rows : d.rows ≡ rows_of entries
   pub accepted : refutation_fault f d ≡ None
   pub few : length d.steps ≤ count is_lemma entries
   pub spelled : length d.steps ≤ max_count → IsDqrOf f d
+  pub lines : (ids : List ℕ) × AreReached entries id ids × AreExportedSteps f (range_with_len 1 (length f.matrix)) entries ids d.steps
 
 few_lines : (entries : List Entry) (steps : ℕ) → steps ≤ count is_lemma entries → length entries ≤ few_entries → steps ≤ max_count
 few_lines entries steps few small = let all = count_few is_lemma entries in omega (arith, few, small, all)
 
-pub shown_false : RefutationsAreAccepted → (f : Dqbf) (log : ProofLog) (bare : Bool) (d : Dqr)
-    → IsLawful f → IsFalseFormula f → IsExpansionUnsatisfiable f (rows_of log.entries) → IsExportedRefutation f log.entries d → IsShownFalse f log bare d
-shown_false accepted f log bare d lawful is_so none e = record {
+pub shown_false : RefutationsAreAccepted → (f : Dqbf) (log : ProofLog) (id : ℕ) (bare : Bool) (d : Dqr)
+    → IsLawful f → IsFalseFormula f → IsFoundFalse f log id → IsWrittenRefutation f log.entries id d → IsShownFalse f f log bare d
+shown_false accepted f log id bare d lawful is_so found e = record {
   false_formula = is_so;
-  rows = e.rows;
-  unsatisfiable = subst (IsExpansionUnsatisfiable f) (sym e.rows) none;
+  unsatisfiable = subst (IsExpansionUnsatisfiable f) (sym e.rows) found.unsatisfiable;
   refutes = e.accepted;
+  exported = λ _. record { id = id; refuted = found.shown; ids = e.lines.0; reached = e.lines.1; lines = e.lines.2; rows = e.rows };
   accepted = λ few. accepted f d bare lawful (e.spelled few) e.accepted;
-  within = few_lines log.entries (length d.steps) e.few;
+  within = λ _. few_lines log.entries (length d.steps) e.few;
 }
 
 -- where the limit came first
 pub unknown : (f : Dqbf) (log : ProofLog) (bare : Bool) (rounds steps : ℕ) (output : Output) → IsProductiveLog f log.entries → IsUndecided f log.entries
-    → steps_of log.entries ≡ log.limit → rounds_of log.entries ≤ steps_of log.entries → rounds ≡ rounds_of log.entries → steps ≡ steps_of log.entries
+    → IsStoppedAtLimit f log → rounds_of log.entries ≤ steps_of log.entries → rounds ≡ rounds_of log.entries → steps ≡ steps_of log.entries
     → code output.status ≡ 0 → output.text.items ≡ verdict_text bare f (is_unknown rounds (steps - rounds)) → IsVerdictOutput f log bare output
-unknown f log bare rounds steps output productive undecided limit fewer rounds_are steps_are status text = record {
+unknown f log bare rounds steps output productive undecided stopped fewer rounds_are steps_are status text = record {
   verdict = is_unknown rounds (steps - rounds);
   is = record {
     productive = productive;
-    shown = record { limit = limit; undecided = undecided; rounds_are = rounds_are; steps_are = omega (arith, fewer, rounds_are, steps_are) };
+    shown = record { limit = stopped.reached; next = stopped.next; undecided = undecided; rounds_are = rounds_are; steps_are = omega (arith, fewer, rounds_are, steps_are) };
   };
   status = status;
   text = text;

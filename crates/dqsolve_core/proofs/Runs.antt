@@ -53,11 +53,11 @@ verdict_due before now log c f (Err _) one picked limit v = tt
 -- ---- what a told file gives
 
 solved_as : (f : Dqbf) (log : ProofLog) (c : Search) (bare : Bool) (before now : Option (List ℕ)) (output : Output) (v : Verdict) → bare ≡ c.bare → log.limit ≡ c.steps
-    → IsVerdict f log bare v → code output.status ≡ verdict_status v → now ≡ append_known before (verdict_text bare f v) → IsSolved f log c before now (code output.status)
+    → IsVerdict f f log bare v → code output.status ≡ verdict_status v → now ≡ append_known before (verdict_text bare f v) → IsSolved f log c before now (code output.status)
 solved_as f log c bare before now output v same limit shown status written = record {
   verdict = v;
   limit = limit;
-  is = subst (λ b. IsVerdict f log b v) same shown;
+  is = subst (λ b. IsVerdict f f log b v) same shown;
   ends_with = status;
   written = written ∙ ap (λ b. append_known before (verdict_text b f v)) same;
 }

@@ -10,8 +10,9 @@ use Rattle.cert_text.specs.Header.{max_count}
 use Rattle.cert_text.specs.ProofGrammar.{IsDqpOf}
 use Rattle.cert_text.specs.declared.circuit_proofs.Dqp.{Dqp}
 use Rattle.cert_text.specs.declared.refutations.Dqr.{Dqr}
-use Rattle.cert_export.specs.ExportedCircuit.{IsProvedCircuit, IsWritable, is_gate_name}
+use Rattle.cert_export.specs.ExportedCircuit.{IsWritable, is_gate_name}
 use Rattle.cert_export.specs.Lines.{is_lemma}
+use Rattle.proof_checker.specs.ProvedCircuit.{IsProvedCircuit}
 use Rattle.refutation_checker.specs.Refutation.{refutation_fault}
 use Rattle.dqcheck_core.specs.Judgement.{IsJudgement}
 use Rattle.dqcheck_core.specs.declared.answers.Answer.TheVariants.{ValidTrue, ValidFalse}

@@ -29,7 +29,7 @@ pub record IsOutputDue (before now : FilesState) (log : ProofLog) (command : Opt
 pub record IsVerdictOutput (f : Dqbf) (log : ProofLog) (bare : Bool)
     (output : Output) : Type 0 where
   pub verdict : Verdict
-  pub is : IsVerdict f log bare verdict
+  pub is : IsVerdict f f log bare verdict
   pub status : code output.status ≡ verdict_status verdict
   pub text : output.text.items ≡ verdict_text bare f verdict
 
@@ -37,7 +37,7 @@ pub record IsVerdictOutput (f : Dqbf) (log : ProofLog) (bare : Bool)
 pub record IsTrueText (f : Dqbf) (log : ProofLog) (bare : Bool) (text : List ℕ) : Type 0 where
   pub file : AagFile
   pub proof : Dqp
-  pub shown : IsShownTrue f log bare file proof
+  pub shown : IsShownTrue f f log bare file proof
   pub is : text ≡ verdict_text bare f (is_true file proof)
 
 -- the text and the status of what was shown of a planted formula

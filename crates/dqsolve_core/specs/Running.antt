@@ -28,7 +28,7 @@ IsDueFor before now log c (refused_formula fault) =
     IsFaultOf (before.held c.file) fault × PickedOnce before now
 IsDueFor before now log c (solved bare f verdict) =
     (bare ≡ c.bare) × IsFormulaOf (before.held c.file) f × (log.limit ≡ c.steps)
-    × IsVerdict f log bare verdict × PickedOnce before now
+    × IsVerdict f f log bare verdict × PickedOnce before now
 IsDueFor before now log c (demonstrated _ _ _) = ⊥
 
 -- which report is due for a planted formula, by the search's log, in the default number of steps;
@@ -102,7 +102,7 @@ pub record IsSolved (f : Dqbf) (log : ProofLog) (c : Search) (before now : Optio
     (status : ℕ) : Type 0 where
   pub verdict : Verdict
   pub limit : log.limit ≡ c.steps
-  pub is : IsVerdict f log c.bare verdict
+  pub is : IsVerdict f f log c.bare verdict
   pub ends_with : status ≡ verdict_status verdict
   pub written : now ≡ append_known before (verdict_text c.bare f verdict)
 

@@ -1,5 +1,6 @@
 -- What is shown by what is written with a verdict, and by the search's log.
-use Rattle.std.specs.Prelude.{◌≡◌, ℕ, ◌+◌, ◌<◌, ◌≤◌, Bool, false, length, None}
+use Rattle.std.specs.Prelude.{◌≡◌, ℕ, ◌+◌, ◌<◌, ◌≤◌, Bool, false, List, length, None}
+use Rattle.std.specs.List.{range_with_len}
 use Rattle.dq_lits.specs.Expansion.{IsExpansionUnsatisfiable}
 use Rattle.dq_lits.specs.Formula.{Dqbf}
 use Rattle.dq_lits.specs.Henkin.{IsTrueFormula, IsFalseFormula}
@@ -7,13 +8,19 @@ use Rattle.hint_log.specs.Deciding.{IsUndecided}
 use Rattle.hint_log.specs.Entries.{ProofLog, rounds_of, steps_of}
 use Rattle.hint_log.specs.Naming.{rows_of}
 use Rattle.hint_log.specs.ProductiveLog.{IsProductiveLog}
+use Rattle.hint_log.specs.Reached.{AreReached}
 use Rattle.aiger_text.specs.declared.files.AagFile.{AagFile}
 use Rattle.cert_text.specs.Header.{max_count}
 use Rattle.cert_text.specs.declared.circuit_proofs.Dqp.{Dqp}
 use Rattle.cert_text.specs.declared.refutations.Dqr.{Dqr}
-use Rattle.cert_export.specs.ExportedCircuit.{IsDecidedTrue, IsProvedCircuit}
+use Rattle.expansion.specs.Table.{IsRefutedBy}
+use Rattle.cert_export.specs.Exportable.{AreExportedSteps}
+use Rattle.cert_export.specs.ExportedCircuit.{IsDecidedTrue, IsNumberedFile}
+use Rattle.cert_export.specs.Parts.{IsExportedCircuit}
 use Rattle.planted_formulas.specs.Planted.{planted_formula}
+use Rattle.proof_checker.specs.ProvedCircuit.{IsProvedCircuit}
 use Rattle.refutation_checker.specs.Refutation.{refutation_fault}
+use Rattle.repair_loop.specs.Stopping.{HasNextStep}
 use Rattle.dqcheck_core.specs.Judgement.{IsJudgement}
 use Rattle.dqcheck_core.specs.declared.answers.Answer.TheVariants.{ValidTrue, ValidFalse}
 use Rattle.dqsolve_words.specs.Command.{Planting}
@@ -31,50 +38,73 @@ pub record IsWithinLimits (file : AagFile) (proof : Dqp) : Type 0 where
   pub variables : file.circuit.max_var ≤ max_count
   pub steps : length proof.steps ≤ max_count
 
--- the circuit has Skolem functions, its proof shows it, and the checker accepts what is written
--- where it is within the formats' limits
-pub record IsShownTrue (f : Dqbf) (log : ProofLog) (bare : Bool) (file : AagFile)
+-- An answer of the log decides that the formula which was searched is true, and the circuit with its
+-- proof is what is exported of it.
+pub record IsExportedOf (searched : Dqbf) (log : ProofLog) (file : AagFile)
     (proof : Dqp) : Type 0 where
-  pub true_formula : IsTrueFormula f
-  pub circuit : IsProvedCircuit f file proof
+  pub id : ℕ
+  pub decided : IsDecidedTrue searched log.entries id
+  pub ids : List ℕ
+  pub exported : IsExportedCircuit searched log.entries id ids file proof
+  pub circuit : IsProvedCircuit searched file proof
+  pub numbers : IsNumberedFile searched file
+
+-- The circuit has Skolem functions, its proof shows it, and the checker accepts what is written
+-- where it is within the formats' limits. The formula that is decided may be another than the one
+-- that was searched; where it is the same, what is written is exported of the log.
+pub record IsShownTrue (decided searched : Dqbf) (log : ProofLog) (bare : Bool) (file : AagFile)
+    (proof : Dqp) : Type 0 where
+  pub true_formula : IsTrueFormula decided
+  pub circuit : IsProvedCircuit decided file proof
+  pub answered : (id : ℕ) × IsDecidedTrue searched log.entries id
+  pub exported : decided ≡ searched → IsExportedOf searched log file proof
   pub accepted : IsWithinLimits file proof
-      → IsJudgement f (verdict_text bare f (is_true file proof)) ValidTrue
-  pub within : length log.entries ≤ few_entries → IsWithinLimits file proof
+      → IsJudgement decided (verdict_text bare decided (is_true file proof)) ValidTrue
+  pub within : decided ≡ searched → length log.entries ≤ few_entries → IsWithinLimits file proof
 
--- the instances under the rounds' rows have no model, the refutation shows it, and the checker
--- accepts what is written where it is within the formats' limits
-pub record IsShownFalse (f : Dqbf) (log : ProofLog) (bare : Bool) (d : Dqr) : Type 0 where
-  pub false_formula : IsFalseFormula f
+-- An answer of the log rests on instances of the searched formula alone, and the refutation is what
+-- is exported of it, under the rounds' rows.
+pub record IsRefutationOf (searched : Dqbf) (log : ProofLog) (d : Dqr) : Type 0 where
+  pub id : ℕ
+  pub refuted : IsRefutedBy log.entries id
+  pub ids : List ℕ
+  pub reached : AreReached log.entries id ids
+  pub lines : AreExportedSteps searched (range_with_len 1 (length searched.matrix)) log.entries
+      ids d.steps
   pub rows : d.rows ≡ rows_of log.entries
-  pub unsatisfiable : IsExpansionUnsatisfiable f d.rows
-  pub refutes : refutation_fault f d ≡ None
-  pub accepted : length d.steps ≤ max_count
-      → IsJudgement f (verdict_text bare f (is_false d)) ValidFalse
-  pub within : length log.entries ≤ few_entries → length d.steps ≤ max_count
 
--- all steps were done, each productive, and no answer decides the formula
+-- The instances under the refutation's rows have no model, the refutation shows it, and the checker
+-- accepts what is written where it is within the formats' limits.
+pub record IsShownFalse (decided searched : Dqbf) (log : ProofLog) (bare : Bool)
+    (d : Dqr) : Type 0 where
+  pub false_formula : IsFalseFormula decided
+  pub unsatisfiable : IsExpansionUnsatisfiable decided d.rows
+  pub refutes : refutation_fault decided d ≡ None
+  pub exported : decided ≡ searched → IsRefutationOf searched log d
+  pub accepted : length d.steps ≤ max_count
+      → IsJudgement decided (verdict_text bare decided (is_false d)) ValidFalse
+  pub within : decided ≡ searched → length log.entries ≤ few_entries → length d.steps ≤ max_count
+
+-- all steps were done, each productive, the next one is in hand, and no answer decides the formula
 pub record IsLimitReached (f : Dqbf) (log : ProofLog) (rounds learned : ℕ) : Type 0 where
   pub limit : steps_of log.entries ≡ log.limit
+  pub next : HasNextStep f log.entries
   pub undecided : IsUndecided f log.entries
   pub rounds_are : rounds ≡ rounds_of log.entries
   pub steps_are : rounds + learned ≡ steps_of log.entries
 
-abbrev pub IsShown : Dqbf → ProofLog → Bool → Verdict → Type 0
-IsShown f log bare (is_true file proof) = IsShownTrue f log bare file proof
-IsShown f log bare (is_false d) = IsShownFalse f log bare d
-IsShown f log bare (is_unknown rounds learned) = IsLimitReached f log rounds learned
+abbrev pub IsShown : Dqbf → Dqbf → ProofLog → Bool → Verdict → Type 0
+IsShown decided searched log bare (is_true file proof) =
+    IsShownTrue decided searched log bare file proof
+IsShown decided searched log bare (is_false d) = IsShownFalse decided searched log bare d
+IsShown decided searched log bare (is_unknown rounds learned) =
+    IsLimitReached searched log rounds learned
 
--- a verdict, which a log of productive work shows
-pub record IsVerdict (f : Dqbf) (log : ProofLog) (bare : Bool) (verdict : Verdict) : Type 0 where
-  pub productive : IsProductiveLog f log.entries
-  pub shown : IsShown f log bare verdict
-
--- an answer of the log decides that the formula is true, and a circuit with its proof is exported
--- of it
-pub record IsExportedOf (f : Dqbf) (log : ProofLog) (file : AagFile) (proof : Dqp) : Type 0 where
-  pub id : ℕ
-  pub decided : IsDecidedTrue f log.entries id
-  pub circuit : IsProvedCircuit f file proof
+-- a verdict on a formula, which a log of productive work on the formula that was searched shows
+pub record IsVerdict (decided searched : Dqbf) (log : ProofLog) (bare : Bool)
+    (verdict : Verdict) : Type 0 where
+  pub productive : IsProductiveLog searched log.entries
+  pub shown : IsShown decided searched log bare verdict
 
 -- the checker accepts the text
 pub record IsDemonstratedValid (f : Dqbf) (log : ProofLog) : Type 0 where
@@ -93,6 +123,7 @@ pub record IsDemonstratedLarge (f : Dqbf) (log : ProofLog) : Type 0 where
 
 pub record IsCutOff (f : Dqbf) (log : ProofLog) : Type 0 where
   pub limit : steps_of log.entries ≡ log.limit
+  pub next : HasNextStep f log.entries
   pub undecided : IsUndecided f log.entries
 
 abbrev pub IsDemonstrated : Dqbf → ProofLog → Demonstration → Type 0

@@ -8,13 +8,13 @@ ghost use Rattle.hint_log.specs.Entries.{steps_of};
 ghost use Rattle.dqdimacs_reader.specs.Grammar.{SpellsFormula};
 ghost use Rattle.dqcheck_core.specs.Running.{max_formula};
 ghost use Rattle.cert_text.specs.Header.{max_count};
-ghost use Rattle.dqsolve_words.specs.Command.{Planting, solve, demo, command_of, most_seed, least_size, most_size, default_steps};
+ghost use Rattle.dqsolve_words.specs.Command.{Command, Planting, solve, demo, command_of, most_seed, least_size, most_size, default_steps};
 ghost use Rattle.dqsolve_words.specs.Words.{search_of, planting_of};
 ghost use Rattle.hint_log.specs.ProductiveLog.{IsProductiveLog};
 ghost use Rattle.planted_formulas.specs.Planted.{planted_formula};
 ghost use Rattle.dqsolve_core.specs.Outputs.{IsOutputDue, IsDemoOutput};
 ghost use Rattle.dqsolve_core.specs.Report.{is_verdict_status};
-ghost use Rattle.dqsolve_core.specs.Running.{Ends, IsRunLog, IsTold, IsSolved, IsSolution, IsDemonstratedRun};
+ghost use Rattle.dqsolve_core.specs.Running.{Ends, IsRunLog, IsTold, IsSolved, IsSolution, IsDemonstratedRun, steps_asked};
 ghost use Rattle.dqsolve_core.specs.Statuses.{code};
 
 use crate::demonstrations::demonstrate;
@@ -60,6 +60,8 @@ pub fn dqsolve_run<F: Files, K: Sink>(
         (K.taken out.old) (K.taken out.new) result }
     ensures log { IsRunLog (state_of F.Files files.old) (command_of (map string_bytes words.now))
         log.new }
+    ensures limit { (c : Command) → command_of (map string_bytes words.now) ≡ Some c → result ≢ 5
+        → log.new.limit ≡ steps_asked c }
 
     // Over a file that is told: a verdict is right, and where nothing failed, there is one.
     ensures right { (formula : List ℕ)
@@ -114,6 +116,8 @@ fn report<F: Files>(
         (command_of (map string_bytes words.now))) }
     ensures log { IsRunLog (state_of F.Files files.old) (command_of (map string_bytes words.now))
         log.new }
+    ensures limit { IfOk result (λ _. (c : Command)
+        → command_of (map string_bytes words.now) ≡ Some c → log.new.limit ≡ steps_asked c) }
     ensures long { IfOk result (λ output. code output.status ≡ 6
         → max_formula < F.given files.new) }
     ensures unfaulted { IfOk result (λ output. code output.status ≢ 3
@@ -157,6 +161,7 @@ fn report_file<F: Files>(
         (Some (solve (search_of asked.entry)))) }
     ensures log { IsRunLog (state_of F.Files files.old)
         (Some (solve (search_of asked.entry))) log.new }
+    ensures limit { log.new.limit ≡ asked.entry.steps }
     ensures long { IfOk result (λ output. code output.status ≡ 6
         → max_formula < F.given files.new) }
     ensures unfaulted { IfOk result (λ output. code output.status ≢ 3

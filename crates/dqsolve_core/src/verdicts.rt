@@ -4,13 +4,13 @@ ghost use Rattle.std.specs.Prelude.{◌≡◌, ◌≤◌, ◌++◌, ℕ, [], len
 ghost use Rattle.dq_lits.specs.Formula.{IsWellFormed};
 ghost use Rattle.dq_lits.specs.Henkin.{IsTrueFormula};
 ghost use Rattle.hint_log.specs.Deciding.{IsUndecided};
-ghost use Rattle.hint_log.specs.Entries.{steps_of};
 ghost use Rattle.hint_log.specs.ProductiveLog.{IsProductiveLog};
 ghost use Rattle.aiger_text.specs.Canonical.{canonical_circuit};
 ghost use Rattle.cert_text.specs.Header.{max_count};
 ghost use Rattle.cert_export.specs.ExportedCircuit.{IsDecidedTrue};
 ghost use Rattle.dqcheck_core.specs.Report.{line};
 ghost use Rattle.repair_loop.specs.Searching.{IsShownFalse};
+ghost use Rattle.repair_loop.specs.Stopping.{IsStoppedAtLimit};
 ghost use Rattle.dqsolve_core.specs.Outputs.{IsVerdictOutput, IsTrueText};
 ghost use Rattle.dqsolve_core.specs.Report.{with_proof, counts_text};
 
@@ -22,7 +22,8 @@ use crate::statuses::Status;
 use aig_graph::Graph;
 use aiger_text::{AagFile, Text};
 use cdcl_core::Cdcl;
-use cert_export::{export_false, export_true};
+use cert_export::laws::productive_answers_can_be_exported;
+use cert_export::{clause_numbers, export_false, export_true};
 use cert_text::{Dqp, write_dqp, write_dqr};
 use circuit_cnf::laws::shown_outputs_decide;
 use dq_formula::Formula;
@@ -77,7 +78,7 @@ pub(crate) fn search<O: Oracle>(
         → IsDecidedTrue f.now log.new.entries id }
     ensures refuted { (id : ℕ) → result ≡ Ok (Found.Refuted id) → IsShownFalse f.now log.new id }
     ensures undecided { OnErr result (IsUndecided f.now log.new.entries) }
-    ensures limit { IsErrOf result Stop.Limit → steps_of log.new.entries ≡ log.new.limit }
+    ensures limit { IsErrOf result Stop.Limit → IsStoppedAtLimit f.now log.new }
 {
     shown_outputs_decide();
     skolem_functions_show_true();
@@ -118,6 +119,8 @@ pub(crate) fn true_text(
     ensures { IfOk result (λ text. IsTrueText f.now log.now bare text.items) }
 {
     f.every_formula_is_lawful();
+    log.every_log_is_lawful();
+    productive_answers_can_be_exported();
     proved_circuits_are_accepted();
     small_logs_are_within_limits();
     let (file, proof) = export_true(alloc, log, id, f)?;
@@ -150,9 +153,12 @@ fn false_output(
     ensures { IfOk result (IsVerdictOutput f.now log.now bare) }
 {
     f.every_formula_is_lawful();
+    log.every_log_is_lawful();
+    productive_answers_can_be_exported();
     refutations_are_accepted();
     refutation_shows_false();
-    let refutation = export_false(alloc, log, id, f)?;
+    let numbers = clause_numbers(alloc, f)?;
+    let refutation = export_false(alloc, log, id, f, &numbers)?;
     let evidence = write_dqr(alloc, &refutation, f)?;
     let text = with_verdict(alloc, "s FALSE\n", bare, evidence)?;
     Ok(Output {
@@ -165,7 +171,7 @@ fn false_output(
 fn unknown_output(alloc: Global, log: &Log, f: &Formula, bare: bool) -> Result<Output, Memory>
     requires productive { IsProductiveLog f.now log.now.entries }
     requires undecided { IsUndecided f.now log.now.entries }
-    requires limit { steps_of log.now.entries ≡ log.now.limit }
+    requires limit { IsStoppedAtLimit f.now log.now }
     ensures { IfOk result (IsVerdictOutput f.now log.now bare) }
 {
     rounds_are_steps();

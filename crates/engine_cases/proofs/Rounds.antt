@@ -4,7 +4,7 @@ use Rattle.dq_lits.specs.Formula.{Dqbf, IsWellFormed}
 use Rattle.hint_log.specs.Entries.{Entry, Round, ProofLog, with_entry, rounds_of}
 use Rattle.hint_log.specs.Growth.{Grew}
 use Rattle.hint_log.specs.Naming.{rows_of}
-use Rattle.hint_log.specs.ProductiveLog.{fault_groups}
+use Rattle.hint_log.specs.ProductiveLog.{fault_groups, fault_room}
 use Rattle.log_laws.specs.Engines.{instances, IsAddedBy, EnginesLeaveRest}
 use Rattle.expansion.specs.Table.{TableState, IsTable, IsFullTable}
 use Rattle.expansion.specs.Standing.{RoundsLeaveTables}
@@ -44,10 +44,10 @@ begun law f well t old new empty grew table rows =
 
 -- what a turn that failed leaves, once its round is logged
 pub turn_failed : CheckersStayWithRounds → (f : Dqbf) (graph : AigGraph) (c : Checker) (old new : ProofLog) (row values : List Bool) (j : ℕ) → graph.inputs ≡ length f.universals
-    → IsChecker f c old.entries → length (fault_groups old.entries) ≤ rounds_of old.entries + 1 → new ≡ with_entry old (Round row values j) → IsOpen f graph c new.entries
+    → IsChecker f c old.entries → length (fault_groups old.entries) ≤ fault_room old.entries → new ≡ with_entry old (Round row values j) → IsOpen f graph c new.entries
 turn_failed law f graph c old new row values j inputs checker few is =
     let here : IsOpen f graph c (Round row values j ∷ old.entries) =
-    record { inputs = inputs; checked = law f c old.entries row values j checker; faults = few } in
+    record { inputs = inputs; checked = law f c old.entries row values j checker; faults = omega (arith, few) } in
     subst (λ (l : ProofLog). IsOpen f graph c l.entries) (sym is) here
 
 pub checker_begun : (f : Dqbf) (graph : AigGraph) (c : Checker) (old new : ProofLog) → graph.inputs ≡ length f.universals → old.entries ≡ [] → IsChecker f c new.entries

@@ -114,8 +114,8 @@ pub fn push_variable(alloc: Global, y: u64, printed: &mut String) -> Result<()> 
     Ok(())
 }
 
-// The universals, and then the existentials, in order of declaration.
-fn variables(alloc: Global, f: &Formula) -> Result<Vec<u64>> {
+/// The universals, and then the existentials, in order of declaration.
+pub fn variables(alloc: Global, f: &Formula) -> Result<Vec<u64>> {
     let mut variables = Vec::from_slice(alloc, f.universals())?;
     variables.extend_from_slice(f.existentials())?;
     Ok(variables)

@@ -11,7 +11,8 @@ use crate::scans::compare_refutation;
 use aig_graph::Graph;
 use anyhow::{Result, anyhow};
 use cdcl_core::Cdcl;
-use cert_export::export_false;
+use cert_export::laws::productive_answers_can_be_exported;
+use cert_export::{clause_numbers, export_false};
 use cert_text::write_dqr;
 use dq_formula::Formula;
 use dqcheck_core::{Answer, judge};
@@ -109,7 +110,10 @@ fn certificate(alloc: Global, f: &Formula, log: &Log, id: u64) -> Result<Vec<u8>
     requires refuted { IsRefutedBy log.now.entries id }
     requires limit { log.now.limit ≤ max_count }
 {
-    let refutation = export_false(alloc, log, id, f)?;
+    log.every_log_is_lawful();
+    productive_answers_can_be_exported();
+    let numbers = clause_numbers(alloc, f)?;
+    let refutation = export_false(alloc, log, id, f, &numbers)?;
     Ok(write_dqr(alloc, &refutation, f)?)
 }
 

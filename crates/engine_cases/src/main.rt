@@ -12,6 +12,7 @@ mod expansions;
 mod exports;
 mod expressions;
 mod forcing;
+mod gates;
 mod reports;
 mod rows;
 mod scans;

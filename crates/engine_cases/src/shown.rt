@@ -42,14 +42,15 @@ fn name_text(alloc: Global, v: u64, name: Name) -> Result<String> {
             Ok(format!(in alloc; "{v} is pair {round} {existential}")?)
         }
         Name::Input { universal } => Ok(format!(in alloc; "{v} is input {universal}")?),
-        Name::And { left, right } => and_text(alloc, v, left, right),
+        Name::And { left, right } => gate_text(alloc, v, "and", left, right),
         Name::Bad { group, clause } => Ok(format!(in alloc; "{v} is bad {group} {clause}")?),
         Name::Copy { side, variable } => { Ok(format!(in alloc; "{v} is copy {side} {variable}")?) }
+        Name::Term { left, right } => gate_text(alloc, v, "term", left, right),
     }
 }
 
-fn and_text(alloc: Global, v: u64, left: Lit, right: Lit) -> Result<String> {
-    let mut text = format!(in alloc; "{v} is and")?;
+fn gate_text(alloc: Global, v: u64, kind: &str, left: Lit, right: Lit) -> Result<String> {
+    let mut text = format!(in alloc; "{v} is {kind}")?;
     push_clause(alloc, &[left, right], &mut text)?;
     Ok(text)
 }
@@ -83,21 +84,29 @@ fn origin_text(alloc: Global, origin: Origin) -> Result<String> {
             clause,
             place,
             output,
-        } => fault_text(alloc, clause, place, output),
+        } => leaf_text(alloc, format!(in alloc; "fault {clause} {place}")?, output),
         Origin::Copy { side, clause } => Ok(format!(in alloc; "copy {side} {clause}")?),
         Origin::Link { variable, part } => Ok(format!(in alloc; "link {variable} {part}")?),
+        Origin::TermGate { variable, part } => Ok(format!(in alloc; "term {variable} {part}")?),
+        Origin::Differ {
+            existential,
+            output,
+            part,
+        } => leaf_text(
+            alloc,
+            format!(in alloc; "differ {existential} {part}")?,
+            output,
+        ),
     }
 }
 
-fn fault_text(alloc: Global, clause: u64, place: u64, output: Leaf) -> Result<String> {
-    match output {
-        Leaf::Constant(b) => Ok(format!(in alloc; "fault {clause} {place} {b}")?),
-        Leaf::Literal(l) => {
-            let mut text = format!(in alloc; "fault {clause} {place}")?;
-            push_signed(alloc, l.var(), l.is_neg(), &mut text)?;
-            Ok(text)
-        }
+// A text, and behind it a leaf.
+fn leaf_text(alloc: Global, mut text: String, leaf: Leaf) -> Result<String> {
+    match leaf {
+        Leaf::Constant(b) => text.push_str(&format!(in alloc; " {b}")?)?,
+        Leaf::Literal(l) => push_signed(alloc, l.var(), l.is_neg(), &mut text)?,
     }
+    Ok(text)
 }
 
 /// Writes literals as numbers.

@@ -13,13 +13,14 @@
 //! existentials, and prints the definition's values under all rows of the universals and the
 //! existentials, or that there is none. `force NAME : Y BIT ROW` asks whether an existential is
 //! forced to have a bit at a row, and prints the rule, or a row with values of the existentials at
-//! which it has the other bit. `values NAME : OUTPUTS` prints the outputs' values under all rows, and
+//! which it has the other bit. `gates NAME : Y Y ..` looks for gates that the clauses state, and
+//! prints their values as `define` does. `values NAME : OUTPUTS` prints the outputs' values under all rows, and
 //! which universals they read. Lines that begin with `#` are comments.
 
 ghost use Rattle.dq_lits.specs.Formula.{IsWellFormed};
 
 use crate::reports::Detail;
-use crate::{circuits, decisions, definitions, expansions, exports, expressions, forcing};
+use crate::{circuits, decisions, definitions, expansions, exports, expressions, forcing, gates};
 use anyhow::{Result, anyhow};
 use dq_formula::Formula;
 use dqdimacs_reader::read;
@@ -40,6 +41,7 @@ pub fn take_line(alloc: Global, formula: &mut String, line: &str) -> Result<Opti
         "certificate" => run(alloc, formula, rest, Kind::Refutation(Detail::Bits)),
         "define" => run(alloc, formula, rest, Kind::Definitions),
         "force" => run(alloc, formula, rest, Kind::Forcing),
+        "gates" => run(alloc, formula, rest, Kind::Gates),
         "values" => run(alloc, formula, rest, Kind::Values),
         _ => Err(anyhow!("no command: {line}")),
     }
@@ -54,6 +56,7 @@ enum Kind {
     Refutation(Detail),
     Definitions,
     Forcing,
+    Gates,
     Values,
 }
 
@@ -91,6 +94,7 @@ fn run_engine(
         Kind::Refutation(detail) => exports::run(alloc, f, steps, detail, printed),
         Kind::Definitions => definitions::run(alloc, f, steps, printed),
         Kind::Forcing => forcing::run(alloc, f, steps, printed),
+        Kind::Gates => gates::run(alloc, f, steps, printed),
         Kind::Values => expressions::run(alloc, f, steps, printed),
     }
 }

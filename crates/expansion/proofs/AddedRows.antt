@@ -8,9 +8,9 @@ use Rattle.dq_lits.specs.Literal.{Literal}
 use Rattle.dq_lits.specs.Formula.{Dqbf, IsWellFormed}
 use Rattle.dq_lits.specs.Expansion.{universal_literal_true}
 use Rattle.hint_log.specs.Conditions.{AreLogged}
-use Rattle.hint_log.specs.Entries.{Entry, rounds_of, name_of}
+use Rattle.hint_log.specs.Entries.{Entry, name_of}
 use Rattle.hint_log.specs.Naming.{AreNamedAs, arbiter, rows_of}
-use Rattle.hint_log.specs.ProductiveLog.{fault_groups}
+use Rattle.hint_log.specs.ProductiveLog.{fault_groups, fault_room}
 use Rattle.hint_log.specs.declared.names.Name.TheVariants.{Pair}
 use Rattle.log_laws.specs.Engines.{instances, part}
 use Rattle.expansion.specs.FirstRows.{RowIndex, IsRowIndex}
@@ -34,7 +34,7 @@ module _ (f : Dqbf) (t : TableState) (row : List Bool) (own : List Entry) (k : �
   }
 
 pub begin : (f : Dqbf) (t : TableState) (row : List Bool) (es : List Entry) → IsTable f t es → rows_of es ≡ with_row t row → length row ≡ length f.universals
-    → length (fault_groups es) ≤ rounds_of es + 1 → IsAdding f t row 0 0 es
+    → length (fault_groups es) ≤ fault_room es → IsAdding f t row 0 0 es
 begin f t row es table rows whole few = record {
   group = table.group;
   existentials = table.existentials;

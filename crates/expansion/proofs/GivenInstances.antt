@@ -10,7 +10,7 @@ use Rattle.dq_lits.specs.Literal.{Literal, negative, variable_of, is_negative, o
 use Rattle.dq_lits.specs.Formula.{Dqbf, Existential, existential_of}
 use Rattle.dq_lits.specs.Expansion.{universal_literal_true}
 use Rattle.hint_log.specs.Conditions.{AreLogged}
-use Rattle.hint_log.specs.Entries.{Entry, Named, Given, Learned, Answer, Round, ProofLog, with_entry, is_round, rounds_of, numbered, row_of, row_at, name_of}
+use Rattle.hint_log.specs.Entries.{Entry, Named, Given, Learned, Answer, Round, Begun, ProofLog, with_entry, is_round, rounds_of, numbered, row_of, row_at, name_of}
 use Rattle.hint_log.specs.Growth.{Grew}
 use Rattle.hint_log.specs.Naming.{numbered_from_one, named_literal, name_literal, AreNamedAs, arbiter, on_arbiter, rows_of, is_selector_name}
 use Rattle.hint_log.specs.Origins.{IsOriginsClause}
@@ -35,6 +35,7 @@ rounds_are_rows (Given o c ∷ es) = rounds_are_rows es
 rounds_are_rows (Learned c hs ∷ es) = rounds_are_rows es
 rounds_are_rows (Answer c hs ∷ es) = rounds_are_rows es
 rounds_are_rows (Round r b j ∷ es) = let before = rounds_are_rows es in let many = length-append (rows_of es) (r ∷ []) in omega (arith, before, many)
+rounds_are_rows (Begun live ∷ es) = rounds_are_rows es
 
 last_same : {X : Type 0} (xs ys : List X) (x y : X) → xs ++ x ∷ [] ≡ ys ++ y ∷ [] → (xs ≡ ys) × (x ≡ y)
 last_same [] [] x y e = (refl, cc)
@@ -60,6 +61,7 @@ newest_row (Round r b j ∷ es) rows row is =
     let same = last_same (rows_of es) rows r row is in
     let counted : length rows + 1 ≡ rounds_of es + 1 = let before = rounds_are_rows es in let many = ap length same.0 in omega (arith, before, many) in
     ap (λ t. option_and_then row_of (cond t (Some (Round r b j)) (numbered is_round es (length rows + 1)))) (eq-eqb (length rows + 1) (rounds_of es + 1) counted) ∙ ap Some same.1
+newest_row (Begun live ∷ es) rows row is = newest_row es rows row is
 
 -- what is the table's is in its part
 pub own_contains : (es : List Entry) (e : Entry) → is_own instances e ≡ true → Contains es e → Contains (part instances es) e
@@ -86,6 +88,7 @@ named_range (Given o c ∷ es) v n logged is = named_range es v n logged.1 is
 named_range (Learned c hs ∷ es) v n logged is = named_range es v n logged.1 is
 named_range (Answer c hs ∷ es) v n logged is = named_range es v n logged.1 is
 named_range (Round r b j ∷ es) v n logged is = named_range es v n logged.1 is
+named_range (Begun live ∷ es) v n logged is = named_range es v n logged.1 is
 
 pub arbiters_in_range : (es : List Entry) (g : Existential → Name) (vs : List ℕ) (ys : List Existential) → AreLogged es → map (name_of (part instances es)) vs ≡ map (λ y. Some (g y)) ys → AreInRange vs
 arbiters_in_range es g [] ys logged are k d below = absurd (omega (arith, below))

@@ -9,9 +9,9 @@ use Rattle.dq_lits.specs.Literal.{Assignment, Literal}
 use Rattle.dq_lits.specs.Formula.{Dqbf, Existential}
 use Rattle.dq_lits.specs.Expansion.{agree_on, pair_number}
 use Rattle.hint_log.specs.Conditions.{AreLogged}
-use Rattle.hint_log.specs.Entries.{Entry, Named, Given, Learned, Answer, Round, has_id, last_id, numbered, clause_of, clause_at, name_of}
+use Rattle.hint_log.specs.Entries.{Entry, Named, Given, Learned, Answer, Round, Begun, has_id, last_id, numbered, clause_of, clause_at, name_of}
 use Rattle.hint_log.specs.declared.names.Name.{Name}
-use Rattle.hint_log.specs.declared.names.Name.TheVariants.{Selector, Pair, Input, And, Bad, Copy}
+use Rattle.hint_log.specs.declared.names.Name.TheVariants.{Selector, Pair, Input, And, Bad, Copy, Term}
 use Rattle.hint_log.specs.declared.origins.Origin.{Origin}
 use Rattle.hint_log.specs.Naming.{arbiter}
 use Rattle.log_laws.specs.Engines.{Engine, is_own, part}
@@ -44,6 +44,7 @@ own_name engine (Given o c ∷ es) v n logged h = own_name engine es v n logged.
 own_name engine (Learned c hs ∷ es) v n logged h = own_name engine es v n logged.1 h
 own_name engine (Answer c hs ∷ es) v n logged h = own_name engine es v n logged.1 h
 own_name engine (Round r b j ∷ es) v n logged h = own_name engine es v n logged.1 h
+own_name engine (Begun live ∷ es) v n logged h = own_name engine es v n logged.1 h
 
 pub later : {X : Type 0} (x e : X) (es : List X) → Contains es x → Contains (e ∷ es) x
 later x e es (k, lt, at) = (suc k, omega (arith, lt), at)
@@ -102,6 +103,7 @@ is_pair_sound (Input x) k y h = absurd (true≢false (sym h))
 is_pair_sound (And a b) k y h = absurd (true≢false (sym h))
 is_pair_sound (Bad g j) k y h = absurd (true≢false (sym h))
 is_pair_sound (Copy s v) k y h = absurd (true≢false (sym h))
+is_pair_sound (Term a b) k y h = absurd (true≢false (sym h))
 
 is_pair_itself : (k y : ℕ) → is_pair (Pair k y) k y ≡ true
 is_pair_itself k y = ap (λ b. b && (y == y)) (eq-eqb k k refl) ∙ eq-eqb y y refl
@@ -124,6 +126,7 @@ found_variable (Given _ _ ∷ es) v k y logged h = found_variable es v k y logge
 found_variable (Learned _ _ ∷ es) v k y logged h = found_variable es v k y logged.1 h
 found_variable (Answer _ _ ∷ es) v k y logged h = found_variable es v k y logged.1 h
 found_variable (Round _ _ _ ∷ es) v k y logged h = found_variable es v k y logged.1 h
+found_variable (Begun _ ∷ es) v k y logged h = found_variable es v k y logged.1 h
 
 -- a pair's number gives back the place of its row and its existential
 pair_row : (place v w : ℕ) → 1 ≤ w → w ≤ v → (place * v + w - 1) / v ≡ place

@@ -7,7 +7,6 @@ mod WrittenBits
 mod Told
 pub mod Firsts
 mod TableGrowth
-mod TrueUniversals
 mod NamedArbiters
 mod InstanceLiterals
 mod GivenInstances

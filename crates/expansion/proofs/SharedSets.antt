@@ -7,7 +7,8 @@ use Rattle.std.proofs.lemmas.Option.{slice_get-get_or, slice_get_within, get_or_
 use Rattle.dq_lits.specs.Formula.{Dqbf, Existential, existential_of}
 use Rattle.dq_lits.specs.Henkin.{same_bits}
 use Rattle.log_laws.proofs.Found.{variable}
-use Rattle.expansion.specs.FirstRows.{RowOrder, RowIndex, sees_of, seen_by, no_order, IsRowOrder, IsLeader, AreLeaders, IsRowIndex, IsFirstRow}
+use Rattle.expansion.specs.FirstRows.{RowOrder, RowIndex, sees_of, seen_by, no_order, IsRowOrder, IsRowIndex, IsFirstRow}
+use Rattle.dq_formula.specs.Sets.{IsLeader, AreLeaders}
 use Rattle.expansion.proofs.NamedArbiters.{nobody}
 
 -- an existential is found by its variable
@@ -19,21 +20,6 @@ found_by_variable f ys p named same below =
 pub some_by_variable : (f : Dqbf) (ys : List ℕ) (p : ℕ) → All (λ y. existential_of f y.variable ≡ Some y) f.existentials → ys ≡ map variable f.existentials → p < length f.existentials
     → IsSome (existential_of f (get_or ys p 0))
 some_by_variable f ys p named same below = subst IsSome (sym (found_by_variable f ys p named same below)) refl
-
-pub same_set_leads : (f : Dqbf) (xs ys : List ℕ) (leader place : ℕ) → All (λ y. existential_of f y.variable ≡ Some y) f.existentials → xs ≡ map variable f.existentials → ys ≡ map variable f.existentials
-    → leader < place → place < length f.existentials → sees_of (existential_of f (get_or xs leader 0)) ≡ sees_of (existential_of f (get_or ys place 0)) → IsLeader f leader place
-same_set_leads f xs ys leader place named xs_are ys_are before below one_set =
-    let low : leader < length f.existentials = omega (arith, before, below) in
-    let z = get_or f.existentials leader nobody in
-    record {
-      not_behind = omega (arith, before);
-      same_set = λ y y_is. (
-        z,
-        slice_get-get_or f.existentials leader nobody low,
-        sym (ap sees_of (found_by_variable f xs leader named xs_are low)) ∙ one_set ∙ ap sees_of (found_by_variable f ys place named ys_are below)
-            ∙ ap (λ (e : Existential). e.sees) (get_or_from_slice_get f.existentials place y nobody y_is),
-      );
-    }
 
 -- what was found for the one that stands for it
 pub leader_first : (f : Dqbf) (rows : List (List Bool)) (row : List Bool) (leader place first : ℕ) → IsLeader f leader place → IsFirstRow f rows row leader first → IsFirstRow f rows row place first

@@ -7,10 +7,10 @@ use Rattle.dq_lits.specs.Literal.{Literal, positive, negative, variable_of, oppo
 use Rattle.dq_lits.specs.Formula.{Dqbf}
 use Rattle.dq_lits.specs.Derivation.{holds}
 use Rattle.dq_lits.specs.Expansion.{IsExpansionUnsatisfiable}
-use Rattle.hint_log.specs.Entries.{Entry, Named, Given, Learned, Answer, Round, ProofLog, name_of}
+use Rattle.hint_log.specs.Entries.{Entry, Named, Given, Learned, Answer, Round, Begun, ProofLog, name_of}
 use Rattle.hint_log.specs.declared.names.Name.TheVariants.{Selector}
 use Rattle.hint_log.specs.declared.origins.Origin.{Origin}
-use Rattle.hint_log.specs.declared.origins.Origin.TheVariants.{Instance, Gate, Fault, Copy, Link}
+use Rattle.hint_log.specs.declared.origins.Origin.TheVariants.{Instance, Gate, Fault, Copy, Link, TermGate, Differ}
 use Rattle.hint_log.specs.Deciding.{ReachesGiven, IsInstance, AreNegatedSelectors, DecidesFalse}
 use Rattle.hint_log.specs.Growth.{Each, EachOf, Grew}
 use Rattle.hint_log.specs.Naming.{rows_of}
@@ -32,6 +32,7 @@ module _ (f : Dqbf) (engine : Engine) (group : ℕ) (silent : Bool) (old : List 
   learned_is_added earlier (Learned c hints) h = tt
   learned_is_added earlier (Answer c hints) h = absurd h
   learned_is_added earlier (Round row values j) h = absurd h
+  learned_is_added earlier (Begun live) h = absurd h
 
 -- a search that logs no answer
 pub searched_grew : (f : Dqbf) (engine : Engine) (group : ℕ) (silent : Bool) (old new : ProofLog) → Grew IsLearnedEntry old new → Grew (IsAddedBy f engine group silent old.entries) old new
@@ -60,6 +61,7 @@ learned_not_own engine earlier (Given origin c) h = absurd h
 learned_not_own engine earlier (Learned c hints) h = refl
 learned_not_own engine earlier (Answer c hints) h = absurd h
 learned_not_own engine earlier (Round row values j) h = absurd h
+learned_not_own engine earlier (Begun live) h = absurd h
 
 learned_own_given : (f : Dqbf) (engine : Engine) (group : ℕ) (earlier : List Entry) (e : Entry) → IsLearnedEntry earlier e → IsOwnGiven f engine group earlier e
 learned_own_given f engine group earlier (Named v n) h = absurd h
@@ -67,6 +69,7 @@ learned_own_given f engine group earlier (Given origin c) h = absurd h
 learned_own_given f engine group earlier (Learned c hints) h = tt
 learned_own_given f engine group earlier (Answer c hints) h = absurd h
 learned_own_given f engine group earlier (Round row values j) h = absurd h
+learned_own_given f engine group earlier (Begun live) h = absurd h
 
 pub learned_names : (more old : List Entry) (v : ℕ) → EachOf IsLearnedEntry more old → name_of (more ++ old) v ≡ name_of old v
 learned_names [] old v h = refl
@@ -75,6 +78,7 @@ learned_names (Given origin c ∷ more) old v h = absurd h.0
 learned_names (Learned c hints ∷ more) old v h = learned_names more old v h.1
 learned_names (Answer c hints ∷ more) old v h = absurd h.0
 learned_names (Round row values j ∷ more) old v h = absurd h.0
+learned_names (Begun live ∷ more) old v h = absurd h.0
 
 pub learned_rows : (more old : List Entry) → EachOf IsLearnedEntry more old → rows_of (more ++ old) ≡ rows_of old
 learned_rows [] old h = refl
@@ -83,6 +87,7 @@ learned_rows (Given origin c ∷ more) old h = absurd h.0
 learned_rows (Learned c hints ∷ more) old h = learned_rows more old h.1
 learned_rows (Answer c hints ∷ more) old h = absurd h.0
 learned_rows (Round row values j ∷ more) old h = absurd h.0
+learned_rows (Begun live ∷ more) old h = absurd h.0
 
 pub table_searched : (f : Dqbf) (t : TableState) (old new : ProofLog) → Grew IsLearnedEntry old new → IsTable f t old.entries → IsTable f t new.entries
 table_searched f t old new g table = subst (IsTable f t) (sym g.grown) (record {
@@ -133,6 +138,8 @@ instance_of (Gate v i) h = cc
 instance_of (Fault j i leaf) h = cc
 instance_of (Copy side j) h = cc
 instance_of (Link v i) h = cc
+instance_of (TermGate v i) h = cc
+instance_of (Differ y leaf part) h = cc
 
 refl_literal : (l : Literal) → same_literal l l ≡ true
 refl_literal (positive v) = eq-eqb v v refl

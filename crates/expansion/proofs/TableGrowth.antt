@@ -7,7 +7,7 @@ use Rattle.dq_lits.specs.Literal.{Literal, negative, variable_of, is_negative}
 use Rattle.dq_lits.specs.Formula.{Dqbf, Existential}
 use Rattle.dq_lits.specs.Expansion.{universal_literal_true}
 use Rattle.hint_log.specs.Conditions.{AreLogged}
-use Rattle.hint_log.specs.Entries.{Entry, Named, Given, Learned, Answer, Round, name_of}
+use Rattle.hint_log.specs.Entries.{Entry, Named, Given, Learned, Answer, Round, Begun, name_of}
 use Rattle.hint_log.specs.Naming.{NamedLiteral, named_literal, name_literal, AreNamedAs, arbiter, on_arbiter}
 use Rattle.hint_log.specs.declared.names.Name.{Name}
 use Rattle.hint_log.specs.declared.names.Name.TheVariants.{Pair}
@@ -51,6 +51,7 @@ pair_own (Given o c ∷ es) v k y h = past (is_own instances (Given o c)) (pair_
 pair_own (Learned c hs ∷ es) v k y h = pair_own es v k y h
 pair_own (Answer c hs ∷ es) v k y h = pair_own es v k y h
 pair_own (Round r b j ∷ es) v k y h = pair_own es v k y h
+pair_own (Begun live ∷ es) v k y h = pair_own es v k y h
 
 -- what has no name has none in the part
 pub unnamed_own : (es : List Entry) (v : ℕ) → AreLogged es → name_of es v ≡ None → name_of (part instances es) v ≡ None

@@ -5,10 +5,10 @@ use Rattle.std.specs.List.{All, Contains, list_any}
 use Rattle.dq_lits.specs.Literal.{Literal, positive, negative}
 use Rattle.dq_lits.specs.Formula.{Dqbf, Existential}
 use Rattle.dq_lits.specs.Expansion.{universal_literal_true}
-use Rattle.hint_log.specs.Entries.{Entry, Given, ProofLog, name_of, rounds_of}
+use Rattle.hint_log.specs.Entries.{Entry, Given, ProofLog, name_of}
 use Rattle.hint_log.specs.Growth.{Each, Grew}
 use Rattle.hint_log.specs.Naming.{arbiter, rows_of}
-use Rattle.hint_log.specs.ProductiveLog.{fault_groups}
+use Rattle.hint_log.specs.ProductiveLog.{fault_groups, fault_room}
 use Rattle.hint_log.specs.declared.names.Name.TheVariants.{Selector, Pair}
 use Rattle.hint_log.specs.declared.origins.Origin.TheVariants.{Instance}
 use Rattle.log_laws.specs.Engines.{instances, part, IsOwnGiven, IsAddedBy}
@@ -59,7 +59,7 @@ pub record IsAdding (f : Dqbf) (t : TableState) (row : List Bool) (named given :
   pub existentials : t.existentials ≡ map (λ y. y.variable) f.existentials
   pub own_group : Each (IsOwnGiven f instances t.group) entries
   pub rows : rows_of entries ≡ with_row t row
-  pub faults : length (fault_groups entries) ≤ rounds_of entries + 1
+  pub faults : length (fault_groups entries) ≤ fault_room entries
   pub own : IsAddingPart f t row named given (part instances entries)
 
 -- the variable of the new row's pair of the existential at a place was found or named

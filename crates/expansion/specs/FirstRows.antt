@@ -10,6 +10,7 @@ use Rattle.std.specs.declared.cmp.Ordering.TheVariants.{Less}
 use Rattle.dq_lits.specs.Formula.{Dqbf, Existential}
 use Rattle.dq_lits.specs.Henkin.{same_bits}
 use Rattle.dq_lits.specs.Expansion.{row_assignment, agree_on}
+use Rattle.dq_formula.specs.Sets.{AreLeaders}
 
 -- places of rows, and how many rows were looked at, from the first on
 pub record RowOrder : Type 0 where
@@ -61,17 +62,6 @@ pub record IsRowOrder (f : Dqbf) (sees : List ℕ) (rows : List (List Bool))
   pub whole : (k : ℕ) → k < o.learnt
       → (p : ℕ) × Contains o.places p
       × (same_bits (seen_by f sees (row_at rows k)) (seen_by f sees (row_at rows p)) ≡ true)
-
--- the existential at the first place has the dependency set of the one at the second
-pub record IsLeader (f : Dqbf) (leader place : ℕ) : Type 0 where
-  pub not_behind : leader ≤ place
-  pub same_set : (y : Existential) → slice_get f.existentials place ≡ Some y
-      → (z : Existential) × (slice_get f.existentials leader ≡ Some z) × (z.sees ≡ y.sees)
-
-pub record AreLeaders (f : Dqbf) (leaders : List ℕ) : Type 0 where
-  pub many : length leaders ≡ length f.existentials
-  pub each : (place : ℕ) → place < length f.existentials
-      → IsLeader f (slice_index leaders place) place
 
 abbrev pub no_order : RowOrder
 no_order = record { places = []; learnt = 0 }

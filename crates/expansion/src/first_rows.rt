@@ -3,7 +3,6 @@
 ghost use Rattle.std.specs.Prelude.{◌≡◌, ◌<◌, [], All, length, replicate, IfOk};
 ghost use Rattle.expansion.specs.FirstRows.{IsRowIndex, IsFirstRow, AreFirstRows, no_order};
 
-use crate::leaders::leaders;
 use crate::new_rows::NewRow;
 use crate::orders::Order;
 use dq_formula::Formula;
@@ -33,7 +32,7 @@ impl FirstRows {
     pub(crate) fn new(alloc: Global, f: &Formula) -> Result<FirstRows, Memory>
         ensures { IfOk result (λ index. IsRowIndex f.now [] index) }
     {
-        let leaders = leaders(alloc, f)?;
+        let leaders = f.set_leaders(alloc)?;
         let orders = empty_orders(alloc, f.existentials().len())?;
         Ok(FirstRows { leaders, orders })
     }

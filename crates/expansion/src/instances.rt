@@ -13,7 +13,6 @@ ghost use Rattle.expansion.specs.Table.{AreArbiters};
 
 use crate::new_rows::PairedRow;
 use crate::tables::Table;
-use crate::universals::has_true_universal;
 use dq_formula::Formula;
 use dq_lits::{Lit, Memory};
 use hint_log::{Log, Origin};
@@ -72,7 +71,7 @@ impl Table {
         let f = new.f;
         f.every_formula_is_lawful();
         let clause = f.clause(j);
-        if has_true_universal(f, new.row, clause) {
+        if f.has_true_universal(new.row, clause) {
             return Ok(());
         }
         let literals = on_arbiters(self.alloc, f, new.variables, clause)?;

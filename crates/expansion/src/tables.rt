@@ -1,12 +1,14 @@
 ghost use Rattle.std.specs.Prelude.{◌≡◌, ◌≢◌, All, map, ◌≤◌, ◌+◌, ◌-◌, ◌++◌, ◌∷◌, [], ℕ, List, length, true, false, OnOk, OnErr, IfOk, IsErrOf, Some, None, Ok, slice_get};
 ghost use Rattle.std.specs.List.{AllPairs};
+ghost use Rattle.dq_lits.specs.Literal.{positive};
 ghost use Rattle.dq_lits.specs.Formula.{Dqbf, IsWellFormed};
 ghost use Rattle.dq_lits.specs.Expansion.{IsExpansionUnsatisfiable};
-ghost use Rattle.hint_log.specs.Entries.{Entry, ProofLog, name_of, steps_of, rounds_of};
+ghost use Rattle.hint_log.specs.Entries.{Entry, ProofLog, name_of, rounds_of};
 ghost use Rattle.hint_log.specs.Growth.{Grew};
 ghost use Rattle.hint_log.specs.Naming.{rows_of};
-ghost use Rattle.hint_log.specs.ProductiveLog.{fault_groups};
+ghost use Rattle.hint_log.specs.ProductiveLog.{fault_groups, fault_room};
 ghost use Rattle.log_laws.specs.Engines.{instances, IsAddedBy, HasNone};
+ghost use Rattle.oracle.specs.Limits.{IsAtLimit};
 ghost use Rattle.expansion.specs.Table.{PointState, IsTable, IsFullTable, ArePoints, point_bits, IsRefutedBy};
 ghost use Rattle.expansion.specs.FirstRows.{IsRowIndex, AreFirstRows};
 ghost use Rattle.expansion.specs.Silence.{is_silent};
@@ -129,7 +131,7 @@ impl Table {
         requires table { IsTable f.now self.old log.old.entries }
         requires rows { rows_of log.old.entries ≡ self.old.rows ++ row.now ∷ [] }
         requires row_length { length row.now ≡ length f.now.universals }
-        requires few { length (fault_groups log.old.entries) ≤ rounds_of log.old.entries + 1 }
+        requires few { length (fault_groups log.old.entries) ≤ fault_room log.old.entries }
         ensures fit { O.Fits oracle.new log.new }
         ensures grew { (first : List Entry)
             → Grew (IsAddedBy f.now instances self.old.group true first) log.old log.new }
@@ -156,7 +158,7 @@ impl Table {
         requires formula { IsWellFormed new.now.f.now }
         requires table { IsTable new.now.f.now self.old log.old.entries }
         requires rows { rows_of log.old.entries ≡ self.old.rows ++ new.now.row.now ∷ [] }
-        requires few { length (fault_groups log.old.entries) ≤ rounds_of log.old.entries + 1 }
+        requires few { length (fault_groups log.old.entries) ≤ fault_room log.old.entries }
         requires firsts { AreFirstRows new.now.f.now self.old.rows new.now.row.now
             (length new.now.f.now.existentials) firsts.now }
         ensures fit { O.Fits oracle.new log.new }
@@ -231,7 +233,7 @@ impl Table {
             → result ≡ Ok (Exp.Refuted id)
             → IsExpansionUnsatisfiable f self.old.rows }
         ensures shown { (id : ℕ) → result ≡ Ok (Exp.Refuted id) → IsRefutedBy log.new.entries id }
-        ensures limit { IsErrOf result Stop.Limit → steps_of log.new.entries ≡ log.new.limit }
+        ensures limit { IsErrOf result Stop.Limit → IsAtLimit log.new (positive self.old.group ∷ []) }
     {
         instances_have_no_model();
         match oracle.solve(&[self.group], &[], log)? {

@@ -9,17 +9,19 @@ use Rattle.indexmap.specs.IndexMap.{insert_entry}
 use Rattle.dq_lits.specs.Literal.{Literal, positive, negative, variable_of, is_negative}
 use Rattle.hint_log.specs.Conditions.{IsId, MayFollow, IsNewName, AreLogged}
 use Rattle.hint_log.specs.declared.kinds.EntryKind.{EntryKind}
-use Rattle.hint_log.specs.declared.kinds.EntryKind.TheVariants.{Naming, Clause}
+use Rattle.hint_log.specs.declared.kinds.EntryKind.TheVariants.{Naming, Clause, Beginning}
 use Rattle.hint_log.specs.declared.kinds.ClauseKind.{ClauseKind}
 use Rattle.hint_log.specs.declared.kinds.ClauseKind.TheVariants.{OfLemma}
 use Rattle.hint_log.specs.declared.kinds.KeptRound.{KeptRound}
 use Rattle.hint_log.specs.declared.origins.Origin.{Origin}
 use Rattle.hint_log.specs.declared.names.Name.{Name}
-use Rattle.hint_log.specs.Entries.{Entry, ProofLog, Named, Given, Learned, Answer, Round, with_entry, has_id, is_round, is_counted, last_id, rounds_of, steps_of, numbered, clause_of, hints_of, origin_of, clause_at, hints_at, origin_at, name_of, names_of}
-use Rattle.hint_log.specs.Kept.{KeptClause, HasNumbers, HasOwnNumbers, entry_by, clause_entry, round_entry, kept_clauses, log_entries, IsKept}
+use Rattle.hint_log.specs.Entries.{Entry, ProofLog, Named, Given, Learned, Answer, Round, Begun, with_entry, has_id, is_round, is_counted, last_id, rounds_of, steps_of, numbered, clause_of, hints_of, origin_of, clause_at, hints_at, origin_at, name_of, names_of}
+use Rattle.hint_log.specs.Kept.{KeptClause, HasNumbers, HasOwnNumbers, entry_by, clause_entry, round_entry, kept_clauses, log_entries, newest_of, kept_lives, IsKept}
 use Rattle.hint_log.proofs.Logged.{are_earlier, are_named_once}
 use Rattle.hint_log.proofs.ReachedIds.{hint_earlier}
 use Rattle.hint_log.proofs.KeptNames.{found_names}
+use Rattle.hint_log.specs.Live.{last_live}
+use Rattle.hint_log.proofs.KeptLives.{newest_is_last, live_more}
 use Rattle.hint_log.proofs.KeptOrder.{counted_by, clause_by, hints_by, origin_by, ids_are, rounds_are, names_are, clause_at_place, round_at_place}
 
 pub newest : {X : Type 0} (xs : List X) (x : X) → reverse (xs ++ x ∷ []) ≡ x ∷ reverse xs
@@ -71,12 +73,12 @@ pub record IsAt (entries : List Entry) (kinds : List ClauseKind) (literals : Lis
       → (numbered has_id entries id ≡ Some (entry_by k (get_or literals (id - 1) []) (get_or numbers (id - 1) []))) × HasNumbers k (get_or numbers (id - 1) [])
 
 pub at_id : (log : ProofLog) (limit steps : ℕ) (es : List EntryKind) (names : List (ℕ × Name)) (ks : List ClauseKind) (ls : List (List Literal)) (ns : List (List ℕ))
-    (rs : List KeptRound) (id : ℕ) → record { limit = limit; entries = log_entries es names ks ls ns rs } ≡ log → IsKept limit steps es names ks ls ns rs
+    (rs : List KeptRound) (vs : List (List ℕ)) (id : ℕ) → record { limit = limit; entries = log_entries es names ks ls ns rs vs } ≡ log → IsKept limit steps es names ks ls ns rs vs
     → IsId log.entries id → IsAt log.entries ks ls ns id
-at_id log limit steps es names ks ls ns rs id is kept known =
+at_id log limit steps es names ks ls ns rs vs id is kept known =
     let cs = kept_clauses ks ls ns in
-    let many : last_id (log_entries es names ks ls ns rs) ≡ length (reverse cs) = ids_are (reverse es) (reverse names) (reverse cs) (reverse rs) kept.interleaved in
-    let here : IsId (log_entries es names ks ls ns rs) id = subst (λ (l : ProofLog). IsId l.entries id) (sym is) known in
+    let many : last_id (log_entries es names ks ls ns rs vs) ≡ length (reverse cs) = ids_are (reverse es) (reverse names) (reverse cs) (reverse rs) vs kept.interleaved in
+    let here : IsId (log_entries es names ks ls ns rs vs) id = subst (λ (l : ProofLog). IsId l.entries id) (sym is) known in
     let one = here.from_one in
     let last = here.last in
     let long = length_clauses ks ls ns kept.literals_long kept.numbers_long in
@@ -93,57 +95,57 @@ at_id log limit steps es names ks ls ns rs id is kept known =
           let at : get_or cs (id - 1) c ≡ c = clause_is ks ls ns (id - 1) k c l n inside k_is in
           let next : id - 1 + 1 ≡ id = omega (arith, one) in (
             ap (λ (p : ProofLog). numbered has_id p.entries id) (sym is)
-                ∙ ap (numbered has_id (log_entries es names ks ls ns rs)) (sym next)
-                ∙ clause_at_place (reverse es) (reverse names) cs (reverse rs) kept.interleaved (id - 1) c (omega (arith, inside, long))
+                ∙ ap (numbered has_id (log_entries es names ks ls ns rs vs)) (sym next)
+                ∙ clause_at_place (reverse es) (reverse names) cs (reverse rs) vs kept.interleaved (id - 1) c (omega (arith, inside, long))
                 ∙ ap (λ x. Some (clause_entry x)) at,
             subst HasOwnNumbers at (own_numbers cs (id - 1) c kept.numbers_are (omega (arith, inside, long))),
           );
     }
 
 pub ids_counted : (log : ProofLog) (limit steps : ℕ) (es : List EntryKind) (names : List (ℕ × Name)) (ks : List ClauseKind) (ls : List (List Literal)) (ns : List (List ℕ))
-    (rs : List KeptRound) → record { limit = limit; entries = log_entries es names ks ls ns rs } ≡ log → IsKept limit steps es names ks ls ns rs
+    (rs : List KeptRound) (vs : List (List ℕ)) → record { limit = limit; entries = log_entries es names ks ls ns rs vs } ≡ log → IsKept limit steps es names ks ls ns rs vs
     → last_id log.entries ≡ length ks
-ids_counted log limit steps es names ks ls ns rs is kept =
+ids_counted log limit steps es names ks ls ns rs vs is kept =
     let cs = kept_clauses ks ls ns in
-    ap (λ (p : ProofLog). last_id p.entries) (sym is) ∙ ids_are (reverse es) (reverse names) (reverse cs) (reverse rs) kept.interleaved
+    ap (λ (p : ProofLog). last_id p.entries) (sym is) ∙ ids_are (reverse es) (reverse names) (reverse cs) (reverse rs) vs kept.interleaved
     ∙ length-reverse cs ∙ length_clauses ks ls ns kept.literals_long kept.numbers_long
 
 pub rounds_counted : (log : ProofLog) (limit steps : ℕ) (es : List EntryKind) (names : List (ℕ × Name)) (ks : List ClauseKind) (ls : List (List Literal)) (ns : List (List ℕ))
-    (rs : List KeptRound) → record { limit = limit; entries = log_entries es names ks ls ns rs } ≡ log → IsKept limit steps es names ks ls ns rs
+    (rs : List KeptRound) (vs : List (List ℕ)) → record { limit = limit; entries = log_entries es names ks ls ns rs vs } ≡ log → IsKept limit steps es names ks ls ns rs vs
     → rounds_of log.entries ≡ length rs
-rounds_counted log limit steps es names ks ls ns rs is kept =
+rounds_counted log limit steps es names ks ls ns rs vs is kept =
     let cs = kept_clauses ks ls ns in
-    ap (λ (p : ProofLog). rounds_of p.entries) (sym is) ∙ rounds_are (reverse es) (reverse names) (reverse cs) (reverse rs) kept.interleaved
+    ap (λ (p : ProofLog). rounds_of p.entries) (sym is) ∙ rounds_are (reverse es) (reverse names) (reverse cs) (reverse rs) vs kept.interleaved
     ∙ length-reverse rs
 
 pub names_kept : (log : ProofLog) (limit steps : ℕ) (es : List EntryKind) (names : List (ℕ × Name)) (ks : List ClauseKind) (ls : List (List Literal)) (ns : List (List ℕ))
-    (rs : List KeptRound) → record { limit = limit; entries = log_entries es names ks ls ns rs } ≡ log → IsKept limit steps es names ks ls ns rs
+    (rs : List KeptRound) (vs : List (List ℕ)) → record { limit = limit; entries = log_entries es names ks ls ns rs vs } ≡ log → IsKept limit steps es names ks ls ns rs vs
     → names ≡ names_of log.entries
-names_kept log limit steps es names ks ls ns rs is kept =
+names_kept log limit steps es names ks ls ns rs vs is kept =
     let cs = kept_clauses ks ls ns in
-    sym (ap (λ (p : ProofLog). names_of p.entries) (sym is) ∙ names_are (reverse es) (reverse names) (reverse cs) (reverse rs) kept.interleaved ∙ reverse-reverse names)
+    sym (ap (λ (p : ProofLog). names_of p.entries) (sym is) ∙ names_are (reverse es) (reverse names) (reverse cs) (reverse rs) vs kept.interleaved ∙ reverse-reverse names)
 
 pub lawful : (log : ProofLog) (limit steps : ℕ) (es : List EntryKind) (names : List (ℕ × Name)) (ks : List ClauseKind) (ls : List (List Literal)) (ns : List (List ℕ))
-    (rs : List KeptRound) → record { limit = limit; entries = log_entries es names ks ls ns rs } ≡ log → IsKept limit steps es names ks ls ns rs → AreLogged log.entries
-lawful log limit steps es names ks ls ns rs is kept = subst (λ (p : ProofLog). AreLogged p.entries) is kept.logged
+    (rs : List KeptRound) (vs : List (List ℕ)) → record { limit = limit; entries = log_entries es names ks ls ns rs vs } ≡ log → IsKept limit steps es names ks ls ns rs vs → AreLogged log.entries
+lawful log limit steps es names ks ls ns rs vs is kept = subst (λ (p : ProofLog). AreLogged p.entries) is kept.logged
 
 -- the round of a number is at its place
 pub at_round : (log : ProofLog) (limit steps : ℕ) (es : List EntryKind) (names : List (ℕ × Name)) (ks : List ClauseKind) (ls : List (List Literal)) (ns : List (List ℕ))
-    (rs : List KeptRound) (k : ℕ) (r : KeptRound) → record { limit = limit; entries = log_entries es names ks ls ns rs } ≡ log → IsKept limit steps es names ks ls ns rs
+    (rs : List KeptRound) (vs : List (List ℕ)) (k : ℕ) (r : KeptRound) → record { limit = limit; entries = log_entries es names ks ls ns rs vs } ≡ log → IsKept limit steps es names ks ls ns rs vs
     → 1 ≤ k → k ≤ rounds_of log.entries → r ≡ get_or rs (k - 1) r → numbered is_round log.entries k ≡ Some (round_entry r)
-at_round log limit steps es names ks ls ns rs k r is kept one last r_is =
-    let many = rounds_counted log limit steps es names ks ls ns rs is kept in
+at_round log limit steps es names ks ls ns rs vs k r is kept one last r_is =
+    let many = rounds_counted log limit steps es names ks ls ns rs vs is kept in
     let next : k - 1 + 1 ≡ k = omega (arith, one) in
     ap (λ (p : ProofLog). numbered is_round p.entries k) (sym is)
-    ∙ ap (numbered is_round (log_entries es names ks ls ns rs)) (sym next)
-    ∙ round_at_place (reverse es) (reverse names) (reverse (kept_clauses ks ls ns)) rs kept.interleaved (k - 1) r (omega (arith, one, last, many))
+    ∙ ap (numbered is_round (log_entries es names ks ls ns rs vs)) (sym next)
+    ∙ round_at_place (reverse es) (reverse names) (reverse (kept_clauses ks ls ns)) rs vs kept.interleaved (k - 1) r (omega (arith, one, last, many))
     ∙ ap (λ x. Some (round_entry x)) (sym r_is)
 
 -- a clause more
 pub record IsMore (e : Entry) (log : ProofLog) (limit steps : ℕ) (es : List EntryKind) (names : List (ℕ × Name)) (ks : List ClauseKind) (ls : List (List Literal))
-    (ns : List (List ℕ)) (rs : List KeptRound) : Type 0 where
-  pub kept : IsKept limit steps es names ks ls ns rs
-  pub entries : log_entries es names ks ls ns rs ≡ e ∷ log.entries
+    (ns : List (List ℕ)) (rs : List KeptRound) (vs : List (List ℕ)) : Type 0 where
+  pub kept : IsKept limit steps es names ks ls ns rs vs
+  pub entries : log_entries es names ks ls ns rs vs ≡ e ∷ log.entries
   pub limit_is : limit ≡ log.limit
 
 steps_more : (e : Entry) (entries : List Entry) (counted steps : ℕ) → counted ≡ (if is_counted e then 1 else 0) → steps ≡ steps_of entries
@@ -163,21 +165,21 @@ within_more e entries counted steps limit counted_is steps_is within room = by (
     by false none less = omega (arith, none, within)
 
 pub one_clause_more : (log : ProofLog) (limit steps counted : ℕ) (es more_es : List EntryKind) (names : List (ℕ × Name)) (ks more_ks : List ClauseKind)
-    (ls more_ls : List (List Literal)) (ns more_ns : List (List ℕ)) (rs : List KeptRound) (k : ClauseKind) (c : List Literal) (h : List ℕ)
-    → record { limit = limit; entries = log_entries es names ks ls ns rs } ≡ log → IsKept limit steps es names ks ls ns rs
+    (ls more_ls : List (List Literal)) (ns more_ns : List (List ℕ)) (rs : List KeptRound) (vs : List (List ℕ)) (k : ClauseKind) (c : List Literal) (h : List ℕ)
+    → record { limit = limit; entries = log_entries es names ks ls ns rs vs } ≡ log → IsKept limit steps es names ks ls ns rs vs
     → (is_counted (entry_by k c h) ≡ true → steps_of log.entries < log.limit) → MayFollow log.entries (entry_by k c h) → HasNumbers k h
     → counted ≡ (if is_counted (entry_by k [] []) then 1 else 0) → more_es ≡ es ++ Clause ∷ [] → more_ks ≡ ks ++ k ∷ [] → more_ls ≡ ls ++ c ∷ [] → more_ns ≡ ns ++ h ∷ []
-    → IsMore (entry_by k c h) log limit (steps + counted) more_es names more_ks more_ls more_ns rs
-one_clause_more log limit steps counted es more_es names ks more_ks ls more_ls ns more_ns rs k c h is kept room may own counted_is es_is ks_is ls_is ns_is =
+    → IsMore (entry_by k c h) log limit (steps + counted) more_es names more_ks more_ls more_ns rs vs
+one_clause_more log limit steps counted es more_es names ks more_ks ls more_ls ns more_ns rs vs k c h is kept room may own counted_is es_is ks_is ls_is ns_is =
     let cs = kept_clauses ks ls ns in
     let one : KeptClause = record { kind = k; literals = c; numbers = h } in
-    let before = log_entries es names ks ls ns rs in
+    let before = log_entries es names ks ls ns rs vs in
     let same : before ≡ log.entries = ap (λ (p : ProofLog). p.entries) is in
     let same_limit : limit ≡ log.limit = ap (λ (p : ProofLog). p.limit) is in
     let clauses : kept_clauses more_ks more_ls more_ns ≡ cs ++ one ∷ [] = rw (ks_is, ls_is, ns_is) (clauses_more ks ls ns k c h kept.literals_long kept.numbers_long) in
     let clauses_back : reverse (kept_clauses more_ks more_ls more_ns) ≡ one ∷ reverse cs = ap reverse clauses ∙ newest cs one in
     let kinds_back : reverse more_es ≡ Clause ∷ reverse es = ap reverse es_is ∙ newest es Clause in
-    let entries : log_entries more_es names more_ks more_ls more_ns rs ≡ entry_by k c h ∷ before = rw (kinds_back, clauses_back) refl in
+    let entries : log_entries more_es names more_ks more_ls more_ns rs vs ≡ entry_by k c h ∷ before = rw (kinds_back, clauses_back) refl in
     let counts : counted ≡ (if is_counted (entry_by k c h) then 1 else 0) = counted_is ∙ ap (λ b. if b then 1 else 0) (sym (counted_by k c h)) in
     let less : is_counted (entry_by k c h) ≡ true → steps_of before < limit = λ counts_one. rw (same, same_limit) (room counts_one) in
     let follows : MayFollow before (entry_by k c h) = subst (λ ps. MayFollow ps (entry_by k c h)) (sym same) may in
@@ -213,6 +215,7 @@ unnamed_absent (Given _ _ ∷ entries) v none = unnamed_absent entries v none
 unnamed_absent (Learned _ _ ∷ entries) v none = unnamed_absent entries v none
 unnamed_absent (Answer _ _ ∷ entries) v none = unnamed_absent entries v none
 unnamed_absent (Round _ _ _ ∷ entries) v none = unnamed_absent entries v none
+unnamed_absent (Begun _ ∷ entries) v none = unnamed_absent entries v none
 unnamed_absent (Named w name ∷ entries) v none = by (eqb v w) (λ other. unnamed_absent entries v other) refl none
   where
     by : (b : Bool) → (name_of entries v ≡ None → AllByRecursion (λ e. eqb v e.0 ≡ false) (names_of entries)) → eqb v w ≡ b
@@ -221,19 +224,19 @@ unnamed_absent (Named w name ∷ entries) v none = by (eqb v w) (λ other. unnam
     by false before is other = absent_append v (names_of entries) ((w, name) ∷ []) (before other) (is, tt)
 
 pub one_name_more : (log : ProofLog) (limit steps var : ℕ) (name : Name) (es more_es : List EntryKind) (names more_names : List (ℕ × Name)) (ks : List ClauseKind)
-    (ls : List (List Literal)) (ns : List (List ℕ)) (rs : List KeptRound) → record { limit = limit; entries = log_entries es names ks ls ns rs } ≡ log
-    → IsKept limit steps es names ks ls ns rs → IsNewName log.entries var name → more_es ≡ es ++ Naming ∷ [] → more_names ≡ insert_entry eqb names var name
-    → IsMore (Named var name) log limit steps more_es more_names ks ls ns rs
-one_name_more log limit steps var name es more_es names more_names ks ls ns rs is kept asked es_is names_is =
-    let before = log_entries es names ks ls ns rs in
+    (ls : List (List Literal)) (ns : List (List ℕ)) (rs : List KeptRound) (vs : List (List ℕ)) → record { limit = limit; entries = log_entries es names ks ls ns rs vs } ≡ log
+    → IsKept limit steps es names ks ls ns rs vs → IsNewName log.entries var name → more_es ≡ es ++ Naming ∷ [] → more_names ≡ insert_entry eqb names var name
+    → IsMore (Named var name) log limit steps more_es more_names ks ls ns rs vs
+one_name_more log limit steps var name es more_es names more_names ks ls ns rs vs is kept asked es_is names_is =
+    let before = log_entries es names ks ls ns rs vs in
     let same : before ≡ log.entries = ap (λ (p : ProofLog). p.entries) is in
-    let all = names_kept log limit steps es names ks ls ns rs is kept in
+    let all = names_kept log limit steps es names ks ls ns rs vs is kept in
     let at_end : more_names ≡ names ++ (var, name) ∷ [] =
     names_is ∙ ap (λ xs. insert_entry eqb xs var name) all ∙ insert_absent (names_of log.entries) var name (unnamed_absent log.entries var asked.unnamed)
     ∙ ap (λ xs. xs ++ (var, name) ∷ []) (sym all) in
     let kinds_back : reverse more_es ≡ Naming ∷ reverse es = ap reverse es_is ∙ newest es Naming in
     let names_back : reverse more_names ≡ (var, name) ∷ reverse names = ap reverse at_end ∙ newest names (var, name) in
-    let entries : log_entries more_es more_names ks ls ns rs ≡ Named var name ∷ before = rw (kinds_back, names_back) refl in
+    let entries : log_entries more_es more_names ks ls ns rs vs ≡ Named var name ∷ before = rw (kinds_back, names_back) refl in
     let follows : IsNewName before var name = subst (λ ps. IsNewName ps var name) (sym same) asked in
     record {
       kept = record {
@@ -249,6 +252,35 @@ one_name_more log limit steps var name es more_es names more_names ks ls ns rs i
       limit_is = ap (λ (p : ProofLog). p.limit) is;
     }
 
+-- a beginning more
+pub one_beginning_more : (log : ProofLog) (limit steps stays : ℕ) (more : List ℕ) (es more_es : List EntryKind) (names : List (ℕ × Name)) (ks : List ClauseKind)
+    (ls : List (List Literal)) (ns : List (List ℕ)) (rs : List KeptRound) (counts more_counts : List ℕ) (added more_added : List (List ℕ))
+    → record { limit = limit; entries = log_entries es names ks ls ns rs (kept_lives counts added) } ≡ log → IsKept limit steps es names ks ls ns rs (kept_lives counts added)
+    → more_es ≡ es ++ Beginning ∷ [] → more_counts ≡ counts ++ stays ∷ [] → more_added ≡ added ++ more ∷ []
+    → IsMore (Begun (take stays (last_live log.entries) ++ more)) log limit steps more_es names ks ls ns rs (kept_lives more_counts more_added)
+one_beginning_more log limit steps stays more es more_es names ks ls ns rs counts more_counts added more_added is kept es_is counts_is added_is =
+    let vs = kept_lives counts added in
+    let before = log_entries es names ks ls ns rs vs in
+    let same : before ≡ log.entries = ap (λ (p : ProofLog). p.entries) is in
+    let last : last_live log.entries ≡ newest_of vs = ap last_live (sym same) ∙ newest_is_last (reverse es) (reverse names) (reverse (kept_clauses ks ls ns)) (reverse rs) vs kept.interleaved in
+    let live = take stays (last_live log.entries) ++ more in
+    let kinds_back : reverse more_es ≡ Beginning ∷ reverse es = ap reverse es_is ∙ newest es Beginning in
+    let lives_are : kept_lives more_counts more_added ≡ live ∷ vs = live_more stays more (last_live log.entries) counts more_counts added more_added last counts_is added_is in
+    let entries : log_entries more_es names ks ls ns rs (kept_lives more_counts more_added) ≡ Begun live ∷ before = rw (kinds_back, lives_are) refl in
+    record {
+      kept = record {
+        interleaved = rw (kinds_back, lives_are) kept.interleaved;
+        literals_long = kept.literals_long;
+        numbers_long = kept.numbers_long;
+        numbers_are = kept.numbers_are;
+        steps_are = rw entries kept.steps_are;
+        within = kept.within;
+        logged = rw entries ((tt, kept.logged));
+      };
+      entries = entries ∙ ap (λ ps. Begun live ∷ ps) same;
+      limit_is = ap (λ (p : ProofLog). p.limit) is;
+    }
+
 -- a literal by its variable and its sign
 pub is_positive_literal : (l : Literal) → is_negative l ≡ false → l ≡ positive (variable_of l)
 is_positive_literal (positive v) is = refl
@@ -261,63 +293,63 @@ taken_back xs more x is =
     ap (λ n. take n more) long ∙ ap (take (length xs)) is ∙ take-append_seam xs (x ∷ [])
 
 pub more_log : (e : Entry) (log : ProofLog) (limit steps : ℕ) (es : List EntryKind) (names : List (ℕ × Name)) (ks : List ClauseKind) (ls : List (List Literal))
-    (ns : List (List ℕ)) (rs : List KeptRound) → IsMore e log limit steps es names ks ls ns rs
-    → record { limit = limit; entries = log_entries es names ks ls ns rs } ≡ with_entry log e
-more_log e log limit steps es names ks ls ns rs more =
+    (ns : List (List ℕ)) (rs : List KeptRound) (vs : List (List ℕ)) → IsMore e log limit steps es names ks ls ns rs vs
+    → record { limit = limit; entries = log_entries es names ks ls ns rs vs } ≡ with_entry log e
+more_log e log limit steps es names ks ls ns rs vs more =
     let build : ℕ → List Entry → ProofLog = λ n entries. record { limit = n; entries = entries } in
-    ap (λ n. build n (log_entries es names ks ls ns rs)) more.limit_is ∙ ap (build log.limit) more.entries
+    ap (λ n. build n (log_entries es names ks ls ns rs vs)) more.limit_is ∙ ap (build log.limit) more.entries
 
 pub clause_found : (log : ProofLog) (limit steps : ℕ) (es : List EntryKind) (names : List (ℕ × Name)) (ks : List ClauseKind) (ls : List (List Literal)) (ns : List (List ℕ))
-    (rs : List KeptRound) (id : ℕ) → record { limit = limit; entries = log_entries es names ks ls ns rs } ≡ log → IsKept limit steps es names ks ls ns rs
+    (rs : List KeptRound) (vs : List (List ℕ)) (id : ℕ) → record { limit = limit; entries = log_entries es names ks ls ns rs vs } ≡ log → IsKept limit steps es names ks ls ns rs vs
     → IsId log.entries id → clause_at log.entries id ≡ Some (get_or ls (id - 1) [])
-clause_found log limit steps es names ks ls ns rs id is kept known =
-    let at = at_id log limit steps es names ks ls ns rs id is kept known in
+clause_found log limit steps es names ks ls ns rs vs id is kept known =
+    let at = at_id log limit steps es names ks ls ns rs vs id is kept known in
     let k = get_or ks (id - 1) OfLemma in
     let found = at.is k (get_or_default ks (id - 1) OfLemma k at.kind_inside) in
     ap (option_and_then clause_of) found.0 ∙ clause_by k (get_or ls (id - 1) []) (get_or ns (id - 1) [])
 
 pub hints_found : (log : ProofLog) (limit steps : ℕ) (es : List EntryKind) (names : List (ℕ × Name)) (ks : List ClauseKind) (ls : List (List Literal)) (ns : List (List ℕ))
-    (rs : List KeptRound) (id : ℕ) (k : ClauseKind) (numbers hints : List ℕ) → record { limit = limit; entries = log_entries es names ks ls ns rs } ≡ log
-    → IsKept limit steps es names ks ls ns rs → IsId log.entries id → k ≡ get_or ks (id - 1) k → numbers ≡ get_or ns (id - 1) [] → hints ≡ hints_of (entry_by k [] numbers)
+    (rs : List KeptRound) (vs : List (List ℕ)) (id : ℕ) (k : ClauseKind) (numbers hints : List ℕ) → record { limit = limit; entries = log_entries es names ks ls ns rs vs } ≡ log
+    → IsKept limit steps es names ks ls ns rs vs → IsId log.entries id → k ≡ get_or ks (id - 1) k → numbers ≡ get_or ns (id - 1) [] → hints ≡ hints_of (entry_by k [] numbers)
     → hints_at log.entries id ≡ Some hints
-hints_found log limit steps es names ks ls ns rs id k numbers hints is kept known k_is numbers_is hints_is =
-    let at = at_id log limit steps es names ks ls ns rs id is kept known in
+hints_found log limit steps es names ks ls ns rs vs id k numbers hints is kept known k_is numbers_is hints_is =
+    let at = at_id log limit steps es names ks ls ns rs vs id is kept known in
     let found = at.is k k_is in
     ap (option_and_then (λ e. Some (hints_of e))) found.0
     ∙ ap Some (hints_by k (get_or ls (id - 1) []) (get_or ns (id - 1) []) ∙ ap (λ xs. hints_of (entry_by k [] xs)) (sym numbers_is) ∙ sym hints_is)
 
 pub hints_earlier : (log : ProofLog) (limit steps : ℕ) (es : List EntryKind) (names : List (ℕ × Name)) (ks : List ClauseKind) (ls : List (List Literal)) (ns : List (List ℕ))
-    (rs : List KeptRound) (id : ℕ) (k : ClauseKind) (numbers hints : List ℕ) → record { limit = limit; entries = log_entries es names ks ls ns rs } ≡ log
-    → IsKept limit steps es names ks ls ns rs → IsId log.entries id → k ≡ get_or ks (id - 1) k → numbers ≡ get_or ns (id - 1) [] → hints ≡ hints_of (entry_by k [] numbers)
+    (rs : List KeptRound) (vs : List (List ℕ)) (id : ℕ) (k : ClauseKind) (numbers hints : List ℕ) → record { limit = limit; entries = log_entries es names ks ls ns rs vs } ≡ log
+    → IsKept limit steps es names ks ls ns rs vs → IsId log.entries id → k ≡ get_or ks (id - 1) k → numbers ≡ get_or ns (id - 1) [] → hints ≡ hints_of (entry_by k [] numbers)
     → (hint : ℕ) → Contains hints hint → (1 ≤ hint) × (hint < id)
-hints_earlier log limit steps es names ks ls ns rs id k numbers hints is kept known k_is numbers_is hints_is hint has =
-    let at = at_id log limit steps es names ks ls ns rs id is kept known in
+hints_earlier log limit steps es names ks ls ns rs vs id k numbers hints is kept known k_is numbers_is hints_is hint has =
+    let at = at_id log limit steps es names ks ls ns rs vs id is kept known in
     let found = at.is k k_is in
     let own : hints ≡ hints_of (entry_by k (get_or ls (id - 1) []) (get_or ns (id - 1) [])) =
     hints_is ∙ ap (λ xs. hints_of (entry_by k [] xs)) numbers_is ∙ sym (hints_by k (get_or ls (id - 1) []) (get_or ns (id - 1) [])) in
     hint_earlier log.entries id (entry_by k (get_or ls (id - 1) []) (get_or ns (id - 1) []))
-    (are_earlier log.entries (lawful log limit steps es names ks ls ns rs is kept)) found.0 hint (subst (λ hs. Contains hs hint) own has)
+    (are_earlier log.entries (lawful log limit steps es names ks ls ns rs vs is kept)) found.0 hint (subst (λ hs. Contains hs hint) own has)
 
 pub origin_found : (log : ProofLog) (limit steps : ℕ) (es : List EntryKind) (names : List (ℕ × Name)) (ks : List ClauseKind) (ls : List (List Literal)) (ns : List (List ℕ))
-    (rs : List KeptRound) (id : ℕ) (k : ClauseKind) (numbers : List ℕ) (origin : Option Origin) → record { limit = limit; entries = log_entries es names ks ls ns rs } ≡ log
-    → IsKept limit steps es names ks ls ns rs → IsId log.entries id → k ≡ get_or ks (id - 1) k → numbers ≡ get_or ns (id - 1) [] → origin ≡ origin_of (entry_by k [] numbers)
+    (rs : List KeptRound) (vs : List (List ℕ)) (id : ℕ) (k : ClauseKind) (numbers : List ℕ) (origin : Option Origin) → record { limit = limit; entries = log_entries es names ks ls ns rs vs } ≡ log
+    → IsKept limit steps es names ks ls ns rs vs → IsId log.entries id → k ≡ get_or ks (id - 1) k → numbers ≡ get_or ns (id - 1) [] → origin ≡ origin_of (entry_by k [] numbers)
     → origin_at log.entries id ≡ origin
-origin_found log limit steps es names ks ls ns rs id k numbers origin is kept known k_is numbers_is origin_is =
-    let at = at_id log limit steps es names ks ls ns rs id is kept known in
+origin_found log limit steps es names ks ls ns rs vs id k numbers origin is kept known k_is numbers_is origin_is =
+    let at = at_id log limit steps es names ks ls ns rs vs id is kept known in
     let found = at.is k k_is in
     ap (option_and_then origin_of) found.0
     ∙ origin_by k (get_or ls (id - 1) []) (get_or ns (id - 1) []) ∙ ap (λ xs. origin_of (entry_by k [] xs)) (sym numbers_is) ∙ sym origin_is
 
 pub origin_numbers : (log : ProofLog) (limit steps : ℕ) (es : List EntryKind) (names : List (ℕ × Name)) (ks : List ClauseKind) (ls : List (List Literal)) (ns : List (List ℕ))
-    (rs : List KeptRound) (id : ℕ) (k : ClauseKind) (numbers : List ℕ) → record { limit = limit; entries = log_entries es names ks ls ns rs } ≡ log
-    → IsKept limit steps es names ks ls ns rs → IsId log.entries id → k ≡ get_or ks (id - 1) k → numbers ≡ get_or ns (id - 1) [] → HasNumbers k numbers
-origin_numbers log limit steps es names ks ls ns rs id k numbers is kept known k_is numbers_is =
-    let at = at_id log limit steps es names ks ls ns rs id is kept known in
+    (rs : List KeptRound) (vs : List (List ℕ)) (id : ℕ) (k : ClauseKind) (numbers : List ℕ) → record { limit = limit; entries = log_entries es names ks ls ns rs vs } ≡ log
+    → IsKept limit steps es names ks ls ns rs vs → IsId log.entries id → k ≡ get_or ks (id - 1) k → numbers ≡ get_or ns (id - 1) [] → HasNumbers k numbers
+origin_numbers log limit steps es names ks ls ns rs vs id k numbers is kept known k_is numbers_is =
+    let at = at_id log limit steps es names ks ls ns rs vs id is kept known in
     subst (HasNumbers k) (sym numbers_is) (at.is k k_is).1
 
 pub names_found : (log : ProofLog) (limit steps : ℕ) (es : List EntryKind) (names : List (ℕ × Name)) (ks : List ClauseKind) (ls : List (List Literal)) (ns : List (List ℕ))
-    (rs : List KeptRound) (v : ℕ) → record { limit = limit; entries = log_entries es names ks ls ns rs } ≡ log → IsKept limit steps es names ks ls ns rs
+    (rs : List KeptRound) (vs : List (List ℕ)) (v : ℕ) → record { limit = limit; entries = log_entries es names ks ls ns rs vs } ≡ log → IsKept limit steps es names ks ls ns rs vs
     → lookup (eqb v) names ≡ name_of log.entries v
-names_found log limit steps es names ks ls ns rs v is kept =
-    ap (lookup (eqb v)) (names_kept log limit steps es names ks ls ns rs is kept)
-    ∙ found_names log.entries v (are_named_once log.entries (lawful log limit steps es names ks ls ns rs is kept))
+names_found log limit steps es names ks ls ns rs vs v is kept =
+    ap (lookup (eqb v)) (names_kept log limit steps es names ks ls ns rs vs is kept)
+    ∙ found_names log.entries v (are_named_once log.entries (lawful log limit steps es names ks ls ns rs vs is kept))

@@ -5,7 +5,7 @@ use Rattle.std.proofs.lemmas.Bool.{eqb-true}
 use Rattle.hint_log.specs.Entries.{name_of, names_of}
 use Rattle.hint_log.proofs.Logged.{AreNamedOnce}
 use Rattle.hint_log.specs.Entries.{Entry}
-use Rattle.hint_log.specs.Entries.{Named, Given, Learned, Answer, Round}
+use Rattle.hint_log.specs.Entries.{Named, Given, Learned, Answer, Round, Begun}
 use Rattle.hint_log.specs.declared.names.Name.{Name}
 
 -- a name more, behind the others: of another variable, or of one that had none
@@ -28,6 +28,7 @@ found_names (Given _ _ ∷ entries) v once = found_names entries v once
 found_names (Learned _ _ ∷ entries) v once = found_names entries v once
 found_names (Answer _ _ ∷ entries) v once = found_names entries v once
 found_names (Round _ _ _ ∷ entries) v once = found_names entries v once
+found_names (Begun _ ∷ entries) v once = found_names entries v once
 found_names (Named w name ∷ entries) v once = by (eqb v w) refl (found_names entries v once.1)
   where
     by : (b : Bool) → eqb v w ≡ b → lookup (eqb v) (names_of entries) ≡ name_of entries v

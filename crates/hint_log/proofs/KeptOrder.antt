@@ -6,9 +6,9 @@ use Rattle.std.proofs.lemmas.Bool.{eqb-true, eqb-false}
 use Rattle.std.proofs.lemmas.List.{reverse-append, reverse-reverse, length-reverse, get_or_append_left}
 use Rattle.dq_lits.specs.Literal.{Literal}
 use Rattle.hint_log.specs.declared.kinds.EntryKind.{EntryKind}
-use Rattle.hint_log.specs.declared.kinds.EntryKind.TheVariants.{Naming, Clause, Failure}
+use Rattle.hint_log.specs.declared.kinds.EntryKind.TheVariants.{Naming, Clause, Failure, Beginning}
 use Rattle.hint_log.specs.declared.kinds.ClauseKind.{ClauseKind}
-use Rattle.hint_log.specs.declared.kinds.ClauseKind.TheVariants.{OfInstance, OfGate, OfFalseFault, OfTrueFault, OfPositiveFault, OfNegativeFault, OfCopy, OfLink, OfLemma, OfAnswer}
+use Rattle.hint_log.specs.declared.kinds.ClauseKind.TheVariants.{OfInstance, OfGate, OfFalseFault, OfTrueFault, OfPositiveFault, OfNegativeFault, OfCopy, OfLink, OfTermGate, OfFalseDiffer, OfTrueDiffer, OfPositiveDiffer, OfNegativeDiffer, OfLemma, OfAnswer}
 use Rattle.hint_log.specs.declared.kinds.KeptRound.{KeptRound}
 use Rattle.hint_log.specs.declared.names.Name.{Name}
 use Rattle.hint_log.specs.Entries.{Entry, has_id, is_round, is_counted, last_id, rounds_of, numbered, clause_of, hints_of, origin_of, names_of}
@@ -23,6 +23,11 @@ has_id_by OfPositiveFault ls ns = refl
 has_id_by OfNegativeFault ls ns = refl
 has_id_by OfCopy ls ns = refl
 has_id_by OfLink ls ns = refl
+has_id_by OfTermGate ls ns = refl
+has_id_by OfFalseDiffer ls ns = refl
+has_id_by OfTrueDiffer ls ns = refl
+has_id_by OfPositiveDiffer ls ns = refl
+has_id_by OfNegativeDiffer ls ns = refl
 has_id_by OfLemma ls ns = refl
 has_id_by OfAnswer ls ns = refl
 
@@ -35,6 +40,11 @@ no_round_by OfPositiveFault ls ns = refl
 no_round_by OfNegativeFault ls ns = refl
 no_round_by OfCopy ls ns = refl
 no_round_by OfLink ls ns = refl
+no_round_by OfTermGate ls ns = refl
+no_round_by OfFalseDiffer ls ns = refl
+no_round_by OfTrueDiffer ls ns = refl
+no_round_by OfPositiveDiffer ls ns = refl
+no_round_by OfNegativeDiffer ls ns = refl
 no_round_by OfLemma ls ns = refl
 no_round_by OfAnswer ls ns = refl
 
@@ -47,6 +57,11 @@ counted_by OfPositiveFault ls ns = refl
 counted_by OfNegativeFault ls ns = refl
 counted_by OfCopy ls ns = refl
 counted_by OfLink ls ns = refl
+counted_by OfTermGate ls ns = refl
+counted_by OfFalseDiffer ls ns = refl
+counted_by OfTrueDiffer ls ns = refl
+counted_by OfPositiveDiffer ls ns = refl
+counted_by OfNegativeDiffer ls ns = refl
 counted_by OfLemma ls ns = refl
 counted_by OfAnswer ls ns = refl
 
@@ -59,6 +74,11 @@ clause_by OfPositiveFault ls ns = refl
 clause_by OfNegativeFault ls ns = refl
 clause_by OfCopy ls ns = refl
 clause_by OfLink ls ns = refl
+clause_by OfTermGate ls ns = refl
+clause_by OfFalseDiffer ls ns = refl
+clause_by OfTrueDiffer ls ns = refl
+clause_by OfPositiveDiffer ls ns = refl
+clause_by OfNegativeDiffer ls ns = refl
 clause_by OfLemma ls ns = refl
 clause_by OfAnswer ls ns = refl
 
@@ -71,6 +91,11 @@ hints_by OfPositiveFault ls ns = refl
 hints_by OfNegativeFault ls ns = refl
 hints_by OfCopy ls ns = refl
 hints_by OfLink ls ns = refl
+hints_by OfTermGate ls ns = refl
+hints_by OfFalseDiffer ls ns = refl
+hints_by OfTrueDiffer ls ns = refl
+hints_by OfPositiveDiffer ls ns = refl
+hints_by OfNegativeDiffer ls ns = refl
 hints_by OfLemma ls ns = refl
 hints_by OfAnswer ls ns = refl
 
@@ -83,6 +108,11 @@ origin_by OfPositiveFault ls ns = refl
 origin_by OfNegativeFault ls ns = refl
 origin_by OfCopy ls ns = refl
 origin_by OfLink ls ns = refl
+origin_by OfTermGate ls ns = refl
+origin_by OfFalseDiffer ls ns = refl
+origin_by OfTrueDiffer ls ns = refl
+origin_by OfPositiveDiffer ls ns = refl
+origin_by OfNegativeDiffer ls ns = refl
 origin_by OfLemma ls ns = refl
 origin_by OfAnswer ls ns = refl
 
@@ -95,6 +125,11 @@ names_by OfPositiveFault ls ns es = refl
 names_by OfNegativeFault ls ns es = refl
 names_by OfCopy ls ns es = refl
 names_by OfLink ls ns es = refl
+names_by OfTermGate ls ns es = refl
+names_by OfFalseDiffer ls ns es = refl
+names_by OfTrueDiffer ls ns es = refl
+names_by OfPositiveDiffer ls ns es = refl
+names_by OfNegativeDiffer ls ns es = refl
 names_by OfLemma ls ns es = refl
 names_by OfAnswer ls ns es = refl
 
@@ -102,49 +137,58 @@ pub reverse_cons : {X : Type 0} (x : X) (xs : List X) → reverse (x ∷ xs) ≡
 reverse_cons x xs = reverse-append (x ∷ []) xs
 
 -- there are as many ids as clauses
-pub ids_are : (ks : List EntryKind) (ns : List (ℕ × Name)) (cs : List KeptClause) (rs : List KeptRound) → AreInterleaved ks ns cs rs
-    → last_id (interleaved ks ns cs rs) ≡ length cs
-ids_are [] [] [] [] h = refl
-ids_are [] [] [] (r ∷ rs) h = absurd h
-ids_are [] [] (c ∷ cs) rs h = absurd h
-ids_are [] (n ∷ ns) cs rs h = absurd h
-ids_are (Naming ∷ ks) [] cs rs h = absurd h
-ids_are (Naming ∷ ks) ((v, name) ∷ ns) cs rs h = ids_are ks ns cs rs h
-ids_are (Clause ∷ ks) ns [] rs h = absurd h
-ids_are (Clause ∷ ks) ns (c ∷ cs) rs h =
-    let es = interleaved ks ns cs rs in
-    let before = ids_are ks ns cs rs h in
+pub ids_are : (ks : List EntryKind) (ns : List (ℕ × Name)) (cs : List KeptClause) (rs : List KeptRound) (vs : List (List ℕ)) → AreInterleaved ks ns cs rs vs
+    → last_id (interleaved ks ns cs rs vs) ≡ length cs
+ids_are [] [] [] [] [] h = refl
+ids_are [] [] [] [] (v ∷ vs) h = absurd h
+ids_are [] [] [] (r ∷ rs) vs h = absurd h
+ids_are [] [] (c ∷ cs) rs vs h = absurd h
+ids_are [] (n ∷ ns) cs rs vs h = absurd h
+ids_are (Naming ∷ ks) [] cs rs vs h = absurd h
+ids_are (Naming ∷ ks) ((v, name) ∷ ns) cs rs vs h = ids_are ks ns cs rs vs h
+ids_are (Clause ∷ ks) ns [] rs vs h = absurd h
+ids_are (Clause ∷ ks) ns (c ∷ cs) rs vs h =
+    let es = interleaved ks ns cs rs vs in
+    let before = ids_are ks ns cs rs vs h in
     ap (λ b. if b then last_id es + 1 else last_id es) (has_id_by c.kind c.literals c.numbers) ∙ omega (arith, before)
-ids_are (Failure ∷ ks) ns cs [] h = absurd h
-ids_are (Failure ∷ ks) ns cs (r ∷ rs) h = ids_are ks ns cs rs h
+ids_are (Failure ∷ ks) ns cs [] vs h = absurd h
+ids_are (Failure ∷ ks) ns cs (r ∷ rs) vs h = ids_are ks ns cs rs vs h
+ids_are (Beginning ∷ ks) ns cs rs [] h = absurd h
+ids_are (Beginning ∷ ks) ns cs rs (v ∷ vs) h = ids_are ks ns cs rs vs h
 
-pub rounds_are : (ks : List EntryKind) (ns : List (ℕ × Name)) (cs : List KeptClause) (rs : List KeptRound) → AreInterleaved ks ns cs rs
-    → rounds_of (interleaved ks ns cs rs) ≡ length rs
-rounds_are [] [] [] [] h = refl
-rounds_are [] [] [] (r ∷ rs) h = absurd h
-rounds_are [] [] (c ∷ cs) rs h = absurd h
-rounds_are [] (n ∷ ns) cs rs h = absurd h
-rounds_are (Naming ∷ ks) [] cs rs h = absurd h
-rounds_are (Naming ∷ ks) ((v, name) ∷ ns) cs rs h = rounds_are ks ns cs rs h
-rounds_are (Clause ∷ ks) ns [] rs h = absurd h
-rounds_are (Clause ∷ ks) ns (c ∷ cs) rs h =
-    let es = interleaved ks ns cs rs in
-    ap (λ b. if b then rounds_of es + 1 else rounds_of es) (no_round_by c.kind c.literals c.numbers) ∙ rounds_are ks ns cs rs h
-rounds_are (Failure ∷ ks) ns cs [] h = absurd h
-rounds_are (Failure ∷ ks) ns cs (r ∷ rs) h = let before = rounds_are ks ns cs rs h in omega (arith, before)
+pub rounds_are : (ks : List EntryKind) (ns : List (ℕ × Name)) (cs : List KeptClause) (rs : List KeptRound) (vs : List (List ℕ)) → AreInterleaved ks ns cs rs vs
+    → rounds_of (interleaved ks ns cs rs vs) ≡ length rs
+rounds_are [] [] [] [] [] h = refl
+rounds_are [] [] [] [] (v ∷ vs) h = absurd h
+rounds_are [] [] [] (r ∷ rs) vs h = absurd h
+rounds_are [] [] (c ∷ cs) rs vs h = absurd h
+rounds_are [] (n ∷ ns) cs rs vs h = absurd h
+rounds_are (Naming ∷ ks) [] cs rs vs h = absurd h
+rounds_are (Naming ∷ ks) ((v, name) ∷ ns) cs rs vs h = rounds_are ks ns cs rs vs h
+rounds_are (Clause ∷ ks) ns [] rs vs h = absurd h
+rounds_are (Clause ∷ ks) ns (c ∷ cs) rs vs h =
+    let es = interleaved ks ns cs rs vs in
+    ap (λ b. if b then rounds_of es + 1 else rounds_of es) (no_round_by c.kind c.literals c.numbers) ∙ rounds_are ks ns cs rs vs h
+rounds_are (Failure ∷ ks) ns cs [] vs h = absurd h
+rounds_are (Failure ∷ ks) ns cs (r ∷ rs) vs h = let before = rounds_are ks ns cs rs vs h in omega (arith, before)
+rounds_are (Beginning ∷ ks) ns cs rs [] h = absurd h
+rounds_are (Beginning ∷ ks) ns cs rs (v ∷ vs) h = rounds_are ks ns cs rs vs h
 
-pub names_are : (ks : List EntryKind) (ns : List (ℕ × Name)) (cs : List KeptClause) (rs : List KeptRound) → AreInterleaved ks ns cs rs
-    → names_of (interleaved ks ns cs rs) ≡ reverse ns
-names_are [] [] [] [] h = refl
-names_are [] [] [] (r ∷ rs) h = absurd h
-names_are [] [] (c ∷ cs) rs h = absurd h
-names_are [] (n ∷ ns) cs rs h = absurd h
-names_are (Naming ∷ ks) [] cs rs h = absurd h
-names_are (Naming ∷ ks) ((v, name) ∷ ns) cs rs h = ap (λ xs. xs ++ (v, name) ∷ []) (names_are ks ns cs rs h) ∙ sym (reverse_cons (v, name) ns)
-names_are (Clause ∷ ks) ns [] rs h = absurd h
-names_are (Clause ∷ ks) ns (c ∷ cs) rs h = names_by c.kind c.literals c.numbers (interleaved ks ns cs rs) ∙ names_are ks ns cs rs h
-names_are (Failure ∷ ks) ns cs [] h = absurd h
-names_are (Failure ∷ ks) ns cs (r ∷ rs) h = names_are ks ns cs rs h
+pub names_are : (ks : List EntryKind) (ns : List (ℕ × Name)) (cs : List KeptClause) (rs : List KeptRound) (vs : List (List ℕ)) → AreInterleaved ks ns cs rs vs
+    → names_of (interleaved ks ns cs rs vs) ≡ reverse ns
+names_are [] [] [] [] [] h = refl
+names_are [] [] [] [] (v ∷ vs) h = absurd h
+names_are [] [] [] (r ∷ rs) vs h = absurd h
+names_are [] [] (c ∷ cs) rs vs h = absurd h
+names_are [] (n ∷ ns) cs rs vs h = absurd h
+names_are (Naming ∷ ks) [] cs rs vs h = absurd h
+names_are (Naming ∷ ks) ((v, name) ∷ ns) cs rs vs h = ap (λ xs. xs ++ (v, name) ∷ []) (names_are ks ns cs rs vs h) ∙ sym (reverse_cons (v, name) ns)
+names_are (Clause ∷ ks) ns [] rs vs h = absurd h
+names_are (Clause ∷ ks) ns (c ∷ cs) rs vs h = names_by c.kind c.literals c.numbers (interleaved ks ns cs rs vs) ∙ names_are ks ns cs rs vs h
+names_are (Failure ∷ ks) ns cs [] vs h = absurd h
+names_are (Failure ∷ ks) ns cs (r ∷ rs) vs h = names_are ks ns cs rs vs h
+names_are (Beginning ∷ ks) ns cs rs [] h = absurd h
+names_are (Beginning ∷ ks) ns cs rs (v ∷ vs) h = names_are ks ns cs rs vs h
 
 -- the element of a number, counted from 1 from the end on
 abbrev from_oldest : {X : Type 0} → List X → ℕ → Option X
@@ -167,65 +211,71 @@ found_oldest (x ∷ xs) i d lt =
         let below : i < length xs = omega (arith, lt, differs) in
         behind below ∙ ap Some (sym (get_or_append_left (reverse xs) (x ∷ []) d i (omega (arith, below, long))))
 
-clauses_found : (ks : List EntryKind) (ns : List (ℕ × Name)) (cs : List KeptClause) (rs : List KeptRound) → AreInterleaved ks ns cs rs → (id : ℕ)
-    → numbered has_id (interleaved ks ns cs rs) id ≡ option_map clause_entry (from_oldest cs id)
-clauses_found [] [] [] [] h id = refl
-clauses_found [] [] [] (r ∷ rs) h id = absurd h
-clauses_found [] [] (c ∷ cs) rs h id = absurd h
-clauses_found [] (n ∷ ns) cs rs h id = absurd h
-clauses_found (Naming ∷ ks) [] cs rs h id = absurd h
-clauses_found (Naming ∷ ks) ((v, name) ∷ ns) cs rs h id = clauses_found ks ns cs rs h id
-clauses_found (Clause ∷ ks) ns [] rs h id = absurd h
-clauses_found (Clause ∷ ks) ns (c ∷ cs) rs h id =
-    let es = interleaved ks ns cs rs in
+clauses_found : (ks : List EntryKind) (ns : List (ℕ × Name)) (cs : List KeptClause) (rs : List KeptRound) (vs : List (List ℕ)) → AreInterleaved ks ns cs rs vs → (id : ℕ)
+    → numbered has_id (interleaved ks ns cs rs vs) id ≡ option_map clause_entry (from_oldest cs id)
+clauses_found [] [] [] [] [] h id = refl
+clauses_found [] [] [] [] (v ∷ vs) h id = absurd h
+clauses_found [] [] [] (r ∷ rs) vs h id = absurd h
+clauses_found [] [] (c ∷ cs) rs vs h id = absurd h
+clauses_found [] (n ∷ ns) cs rs vs h id = absurd h
+clauses_found (Naming ∷ ks) [] cs rs vs h id = absurd h
+clauses_found (Naming ∷ ks) ((v, name) ∷ ns) cs rs vs h id = clauses_found ks ns cs rs vs h id
+clauses_found (Clause ∷ ks) ns [] rs vs h id = absurd h
+clauses_found (Clause ∷ ks) ns (c ∷ cs) rs vs h id =
+    let es = interleaved ks ns cs rs vs in
     ap (λ b. if b && (id == last_id es + 1) then Some (clause_entry c) else numbered has_id es id) (has_id_by c.kind c.literals c.numbers)
-    ∙ ap (λ n. if id == n + 1 then Some (clause_entry c) else numbered has_id es id) (ids_are ks ns cs rs h)
-    ∙ by (id == length cs + 1) (clauses_found ks ns cs rs h id)
+    ∙ ap (λ n. if id == n + 1 then Some (clause_entry c) else numbered has_id es id) (ids_are ks ns cs rs vs h)
+    ∙ by (id == length cs + 1) (clauses_found ks ns cs rs vs h id)
   where
-    by : (b : Bool) → numbered has_id (interleaved ks ns cs rs) id ≡ option_map clause_entry (from_oldest cs id)
-        → (if b then Some (clause_entry c) else numbered has_id (interleaved ks ns cs rs) id) ≡ option_map clause_entry (if b then Some c else from_oldest cs id)
+    by : (b : Bool) → numbered has_id (interleaved ks ns cs rs vs) id ≡ option_map clause_entry (from_oldest cs id)
+        → (if b then Some (clause_entry c) else numbered has_id (interleaved ks ns cs rs vs) id) ≡ option_map clause_entry (if b then Some c else from_oldest cs id)
     by true before = refl
     by false before = before
-clauses_found (Failure ∷ ks) ns cs [] h id = absurd h
-clauses_found (Failure ∷ ks) ns cs (r ∷ rs) h id = clauses_found ks ns cs rs h id
+clauses_found (Failure ∷ ks) ns cs [] vs h id = absurd h
+clauses_found (Failure ∷ ks) ns cs (r ∷ rs) vs h id = clauses_found ks ns cs rs vs h id
+clauses_found (Beginning ∷ ks) ns cs rs [] h id = absurd h
+clauses_found (Beginning ∷ ks) ns cs rs (v ∷ vs) h id = clauses_found ks ns cs rs vs h id
 
-rounds_found : (ks : List EntryKind) (ns : List (ℕ × Name)) (cs : List KeptClause) (rs : List KeptRound) → AreInterleaved ks ns cs rs → (k : ℕ)
-    → numbered is_round (interleaved ks ns cs rs) k ≡ option_map round_entry (from_oldest rs k)
-rounds_found [] [] [] [] h k = refl
-rounds_found [] [] [] (r ∷ rs) h k = absurd h
-rounds_found [] [] (c ∷ cs) rs h k = absurd h
-rounds_found [] (n ∷ ns) cs rs h k = absurd h
-rounds_found (Naming ∷ ks) [] cs rs h k = absurd h
-rounds_found (Naming ∷ ks) ((v, name) ∷ ns) cs rs h k = rounds_found ks ns cs rs h k
-rounds_found (Clause ∷ ks) ns [] rs h k = absurd h
-rounds_found (Clause ∷ ks) ns (c ∷ cs) rs h k =
-    let es = interleaved ks ns cs rs in
+rounds_found : (ks : List EntryKind) (ns : List (ℕ × Name)) (cs : List KeptClause) (rs : List KeptRound) (vs : List (List ℕ)) → AreInterleaved ks ns cs rs vs → (k : ℕ)
+    → numbered is_round (interleaved ks ns cs rs vs) k ≡ option_map round_entry (from_oldest rs k)
+rounds_found [] [] [] [] [] h k = refl
+rounds_found [] [] [] [] (v ∷ vs) h k = absurd h
+rounds_found [] [] [] (r ∷ rs) vs h k = absurd h
+rounds_found [] [] (c ∷ cs) rs vs h k = absurd h
+rounds_found [] (n ∷ ns) cs rs vs h k = absurd h
+rounds_found (Naming ∷ ks) [] cs rs vs h k = absurd h
+rounds_found (Naming ∷ ks) ((v, name) ∷ ns) cs rs vs h k = rounds_found ks ns cs rs vs h k
+rounds_found (Clause ∷ ks) ns [] rs vs h k = absurd h
+rounds_found (Clause ∷ ks) ns (c ∷ cs) rs vs h k =
+    let es = interleaved ks ns cs rs vs in
     ap (λ b. if b && (k == rounds_of es + 1) then Some (clause_entry c) else numbered is_round es k) (no_round_by c.kind c.literals c.numbers)
-    ∙ rounds_found ks ns cs rs h k
-rounds_found (Failure ∷ ks) ns cs [] h k = absurd h
-rounds_found (Failure ∷ ks) ns cs (r ∷ rs) h k =
-    let es = interleaved ks ns cs rs in
-    ap (λ n. if k == n + 1 then Some (round_entry r) else numbered is_round es k) (rounds_are ks ns cs rs h)
-    ∙ by (k == length rs + 1) (rounds_found ks ns cs rs h k)
+    ∙ rounds_found ks ns cs rs vs h k
+rounds_found (Failure ∷ ks) ns cs [] vs h k = absurd h
+rounds_found (Failure ∷ ks) ns cs (r ∷ rs) vs h k =
+    let es = interleaved ks ns cs rs vs in
+    ap (λ n. if k == n + 1 then Some (round_entry r) else numbered is_round es k) (rounds_are ks ns cs rs vs h)
+    ∙ by (k == length rs + 1) (rounds_found ks ns cs rs vs h k)
   where
-    by : (b : Bool) → numbered is_round (interleaved ks ns cs rs) k ≡ option_map round_entry (from_oldest rs k)
-        → (if b then Some (round_entry r) else numbered is_round (interleaved ks ns cs rs) k) ≡ option_map round_entry (if b then Some r else from_oldest rs k)
+    by : (b : Bool) → numbered is_round (interleaved ks ns cs rs vs) k ≡ option_map round_entry (from_oldest rs k)
+        → (if b then Some (round_entry r) else numbered is_round (interleaved ks ns cs rs vs) k) ≡ option_map round_entry (if b then Some r else from_oldest rs k)
     by true before = refl
     by false before = before
+rounds_found (Beginning ∷ ks) ns cs rs [] h k = absurd h
+rounds_found (Beginning ∷ ks) ns cs rs (v ∷ vs) h k = rounds_found ks ns cs rs vs h k
 
 -- the clause of an id is at its place, in order of time
-pub clause_at_place : (ks : List EntryKind) (ns : List (ℕ × Name)) (clauses : List KeptClause) (rs : List KeptRound) → AreInterleaved ks ns (reverse clauses) rs
-    → (i : ℕ) (d : KeptClause) → i < length clauses → numbered has_id (interleaved ks ns (reverse clauses) rs) (i + 1) ≡ Some (clause_entry (get_or clauses i d))
-clause_at_place ks ns clauses rs h i d lt =
+pub clause_at_place : (ks : List EntryKind) (ns : List (ℕ × Name)) (clauses : List KeptClause) (rs : List KeptRound) (vs : List (List ℕ)) → AreInterleaved ks ns (reverse clauses) rs vs
+    → (i : ℕ) (d : KeptClause) → i < length clauses → numbered has_id (interleaved ks ns (reverse clauses) rs vs) (i + 1) ≡ Some (clause_entry (get_or clauses i d))
+clause_at_place ks ns clauses rs vs h i d lt =
     let long = length-reverse clauses in
-    clauses_found ks ns (reverse clauses) rs h (i + 1)
+    clauses_found ks ns (reverse clauses) rs vs h (i + 1)
     ∙ ap (option_map clause_entry) (found_oldest (reverse clauses) i d (omega (arith, lt, long)))
     ∙ ap (λ cs. Some (clause_entry (get_or cs i d))) (reverse-reverse clauses)
 
-pub round_at_place : (ks : List EntryKind) (ns : List (ℕ × Name)) (cs : List KeptClause) (rounds : List KeptRound) → AreInterleaved ks ns cs (reverse rounds)
-    → (i : ℕ) (d : KeptRound) → i < length rounds → numbered is_round (interleaved ks ns cs (reverse rounds)) (i + 1) ≡ Some (round_entry (get_or rounds i d))
-round_at_place ks ns cs rounds h i d lt =
+pub round_at_place : (ks : List EntryKind) (ns : List (ℕ × Name)) (cs : List KeptClause) (rounds : List KeptRound) (vs : List (List ℕ)) → AreInterleaved ks ns cs (reverse rounds) vs
+    → (i : ℕ) (d : KeptRound) → i < length rounds → numbered is_round (interleaved ks ns cs (reverse rounds) vs) (i + 1) ≡ Some (round_entry (get_or rounds i d))
+round_at_place ks ns cs rounds vs h i d lt =
     let long = length-reverse rounds in
-    rounds_found ks ns cs (reverse rounds) h (i + 1)
+    rounds_found ks ns cs (reverse rounds) vs h (i + 1)
     ∙ ap (option_map round_entry) (found_oldest (reverse rounds) i d (omega (arith, lt, long)))
     ∙ ap (λ rs. Some (round_entry (get_or rs i d))) (reverse-reverse rounds)

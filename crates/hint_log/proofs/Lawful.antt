@@ -3,13 +3,13 @@ use Rattle.std.proofs.Common.{◌≡◌, ℕ, ◌+◌, ◌≤◌, ◌==◌, Bool
 use Rattle.std.specs.Option.{option_and_then}
 use Rattle.std.proofs.lemmas.Bool.{eqb-true}
 use Rattle.dq_lits.specs.Literal.{Literal, variable_of}
-use Rattle.hint_log.specs.Conditions.{AreNamed, HasSides, IsId, MayFollow, AreLogged, is_circuit_name}
+use Rattle.hint_log.specs.Conditions.{AreNamed, HasSides, IsId, MayFollow, AreLogged, is_circuit_name, is_term_name}
 use Rattle.hint_log.specs.Entries.{has_id, last_id, steps_of, rounds_of, numbered, clause_of, clause_at, hints_of, name_of}
 use Rattle.hint_log.specs.Reached.{Reaches, itself, by_hint}
 use Rattle.hint_log.specs.Entries.{Entry}
-use Rattle.hint_log.specs.Entries.{Named, Given, Learned, Answer, Round}
+use Rattle.hint_log.specs.Entries.{Named, Given, Learned, Answer, Round, Begun}
 use Rattle.hint_log.specs.declared.names.Name.{Name}
-use Rattle.hint_log.specs.declared.names.Name.TheVariants.{Selector, Pair, Input, And, Bad, Copy}
+use Rattle.hint_log.specs.declared.names.Name.TheVariants.{Selector, Pair, Input, And, Bad, Copy, Term}
 use Rattle.hint_log.proofs.Logged.{are_earlier}
 use Rattle.hint_log.proofs.ReachedIds.{hint_earlier}
 
@@ -38,6 +38,7 @@ name_stays (Given _ _) es v some = some
 name_stays (Learned _ _) es v some = some
 name_stays (Answer _ _) es v some = some
 name_stays (Round _ _ _) es v some = some
+name_stays (Begun _) es v some = some
 name_stays (Named w name) es v some = by (v == w)
   where
     by : (b : Bool) → IsSome (if b then Some name else name_of es v)
@@ -53,6 +54,7 @@ head_named (Given _ c) es clause asked is = subst (AreNamed es) (some_is is) ask
 head_named (Learned c _) es clause asked is = subst (AreNamed es) (some_is is) asked.0
 head_named (Answer c _) es clause asked is = subst (AreNamed es) (some_is is) asked.0
 head_named (Round _ _ _) es clause asked is = absurd (none_is_some is)
+head_named (Begun _) es clause asked is = absurd (none_is_some is)
 
 pub clauses_are_named_lem : (entries : List Entry) (id : ℕ) (clause : List Literal) → AreLogged entries → clause_at entries id ≡ Some clause → AreNamed entries clause
 clauses_are_named_lem [] id clause logged is = absurd (none_is_some is)
@@ -70,10 +72,24 @@ circuit_stays (Given _ _) es v asked is = is
 circuit_stays (Learned _ _) es v asked is = is
 circuit_stays (Answer _ _) es v asked is = is
 circuit_stays (Round _ _ _) es v asked is = is
+circuit_stays (Begun _) es v asked is = is
 circuit_stays (Named w name) es v asked is = by (v == w) refl
   where
     by : (b : Bool) → (v == w) ≡ b → is_circuit_name (if b then Some name else name_of es v) ≡ true
     by true same = absurd (true≢false (sym is ∙ ap (λ u. is_circuit_name (name_of es u)) (eqb-true v w same) ∙ ap is_circuit_name asked.unnamed))
+    by false other = is
+
+-- so does one of a definition
+term_stays : (e : Entry) (es : List Entry) (v : ℕ) → MayFollow es e → is_term_name (name_of es v) ≡ true → is_term_name (name_of (e ∷ es) v) ≡ true
+term_stays (Given _ _) es v asked is = is
+term_stays (Learned _ _) es v asked is = is
+term_stays (Answer _ _) es v asked is = is
+term_stays (Round _ _ _) es v asked is = is
+term_stays (Begun _) es v asked is = is
+term_stays (Named w name) es v asked is = by (v == w) refl
+  where
+    by : (b : Bool) → (v == w) ≡ b → is_term_name (if b then Some name else name_of es v) ≡ true
+    by true same = absurd (true≢false (sym is ∙ ap (λ u. is_term_name (name_of es u)) (eqb-true v w same) ∙ ap is_term_name asked.unnamed))
     by false other = is
 
 sides_stay : (e : Entry) (es : List Entry) (name : Name) → MayFollow es e → HasSides es name → HasSides (e ∷ es) name
@@ -83,6 +99,7 @@ sides_stay e es (Input _) asked sides = tt
 sides_stay e es (And a b) asked sides = (circuit_stays e es (variable_of a) asked sides.0, circuit_stays e es (variable_of b) asked sides.1)
 sides_stay e es (Bad _ _) asked sides = tt
 sides_stay e es (Copy _ _) asked sides = tt
+sides_stay e es (Term a b) asked sides = (term_stays e es (variable_of a) asked sides.0, term_stays e es (variable_of b) asked sides.1)
 
 pub sides_are_named_lem : (entries : List Entry) (v : ℕ) (name : Name) → AreLogged entries → name_of entries v ≡ Some name → HasSides entries name
 sides_are_named_lem [] v name logged is = absurd (none_is_some is)
@@ -90,6 +107,7 @@ sides_are_named_lem (Given o c ∷ es) v name logged is = sides_stay (Given o c)
 sides_are_named_lem (Learned c h ∷ es) v name logged is = sides_stay (Learned c h) es name logged.0 (sides_are_named_lem es v name logged.1 is)
 sides_are_named_lem (Answer c h ∷ es) v name logged is = sides_stay (Answer c h) es name logged.0 (sides_are_named_lem es v name logged.1 is)
 sides_are_named_lem (Round r b j ∷ es) v name logged is = sides_stay (Round r b j) es name logged.0 (sides_are_named_lem es v name logged.1 is)
+sides_are_named_lem (Begun live ∷ es) v name logged is = sides_stay (Begun live) es name logged.0 (sides_are_named_lem es v name logged.1 is)
 sides_are_named_lem (Named w n ∷ es) v name logged is =
     sides_stay (Named w n) es name logged.0 (by (v == w) (λ is. sides_are_named_lem es v name logged.1 is) is)
   where
@@ -103,6 +121,7 @@ names_are_unique_lem (Given _ _ ∷ es) v w name logged first second = names_are
 names_are_unique_lem (Learned _ _ ∷ es) v w name logged first second = names_are_unique_lem es v w name logged.1 first second
 names_are_unique_lem (Answer _ _ ∷ es) v w name logged first second = names_are_unique_lem es v w name logged.1 first second
 names_are_unique_lem (Round _ _ _ ∷ es) v w name logged first second = names_are_unique_lem es v w name logged.1 first second
+names_are_unique_lem (Begun _ ∷ es) v w name logged first second = names_are_unique_lem es v w name logged.1 first second
 names_are_unique_lem (Named u n ∷ es) v w name logged first second = by (v == u) (w == u) refl refl (λ f s. names_are_unique_lem es v w name logged.1 f s) first second
   where
     by : (a b : Bool) → (v == u) ≡ a → (w == u) ≡ b → (name_of es v ≡ Some name → name_of es w ≡ Some name → v ≡ w)
@@ -119,6 +138,7 @@ rounds_are_steps_lem (Given _ _ ∷ es) = rounds_are_steps_lem es
 rounds_are_steps_lem (Learned _ _ ∷ es) = let before = rounds_are_steps_lem es in omega (arith, before)
 rounds_are_steps_lem (Answer _ _ ∷ es) = rounds_are_steps_lem es
 rounds_are_steps_lem (Round _ _ _ ∷ es) = let before = rounds_are_steps_lem es in omega (arith, before)
+rounds_are_steps_lem (Begun _ ∷ es) = let before = rounds_are_steps_lem es in omega (arith, before)
 
 pub ids_stay_lem : (e : Entry) (entries : List Entry) (id : ℕ) → IsId entries id → numbered has_id (e ∷ entries) id ≡ numbered has_id entries id
 ids_stay_lem e es id known = by (has_id e) (id == last_id es + 1) refl

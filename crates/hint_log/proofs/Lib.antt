@@ -1,4 +1,5 @@
 mod KeptOrder
+mod KeptLives
 mod KeptEntries
 mod Lawful
 mod Logged

@@ -3,7 +3,7 @@ use Rattle.std.proofs.Common.{◌≡◌, List, [], ◌∷◌, None, arith}
 use Rattle.hint_log.specs.Conditions.{AreIds, AreLogged}
 use Rattle.hint_log.specs.Entries.{hints_of, name_of}
 use Rattle.hint_log.specs.Entries.{Entry}
-use Rattle.hint_log.specs.Entries.{Named, Given, Learned, Answer, Round}
+use Rattle.hint_log.specs.Entries.{Named, Given, Learned, Answer, Round, Begun}
 
 -- each hint is an earlier id
 abbrev pub AreEarlier : List Entry → Type 0
@@ -18,6 +18,7 @@ AreNamedOnce (Given _ _ ∷ earlier) = AreNamedOnce earlier
 AreNamedOnce (Learned _ _ ∷ earlier) = AreNamedOnce earlier
 AreNamedOnce (Answer _ _ ∷ earlier) = AreNamedOnce earlier
 AreNamedOnce (Round _ _ _ ∷ earlier) = AreNamedOnce earlier
+AreNamedOnce (Begun _ ∷ earlier) = AreNamedOnce earlier
 
 no_ids : (entries : List Entry) → AreIds entries []
 no_ids entries hint has = let below = has.1 in absurd (omega (arith, below))
@@ -29,6 +30,7 @@ are_earlier (Given _ _ ∷ es) logged = (no_ids es, are_earlier es logged.1)
 are_earlier (Learned _ _ ∷ es) logged = (logged.0.1, are_earlier es logged.1)
 are_earlier (Answer _ _ ∷ es) logged = (logged.0.1, are_earlier es logged.1)
 are_earlier (Round _ _ _ ∷ es) logged = (no_ids es, are_earlier es logged.1)
+are_earlier (Begun _ ∷ es) logged = (no_ids es, are_earlier es logged.1)
 
 pub are_named_once : (entries : List Entry) → AreLogged entries → AreNamedOnce entries
 are_named_once [] logged = tt
@@ -37,3 +39,4 @@ are_named_once (Given _ _ ∷ es) logged = are_named_once es logged.1
 are_named_once (Learned _ _ ∷ es) logged = are_named_once es logged.1
 are_named_once (Answer _ _ ∷ es) logged = are_named_once es logged.1
 are_named_once (Round _ _ _ ∷ es) logged = are_named_once es logged.1
+are_named_once (Begun _ ∷ es) logged = are_named_once es logged.1

@@ -1,11 +1,11 @@
 -- What the calls of a log ask for.
-use Rattle.std.specs.Prelude.{◌≡◌, ℕ, ◌≤◌, ◌<◌, ◌^◌, Bool, true, false, List, Option, Some, None, IsSome, Contains}
+use Rattle.std.specs.Prelude.{◌≡◌, ◌==◌, ℕ, ◌≤◌, ◌<◌, ◌^◌, Bool, true, false, List, Option, Some, None, IsSome, Contains}
 use Rattle.std.specs.List.{All}
 use Rattle.dq_lits.specs.Literal.{Literal, variable_of}
 use Rattle.hint_log.specs.Entries.{Entry}
 use Rattle.hint_log.specs.Entries.{Named, Given, Learned, Answer}
 use Rattle.hint_log.specs.declared.names.Name.{Name}
-use Rattle.hint_log.specs.declared.names.Name.TheVariants.{Input, And}
+use Rattle.hint_log.specs.declared.names.Name.TheVariants.{Input, And, Copy as CopyOf, Term}
 use Rattle.hint_log.specs.Entries.{name_of, last_id}
 use Rattle.hint_log.specs.Growth.{Each}
 
@@ -19,11 +19,21 @@ is_circuit_name (Some (Input _)) = true
 is_circuit_name (Some (And _ _)) = true
 is_circuit_name _ = false
 
--- the sides of a gate stand on inputs and gates that were named before
+-- first copies, and gates over them
+abbrev pub is_term_name : Option Name → Bool
+is_term_name (Some (CopyOf side _)) = side == 1
+is_term_name (Some (Term _ _)) = true
+is_term_name _ = false
+
+-- the sides of a gate stand on inputs and gates that were named before, or on first copies and
+-- gates over them
 abbrev pub HasSides : List Entry → Name → Type 0
 HasSides entries (And a b) =
     (is_circuit_name (name_of entries (variable_of a)) ≡ true)
     × (is_circuit_name (name_of entries (variable_of b)) ≡ true)
+HasSides entries (Term a b) =
+    (is_term_name (name_of entries (variable_of a)) ≡ true)
+    × (is_term_name (name_of entries (variable_of b)) ≡ true)
 HasSides entries _ = Unit {0}
 
 -- an entry has this id

@@ -20,6 +20,8 @@ pub data Entry : Type 0 where
   -- candidates failed: a row, the values of the existentials there, and the number of a clause that
   -- is false
   Round : List Bool → List Bool → ℕ → Entry
+  -- a search begins over these of the clauses that were numbered so far, by their numbers
+  Begun : List ℕ → Entry
 
 pub record ProofLog : Type 0 where
   -- the most counted entries
@@ -33,11 +35,16 @@ with_entry log entry = record log { entries = entry ∷ log.entries }
 abbrev pub has_id : Entry → Bool
 has_id (Named _ _) = false
 has_id (Round _ _ _) = false
+has_id (Begun _) = false
 has_id _ = true
 
 abbrev pub is_round : Entry → Bool
 is_round (Round _ _ _) = true
 is_round _ = false
+
+abbrev pub is_beginning : Entry → Bool
+is_beginning (Begun _) = true
+is_beginning _ = false
 
 -- the entries that count as steps
 abbrev pub is_counted : Entry → Bool
@@ -58,6 +65,9 @@ steps_of entries = count is_counted entries
 
 abbrev pub rounds_of : List Entry → ℕ
 rounds_of entries = count is_round entries
+
+abbrev pub beginnings_of : List Entry → ℕ
+beginnings_of entries = count is_beginning entries
 
 -- the entry of a number among those that pass a test, counted from 1 in order of time
 abbrev pub numbered : (Entry → Bool) → List Entry → ℕ → Option Entry

@@ -1,17 +1,17 @@
--- How a log is kept: what each entry is, in order of time, and the names, the clauses and the
--- rounds in lists of their own.
-use Rattle.std.specs.Prelude.{◌≡◌, ℕ, ◌≤◌, ◌<◌, ◌^◌, true, false, List, [], ◌∷◌, reverse, length, slice_index}
+-- How a log is kept: what each entry is, in order of time, and the names, the clauses, the rounds
+-- and the beginnings in lists of their own.
+use Rattle.std.specs.Prelude.{◌≡◌, ℕ, ◌≤◌, ◌<◌, ◌^◌, true, false, List, [], ◌∷◌, ◌++◌, reverse, take, length, slice_index}
 use Rattle.std.specs.List.{AllByRecursion}
 use Rattle.dq_lits.specs.Literal.{Literal, positive, negative}
 use Rattle.hint_log.specs.declared.kinds.EntryKind.{EntryKind}
-use Rattle.hint_log.specs.declared.kinds.EntryKind.TheVariants.{Naming, Clause, Failure}
+use Rattle.hint_log.specs.declared.kinds.EntryKind.TheVariants.{Naming, Clause, Failure, Beginning}
 use Rattle.hint_log.specs.declared.kinds.ClauseKind.{ClauseKind}
-use Rattle.hint_log.specs.declared.kinds.ClauseKind.TheVariants.{OfInstance, OfGate, OfFalseFault, OfTrueFault, OfPositiveFault, OfNegativeFault, OfCopy, OfLink, OfLemma, OfAnswer}
+use Rattle.hint_log.specs.declared.kinds.ClauseKind.TheVariants.{OfInstance, OfGate, OfFalseFault, OfTrueFault, OfPositiveFault, OfNegativeFault, OfCopy, OfLink, OfTermGate, OfFalseDiffer, OfTrueDiffer, OfPositiveDiffer, OfNegativeDiffer, OfLemma, OfAnswer}
 use Rattle.hint_log.specs.declared.kinds.KeptRound.{KeptRound}
 use Rattle.hint_log.specs.declared.names.Name.{Name}
 use Rattle.hint_log.specs.declared.origins.Leaf.TheVariants.{Constant, Literal as LeafLiteral}
-use Rattle.hint_log.specs.declared.origins.Origin.TheVariants.{Instance, Gate, Fault, Copy, Link}
-use Rattle.hint_log.specs.Entries.{Entry, Named, Given, Learned, Answer, Round, steps_of}
+use Rattle.hint_log.specs.declared.origins.Origin.TheVariants.{Instance, Gate, Fault, Copy, Link, TermGate, Differ}
+use Rattle.hint_log.specs.Entries.{Entry, Named, Given, Learned, Answer, Round, Begun, steps_of}
 use Rattle.hint_log.specs.Conditions.{AreLogged}
 
 -- a clause's kind, its literals, and its hints or its origin's numbers
@@ -36,6 +36,17 @@ entry_by OfNegativeFault literals ns =
     literals
 entry_by OfCopy literals ns = Given (Copy (slice_index ns 0) (slice_index ns 1)) literals
 entry_by OfLink literals ns = Given (Link (slice_index ns 0) (slice_index ns 1)) literals
+entry_by OfTermGate literals ns = Given (TermGate (slice_index ns 0) (slice_index ns 1)) literals
+entry_by OfFalseDiffer literals ns =
+    Given (Differ (slice_index ns 0) (Constant false) (slice_index ns 1)) literals
+entry_by OfTrueDiffer literals ns =
+    Given (Differ (slice_index ns 0) (Constant true) (slice_index ns 1)) literals
+entry_by OfPositiveDiffer literals ns =
+    Given (Differ (slice_index ns 0) (LeafLiteral (positive (slice_index ns 2))) (slice_index ns 1))
+    literals
+entry_by OfNegativeDiffer literals ns =
+    Given (Differ (slice_index ns 0) (LeafLiteral (negative (slice_index ns 2))) (slice_index ns 1))
+    literals
 entry_by OfLemma literals hints = Learned literals hints
 entry_by OfAnswer literals hints = Answer literals hints
 
@@ -46,6 +57,10 @@ HasNumbers OfAnswer ns = Unit {0}
 HasNumbers OfPositiveFault ns =
     (3 ≤ length ns) × (1 ≤ slice_index ns 2) × (slice_index ns 2 < 2 ^ 62)
 HasNumbers OfNegativeFault ns =
+    (3 ≤ length ns) × (1 ≤ slice_index ns 2) × (slice_index ns 2 < 2 ^ 62)
+HasNumbers OfPositiveDiffer ns =
+    (3 ≤ length ns) × (1 ≤ slice_index ns 2) × (slice_index ns 2 < 2 ^ 62)
+HasNumbers OfNegativeDiffer ns =
     (3 ≤ length ns) × (1 ≤ slice_index ns 2) × (slice_index ns 2 < 2 ^ 62)
 HasNumbers _ ns = 2 ≤ length ns
 
@@ -66,41 +81,60 @@ kept_clauses _ _ _ = []
 
 -- the entries, newest first, from what is kept, newest first
 abbrev pub interleaved : List EntryKind → List (ℕ × Name) → List KeptClause → List KeptRound
-    → List Entry
-interleaved (Naming ∷ kinds) ((v, name) ∷ names) clauses rounds =
-    Named v name ∷ interleaved kinds names clauses rounds
-interleaved (Clause ∷ kinds) names (c ∷ clauses) rounds =
-    clause_entry c ∷ interleaved kinds names clauses rounds
-interleaved (Failure ∷ kinds) names clauses (r ∷ rounds) =
-    round_entry r ∷ interleaved kinds names clauses rounds
-interleaved _ _ _ _ = []
+    → List (List ℕ) → List Entry
+interleaved (Naming ∷ kinds) ((v, name) ∷ names) clauses rounds lives =
+    Named v name ∷ interleaved kinds names clauses rounds lives
+interleaved (Clause ∷ kinds) names (c ∷ clauses) rounds lives =
+    clause_entry c ∷ interleaved kinds names clauses rounds lives
+interleaved (Failure ∷ kinds) names clauses (r ∷ rounds) lives =
+    round_entry r ∷ interleaved kinds names clauses rounds lives
+interleaved (Beginning ∷ kinds) names clauses rounds (live ∷ lives) =
+    Begun live ∷ interleaved kinds names clauses rounds lives
+interleaved _ _ _ _ _ = []
 
 -- each entry has what it is in the list of its kind, and nothing else is there
 abbrev pub AreInterleaved : List EntryKind → List (ℕ × Name) → List KeptClause → List KeptRound
-    → Type 0
-AreInterleaved [] [] [] [] = Unit {0}
-AreInterleaved (Naming ∷ kinds) (_ ∷ names) clauses rounds =
-    AreInterleaved kinds names clauses rounds
-AreInterleaved (Clause ∷ kinds) names (_ ∷ clauses) rounds =
-    AreInterleaved kinds names clauses rounds
-AreInterleaved (Failure ∷ kinds) names clauses (_ ∷ rounds) =
-    AreInterleaved kinds names clauses rounds
-AreInterleaved _ _ _ _ = ⊥
+    → List (List ℕ) → Type 0
+AreInterleaved [] [] [] [] [] = Unit {0}
+AreInterleaved (Naming ∷ kinds) (_ ∷ names) clauses rounds lives =
+    AreInterleaved kinds names clauses rounds lives
+AreInterleaved (Clause ∷ kinds) names (_ ∷ clauses) rounds lives =
+    AreInterleaved kinds names clauses rounds lives
+AreInterleaved (Failure ∷ kinds) names clauses (_ ∷ rounds) lives =
+    AreInterleaved kinds names clauses rounds lives
+AreInterleaved (Beginning ∷ kinds) names clauses rounds (_ ∷ lives) =
+    AreInterleaved kinds names clauses rounds lives
+AreInterleaved _ _ _ _ _ = ⊥
+
+abbrev pub newest_of : List (List ℕ) → List ℕ
+newest_of [] = []
+newest_of (live ∷ _) = live
+
+-- the live numbers of each beginning, newest first, from how many of the last ones stay and which
+-- are added, newest first too
+abbrev pub live_lists : List ℕ → List (List ℕ) → List (List ℕ)
+live_lists (stays ∷ counts) (more ∷ added) =
+    (take stays (newest_of (live_lists counts added)) ++ more) ∷ live_lists counts added
+live_lists _ _ = []
+
+abbrev pub kept_lives : List ℕ → List (List ℕ) → List (List ℕ)
+kept_lives counts added = live_lists (reverse counts) (reverse added)
 
 abbrev pub log_entries : List EntryKind → List (ℕ × Name) → List ClauseKind → List (List Literal)
-    → List (List ℕ) → List KeptRound → List Entry
-log_entries kinds names clause_kinds literals numbers rounds =
+    → List (List ℕ) → List KeptRound → List (List ℕ) → List Entry
+log_entries kinds names clause_kinds literals numbers rounds lives =
     interleaved (reverse kinds) (reverse names)
-    (reverse (kept_clauses clause_kinds literals numbers)) (reverse rounds)
+    (reverse (kept_clauses clause_kinds literals numbers)) (reverse rounds) lives
 
 pub record IsKept (limit steps : ℕ) (kinds : List EntryKind) (names : List (ℕ × Name))
     (clause_kinds : List ClauseKind) (literals : List (List Literal))
-    (numbers : List (List ℕ)) (rounds : List KeptRound) : Type 0 where
+    (numbers : List (List ℕ)) (rounds : List KeptRound) (lives : List (List ℕ)) : Type 0 where
   pub interleaved : AreInterleaved (reverse kinds) (reverse names)
-      (reverse (kept_clauses clause_kinds literals numbers)) (reverse rounds)
+      (reverse (kept_clauses clause_kinds literals numbers)) (reverse rounds) lives
   pub literals_long : length literals ≡ length clause_kinds
   pub numbers_long : length numbers ≡ length clause_kinds
   pub numbers_are : AllByRecursion HasOwnNumbers (kept_clauses clause_kinds literals numbers)
-  pub steps_are : steps ≡ steps_of (log_entries kinds names clause_kinds literals numbers rounds)
+  pub steps_are : steps
+      ≡ steps_of (log_entries kinds names clause_kinds literals numbers rounds lives)
   pub within : steps ≤ limit
-  pub logged : AreLogged (log_entries kinds names clause_kinds literals numbers rounds)
+  pub logged : AreLogged (log_entries kinds names clause_kinds literals numbers rounds lives)

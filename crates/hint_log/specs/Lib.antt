@@ -6,5 +6,7 @@ pub mod Growth
 pub mod Naming
 pub mod Origins
 pub mod ProductiveLog
+pub mod Live
+pub mod ProductiveSession
 pub mod Deciding
 pub mod Pending

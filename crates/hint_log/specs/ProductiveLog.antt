@@ -2,13 +2,13 @@
 -- ones, so that it stays true as the log grows. Clause learning is by first unique implication
 -- points (J. Marques-Silva, K. Sakallah, "GRASP", 1999; M. Moskewicz et al., "Chaff", 2001), hints
 -- as in LRAT (L. Cruz-Filipe et al., 2017).
-use Rattle.std.specs.Prelude.{◌≡◌, ℕ, ◌+◌, ◌≤◌, Bool, true, false, List, [], ◌∷◌, map, length, Some, if◌then◌else◌}
+use Rattle.std.specs.Prelude.{◌≡◌, ℕ, ◌+◌, ◌-◌, ◌≤◌, Bool, true, false, List, [], ◌∷◌, map, length, Some, if◌then◌else◌}
 use Rattle.std.specs.List.{Contains, list_any}
 use Rattle.dq_lits.specs.Literal.{Assignment, Literal, negative, variable_of, opposite, same_literal, clause_true}
 use Rattle.dq_lits.specs.Formula.{Dqbf}
 use Rattle.dq_lits.specs.Expansion.{pair_number, IsExpansionModel}
 use Rattle.dq_lits.specs.Derivation.{LiveClauses, IsDerived, holds, is_tautology, status_of, stuck}
-use Rattle.hint_log.specs.Entries.{clause_at, rounds_of}
+use Rattle.hint_log.specs.Entries.{clause_at, rounds_of, beginnings_of}
 use Rattle.hint_log.specs.Entries.{Entry}
 use Rattle.hint_log.specs.Entries.{Named, Given, Learned, Answer, Round}
 use Rattle.hint_log.specs.declared.names.Name.{Name}
@@ -103,12 +103,16 @@ fault_groups (Given origin clause ∷ earlier) =
     if is_fault origin then with_group clause (fault_groups earlier) else fault_groups earlier
 fault_groups (_ ∷ earlier) = fault_groups earlier
 
--- no two given clauses have one origin, faults aside, and the groups that were given faults are at
--- most one more than the rounds
+-- how many groups may have been given faults: one more than the rounds, and one more for each
+-- search that began after the first
+abbrev pub fault_room : List Entry → ℕ
+fault_room entries = rounds_of entries + 1 + (beginnings_of entries - 1)
+
+-- no two given clauses have one origin, faults aside, and the groups that were given faults are few
 pub record IsFirstOfOrigin (earlier : List Entry) (origin : Origin)
     (clause : List Literal) : Type 0 where
   pub first : is_fault origin ≡ false → (c : List Literal) → Contains earlier (Given origin c) → ⊥
-  pub groups : length (fault_groups (Given origin clause ∷ earlier)) ≤ rounds_of earlier + 1
+  pub groups : length (fault_groups (Given origin clause ∷ earlier)) ≤ fault_room earlier
 
 -- point 6: nothing is given twice
 abbrev pub IsNotRepeated : List Entry → Entry → Type 0

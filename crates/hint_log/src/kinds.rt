@@ -7,7 +7,7 @@
 ghost use Rattle.std.specs.Prelude.{◌≡◌, ◌≤◌, [], length, slice_index, if◌then◌else◌};
 ghost use Rattle.hint_log.specs.Entries.{hints_of, origin_of, is_counted};
 ghost use Rattle.hint_log.specs.Kept.{entry_by, HasNumbers};
-ghost use Rattle.hint_log.specs.declared.origins.Origin.TheVariants.{Fault};
+ghost use Rattle.hint_log.specs.declared.origins.Origin.TheVariants.{Fault, Differ};
 
 use crate::origins::{Leaf, Origin};
 use dq_lits::{Lit, Row};
@@ -18,6 +18,7 @@ pub enum EntryKind {
     Naming,
     Clause,
     Failure,
+    Beginning,
 }
 
 /// What a clause is. A fault is of a kind by its output: a constant, or a literal of this sign,
@@ -32,6 +33,11 @@ pub enum ClauseKind {
     OfNegativeFault,
     OfCopy,
     OfLink,
+    OfTermGate,
+    OfFalseDiffer,
+    OfTrueDiffer,
+    OfPositiveDiffer,
+    OfNegativeDiffer,
     OfLemma,
     OfAnswer,
 }
@@ -94,7 +100,26 @@ pub fn kept_origin(kind: ClauseKind, numbers: &[u64]) -> Option<Origin>
             variable: numbers[0],
             part: numbers[1],
         }),
+        ClauseKind::OfTermGate => Some(Origin::TermGate {
+            variable: numbers[0],
+            part: numbers[1],
+        }),
+        ClauseKind::OfFalseDiffer => Some(differ(numbers, Leaf::Constant(false))),
+        ClauseKind::OfTrueDiffer => Some(differ(numbers, Leaf::Constant(true))),
+        ClauseKind::OfPositiveDiffer => Some(differ(numbers, Leaf::Literal(Lit::pos(numbers[2])))),
+        ClauseKind::OfNegativeDiffer => Some(differ(numbers, Leaf::Literal(Lit::neg(numbers[2])))),
         ClauseKind::OfLemma | ClauseKind::OfAnswer => None,
+    }
+}
+
+fn differ(numbers: &[u64], output: Leaf) -> Origin
+    requires { 2 ≤ length numbers.now }
+    ensures { result ≡ Differ (slice_index numbers.now 0) output (slice_index numbers.now 1) }
+{
+    Origin::Differ {
+        existential: numbers[0],
+        output,
+        part: numbers[1],
     }
 }
 

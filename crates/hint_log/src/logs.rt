@@ -1,9 +1,10 @@
-ghost use Rattle.std.specs.Prelude.{◌≡◌, ◌+◌, ◌-◌, ◌≤◌, ◌<◌, ◌^◌, ◌↔◌, ℕ, true, false, List, [], length, Contains, All, OnOk, OnErr, IfOk, IsErrOf, Some, None, IsSome, ◌∷◌, slice_get};
+ghost use Rattle.std.specs.Prelude.{◌≡◌, ◌+◌, ◌-◌, ◌≤◌, ◌<◌, ◌^◌, ◌↔◌, ℕ, true, false, List, [], length, take, ◌++◌, Contains, All, OnOk, OnErr, IfOk, IsErrOf, Some, None, IsSome, ◌∷◌, slice_get};
 ghost use Rattle.dq_lits.specs.Literal.{variable_of};
 ghost use Rattle.hint_log.specs.Conditions.{AreNamed, HasSides, IsId, AreIds, MayFollow, AreLogged};
-ghost use Rattle.hint_log.specs.Entries.{Named, Given, Learned, Answer, Round, with_entry, is_counted, origin_of, last_id, steps_of, rounds_of, clause_at, hints_at, origin_at, row_at, name_of, names_of};
+ghost use Rattle.hint_log.specs.Entries.{Named, Given, Learned, Answer, Round, Begun, with_entry, is_counted, origin_of, last_id, steps_of, rounds_of, clause_at, hints_at, origin_at, row_at, name_of, names_of};
 ghost use Rattle.hint_log.specs.Kept.{entry_by, HasNumbers};
-ghost use Rattle.hint_log.specs.declared.origins.Origin.TheVariants.{Fault};
+ghost use Rattle.hint_log.specs.Live.{last_live};
+ghost use Rattle.hint_log.specs.declared.origins.Origin.TheVariants.{Fault, Differ};
 ghost use Rattle.hint_log.specs.declared.origins.Leaf.TheVariants.{Literal as LeafLiteral};
 
 use crate::kinds::{ClauseKind, EntryKind, KeptRound, kept_hints, kept_origin};
@@ -30,11 +31,15 @@ pub struct Log {
     literals: FlatLists<Lit>,
     numbers: FlatLists<u64>,
     rounds: Vec<KeptRound>,
+    // Of each beginning, how many of the last live clauses stay, and the numbers of those that are
+    // added: a search over the clauses of the last one and a few more costs those few.
+    stays: Vec<usize>,
+    added: FlatLists<u64>,
 }
 
 impl Model for Log {
     ghost use Rattle.hint_log.specs.Entries.{ProofLog};
-    ghost use Rattle.hint_log.specs.Kept.{log_entries, IsKept};
+    ghost use Rattle.hint_log.specs.Kept.{log_entries, kept_lives, IsKept};
 
     ghost Value = { ProofLog };
 
@@ -42,12 +47,12 @@ impl Model for Log {
         record {
           limit = l.limit;
           entries = log_entries l.entries.items l.names.entries l.kinds.items l.literals l.numbers
-              l.rounds.items;
+              l.rounds.items (kept_lives l.stays.items l.added);
         } };
 
     ghost invariant = { λ l.
         IsKept l.limit l.steps l.entries.items l.names.entries l.kinds.items l.literals l.numbers
-        l.rounds.items };
+        l.rounds.items (kept_lives l.stays.items l.added) };
 }
 
 impl Log {
@@ -65,6 +70,8 @@ impl Log {
             literals: FlatLists::new(alloc),
             numbers: FlatLists::new(alloc),
             rounds: Vec::new(alloc),
+            stays: Vec::new(alloc),
+            added: FlatLists::new(alloc),
         }
     }
 
@@ -80,6 +87,8 @@ impl Log {
         self.literals.clear();
         self.numbers.clear();
         self.rounds.clear();
+        self.stays.clear();
+        self.added.clear();
     }
 
     /// Names a variable.
@@ -123,6 +132,14 @@ impl Log {
             Origin::Link { variable, part } => {
                 self.append(ClauseKind::OfLink, lits, &[variable, part])
             }
+            Origin::TermGate { variable, part } => {
+                self.append(ClauseKind::OfTermGate, lits, &[variable, part])
+            }
+            Origin::Differ {
+                existential,
+                output,
+                part,
+            } => { self.append_differ(lits, existential, part, output) }
         }
     }
 
@@ -166,6 +183,22 @@ impl Log {
         let row = row.copy()?;
         let values = values.copy()?;
         self.append_round(row, values, j)?;
+        Ok(())
+    }
+
+    /// Logs that a search begins: over the first so many of the clauses of the last search, and
+    /// over these. It costs what is added, and no look at what stays.
+    pub fn begun(&mut self, stays: usize, more: &[u64]) -> Result<(), Memory>
+        ensures ok { OnOk result
+            (self.new
+            ≡ with_entry self.old (Begun (take stays (last_live self.old.entries) ++ more.now))) }
+        ensures err { OnErr result (self.new ≡ self.old) }
+    {
+        self.entries.reserve(1)?;
+        self.stays.reserve(1)?;
+        self.added.push(more)?;
+        self.stays.push(stays).unwrap();
+        self.entries.push(EntryKind::Beginning).unwrap();
         Ok(())
     }
 
@@ -323,6 +356,65 @@ impl Log {
                 ClauseKind::OfPositiveFault,
                 lits,
                 &[clause, place, variable],
+            )
+        }
+    }
+
+    fn append_differ(
+        &mut self,
+        lits: &[Lit],
+        existential: u64,
+        part: u64,
+        output: Leaf,
+    ) -> Result<u64, Memory>
+        requires { AreNamed self.old.entries lits.now }
+        ensures ok { OnOk result
+            (self.new ≡ with_entry self.old (Given (Differ existential output part) lits.now)) }
+        ensures id { IfOk result (λ id. id ≡ last_id self.new.entries) }
+        ensures err { OnErr result (self.new ≡ self.old) }
+    {
+        match output {
+            Leaf::Constant(false) => self.append(
+                ClauseKind::OfFalseDiffer,
+                lits,
+                &[existential, part],
+            ),
+            Leaf::Constant(true) => self.append(
+                ClauseKind::OfTrueDiffer,
+                lits,
+                &[existential, part],
+            ),
+            Leaf::Literal(l) => self.append_difference(lits, existential, part, &l),
+        }
+    }
+
+    fn append_difference(
+        &mut self,
+        lits: &[Lit],
+        existential: u64,
+        part: u64,
+        output: &Lit,
+    ) -> Result<u64, Memory>
+        requires { AreNamed self.old.entries lits.now }
+        ensures ok { OnOk result
+            (self.new
+            ≡ with_entry self.old
+            (Given (Differ existential (LeafLiteral output.now) part) lits.now)) }
+        ensures id { IfOk result (λ id. id ≡ last_id self.new.entries) }
+        ensures err { OnErr result (self.new ≡ self.old) }
+    {
+        let variable = output.var();
+        if output.is_neg() {
+            self.append(
+                ClauseKind::OfNegativeDiffer,
+                lits,
+                &[existential, part, variable],
+            )
+        } else {
+            self.append(
+                ClauseKind::OfPositiveDiffer,
+                lits,
+                &[existential, part, variable],
             )
         }
     }

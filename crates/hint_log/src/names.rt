@@ -16,4 +16,6 @@ pub enum Name {
     Bad { group: u64, clause: u64 },
     /// A variable of the formula in the first or second copy of its matrix.
     Copy { side: u64, variable: u64 },
+    /// A gate over two literals, on variables that are first copies or such gates.
+    Term { left: Lit, right: Lit },
 }

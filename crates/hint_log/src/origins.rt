@@ -39,4 +39,17 @@ pub enum Origin {
         variable: u64,
         part: u64,
     },
+    /// One of the three clauses of the gate over copies that a variable is named for; parts are
+    /// numbered from 1 to 3.
+    TermGate {
+        variable: u64,
+        part: u64,
+    },
+    /// One of the two clauses by which the first copy of an existential and an output over first
+    /// copies have different values; parts are numbered from 1 to 2.
+    Differ {
+        existential: u64,
+        output: Leaf,
+        part: u64,
+    },
 }

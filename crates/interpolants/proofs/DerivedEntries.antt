@@ -6,7 +6,7 @@ use Rattle.dq_lits.specs.Literal.{Literal}
 use Rattle.dq_lits.specs.Derivation.{IsDerived}
 use Rattle.hint_log.specs.Conditions.{IsId, AreIds, AreLogged}
 use Rattle.hint_log.specs.Entries.{Entry}
-use Rattle.hint_log.specs.Entries.{Named, Given, Learned, Answer, Round}
+use Rattle.hint_log.specs.Entries.{Named, Given, Learned, Answer, Round, Begun}
 use Rattle.hint_log.specs.Entries.{has_id, last_id, numbered, clause_of, hints_of, origin_of, clause_at, hints_at}
 use Rattle.hint_log.specs.Growth.{Each}
 use Rattle.hint_log.specs.ProductiveLog.{IsDerivedByHints}
@@ -40,6 +40,7 @@ module _ (stays : (e : Entry) (es : List Entry) (id : ℕ) → IsId es id → nu
   entry_here (Learned c' hs) es clause hints logged derived c o h = line_here (Learned c' hs) es c' clause hs hints logged.0.1 derived c h
   entry_here (Answer c' hs) es clause hints logged derived c o h = line_here (Answer c' hs) es c' clause hs hints logged.0.1 derived c h
   entry_here (Round r v j) es clause hints logged derived c o h = cc
+  entry_here (Begun live) es clause hints logged derived c o h = cc
 
   pub each_derived : (entries : List Entry) → AreLogged entries → Each IsDerivedByHints entries → AreDerived entries
   each_derived [] logged each id clause hints c o h = cc

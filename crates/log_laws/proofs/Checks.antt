@@ -11,7 +11,7 @@ use Rattle.dq_lits.specs.Formula.{Existential, IsWellFormed}
 use Rattle.dq_lits.specs.Literal.{Literal, positive, negative, variable_of, opposite, same_literal}
 use Rattle.dq_lits.specs.Derivation.{holds, stuck, status_of}
 use Rattle.hint_log.specs.Entries.{Entry}
-use Rattle.hint_log.specs.Entries.{Named, Given, Learned, Answer, Round}
+use Rattle.hint_log.specs.Entries.{Named, Given, Learned, Answer, Round, Begun}
 use Rattle.hint_log.specs.declared.names.Name.{Name}
 use Rattle.hint_log.specs.declared.names.Name.TheVariants.{Input}
 use Rattle.hint_log.specs.declared.origins.Origin.{Origin}
@@ -60,6 +60,7 @@ no_name name (Given _ _ ∷ es) h v is = no_name name es h.1 v is
 no_name name (Learned _ _ ∷ es) h v is = no_name name es h.1 v is
 no_name name (Answer _ _ ∷ es) h v is = no_name name es h.1 v is
 no_name name (Round _ _ _ ∷ es) h v is = no_name name es h.1 v is
+no_name name (Begun _ ∷ es) h v is = no_name name es h.1 v is
 
 -- each entry's clause is stuck
 pub closed_by : (trues : List Literal) (entries : List Entry) → Each (λ earlier e. status_of trues (clause_of e) ≡ stuck) entries → IsClosed (clause_at entries) trues
@@ -159,6 +160,7 @@ named_has P (Given _ _ ∷ es) h v n is = named_has P es h.1 v n is
 named_has P (Learned _ _ ∷ es) h v n is = named_has P es h.1 v n is
 named_has P (Answer _ _ ∷ es) h v n is = named_has P es h.1 v n is
 named_has P (Round _ _ _ ∷ es) h v n is = named_has P es h.1 v n is
+named_has P (Begun _ ∷ es) h v n is = named_has P es h.1 v n is
 
 -- what is read is named an input
 pub read_is_named : (entries : List Entry) (l : Literal) (x : ℕ) → ReadsInput entries l x → (v : ℕ) × (name_of entries v ≡ Some (Input x))

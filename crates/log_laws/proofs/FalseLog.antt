@@ -1,5 +1,5 @@
 -- The log of a false formula meets every point.
-use Rattle.std.proofs.Common.{◌≡◌, ℕ, zero, suc, ◌+◌, ◌≤◌, ◌<◌, ◌==◌, Bool, true, false, List, [], ◌∷◌, length, None, Some, refl, subst, arith, nat_le}
+use Rattle.std.proofs.Common.{◌≡◌, ℕ, zero, suc, ◌≤◌, ◌<◌, ◌==◌, Bool, true, false, List, [], ◌∷◌, length, None, Some, refl, subst, arith, nat_le}
 use Rattle.std.specs.List.{All, Contains, list_any, filter_map}
 use Rattle.std.proofs.lemmas.Bool.{leb-true}
 use Rattle.std.proofs.lemmas.List.Elements.{All-from_recursion}
@@ -14,11 +14,11 @@ use Rattle.hint_log.specs.declared.origins.Origin.{Origin}
 use Rattle.hint_log.specs.declared.origins.Origin.TheVariants.{Instance}
 use Rattle.hint_log.specs.Conditions.{AreLogged, IsNewName, HasSides}
 use Rattle.hint_log.specs.Deciding.{KeepsSelectors, DecidesFalse, IsInstance}
-use Rattle.hint_log.specs.Entries.{name_of, row_at, rounds_of}
+use Rattle.hint_log.specs.Entries.{name_of, row_at}
 use Rattle.hint_log.specs.Growth.{Each}
 use Rattle.hint_log.specs.Naming.{numbered_from_one, AreNamedAs, rows_of, on_arbiter}
 use Rattle.hint_log.specs.Origins.{IsOriginsClause}
-use Rattle.hint_log.specs.ProductiveLog.{MatchesOrigin, IsDerivedByHints, IsNewLemma, RefutesNewRow, FollowsModel, IsNotRepeated, IsProductiveLog, fault_groups}
+use Rattle.hint_log.specs.ProductiveLog.{MatchesOrigin, IsDerivedByHints, IsNewLemma, RefutesNewRow, FollowsModel, IsNotRepeated, IsProductiveLog, fault_groups, fault_room}
 use Rattle.log_laws.specs.Examples.{blind_negation, tried_once, refuted}
 use Rattle.log_laws.specs.Meaning.{HasAnswer}
 use Rattle.log_laws.proofs.Checks.{named_by, ids_by, no_name, closed_by, rest_by, no_given, reached_has, holds_group, well_formed_by}
@@ -40,10 +40,10 @@ instance_of f earlier k j group row clause rest is_group row_is clause_is open_r
 }
 
 pub first_of : (earlier : List Entry) (origin : Origin) (clause : List Literal) → Each (λ before e. (c : List Literal) → e ≡ Given origin c → ⊥) earlier →
-    nat_le (length (fault_groups (Given origin clause ∷ earlier))) (rounds_of earlier + 1) ≡ true → IsNotRepeated earlier (Given origin clause)
+    nat_le (length (fault_groups (Given origin clause ∷ earlier))) (fault_room earlier) ≡ true → IsNotRepeated earlier (Given origin clause)
 first_of earlier origin clause others few = record {
   first = λ h c inside. no_given origin earlier others c inside;
-  groups = leb-true (length (fault_groups (Given origin clause ∷ earlier))) (rounds_of earlier + 1) few;
+  groups = leb-true (length (fault_groups (Given origin clause ∷ earlier))) (fault_room earlier) few;
 }
 
 abbrev s1 : List Entry

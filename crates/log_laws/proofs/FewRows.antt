@@ -5,11 +5,12 @@ use Rattle.std.proofs.lemmas.List.Elements.{Contains-append_left, Contains-push}
 use Rattle.dq_lits.specs.Formula.{Dqbf}
 use Rattle.hint_log.specs.Entries.{rounds_of}
 use Rattle.hint_log.specs.Entries.{Entry}
-use Rattle.hint_log.specs.Entries.{Named, Given, Learned, Answer, Round}
+use Rattle.hint_log.specs.Entries.{Named, Given, Learned, Answer, Round, Begun}
 use Rattle.hint_log.specs.Growth.{Each}
 use Rattle.hint_log.specs.Naming.{rows_of}
 use Rattle.hint_log.specs.ProductiveLog.{RefutesNewRow}
 use Rattle.log_laws.specs.Meaning.{RoundsAreFew}
+use Rattle.log_laws.proofs.Found.{each_weaker}
 use native.Mathlib.Nat.{pow-suc}
 
 -- the row is among these
@@ -83,6 +84,7 @@ newest_first (Given origin c ∷ es) = newest_first es
 newest_first (Learned c hints ∷ es) = newest_first es
 newest_first (Answer c hints ∷ es) = newest_first es
 newest_first (Round row values j ∷ es) = row ∷ newest_first es
+newest_first (Begun live ∷ es) = newest_first es
 
 rows_among : (es : List Entry) (row : List Bool) → Among row (newest_first es) → Contains (rows_of es) row
 rows_among [] row h = absurd h
@@ -91,15 +93,30 @@ rows_among (Given origin c ∷ es) row h = rows_among es row h
 rows_among (Learned c hints ∷ es) row h = rows_among es row h
 rows_among (Answer c hints ∷ es) row h = rows_among es row h
 rows_among (Round r values j ∷ es) row (inl is) = subst (λ x. Contains (rows_of es ++ r ∷ []) x) is (Contains-push (rows_of es) r)
+rows_among (Begun live ∷ es) row h = rows_among es row h
 rows_among (Round r values j ∷ es) row (inr h) = Contains-append_left (rows_of es) (r ∷ []) row (rows_among es row h)
 
-rows_distinct : (f : Dqbf) (es : List Entry) → Each (RefutesNewRow f) es → AreDistinct (length f.universals) (newest_first es)
-rows_distinct f [] h = tt
-rows_distinct f (Named v n ∷ es) h = rows_distinct f es h.1
-rows_distinct f (Given origin c ∷ es) h = rows_distinct f es h.1
-rows_distinct f (Learned c hints ∷ es) h = rows_distinct f es h.1
-rows_distinct f (Answer c hints ∷ es) h = rows_distinct f es h.1
-rows_distinct f (Round row values j ∷ es) h = (h.0.row_length, (λ inside. h.0.untried (rows_among es row inside)), rows_distinct f es h.1)
+-- a round has a row of this length that wasn't tried
+abbrev pub HasNewRow : ℕ → List Entry → Entry → Type 0
+HasNewRow n earlier (Round row values j) = (length row ≡ n) × (Contains (rows_of earlier) row → ⊥)
+HasNewRow n earlier _ = Unit {0}
+
+pub has_new_row : (f : Dqbf) (n : ℕ) → length f.universals ≡ n → (earlier : List Entry) (e : Entry) → RefutesNewRow f earlier e → HasNewRow n earlier e
+has_new_row f n same earlier (Named v m) h = tt
+has_new_row f n same earlier (Given origin c) h = tt
+has_new_row f n same earlier (Learned c hints) h = tt
+has_new_row f n same earlier (Answer c hints) h = tt
+has_new_row f n same earlier (Round row values j) h = (h.row_length ∙ same, h.untried)
+has_new_row f n same earlier (Begun live) h = tt
+
+rows_distinct : (n : ℕ) (es : List Entry) → Each (HasNewRow n) es → AreDistinct n (newest_first es)
+rows_distinct n [] h = tt
+rows_distinct n (Named v m ∷ es) h = rows_distinct n es h.1
+rows_distinct n (Given origin c ∷ es) h = rows_distinct n es h.1
+rows_distinct n (Learned c hints ∷ es) h = rows_distinct n es h.1
+rows_distinct n (Answer c hints ∷ es) h = rows_distinct n es h.1
+rows_distinct n (Round row values j ∷ es) h = (h.0.0, (λ inside. h.0.1 (rows_among es row inside)), rows_distinct n es h.1)
+rows_distinct n (Begun live ∷ es) h = rows_distinct n es h.1
 
 rounds_counted : (es : List Entry) → length (newest_first es) ≡ rounds_of es
 rounds_counted [] = refl
@@ -108,7 +125,11 @@ rounds_counted (Given origin c ∷ es) = rounds_counted es
 rounds_counted (Learned c hints ∷ es) = rounds_counted es
 rounds_counted (Answer c hints ∷ es) = rounds_counted es
 rounds_counted (Round row values j ∷ es) = let r = rounds_counted es in omega (arith, r)
+rounds_counted (Begun live ∷ es) = rounds_counted es
+
+pub few_by_rows : (n : ℕ) (entries : List Entry) → Each (HasNewRow n) entries → rounds_of entries ≤ 2 ^ n
+few_by_rows n entries rounds = subst (λ k. k ≤ 2 ^ n) (rounds_counted entries) (few n (newest_first entries) (rows_distinct n entries rounds))
 
 pub few_rounds : RoundsAreFew
 few_rounds f entries rounds =
-    subst (λ n. n ≤ 2 ^ length f.universals) (rounds_counted entries) (few (length f.universals) (newest_first entries) (rows_distinct f entries rounds))
+    few_by_rows (length f.universals) entries (each_weaker (RefutesNewRow f) (HasNewRow (length f.universals)) (has_new_row f (length f.universals) refl) entries rounds)

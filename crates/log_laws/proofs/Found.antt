@@ -87,7 +87,12 @@ pub each_at : (P : List Entry → Entry → Type 0) (more es : List Entry) (e : 
 each_at P [] es e h = h.0
 each_at P (x ∷ more) es e h = each_at P more es e h.1
 
-each_before : (P : List Entry → Entry → Type 0) (more es : List Entry) → Each P (more ++ es) → Each P es
+-- a weaker fact of each entry
+pub each_weaker : (P Q : List Entry → Entry → Type 0) → ((earlier : List Entry) (e : Entry) → P earlier e → Q earlier e) → (es : List Entry) → Each P es → Each Q es
+each_weaker P Q weaker [] h = tt
+each_weaker P Q weaker (e ∷ es) h = (weaker es e h.0, each_weaker P Q weaker es h.1)
+
+pub each_before : (P : List Entry → Entry → Type 0) (more es : List Entry) → Each P (more ++ es) → Each P es
 each_before P [] es h = h
 each_before P (x ∷ more) es h = each_before P more es h.1
 

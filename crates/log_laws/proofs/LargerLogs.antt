@@ -1,15 +1,16 @@
 -- What stays as a log grows.
-use Rattle.std.proofs.Common.{◌≡◌, ◌≢◌, ℕ, ◌+◌, ◌≤◌, ◌==◌, Bool, true, false, cond, ◌⊎◌, inl, inr, List, [], ◌∷◌, ◌++◌, Option, Some, None, refl, sym, ◌∙◌, ap, subst, arith, filter, append_assoc}
+use Rattle.std.proofs.Common.{◌≡◌, ◌≢◌, ℕ, ◌+◌, ◌-◌, ◌≤◌, ◌==◌, Bool, true, false, cond, ◌⊎◌, inl, inr, List, [], ◌∷◌, ◌++◌, Option, Some, None, refl, sym, ◌∙◌, ap, subst, arith, filter, append_assoc}
 use Rattle.std.proofs.lemmas.Bool.{false≢true, eqb-true}
 use Rattle.dq_lits.specs.Literal.{Literal, negative}
 use Rattle.dq_lits.specs.Formula.{Dqbf}
-use Rattle.hint_log.specs.Entries.{ProofLog, with_entry, is_round, count, name_of}
+use Rattle.hint_log.specs.Entries.{ProofLog, with_entry, is_round, is_beginning, rounds_of, beginnings_of, count, name_of}
 use Rattle.hint_log.specs.Entries.{Entry}
-use Rattle.hint_log.specs.Entries.{Named, Given, Learned, Answer, Round}
+use Rattle.hint_log.specs.Entries.{Named, Given, Learned, Answer, Round, Begun}
 use Rattle.hint_log.specs.declared.names.Name.{Name}
 use Rattle.hint_log.specs.declared.origins.Origin.{Origin}
-use Rattle.hint_log.specs.declared.origins.Origin.TheVariants.{Instance, Gate, Fault, Copy, Link}
+use Rattle.hint_log.specs.declared.origins.Origin.TheVariants.{Instance, Gate, Fault, Copy, Link, TermGate, Differ}
 use Rattle.hint_log.specs.Growth.{Each, EachOf, Grew}
+use Rattle.hint_log.specs.Live.{live_numbers, before_beginning}
 use Rattle.hint_log.specs.Naming.{rows_of}
 use Rattle.hint_log.specs.Deciding.{DecidesNothing}
 use Rattle.hint_log.specs.ProductiveLog.{MatchesOrigin, RefutesNewRow, FollowsModel, IsNotRepeated, is_fault, fault_groups}
@@ -50,6 +51,7 @@ module _ (f : Dqbf) (engine : Engine) (group : ℕ) (silent : Bool) (old : List 
   no_round earlier (Learned c hints) h = refl
   no_round earlier (Answer c hints) h = refl
   no_round earlier (Round row values j) h = absurd h
+  no_round earlier (Begun live) h = absurd h
 
   pub rightly_given : (earlier : List Entry) (e : Entry) → Added earlier e → MatchesOrigin f earlier e
   rightly_given earlier (Named v n) h = h.rightly
@@ -57,6 +59,7 @@ module _ (f : Dqbf) (engine : Engine) (group : ℕ) (silent : Bool) (old : List 
   rightly_given earlier (Learned c hints) h = tt
   rightly_given earlier (Answer c hints) h = tt
   rightly_given earlier (Round row values j) h = tt
+  rightly_given earlier (Begun live) h = tt
 
   pub first_of_origin : (earlier : List Entry) (e : Entry) → Added earlier e → IsNotRepeated earlier e
   first_of_origin earlier (Named v n) h = tt
@@ -64,6 +67,7 @@ module _ (f : Dqbf) (engine : Engine) (group : ℕ) (silent : Bool) (old : List 
   first_of_origin earlier (Learned c hints) h = tt
   first_of_origin earlier (Answer c hints) h = tt
   first_of_origin earlier (Round row values j) h = tt
+  first_of_origin earlier (Begun live) h = tt
 
   pub real_round : (earlier : List Entry) (e : Entry) → Added earlier e → RefutesNewRow f earlier e
   real_round earlier (Named v n) h = tt
@@ -71,6 +75,7 @@ module _ (f : Dqbf) (engine : Engine) (group : ℕ) (silent : Bool) (old : List 
   real_round earlier (Learned c hints) h = tt
   real_round earlier (Answer c hints) h = tt
   real_round earlier (Round row values j) h = absurd h
+  real_round earlier (Begun live) h = absurd h
 
   pub modelled : (earlier : List Entry) (e : Entry) → Added earlier e → FollowsModel f earlier e
   modelled earlier (Named v n) h = tt
@@ -78,6 +83,7 @@ module _ (f : Dqbf) (engine : Engine) (group : ℕ) (silent : Bool) (old : List 
   modelled earlier (Learned c hints) h = tt
   modelled earlier (Answer c hints) h = tt
   modelled earlier (Round row values j) h = absurd h
+  modelled earlier (Begun live) h = absurd h
 
   pub undecided : silent ≡ true → (earlier : List Entry) (e : Entry) → Added earlier e → DecidesNothing f earlier e
   undecided s earlier (Named v n) h = tt
@@ -85,6 +91,7 @@ module _ (f : Dqbf) (engine : Engine) (group : ℕ) (silent : Bool) (old : List 
   undecided s earlier (Learned c hints) h = tt
   undecided s earlier (Answer c hints) h = h s
   undecided s earlier (Round row values j) h = absurd h
+  undecided s earlier (Begun live) h = absurd h
 
   own_name : (other : Engine) (o : Option Engine) → same_engine other engine ≡ false → (o ≡ None) ⊎ (o ≡ Some engine) → is_engine other o ≡ false
   own_name other o differ (inl none) = ap (is_engine other) none
@@ -96,6 +103,7 @@ module _ (f : Dqbf) (engine : Engine) (group : ℕ) (silent : Bool) (old : List 
   foreign other differ earlier (Learned c hints) h = refl
   foreign other differ earlier (Answer c hints) h = refl
   foreign other differ earlier (Round row values j) h = absurd h
+  foreign other differ earlier (Begun live) h = absurd h
 
   -- names stay
   pub name_kept : (v : ℕ) (n : Name) (more : List Entry) → EachOf Added more old → name_of old v ≡ Some n → name_of (more ++ old) v ≡ Some n
@@ -108,6 +116,7 @@ module _ (f : Dqbf) (engine : Engine) (group : ℕ) (silent : Bool) (old : List 
   name_kept v n (Learned c hints ∷ more) h is = name_kept v n more h.1 is
   name_kept v n (Answer c hints ∷ more) h is = name_kept v n more h.1 is
   name_kept v n (Round row values j ∷ more) h is = absurd h.0
+  name_kept v n (Begun live ∷ more) h is = absurd h.0
 
   in_one_group : (g mine : ℕ) (c : List Literal) → IsInGroup mine c → IsInGroup g c → mine ≡ g
   in_one_group g mine c a b = let e : negative mine ∷ a.0 ≡ negative g ∷ b.0 = sym a.1 ∙ b.1 in cc
@@ -125,6 +134,33 @@ module _ (f : Dqbf) (engine : Engine) (group : ℕ) (silent : Bool) (old : List 
   own_given other mine n apart named earlier (Learned c hints) h = tt
   own_given other mine n apart named earlier (Answer c hints) h = tt
   own_given other mine n apart named earlier (Round row values j) h = tt
+  own_given other mine n apart named earlier (Begun live) h = tt
+
+  pub no_beginning : (earlier : List Entry) (e : Entry) → Added earlier e → is_beginning e ≡ false
+  no_beginning earlier (Named v n) h = refl
+  no_beginning earlier (Given origin c) h = refl
+  no_beginning earlier (Learned c hints) h = refl
+  no_beginning earlier (Answer c hints) h = refl
+  no_beginning earlier (Round row values j) h = refl
+  no_beginning earlier (Begun live) h = absurd h
+
+  pub live_kept : (more : List Entry) → EachOf Added more old → live_numbers (more ++ old) ≡ live_numbers old
+  live_kept [] h = refl
+  live_kept (Named v n ∷ more) h = live_kept more h.1
+  live_kept (Given origin c ∷ more) h = live_kept more h.1
+  live_kept (Learned c hints ∷ more) h = live_kept more h.1
+  live_kept (Answer c hints ∷ more) h = live_kept more h.1
+  live_kept (Round row values j ∷ more) h = absurd h.0
+  live_kept (Begun live ∷ more) h = absurd h.0
+
+  pub before_kept : (more : List Entry) → EachOf Added more old → before_beginning (more ++ old) ≡ before_beginning old
+  before_kept [] h = refl
+  before_kept (Named v n ∷ more) h = before_kept more h.1
+  before_kept (Given origin c ∷ more) h = before_kept more h.1
+  before_kept (Learned c hints ∷ more) h = before_kept more h.1
+  before_kept (Answer c hints ∷ more) h = before_kept more h.1
+  before_kept (Round row values j ∷ more) h = absurd h.0
+  before_kept (Begun live ∷ more) h = absurd h.0
 
   pub rows_kept : (more : List Entry) → EachOf Added more old → rows_of (more ++ old) ≡ rows_of old
   rows_kept [] h = refl
@@ -133,6 +169,7 @@ module _ (f : Dqbf) (engine : Engine) (group : ℕ) (silent : Bool) (old : List 
   rows_kept (Learned c hints ∷ more) h = rows_kept more h.1
   rows_kept (Answer c hints ∷ more) h = rows_kept more h.1
   rows_kept (Round row values j ∷ more) h = absurd h.0
+  rows_kept (Begun live ∷ more) h = absurd h.0
 
 is_fault_of : (engine : Engine) (origin : Origin) → same_engine engine circuits ≡ false → origin_engine origin ≡ engine → is_fault origin ≡ false
 is_fault_of engine (Instance k j) h e = refl
@@ -140,6 +177,8 @@ is_fault_of engine (Gate v i) h e = refl
 is_fault_of engine (Fault j i leaf) h e = absurd (false≢true (sym h ∙ ap (λ x. same_engine x circuits) (sym e)))
 is_fault_of engine (Copy side j) h e = refl
 is_fault_of engine (Link v i) h e = refl
+is_fault_of engine (TermGate v i) h e = refl
+is_fault_of engine (Differ y leaf part) h e = refl
 
 -- other engines give no faults
 faults_kept : (f : Dqbf) (engine : Engine) → same_engine engine circuits ≡ false → (group : ℕ) (silent : Bool) (old start more : List Entry) → EachOf (IsAddedBy f engine group silent old) more start → fault_groups (more ++ start) ≡ fault_groups start
@@ -149,6 +188,7 @@ faults_kept f engine other group silent old start (Given origin c ∷ more) h = 
 faults_kept f engine other group silent old start (Learned c hints ∷ more) h = faults_kept f engine other group silent old start more h.1
 faults_kept f engine other group silent old start (Answer c hints ∷ more) h = faults_kept f engine other group silent old start more h.1
 faults_kept f engine other group silent old start (Round row values j ∷ more) h = absurd h.0
+faults_kept f engine other group silent old start (Begun live ∷ more) h = absurd h.0
 
 pub leaves_rest : EnginesLeaveRest
 leaves_rest f engine group silent old new grew =
@@ -165,6 +205,12 @@ leaves_rest f engine group silent old new grew =
       names = λ v name. name_kept f engine group silent old.entries v name grew.more grew.each;
       others = λ other differ. filter_grown Q (is_own other) (foreign f engine group silent old.entries other differ) grew.more old.entries grew.each;
       groups = λ other mine name apart named. each_grown Q (IsOwnGiven f other mine) (own_given f engine group silent old.entries other mine name apart named) grew.more old.entries grew.each;
+      beginnings = count_same Q is_beginning (no_beginning f engine group silent old.entries) grew.more old.entries grew.each;
+      room =
+          ap (λ n. n + 1 + (beginnings_of (grew.more ++ old.entries) - 1)) (count_same Q is_round (no_round f engine group silent old.entries) grew.more old.entries grew.each)
+          ∙ ap (λ n. rounds_of old.entries + 1 + (n - 1)) (count_same Q is_beginning (no_beginning f engine group silent old.entries) grew.more old.entries grew.each);
+      live = live_kept f engine group silent old.entries grew.more grew.each;
+      before = before_kept f engine group silent old.entries grew.more grew.each;
       faults = λ other. faults_kept f engine other group silent old.entries old.entries grew.more grew.each;
     } in
     subst (LeavesRest f engine group silent old.entries) (sym grew.grown) kept

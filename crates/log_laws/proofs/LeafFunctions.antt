@@ -12,13 +12,13 @@ use Rattle.dq_lits.specs.Skolem.{OutputFunction, AreSkolemFunctions}
 use Rattle.hint_log.specs.Conditions.{is_circuit_name, HasSides}
 use Rattle.hint_log.specs.Entries.{name_of}
 use Rattle.hint_log.specs.Entries.{Entry}
-use Rattle.hint_log.specs.Entries.{Named, Given, Learned, Answer, Round}
+use Rattle.hint_log.specs.Entries.{Named, Given, Learned, Answer, Round, Begun}
 use Rattle.hint_log.specs.declared.names.Name.{Name}
-use Rattle.hint_log.specs.declared.names.Name.TheVariants.{Selector, Pair, Input, And, Bad, Copy as CopyOf}
+use Rattle.hint_log.specs.declared.names.Name.TheVariants.{Selector, Pair, Input, And, Bad, Copy as CopyOf, Term}
 use Rattle.hint_log.specs.declared.origins.Leaf.{Leaf}
 use Rattle.hint_log.specs.declared.origins.Leaf.TheVariants.{Constant, Literal as LeafLiteral}
 use Rattle.hint_log.specs.declared.origins.Origin.{Origin}
-use Rattle.hint_log.specs.declared.origins.Origin.TheVariants.{Instance, Gate, Fault, Copy, Link}
+use Rattle.hint_log.specs.declared.origins.Origin.TheVariants.{Instance, Gate, Fault, Copy, Link, TermGate, Differ}
 use Rattle.hint_log.specs.Growth.{Each}
 use Rattle.hint_log.specs.Naming.{by_universality}
 use Rattle.hint_log.specs.Origins.{matrix_literal, IsLeafOf, IsFaultRest, IsOriginsClause}
@@ -31,9 +31,28 @@ use Rattle.log_laws.proofs.Solved.{literal_same, both_same}
 use Rattle.log_laws.proofs.Found.{variable, find_sound, find_there, each_at, split_at}
 
 -- a fault's leaf for an existential, in a group
-abbrev is_in_group : ℕ → List Literal → Bool
+abbrev pub is_in_group : ℕ → List Literal → Bool
 is_in_group g [] = false
 is_in_group g (l ∷ _) = same_literal (negative g) l
+
+-- a fault of the group is its origin's clause
+abbrev pub MatchesInGroup : Dqbf → ℕ → List Entry → Entry → Type 0
+MatchesInGroup f g earlier (Given (Fault j i leaf) c) = is_in_group g c ≡ true → IsOriginsClause f earlier (Fault j i leaf) c
+MatchesInGroup f g earlier _ = Unit {0}
+
+pub matches_in_group : (f : Dqbf) (g : ℕ) (earlier : List Entry) (e : Entry) → MatchesOrigin f earlier e → MatchesInGroup f g earlier e
+matches_in_group f g earlier (Named w n) h = tt
+matches_in_group f g earlier (Given (Instance k j) c) h = tt
+matches_in_group f g earlier (Given (Gate w i) c) h = tt
+matches_in_group f g earlier (Given (Fault j i leaf) c) h = λ inside. h
+matches_in_group f g earlier (Given (Copy side j) c) h = tt
+matches_in_group f g earlier (Given (Link w i) c) h = tt
+matches_in_group f g earlier (Given (TermGate w i) c) h = tt
+matches_in_group f g earlier (Given (Differ y out part) c) h = tt
+matches_in_group f g earlier (Learned c hints) h = tt
+matches_in_group f g earlier (Answer c hints) h = tt
+matches_in_group f g earlier (Round row values j) h = tt
+matches_in_group f g earlier (Begun live) h = tt
 
 abbrev is_on : ℕ → Option ℕ → Bool
 is_on v None = false
@@ -45,6 +64,8 @@ origin_leaf f v inside (Gate w i) = None
 origin_leaf f v inside (Fault j i leaf) = cond (inside && is_on v (option_map variable_of (matrix_literal f j i))) (Some leaf) None
 origin_leaf f v inside (Copy side j) = None
 origin_leaf f v inside (Link w i) = None
+origin_leaf f v inside (TermGate w i) = None
+origin_leaf f v inside (Differ y leaf part) = None
 
 abbrev entry_leaf : Dqbf → ℕ → ℕ → Entry → Option Leaf
 entry_leaf f g v (Named w n) = None
@@ -52,6 +73,7 @@ entry_leaf f g v (Given origin c) = origin_leaf f v (is_in_group g c) origin
 entry_leaf f g v (Learned c hints) = None
 entry_leaf f g v (Answer c hints) = None
 entry_leaf f g v (Round row values j) = None
+entry_leaf f g v (Begun live) = None
 
 abbrev leaf_or : Option Leaf → Leaf → Leaf
 leaf_or None rest = rest
@@ -84,15 +106,18 @@ entry_leaf_is f g v (Given (Fault j i other) c) leaf h = by_bit (is_in_group g c
   by_bit false e h = cc
 entry_leaf_is f g v (Given (Copy side j) c) leaf h = cc
 entry_leaf_is f g v (Given (Link w i) c) leaf h = cc
+entry_leaf_is f g v (Given (TermGate w i) c) leaf h = cc
+entry_leaf_is f g v (Given (Differ y out part) c) leaf h = cc
 entry_leaf_is f g v (Learned c hints) leaf h = cc
 entry_leaf_is f g v (Answer c hints) leaf h = cc
 entry_leaf_is f g v (Round row values j) leaf h = cc
+entry_leaf_is f g v (Begun live) leaf h = cc
 
-in_group : (g h : ℕ) (c rest : List Literal) → c ≡ negative h ∷ rest → is_in_group g c ≡ true → g ≡ h
+pub in_group : (g h : ℕ) (c rest : List Literal) → c ≡ negative h ∷ rest → is_in_group g c ≡ true → g ≡ h
 in_group g h c rest is inside = eqb-true g h (ap (is_in_group g) (sym is) ∙ inside)
 
 -- a group's faults have one leaf for an existential
-one_leaf : (f : Dqbf) (g v : ℕ) (es : List Entry) (j i : ℕ) (out : Leaf) (rest : List Literal) → Each (MatchesOrigin f) es → Contains es (Given (Fault j i out) (negative g ∷ rest)) →
+one_leaf : (f : Dqbf) (g v : ℕ) (es : List Entry) (j i : ℕ) (out : Leaf) (rest : List Literal) → Each (MatchesInGroup f g) es → Contains es (Given (Fault j i out) (negative g ∷ rest)) →
     option_map variable_of (matrix_literal f j i) ≡ Some v → leaf_in f g v es ≡ out
 one_leaf f g v [] j i out rest given (k, below, is) own = absurd (omega arith)
 one_leaf f g v (e ∷ es) j i out rest given (zero, below, is) own =
@@ -107,7 +132,7 @@ one_leaf f g v (e ∷ es) j i out rest given (suc k, below, is) own =
       by_option later None at = later
       by_option later (Some leaf) at =
           let r = entry_leaf_is f g v e leaf at in
-          let o : IsOriginsClause f es (Fault r.0 r.1 leaf) r.2 = subst (MatchesOrigin f es) r.3 given.0 in
+          let o : IsOriginsClause f es (Fault r.0 r.1 leaf) r.2 = subst (MatchesInGroup f g es) r.3 given.0 r.4 in
           let same : g ≡ o.group = in_group g o.group r.2 o.rest o.clause_is r.4 in
           let inside : Contains es (Given (Fault j i out) (negative g ∷ rest)) = (k, (let b : k < length es = omega arith in b), is) in
           o.one_leaf v r.0 r.1 j i leaf out rest refl (subst (λ h. Contains es (Given (Fault j i out) (negative h ∷ rest))) same inside) r.5 own
@@ -139,6 +164,7 @@ module _ (p q : Assignment) (bad : ℕ → Bool) where
       by_name later (And a b) = both_same (value_in p bad es) (value_in q bad es) a b (later (variable_of a)) (later (variable_of b))
       by_name later (Bad g j) = refl
       by_name later (CopyOf side u) = refl
+      by_name later (Term a b) = refl
 
       by_bit : ((u : ℕ) → value_in p bad es u ≡ value_in q bad es u) → (b : Bool) → cond b (name_value p bad (value_in p bad es) n) (value_in p bad es v) ≡ cond b (name_value q bad (value_in q bad es) n) (value_in q bad es v)
       by_bit later true = by_name later n
@@ -147,6 +173,7 @@ module _ (p q : Assignment) (bad : ℕ → Bool) where
     value_same (Learned c hints ∷ es) v = value_same es v
     value_same (Answer c hints ∷ es) v = value_same es v
     value_same (Round row values j ∷ es) v = value_same es v
+    value_same (Begun live ∷ es) v = value_same es v
 
     leaf_same : (es : List Entry) (leaf : Leaf) → leaf_value (value_in p bad es) leaf ≡ leaf_value (value_in q bad es) leaf
     leaf_same es (Constant b) = refl
@@ -174,6 +201,7 @@ module _ (p q : Assignment) (bad : ℕ → Bool) where
               (later a s.0 (λ x r. agree x (left l a b x there r))) (later b s.1 (λ x r. agree x (right l a b x there r)))
           by_name later (Bad g j) s h there = refl
           by_name later (CopyOf side u) s h there = refl
+          by_name later (Term a b) s h there = refl
 
           by_bit : ((k : Literal) → is_circuit_name (name_of es (variable_of k)) ≡ true → AgreesOn k → value_in p bad es (variable_of k) ≡ value_in q bad es (variable_of k)) →
               (b : Bool) → (variable_of l == w) ≡ b → is_circuit_name (cond b (Some n) (name_of es (variable_of l))) ≡ true →
@@ -185,6 +213,7 @@ module _ (p q : Assignment) (bad : ℕ → Bool) where
     value_read (Learned c hints ∷ es) more is own l h agree = value_read es (more ++ Learned c hints ∷ []) (is ∙ sym (append_assoc more (Learned c hints ∷ []) es)) own.1 l h agree
     value_read (Answer c hints ∷ es) more is own l h agree = value_read es (more ++ Answer c hints ∷ []) (is ∙ sym (append_assoc more (Answer c hints ∷ []) es)) own.1 l h agree
     value_read (Round row values j ∷ es) more is own l h agree = value_read es (more ++ Round row values j ∷ []) (is ∙ sym (append_assoc more (Round row values j ∷ []) es)) own.1 l h agree
+    value_read (Begun live ∷ es) more is own l h agree = value_read es (more ++ Begun live ∷ []) (is ∙ sym (append_assoc more (Begun live ∷ []) es)) own.1 l h agree
 
 -- a leaf of the given clauses is constant or stands on an input or a gate
 abbrev pub IsCircuitLeaf : List Entry → Leaf → Type 0
@@ -226,8 +255,8 @@ declared_bit f m bit follows v inside = by_bit (is_universal f v) refl where
   by_bit true e = refl
   by_bit false e = by_option e (existential_of f v) refl
 
-module _ (f : Dqbf) (well : IsWellFormed f) (es : List Entry) (clause : List Literal) (hints : List ℕ) (lawful : Each MayFollow es) (given : Each (MatchesOrigin f) es)
-    (decides : DecidesTrue f es clause hints)
+module _ (f : Dqbf) (well : IsWellFormed f) (es : List Entry) (clause : List Literal) (hints : List ℕ) (lawful : Each MayFollow es)
+    (decides : DecidesTrue f es clause hints) (given : Each (MatchesInGroup f decides.rests.group) es)
     (bits_hold : (m : Assignment) (bit : Existential → Bool) → All (λ y. (out : Leaf) → IsFaultLeaf f es hints y out → circuit_value es m out ≡ bit y) f.existentials → MatrixHolds f (by_bits f m bit)) where
   abbrev pub leaf_of : Existential → Leaf
   leaf_of y = leaf_in f decides.rests.group y.variable es
@@ -245,7 +274,9 @@ module _ (f : Dqbf) (well : IsWellFormed f) (es : List Entry) (clause : List Lit
         let reached : ReachesGiven es hints (Fault (suc j) fault.i out) fault.clause = subst (λ k. ReachesGiven es hints (Fault k fault.i out) fault.clause) e fault.reached in
         let mine = decides.rests.circuit (Fault (suc j) fault.i out) fault.clause reached in
         let place = split_at es reached.id (Given (Fault (suc j) fault.i out) fault.clause) reached.is_given in
-        let o : IsOriginsClause f place.1 (Fault (suc j) fault.i out) fault.clause = each_at (MatchesOrigin f) place.0 place.1 (Given (Fault (suc j) fault.i out) fault.clause) (subst (Each (MatchesOrigin f)) place.2 given) in
+        let o : IsOriginsClause f place.1 (Fault (suc j) fault.i out) fault.clause =
+        each_at (MatchesInGroup f decides.rests.group) place.0 place.1 (Given (Fault (suc j) fault.i out) fault.clause) (subst (Each (MatchesInGroup f decides.rests.group)) place.2 given)
+        (ap (is_in_group decides.rests.group) mine.1 ∙ eq-eqb decides.rests.group decides.rests.group refl) in
         let rest : IsFaultRest f place.1 o.group (suc j) fault.i out o.rest = o.rest_is in
         let entry = Given (Fault (suc j) fault.i out) (negative decides.rests.group ∷ mine.0) in
         let same : Given (Fault (suc j) fault.i out) fault.clause ≡ entry = ap (Given (Fault (suc j) fault.i out)) mine.1 in

@@ -1,10 +1,10 @@
 pub mod Found
-mod Implied
+pub mod Implied
 pub mod ReachedClauses
-mod Refuted
+pub mod Refuted
 pub mod Solved
 pub mod LeafFunctions
-mod FewRows
+pub mod FewRows
 mod SettledClauses
 mod Checks
 mod FalseLog
@@ -14,3 +14,5 @@ mod MissedTurns
 mod TrueDecided
 pub mod LargerLogs
 pub mod Kept
+pub mod LiveAnswers
+mod LiveEngines

@@ -9,7 +9,7 @@ use Rattle.dq_lits.specs.Derivation.{IsDerived}
 use Rattle.hint_log.specs.Entries.{has_id, count, last_id, numbered, clause_of, hints_of, clause_at, hints_at, name_of}
 use Rattle.hint_log.specs.Reached.{Reaches, itself, by_hint}
 use Rattle.hint_log.specs.Entries.{Entry}
-use Rattle.hint_log.specs.Entries.{Named, Given, Learned, Answer, Round}
+use Rattle.hint_log.specs.Entries.{Named, Given, Learned, Answer, Round, Begun}
 use Rattle.hint_log.specs.declared.names.Name.{Name}
 use Rattle.hint_log.specs.declared.origins.Origin.{Origin}
 use Rattle.hint_log.specs.Growth.{Each}
@@ -53,6 +53,7 @@ name_stays (Given origin c ∷ more) old v n lawful is = name_stays more old v n
 name_stays (Learned c hints ∷ more) old v n lawful is = name_stays more old v n lawful.1 is
 name_stays (Answer c hints ∷ more) old v n lawful is = name_stays more old v n lawful.1 is
 name_stays (Round row values j ∷ more) old v n lawful is = name_stays more old v n lawful.1 is
+name_stays (Begun live ∷ more) old v n lawful is = name_stays more old v n lawful.1 is
 
 module _ (implied : LinesAreImplied) (all : List Entry) (first : List ℕ) (a : Assignment)
     (given_true : (earlier more : List Entry) (origin : Origin) (c : List Literal) → all ≡ more ++ Given origin c ∷ earlier →
@@ -87,6 +88,8 @@ module _ (implied : LinesAreImplied) (all : List Entry) (first : List ℕ) (a : 
       reached_true es (more ++ Named v n ∷ []) (is ∙ sym (append_assoc more (Named v n ∷ []) es)) derived.1 id c reached h
   reached_true (Round row values j ∷ es) more is derived id c reached h =
       reached_true es (more ++ Round row values j ∷ []) (is ∙ sym (append_assoc more (Round row values j ∷ []) es)) derived.1 id c reached h
+  reached_true (Begun live ∷ es) more is derived id c reached h =
+      reached_true es (more ++ Begun live ∷ []) (is ∙ sym (append_assoc more (Begun live ∷ []) es)) derived.1 id c reached h
   reached_true (Given origin d ∷ es) more is derived id c reached h =
       by_bit (reached_true es (more ++ Given origin d ∷ []) (is ∙ sym (append_assoc more (Given origin d ∷ []) es)) derived.1) (id == count has_id es + 1) refl h where
         by_bit : AllReachedTrue es → (b : Bool) → (id == count has_id es + 1) ≡ b → option_and_then clause_of (cond b (Some (Given origin d)) (numbered has_id es id)) ≡ Some c → clause_true a c ≡ true

@@ -6,24 +6,30 @@ use Rattle.std.proofs.lemmas.Bool.{false≢true}
 use Rattle.std.proofs.lemmas.List.Elements.{All-contains, All-head, All-tail, Contains-push, Contains-append_left}
 use Rattle.dq_lits.specs.Literal.{Assignment, Literal, positive, negative, variable_of, is_negative, on_variable, literal_true, clause_true}
 use Rattle.dq_lits.specs.Formula.{Existential, Dqbf, existential_of}
-use Rattle.dq_lits.specs.Expansion.{row_assignment, agree_on, pair_number, pair_literal, instance_clause, InstanceHolds, IsExpansionModel}
+use Rattle.dq_lits.specs.Expansion.{row_assignment, agree_on, pair_number, pair_literal, instance_clause, InstanceHolds, IsExpansionModel, IsExpansionUnsatisfiable}
 use Rattle.dq_lits.specs.Henkin.{restriction}
 use Rattle.hint_log.specs.Entries.{name_of, row_at, numbered, is_round, row_of, count}
 use Rattle.hint_log.specs.Entries.{Entry}
-use Rattle.hint_log.specs.Entries.{Named, Given, Learned, Answer, Round}
+use Rattle.hint_log.specs.Entries.{Named, Given, Learned, Answer, Round, Begun}
 use Rattle.hint_log.specs.declared.names.Name.{Name}
-use Rattle.hint_log.specs.declared.names.Name.TheVariants.{Selector, Pair, Input, And, Bad, Copy as CopyOf}
+use Rattle.hint_log.specs.declared.names.Name.TheVariants.{Selector, Pair, Input, And, Bad, Copy as CopyOf, Term}
 use Rattle.hint_log.specs.declared.origins.Origin.{Origin}
-use Rattle.hint_log.specs.declared.origins.Origin.TheVariants.{Instance, Gate, Fault, Copy, Link}
+use Rattle.hint_log.specs.declared.origins.Origin.TheVariants.{Instance, Gate, Fault, Copy, Link, TermGate, Differ}
 use Rattle.hint_log.specs.Growth.{Each}
-use Rattle.hint_log.specs.Naming.{named_literal, name_literal, rows_of, arbiter, on_arbiter}
+use Rattle.hint_log.specs.Naming.{numbered_from_one, named_literal, name_literal, rows_of, arbiter, on_arbiter}
 use Rattle.hint_log.specs.Origins.{IsInstanceRest, IsOriginsClause}
 use Rattle.hint_log.specs.Conditions.{MayFollow}
-use Rattle.hint_log.specs.Deciding.{IsInstance, AreNegatedSelectors}
+use Rattle.hint_log.specs.Live.{with_matrix}
+use Rattle.hint_log.specs.Deciding.{ReachesGiven, IsInstance, AreNegatedSelectors}
 use Rattle.log_laws.proofs.Implied.{LinesAreImplied}
 use Rattle.log_laws.proofs.ReachedClauses.{name_stays, answer_true}
-use Rattle.log_laws.specs.Meaning.{InstancesHaveNoModel}
+use Rattle.log_laws.specs.Meaning.{IsSoundAnswer, InstancesHaveNoModel}
 use Rattle.log_laws.proofs.Found.{numbered_among, position_small, position_append, same_bits-refl, named_variable}
+
+-- an instance of one of these clauses
+abbrev pub IsInstanceAmong : Dqbf → List (List Literal) → Origin → Type 0
+IsInstanceAmong f matrix (Instance k j) = (clause : List Literal) → numbered_from_one f.matrix j ≡ Some clause → Contains matrix clause
+IsInstanceAmong f matrix _ = ⊥
 
 -- selectors are true, and arbiters have their pairs' bits
 abbrev pub value_by_name : ℕ → Assignment → Option Name → Bool
@@ -34,6 +40,7 @@ value_by_name vars m (Some (Input x)) = false
 value_by_name vars m (Some (And a b)) = false
 value_by_name vars m (Some (Bad g j)) = false
 value_by_name vars m (Some (CopyOf side v)) = false
+value_by_name vars m (Some (Term a b)) = false
 
 pub rows_more : (more es : List Entry) → (later : List (List Bool)) × (rows_of (more ++ es) ≡ rows_of es ++ later)
 rows_more [] es = ([], sym (append-nil' (rows_of es))) where
@@ -45,6 +52,7 @@ rows_more (Given origin c ∷ more) es = rows_more more es
 rows_more (Learned c hints ∷ more) es = rows_more more es
 rows_more (Answer c hints ∷ more) es = rows_more more es
 rows_more (Round row values j ∷ more) es = let r = rows_more more es in (r.0 ++ row ∷ [], ap (λ rows. rows ++ row ∷ []) r.1 ∙ append_assoc (rows_of es) r.0 (row ∷ []))
+rows_more (Begun live ∷ more) es = rows_more more es
 
 pub row_contained : (es : List Entry) (k : ℕ) (row : List Bool) → row_at es k ≡ Some row → Contains (rows_of es) row
 row_contained [] k row h = cc
@@ -56,6 +64,7 @@ row_contained (Round r values j ∷ es) k row h = by_bit (row_contained es k row
   by_bit : (row_at es k ≡ Some row → Contains (rows_of es) row) → (b : Bool) → option_and_then row_of (cond b (Some (Round r values j)) (numbered is_round es k)) ≡ Some row → Contains (rows_of es ++ r ∷ []) row
   by_bit before true h = let same : r ≡ row = cc in subst (λ x. Contains (rows_of es ++ x ∷ []) row) (sym same) (Contains-push (rows_of es) row)
   by_bit before false h = Contains-append_left (rows_of es) (r ∷ []) row (before h)
+row_contained (Begun live ∷ es) k row h = row_contained es k row h
 
 same_sign : (a m : Assignment) (p : ℕ) (r l : Literal) → is_negative r ≡ is_negative l → a (variable_of r) ≡ m p → literal_true a r ≡ literal_true m (on_variable p l)
 same_sign a m p (positive v) (positive w) e h = h
@@ -105,16 +114,17 @@ module _ (f : Dqbf) (all : List Entry) (lawful : Each MayFollow all) (m : Assign
           ap (λ b. b || clause_true value rest) (same_sign value m (pair_number f (rows_of all) row y) r l named.1 bit)
           ∙ ap (λ b. literal_true m (on_variable (pair_number f (rows_of all) row y) l) || b) (later rest behind)
 
-  module _ (model : IsExpansionModel f (rows_of all) m) where
-    instance_true : (es more : List Entry) (origin : Origin) (c : List Literal) → all ≡ more ++ Given origin c ∷ es → IsInstance origin → IsOriginsClause f es origin c → clause_true value c ≡ true
+  -- a model of the instances of these clauses
+  module _ (matrix : List (List Literal)) (model : IsExpansionModel (with_matrix f matrix) (rows_of all) m) where
+    instance_true : (es more : List Entry) (origin : Origin) (c : List Literal) → all ≡ more ++ Given origin c ∷ es → IsInstanceAmong f matrix origin → IsOriginsClause f es origin c → clause_true value c ≡ true
     instance_true es more (Instance k j) c is what o =
         let rest : IsInstanceRest f es k j o.rest = o.rest_is in
         let among = row_contained es k rest.row rest.row_is in
         let is' : all ≡ (more ++ Given (Instance k j) c ∷ []) ++ es = is ∙ sym (append_assoc more (Given (Instance k j) c ∷ []) es) in
         let r = rows_more (more ++ Given (Instance k j) c ∷ []) es in
         let among_all : Contains (rows_of all) rest.row = subst (λ rows. Contains rows rest.row) (sym (ap rows_of is' ∙ r.1)) (Contains-append_left (rows_of es) r.0 rest.row among) in
-        let here = All-contains (λ row. All (λ clause. InstanceHolds m (instance_clause f (rows_of all) row clause)) f.matrix) (rows_of all) rest.row model among_all in
-        let there = All-contains (λ clause. InstanceHolds m (instance_clause f (rows_of all) rest.row clause)) f.matrix rest.clause here (numbered_among f.matrix j rest.clause rest.clause_is) in
+        let here = All-contains (λ row. All (λ clause. InstanceHolds m (instance_clause f (rows_of all) row clause)) matrix) (rows_of all) rest.row model among_all in
+        let there = All-contains (λ clause. InstanceHolds m (instance_clause f (rows_of all) rest.row clause)) matrix rest.clause here (what rest.clause rest.clause_is) in
         let true' : clause_true m (filter_map (pair_literal f (rows_of all) rest.row) rest.clause) ≡ true =
         subst (λ b. InstanceHolds m (cond b None (Some (filter_map (pair_literal f (rows_of all) rest.row) rest.clause)))) rest.open_row there in
         let same = by_names es (more ++ Given (Instance k j) c ∷ []) is' rest.row among rest.clause o.rest rest.named in
@@ -126,6 +136,8 @@ module _ (f : Dqbf) (all : List Entry) (lawful : Each MayFollow all) (m : Assign
     instance_true es more (Fault j i leaf) c is what o = absurd what
     instance_true es more (Copy side j) c is what o = absurd what
     instance_true es more (Link v i) c is what o = absurd what
+    instance_true es more (TermGate v i) c is what o = absurd what
+    instance_true es more (Differ y leaf part) c is what o = absurd what
 
     selectors_false : (clause : List Literal) → AreNegatedSelectors all clause → clause_true value clause ≡ false
     selectors_false [] h = refl
@@ -135,10 +147,25 @@ module _ (f : Dqbf) (all : List Entry) (lawful : Each MayFollow all) (m : Assign
         let is : literal_true value l ≡ false = ap (literal_true value) here.0 ∙ ap (λ o. not (value_by_name f.variables m o)) here.1 in
         ap (λ b. b || clause_true value ls) is ∙ selectors_false ls (All-tail P l ls h)
 
-pub refuted : LinesAreImplied → InstancesHaveNoModel
-refuted implied f earlier clause hints sound decides m model =
+pub refuted_among : LinesAreImplied → (f : Dqbf) (matrix : List (List Literal)) (earlier : List Entry) (clause : List Literal) (hints : List ℕ) → IsSoundAnswer f earlier clause hints
+    → AreNegatedSelectors earlier clause → ((origin : Origin) (c : List Literal) → ReachesGiven earlier hints origin c → IsInstanceAmong f matrix origin)
+    → IsExpansionUnsatisfiable (with_matrix f matrix) (rows_of earlier)
+refuted_among implied f matrix earlier clause hints sound selectors among m model =
     let truth = answer_true implied earlier hints (value f earlier sound.logged m)
     (λ es more origin c is reached.
-    instance_true f earlier sound.logged m model es more origin c is (decides.instances origin c reached) (sound.givens_match_origins more es origin c is reached))
+    instance_true f earlier sound.logged m matrix model es more origin c is (among origin c reached) (sound.givens_match_origins more es origin c is reached))
     clause sound.lemmas_are_derived sound.derived in
-    false≢true (sym (selectors_false f earlier sound.logged m model clause decides.selectors) ∙ truth)
+    false≢true (sym (selectors_false f earlier sound.logged m matrix model clause selectors) ∙ truth)
+
+among_all : (f : Dqbf) (origin : Origin) → IsInstance origin → IsInstanceAmong f f.matrix origin
+among_all f (Instance k j) what = numbered_among f.matrix j
+among_all f (Gate v i) what = absurd what
+among_all f (Fault j i leaf) what = absurd what
+among_all f (Copy side j) what = absurd what
+among_all f (Link v i) what = absurd what
+among_all f (TermGate v i) what = absurd what
+among_all f (Differ y leaf part) what = absurd what
+
+pub refuted : LinesAreImplied → InstancesHaveNoModel
+refuted implied f earlier clause hints sound decides =
+    refuted_among implied f f.matrix earlier clause hints sound decides.selectors (λ origin c reached. among_all f origin (decides.instances origin c reached))

@@ -11,13 +11,13 @@ use Rattle.dq_lits.specs.Formula.{Existential, Dqbf, declared, is_universal, exi
 use Rattle.hint_log.specs.Conditions.{is_circuit_name, HasSides}
 use Rattle.hint_log.specs.Entries.{name_of}
 use Rattle.hint_log.specs.Entries.{Entry}
-use Rattle.hint_log.specs.Entries.{Named, Given, Learned, Answer, Round}
+use Rattle.hint_log.specs.Entries.{Named, Given, Learned, Answer, Round, Begun}
 use Rattle.hint_log.specs.declared.names.Name.{Name}
-use Rattle.hint_log.specs.declared.names.Name.TheVariants.{Selector, Pair, Input, And, Bad, Copy as CopyOf}
+use Rattle.hint_log.specs.declared.names.Name.TheVariants.{Selector, Pair, Input, And, Bad, Copy as CopyOf, Term}
 use Rattle.hint_log.specs.declared.origins.Leaf.{Leaf}
 use Rattle.hint_log.specs.declared.origins.Leaf.TheVariants.{Constant, Literal as LeafLiteral}
 use Rattle.hint_log.specs.declared.origins.Origin.{Origin}
-use Rattle.hint_log.specs.declared.origins.Origin.TheVariants.{Instance, Gate, Fault, Copy, Link}
+use Rattle.hint_log.specs.declared.origins.Origin.TheVariants.{Instance, Gate, Fault, Copy, Link, TermGate, Differ}
 use Rattle.hint_log.specs.Growth.{Each}
 use Rattle.hint_log.specs.Naming.{numbered_from_one, named_literal, name_literal, by_universality}
 use Rattle.hint_log.specs.Origins.{leaf_with_sign, leaf_clause, matrix_literal, gate_rest, IsGateRest, IsLeafOf, IsFaultRest, IsOriginsClause}
@@ -51,6 +51,7 @@ sides (Given origin c ∷ es) v a b lawful h = sides es v a b lawful.1 h
 sides (Learned c hints ∷ es) v a b lawful h = sides es v a b lawful.1 h
 sides (Answer c hints ∷ es) v a b lawful h = sides es v a b lawful.1 h
 sides (Round row values j ∷ es) v a b lawful h = sides es v a b lawful.1 h
+sides (Begun live ∷ es) v a b lawful h = sides es v a b lawful.1 h
 
 pub literal_same : (p q : Assignment) (l : Literal) → p (variable_of l) ≡ q (variable_of l) → literal_true p l ≡ literal_true q l
 literal_same p q (positive v) h = h
@@ -82,6 +83,7 @@ module _ (m : Assignment) (bad : ℕ → Bool) where
   gate_value_is (Learned c hints ∷ es) v a b lawful h = gate_value_is es v a b lawful.1 h
   gate_value_is (Answer c hints ∷ es) v a b lawful h = gate_value_is es v a b lawful.1 h
   gate_value_is (Round row values j ∷ es) v a b lawful h = gate_value_is es v a b lawful.1 h
+  gate_value_is (Begun live ∷ es) v a b lawful h = gate_value_is es v a b lawful.1 h
 
   abbrev pub simple_value : Name → Option Bool
   simple_value (Selector g) = Some true
@@ -90,6 +92,7 @@ module _ (m : Assignment) (bad : ℕ → Bool) where
   simple_value (And a b) = None
   simple_value (Bad g j) = Some (bad j)
   simple_value (CopyOf side v) = Some false
+  simple_value (Term a b) = Some false
 
   simple_is : (n : Name) (lower : Assignment) (b : Bool) → simple_value n ≡ Some b → name_value m bad lower n ≡ b
   simple_is (Selector g) lower b h = cc
@@ -98,6 +101,7 @@ module _ (m : Assignment) (bad : ℕ → Bool) where
   simple_is (And p q) lower b h = cc
   simple_is (Bad g j) lower b h = cc
   simple_is (CopyOf side v) lower b h = cc
+  simple_is (Term x y) lower b h = cc
 
   -- a variable that is no gate has its name's value
   pub value_is : (es : List Entry) (v : ℕ) (n : Name) (b : Bool) → name_of es v ≡ Some n → simple_value n ≡ Some b → value_in m bad es v ≡ b
@@ -110,6 +114,7 @@ module _ (m : Assignment) (bad : ℕ → Bool) where
   value_is (Learned c hints ∷ es) v n b h s = value_is es v n b h s
   value_is (Answer c hints ∷ es) v n b h s = value_is es v n b h s
   value_is (Round row values j ∷ es) v n b h s = value_is es v n b h s
+  value_is (Begun live ∷ es) v n b h s = value_is es v n b h s
 
 -- circuits don't depend on the bad clauses
 no_bad : (m : Assignment) (p q : ℕ → Bool) (es : List Entry) (v : ℕ) → Each MayFollow es → is_circuit_name (name_of es v) ≡ true → value_in m p es v ≡ value_in m q es v
@@ -122,6 +127,7 @@ no_bad m p q (Named w n ∷ es) v lawful h = by_bit (λ u. no_bad m p q es u law
   by_name later (And a b) s h = both_same (value_in m p es) (value_in m q es) a b (later (variable_of a) s.0) (later (variable_of b) s.1)
   by_name later (Bad g j) s h = cc
   by_name later (CopyOf side u) s h = refl
+  by_name later (Term x y) s h = refl
 
   by_bit : ((u : ℕ) → is_circuit_name (name_of es u) ≡ true → value_in m p es u ≡ value_in m q es u) → (c : Bool) → is_circuit_name (cond c (Some n) (name_of es v)) ≡ true →
       cond c (name_value m p (value_in m p es) n) (value_in m p es v) ≡ cond c (name_value m q (value_in m q es) n) (value_in m q es v)
@@ -131,6 +137,7 @@ no_bad m p q (Given origin c ∷ es) v lawful h = no_bad m p q es v lawful.1 h
 no_bad m p q (Learned c hints ∷ es) v lawful h = no_bad m p q es v lawful.1 h
 no_bad m p q (Answer c hints ∷ es) v lawful h = no_bad m p q es v lawful.1 h
 no_bad m p q (Round row values j ∷ es) v lawful h = no_bad m p q es v lawful.1 h
+no_bad m p q (Begun live ∷ es) v lawful h = no_bad m p q es v lawful.1 h
 
 abbrev pub is_bad : Assignment → Option (List Literal) → Bool
 is_bad n None = false
@@ -293,6 +300,8 @@ module _ (implied : LinesAreImplied) (f : Dqbf) (well : IsWellFormed f) (all : L
         ap (clause_true a) o.clause_is ∙ or_right (not (a o.group)) (clause_true a o.rest) (fault_true es (more ++ Given (Fault (suc j) i out) c ∷ []) is' o.group (suc j) i out o.rest c o.rest_is reached)
     given_true es more group (Copy side j) c is o mine reached = absurd mine
     given_true es more group (Link v i) c is o mine reached = absurd mine
+    given_true es more group (TermGate v i) c is o mine reached = absurd mine
+    given_true es more group (Differ y leaf part) c is o mine reached = absurd mine
 
     selectors_false : (clause : List Literal) → AreNegatedSelectors all clause → clause_true a clause ≡ false
     selectors_false [] h = refl

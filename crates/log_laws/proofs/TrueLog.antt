@@ -13,10 +13,10 @@ use Rattle.hint_log.specs.declared.origins.Leaf.TheVariants.{Constant, Literal a
 use Rattle.hint_log.specs.declared.origins.Origin.{Origin}
 use Rattle.hint_log.specs.declared.origins.Origin.TheVariants.{Gate, Fault}
 use Rattle.hint_log.specs.Conditions.{AreLogged}
-use Rattle.hint_log.specs.Entries.{name_of, rounds_of}
+use Rattle.hint_log.specs.Entries.{name_of}
 use Rattle.hint_log.specs.Growth.{Each}
 use Rattle.hint_log.specs.Origins.{matrix_literal, gate_rest, leaf_clause, leaf_with_sign, IsLeafOf, IsOriginsClause}
-use Rattle.hint_log.specs.ProductiveLog.{MatchesOrigin, IsDerivedByHints, IsNewLemma, RefutesNewRow, FollowsModel, IsNotRepeated, IsProductiveLog, is_fault, fault_groups}
+use Rattle.hint_log.specs.ProductiveLog.{MatchesOrigin, IsDerivedByHints, IsNewLemma, RefutesNewRow, FollowsModel, IsNotRepeated, IsProductiveLog, is_fault, fault_groups, fault_room}
 use Rattle.log_laws.specs.Examples.{seen_conjunction, gate_given, faults_given, shown}
 use Rattle.log_laws.proofs.Checks.{named_by, ids_by, closed_by, rest_by, contained_has, well_formed_by}
 use Rattle.log_laws.proofs.FalseLog.{new_name, first_of}
@@ -610,11 +610,11 @@ shown_models = (
 )
 
 -- faults may be given again
-pub fault_first : (earlier : List Entry) (origin : Origin) (clause : List Literal) → is_fault origin ≡ true → nat_le (length (fault_groups (Given origin clause ∷ earlier))) (rounds_of earlier + 1) ≡ true →
+pub fault_first : (earlier : List Entry) (origin : Origin) (clause : List Literal) → is_fault origin ≡ true → nat_le (length (fault_groups (Given origin clause ∷ earlier))) (fault_room earlier) ≡ true →
     IsNotRepeated earlier (Given origin clause)
 fault_first earlier origin clause fault few = record {
   first = λ h c inside. false≢true (sym h ∙ fault);
-  groups = leb-true (length (fault_groups (Given origin clause ∷ earlier))) (rounds_of earlier + 1) few;
+  groups = leb-true (length (fault_groups (Given origin clause ∷ earlier))) (fault_room earlier) few;
 }
 
 pub gate_single : Each IsNotRepeated gate_given

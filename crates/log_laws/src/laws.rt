@@ -5,6 +5,7 @@
 
 ghost use Rattle.log_laws.specs.Engines.{EnginesLeaveRest};
 ghost use Rattle.log_laws.specs.Meaning.{InstancesHaveNoModel, DecidedFalseIsFalse, DecidedTrueIsTrue, LeavesSolve, RoundsAreFew, ClosedClausesAreSettled, NewClausesAreUnknown};
+ghost use Rattle.log_laws.specs.Sessions.{DecidedLiveFalseIsFalse, DecidedLiveTrueIsTrue, SessionRoundsAreFew, PlainLogsAreSessions, EnginesLeaveSessions, CircuitsAddLive};
 
 use dq_lits::laws::{derived_line_is_implied, expansion_lifts, skolem_functions_show_true};
 
@@ -60,4 +61,41 @@ pub fn new_clauses_are_unknown()
 /// and the other engines' parts and groups.
 pub fn engines_leave_the_rest()
     ensures { EnginesLeaveRest }
+{}
+
+/// In a session, what an answer decides as false for its search is false.
+pub fn decided_live_false_is_false()
+    ensures { DecidedLiveFalseIsFalse }
+{
+    derived_line_is_implied();
+    expansion_lifts();
+}
+
+/// In a session, what an answer decides as true for its search is true.
+pub fn decided_live_true_is_true()
+    ensures { DecidedLiveTrueIsTrue }
+{
+    leaves_solve();
+    skolem_functions_show_true();
+}
+
+/// A session has at most as many rounds as there are rows of the universals.
+pub fn session_rounds_are_few()
+    ensures { SessionRoundsAreFew }
+{}
+
+/// A log in which no search began is a session's exactly where it is productive, and its answers
+/// decide the same.
+pub fn plain_logs_are_sessions()
+    ensures { PlainLogsAreSessions }
+{}
+
+/// What an engine's call adds to the log of a session leaves the rest.
+pub fn engines_leave_sessions()
+    ensures { EnginesLeaveSessions }
+{}
+
+/// What the circuits' engine adds, which speaks of the search's formula, is right in a session.
+pub fn circuits_add_live()
+    ensures { CircuitsAddLive }
 {}

@@ -6,7 +6,7 @@ use Rattle.std.proofs.lemmas.List.Elements.{All-head, All-tail}
 use Rattle.dq_lits.specs.Literal.{Assignment, Literal, positive, negative, variable_of, is_negative, opposite, same_literal, literal_true, clause_true}
 use Rattle.dq_lits.specs.Derivation.{LiveClauses, MakesTrue, holds, IsDerived}
 use Rattle.hint_log.specs.Entries.{Entry}
-use Rattle.hint_log.specs.Entries.{Named, Given, Learned, Answer, Round}
+use Rattle.hint_log.specs.Entries.{Named, Given, Learned, Answer, Round, Begun}
 use Rattle.hint_log.specs.declared.names.Name.{Name}
 use Rattle.hint_log.specs.declared.names.Name.TheVariants.{Selector}
 use Rattle.hint_log.specs.Entries.{ProofLog, clause_at, clause_of, name_of, last_id, has_id, numbered}
@@ -83,6 +83,7 @@ name_step es (Given o c) lawful v n h = h
 name_step es (Learned c hs) lawful v n h = h
 name_step es (Answer c hs) lawful v n h = h
 name_step es (Round r vs j) lawful v n h = h
+name_step es (Begun live) lawful v n h = h
 
 contains_first : (e : Entry) (es : List Entry) → Contains (e ∷ es) e
 contains_first e es = (zero, omega arith, refl)
@@ -169,6 +170,9 @@ module _ (all : List Entry) (assumptions : List Literal) (m : Assignment) where
   all_true implies (Round r vs j ∷ es) keeps lawful grouped derived active =
       all_true implies es (λ w k h. keeps w k (name_step es (Round r vs j) lawful.0 w k h)) lawful.1 grouped.1 derived.1
       (λ o g rest h on. active o g rest (contains_later (Round r vs j) (Given o (negative g ∷ rest)) es h) on)
+  all_true implies (Begun live ∷ es) keeps lawful grouped derived active =
+      all_true implies es (λ w k h. keeps w k (name_step es (Begun live) lawful.0 w k h)) lawful.1 grouped.1 derived.1
+      (λ o g rest h on. active o g rest (contains_later (Begun live) (Given o (negative g ∷ rest)) es h) on)
 
   -- what is negated is false
   negated_false : (l : Literal) → (is_selector all (variable_of l) ≡ true → is_negative l ≡ true) → holds assumptions (opposite l) ≡ true → literal_true m (opposite l) ≡ true

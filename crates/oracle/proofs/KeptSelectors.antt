@@ -5,7 +5,7 @@ use Rattle.std.proofs.lemmas.Bool.{cases_eq, eq-eqb, ne_eqb, false≢true, and_f
 use Rattle.dq_lits.specs.Literal.{Literal, negative, variable_of}
 use Rattle.dq_lits.specs.Derivation.{holds}
 use Rattle.hint_log.specs.Entries.{Entry}
-use Rattle.hint_log.specs.Entries.{Named, Given, Learned, Answer, Round}
+use Rattle.hint_log.specs.Entries.{Named, Given, Learned, Answer, Round, Begun}
 use Rattle.hint_log.specs.Conditions.{MayFollow, AreNamed, AreIds, AreLogged}
 use Rattle.hint_log.specs.Deciding.{HoldsSelectors, KeepsSelectors}
 use Rattle.hint_log.specs.Entries.{clause_at, clause_of, hints_at, hints_of, name_of, last_id, has_id, numbered}
@@ -111,6 +111,9 @@ all_held (Answer c hs ∷ es) lawful tied =
 all_held (Round r vs j ∷ es) lawful tied =
     let before = all_held es lawful.1 tied.1 in
     λ id x at. let b = before id x at in record { named = b.named; ids = b.ids; kept = b.kept }
+all_held (Begun live ∷ es) lawful tied =
+    let before = all_held es lawful.1 tied.1 in
+    λ id x at. let b = before id x at in record { named = b.named; ids = b.ids; kept = b.kept }
 
 -- a hinted clause's selectors are the clause's
 hinted : (es : List Entry) → AllHeld es → (at hint : ℕ) (hints : List ℕ) (d : List Literal) → hints_at es at ≡ Some hints → Contains hints hint → clause_at es hint ≡ Some d
@@ -123,6 +126,7 @@ hinted es held at hint hints d hat has to = by (numbered has_id es at) refl hat
     of_entry (Learned c hs) e is = (c, ap (option_and_then clause_of) e, λ l m sel. (held at (Learned c hs) e).kept hint c d (subst (λ xs. Contains xs hint) (sym is) has) refl to l m sel)
     of_entry (Answer c hs) e is = (c, ap (option_and_then clause_of) e, λ l m sel. (held at (Answer c hs) e).kept hint c d (subst (λ xs. Contains xs hint) (sym is) has) refl to l m sel)
     of_entry (Round r vs j) e is = absurd (no_hints hint (subst (λ hs. Contains hs hint) (sym is) has))
+    of_entry (Begun live) e is = absurd (no_hints hint (subst (λ hs. Contains hs hint) (sym is) has))
 
     by : (o : Option Entry) → numbered has_id es at ≡ o → option_and_then (λ x. Some (hints_of x)) o ≡ Some hints
         → (c : List Literal) × (clause_at es at ≡ Some c) × ((l : Literal) → holds d l ≡ true → is_selector es (variable_of l) ≡ true → holds c l ≡ true)
@@ -171,6 +175,7 @@ given_to_selectors (Given o c ∷ es) logged grouped = given_more es (Given o c)
 given_to_selectors (Learned c hs ∷ es) logged grouped = given_more es (Learned c hs) refl (λ p g rest is. cc) (λ v. refl) (given_to_selectors es logged.1 grouped.1)
 given_to_selectors (Answer c hs ∷ es) logged grouped = given_more es (Answer c hs) refl (λ p g rest is. cc) (λ v. refl) (given_to_selectors es logged.1 grouped.1)
 given_to_selectors (Round r vs j ∷ es) logged grouped = given_to_selectors es logged.1 grouped.1
+given_to_selectors (Begun live ∷ es) logged grouped = given_to_selectors es logged.1 grouped.1
 
 held_at : (es : List Entry) (at : ℕ) (c d : List Literal) (l : Literal) → clause_at es at ≡ Some c → clause_at es at ≡ Some d → holds d l ≡ true → holds c l ≡ true
 held_at es at c d l is also m = ap (λ x. holds x l) (some_same c d (sym is ∙ also)) ∙ m
@@ -189,3 +194,4 @@ kept_along (Given o c ∷ es) logged grouped kept = (tt, kept_along es logged.1 
 kept_along (Learned c hs ∷ es) logged grouped kept = (holds_reached es c hs logged.1 grouped.1 kept.1 kept.0, kept_along es logged.1 grouped.1 kept.1)
 kept_along (Answer c hs ∷ es) logged grouped kept = (holds_reached es c hs logged.1 grouped.1 kept.1 kept.0, kept_along es logged.1 grouped.1 kept.1)
 kept_along (Round r vs j ∷ es) logged grouped kept = (tt, kept_along es logged.1 grouped.1 kept.1)
+kept_along (Begun live ∷ es) logged grouped kept = (tt, kept_along es logged.1 grouped.1 kept.1)

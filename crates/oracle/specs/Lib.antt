@@ -1,3 +1,4 @@
 pub mod Calls
 pub mod Searched
 pub mod Fit
+pub mod Limits

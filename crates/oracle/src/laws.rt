@@ -1,11 +1,13 @@
 //! What the answers of a search show. Each law is the contract of a function without parameters and
 //! with an empty body.
 
-ghost use Rattle.std.specs.Prelude.{◌≡◌, ℕ, true, List, Some};
+ghost use Rattle.std.specs.Prelude.{◌≡◌, ◌∷◌, ℕ, true, List, Some};
 ghost use Rattle.std.specs.List.{All};
-ghost use Rattle.dq_lits.specs.Literal.{Assignment, Literal, literal_true};
+ghost use Rattle.dq_lits.specs.Literal.{Assignment, Literal, positive, negative, literal_true};
+ghost use Rattle.dq_lits.specs.Derivation.{holds};
 ghost use Rattle.hint_log.specs.Conditions.{AreLogged};
-ghost use Rattle.hint_log.specs.Deciding.{KeepsSelectors};
+ghost use Rattle.hint_log.specs.Deciding.{KeepsSelectors, ReachesGiven};
+ghost use Rattle.hint_log.specs.declared.origins.Origin.{Origin};
 ghost use Rattle.hint_log.specs.Entries.{ProofLog};
 ghost use Rattle.hint_log.specs.Growth.{Each};
 ghost use Rattle.hint_log.specs.Entries.{Entry};
@@ -31,4 +33,14 @@ pub fn unsat_excludes_every_assignment()
 pub fn selectors_are_kept_along_hints()
     ensures { (entries : List Entry) → AreLogged entries → Each IsGivenToGroup entries
         → Each KeepsHintedSelectors entries → KeepsSelectors entries }
+{}
+
+/// No answer blames an inactive group: each given clause that it rests on is of a group whose
+/// selector is assumed.
+pub fn unsat_blames_active_groups_alone()
+    ensures { (old new : ProofLog) (assumptions : List Literal) (id : ℕ) → IsSearched new.entries
+        → (refuted : IsRefutedUnder old new assumptions id) (origin : Origin) (group : ℕ)
+        (rest : List Literal)
+        → ReachesGiven refuted.before.entries refuted.hints origin (negative group ∷ rest)
+        → holds assumptions (positive group) ≡ true }
 {}

@@ -2,13 +2,14 @@ ghost use Rattle.std.specs.Prelude.{◌≡◌, ◌≤◌, ◌<◌, ◌^◌, ◌�
 ghost use Rattle.std.specs.List.{All};
 ghost use Rattle.dq_lits.specs.Literal.{Literal, Assignment, variable_of, opposite};
 ghost use Rattle.dq_lits.specs.Derivation.{is_tautology};
-ghost use Rattle.hint_log.specs.Entries.{Named, Given, Round};
+ghost use Rattle.hint_log.specs.Entries.{Named, Given, Round, Begun};
 ghost use Rattle.hint_log.specs.declared.names.Name.TheVariants.{Selector};
 ghost use Rattle.hint_log.specs.Conditions.{HasSides};
-ghost use Rattle.hint_log.specs.Entries.{ProofLog, with_entry, last_id, steps_of, clause_at, name_of};
+ghost use Rattle.hint_log.specs.Entries.{ProofLog, with_entry, last_id, clause_at, name_of};
 ghost use Rattle.hint_log.specs.Growth.{Grew};
 ghost use Rattle.hint_log.specs.Naming.{is_selector_name};
 ghost use Rattle.oracle.specs.Calls.{IsMade, IsPlain, assumed, IsLearnedEntry, IsModelUnder, IsRefutedUnder};
+ghost use Rattle.oracle.specs.Limits.{IsAtLimit};
 ghost use Rattle.oracle.specs.Searched.{IsSearched};
 
 use crate::groups::{Group, Tenant};
@@ -43,6 +44,7 @@ pub trait Oracle {
     /// A token that makes groups.
     fn tenant(&mut self) -> Result<Tenant, Memory>
         ensures fit { (log : ProofLog) → Fits self.old log → Fits self.new log }
+        ensures err_self { OnErr result (self.new ≡ self.old) }
         ensures told { is_told self.new ≡ is_told self.old }
         ensures values { (v : ℕ) → values self.new v ≡ values self.old v };
 
@@ -87,8 +89,8 @@ pub trait Oracle {
         ensures err_self { OnErr result (self.new ≡ self.old) };
 
     /// Searches for values that make the clauses of the active groups and the assumptions true. It
-    /// stops for want of memory, or where the log's limit is reached and a further clause would
-    /// have to be learned; a further search is lawful then.
+    /// stops for want of memory, or at the log's limit: with a clause in hand that was to be
+    /// learned next, and not before it looked. A further search is lawful then.
     fn solve(&mut self, active: &[Group], assume: &[Lit], log: &mut Log) -> Result<Answer, Stop>
         requires fit { Fits self.old log.old }
         requires made { All (IsMade log.old.entries) active.now }
@@ -103,7 +105,8 @@ pub trait Oracle {
         ensures unsat { (id : ℕ) → result ≡ Ok (Answer.Unsat id)
             → IsRefutedUnder log.old log.new (assumed active.now assume.now) id }
         ensures stop { OnErr result (Grew IsLearnedEntry log.old log.new) }
-        ensures limit { result ≡ Err Stop.Limit → steps_of log.new.entries ≡ log.new.limit };
+        ensures limit { result ≡ Err Stop.Limit
+            → IsAtLimit log.new (assumed active.now assume.now) };
 
     /// The value of a variable that the last search found. It takes no memory.
     fn value(&self, v: u64) -> bool
@@ -121,4 +124,8 @@ pub trait Oracle {
     /// A round is none of the solver's business.
     ghost round: { (s : Self) (log : ProofLog) (row values : List Bool) (j : ℕ) → Fits s log
         → Fits s (with_entry log (Round row values j)) };
+
+    /// Nor is it when a search begins.
+    ghost begun: { (s : Self) (log : ProofLog) (live : List ℕ) → Fits s log
+        → Fits s (with_entry log (Begun live)) };
 }

@@ -18,7 +18,7 @@ use Rattle.hint_log.specs.Reached.{Reaches}
 use Rattle.hint_log.specs.declared.names.Name.{Name}
 use Rattle.hint_log.specs.declared.names.Name.TheVariants.{Selector, Copy as CopyOf}
 use Rattle.hint_log.specs.declared.origins.Origin.{Origin}
-use Rattle.hint_log.specs.declared.origins.Origin.TheVariants.{Instance, Gate, Fault, Copy, Link}
+use Rattle.hint_log.specs.declared.origins.Origin.TheVariants.{Instance, Gate, Fault, Copy, Link, TermGate, Differ}
 use Rattle.aig_graph.specs.declared.nodes.Node.{Node}
 use Rattle.interpolants.specs.Interpolant.{Partition, partition, IsReachedGiven, IsOther}
 use Rattle.interpolants.proofs.Truth.{any_witness, same_literal-sound, same_literal-refl, opposite-opposite}
@@ -41,6 +41,8 @@ copy_given es earlier f side (Instance k j) c stay test right = cc
 copy_given es earlier f side (Gate v i) c stay test right = cc
 copy_given es earlier f side (Fault j i leaf) c stay test right = cc
 copy_given es earlier f side (Link v i) c stay test right = cc
+copy_given es earlier f side (TermGate v i) c stay test right = cc
+copy_given es earlier f side (Differ y leaf part) c stay test right = cc
 copy_given es earlier f side (Copy s j) c stay test right =
     let same : s ≡ side = eqb-true s side test in
     let rest_is = right.rest_is.1 in
@@ -60,6 +62,8 @@ link_given es earlier f y x (Instance k j) c stay seen test right = cc
 link_given es earlier f y x (Gate v i) c stay seen test right = cc
 link_given es earlier f y x (Fault j i leaf) c stay seen test right = cc
 link_given es earlier f y x (Copy s j) c stay seen test right = cc
+link_given es earlier f y x (TermGate s j) c stay seen test right = cc
+link_given es earlier f y x (Differ z leaf part) c stay seen test right = cc
 link_given es earlier f y x (Link v i) c stay seen test right =
     let same : v ≡ x = eqb-true v x test in
     record {
@@ -79,6 +83,8 @@ of_copies side (Instance k j) h = cc
 of_copies side (Gate v i) h = cc
 of_copies side (Fault j i leaf) h = cc
 of_copies side (Link v i) h = cc
+of_copies side (TermGate v i) h = cc
+of_copies side (Differ y leaf part) h = cc
 of_copies side (Copy s j) h = refl
 
 of_links : (x : ℕ) (origin : Origin) → is_link_of x origin ≡ true → IsOfCopies origin
@@ -86,6 +92,8 @@ of_links x (Instance k j) h = cc
 of_links x (Gate v i) h = cc
 of_links x (Fault j i leaf) h = cc
 of_links x (Copy s j) h = cc
+of_links x (TermGate s j) h = cc
+of_links x (Differ z leaf part) h = cc
 of_links x (Link v i) h = refl
 
 pub selector_not_copy : (o : Option Name) (g side v : ℕ) → o ≡ Some (Selector g) → o ≡ Some (CopyOf side v) → ⊥

@@ -9,15 +9,15 @@ use Rattle.dq_lits.specs.Literal.{Literal, positive, negative, variable_of, is_n
 use Rattle.dq_lits.specs.Formula.{Dqbf, HasLawfulPrefix, declared}
 use Rattle.dq_formula.specs.Prefix.{existential_variables}
 use Rattle.hint_log.specs.Conditions.{AreLogged}
-use Rattle.hint_log.specs.Entries.{Entry, Named, Given, Learned, Answer, Round, ProofLog, with_entry, name_of, rounds_of}
+use Rattle.hint_log.specs.Entries.{Entry, Named, Given, Learned, Answer, Round, Begun, ProofLog, with_entry, name_of}
 use Rattle.hint_log.specs.Growth.{Each}
 use Rattle.hint_log.specs.Naming.{AreNamedAs, named_literal, name_literal, numbered_from_one, is_selector_name}
 use Rattle.hint_log.specs.Origins.{IsRestOf}
-use Rattle.hint_log.specs.ProductiveLog.{MatchesOrigin, is_fault, fault_groups}
+use Rattle.hint_log.specs.ProductiveLog.{MatchesOrigin, is_fault, fault_groups, fault_room}
 use Rattle.hint_log.specs.declared.names.Name.{Name}
 use Rattle.hint_log.specs.declared.names.Name.TheVariants.{Selector, Copy as CopyOf}
 use Rattle.hint_log.specs.declared.origins.Origin.{Origin}
-use Rattle.hint_log.specs.declared.origins.Origin.TheVariants.{Instance, Gate, Fault, Copy, Link}
+use Rattle.hint_log.specs.declared.origins.Origin.TheVariants.{Instance, Gate, Fault, Copy, Link, TermGate, Differ}
 use Rattle.log_laws.specs.Engines.{circuits, copies, origin_engine, IsAddedBy}
 use Rattle.log_laws.proofs.Found.{named_variable}
 use Rattle.log_laws.proofs.LargerLogs.{leaves_rest, grown_by, grown_by_none, grown_then}
@@ -65,6 +65,8 @@ no_fault (Gate v i) e = refl
 no_fault (Fault j i leaf) e = let h : circuits ≡ copies = e in cc
 no_fault (Copy side j) e = refl
 no_fault (Link v i) e = refl
+no_fault (TermGate v i) e = refl
+no_fault (Differ y leaf part) e = refl
 
 not_a_fault : (origin : Origin) → origin_engine origin ≡ copies → (j i : ℕ) {leaf : _} → origin ≡ Fault j i leaf → ⊥
 not_a_fault origin e j i is = let h : copies ≡ circuits = sym e ∙ ap origin_engine is in cc
@@ -85,8 +87,8 @@ module _ (f : Dqbf) (log : ProofLog) (g : ℕ) (origin : Origin) (rest : List Li
   faults_same : fault_groups (Given origin (negative g ∷ rest) ∷ log.entries) ≡ fault_groups log.entries
   faults_same = rw (no_fault origin own) refl
 
-  few_after : length (fault_groups (Given origin (negative g ∷ rest) ∷ log.entries)) ≤ rounds_of log.entries + 1
-  few_after = subst (λ (gs : List ℕ). length gs ≤ rounds_of log.entries + 1) (sym faults_same) few
+  few_after : length (fault_groups (Given origin (negative g ∷ rest) ∷ log.entries)) ≤ fault_room log.entries
+  few_after = subst (λ (gs : List ℕ). length gs ≤ fault_room log.entries) (sym faults_same) few
 
   pub few_more : HasFewFaults (Given origin (negative g ∷ rest) ∷ log.entries)
   few_more = few_after
@@ -228,6 +230,7 @@ fresh_group f test g (Given origin c ∷ es) lawful none = (
 fresh_group f test g (Learned c hints ∷ es) lawful none = (tt, fresh_group f test g es lawful.1 none)
 fresh_group f test g (Answer c hints ∷ es) lawful none = (tt, fresh_group f test g es lawful.1 none)
 fresh_group f test g (Round row values j ∷ es) lawful none = (tt, fresh_group f test g es lawful.1 none)
+fresh_group f test g (Begun live ∷ es) lawful none = (tt, fresh_group f test g es lawful.1 none)
 
 -- literals on copies are no selectors
 pub copies_plain : (es : List Entry) (side : ℕ) (clause lits : List Literal) → AreNamedAs es lits (copy_names side clause) → All (IsPlain es) lits
@@ -252,7 +255,7 @@ switch_off (negative v) h = cc
 pub few_anew : (f : Dqbf) (old new : ProofLog) → GrewAnew f old new → HasFewFaults old.entries → HasFewFaults new.entries
 few_anew f old new grew few =
     let rest = leaves_rest f copies 0 true old new (grew 0 old.entries (λ v none. none)) in
-    rw (rest.faults refl, rest.rounds) few
+    subst (λ n. length (fault_groups new.entries) ≤ n) (sym rest.room) (subst (λ (gs : List ℕ). length gs ≤ fault_room old.entries) (sym (rest.faults refl)) few)
 
 pub universals_distinct : (f : Dqbf) → HasLawfulPrefix f → AllPairs (λ v w. v ≢ w) f.universals
 universals_distinct f lawful i j d before within =

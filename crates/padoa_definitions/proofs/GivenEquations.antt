@@ -14,7 +14,7 @@ use Rattle.hint_log.specs.Origins.{IsRestOf, link_names}
 use Rattle.hint_log.specs.declared.names.Name.{Name}
 use Rattle.hint_log.specs.declared.names.Name.TheVariants.{Selector, Copy as CopyOf}
 use Rattle.hint_log.specs.declared.origins.Origin.{Origin}
-use Rattle.hint_log.specs.declared.origins.Origin.TheVariants.{Instance, Gate, Fault, Copy, Link}
+use Rattle.hint_log.specs.declared.origins.Origin.TheVariants.{Instance, Gate, Fault, Copy, Link, TermGate, Differ}
 use Rattle.log_laws.proofs.Kept.{NamesStay, named_stay}
 use Rattle.oracle.specs.Calls.{IsMade}
 use Rattle.oracle.specs.declared.groups.Group.{Group}
@@ -94,6 +94,8 @@ any_link x (Instance k j) h = cc
 any_link x (Gate v i) h = cc
 any_link x (Fault j i leaf) h = cc
 any_link x (Copy s j) h = cc
+any_link x (TermGate s j) h = cc
+any_link x (Differ y leaf part) h = cc
 any_link x (Link v i) h = refl
 
 pub adds_any : (f : Dqbf) (x : ℕ) (old new : ProofLog) → Adds f 0 (is_link_of x) old new → Adds f 0 is_any_link old new

@@ -4,7 +4,7 @@ use Rattle.std.specs.List.{All, Contains}
 use Rattle.std.proofs.lemmas.List.Elements.{All-head, All-tail, Contains-append_right}
 use Rattle.dq_lits.specs.Literal.{Literal, negative, variable_of}
 use Rattle.dq_lits.specs.Formula.{Dqbf}
-use Rattle.hint_log.specs.Entries.{Entry, Named, Given, Learned, Answer, Round, ProofLog, name_of}
+use Rattle.hint_log.specs.Entries.{Entry, Named, Given, Learned, Answer, Round, Begun, ProofLog, name_of}
 use Rattle.hint_log.specs.Growth.{Each, Grew}
 use Rattle.hint_log.specs.Naming.{NamedLiteral}
 use Rattle.hint_log.specs.declared.names.Name.{Name}
@@ -57,6 +57,7 @@ module _ (f : Dqbf) (engine : Engine) (group : ℕ) (silent : Bool) (old : List 
   other_group test mine n apart named earlier (Learned c hints) h = tt
   other_group test mine n apart named earlier (Answer c hints) h = tt
   other_group test mine n apart named earlier (Round row values j) h = tt
+  other_group test mine n apart named earlier (Begun live) h = tt
 
 pub keeps_by_engine : (f : Dqbf) (engine : Engine) (group : ℕ) (silent : Bool) (old new : ProofLog) → Grew (IsAddedBy f engine group silent old.entries) old new →
     Keeps f (λ mine. (mine ≢ group) × IsNamed old.entries mine) old.entries new.entries

@@ -4,7 +4,7 @@ use Rattle.std.specs.List.{All, Contains}
 use Rattle.std.proofs.lemmas.Bool.{eqb-true}
 use Rattle.std.proofs.lemmas.List.Elements.{All-cons, All-nil}
 use Rattle.dq_lits.specs.Formula.{Dqbf, declared}
-use Rattle.hint_log.specs.Entries.{Entry, Named, Given, Learned, Answer, Round, ProofLog, name_of}
+use Rattle.hint_log.specs.Entries.{Entry, Named, Given, Learned, Answer, Round, Begun, ProofLog, name_of}
 use Rattle.hint_log.specs.Growth.{Grew}
 use Rattle.hint_log.specs.declared.names.Name.{Name}
 use Rattle.hint_log.specs.declared.names.Name.TheVariants.{Selector, Copy as CopyOf}
@@ -31,6 +31,7 @@ named_contains (Given o c ∷ es) v n is = contains_later (Given o c) (Named v n
 named_contains (Learned c h ∷ es) v n is = contains_later (Learned c h) (Named v n) es (named_contains es v n is)
 named_contains (Answer c h ∷ es) v n is = contains_later (Answer c h) (Named v n) es (named_contains es v n is)
 named_contains (Round r b j ∷ es) v n is = contains_later (Round r b j) (Named v n) es (named_contains es v n is)
+named_contains (Begun live ∷ es) v n is = contains_later (Begun live) (Named v n) es (named_contains es v n is)
 
 pub uncopied_yet : (side : ℕ) (vars : List ℕ) (es : List Entry) → HasNone copies es → AreUncopied side vars es
 uncopied_yet side vars es none v x among is = none (Named v (CopyOf side x)) refl (named_contains es v (CopyOf side x) is)

@@ -9,12 +9,12 @@ use Rattle.dq_lits.specs.Derivation.{LiveClauses, MakesTrue, holds, IsDerived}
 use Rattle.dq_lits.specs.Formula.{Dqbf}
 use Rattle.hint_log.specs.Conditions.{IsId, AreLogged}
 use Rattle.hint_log.specs.Deciding.{ReachesGiven, AreNegatedSelectors, IsInstance, IsCircuitGiven, DecidesNothing}
-use Rattle.hint_log.specs.Entries.{Entry, Named, Given, Learned, Answer, Round, has_id, numbered, last_id, clause_of, hints_of, origin_of, clause_at, hints_at, origin_at, name_of}
+use Rattle.hint_log.specs.Entries.{Entry, Named, Given, Learned, Answer, Round, Begun, has_id, numbered, last_id, clause_of, hints_of, origin_of, clause_at, hints_at, origin_at, name_of}
 use Rattle.hint_log.specs.Growth.{Each}
 use Rattle.hint_log.specs.Reached.{Reaches, itself, by_hint}
 use Rattle.hint_log.specs.declared.names.Name.TheVariants.{Selector}
 use Rattle.hint_log.specs.declared.origins.Origin.{Origin}
-use Rattle.hint_log.specs.declared.origins.Origin.TheVariants.{Instance, Gate, Fault, Copy, Link}
+use Rattle.hint_log.specs.declared.origins.Origin.TheVariants.{Instance, Gate, Fault, Copy, Link, TermGate, Differ}
 use Rattle.log_laws.specs.Engines.{circuits, instances, copies, origin_engine}
 use Rattle.log_laws.proofs.Found.{split_at, each_at}
 use Rattle.log_laws.proofs.ReachedClauses.{answer_true, name_stays}
@@ -82,6 +82,7 @@ is_given_entry es i c has is = by (numbered has_id es i) refl has is
     by (Some (Learned d hs)) e h is = cc
     by (Some (Answer d hs)) e h is = cc
     by (Some (Round r v j)) e h is = cc
+    by (Some (Begun live)) e h is = cc
 
 -- a given clause that an answer's hints reach, with its group's selector, which the answer's clause negates
 pub record IsOfAnswer (es : List Entry) (clause : List Literal) (origin : Origin) (c : List Literal) : Type 0 where
@@ -145,6 +146,8 @@ no_instance (Gate v i) own h = h
 no_instance (Fault j i leaf) own h = h
 no_instance (Copy side j) own h = h
 no_instance (Link v i) own h = h
+no_instance (TermGate v i) own h = h
+no_instance (Differ y leaf part) own h = h
 
 no_circuit : (group : ℕ) (origin : Origin) (c : List Literal) → IsOfCopies origin → IsCircuitGiven group origin c → ⊥
 no_circuit group (Instance k j) c own h = h
@@ -152,6 +155,8 @@ no_circuit group (Gate v i) c own h = let e : circuits ≡ copies = own in cc
 no_circuit group (Fault j i leaf) c own h = let e : circuits ≡ copies = own in cc
 no_circuit group (Copy side j) c own h = h
 no_circuit group (Link v i) c own h = h
+no_circuit group (TermGate v i) c own h = h
+no_circuit group (Differ y leaf part) c own h = h
 
 -- an answer that reaches no given clause but those of the copies decides nothing
 pub undecided_answer : LinesAreImplied → (f : Dqbf) (es : List Entry) (clause : List Literal) (hints : List ℕ) → IsSearched (Answer clause hints ∷ es) →

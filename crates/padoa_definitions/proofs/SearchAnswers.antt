@@ -8,7 +8,7 @@ use Rattle.dq_lits.specs.Literal.{Literal, variable_of, opposite}
 use Rattle.dq_lits.specs.Formula.{Dqbf, Existential, existential_of, declared}
 use Rattle.definition_order.specs.Order.{MayRead}
 use Rattle.hint_log.specs.Conditions.{IsId, AreLogged}
-use Rattle.hint_log.specs.Entries.{Entry, Named, Given, Learned, Answer, Round, ProofLog, has_id, numbered, last_id, name_of}
+use Rattle.hint_log.specs.Entries.{Entry, Named, Given, Learned, Answer, Round, Begun, ProofLog, has_id, numbered, last_id, name_of}
 use Rattle.hint_log.specs.Deciding.{DecidesNothing}
 use Rattle.hint_log.specs.Growth.{Grew}
 use Rattle.hint_log.specs.Naming.{named_literal, name_literal}
@@ -39,6 +39,7 @@ learned_is_added f group silent old earlier (Given origin c) h = absurd h
 learned_is_added f group silent old earlier (Learned c hints) h = tt
 learned_is_added f group silent old earlier (Answer c hints) h = absurd h
 learned_is_added f group silent old earlier (Round row values j) h = absurd h
+learned_is_added f group silent old earlier (Begun live) h = absurd h
 
 -- a search that logs no answer
 pub learned_grew : (f : Dqbf) (old new : ProofLog) → Grew IsLearnedEntry old new → (group : ℕ) → Grew (IsAddedBy f copies group true old.entries) old new

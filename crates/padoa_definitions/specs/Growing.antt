@@ -3,11 +3,11 @@ use Rattle.std.specs.Prelude.{◌≡◌, ◌⊎◌, ◌+◌, ◌<◌, ◌≤◌,
 use Rattle.std.specs.List.{Contains}
 use Rattle.dq_lits.specs.Literal.{Literal, negative}
 use Rattle.dq_lits.specs.Formula.{Dqbf, declared}
-use Rattle.hint_log.specs.Entries.{Entry, Given, ProofLog, with_entry, name_of, rounds_of}
+use Rattle.hint_log.specs.Entries.{Entry, Given, ProofLog, with_entry, name_of}
 use Rattle.hint_log.specs.Growth.{Each, Grew}
 use Rattle.hint_log.specs.Naming.{AreNamedAs}
 use Rattle.hint_log.specs.Origins.{link_names}
-use Rattle.hint_log.specs.ProductiveLog.{fault_groups}
+use Rattle.hint_log.specs.ProductiveLog.{fault_groups, fault_room}
 use Rattle.hint_log.specs.declared.names.Name.{Name}
 use Rattle.hint_log.specs.declared.names.Name.TheVariants.{Selector, Copy as CopyOf}
 use Rattle.hint_log.specs.declared.origins.Origin.{Origin}
@@ -31,7 +31,7 @@ GrewIn f group old new =
 
 -- there is room for a given clause more
 abbrev pub HasFewFaults : List Entry → Type 0
-HasFewFaults entries = length (fault_groups entries) ≤ rounds_of entries + 1
+HasFewFaults entries = length (fault_groups entries) ≤ fault_room entries
 
 -- selectors, and copies of this side
 abbrev pub is_side_name : ℕ → Name → Bool

@@ -9,7 +9,7 @@ use Rattle.dq_lits.specs.Row.{bit_of}
 use Rattle.hint_log.specs.Conditions.{IsId}
 use Rattle.hint_log.specs.Entries.{Entry, clause_at, name_of}
 use Rattle.hint_log.specs.declared.names.Name.{Name}
-use Rattle.hint_log.specs.declared.names.Name.TheVariants.{Selector, Pair, Input, And, Bad, Copy as CopyOf}
+use Rattle.hint_log.specs.declared.names.Name.TheVariants.{Selector, Pair, Input, And, Bad, Copy as CopyOf, Term}
 use Rattle.padoa_definitions.specs.Dividing.{IsSelectorLiteral}
 use Rattle.padoa_definitions.specs.declared.copies.MatrixCopy.{MatrixCopy}
 
@@ -21,6 +21,7 @@ copy_value m (Input _) = false
 copy_value m (And _ _) = false
 copy_value m (Bad _ _) = false
 copy_value m (CopyOf _ v) = m v
+copy_value m (Term _ _) = false
 
 abbrev pub value_by : Assignment → Option Name → Bool
 value_by m None = false

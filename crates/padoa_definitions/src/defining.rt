@@ -1,9 +1,9 @@
 ghost use Rattle.std.specs.Prelude.{◌≡◌, ◌+◌, ℕ, true, length, IfOk, IsErrOf, IsSome, Some};
 ghost use Rattle.dq_lits.specs.Formula.{Existential, IsWellFormed, existential_of};
-ghost use Rattle.hint_log.specs.Entries.{steps_of};
 ghost use Rattle.hint_log.specs.Growth.{Grew};
 ghost use Rattle.aig_graph.specs.Made.{Extends};
 ghost use Rattle.log_laws.specs.Engines.{copies, IsAddedBy};
+ghost use Rattle.oracle.specs.Limits.{IsAtSomeLimit};
 ghost use Rattle.padoa_definitions.specs.Copies.{IsPadoa};
 ghost use Rattle.padoa_definitions.specs.Defining.{IsFound};
 
@@ -71,7 +71,7 @@ impl Padoa {
         ensures extends { Extends graph.old graph.new }
         ensures found { (e : Existential) → existential_of f.now y ≡ Some e
             → IfOk result (IsFound f.now graph.new e) }
-        ensures limit { IsErrOf result Stop.Limit → steps_of log.new.entries ≡ log.new.limit }
+        ensures limit { IsErrOf result Stop.Limit → IsAtSomeLimit log.new }
     {
         names_are_unique();
         let places = shared_places(self.alloc, f, y)?;

@@ -5,10 +5,11 @@ ghost use Rattle.dq_lits.specs.Derivation.{is_tautology};
 ghost use Rattle.dq_lits.specs.Formula.{Existential, IsWellFormed, existential_of};
 ghost use Rattle.dq_lits.specs.Literal.{Literal, variable_of};
 ghost use Rattle.hint_log.specs.Conditions.{IsId};
-ghost use Rattle.hint_log.specs.Entries.{clause_at, name_of, steps_of};
+ghost use Rattle.hint_log.specs.Entries.{clause_at, name_of};
 ghost use Rattle.hint_log.specs.Growth.{Grew};
 ghost use Rattle.log_laws.specs.Engines.{copies, IsAddedBy};
 ghost use Rattle.oracle.specs.Calls.{IsModelUnder, assumed};
+ghost use Rattle.oracle.specs.Limits.{IsAtSomeLimit};
 ghost use Rattle.padoa_definitions.specs.Copies.{IsPadoa};
 ghost use Rattle.padoa_definitions.specs.Forcing.{IsForced};
 ghost use Rattle.padoa_definitions.specs.Ruling.{AreFirstCopies, ShowsClause, IsLiteralName, signed_literal, row_copies, cube_literal, cube_of};
@@ -59,7 +60,7 @@ impl Padoa {
             → Grew (IsAddedBy f.now copies group true log.old.entries) log.old log.new }
         ensures forced { (e : Existential) → existential_of f.now y ≡ Some e
             → IfOk result (IsForced f.now e row.now bit) }
-        ensures limit { IsErrOf result Stop.Limit → steps_of log.new.entries ≡ log.new.limit }
+        ensures limit { IsErrOf result Stop.Limit → IsAtSomeLimit log.new }
     {
         names_are_unique();
         f.every_formula_is_lawful();
@@ -117,7 +118,7 @@ impl Padoa {
             (assumed (self.now.first.group ∷ []) asked.now) }
         ensures unsat { (id : ℕ) → result ≡ Ok (Answer.Unsat id)
             → ShowsClause f.now log.new.entries asked.now id }
-        ensures limit { IsErrOf result Stop.Limit → steps_of log.new.entries ≡ log.new.limit }
+        ensures limit { IsErrOf result Stop.Limit → IsAtSomeLimit log.new }
     {
         derived_line_is_implied();
         ids_stay();

@@ -4,9 +4,9 @@ ghost use Rattle.std.specs.Prelude.{◌≡◌, ◌<◌, ℕ, true, All, length, 
 ghost use Rattle.definition_order.specs.Order.{MayRead};
 ghost use Rattle.padoa_definitions.specs.Seeing.{ArePlaces};
 ghost use Rattle.dq_lits.specs.Formula.{Existential, declared, existential_of};
-ghost use Rattle.hint_log.specs.Entries.{steps_of};
 ghost use Rattle.hint_log.specs.Growth.{Grew};
 ghost use Rattle.log_laws.specs.Engines.{copies, IsAddedBy};
+ghost use Rattle.oracle.specs.Limits.{IsAtSomeLimit};
 ghost use Rattle.padoa_definitions.specs.Copies.{AreTwins, IsPadoa};
 ghost use Rattle.padoa_definitions.specs.Dividing.{AreActive, ShowsDefinition, ModelsCopies};
 
@@ -49,7 +49,7 @@ impl Padoa {
             → existential_of question.now.f.now question.now.twins.variable ≡ Some e
             → result ≡ Ok (Answer.Unsat id) → ShowsDefinition question.now.f.now e self.now
             question.now.twins.first log.new.entries id }
-        ensures limit { IsErrOf result Stop.Limit → steps_of log.new.entries ≡ log.new.limit }
+        ensures limit { IsErrOf result Stop.Limit → IsAtSomeLimit log.new }
     {
         derived_line_is_implied();
         ids_stay();

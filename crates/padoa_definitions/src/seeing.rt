@@ -1,13 +1,13 @@
 //! Where the variables stand that an existential sees, or that its definition may read.
 
-ghost use Rattle.std.specs.Prelude.{◌≡◌, ◌<◌, ◌+◌, ◌++◌, Contains, IsSome, IfSome, IfOk, OnOk, Some, length, map, slice_get};
+ghost use Rattle.std.specs.Prelude.{◌≡◌, ◌<◌, ◌+◌, ◌++◌, Contains, IsSome, IfOk, OnOk, Some, length, map, slice_get};
 ghost use Rattle.std.specs.List.{All};
 ghost use Rattle.definition_order.specs.Order.{MayRead};
 ghost use Rattle.dq_lits.specs.Formula.{Existential, declared, existential_of};
 ghost use Rattle.padoa_definitions.specs.Seeing.{ArePlaces};
 
 use definition_order::shared_existentials;
-use dq_formula::{Deps, Formula};
+use dq_formula::Formula;
 use dq_lits::Memory;
 use std::alloc::Global;
 
@@ -67,29 +67,8 @@ pub(crate) fn seen_places(alloc: Global, f: &Formula, y: u64) -> Result<Vec<usiz
 {
     f.every_formula_is_lawful();
     let mut places = Vec::new(alloc);
-    for x in seen(f, y) {
-        places.push(universal_place(f, *x))?;
+    for x in f.seen(y) {
+        places.push(f.place_of(*x))?;
     }
     Ok(places)
-}
-
-fn universal_place(f: &Formula, x: u64) -> usize
-    requires { Contains f.now.universals x }
-    ensures { slice_get f.now.universals result ≡ Some x }
-{
-    match f.universal_place(x) {
-        Some(place) => place,
-        None => unreachable!(),
-    }
-}
-
-// The universals that an existential sees.
-fn seen(f: &Formula, y: u64) -> &[u64]
-    requires declared { IsSome (existential_of f.now y) }
-    ensures { IfSome (existential_of f.now y) (λ e. result.now ≡ e.sees) }
-{
-    match f.deps_of(y) {
-        Deps::FirstOf(n) => &f.universals()[..*n],
-        Deps::Listed(vars) => vars.items(),
-    }
 }

@@ -1,15 +1,12 @@
 -- Existentials with one dependency set.
-use Rattle.std.proofs.Common.{◌≡◌, ℕ, ◌==◌, ◌<◌, inl, inr, Bool, true, false, List, [], set, length, get_or, replicate, map, Option, None, Some, IsSome, IfSome, cond, refl, sym, ◌∙◌, ap, subst, arith, get_or-set_other, get_or-set_same}
-use Rattle.std.specs.List.{All, position_or_len}
+use Rattle.std.proofs.Common.{◌≡◌, ℕ, ◌==◌, ◌<◌, inl, inr, Bool, true, false, List, set, length, get_or, replicate, map, Option, None, Some, IsSome, cond, refl, sym, ◌∙◌, ap, subst, arith, get_or-set_other, get_or-set_same}
+use Rattle.std.specs.List.{position_or_len}
 use Rattle.std.proofs.lemmas.Bool.{cases_eq, cases_lt}
 use Rattle.std.proofs.lemmas.Grind.{common_steps}
-use Rattle.std.proofs.lemmas.List.{length-set, length-map, length-replicate, get_or-map, get_or_past}
+use Rattle.std.proofs.lemmas.List.{length-set, length-replicate, get_or_past}
 use Rattle.dq_lits.specs.Expansion.{row_assignment}
 use Rattle.dq_lits.specs.Formula.{Existential, Dqbf, existential_of}
 use Rattle.dq_lits.specs.Henkin.{same_bits}
-use Rattle.dq_formula.specs.Prefix.{existential_variables}
-use Rattle.dq_formula.specs.Dependencies.{dependencies}
-use Rattle.dq_formula.specs.declared.dependencies.Deps.{Deps}
 use Rattle.refutation_checker.specs.Alike.{set_of, stand_in, AreAlike}
 use Rattle.refutation_checker.specs.Pairs.{first_agreeing, first_row}
 
@@ -70,20 +67,3 @@ one_more_stands f alike y first are same v =
     by : (b : Bool) → set_of (existential_of f first) ≡ set_of (existential_of f v) → set_of (existential_of f (cond b v first)) ≡ set_of (existential_of f v)
     by true e = refl
     by false e = e
-
--- the existential at a place
-pub declared_there : (f : Dqbf) (ys : List ℕ) (i : ℕ) → ys ≡ existential_variables f → i < length ys
-    → All (λ y. existential_of f y.variable ≡ Some y) f.existentials → IsSome (existential_of f (get_or ys i 0))
-declared_there f ys i is lt named =
-    let blank : Existential = record { variable = 0; sees = [] } in
-    let long : length ys ≡ length f.existentials = ap length is ∙ length-map f.existentials (λ (y : Existential). y.variable) in
-    let below : i < length f.existentials = omega (arith, lt, long) in
-    let at : get_or ys i 0 ≡ (get_or f.existentials i blank).variable = ap (λ xs. get_or xs i 0) is ∙ get_or-map (λ (y : Existential). y.variable) f.existentials i blank 0 below in
-    rw at (rw (named i blank below) refl)
-
--- two sets in one form
-pub one_set : (universals : List ℕ) (y z : Option Existential) (a b : Deps) → a ≡ b → IsSome y → IsSome z → IfSome y (λ e. dependencies universals a ≡ e.sees)
-    → IfSome z (λ e. dependencies universals b ≡ e.sees) → set_of y ≡ set_of z
-one_set universals None z a b same some_y some_z y_is z_is = cc
-one_set universals (Some y) None a b same some_y some_z y_is z_is = cc
-one_set universals (Some y) (Some z) a b same some_y some_z y_is z_is = ap Some (sym y_is ∙ ap (dependencies universals) same ∙ z_is)

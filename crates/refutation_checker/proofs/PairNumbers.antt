@@ -1,5 +1,5 @@
 -- The numbers of pairs.
-use Rattle.std.proofs.Common.{◌≡◌, ℕ, ◌+◌, ◌-◌, ◌*◌, ◌/◌, ◌%◌, ◌≤◌, ◌<◌, ◌^◌, ◌==◌, Bool, true, false, not, ◌&&◌, cond, inl, inr, List, [], ◌∷◌, map, take, drop, length, get_or, position, Option, None, Some, IsSome, is_some, nat_lt, refl, sym, ◌∙◌, ap, subst, arith}
+use Rattle.std.proofs.Common.{◌≡◌, ℕ, ◌+◌, ◌-◌, ◌*◌, ◌/◌, ◌%◌, ◌≤◌, ◌<◌, ◌^◌, ◌==◌, Bool, true, false, not, cond, inl, inr, List, [], ◌∷◌, map, take, drop, length, get_or, Option, None, Some, IsSome, is_some, nat_lt, refl, sym, ◌∙◌, ap, subst, arith}
 use Rattle.std.specs.List.{All, list_any, find, position_or_len, filter_map}
 use Rattle.std.proofs.Math.Nat.{mul-le-mul_left, div-add-mod, mod-lt}
 use Rattle.std.proofs.lemmas.Bool.{cases_Bool, eqb-true, and_parts, ltb-true}
@@ -7,13 +7,10 @@ use Rattle.std.proofs.lemmas.Nat.{div-mul-add, mod-mul-add}
 use Rattle.std.proofs.lemmas.Option.{slice_get-get_or}
 use Rattle.std.proofs.lemmas.List.{get_or-map, get_or_default, get_or-take, get_or-drop, length-map, length-take, length-drop, take-map, drop-map}
 use Rattle.std.proofs.lemmas.List.Sums.{prefix_len-le-length}
-use Rattle.dq_lits.specs.Expansion.{agree_on, row_assignment, pair_number, pair_literal, universal_literal_true}
+use Rattle.dq_lits.specs.Expansion.{agree_on, pair_number, pair_literal, universal_literal_true}
 use Rattle.dq_lits.specs.Formula.{Existential, Dqbf, existential_of}
-use Rattle.dq_lits.specs.Literal.{Literal, positive, negative, variable_of, is_negative, literal_true, on_variable}
+use Rattle.dq_lits.specs.Literal.{Literal, variable_of, on_variable}
 use Rattle.dq_formula.specs.Prefix.{IsLawful}
-use Rattle.dq_formula.proofs.Places.{has, place-absent, place-found}
-use Rattle.dq_formula.proofs.Sorted.{place-below}
-use Rattle.dq_formula.proofs.Restrictions.{assignment_of-place}
 use Rattle.cert_text.specs.Header.{max_count}
 use Rattle.cert_text.specs.Pairs.{is_pair_number}
 use Rattle.cert_text.proofs.PairNumbers.{existential_in_range}
@@ -146,29 +143,6 @@ learnt_block f rows number count y places items firsts count_is places_are y_is 
     ∙ take-map (first_row f rows y) 16 (drop (number % count * 16) rows)
     ∙ ap (λ v. map (first_row f rows v) (take 16 (drop (number % count * 16) rows))) y_is
     ∙ ap (λ n. map (first_row f rows (number / n)) (take 16 (drop (number % n * 16) rows))) count_is
-
--- a universal's literal by the bit at its place
-pub true_universal : (f : Dqbf) (row : List Bool) (l : Literal) (v at : ℕ) (bit : Bool) → v ≡ variable_of l → length row ≡ length f.universals
-    → position (λ u. u == v) f.universals ≡ Some at → bit ≡ get_or row at false
-    → universal_literal_true f row l ≡ cond (is_negative l) (not bit) bit
-true_universal f row l v at bit v_is whole found bit_is =
-    let h = place-found f.universals v at found in
-    let value : bit ≡ row_assignment f row v = bit_is ∙ ap (λ k. get_or row k false) (sym h.0) ∙ assignment_of-place f.universals row v whole in
-    ap (λ b. b && literal_true (row_assignment f row) l) (ap (λ w. list_any (λ x. x == w) f.universals) (sym v_is) ∙ h.1)
-    ∙ by l (value ∙ ap (row_assignment f row) v_is)
-  where
-    by : (k : Literal) → bit ≡ row_assignment f row (variable_of k) → literal_true (row_assignment f row) k ≡ cond (is_negative k) (not bit) bit
-    by (positive w) is = sym is
-    by (negative w) is = ap not (sym is)
-
-pub no_universal : (f : Dqbf) (row : List Bool) (l : Literal) (v : ℕ) → v ≡ variable_of l
-    → position (λ u. u == v) f.universals ≡ None → universal_literal_true f row l ≡ false
-no_universal f row l v v_is none =
-    ap (λ b. b && literal_true (row_assignment f row) l) (ap (λ w. list_any (λ x. x == w) f.universals) (sym v_is) ∙ by (has f.universals v) refl)
-  where
-    by : (b : Bool) → has f.universals v ≡ b → has f.universals v ≡ false
-    by false e = e
-    by true e = absurd (omega (arith, place-below f.universals v e, place-absent (λ u. u == v) f.universals none))
 
 -- an instance's literals are those of the clause's existential part
 instance_part : (f : Dqbf) (rows : List (List Bool)) (row : List Bool) (clause : List Literal)

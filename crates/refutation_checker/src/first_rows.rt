@@ -110,19 +110,9 @@ fn split_by(
     ensures { OnOk result (IsSplit f.now rows.now universals.now labels.old labels.new) }
 {
     for x in universals {
-        *labels = split_at(alloc, rows, labels.items(), place_of(f, *x))?;
+        *labels = split_at(alloc, rows, labels.items(), f.place_of(*x))?;
     }
     Ok(())
-}
-
-// The place of a universal in a row.
-fn place_of(f: &Formula, x: u64) -> usize
-    ensures { result ≡ position_or_len (λ u. u == x) f.now.universals }
-{
-    match f.universal_place(x) {
-        Some(place) => place,
-        None => f.universals().len(),
-    }
 }
 
 // Splits labels by the bits at a place.

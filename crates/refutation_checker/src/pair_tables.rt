@@ -267,7 +267,7 @@ impl<'f, 'r> PairTable<'f, 'r> {
         let (k, j) = self.places(id)?;
         let f = self.formula();
         let rows = self.rows();
-        if has_true_universal(f, &rows[k], f.clause(j)) {
+        if f.has_true_universal(&rows[k], f.clause(j)) {
             None
         } else {
             Some((k, j))
@@ -304,29 +304,5 @@ fn block_at(firsts: &[u64], place: usize) -> &[u64]
         &rest[..BLOCK_ROWS]
     } else {
         rest
-    }
-}
-
-// Whether a universal literal of a clause is true under a row.
-fn has_true_universal(f: &Formula, row: &Row, clause: &[Lit]) -> bool
-    requires { length row.now ≡ length f.now.universals }
-    ensures { result ≡ list_any (universal_literal_true f.now row.now) clause.now }
-{
-    clause.iter().any(|l| is_true_universal(f, row, *l))
-}
-
-fn is_true_universal(f: &Formula, row: &Row, l: Lit) -> bool
-    requires { length row.now ≡ length f.now.universals }
-    ensures { result ≡ universal_literal_true f.now row.now l }
-{
-    match f.universal_place(l.var()) {
-        Some(place) => {
-            if l.is_neg() {
-                !row.get(place)
-            } else {
-                row.get(place)
-            }
-        }
-        None => false,
     }
 }

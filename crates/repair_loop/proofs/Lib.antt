@@ -3,3 +3,4 @@ mod Extends
 mod Stages
 mod Defined
 mod UniversalInputs
+mod Stops

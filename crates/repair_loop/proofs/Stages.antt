@@ -5,11 +5,11 @@ use Rattle.std.proofs.lemmas.List.{get_or-map, length-map}
 use Rattle.std.proofs.lemmas.List.Elements.{All-cons}
 use Rattle.std.proofs.lemmas.Option.{slice_get-get_or}
 use Rattle.dq_lits.specs.Formula.{Dqbf, IsWellFormed, declared}
-use Rattle.hint_log.specs.Entries.{Entry, Round, ProofLog, with_entry, name_of, rounds_of, steps_of, is_counted}
+use Rattle.hint_log.specs.Entries.{Entry, Round, ProofLog, with_entry, name_of, steps_of, is_counted}
 use Rattle.hint_log.specs.Deciding.{IsUndecided}
 use Rattle.hint_log.specs.Growth.{Grew}
 use Rattle.hint_log.specs.Naming.{rows_of}
-use Rattle.hint_log.specs.ProductiveLog.{IsNewFailure, HasModelWith, IsProductiveLog, fault_groups}
+use Rattle.hint_log.specs.ProductiveLog.{IsNewFailure, HasModelWith, IsProductiveLog, fault_groups, fault_room}
 use Rattle.oracle.specs.Searched.{IsSearched}
 use Rattle.log_laws.specs.Engines.{Engine, circuits, instances, copies, is_own, same_engine, HasNone, IsAddedBy, EnginesLeaveRest}
 use Rattle.dq_lits.specs.Skolem.{IsSupported}
@@ -56,7 +56,7 @@ after_copies law tables stay f t p q old new same grew copied graph c s =
     let g = grew group in
     let left = law f copies group true old new g in
     let faults = ap length (left.faults refl) in
-    let rounds = left.rounds in
+    let room = left.room in
     let before = s.faults in
     record {
       kept = still_kept law f copies group true old new g s.kept;
@@ -66,7 +66,7 @@ after_copies law tables stay f t p q old new same grew copied graph c s =
       copied = subst (λ r. IsPadoa f r new.entries) same copied;
       apart = s.apart;
       inputs = s.inputs;
-      faults = omega (arith, rounds, faults, before);
+      faults = omega (arith, room, faults, before);
     }
 
 -- after the table found a model
@@ -76,7 +76,7 @@ pub after_solve : EnginesLeaveRest → CheckersStay → EnginesLeaveCopies → (
 after_solve law stay copies_stay f graph t u c p silent old new quiet s grew same table =
     let left = law f instances t.group silent old new grew in
     let faults = ap length (left.faults refl) in
-    let rounds = left.rounds in
+    let room = left.room in
     let before = s.faults in
     record {
       kept = still_kept law f instances t.group silent old new grew s.kept;
@@ -86,7 +86,7 @@ after_solve law stay copies_stay f graph t u c p silent old new quiet s grew sam
       copied = copies_stay f p instances t.group silent old new grew s.apart.copies_tables s.copied;
       apart = subst (λ v. AreApart v c p) (sym same) s.apart;
       inputs = s.inputs;
-      faults = omega (arith, rounds, faults, before);
+      faults = omega (arith, room, faults, before);
     }
 
 -- after the candidates were built
@@ -113,7 +113,7 @@ apart_as t u c d p tables checkers a = record {
 -- after a turn that failed
 pub after_turn : EnginesLeaveRest → EnginesLeaveTables → EnginesLeaveCopies → (f : Dqbf) (graph : AigGraph) (t : TableState) (c d : Checker) (p : Padoa) (silent : Bool) (old new : ProofLog)
     → silent ≡ true → IsSearch f graph t c p old.entries → Grew (IsAddedBy f circuits (group_of c) silent old.entries) old new → group_of d ≡ group_of c
-    → IsChecker f d new.entries → length (fault_groups new.entries) ≤ rounds_of new.entries + 1 → AreRefuted f t d p new.entries
+    → IsChecker f d new.entries → length (fault_groups new.entries) ≤ fault_room new.entries → AreRefuted f t d p new.entries
 after_turn law tables copies_stay f graph t c d p silent old new quiet s grew same checker faults = record {
   kept = still_kept law f circuits (group_of c) silent old new grew s.kept;
   undecided = still_undecided law f circuits (group_of c) silent old new quiet grew s.undecided;
@@ -124,22 +124,29 @@ after_turn law tables copies_stay f graph t c d p silent old new quiet s grew sa
   faults = faults;
 }
 
+-- what a failure of candidates comes to, whether the log has room for its round or not
+pub round_in_hand : FailuresRefuteRows → (f : Dqbf) (t : TableState) (c : Checker) (p : Padoa) (entries : List Entry) (output : _)
+    → AreRefuted f t c p entries → AreCandidates f t.rows output → (row values : List Bool) (j : ℕ) → IsFailure f output row values j
+    → IsNewFailure f entries row values j × HasModelWith f (rows_of entries) row values
+round_in_hand refute f t c p entries output a are row values j bad =
+    let well = a.table.formula in (
+      refute f output entries row values j bad
+          (λ inside. no_old_row f well.prefix t.rows are.points output are.are_points are.agree row values j bad (subst (λ rows. Contains rows row) a.table.rows inside)),
+      subst (λ rows. HasModelWith f rows row values) (sym a.table.rows)
+          (extends f well.prefix t.rows are.points output are.are_points are.agree row values j bad),
+    )
+
 -- after the round is logged
 pub after_round : FailuresRefuteRows → RoundsLeaveTables → CheckersStayWithRounds → RoundsLeaveCopies → (f : Dqbf) (t : TableState) (c : Checker) (p : Padoa) (old new : ProofLog) (output : _)
     → AreRefuted f t c p old.entries → AreCandidates f t.rows output → (row values : List Bool) (j : ℕ) → IsFailure f output row values j
     → new ≡ with_entry old (Round row values j) → IsRoundLogged f t c p row new.entries
 after_round refute tables checkers copies_stay f t c p old new output a are row values j bad is =
     let entries = old.entries in
-    let well = a.table.formula in
-    let failure : IsNewFailure f entries row values j = refute f output entries row values j bad
-    (λ inside. no_old_row f well.prefix t.rows are.points output are.are_points are.agree row values j bad (subst (λ rows. Contains rows row) a.table.rows inside)) in
-    let modelled : HasModelWith f (rows_of entries) row values =
-    subst (λ rows. HasModelWith f rows row values) (sym a.table.rows)
-    (extends f well.prefix t.rows are.points output are.are_points are.agree row values j bad) in
+    let next = round_in_hand refute f t c p entries output a are row values j bad in
     let left = tables f t row values j entries a.table in
     let before = a.faults in
     let here : IsRoundLogged f t c p row (Round row values j ∷ entries) = record {
-      kept = record { origins = (tt, a.kept.origins); new_rows = (failure, a.kept.new_rows); models = (modelled, a.kept.models); givens = (tt, a.kept.givens) };
+      kept = record { origins = (tt, a.kept.origins); new_rows = (next.0, a.kept.new_rows); models = (next.1, a.kept.models); givens = (tt, a.kept.givens) };
       undecided = (tt, a.undecided);
       table = left.0;
       rows = left.1;
@@ -147,7 +154,7 @@ after_round refute tables checkers copies_stay f t c p old new output a are row 
       checked = checkers f c entries row values j a.checked;
       copied = copies_stay f p entries row values j a.copied;
       apart = a.apart;
-      faults = before;
+      faults = omega (arith, before);
     } in
     subst (λ (l : ProofLog). IsRoundLogged f t c p row l.entries) (sym is) here
 
@@ -158,7 +165,7 @@ pub after_row : EnginesLeaveRest → CheckersStay → EnginesLeaveCopies → (f 
 after_row law stay copies_stay f graph t u c p row old new a grew table same inputs =
     let left = law f instances t.group true old new grew in
     let faults = ap length (left.faults refl) in
-    let rounds = left.rounds in
+    let room = left.room in
     let before = a.faults in
     record {
       kept = still_kept law f instances t.group true old new grew a.kept;
@@ -168,7 +175,7 @@ after_row law stay copies_stay f graph t u c p row old new a grew table same inp
       copied = copies_stay f p instances t.group true old new grew a.apart.copies_tables a.copied;
       apart = apart_as t u c c p same refl a.apart;
       inputs = inputs;
-      faults = omega (arith, rounds, faults, before);
+      faults = omega (arith, room, faults, before);
     }
 
 pub log_grew : (P : List Entry → Entry → Type 0) (old new : ProofLog) → Grew P old new → LogGrew old new

@@ -1,14 +1,14 @@
 -- What the loop keeps from turn to turn, and what its verdicts say.
-use Rattle.std.specs.Prelude.{◌≡◌, ◌≢◌, ◌+◌, ◌≤◌, ◌++◌, ◌∷◌, [], ℕ, Bool, List, length, Option, None, Some}
+use Rattle.std.specs.Prelude.{◌≡◌, ◌≢◌, ◌+◌, ◌≤◌, ◌<◌, ◌++◌, ◌∷◌, [], ℕ, Bool, List, length, Option, None, Some}
 use Rattle.std.specs.List.{All}
 use Rattle.dq_lits.specs.Formula.{Dqbf, Existential}
 use Rattle.dq_lits.specs.Expansion.{IsExpansionUnsatisfiable}
 use Rattle.dq_lits.specs.Skolem.{OutputFunction, AreSkolemFunctions}
 use Rattle.hint_log.specs.Deciding.{IsUndecided}
-use Rattle.hint_log.specs.Entries.{Entry, ProofLog, rounds_of, steps_of}
+use Rattle.hint_log.specs.Entries.{Entry, ProofLog, steps_of}
 use Rattle.hint_log.specs.Growth.{Each}
 use Rattle.hint_log.specs.Naming.{rows_of}
-use Rattle.hint_log.specs.ProductiveLog.{MatchesOrigin, RefutesNewRow, FollowsModel, IsNotRepeated, fault_groups}
+use Rattle.hint_log.specs.ProductiveLog.{MatchesOrigin, RefutesNewRow, FollowsModel, IsNotRepeated, fault_groups, fault_room}
 use Rattle.aig_graph.specs.declared.nodes.Node.{Node}
 use Rattle.aig_graph.specs.Graph.{AigGraph, IsNode}
 use Rattle.aig_graph.specs.Outputs.{ReadDeclared, outputs_of}
@@ -73,7 +73,7 @@ pub record IsSearch (f : Dqbf) (graph : AigGraph) (t : TableState) (c : Checker)
   pub copied : IsPadoa f p entries
   pub apart : AreApart t c p
   pub inputs : HasInputs f graph
-  pub faults : length (fault_groups entries) ≤ rounds_of entries
+  pub faults : length (fault_groups entries) < fault_room entries
 
 -- outputs that have the bits of a model of the instances under these rows, at all their pairs
 pub record AreCandidates (f : Dqbf) (rows : List (List Bool))
@@ -109,7 +109,7 @@ pub record AreRefuted (f : Dqbf) (t : TableState) (c : Checker) (p : Padoa)
   pub checked : IsChecker f c entries
   pub copied : IsPadoa f p entries
   pub apart : AreApart t c p
-  pub faults : length (fault_groups entries) ≤ rounds_of entries + 1
+  pub faults : length (fault_groups entries) ≤ fault_room entries
 
 -- after the round, before its row is added to the table
 pub record IsRoundLogged (f : Dqbf) (t : TableState) (c : Checker) (p : Padoa) (row : List Bool)
@@ -122,7 +122,7 @@ pub record IsRoundLogged (f : Dqbf) (t : TableState) (c : Checker) (p : Padoa) (
   pub checked : IsChecker f c entries
   pub copied : IsPadoa f p entries
   pub apart : AreApart t c p
-  pub faults : length (fault_groups entries) ≤ rounds_of entries
+  pub faults : length (fault_groups entries) < fault_room entries
 
 -- a node for each existential: the outputs are Skolem functions, and the last entry is an answer
 -- that shows it

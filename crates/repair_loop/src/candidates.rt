@@ -3,8 +3,8 @@
 ghost use Rattle.std.specs.Prelude.{◌≡◌, ℕ, OnErr, IsErrOf, Ok};
 ghost use Rattle.aig_graph.specs.Made.{Extends};
 ghost use Rattle.hint_log.specs.Deciding.{IsUndecided};
-ghost use Rattle.hint_log.specs.Entries.{steps_of};
 ghost use Rattle.repair_loop.specs.Searching.{IsKept, AreKnown, IsSearch, AreBuilt, LogGrew, IsShownFalse};
+ghost use Rattle.oracle.specs.Limits.{IsAtSomeLimit};
 
 use crate::decisions::Engines;
 use crate::forcing::TableModel;
@@ -58,7 +58,7 @@ impl Engines {
         ensures candidates { (outputs : _) → result ≡ Ok (Found.Candidates outputs)
             → AreBuilt f.now graph.new self.new.table.rows outputs }
         ensures undecided { OnErr result (IsUndecided f.now log.new.entries) }
-        ensures limit { IsErrOf result Stop.Limit → steps_of log.new.entries ≡ log.new.limit }
+        ensures limit { IsErrOf result Stop.Limit → IsAtSomeLimit log.new }
     {
         engines_leave_the_rest();
         checkers_stay();

@@ -1,9 +1,9 @@
 ghost use Rattle.std.specs.Prelude.{◌≡◌, [], ℕ, length, OnErr, IsErrOf, Ok};
 ghost use Rattle.dq_lits.specs.Formula.{IsWellFormed};
 ghost use Rattle.hint_log.specs.Deciding.{IsUndecided, KeepsSelectors};
-ghost use Rattle.hint_log.specs.Entries.{steps_of};
 ghost use Rattle.hint_log.specs.ProductiveLog.{IsProductiveLog};
 ghost use Rattle.repair_loop.specs.Searching.{IsKept, HasInputs, AreKnown, IsSearch, IsShownTrue, IsShownFalse};
+ghost use Rattle.repair_loop.specs.Stopping.{IsStoppedAtLimit};
 
 use crate::candidates::Found;
 use crate::definitions::{Definitions, find_definitions};
@@ -54,7 +54,7 @@ pub fn decide<O: Oracle>(
     ensures shown_false { (id : ℕ) → result ≡ Ok (Verdict.False id)
         → IsShownFalse f.now log.new id }
     ensures undecided { OnErr result (IsUndecided f.now log.new.entries) }
-    ensures limit { IsErrOf result Stop.Limit → steps_of log.new.entries ≡ log.new.limit }
+    ensures limit { IsErrOf result Stop.Limit → IsStoppedAtLimit f.now log.new }
 {
     engines_leave_the_rest();
     engines_leave_tables();
@@ -104,7 +104,7 @@ impl Engines {
         ensures shown_false { (id : ℕ) → result ≡ Ok (Verdict.False id)
             → IsShownFalse f.now log.new id }
         ensures undecided { OnErr result (IsUndecided f.now log.new.entries) }
-        ensures limit { IsErrOf result Stop.Limit → steps_of log.new.entries ≡ log.new.limit }
+        ensures limit { IsErrOf result Stop.Limit → IsStoppedAtLimit f.now log.new }
     {
         engines_leave_the_rest();
         checkers_stay();

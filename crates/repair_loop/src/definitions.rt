@@ -2,13 +2,13 @@
 
 ghost use Rattle.std.specs.Prelude.{◌≡◌, ◌<◌, ℕ, true, length, replicate, None, Some, All, OnOk, IfOk, IsErrOf, slice_get, slice_set};
 ghost use Rattle.dq_lits.specs.Formula.{Existential, IsWellFormed};
-ghost use Rattle.hint_log.specs.Entries.{steps_of};
 ghost use Rattle.aig_graph.specs.Made.{Extends};
 ghost use Rattle.hint_log.specs.Growth.{Grew};
 ghost use Rattle.log_laws.specs.Engines.{copies, HasNone, IsAddedBy};
 ghost use Rattle.padoa_definitions.specs.Copies.{IsPadoa};
 ghost use Rattle.padoa_definitions.specs.Defining.{IsFound};
 ghost use Rattle.repair_loop.specs.Searching.{IsFresh, HasInputs, AreKnown, definition_in};
+ghost use Rattle.oracle.specs.Limits.{IsAtSomeLimit};
 
 use aig_graph::{Graph, Node};
 use definition_order::existentials_in_order;
@@ -98,7 +98,7 @@ impl Definitions {
         ensures padoa { OnOk result (IsPadoa order.now.f.now self.new.padoa log.new.entries) }
         ensures known { OnOk result (AreKnown order.now.f.now graph.new self.new.nodes.items
             self.new.rules.items) }
-        ensures limit { IsErrOf result Stop.Limit → steps_of log.new.entries ≡ log.new.limit }
+        ensures limit { IsErrOf result Stop.Limit → IsAtSomeLimit log.new }
     {
         let f = order.f;
         for place in order.places {
@@ -130,7 +130,7 @@ impl Definitions {
         ensures padoa { OnOk result (IsPadoa existential.now.f.now self.new.padoa log.new.entries) }
         ensures known { OnOk result (AreKnown existential.now.f.now graph.new self.new.nodes.items
             self.new.rules.items) }
-        ensures limit { IsErrOf result Stop.Limit → steps_of log.new.entries ≡ log.new.limit }
+        ensures limit { IsErrOf result Stop.Limit → IsAtSomeLimit log.new }
     {
         engines_leave_the_rest();
         existential.f.every_formula_is_lawful();
@@ -163,7 +163,7 @@ impl Definitions {
         ensures found { (e : Existential)
             → slice_get existential.now.f.now.existentials existential.now.place ≡ Some e
             → IfOk result (IsFound existential.now.f.now graph.new e) }
-        ensures limit { IsErrOf result Stop.Limit → steps_of log.new.entries ≡ log.new.limit }
+        ensures limit { IsErrOf result Stop.Limit → IsAtSomeLimit log.new }
     {
         let f = existential.f;
         f.every_formula_is_lawful();
@@ -200,7 +200,7 @@ pub(crate) fn find_definitions<O: Oracle>(
     ensures extends { Extends graph.old graph.new }
     ensures padoa { IfOk result (λ d. IsPadoa f.now d.padoa log.new.entries) }
     ensures known { IfOk result (λ d. AreKnown f.now graph.new d.nodes.items d.rules.items) }
-    ensures limit { IsErrOf result Stop.Limit → steps_of log.new.entries ≡ log.new.limit }
+    ensures limit { IsErrOf result Stop.Limit → IsAtSomeLimit log.new }
 {
     engines_leave_the_rest();
     let padoa = Padoa::new(alloc, oracle, f, log)?;

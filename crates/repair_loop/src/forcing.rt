@@ -5,9 +5,9 @@ ghost use Rattle.dq_lits.specs.Formula.{Dqbf, IsWellFormed};
 ghost use Rattle.dq_formula.specs.Prefix.{existential_variables};
 ghost use Rattle.dq_formula.specs.Rules.{IsRule};
 ghost use Rattle.dq_formula.specs.declared.rules.Rule.{Rule as RuleState};
-ghost use Rattle.hint_log.specs.Entries.{steps_of};
 ghost use Rattle.padoa_definitions.specs.Copies.{IsPadoa};
 ghost use Rattle.repair_loop.specs.Searching.{GoesOn, LogGrew};
+ghost use Rattle.oracle.specs.Limits.{IsAtSomeLimit};
 
 use crate::definitions::{Definitions, ExistentialAt};
 use circuit_cnf::laws::checkers_stay;
@@ -52,7 +52,7 @@ impl Definitions {
         ensures goes_on { GoesOn f.now model.now.table.now self.old.padoa log.old.entries
             log.new.entries }
         ensures grew { LogGrew log.old log.new }
-        ensures limit { IsErrOf result Stop.Limit → steps_of log.new.entries ≡ log.new.limit }
+        ensures limit { IsErrOf result Stop.Limit → IsAtSomeLimit log.new }
     {
         if model.table.rows() == 0 {
             return Ok(());
@@ -92,7 +92,7 @@ impl Definitions {
         ensures goes_on { GoesOn existential.now.f.now model.now.table.now self.old.padoa
             log.old.entries log.new.entries }
         ensures grew { LogGrew log.old log.new }
-        ensures limit { IsErrOf result Stop.Limit → steps_of log.new.entries ≡ log.new.limit }
+        ensures limit { IsErrOf result Stop.Limit → IsAtSomeLimit log.new }
     {
         if let Some(_) = self.nodes[existential.place] {
             return Ok(());
@@ -127,7 +127,7 @@ impl Definitions {
         ensures goes_on { GoesOn existential.now.f.now model.now.table.now self.old.padoa
             log.old.entries log.new.entries }
         ensures grew { LogGrew log.old log.new }
-        ensures limit { IsErrOf result Stop.Limit → steps_of log.new.entries ≡ log.new.limit }
+        ensures limit { IsErrOf result Stop.Limit → IsAtSomeLimit log.new }
     {
         engines_leave_the_rest();
         engines_leave_tables();

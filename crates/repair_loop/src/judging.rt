@@ -4,6 +4,7 @@ ghost use Rattle.std.specs.Prelude.{◌≡◌, ◌<◌, ℕ, List, Bool, OnErr, 
 ghost use Rattle.hint_log.specs.Deciding.{IsUndecided};
 ghost use Rattle.hint_log.specs.Entries.{steps_of};
 ghost use Rattle.repair_loop.specs.Searching.{IsKept, IsSearch, AreBuilt, LogGrew, IsRoundLogged, IsShownTrue};
+ghost use Rattle.repair_loop.specs.Stopping.{IsStoppedAtLimit};
 
 use crate::decisions::Engines;
 use aig_graph::Graph;
@@ -63,7 +64,7 @@ impl Engines {
         ensures within { (row : List Bool) → result ≡ Ok (Judged.Fail row)
             → steps_of log.old.entries < log.old.limit }
         ensures undecided { OnErr result (IsUndecided f.now log.new.entries) }
-        ensures limit { IsErrOf result Stop.Limit → steps_of log.new.entries ≡ log.new.limit }
+        ensures limit { IsErrOf result Stop.Limit → IsStoppedAtLimit f.now log.new }
     {
         engines_leave_the_rest();
         engines_leave_tables();

@@ -14,7 +14,7 @@ status_by-same : (xs ys rest : List Literal) → AreSame xs ys → status_by xs 
 status_by-same xs ys [] same = refl
 status_by-same xs ys (l ∷ rest) same = ap (λ b. cond (list_all (same_literal l) rest && not b) (unit l) stuck) (same l)
 
-status_of-same : (xs ys : List Literal) (clause : Option (List Literal)) → AreSame xs ys → status_of xs clause ≡ status_of ys clause
+pub status_of-same : (xs ys : List Literal) (clause : Option (List Literal)) → AreSame xs ys → status_of xs clause ≡ status_of ys clause
 status_of-same xs ys None same = refl
 status_of-same xs ys (Some clause) same =
     ap (status_by xs) (filter-same (λ l. not (holds xs (opposite l))) (λ l. not (holds ys (opposite l))) (λ l. ap not (same (opposite l))) clause)

@@ -4,3 +4,9 @@ pub mod ReadStatus
 pub mod LargerBases
 pub mod EqualTruths
 pub mod HeldLiterals
+pub mod DeletedClauses
+pub mod RenamedVariables
+pub mod PagedClauses
+pub mod HeldLines
+pub mod StoredLines
+pub mod JudgedLines

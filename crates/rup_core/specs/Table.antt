@@ -30,6 +30,11 @@ TellsFar n far trues =
     (v : ℕ) → n < v
     → IsTold (far_value (get nat_cmp far v)) (holds trues (positive v)) (holds trues (negative v))
 
+-- a variable behind the last one is unassigned
+abbrev pub AreSameValues : List TruthValue → List TruthValue → Type 0
+AreSameValues old new =
+    (k : ℕ) → slice_index_or new k Unassigned ≡ slice_index_or old k Unassigned
+
 -- a variable with a value stands in one of the literals
 abbrev pub StandsOnlyOn : List TruthValue → List Literal → Type 0
 StandsOnlyOn values literals = (i : ℕ) → i < length values →

@@ -7,7 +7,8 @@ ghost use Rattle.rup_core.specs.Truth.{AreSame};
 
 use crate::bases::Base;
 use crate::marks::Marks;
-use crate::statuses::{Status, status_of};
+use crate::progress::{Progress, propagate};
+use crate::statuses::status_of;
 use crate::trails::{Trail, TruthValue};
 use dq_lits::{Lit, Memory};
 
@@ -60,8 +61,8 @@ pub fn derive_any<B: Base>(
     }
 }
 
-// The place of a line's fault. The literals that were made true stay so.
-fn line_fault<B: Base>(
+/// The place of a line's fault. The literals that were made true stay so.
+pub(crate) fn line_fault<B: Base>(
     trail: &mut Trail,
     lits: &[Lit],
     hints: &[u64],
@@ -80,8 +81,8 @@ fn line_fault<B: Base>(
     hint_fault(trail, hints, base)
 }
 
-// Makes all these literals false, unless one stands beside its negation.
-fn assume_false(trail: &mut Trail, lits: &[Lit]) -> Result<bool, Memory>
+/// Makes all these literals false, unless one stands beside its negation.
+pub(crate) fn assume_false(trail: &mut Trail, lits: &[Lit]) -> Result<bool, Memory>
     requires { trail.old.trues ≡ [] }
     ensures variables { trail.new.variables ≡ trail.old.variables }
     ensures consistent { IfOk result (λ consistent. consistent ≡ not (is_tautology lits.now)) }
@@ -109,16 +110,16 @@ fn hint_fault<B: Base>(trail: &mut Trail, hints: &[u64], base: &B) -> Result<Opt
         hints.now → IsOk result }
 {
     for (i, hint) in hints.iter().enumerate() {
-        match status_of(base, *hint, trail) {
-            Status::Unit(l) => trail.assign(l)?,
-            Status::Falsified => {
+        match propagate(trail, status_of(base, *hint, trail))? {
+            Progress::Going => {}
+            Progress::Refuted => {
                 return Ok(if i + 1 < hints.len() {
                     Some(i + 1)
                 } else {
                     None
                 });
             }
-            Status::Stuck => return Ok(Some(i + 1)),
+            Progress::Faulty => return Ok(Some(i + 1)),
         }
     }
     Ok(Some(hints.len() + 1))

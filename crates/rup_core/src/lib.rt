@@ -5,16 +5,26 @@
 //! hinted clause but the last is unit in its turn and the last one is falsified. These are the
 //! steps of LRAT (L. Cruz-Filipe et al., "Efficient certified RAT verification", 2017) without RAT,
 //! and stricter: a hint that is satisfied, or falsified before the last, is a fault.
+//!
+//! Lines may be deleted between others: [`Proving`] judges a proof as its items come, over a
+//! [`Store`] of the lines that are live.
 #![tactic(auto)]
 
 pub use bases::{Base, FewLiterals};
 pub use derivation::{Derived, derive, derive_any};
 pub use marks::Marks;
+pub use proving::Proving;
 pub use steps::{ProofFault, Steps, first_fault, first_fault_any};
+pub use stores::Store;
 
 mod bases;
 mod derivation;
+pub mod laws;
 mod marks;
+mod pages;
+mod progress;
+mod proving;
 mod statuses;
 mod steps;
+mod stores;
 mod trails;

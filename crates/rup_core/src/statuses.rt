@@ -46,8 +46,8 @@ fn status_made<B: Base>(base: &B, id: u64, trail: &Trail) -> Status
     }
 }
 
-// The same of a clause that lies in memory.
-fn status_among(lits: &[Lit], trail: &Trail) -> Status
+/// The same of a clause that lies in memory.
+pub(crate) fn status_among(lits: &[Lit], trail: &Trail) -> Status
     ensures status { seen result ≡ status_of trail.now.trues (Some lits.now) }
     ensures free { UnitIsFree trail.now.trues (seen result) }
     ensures within { (n : ℕ) → StandsWithin n lits.now → UnitStandsWithin n (seen result) }

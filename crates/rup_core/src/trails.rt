@@ -1,9 +1,9 @@
-ghost use Rattle.std.specs.Prelude.{◌≡◌, ◌+◌, ◌<◌, ◌≤◌, [], ◌∷◌, All, IfOk, IsOk, OnOk, OnErr, if◌then◌else◌};
+ghost use Rattle.std.specs.Prelude.{◌≡◌, ◌+◌, ◌<◌, ◌≤◌, [], ◌∷◌, length, max, All, IfOk, IsOk, OnOk, OnErr, if◌then◌else◌};
 ghost use Rattle.std.specs.Option.{option_copied};
 ghost use Rattle.dq_lits.specs.Derivation.{holds};
 ghost use Rattle.dq_lits.specs.Literal.{variable_of, positive, negative};
 ghost use Rattle.rup_core.specs.Truth.{literal_value};
-ghost use Rattle.rup_core.specs.Table.{IsTold, StandsOnlyOn, far_value};
+ghost use Rattle.rup_core.specs.Table.{IsTold, AreSameValues, StandsOnlyOn, far_value};
 
 use dq_lits::{Lit, Memory};
 use std::alloc::Global;
@@ -121,6 +121,21 @@ impl Trail {
         Ok(())
     }
 
+    /// Takes the room for more variables, where nothing is true.
+    pub(crate) fn widen(&mut self, variables: usize) -> Result<(), Memory>
+        requires { self.old.trues ≡ [] }
+        ensures ok { OnOk result
+            (self.new ≡ record self.old { variables = max self.old.variables variables }) }
+        ensures err { OnErr result (self.new ≡ self.old) }
+        ensures enough { variables ≤ self.old.variables → IsOk result }
+    {
+        if self.near.len() < variables {
+            self.literals.reserve(variables)?;
+            add_unassigned(&mut self.near, variables)?;
+        }
+        Ok(())
+    }
+
     /// Takes all back.
     pub(crate) fn clear(&mut self)
         ensures { self.new ≡ record self.old { trues = [] } }
@@ -156,6 +171,17 @@ fn truth(is_true: bool) -> TruthValue
     } else {
         TruthValue::False
     }
+}
+
+// Makes the table hold the values of more variables, which are unassigned.
+fn add_unassigned(near: &mut Vec<TruthValue>, variables: usize) -> Result<(), Memory>
+    requires { length near.old.items ≤ variables }
+    ensures len { OnOk result (length near.new.items ≡ variables) }
+    ensures same { AreSameValues near.old.items near.new.items }
+    ensures err { OnErr result (near.new.items ≡ near.old.items) }
+{
+    near.resize(variables, TruthValue::Unassigned)?;
+    Ok(())
 }
 
 // Takes the values of these literals' variables back, which are all of the table that have one.

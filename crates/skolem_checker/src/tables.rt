@@ -58,22 +58,7 @@ pub(crate) fn universal_places(
         (λ places. places.items
         ≡ map (λ x. position_or_len (λ u. u == x) f.now.universals) universals.now) }
 {
-    Ok(
-        universals
-            .iter()
-            .map(|x| universal_place(f, *x))
-            .collect(alloc)?,
-    )
-}
-
-// The place of a universal, or behind all of them.
-fn universal_place(f: &Formula, x: u64) -> usize
-    ensures { result ≡ position_or_len (λ u. u == x) f.now.universals }
-{
-    match f.universal_place(x) {
-        Some(place) => place,
-        None => f.universals().len(),
-    }
+    Ok(universals.iter().map(|x| f.place_of(*x)).collect(alloc)?)
 }
 
 /// So many zeros.

@@ -1,9 +1,11 @@
-use Rattle.std.proofs.Common.{◌≡◌, ◌∷◌, ◌++◌, [], length, sym, ◌∙◌, subst, arith, List}
+use Rattle.std.proofs.Common.{rules, Err, ◌≡◌, ◌∷◌, ◌++◌, [], length, sym, ◌∙◌, ap, subst, arith, List}
 use Rattle.dq_lits.specs.Literal.{Literal}
 use Rattle.hint_log.specs.Entries.{ProofLog}
+use Rattle.hint_log.specs.declared.stops.Stop.TheVariants.{Limit}
 use Rattle.oracle.specs.Fit.{Fit, live_in}
+use Rattle.oracle.specs.Limits.{IsAtLimit}
 use Rattle.cdcl_scan.specs.Sound.{IsSound, IsGuided}
-use Rattle.cdcl_scan.proofs.Taught.{clauses_within, learn_named, learn_ids, learn_in_range, learn_free, learn_fit, learn_landed, learned_one}
+use Rattle.cdcl_scan.proofs.Taught.{clauses_within, learn_named, learn_ids, learn_in_range, learn_free, learn_fit, learn_landed, learn_next, learned_one}
 use Rattle.cdcl_scan.proofs.learning.learn.Goals as goal
 
 pub analyse-first-requires-clause-within : goal.analyse-first-requires-clause-within
@@ -100,3 +102,17 @@ returns-clause-ok c =
       learned = learned_one log c.keep.new.log noted.literals noted.hints c.in_ok-id.ensures.ok;
       room = room;
     }
+
+pub returns-in_err-id-clause-limit : goal.returns-in_err-id-clause-limit
+returns-in_err-id-clause-limit c = λ is.
+    let s = c.args.s.now in
+    let log = c.args.log.now in
+    let mid = c.analyse-first.new.trail in
+    let step = c.analyse-first.result in
+    let noted = c.analyse-first.new.notes in
+    let lesson = c.analyse-first.ensures.lesson in
+    let stop : c.in_err-id.field-0.0 ≡ Limit = search rules in
+    subst (λ (l : ProofLog). IsAtLimit l c.args.assumptions.now) (sym c.in_err-id.ensures.err) (record {
+      reached = c.in_err-id.ensures.limit (ap (λ e. Err e) stop);
+      next = learn_next c.args.assumptions.now s log mid step noted.marks noted.literals noted.hints c.args.decision c.requires.searching c.requires.decided c.requires.chosen lesson;
+    })

@@ -1,6 +1,5 @@
 use Rattle.std.proofs.Common.{arith}
-use Rattle.cert_export.specs.Parts.{part_of, AreCircuitIds}
-use Rattle.cert_export.specs.declared.parts.Part.{Part}
+use Rattle.cert_export.specs.Parts.{part_of}
 use Rattle.cert_export.proofs.ExportableCircuits.{small_part}
 use Rattle.cert_export.proofs.circuits.export_ids.Goals as goal
 

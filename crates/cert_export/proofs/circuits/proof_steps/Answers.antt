@@ -1,4 +1,4 @@
-use Rattle.std.proofs.Common.{◌+◌, ◌*◌, ◌≤◌, slice_index, arith}
+use Rattle.std.proofs.Common.{◌+◌, ◌*◌, slice_index, arith}
 use Rattle.cert_export.specs.Names.{renaming}
 use Rattle.cert_export.specs.Parts.{part_of}
 use Rattle.cert_export.proofs.ExportableCircuits.{given_named, can_be_written, last_is, last_small, are_proof_steps}

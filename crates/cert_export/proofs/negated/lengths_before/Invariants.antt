@@ -1,4 +1,3 @@
-use Rattle.std.proofs.Common.{◌≡◌, ◌≤◌, ◌^◌, length}
 use Rattle.cert_export.proofs.MatrixIds.{LengthsSoFar}
 use Rattle.cert_export.proofs.negated.lengths_before.Given as goal
 

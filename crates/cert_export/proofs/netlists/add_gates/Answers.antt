@@ -1,4 +1,4 @@
-use Rattle.std.proofs.Common.{◌≡◌, ◌*◌, ◌/◌, ◌≤◌, ◌++◌, [], ◌∷◌, ℕ, take, length, slice_index, sym, ◌∙◌, ap, subst, arith}
+use Rattle.std.proofs.Common.{◌*◌, ◌/◌, ◌++◌, [], ◌∷◌, ℕ, slice_index, sym, ◌∙◌, ap, subst, arith}
 use Rattle.hint_log.specs.Entries.{name_of}
 use Rattle.circuit_plain.specs.Netlist.{Netlist, IsDefined, IsLiteral, IsVariable}
 use Rattle.cert_export.specs.CircuitPart.{circuit_renaming, exported_netlist, gate_of}

@@ -1,4 +1,4 @@
-use Rattle.std.proofs.Common.{◌≡◌, sym, ◌∙◌, ap, subst, ℕ, ◌++◌, [], ◌∷◌, slice_index}
+use Rattle.std.proofs.Common.{sym, ◌∙◌, ap, subst, ℕ, ◌++◌, [], ◌∷◌, slice_index}
 use Rattle.circuit_plain.specs.Netlist.{Netlist, IsLiteral}
 use Rattle.cert_export.specs.CircuitPart.{circuit_renaming, exported_netlist, leaf_code}
 use Rattle.cert_export.specs.FaultLeaves.{leaf_of, or_false}

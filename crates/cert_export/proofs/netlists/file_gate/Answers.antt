@@ -1,4 +1,4 @@
-use Rattle.std.proofs.Common.{Some, sym, ◌∙◌, ap}
+use Rattle.std.proofs.Common.{Some, ◌∙◌, ap}
 use Rattle.cert_export.specs.Parts.{part_of}
 use Rattle.cert_export.proofs.FileGates.{gate_is_named, gate_is_and, sides_named}
 use Rattle.cert_export.proofs.netlists.file_gate.Goals as goal

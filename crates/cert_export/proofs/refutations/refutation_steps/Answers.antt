@@ -7,7 +7,7 @@ use Rattle.cert_export.proofs.WrittenLines.{if_ok_more}
 use Rattle.cert_export.proofs.refutations.refutation_steps.Goals as goal
 
 pub given_names-requires-clause-known : goal.given_names-requires-clause-known
-given_names-requires-clause-known c = have_own_names c.args.f.now c.args.log.now.entries c.args.ids.now c.requires
+given_names-requires-clause-known c = have_own_names c.args.f.now c.args.live.now c.args.log.now.entries c.args.ids.now c.requires
 
 pub overflow_mul-last : goal.overflow_mul-last
 overflow_mul-last c =
@@ -18,7 +18,7 @@ overflow_mul-last c =
     omega (arith, most)
 
 pub write_lines-requires-clause-can : goal.write_lines-requires-clause-can
-write_lines-requires-clause-can c = can_be_written c.args.f.now c.args.log.now.entries c.args.ids.now c.requires (renaming c.in_ok-names.names) c.in_ok-names.ensures
+write_lines-requires-clause-can c = can_be_written c.args.f.now c.args.live.now c.args.log.now.entries c.args.ids.now c.requires (renaming c.in_ok-names.names) c.in_ok-names.ensures
 
 pub write_lines-requires-clause-few : goal.write_lines-requires-clause-few
 write_lines-requires-clause-few c =
@@ -35,5 +35,5 @@ returns c =
     let ids = c.args.ids.now in
     let r = renaming c.in_ok-names.names in
     if_ok_more c.write_lines.result (λ steps written.
-    are_exported f entries ids r steps c.clauses.result (c.rounds.result * c.clauses-2.result) c.in_ok-names.ensures c.clauses.ensures.value
+    are_exported f c.args.live.now entries ids r steps c.clauses.result (c.rounds.result * c.clauses-2.result) c.in_ok-names.ensures c.clauses.ensures.value
     (ap (λ n. n * c.clauses-2.result) c.rounds.ensures ∙ ap (λ n. rounds_of entries * n) (c.clauses-2.ensures.value ∙ sym c.clauses.ensures.value)) written) c.write_lines.ensures

@@ -1,7 +1,9 @@
-use Rattle.std.proofs.Common.{◌∙◌, refl, true}
+use Rattle.std.proofs.Common.{rules, ◌≡◌, ◌∙◌, refl, ap, Err, true}
+use Rattle.hint_log.specs.declared.stops.Stop.TheVariants.{Limit}
 use Rattle.log_laws.specs.Engines.{circuits, instances, copies}
 use Rattle.repair_loop.proofs.Stages.{on_err, still_kept, still_undecided, none_stays, begun, productive}
 use Rattle.repair_loop.proofs.Defined.{empty_is_fresh, empty_has_none}
+use Rattle.repair_loop.proofs.Stops.{by_lemma}
 use Rattle.repair_loop.proofs.decisions.decide.Goals as goal
 
 pub find_definitions-requires-clause-fresh : goal.find_definitions-requires-clause-fresh
@@ -76,3 +78,8 @@ returns-clause-inputs g c = c.all_rounds.ensures.inputs ∙ c.find_definitions.e
 
 pub returns-clause-limit_same : goal.returns-clause-limit_same
 returns-clause-limit_same g c = c.all_rounds.ensures.limit_same ∙ (c.new-2.ensures.grew 0).limit ∙ (c.new.ensures.grew 0).limit ∙ c.find_definitions.ensures.limit_same
+
+pub returns-in_err-definitions-clause-limit : goal.returns-in_err-definitions-clause-limit
+returns-in_err-definitions-clause-limit g c = λ is.
+    let stop : c.in_err-definitions.field-0.0 ≡ Limit = search rules in
+    by_lemma c.args.f.now c.find_definitions.new.log (c.in_err-definitions.ensures.limit (ap (λ e. Err e) stop))

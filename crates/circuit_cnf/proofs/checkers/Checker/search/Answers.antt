@@ -1,4 +1,6 @@
-use Rattle.std.proofs.Common.{◌≡◌, ◌∙◌, ap, subst, Ok, [], ◌∷◌}
+use Rattle.std.proofs.Common.{rules, Err, ◌≡◌, ◌∙◌, ap, subst, Ok, [], ◌∷◌}
+use Rattle.hint_log.specs.declared.stops.Stop.TheVariants.{Limit}
+use Rattle.oracle.specs.Limits.{IsAtLimit}
 use Rattle.std.proofs.lemmas.List.Elements.{All-cons, All-nil}
 use Rattle.dq_lits.specs.Literal.{positive, variable_of}
 use Rattle.hint_log.specs.Entries.{clause_at}
@@ -290,3 +292,12 @@ returns-in-Sat-clause-failing g c e =
     subst (λ xs. AreFailing c.args.f.now (leaf_of c.args.f.now xs c.args.leaves.now) c.args.log.now.entries values) c.deref.ensures.value
     (are_failing c.args.f.now c.args.self.now.gates leaf (variable_of faults) values c.args.log.now.entries c.give.new.log c.solve.new.log found.0 found.1.clauses on.0 on.1
     (faults_checker c.args.f.now c.args.self.now leaf c.args.log.now c.group.new.log c.in_ok-group.group m c.give.new.log s).gates c.requires.ready two.names c.in_ok-give.ensures.given)
+
+pub returns-in_err-id-clause-limit : goal.returns-in_err-id-clause-limit
+returns-in_err-id-clause-limit g c = λ is.
+    let gates = c.args.self.now.gates.group.selector in
+    let faults = c.in_ok-group.group.selector in
+    let switches : gates ∷ faults ∷ [] ≡ positive (variable_of gates) ∷ positive (variable_of faults) ∷ [] =
+    ap (λ l. l ∷ faults ∷ []) (switch_is gates c.requires.checker.gates.made.positive) ∙ ap (λ l. positive (variable_of gates) ∷ l ∷ []) (switch_is faults c.in_ok-group.ensures.made.positive) in
+    let stop : c.in_err-id.field-0.0 ≡ Limit = search rules in
+    (variable_of faults, subst (IsAtLimit c.solve.new.log) switches (c.in_err-id.ensures.limit (ap (λ e. Err e) stop)))

@@ -3,11 +3,11 @@ use Rattle.hint_log.specs.Growth.{Grew}
 use Rattle.log_laws.specs.Engines.{circuits, IsAddedBy}
 use Rattle.circuit_cnf.specs.Checking.{group_of}
 use Rattle.circuit_cnf.specs.Turning.{AreLeavesOf, is_silent_search}
-use Rattle.circuit_cnf.specs.Shown.{IsShownBy}
-use Rattle.circuit_cnf.proofs.TurnAnswers.{inputs_count, inputs_named, leaf_is_one, shown, outputs_hold}
+use Rattle.circuit_cnf.specs.Shown.{IsShownSince}
+use Rattle.circuit_cnf.proofs.TurnAnswers.{inputs_count, inputs_named, leaf_is_one, shown_since, outputs_hold}
 use Rattle.circuit_cnf.proofs.LeafValues.{falsified}
 use Rattle.circuit_cnf.proofs.OutputLeaves.{few_same, few_by_gates}
-use Rattle.circuit_cnf.proofs.TurnGrowth.{any_silence, turn_grew}
+use Rattle.circuit_cnf.proofs.TurnGrowth.{any_silence, turn_grew, unnamed_before_gates}
 use Rattle.circuit_cnf.proofs.checkers.Checker.turn.Goals as goal
 
 pub returns-in_err-leaves-clause-few : goal.returns-in_err-leaves-clause-few
@@ -36,9 +36,10 @@ returns-in-Some-clause-shown g c id e =
     let have = subst (AreLeavesOf c.args.f.now c.args.graph.now c.output_leaves.new.log.entries c.args.outputs.now) (sym c.deref.ensures.value) c.in_ok-leaves.ensures.leaves in
     let held = c.search.ensures.held c.in-Some.id (c.in_ok-id.was ∙ ap Ok c.in-Some.is) in
     let same : c.in-Some.id ≡ id = cc in
-    subst (λ i. IsShownBy c.args.f.now c.args.graph.now c.args.outputs.now c.search.new.log.entries i) same
-    (shown c.args.f.now c.args.graph.now c.output_leaves.new.log.entries c.output_leaves.new.self.inputs.items c.args.outputs.now c.deref.result.now c.output_leaves.ensures.checker.inputs have
-    c.search.new.log.entries c.in-Some.id c.requires.formula c.requires.a_node_an_existential held)
+    subst (λ i. IsShownSince c.args.f.now c.args.graph.now c.args.outputs.now c.args.log.now.entries c.search.new.log.entries i) same
+    (shown_since c.args.f.now c.args.graph.now c.output_leaves.new.log.entries c.output_leaves.new.self.inputs.items c.args.outputs.now c.deref.result.now c.output_leaves.ensures.checker.inputs have
+    c.args.log.now.entries c.search.new.log.entries c.in-Some.id c.requires.formula c.requires.a_node_an_existential
+    (unnamed_before_gates c.args.f.now (group_of c.args.self.now) c.args.log.now c.output_leaves.new.log c.output_leaves.ensures.grew) held)
 
 pub returns-in-Some-clause-holds : goal.returns-in-Some-clause-holds
 returns-in-Some-clause-holds g c id e =

@@ -11,14 +11,14 @@ invariant_of-self-2 c =
     let undeclared = rw (← c.self.view_is) at c.requires.undeclared in
     let high = rw (← c.self.view_is) at c.requires.in_range in
     let form = rw (← c.self.view_is) at c.requires.form in
-    let new = existential-new f.vars us f.existentials f.ends.items f.lits.items c.args.y c.args.deps undeclared c.in_ok-insert.ensures.entries in
+    let new = existential-new f.vars us f.existentials f.matrix c.args.y c.args.deps undeclared c.in_ok-insert.ensures.entries in
     let distinct = subst (λ entries. IsDistinct eqb (keys_of entries)) new c.in_ok-insert.ensures.unique in
-    rw new (IsKept-existential f.vars us f.existentials.entries f.ends.items f.lits.items c.args.y c.args.deps c.self.invariant c.requires.from_one high undeclared form distinct)
+    rw new (IsKept-existential f.vars us f.existentials.entries f.matrix c.args.y c.args.deps c.self.invariant c.requires.from_one high undeclared form distinct)
 
 pub returns-clause-ok : goal.returns-clause-ok
 returns-clause-ok c =
     let f = c.self.inside in
     let us = f.universals.keys in
     let undeclared = rw (← c.self.view_is) at c.requires.undeclared in
-    let new = existential-new f.vars us f.existentials f.ends.items f.lits.items c.args.y c.args.deps undeclared c.in_ok-insert.ensures.entries in
-    rw (← c.self.view_is, new) (formula_of-existential f.vars us f.existentials.entries f.ends.items f.lits.items (c.args.y, c.args.deps))
+    let new = existential-new f.vars us f.existentials f.matrix c.args.y c.args.deps undeclared c.in_ok-insert.ensures.entries in
+    rw (← c.self.view_is, new) (formula_of-existential f.vars us f.existentials.entries f.matrix (c.args.y, c.args.deps))

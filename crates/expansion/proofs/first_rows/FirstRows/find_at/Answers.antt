@@ -4,7 +4,8 @@ use Rattle.std.proofs.lemmas.List.{get_or_default}
 use Rattle.std.proofs.lemmas.Result.{IfOk-weaker}
 use Rattle.dq_lits.specs.Formula.{existential_of}
 use Rattle.dq_lits.specs.Henkin.{same_bits}
-use Rattle.expansion.specs.FirstRows.{RowIndex, no_order, sees_of, seen_by, IsLeader, IsRowIndex, IsFirstRow}
+use Rattle.expansion.specs.FirstRows.{RowIndex, no_order, sees_of, seen_by, IsRowIndex, IsFirstRow}
+use Rattle.dq_formula.specs.Sets.{IsLeader}
 use Rattle.expansion.proofs.NamedArbiters.{found_at}
 use Rattle.expansion.proofs.SharedSets.{some_by_variable, leader_first, order_at, order_set, first_by_variable}
 use Rattle.expansion.proofs.first_rows.FirstRows.find_at.Goals as goal

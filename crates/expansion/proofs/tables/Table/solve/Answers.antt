@@ -1,8 +1,10 @@
-use Rattle.std.proofs.Common.{◌≡◌, ◌∙◌, ap, subst, Ok, refl, false, [], ◌∷◌, ◌≢◌, sym, map, length}
+use Rattle.std.proofs.Common.{rules, ◌≡◌, ◌∙◌, ap, subst, Ok, Err, refl, false, [], ◌∷◌, ◌≢◌, sym, map, length}
 use Rattle.std.specs.List.{AllPairs}
 use Rattle.std.proofs.lemmas.List.{length-map}
 use Rattle.hint_log.specs.Entries.{clause_at}
+use Rattle.hint_log.specs.declared.stops.Stop.TheVariants.{Limit}
 use Rattle.oracle.specs.Calls.{IsRefutedUnder}
+use Rattle.oracle.specs.Limits.{IsAtLimit}
 use Rattle.log_laws.specs.Engines.{instances}
 use Rattle.expansion.specs.Table.{TableState, PointState, IsRefutedBy, ArePoints, point_bits}
 use Rattle.expansion.specs.Silence.{is_silent}
@@ -97,3 +99,9 @@ returns-in_ok-points-in-Sat-clause-point_rows g c points e =
     let found : c.in_ok-points-in-Sat.field-0 ≡ points = cc in
     ap (λ (p : PointState). length p.rows) (sym found) ∙ ap length c.in_ok-points-in-Sat.ensures.bits
     ∙ length-map c.args.self.now.pairs (map (g.O.Oracle.values c.solve.new.self)) ∙ c.requires.table.1.table.own.pairs_long
+
+pub returns-in_err-id-clause-limit : goal.returns-in_err-id-clause-limit
+returns-in_err-id-clause-limit g c = λ is.
+    let switch = switch_is c.self.inside.group.selector c.args.self.now.group c.self.invariant (ap (λ (t : TableState). t.group) c.self.view_is) in
+    let stop : c.in_err-id.field-0.0 ≡ Limit = search rules in
+    subst (λ l. IsAtLimit c.solve.new.log (l ∷ [])) switch (c.in_err-id.ensures.limit (ap (λ e. Err e) stop))

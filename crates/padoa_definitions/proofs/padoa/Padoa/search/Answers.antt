@@ -1,4 +1,6 @@
-use Rattle.std.proofs.Common.{◌≡◌, ◌∷◌, [], ◌∙◌, Ok, ap, sym, subst}
+use Rattle.std.proofs.Common.{◌≡◌, ◌∷◌, [], ◌∙◌, Ok, ap, sym, subst, rules, Err}
+use Rattle.hint_log.specs.declared.stops.Stop.TheVariants.{Limit}
+use Rattle.oracle.proofs.SomeLimits.{some_limit}
 use Rattle.std.specs.List.{All}
 use Rattle.dq_lits.specs.Literal.{opposite}
 use Rattle.oracle.specs.Calls.{IsMade, IsRefutedUnder, assumed}
@@ -46,3 +48,8 @@ returns-clause-unsat g c = λ id y found is.
     (g.met.O.Oracle.searched c.solve.new.self c.solve.new.log c.solve.ensures.fit)
     (subst (λ gs. IsRefutedUnder c.args.log.now c.solve.new.log (assumed gs (c.args.question.now.twins.first ∷ opposite c.args.question.now.twins.second ∷ [])) id) c.deref.ensures.value
     (subst (λ l. IsRefutedUnder c.args.log.now c.solve.new.log (assumed c.deref.result.now (c.args.question.now.twins.first ∷ l ∷ [])) id) c.not.ensures (c.solve.ensures.unsat id (c.in_ok-answer.was ∙ ap Ok e)))) y found
+
+pub returns-in_err-answer-clause-limit : goal.returns-in_err-answer-clause-limit
+returns-in_err-answer-clause-limit g c = λ is.
+    let stop : c.in_err-answer.field-0.0 ≡ Limit = search rules in
+    some_limit c.solve.new.log (c.in_err-answer.ensures.limit (ap (λ e. Err e) stop))

@@ -1,4 +1,6 @@
-use Rattle.std.proofs.Common.{◌≡◌, ◌∷◌, [], Ok, ap, ◌∙◌}
+use Rattle.std.proofs.Common.{◌≡◌, ◌∷◌, [], Ok, ap, ◌∙◌, rules, Err}
+use Rattle.hint_log.specs.declared.stops.Stop.TheVariants.{Limit}
+use Rattle.oracle.proofs.SomeLimits.{some_limit}
 use Rattle.oracle.specs.Calls.{assumed}
 use Rattle.oracle.specs.declared.oracles.Answer.TheVariants.{Unsat}
 use Rattle.padoa_definitions.proofs.SearchAnswers.{padoa_learned, learned_grew, padoa_refuted, on_answer}
@@ -33,3 +35,8 @@ returns-clause-unsat g c = λ id is.
     let e : c.in_ok-answer.answer ≡ Unsat id = cc in
     shows_clause c.derived_line_is_implied.ensures c.ids_stay.ensures c.reached_are_ids.ensures c.args.f.now c.args.self.now c.args.asked.now c.args.log.now c.solve.new.log id
     c.requires.padoa c.requires.copies (g.met.O.Oracle.searched c.solve.new.self c.solve.new.log c.solve.ensures.fit) (c.solve.ensures.unsat id (c.in_ok-answer.was ∙ ap Ok e))
+
+pub returns-in_err-answer-clause-limit : goal.returns-in_err-answer-clause-limit
+returns-in_err-answer-clause-limit g c = λ is.
+    let stop : c.in_err-answer.field-0.0 ≡ Limit = search rules in
+    some_limit c.solve.new.log (c.in_err-answer.ensures.limit (ap (λ e. Err e) stop))

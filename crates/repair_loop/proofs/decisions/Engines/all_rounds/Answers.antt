@@ -1,8 +1,10 @@
-use Rattle.std.proofs.Common.{◌≡◌, ◌∙◌, refl, sym, ap, subst, Ok, arith, true}
+use Rattle.std.proofs.Common.{rules, ◌≡◌, ◌∙◌, refl, sym, ap, subst, Ok, Err, arith, true}
+use Rattle.hint_log.specs.declared.stops.Stop.TheVariants.{Limit}
 use Rattle.log_laws.specs.Engines.{instances}
 use Rattle.repair_loop.specs.declared.definitions.Definitions.{Definitions}
 use Rattle.repair_loop.specs.Searching.{AreKnown, IsShownTrue, IsShownFalse}
 use Rattle.repair_loop.proofs.Stages.{on_err, after_row, still_kept, still_undecided, log_grew, fewer_left}
+use Rattle.repair_loop.proofs.Stops.{by_lemma}
 use Rattle.repair_loop.proofs.decisions.Engines.all_rounds.Goals as goal
 
 pub returns-in-Refuted-clause-shown_false : goal.returns-in-Refuted-clause-shown_false
@@ -65,3 +67,8 @@ loop-outputs-preserved g c =
 
 pub returns-in_err-outputs-clause-inputs : goal.returns-in_err-outputs-clause-inputs
 returns-in_err-outputs-clause-inputs g c = c.find_candidates.ensures.extends.inputs ∙ c.loop-outputs.invariant.inputs
+
+pub returns-in_err-outputs-clause-limit : goal.returns-in_err-outputs-clause-limit
+returns-in_err-outputs-clause-limit g c = λ is.
+    let stop : c.in_err-outputs.field-0.0 ≡ Limit = search rules in
+    by_lemma c.args.f.now c.find_candidates.new.log (c.in_err-outputs.ensures.limit (ap (λ e. Err e) stop))

@@ -1,4 +1,6 @@
-use Rattle.std.proofs.Common.{◌≡◌, ◌∙◌, sym, ap, subst, length, Ok}
+use Rattle.std.proofs.Common.{◌≡◌, ◌∙◌, sym, ap, subst, length, Ok, rules, Err}
+use Rattle.hint_log.specs.declared.stops.Stop.TheVariants.{Limit}
+use Rattle.oracle.proofs.SomeLimits.{some_limit}
 use Rattle.dq_lits.specs.Expansion.{IsExpansionUnsatisfiable}
 use Rattle.candidate_functions.specs.Candidates.{AreDefinitions}
 use Rattle.log_laws.specs.Engines.{instances}
@@ -136,3 +138,8 @@ returns-in_ok-outputs-in-Model-clause-candidates g c outputs e =
       reads = b.reads;
       candidates = record { points = points; are_points = are_points; agree = b.at_pairs };
     })
+
+pub returns-in_err-id-clause-limit : goal.returns-in_err-id-clause-limit
+returns-in_err-id-clause-limit g c = λ is.
+    let stop : c.in_err-id.field-0.0 ≡ Limit = search rules in
+    some_limit c.solve.new.log (c.in_err-id.ensures.limit (ap (λ e. Err e) stop))

@@ -1,10 +1,14 @@
-use Rattle.std.proofs.Common.{◌≡◌, ◌∙◌, ap, sym, subst, Ok, arith}
+use Rattle.std.proofs.Common.{rules, ◌≡◌, ◌∙◌, ap, sym, subst, Ok, Err, arith}
+use Rattle.oracle.proofs.SomeLimits.{some_limit}
 use Rattle.std.specs.List.{All}
 use Rattle.hint_log.specs.Entries.{steps_of}
+use Rattle.hint_log.specs.declared.stops.Stop.TheVariants.{Limit}
 use Rattle.circuit_cnf.specs.Failing.{is_silent, IsFailure}
 use Rattle.circuit_cnf.specs.Shown.{HoldEverywhere, IsShownBy}
 use Rattle.aig_graph.specs.Outputs.{ReadsUniversals, outputs_of}
 use Rattle.repair_loop.specs.Searching.{IsRoundLogged, IsShownTrue}
+use Rattle.repair_loop.specs.Stopping.{IsStoppedAtLimit}
+use Rattle.repair_loop.proofs.Stops.{by_lemma, by_round}
 use Rattle.repair_loop.proofs.Stages.{outputs_supported, after_turn, after_round, log_grew, log_same, log_then, round_grew, round_counts, steps_left}
 use Rattle.repair_loop.proofs.UniversalInputs.{outputs_read_universals}
 use Rattle.repair_loop.proofs.decisions.Engines.judge.Goals as goal
@@ -27,7 +31,7 @@ returns-in-Holds-clause-hold g c id e =
     let was = c.in_ok-id.was ∙ ap Ok c.in-Holds.is in
     let items : c.items-nodes.result.now ≡ nodes = c.items-nodes.ensures in
     let holds = subst (λ ns. HoldEverywhere f (outputs_of f graph ns)) items (c.turn.ensures.holds c.in-Holds.id was) in
-    let shown = subst (λ ns. IsShownBy f graph ns c.turn.new.log.entries c.in-Holds.id) items (c.turn.ensures.shown c.in-Holds.id was) in
+    let shown = subst (λ ns. IsShownBy f graph ns c.turn.new.log.entries c.in-Holds.id) items (c.turn.ensures.shown c.in-Holds.id was).shown in
     let same : c.in-Holds.id ≡ id = cc in
     subst (λ i. IsShownTrue f graph nodes c.turn.new.log i) same (record {
       one_each = c.requires.candidates.one_each;
@@ -87,3 +91,24 @@ pub turn-requires-clause-read_universals : goal.turn-requires-clause-read_univer
 turn-requires-clause-read_universals g c =
     subst (All (ReadsUniversals c.args.f.now c.args.candidates.now.graph.now)) (sym c.items-nodes.ensures)
     (outputs_read_universals c.args.f.now c.requires.search.table.formula.prefix c.args.candidates.now.graph.now c.args.candidates.now.outputs.now c.requires.candidates.one_each c.requires.candidates.reads)
+
+pub returns-in_err-id-clause-limit : goal.returns-in_err-id-clause-limit
+returns-in_err-id-clause-limit g c = λ is.
+    let stop : c.in_err-id.field-0.0 ≡ Limit = search rules in
+    by_lemma c.args.f.now c.turn.new.log (some_limit c.turn.new.log (c.in_err-id.ensures.limit (ap (λ e. Err e) stop)).1)
+
+pub returns-in_err-round-in-Fails-clause-limit : goal.returns-in_err-round-in-Fails-clause-limit
+returns-in_err-round-in-Fails-clause-limit g c = λ is.
+    let f = c.args.f.now in
+    let stop : c.in_err-round-in-Fails.field-0.0 ≡ Limit = search rules in
+    subst (IsStoppedAtLimit f) (sym c.in_err-round-in-Fails.ensures.err)
+    (by_round c.failures_refute_rows.ensures f c.args.self.now.table c.turn.new.self c.args.self.now.definitions.padoa c.turn.new.log
+    (outputs_of f c.args.candidates.now.graph.now c.args.candidates.now.outputs.now)
+    (after_turn c.engines_leave_the_rest.ensures c.engines_leave_tables.ensures c.engines_leave_copies.ensures f c.args.candidates.now.graph.now c.args.self.now.table c.args.self.now.checker c.turn.new.self
+    c.args.self.now.definitions.padoa
+    (is_silent c.turn.result) c.args.log.now c.turn.new.log (ap is_silent (c.in_ok-id.was ∙ ap Ok c.in-Fails.is)) c.requires.search c.turn.ensures.grew c.turn.ensures.group
+    c.turn.ensures.checker c.turn.ensures.few)
+    c.requires.candidates.candidates c.in-Fails.row c.in-Fails.values c.in-Fails.j
+    (subst (λ ns. IsFailure f (outputs_of f c.args.candidates.now.graph.now ns) c.in-Fails.row c.in-Fails.values c.in-Fails.j) c.items-nodes.ensures
+    (c.turn.ensures.fails c.in-Fails.row c.in-Fails.values c.in-Fails.j (c.in_ok-id.was ∙ ap Ok c.in-Fails.is)))
+    (c.in_err-round-in-Fails.ensures.limit.0 (ap (λ e. Err e) stop)))

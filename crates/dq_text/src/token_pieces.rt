@@ -1,0 +1,184 @@
+//! The tokens of a text that comes in pieces, wherever it is cut. Of a token whose end didn't come
+//! yet its summary alone is kept, so that a token of any length is read in the same memory.
+
+ghost use Rattle.std.specs.Prelude.{◌≡◌, ◌<◌, ◌∷◌, ◌++◌, [], ℕ, List, length, true, IfOk, OnOk, IfSome};
+ghost use Rattle.dq_text.specs.Pieces.{SummarizedToken, IsAtStart, IsWholeToken, tokens_to_come, last_line_to_come, no_pieces, ended};
+ghost use Rattle.dq_text.specs.Summary.{summary_of, no_bytes};
+ghost use Rattle.dq_text.specs.Token.{line_after};
+
+use crate::bytes::{ByteKind, byte_kind};
+use crate::cursors::{LinePlace, is_token_byte, next_place, separator_free_length};
+use crate::summaries::{TokenSummary, grown, is_begun, no_bytes};
+use dq_lits::Memory;
+
+/// What takes a text token by token.
+pub trait TakesTokens {
+    /// What is said of a text at its end.
+    type Answer;
+
+    /// With these tokens to come, and this last line, it may answer so.
+    ghost gives: { Self → List SummarizedToken → ℕ → Self.Answer → Type 0 };
+
+    /// Takes the next token, whose bytes came in one piece.
+    fn token(&mut self, text: &[u8], line: u64) -> Result<(), Memory>
+        ensures { OnOk result ((tokens : List SummarizedToken) (last : ℕ) (answer : Self.Answer)
+            → gives self.new tokens last answer
+            → gives self.old
+            (record { summary = summary_of text.now; line = line } ∷ tokens) last answer) };
+
+    /// Takes the next token, of which the summary was kept.
+    fn summary(&mut self, token: TokenSummary, line: u64) -> Result<(), Memory>
+        ensures { OnOk result ((tokens : List SummarizedToken) (last : ℕ) (answer : Self.Answer)
+            → gives self.new tokens last answer
+            → gives self.old (record { summary = token; line = line } ∷ tokens) last answer) };
+}
+
+/// Where the next piece begins: behind this token, which may have no byte, at this place of the
+/// line with this number.
+#[derive(Clone, Copy, Debug)]
+pub struct TokenPieces {
+    pub token: TokenSummary,
+    pub place: LinePlace,
+    pub line: u64,
+}
+
+impl TokenPieces {
+    /// Before the first piece.
+    pub fn new() -> TokenPieces
+        ensures { result ≡ no_pieces }
+    {
+        TokenPieces {
+            token: no_bytes(),
+            place: LinePlace::LineStart,
+            line: 1,
+        }
+    }
+
+    /// Hands on the tokens that end in the next piece. It wants memory where the taker does, and
+    /// for a line whose number would pass 2^64.
+    pub fn feed<T: TakesTokens>(&mut self, taker: &mut T, piece: &[u8]) -> Result<(), Memory>
+        ensures { OnOk result ((bytes : List ℕ) (answer : T.Answer)
+            → T.gives taker.new (tokens_to_come self.new bytes) (last_line_to_come self.new bytes)
+            answer
+            → T.gives taker.old (tokens_to_come self.old (piece.now ++ bytes))
+            (last_line_to_come self.old (piece.now ++ bytes)) answer) }
+    {
+        let mut rest = piece;
+        while !rest.is_empty() {
+            rest = self.step(taker, rest)?;
+        }
+        Ok(())
+    }
+
+    /// Hands on the last token, where the text ends behind it, and answers the last line.
+    pub fn end<T: TakesTokens>(self, taker: &mut T) -> Result<u64, Memory>
+        ensures { IfOk result (λ last. (answer : T.Answer) → T.gives taker.new [] last answer
+            → T.gives taker.old (tokens_to_come self []) (last_line_to_come self []) answer) }
+    {
+        hand_on(taker, self.token, self.line)?;
+        Ok(self.line)
+    }
+
+    // Takes a token that begins and ends here, or else a byte; what is left is shorter.
+    fn step<'a, T: TakesTokens>(
+        &mut self,
+        taker: &mut T,
+        rest: &'a [u8],
+    ) -> Result<&'a [u8], Memory>
+        requires some { 0 < length rest.now }
+        ensures shorter { IfOk result (λ left. length left.now < length rest.now) }
+        ensures given { IfOk result (λ left. (bytes : List ℕ) (answer : T.Answer)
+            → T.gives taker.new (tokens_to_come self.new (left.now ++ bytes))
+            (last_line_to_come self.new (left.now ++ bytes)) answer
+            → T.gives taker.old (tokens_to_come self.old (rest.now ++ bytes))
+            (last_line_to_come self.old (rest.now ++ bytes)) answer) }
+    {
+        match whole_token(self, rest) {
+            Some((text, behind)) => {
+                taker.token(text, self.line)?;
+                self.place = LinePlace::InLine;
+                Ok(behind)
+            }
+            None => {
+                take_byte(taker, self, rest[0])?;
+                Ok(&rest[1..])
+            }
+        }
+    }
+}
+
+// The token that begins here, where none is begun and it ends in these bytes.
+fn whole_token<'a>(pieces: &TokenPieces, bytes: &'a [u8]) -> Option<(&'a [u8], &'a [u8])>
+    ensures { IfSome result
+        (λ parts. IsWholeToken pieces.now bytes.now parts.0.now parts.1.now) }
+{
+    if !is_at_start(pieces, bytes) {
+        return None;
+    }
+    let length = separator_free_length(bytes);
+    if length == bytes.len() {
+        return None;
+    }
+    Some(bytes.split_at(length))
+}
+
+// Whether no token is begun, and one begins here.
+fn is_at_start(pieces: &TokenPieces, bytes: &[u8]) -> bool
+    ensures { result ≡ true → IsAtStart pieces.now bytes.now }
+{
+    if is_begun(pieces.token.head) {
+        return false;
+    }
+    match bytes.split_first() {
+        None => false,
+        Some((first, _)) => is_token_byte(byte_kind(*first), pieces.place),
+    }
+}
+
+// Takes a byte: it goes on with a token, or ends the one that was begun.
+fn take_byte<T: TakesTokens>(
+    taker: &mut T,
+    pieces: &mut TokenPieces,
+    byte: u8,
+) -> Result<(), Memory>
+    ensures { OnOk result ((bytes : List ℕ) (answer : T.Answer)
+        → T.gives taker.new (tokens_to_come pieces.new bytes) (last_line_to_come pieces.new bytes)
+        answer
+        → T.gives taker.old (tokens_to_come pieces.old (byte ∷ bytes))
+        (last_line_to_come pieces.old (byte ∷ bytes)) answer) }
+{
+    let kind = byte_kind(byte);
+    if is_token_byte(kind, pieces.place) {
+        pieces.token = grown(pieces.token, byte);
+    } else {
+        hand_on(taker, pieces.token, pieces.line)?;
+        pieces.token = no_bytes();
+    }
+    pieces.line = counted_line(kind, pieces.line)?;
+    pieces.place = next_place(kind, pieces.place);
+    Ok(())
+}
+
+// Hands on a token that ends here, if one was begun.
+fn hand_on<T: TakesTokens>(taker: &mut T, token: TokenSummary, line: u64) -> Result<(), Memory>
+    ensures { OnOk result ((tokens : List SummarizedToken) (last : ℕ) (answer : T.Answer)
+        → T.gives taker.new tokens last answer
+        → T.gives taker.old (ended token line tokens) last answer) }
+{
+    if is_begun(token.head) {
+        taker.summary(token, line)
+    } else {
+        Ok(())
+    }
+}
+
+// The line behind a byte. There is no number behind the last one.
+fn counted_line(kind: ByteKind, line: u64) -> Result<u64, Memory>
+    ensures { IfOk result (λ next. next ≡ line_after kind line) }
+{
+    match kind {
+        ByteKind::LineFeed if line == u64::MAX => Err(Memory),
+        ByteKind::LineFeed => Ok(line + 1),
+        ByteKind::Blank | ByteKind::LetterC | ByteKind::Other => Ok(line),
+    }
+}

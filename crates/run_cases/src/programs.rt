@@ -1,0 +1,26 @@
+//! The two programs that are run.
+
+/// The checker or the solver.
+#[derive(Clone, Copy, Debug)]
+pub enum Program {
+    Checker,
+    Solver,
+}
+
+impl Program {
+    /// The program's own name, the first of its words.
+    pub fn name(self) -> &'static str {
+        match self {
+            Program::Checker => "dqcheck",
+            Program::Solver => "dqsolve",
+        }
+    }
+
+    /// The words behind its name where a case gives no others.
+    pub fn usual_words(self) -> &'static str {
+        match self {
+            Program::Checker => "formula certificate",
+            Program::Solver => "solve formula",
+        }
+    }
+}

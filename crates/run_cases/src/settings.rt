@@ -1,0 +1,198 @@
+//! What a case runs on.
+
+use crate::programs::Program;
+use anyhow::Result;
+use dq_io::{MemFiles, MemSink, NeverFailFiles, NeverFailSink, ReadStop, read_all};
+use dqcheck_core::dqcheck_run;
+use dqsolve_core::dqsolve_run;
+use hint_log::Log;
+use std::alloc::Global;
+
+/// The most bytes of a call, and the numbers of the calls that fail.
+#[derive(Debug, Drop)]
+pub struct Calls {
+    pub greatest: usize,
+    pub failing: Vec<u64>,
+}
+
+impl Calls {
+    /// Calls of any size, of which none fails.
+    pub fn new(alloc: Global) -> Calls {
+        Calls {
+            greatest: usize::MAX,
+            failing: Vec::new(alloc),
+        }
+    }
+}
+
+/// The program of a case, its files and its words, and how its files and its sink behave.
+#[derive(Debug, Drop)]
+pub struct Settings {
+    pub program: Program,
+    pub formula: Option<Vec<u8>>,
+    pub certificate: Option<Vec<u8>>,
+    pub words: Vec<String>,
+    pub reads: Calls,
+    pub writes: Calls,
+}
+
+/// What came of a run: its status, and what was written.
+#[derive(Debug, Drop)]
+pub struct Ran {
+    pub status: u8,
+    pub text: Vec<u8>,
+}
+
+impl Settings {
+    pub fn new(alloc: Global, program: Program) -> Result<Settings> {
+        Ok(Settings {
+            program,
+            formula: None,
+            certificate: None,
+            words: words_of(alloc, program, program.usual_words())?,
+            reads: Calls::new(alloc),
+            writes: Calls::new(alloc),
+        })
+    }
+
+    /// Words, reads and writes are as at the start.
+    pub fn reset(&mut self, alloc: Global) -> Result<()> {
+        self.words = words_of(alloc, self.program, self.program.usual_words())?;
+        self.reads = Calls::new(alloc);
+        self.writes = Calls::new(alloc);
+        Ok(())
+    }
+
+    /// Runs the program.
+    pub fn run(&self, alloc: Global, log: &mut Log) -> Result<Ran> {
+        let files = self.files(alloc)?;
+        self.run_over(alloc, files, log)
+    }
+
+    fn run_over(&self, alloc: Global, mut files: MemFiles, log: &mut Log) -> Result<Ran> {
+        let sink = MemSink::new(alloc, self.writes.greatest.max(1), &self.writes.failing)?;
+        run_into(alloc, self.program, &self.words, &mut files, sink, log)
+    }
+
+    /// Runs the program over files and a sink that never fail, and gives its status.
+    pub fn run_unfailing(&self, alloc: Global, log: &mut Log) -> Result<u8> {
+        let mut files = NeverFailFiles::new(alloc);
+        if let Some(formula) = &self.formula {
+            files.hold("formula", formula)?;
+        }
+        if let Some(certificate) = &self.certificate {
+            files.hold("certificate", certificate)?;
+        }
+        Ok(unfailing_status(alloc, self.program, &self.words, &mut files, log))
+    }
+
+    /// What the checker says of a certificate for the formula.
+    pub fn judge(&self, alloc: Global, certificate: &[u8], log: &mut Log) -> Result<Ran> {
+        let words = words_of(alloc, Program::Checker, Program::Checker.usual_words())?;
+        let mut files = MemFiles::new(alloc, usize::MAX, &[])?;
+        self.hold_certificate(&mut files, certificate)?;
+        judge_over(alloc, &words, &mut files, log)
+    }
+
+    fn hold_certificate(&self, files: &mut MemFiles, certificate: &[u8]) -> Result<()> {
+        if let Some(formula) = &self.formula {
+            files.hold("formula", formula)?;
+        }
+        files.hold("certificate", certificate)?;
+        Ok(())
+    }
+
+    /// Reads the formula's file, of at most so many bytes.
+    pub fn read(&self, alloc: Global, limit: u64) -> Result<Result<Vec<u8>, ReadStop>> {
+        let mut files = self.files(alloc)?;
+        Ok(read_all(alloc, &mut files, "formula", limit))
+    }
+
+    fn files(&self, alloc: Global) -> Result<MemFiles> {
+        let mut files = MemFiles::new(alloc, self.reads.greatest.max(1), &self.reads.failing)?;
+        if let Some(formula) = &self.formula {
+            files.hold("formula", formula)?;
+        }
+        if let Some(certificate) = &self.certificate {
+            files.hold("certificate", certificate)?;
+        }
+        Ok(files)
+    }
+}
+
+fn judge_over(alloc: Global, words: &[String], files: &mut MemFiles, log: &mut Log) -> Result<Ran> {
+    let sink = MemSink::new(alloc, usize::MAX, &[])?;
+    run_into(alloc, Program::Checker, words, files, sink, log)
+}
+
+// Runs a program, and gives its status and what was written.
+fn run_into(
+    alloc: Global,
+    program: Program,
+    words: &[String],
+    files: &mut MemFiles,
+    mut sink: MemSink,
+    log: &mut Log,
+) -> Result<Ran> {
+    let status = match program {
+        Program::Checker => check(alloc, words, files, &mut sink),
+        Program::Solver => solve(alloc, words, files, &mut sink, log),
+    };
+    let text = sink.taken().to_vec(alloc)?;
+    Ok(Ran { status, text })
+}
+
+// Runs the checker, and gives its status.
+fn check(alloc: Global, words: &[String], files: &mut MemFiles, sink: &mut MemSink) -> u8 {
+    dqcheck_run(alloc, words, files, sink)
+}
+
+// Runs the solver, and gives its status.
+fn solve(
+    alloc: Global,
+    words: &[String],
+    files: &mut MemFiles,
+    sink: &mut MemSink,
+    log: &mut Log,
+) -> u8 {
+    dqsolve_run(alloc, words, files, sink, log)
+}
+
+// The same over files and a sink that never fail.
+fn unfailing_status(
+    alloc: Global,
+    program: Program,
+    words: &[String],
+    files: &mut NeverFailFiles,
+    log: &mut Log,
+) -> u8 {
+    match program {
+        Program::Checker => check_unfailing(alloc, words, files),
+        Program::Solver => solve_unfailing(alloc, words, files, log),
+    }
+}
+
+fn check_unfailing(alloc: Global, words: &[String], files: &mut NeverFailFiles) -> u8 {
+    let mut sink = NeverFailSink::new();
+    dqcheck_run(alloc, words, files, &mut sink)
+}
+
+fn solve_unfailing(
+    alloc: Global,
+    words: &[String],
+    files: &mut NeverFailFiles,
+    log: &mut Log,
+) -> u8 {
+    let mut sink = NeverFailSink::new();
+    dqsolve_run(alloc, words, files, &mut sink, log)
+}
+
+/// A program's name, and then these words.
+pub fn words_of(alloc: Global, program: Program, rest: &str) -> Result<Vec<String>> {
+    let mut words = Vec::new(alloc);
+    words.push(String::from_str(alloc, program.name())?)?;
+    for word in rest.split_whitespace() {
+        words.push(String::from_str(alloc, word)?)?;
+    }
+    Ok(words)
+}

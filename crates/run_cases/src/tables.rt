@@ -1,0 +1,171 @@
+//! The lines of a table.
+//!
+//! `formula` and `certificate` give the files' texts, whose lines are parted by ` / ` and each end
+//! with LF, but that a `\` at the end takes the last LF away; `\r` is a CR. `absent` takes both
+//! files away. `words` gives the words behind the program's name, `reads` the most bytes of a read
+//! and the numbers of the calls that fail, `writes` the same of the sink. `run` runs the program
+//! under a name, and then words, reads and writes are as at the start; behind a verdict of the
+//! solver it prints what the checker says of the text that was written, and how many rounds and
+//! learned clauses the log has. `alone` does the same without that. `unfailing` runs the program
+//! over files and a sink that never fail, and prints the status alone; `read` reads the formula's
+//! file, of at most so many bytes. `canonical` prints the canonical text of the formula,
+//! `refutation` that of the certificate as a refutation of it, `proof` that of the proof in the
+//! certificate, a circuit, and `circuit` that of the circuit. Lines that begin with `#` are
+//! comments.
+
+use crate::settings::{Calls, Ran, Settings, words_of};
+use crate::texts;
+use anyhow::{Result, anyhow};
+use dq_io::ReadStop;
+use hint_log::Log;
+use hint_log::laws::rounds_are_steps;
+use std::alloc::Global;
+
+/// Takes a line: a setting, or a case, of which it gives what is to be printed.
+pub fn take_line(
+    alloc: Global,
+    settings: &mut Settings,
+    log: &mut Log,
+    line: &str,
+) -> Result<Option<String>> {
+    let (word, rest) = line.split_once(' ').unwrap_or((line, ""));
+    match word {
+        "" | "#" => Ok(None),
+        "formula" => set_formula(alloc, settings, rest),
+        "certificate" => set_certificate(alloc, settings, rest),
+        "absent" => take_files_away(settings),
+        "words" => set_words(alloc, settings, rest),
+        "reads" => set_reads(alloc, settings, rest),
+        "writes" => set_writes(alloc, settings, rest),
+        "run" => run(alloc, settings, log, rest),
+        "alone" => run_alone(alloc, settings, log, rest),
+        "unfailing" => run_unfailing(alloc, settings, log, rest),
+        "read" => read(alloc, settings, rest),
+        "canonical" => named(alloc, rest, texts::canonical_formula(alloc, settings)),
+        "refutation" => named(alloc, rest, texts::canonical_refutation(alloc, settings)),
+        "proof" => named(alloc, rest, texts::canonical_proof(alloc, settings)),
+        "circuit" => named(alloc, rest, texts::canonical_circuit(alloc, settings)),
+        _ => Err(anyhow!("no setting: {line}")),
+    }
+}
+
+fn set_formula(alloc: Global, settings: &mut Settings, rest: &str) -> Result<Option<String>> {
+    settings.formula = Some(texts::text_of(alloc, rest)?);
+    Ok(None)
+}
+
+fn set_certificate(alloc: Global, settings: &mut Settings, rest: &str) -> Result<Option<String>> {
+    settings.certificate = Some(texts::text_of(alloc, rest)?);
+    Ok(None)
+}
+
+fn take_files_away(settings: &mut Settings) -> Result<Option<String>> {
+    settings.formula = None;
+    settings.certificate = None;
+    Ok(None)
+}
+
+fn set_words(alloc: Global, settings: &mut Settings, rest: &str) -> Result<Option<String>> {
+    settings.words = words_of(alloc, settings.program, rest)?;
+    Ok(None)
+}
+
+fn set_reads(alloc: Global, settings: &mut Settings, rest: &str) -> Result<Option<String>> {
+    settings.reads = calls_of(alloc, rest)?;
+    Ok(None)
+}
+
+fn set_writes(alloc: Global, settings: &mut Settings, rest: &str) -> Result<Option<String>> {
+    settings.writes = calls_of(alloc, rest)?;
+    Ok(None)
+}
+
+// A case: its status and text, and, behind a verdict, what shows it.
+fn run(
+    alloc: Global,
+    settings: &mut Settings,
+    log: &mut Log,
+    name: &str,
+) -> Result<Option<String>> {
+    let ran = settings.run(alloc, log)?;
+    settings.reset(alloc)?;
+    let shown = shown_run(alloc, &ran)?;
+    if ran.status != 10 && ran.status != 20 {
+        return Ok(Some(format!(in alloc; "{name}: {shown}")?));
+    }
+    let evidence = evidence(alloc, settings, log, &ran)?;
+    Ok(Some(format!(in alloc; "{name}: {shown}\n  judged {evidence}")?))
+}
+
+// What the checker says of the text, and how much the log has.
+fn evidence(alloc: Global, settings: &Settings, log: &mut Log, ran: &Ran) -> Result<String> {
+    let counts = counts_of(alloc, log)?;
+    let judged = shown_run(alloc, &settings.judge(alloc, &ran.text, log)?)?;
+    Ok(format!(in alloc; "{judged} {counts}")?)
+}
+
+fn run_alone(
+    alloc: Global,
+    settings: &mut Settings,
+    log: &mut Log,
+    name: &str,
+) -> Result<Option<String>> {
+    let ran = settings.run(alloc, log)?;
+    settings.reset(alloc)?;
+    let shown = shown_run(alloc, &ran)?;
+    Ok(Some(format!(in alloc; "{name}: {shown}")?))
+}
+
+fn run_unfailing(
+    alloc: Global,
+    settings: &Settings,
+    log: &mut Log,
+    name: &str,
+) -> Result<Option<String>> {
+    let status = settings.run_unfailing(alloc, log)?;
+    Ok(Some(format!(in alloc; "{name}: {status}")?))
+}
+
+// What is read of the formula's file, of at most so many bytes.
+fn read(alloc: Global, settings: &Settings, limit: &str) -> Result<Option<String>> {
+    let taken = match settings.read(alloc, limit.parse()?)? {
+        Ok(bytes) => texts::shown(alloc, &bytes)?,
+        Err(ReadStop::Memory) => String::from_str(alloc, "memory")?,
+        Err(ReadStop::Fault) => String::from_str(alloc, "fault")?,
+        Err(ReadStop::TooLong) => String::from_str(alloc, "too long")?,
+    };
+    Ok(Some(format!(in alloc; "at most {limit}: {taken}")?))
+}
+
+fn named(alloc: Global, name: &str, text: Result<Vec<u8>>) -> Result<Option<String>> {
+    let shown = texts::shown(alloc, &text?)?;
+    Ok(Some(format!(in alloc; "{name}: {shown}")?))
+}
+
+// How many rounds and learned clauses the log has.
+fn counts_of(alloc: Global, log: &Log) -> Result<String> {
+    rounds_are_steps();
+    let rounds = log.rounds();
+    let learned = log.steps() - rounds;
+    Ok(format!(in alloc; "rounds {rounds} learned {learned}")?)
+}
+
+// The greatest size, and the numbers of the calls that fail.
+fn calls_of(alloc: Global, rest: &str) -> Result<Calls> {
+    let mut calls = Calls::new(alloc);
+    let mut numbers = rest.split_whitespace();
+    if let Some(greatest) = numbers.next() {
+        calls.greatest = greatest.parse()?;
+    }
+    for number in numbers {
+        calls.failing.push(number.parse()?)?;
+    }
+    Ok(calls)
+}
+
+// A status, and what was written, on one line.
+fn shown_run(alloc: Global, ran: &Ran) -> Result<String> {
+    let status = ran.status;
+    let text = texts::shown(alloc, &ran.text)?;
+    Ok(format!(in alloc; "{status} {text}")?)
+}

@@ -1,0 +1,40 @@
+//! What a hint does.
+
+ghost use Rattle.std.specs.Prelude.{◌≡◌, IfOk, IsOk, OnErr};
+ghost use Rattle.rup_core.specs.Extension.{seen, UnitIsFree, UnitStandsWithin};
+ghost use Rattle.rup_core.specs.HintStep.{IsStep};
+
+use crate::statuses::Status;
+use crate::trails::Trail;
+use dq_lits::Memory;
+
+/// How the hints of a line stand so far.
+#[derive(Clone, Copy, Debug)]
+pub(crate) enum Progress {
+    /// Each of them propagates.
+    Going,
+    /// The last one is falsified, and those before it propagate.
+    Refuted,
+    /// One is at fault, or the line holds a literal beside its negation.
+    Faulty,
+}
+
+/// One more hint, where all so far propagate, by the status of its clause: the literal of a unit
+/// clause becomes true.
+pub(crate) fn propagate(trail: &mut Trail, status: Status) -> Result<Progress, Memory>
+    requires { UnitIsFree trail.old.trues (seen status) }
+    ensures step { IfOk result
+        (λ next. IsStep (seen status) trail.old.trues next trail.new.trues) }
+    ensures variables { trail.new.variables ≡ trail.old.variables }
+    ensures err { OnErr result (trail.new ≡ trail.old) }
+    ensures marked { UnitStandsWithin trail.old.variables (seen status) → IsOk result }
+{
+    match status {
+        Status::Unit(l) => {
+            trail.assign(l)?;
+            Ok(Progress::Going)
+        }
+        Status::Falsified => Ok(Progress::Refuted),
+        Status::Stuck => Ok(Progress::Faulty),
+    }
+}
