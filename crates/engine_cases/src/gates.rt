@@ -22,13 +22,7 @@ pub fn run(alloc: Global, f: &Formula, existentials: &str, printed: &mut String)
     Ok(())
 }
 
-fn show_gate(
-    alloc: Global,
-    f: &Formula,
-    gates: &Gates,
-    y: u64,
-    printed: &mut String,
-) -> Result<()>
+fn show_gate(alloc: Global, f: &Formula, gates: &Gates, y: u64, printed: &mut String) -> Result<()>
     requires formula { IsWellFormed f.now }
 {
     if !f.is_existential(y) {
