@@ -1,4 +1,4 @@
-ghost use Rattle.std.specs.Prelude.{◌≡◌, ◌||◌, [], OnOk, IfOk};
+ghost use Rattle.std.specs.Prelude.{◌≡◌, ◌||◌, [], OnOk};
 ghost use Rattle.dq_lits.specs.Literal.{Literal, same_literal};
 ghost use Rattle.dq_lits.specs.Derivation.{holds};
 ghost use Rattle.interpolants.specs.Replay.{AreSame};
@@ -56,15 +56,15 @@ impl LiteralSet {
             self.positives.contains(&l.var())
         }
     }
-}
 
-/// These literals as a set.
-pub(crate) fn set_of(alloc: Global, lits: &[Lit]) -> Result<LiteralSet, Memory>
-    ensures { IfOk result (λ set. AreSame set lits.now) }
-{
-    let mut set = LiteralSet::new(alloc);
-    for l in lits {
-        set.add(*l)?;
+    /// Puts these literals into an empty set.
+    pub(crate) fn fill(&mut self, lits: &[Lit]) -> Result<(), Memory>
+        requires empty { self.old ≡ [] }
+        ensures { OnOk result (AreSame self.new lits.now) }
+    {
+        for l in lits {
+            self.add(*l)?;
+        }
+        Ok(())
     }
-    Ok(set)
 }

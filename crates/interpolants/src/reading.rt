@@ -7,13 +7,13 @@ ghost use Rattle.aig_graph.specs.Made.{Extends};
 ghost use Rattle.interpolants.specs.Interpolant.{partition, AreNodes, SharesAll, IsInterpolant};
 ghost use Rattle.interpolants.specs.Replay.{AreDerived};
 ghost use Rattle.interpolants.specs.Sides.{IsSide};
-ghost use Rattle.interpolants.specs.Splits.{partition_of};
+ghost use Rattle.interpolants.specs.Splits.{divided, partition_of};
 
 use crate::node_maps::{NodeMap, map_of};
 use crate::parts::note_all;
 use crate::shared::with_asked;
 use crate::sides::side_of;
-use crate::splits::Split;
+use crate::splits::{Answer, Split};
 use aig_graph::{Graph, Node};
 use dq_lits::{Lit, Memory};
 use hint_log::Log;
@@ -47,16 +47,62 @@ pub fn from_log(
     ids_stay();
     reached_are_ids();
     let ids = log.trim(id)?;
-    let side = side_of(alloc, log, id, ids.items(), a_side)?;
-    let shared = map_of(alloc, shared)?;
-    let split = Split {
+    let answer = Answer {
         log,
         id,
-        side: &side,
-        shared: &shared,
+        ids: ids.items(),
     };
-    let node = interpolant(alloc, &split, ids.items(), graph)?;
-    Ok(node)
+    by_list(alloc, &answer, a_side, shared, graph)
+}
+
+// The interpolant over the nodes of a list, in which the first one that is listed counts.
+fn by_list(
+    alloc: Global,
+    answer: &Answer,
+    a_side: &[Lit],
+    shared: &[(u64, Node)],
+    graph: &mut Graph,
+) -> Result<Node, Memory>
+    requires id { IsId answer.now.log.now.entries answer.now.id }
+    requires derived { AreDerived answer.now.log.now.entries }
+    requires ids { AreReached answer.now.log.now.entries answer.now.id answer.now.ids.now }
+    requires named { AreNamed answer.now.log.now.entries a_side.now }
+    requires shares { SharesAll (divided answer.now a_side.now shared.now) }
+    requires nodes { AreNodes shared.now graph.old }
+    ensures extends { Extends graph.old graph.new }
+    ensures interpolant { IfOk result
+        (IsInterpolant (divided answer.now a_side.now shared.now) graph.new) }
+{
+    let shared = map_of(alloc, shared)?;
+    by_map(alloc, answer, a_side, &shared, graph)
+}
+
+// The interpolant over the nodes of a map.
+fn by_map(
+    alloc: Global,
+    answer: &Answer,
+    a_side: &[Lit],
+    shared: &NodeMap,
+    graph: &mut Graph,
+) -> Result<Node, Memory>
+    requires id { IsId answer.now.log.now.entries answer.now.id }
+    requires derived { AreDerived answer.now.log.now.entries }
+    requires ids { AreReached answer.now.log.now.entries answer.now.id answer.now.ids.now }
+    requires named { AreNamed answer.now.log.now.entries a_side.now }
+    requires shares { SharesAll (divided answer.now a_side.now shared.now) }
+    requires nodes { AreNodes shared.now graph.old }
+    ensures extends { Extends graph.old graph.new }
+    ensures interpolant { IfOk result
+        (IsInterpolant (divided answer.now a_side.now shared.now) graph.new) }
+{
+    let side = side_of(alloc, answer, a_side)?;
+    let split = Split {
+        log: answer.log,
+        id: answer.id,
+        side: &side,
+        shared,
+    };
+    interpolant(alloc, &split, answer.ids, graph)
 }
 
 // The interpolant, by the partial ones.

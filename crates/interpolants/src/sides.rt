@@ -1,18 +1,20 @@
 //! Which given clauses are on the A side, and which variables stand there.
 
-ghost use Rattle.std.specs.Prelude.{◌≡◌, ◌||◌, ℕ, List, IfOk, OnOk, Some};
+ghost use Rattle.std.specs.Prelude.{◌≡◌, ◌||◌, ℕ, List, [], IfOk, OnOk, Some};
 ghost use Rattle.std.specs.List.{list_any};
 ghost use Rattle.dq_lits.specs.Literal.{Literal, positive, opposite};
 ghost use Rattle.dq_lits.specs.Derivation.{holds};
 ghost use Rattle.hint_log.specs.Conditions.{AreNamed, IsId};
 ghost use Rattle.hint_log.specs.Naming.{is_selector_name};
 ghost use Rattle.hint_log.specs.Reached.{AreReached};
-ghost use Rattle.interpolants.specs.Interpolant.{partition, stands_on};
+ghost use Rattle.interpolants.specs.Interpolant.{stands_on};
 ghost use Rattle.interpolants.specs.Replay.{AreSame};
 ghost use Rattle.interpolants.specs.Sides.{AreSelectors, AreOfA, IsSide};
+ghost use Rattle.interpolants.specs.Splits.{divided};
 ghost use Rattle.aig_graph.specs.declared.nodes.Node.{Node as NodeValue};
 
-use crate::literal_sets::{LiteralSet, set_of};
+use crate::literal_sets::LiteralSet;
+use crate::splits::Answer;
 use dq_lits::{Lit, Memory};
 use hint_log::laws::reached_are_ids;
 use hint_log::{Log, Name};
@@ -33,46 +35,57 @@ pub(crate) fn is_on_side(selectors: &LiteralSet, clause: &[Lit]) -> bool
     clause.iter().any(|l| selectors.has(l.not()))
 }
 
-/// The side of these assumptions, in what the answer of an id reaches.
-pub(crate) fn side_of(
-    alloc: Global,
-    log: &Log,
-    id: u64,
-    ids: &[u64],
-    a_side: &[Lit],
-) -> Result<Side, Memory>
-    requires id { IsId log.now.entries id }
-    requires ids { AreReached log.now.entries id ids.now }
-    requires named { AreNamed log.now.entries a_side.now }
+/// The side of these assumptions, in what an answer reaches.
+pub(crate) fn side_of(alloc: Global, answer: &Answer, a_side: &[Lit]) -> Result<Side, Memory>
+    requires id { IsId answer.now.log.now.entries answer.now.id }
+    requires ids { AreReached answer.now.log.now.entries answer.now.id answer.now.ids.now }
+    requires named { AreNamed answer.now.log.now.entries a_side.now }
     ensures same { IfOk result (λ side. AreSame side.assumed a_side.now) }
     ensures side { IfOk result
         (λ side. (shared : List (ℕ × NodeValue))
-        → IsSide (partition log.now.entries id side.assumed shared) side) }
+        → IsSide (divided answer.now side.assumed shared) side) }
 {
-    let assumed = set_of(alloc, a_side)?;
-    let selectors = selectors_of(alloc, log, a_side)?;
-    let mut variables = LiteralSet::new(alloc);
-    add_variables(&mut variables, a_side)?;
-    add_given(log, id, ids, &selectors, &mut variables)?;
-    Ok(Side {
-        assumed,
-        selectors,
-        variables,
-    })
+    let mut side = Side {
+        assumed: LiteralSet::new(alloc),
+        selectors: LiteralSet::new(alloc),
+        variables: LiteralSet::new(alloc),
+    };
+    side.fill(answer, a_side)?;
+    Ok(side)
 }
 
-// The selectors among these literals.
-fn selectors_of(alloc: Global, log: &Log, lits: &[Lit]) -> Result<LiteralSet, Memory>
-    requires { AreNamed log.now.entries lits.now }
-    ensures { IfOk result (AreSelectors log.now.entries lits.now) }
+impl Side {
+    // Fills an empty side.
+    fn fill(&mut self, answer: &Answer, a_side: &[Lit]) -> Result<(), Memory>
+        requires id { IsId answer.now.log.now.entries answer.now.id }
+        requires ids { AreReached answer.now.log.now.entries answer.now.id answer.now.ids.now }
+        requires named { AreNamed answer.now.log.now.entries a_side.now }
+        requires no_assumed { self.old.assumed ≡ [] }
+        requires no_selectors { self.old.selectors ≡ [] }
+        requires no_variables { self.old.variables ≡ [] }
+        ensures same { OnOk result (AreSame self.new.assumed a_side.now) }
+        ensures side { OnOk result ((shared : List (ℕ × NodeValue))
+            → IsSide (divided answer.now self.new.assumed shared) self.new) }
+    {
+        self.assumed.fill(a_side)?;
+        fill_selectors(&mut self.selectors, answer.log, a_side)?;
+        add_variables(&mut self.variables, a_side)?;
+        add_given(answer, &self.selectors, &mut self.variables)
+    }
+}
+
+// Puts the selectors among these literals into an empty set.
+fn fill_selectors(set: &mut LiteralSet, log: &Log, lits: &[Lit]) -> Result<(), Memory>
+    requires named { AreNamed log.now.entries lits.now }
+    requires empty { set.old ≡ [] }
+    ensures { OnOk result (AreSelectors log.now.entries lits.now set.new) }
 {
-    let mut set = LiteralSet::new(alloc);
     for l in lits {
         if is_selector(log.name(l.var())) {
             set.add(*l)?;
         }
     }
-    Ok(set)
+    Ok(())
 }
 
 fn is_selector(name: Name) -> bool
@@ -97,22 +110,21 @@ fn add_variables(set: &mut LiteralSet, lits: &[Lit]) -> Result<(), Memory>
 
 // Adds the variables of the given clauses on the side with these selectors.
 fn add_given(
-    log: &Log,
-    id: u64,
-    ids: &[u64],
+    answer: &Answer,
     selectors: &LiteralSet,
     variables: &mut LiteralSet,
 ) -> Result<(), Memory>
-    requires id { IsId log.now.entries id }
-    requires ids { AreReached log.now.entries id ids.now }
+    requires id { IsId answer.now.log.now.entries answer.now.id }
+    requires ids { AreReached answer.now.log.now.entries answer.now.id answer.now.ids.now }
     ensures { OnOk result ((assumed : List Literal) (shared : List (ℕ × NodeValue))
-        → AreSelectors log.now.entries assumed selectors.now
+        → AreSelectors answer.now.log.now.entries assumed selectors.now
         → ((v : ℕ) → holds variables.old (positive v) ≡ stands_on assumed v)
-        → AreOfA (partition log.now.entries id assumed shared) variables.new) }
+        → AreOfA (divided answer.now assumed shared) variables.new) }
 {
+    let log = answer.log;
     log.every_log_is_lawful();
     reached_are_ids();
-    for at in ids {
+    for at in answer.ids {
         if log.origin(*at).is_some() {
             let clause = log.clause(*at);
             if is_on_side(selectors, clause) {

@@ -1,27 +1,28 @@
 use Rattle.std.proofs.Common.{◌≡◌, ◌+◌, true≢false, take, get_or, sym, ◌∙◌, ap, subst}
 use Rattle.hint_log.specs.Entries.{origin_at}
-use Rattle.interpolants.specs.Interpolant.{partition, is_on_a, IsReachedGiven}
+use Rattle.interpolants.specs.Interpolant.{is_on_a, IsReachedGiven}
 use Rattle.interpolants.specs.Sides.{AreOfSome}
+use Rattle.interpolants.specs.Splits.{divided}
 use Rattle.interpolants.proofs.Sided.{contains_place, some_more, some_past, some_all, some_first, on_a_by_selectors, is_given, given_is, some_is}
 use Rattle.interpolants.proofs.sides.add_given.Goals as goal
 use Rattle.interpolants.proofs.sides.add_given.Goals.{then-is_some+then-is_on_side+in_ok-add_variables, then-is_some+else-is_on_side, else-is_some}
 
 pub origin-requires : goal.origin-requires
 origin-requires c =
-    let ids = c.args.ids.now in
-    c.reached_are_ids.ensures c.args.log.now.entries c.args.id (get_or ids c.loop-at.at-index 0) c.every_log_is_lawful.ensures c.requires.id
+    let ids = c.args.answer.now.ids.now in
+    c.reached_are_ids.ensures c.args.answer.now.log.now.entries c.args.answer.now.id (get_or ids c.loop-at.at-index 0) c.every_log_is_lawful.ensures c.requires.id
     (c.requires.ids.sound (get_or ids c.loop-at.at-index 0) (contains_place ids c.loop-at.at-index c.loop-at-test.true))
 
 pub clause-clause-requires : goal.clause-clause-requires
 clause-clause-requires c =
-    let ids = c.args.ids.now in
-    c.reached_are_ids.ensures c.args.log.now.entries c.args.id (get_or ids c.loop-at.at-index 0) c.every_log_is_lawful.ensures c.requires.id
+    let ids = c.args.answer.now.ids.now in
+    c.reached_are_ids.ensures c.args.answer.now.log.now.entries c.args.answer.now.id (get_or ids c.loop-at.at-index 0) c.every_log_is_lawful.ensures c.requires.id
     (c.requires.ids.sound (get_or ids c.loop-at.at-index 0) (contains_place ids c.loop-at.at-index c.loop-at-test.true))
 
 pub loop-at-preserved : goal.loop-at-preserved
 loop-at-preserved c = λ assumed shared selectors first.
-    let q = partition c.args.log.now.entries c.args.id assumed shared in
-    let ids = c.args.ids.now in
+    let q = divided c.args.answer.now assumed shared in
+    let ids = c.args.answer.now.ids.now in
     let i = c.loop-at.at-index in
     let at = get_or ids i 0 in
     let before = c.loop-at.invariant assumed shared selectors first in
@@ -46,8 +47,8 @@ loop-at-preserved c = λ assumed shared selectors first.
 
 pub returns : goal.returns
 returns c = λ assumed shared selectors first.
-    some_all (partition c.args.log.now.entries c.args.id assumed shared) c.args.ids.now c.loop-at.at-index c.loop-at.variables c.requires.ids c.loop-at-test.false
+    some_all (divided c.args.answer.now assumed shared) c.args.answer.now.ids.now c.loop-at.at-index c.loop-at.variables c.requires.ids c.loop-at-test.false
     (c.loop-at.invariant assumed shared selectors first)
 
 pub loop-at-init : goal.loop-at-init
-loop-at-init c = λ assumed shared selectors first. some_first (partition c.args.log.now.entries c.args.id assumed shared) c.args.variables.now first
+loop-at-init c = λ assumed shared selectors first. some_first (divided c.args.answer.now assumed shared) c.args.variables.now first

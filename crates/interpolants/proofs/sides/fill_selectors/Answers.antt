@@ -2,8 +2,8 @@ use Rattle.std.proofs.Common.{take, ◌+◌, sym, ◌∙◌, ap, subst}
 use Rattle.hint_log.specs.Naming.{is_selector, is_selector_name}
 use Rattle.interpolants.specs.Sides.{AreSelectors}
 use Rattle.interpolants.proofs.Sets.{selector_more, selector_past}
-use Rattle.interpolants.proofs.sides.selectors_of.Goals as goal
-use Rattle.interpolants.proofs.sides.selectors_of.Goals.{then-is_selector+in_ok-add, else-is_selector}
+use Rattle.interpolants.proofs.sides.fill_selectors.Goals as goal
+use Rattle.interpolants.proofs.sides.fill_selectors.Goals.{then-is_selector+in_ok-add, else-is_selector}
 
 pub loop-l-preserved : goal.loop-l-preserved
 loop-l-preserved c =
