@@ -4,6 +4,7 @@
 //! bytes go where, for objects that tell, and that each failure has a counted fault behind it.
 //! `read_all`, `feed_all` and `write_all` do the loops. `MemFiles` and `MemSink` fail at given calls,
 //! `NeverFailFiles` and `NeverFailSink` never do, and `RealFiles` and `RealSink` are the system's.
+//! `command_words` gives the words that a program was started by.
 #![tactic(auto)]
 
 pub use errors::{Failed, FeedStop, ReadStop, SinkFault};
@@ -15,6 +16,7 @@ pub use never_fail::{NeverFailFiles, NeverFailSink};
 pub use reading::read_all;
 pub use real::{RealFiles, RealSink};
 pub use sinks::Sink;
+pub use words::command_words;
 pub use writing::write_all;
 
 mod errors;
@@ -28,4 +30,5 @@ mod reading;
 mod real;
 mod sinks;
 mod store;
+mod words;
 mod writing;

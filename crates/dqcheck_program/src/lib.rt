@@ -4,25 +4,20 @@
 //! Each program that is the checker is one call of `run`.
 #![tactic(auto)]
 
-use dq_io::{RealFiles, RealSink};
+use dq_io::{RealFiles, RealSink, command_words};
 use dqcheck_core::{Status, dqcheck_run};
+use std::io;
 use std::process::ExitCode;
-use std::{env, io};
 
 /// Judges the certificate that the command line names, writes one line, and answers the status to
 /// end with.
 pub fn run(rt: &HostRuntime) -> ExitCode {
     let mut files = RealFiles::new(rt);
     let mut out = RealSink::new(rt);
-    let status = match words(rt) {
+    let status = match command_words(rt) {
         Ok(words) => dqcheck_run(rt.alloc(), &words, &mut files, &mut out),
         Err(error) if error.kind() == io::ErrorKind::OutOfMemory => Status::WantOfMemory.code(),
         Err(_) => dqcheck_run(rt.alloc(), &[], &mut files, &mut out),
     };
     ExitCode::from(status)
-}
-
-// The words of the command line, the program's name first.
-fn words(rt: &HostRuntime) -> io::Result<Vec<String>> {
-    Ok(env::args(rt)?.collect(rt.alloc())?)
 }

@@ -4,11 +4,11 @@
 //! Each program that is the solver is one call of `run`.
 #![tactic(auto)]
 
-use dq_io::{RealFiles, RealSink};
+use dq_io::{RealFiles, RealSink, command_words};
 use dqsolve_core::{Status, dqsolve_run};
 use hint_log::Log;
+use std::io;
 use std::process::ExitCode;
-use std::{env, io};
 
 /// Decides the formula that the command line names, or plants one and decides it, writes what came
 /// of it, and answers the status to end with.
@@ -16,15 +16,10 @@ pub fn run(rt: &HostRuntime) -> ExitCode {
     let mut files = RealFiles::new(rt);
     let mut out = RealSink::new(rt);
     let mut log = Log::new(rt.alloc(), 0);
-    let status = match words(rt) {
+    let status = match command_words(rt) {
         Ok(words) => dqsolve_run(rt.alloc(), &words, &mut files, &mut out, &mut log),
         Err(error) if error.kind() == io::ErrorKind::OutOfMemory => Status::WantOfMemory.code(),
         Err(_) => dqsolve_run(rt.alloc(), &[], &mut files, &mut out, &mut log),
     };
     ExitCode::from(status)
-}
-
-// The words of the command line, the program's name first.
-fn words(rt: &HostRuntime) -> io::Result<Vec<String>> {
-    Ok(env::args(rt)?.collect(rt.alloc())?)
 }
