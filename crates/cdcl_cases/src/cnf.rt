@@ -27,7 +27,19 @@ pub fn answer(alloc: Global, text: &[u8], limit: u64) -> Result<String> {
 fn answer_formula(alloc: Global, formula: &Formula, limit: u64) -> Result<String> {
     let mut oracle = Cdcl::new(alloc);
     let mut log = Log::new(alloc, limit);
-    let found = found_for(alloc, &mut oracle, &mut log, formula)?;
+    answer_by(alloc, &mut oracle, &mut log, formula)
+}
+
+fn answer_by<O: Oracle>(
+    alloc: Global,
+    oracle: &mut O,
+    log: &mut Log,
+    formula: &Formula,
+) -> Result<String>
+    requires fit { O.Fits oracle.old log.old }
+    requires empty { log.old.entries ≡ [] }
+{
+    let found = found_for(alloc, oracle, log, formula)?;
     written(alloc, &found, log.steps())
 }
 
