@@ -63,7 +63,8 @@ def random_formula(choose):
     universals, existentials = variables[:universal_count], variables[universal_count:declared]
     largest = max(variables, default=0) + choose.randrange(2)
     undeclared = variables[declared:] if chance(choose, 0.15) else []
-    clauses = random_clauses(choose, [*universals[:3], *existentials, *undeclared])
+    used = [*universals[:3], *existentials, *undeclared]
+    clauses = with_xor_lines(choose, random_clauses(choose, used), used)
     return text_of([["p", "cnf", largest, len(clauses)], *prefix(choose, universals, existentials), *clauses])
 
 
@@ -95,6 +96,15 @@ def random_clauses(choose, variables):
     if not variables:
         sizes = [0] * len(sizes)
     return [[*(either_sign(choose, choose.choice(variables)) for _ in range(size)), 0] for size in sizes]
+
+
+def with_xor_lines(choose, clauses, variables):
+    """The clauses, sometimes with XOR lines among them."""
+    for _ in range(choose.choices((0, 1, 2), (7, 2, 1))[0] if variables else 0):
+        chosen = choose.sample(variables, choose.randrange(1, min(len(variables), reference.LARGEST_XOR) + 1))
+        line = ["x", *(either_sign(choose, variable) for variable in chosen), 0]
+        clauses.insert(choose.randrange(len(clauses) + 1), line)
+    return clauses
 
 
 def loosened(choose, text):

@@ -13,6 +13,7 @@ from typing import NamedTuple
 TOO_BIG = 10**18
 MOST_VARIABLES = 1_000_000
 MOST_CLAUSES = 10_000_000
+LARGEST_XOR = 5
 LARGEST_COUNT = 1_000_000_000
 MOST_UNIVERSALS_BY_ROWS = 20
 STATUSES = {"VALID": 0, "refused": 2, "certificate": 7, "INVALID": 8, "UNPROVED": 9}
@@ -108,7 +109,7 @@ class FormulaReader:
         self.take_header()
         while self.taken < len(self.tokens):
             self.take_part()
-        if len(self.formula.clauses) < self.clause_count:
+        if self.constraint_count < self.header_count:
             raise Fault(self.last_line, "TooFewClauses")
         self.add_undeclared()
         return self.formula
@@ -135,7 +136,8 @@ class FormulaReader:
             self.take("NoHeader")
             self.check(self.token == word, "NoHeader")
         self.formula = Formula(self.take_count(MOST_VARIABLES))
-        self.clause_count = self.take_count(MOST_CLAUSES)
+        self.header_count = self.take_count(MOST_CLAUSES)
+        self.constraint_count = 0
 
     def take_count(self, limit):
         self.take("NoHeader")
@@ -144,15 +146,20 @@ class FormulaReader:
         return count
 
     def take_part(self):
-        """A set, an item or a clause."""
+        """A set, an item, a clause or an XOR line."""
         self.take("MissingZero")
         self.check(self.token != b"p", "HeaderTwice")
         takers = {b"a": self.take_universals, b"e": self.take_existentials, b"d": self.take_item}
         if self.token in takers:
-            self.check(not self.formula.clauses, "PrefixLate")
+            self.check(self.constraint_count == 0, "PrefixLate")
             takers[self.token]()
+        elif self.token == b"x":
+            self.count_constraint()
+            self.take_xor()
         else:
-            self.take_clause()
+            literal = self.value(number)
+            self.count_constraint()
+            self.take_clause(literal)
 
     def take_in_prefix(self):
         self.take("MissingZero")
@@ -187,17 +194,36 @@ class FormulaReader:
             self.check(universal in self.formula.universals, "NotUniversal")
             seen.add(universal)
 
-    def take_clause(self):
-        """The clause whose first token was taken."""
-        literal = self.value(number)
-        self.check(len(self.formula.clauses) < self.clause_count, "TooManyClauses")
+    def count_constraint(self):
+        """One more clause or XOR line begins."""
+        self.check(self.constraint_count < self.header_count, "TooManyClauses")
+        self.constraint_count += 1
+
+    def take_clause(self, literal):
+        """The clause that begins with this literal, or with its zero."""
         clause = []
         while literal:
             self.check_range(literal)
             if literal not in clause:
                 clause.append(literal)
             literal = self.take_in_clause()
-        self.formula.clauses.append(clause)
+        self.add_clauses([clause])
+
+    def take_xor(self):
+        """The XOR line whose letter was taken, as its clauses: an even number of its literals is negated."""
+        literals = []
+        while literal := self.take_in_clause():
+            self.check_range(literal)
+            self.check(len(literals) < LARGEST_XOR, "XorSize")
+            self.check(literal not in literals and -literal not in literals, "XorRepeat")
+            literals.append(literal)
+        self.check(literals, "XorSize")
+        masks = (mask for mask in range(2 ** len(literals)) if mask.bit_count() % 2 == 0)
+        self.add_clauses([[-literal if mask >> i & 1 else literal for i, literal in enumerate(literals)] for mask in masks])
+
+    def add_clauses(self, clauses):
+        self.check(len(self.formula.clauses) + len(clauses) <= MOST_CLAUSES, "Limit")
+        self.formula.clauses.extend(clauses)
 
     def take_in_clause(self):
         self.take("MissingZero")

@@ -39,6 +39,7 @@ def number(token):
 # The checker refuses what is over these.
 MOST_VARIABLES = 1_000_000
 MOST_CLAUSES = 10_000_000
+LARGEST_XOR = 5
 LARGEST_COUNT = 1_000_000_000
 
 
@@ -87,13 +88,17 @@ class FormulaReader:
         words = [self.take(), self.take()]
         self.place.check(words == [b"p", b"cnf"], "no header `p cnf V C` stands here")
         self.formula = Formula(self.count(MOST_VARIABLES))
-        clause_count = self.count(MOST_CLAUSES)
+        stated = self.count(MOST_CLAUSES)
+        found = 0
         takers = {b"a": self.take_universals, b"e": self.take_existentials, b"d": self.take_item}
         while token := self.take_any():
-            self.place.check(token not in takers or not self.formula.clauses, "a set or an item behind a clause")
-            takers.get(token, self.take_clause)(token)
-        found = len(self.formula.clauses)
-        self.place.check(found == clause_count, f"{found} clauses, and the header says {clause_count}")
+            if token in takers:
+                self.place.check(found == 0, "a set or an item behind a clause or an XOR line")
+                takers[token](token)
+            else:
+                found += 1
+                (self.take_xor if token == b"x" else self.take_clause)(token)
+        self.place.check(found == stated, f"{found} clauses and XOR lines, and the header says {stated}")
         self.add_undeclared()
         return self.formula
 
@@ -154,7 +159,22 @@ class FormulaReader:
         while literal := self.literal(token):
             clause[literal] = True
             token = self.take()
-        self.formula.clauses.append(list(clause))
+        self.add_clauses([list(clause)])
+
+    def take_xor(self, _letter):
+        """An XOR line, as its clauses: those in which an even number of its literals is negated."""
+        literals = []
+        while literal := self.literal(self.take()):
+            repeated = literal in literals or -literal in literals
+            self.place.check(not repeated, f"{abs(literal)} stands twice in an XOR line")
+            literals.append(literal)
+        self.place.check(1 <= len(literals) <= LARGEST_XOR, f"an XOR line of {len(literals)} literals")
+        masks = (mask for mask in range(2 ** len(literals)) if mask.bit_count() % 2 == 0)
+        self.add_clauses([[-literal if mask >> i & 1 else literal for i, literal in enumerate(literals)] for mask in masks])
+
+    def add_clauses(self, clauses):
+        self.formula.clauses.extend(clauses)
+        self.place.check(len(self.formula.clauses) <= MOST_CLAUSES, "too many clauses")
 
     def literal(self, token):
         value = number(token)

@@ -4,7 +4,7 @@ use Rattle.std.specs.Fmt.{decimal}
 use Rattle.dq_lits.specs.Formula.{Dqbf}
 use Rattle.dqdimacs_reader.specs.Machine.{TextFault}
 use Rattle.dqdimacs_reader.specs.declared.faults.FormulaFault.{FormulaFault}
-use Rattle.dqdimacs_reader.specs.declared.faults.FormulaFault.TheVariants.{NoHeader, BadNumber, TooBig, VarRange, DeclaredTwice, NotUniversal, EmptyD, PrefixLate, HeaderTwice, TooFewClauses, TooManyClauses, MissingZero, Limit}
+use Rattle.dqdimacs_reader.specs.declared.faults.FormulaFault.TheVariants.{NoHeader, BadNumber, TooBig, VarRange, DeclaredTwice, NotUniversal, EmptyD, PrefixLate, HeaderTwice, TooFewClauses, TooManyClauses, MissingZero, Limit, XorRepeat, XorSize}
 use Rattle.dqcheck_core.specs.CertificateNames.{certificate_fault_name}
 use Rattle.dqcheck_core.specs.declared.answers.Answer.{Answer}
 use Rattle.dqcheck_core.specs.declared.answers.Answer.TheVariants.{Refused, UndeclaredRead, BadRow, Unproved, UnderivedStep, NoEmptyClause, ValidTrue, ValidFalse}
@@ -37,6 +37,8 @@ formula_fault_name TooFewClauses = codes "TooFewClauses"
 formula_fault_name TooManyClauses = codes "TooManyClauses"
 formula_fault_name MissingZero = codes "MissingZero"
 formula_fault_name Limit = codes "Limit"
+formula_fault_name XorRepeat = codes "XorRepeat"
+formula_fault_name XorSize = codes "XorSize"
 
 -- a word, the number of a line, and the name of its fault
 abbrev pub fault_text : List ℕ → ℕ → List ℕ → List ℕ

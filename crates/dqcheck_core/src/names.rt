@@ -27,6 +27,8 @@ pub fn formula_fault_name(fault: FormulaFault) -> &'static str
         FormulaFault::TooManyClauses => "TooManyClauses",
         FormulaFault::MissingZero => "MissingZero",
         FormulaFault::Limit => "Limit",
+        FormulaFault::XorRepeat => "XorRepeat",
+        FormulaFault::XorSize => "XorSize",
     }
 }
 

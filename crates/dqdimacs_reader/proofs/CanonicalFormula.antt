@@ -1,7 +1,8 @@
 -- A formula that some text may spell is spelled by its canonical text.
 use Rattle.std.proofs.Common.{◌≡◌, ◌≢◌, ℕ, zero, suc, ◌^◌, ◌==◌, ◌<◌, ◌≤◌, ◌||◌, ◌&&◌, Bool, true, false, not, true≢false, if◌then◌else◌, List, [], ◌∷◌, ◌++◌, map, length, get_or, refl, sym, ◌∙◌, ap, subst, arith, append_assoc, append-nil, length-append, Contains, inl, inr}
-use Rattle.std.specs.List.{All, AllPairs, AllByRecursion, list_any, filter, fold, range_with_len}
+use Rattle.std.specs.List.{All, AllPairs, AllByRecursion, list_any, filter, flat_map, fold, range_with_len}
 use Rattle.std.proofs.lemmas.Bool.{cases_Bool, ne_eqb, eqb-true, eq-eqb}
+use Rattle.std.proofs.lemmas.List.{length-map}
 use Rattle.std.proofs.lemmas.List.Elements.{All-contains}
 use Rattle.dq_lits.specs.Literal.{Literal, positive, negative, variable_of, same_literal}
 use Rattle.dq_lits.specs.Formula.{Existential, Dqbf, declared}
@@ -9,7 +10,7 @@ use Rattle.dq_formula.specs.Dependencies.{listed_universals}
 use Rattle.dq_formula.specs.Prefix.{is_declared, occurs, free_variables, unseeing}
 use Rattle.dqdimacs_reader.specs.Building.{empty_formula, add_literal, add_clause, with_free}
 use Rattle.dqdimacs_reader.specs.Canonical.{canonical}
-use Rattle.dqdimacs_reader.specs.Grammar.{SpellsFormula, add_spelled, declare, InRange}
+use Rattle.dqdimacs_reader.specs.Grammar.{SpellsFormula, plain, InRange, AreLawfulConstraints, declare, add_constraint, clause_lexemes, constraint_lexemes, header, part_lexemes}
 use Rattle.dqdimacs_reader.specs.Reading.{IsSpellable}
 use Rattle.dqdimacs_reader.proofs.CanonicalWords.{HasSmallNumbers, IsNumbered, IsSmall, parts_of, canonical_lexemes}
 use Rattle.dqdimacs_reader.proofs.CanonicalParts.{IsVariable, IsKnown, IsDeclarable, variable, prefix, all_lawful, all_declared}
@@ -60,12 +61,20 @@ added done (l ∷ rest) pairs =
     ∙ append_assoc done (l ∷ []) rest
 
 clauses_added : (f : Dqbf) (clauses : List (List Literal)) → AllByRecursion AreDifferent clauses →
-    fold add_spelled f clauses ≡ record f { matrix = f.matrix ++ clauses }
+    fold add_constraint f (map plain clauses) ≡ record f { matrix = f.matrix ++ clauses }
 clauses_added f [] are = ap (λ matrix. record f { matrix = matrix }) (sym (append-nil f.matrix))
 clauses_added f (ls ∷ clauses) are =
-    ap (λ clause. fold add_spelled (add_clause f clause) clauses) (added [] ls are.0)
+    ap (λ clause. fold add_constraint (add_clause f clause) (map plain clauses)) (added [] ls are.0)
     ∙ clauses_added (add_clause f ls) clauses are.1
     ∙ ap (λ matrix. record f { matrix = matrix }) (append_assoc f.matrix (ls ∷ []) clauses)
+
+plain_lexemes : (clauses : List (List Literal)) → flat_map constraint_lexemes (map plain clauses) ≡ flat_map clause_lexemes clauses
+plain_lexemes [] = refl
+plain_lexemes (ls ∷ clauses) = ap (λ zs. clause_lexemes ls ++ zs) (plain_lexemes clauses)
+
+plain_lawful : (variables : ℕ) (clauses : List (List Literal)) → AllByRecursion (AllByRecursion (InRange variables)) clauses → AreLawfulConstraints variables (map plain clauses)
+plain_lawful variables [] are = tt
+plain_lawful variables (ls ∷ clauses) are = (are.0, plain_lawful variables clauses are.1)
 
 -- a formula whose literals stand on declared variables has no free ones
 contains_any : (xs : List ℕ) (v : ℕ) → Contains xs v → list_any (λ x. x == v) xs ≡ true
@@ -227,9 +236,9 @@ module _ (f : Dqbf) (is : IsSpellable f) where
       }
 
   -- what the canonical text's parts and clauses make up
-  made_up : with_free (fold add_spelled (fold declare (empty_formula f.variables) (parts_of f)) f.matrix) ≡ f
+  made_up : with_free (fold add_constraint (fold declare (empty_formula f.variables) (parts_of f)) (map plain f.matrix)) ≡ f
   made_up =
-      ap (λ g. with_free (fold add_spelled g f.matrix)) (all_declared f.variables f.universals f.existentials are_declarable)
+      ap (λ g. with_free (fold add_constraint g (map plain f.matrix))) (all_declared f.variables f.universals f.existentials are_declarable)
       ∙ ap with_free (clauses_added (prefix f.variables f.universals f.existentials) f.matrix different)
       ∙ ap (λ vs. record f { existentials = f.existentials ++ map unseeing vs }) (none_free f bound)
       ∙ ap (λ es. record f { existentials = es }) (append-nil f.existentials)
@@ -237,11 +246,14 @@ module _ (f : Dqbf) (is : IsSpellable f) where
   pub canonical_spells : SpellsFormula (canonical f) f
   canonical_spells = record {
     parts = parts_of f;
-    clauses = f.matrix;
-    spelling = canonical_lexemes f small;
+    constraints = map plain f.matrix;
+    spelling = canonical_lexemes f small
+        ∙ ap (λ n. header f.variables n ++ (flat_map part_lexemes (parts_of f) ++ flat_map clause_lexemes f.matrix)) (sym (length-map f.matrix plain))
+        ∙ ap (λ zs. header f.variables (length (map plain f.matrix)) ++ (flat_map part_lexemes (parts_of f) ++ zs)) (sym (plain_lexemes f.matrix));
     few_variables = is.lawful.few_variables;
+    few_constraints = omega (arith, is.lawful.few_clauses, length-map f.matrix plain);
     few_clauses = is.lawful.few_clauses;
-    lawful = all_lawful f.variables f.universals f.existentials universals_in_range are_declarable is.lawful.prefix.declared_once;
-    in_range = literals_in_range;
+    lawful_parts = all_lawful f.variables f.universals f.existentials universals_in_range are_declarable is.lawful.prefix.declared_once;
+    lawful_constraints = plain_lawful f.variables f.matrix literals_in_range;
     formula = sym made_up;
   }

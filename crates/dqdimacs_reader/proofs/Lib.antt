@@ -5,6 +5,8 @@ mod SpelledClauses
 mod SpelledIsRead
 mod ExistentialPlaces
 mod Words
+mod XorLines
+mod XorSteps
 mod NumberWords
 mod CanonicalWords
 mod CanonicalParts

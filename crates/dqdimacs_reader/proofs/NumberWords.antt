@@ -8,27 +8,28 @@ use Rattle.dq_text.specs.Number.{number_of}
 use Rattle.dq_text.specs.declared.numbers.Number.TheVariants.{Int}
 use Rattle.dqdimacs_reader.specs.Lexeme.{lexeme_of, number_lexeme}
 use Rattle.dqdimacs_reader.specs.declared.lexemes.Lexeme.{Lexeme}
-use Rattle.dqdimacs_reader.specs.declared.lexemes.Lexeme.TheVariants.{P as LetterP, Cnf, A, D, E, Natural, Negative}
+use Rattle.dqdimacs_reader.specs.declared.lexemes.Lexeme.TheVariants.{P as LetterP, Cnf, A, D, E, X, Natural, Negative}
 
 other_word : (d w : ℕ) (ds ws : List ℕ) → d ≢ w → bytes_eq (d ∷ ds) (w ∷ ws) ≡ false
 other_word d w ds ws differs = ap (λ b. b && bytes_eq ds ws) (ne_eqb d w differs)
 
 -- a word that begins with another byte than the letters is what it is as a number
-abbrev pub behind_letters : Bool → Bool → Bool → Bool → Bool → Lexeme → Lexeme
-behind_letters p c a d e rest = if p then LetterP else if c then Cnf else if a then A else if d then D else if e then E else rest
+abbrev pub behind_letters : Bool → Bool → Bool → Bool → Bool → Bool → Lexeme → Lexeme
+behind_letters p c a d e x rest = if p then LetterP else if c then Cnf else if a then A else if d then D else if e then E else if x then X else rest
 
-no_letter : (p c a d e : Bool) (rest : Lexeme) → p ≡ false → c ≡ false → a ≡ false → d ≡ false → e ≡ false → behind_letters p c a d e rest ≡ rest
-no_letter p c a d e rest hp hc ha hd he =
-    ap (λ x. behind_letters x c a d e rest) hp ∙ ap (λ x. behind_letters false x a d e rest) hc
-    ∙ ap (λ x. behind_letters false false x d e rest) ha ∙ ap (λ x. behind_letters false false false x e rest) hd
-    ∙ ap (λ x. behind_letters false false false false x rest) he
+no_letter : (p c a d e x : Bool) (rest : Lexeme) → p ≡ false → c ≡ false → a ≡ false → d ≡ false → e ≡ false → x ≡ false → behind_letters p c a d e x rest ≡ rest
+no_letter p c a d e x rest hp hc ha hd he hx =
+    ap (λ b. behind_letters b c a d e x rest) hp ∙ ap (λ b. behind_letters false b a d e x rest) hc
+    ∙ ap (λ b. behind_letters false false b d e x rest) ha ∙ ap (λ b. behind_letters false false false b e x rest) hd
+    ∙ ap (λ b. behind_letters false false false false b x rest) he ∙ ap (λ b. behind_letters false false false false false b rest) hx
 
 number_first : (d : ℕ) (ds : List ℕ) → d < 97 → lexeme_of (d ∷ ds) ≡ number_lexeme (d == 45) (number_of (d ∷ ds))
 number_first d ds small =
     no_letter (bytes_eq (d ∷ ds) (112 ∷ [])) (bytes_eq (d ∷ ds) (99 ∷ 110 ∷ 102 ∷ [])) (bytes_eq (d ∷ ds) (97 ∷ []))
-    (bytes_eq (d ∷ ds) (100 ∷ [])) (bytes_eq (d ∷ ds) (101 ∷ [])) (number_lexeme (d == 45) (number_of (d ∷ ds)))
+    (bytes_eq (d ∷ ds) (100 ∷ [])) (bytes_eq (d ∷ ds) (101 ∷ [])) (bytes_eq (d ∷ ds) (120 ∷ [])) (number_lexeme (d == 45) (number_of (d ∷ ds)))
     (other_word d 112 ds [] (λ h. omega arith)) (other_word d 99 ds (110 ∷ 102 ∷ []) (λ h. omega arith))
     (other_word d 97 ds [] (λ h. omega arith)) (other_word d 100 ds [] (λ h. omega arith)) (other_word d 101 ds [] (λ h. omega arith))
+    (other_word d 120 ds [] (λ h. omega arith))
 
 digits_lexeme : (ds : List ℕ) (n : ℕ) → 0 < length ds → AreDigits ds → number_of ds ≡ Int (pos n) → lexeme_of ds ≡ Natural n
 digits_lexeme [] n some are is = absurd (omega (arith, some))

@@ -1,8 +1,8 @@
 -- The clauses of a spelled formula are bound and distinct.
 use Rattle.std.proofs.Common.{◌≡◌, ◌≢◌, ℕ, zero, suc, ◌||◌, ◌+◌, ◌<◌, ◌≤◌, ◌==◌, Bool, true, false, not, cond, ◌&&◌, inl, inr, List, [], ◌∷◌, ◌++◌, map, length, get_or, refl, sym, ◌∙◌, ap, arith, append_assoc, subst}
-use Rattle.std.specs.List.{All, AllPairs, AllByRecursion, Contains, fold, filter, list_any, range_with_len}
+use Rattle.std.specs.List.{All, AllPairs, AllByRecursion, Contains, flat_map, fold, filter, list_any, range_with_len}
 use Rattle.std.proofs.lemmas.Bool.{cases_Bool, cases_eq, ne_eqb, or_left, or_right, eqb-true, eq-eqb, and_from, true≢false}
-use Rattle.std.proofs.lemmas.List.Elements.{All-nil, All-push, All-weaker, All-map, All-from_recursion}
+use Rattle.std.proofs.lemmas.List.Elements.{All-nil, All-push, All-append, All-weaker, All-from_recursion}
 use Rattle.std.proofs.lemmas.List.{append-nil, map-append}
 use Rattle.std.proofs.lemmas.List.Folds.{list_any_at, list_any-append}
 use Rattle.std.proofs.lemmas.List.Quantifiers.{all_pairs_push}
@@ -10,10 +10,12 @@ use Rattle.std.proofs.lemmas.Map.Views.{Contains-from_any}
 use Rattle.dq_lits.specs.Literal.{Literal, positive, negative, variable_of, same_literal}
 use Rattle.dq_lits.specs.Formula.{Dqbf, declared}
 use Rattle.dq_formula.specs.Prefix.{is_declared, free_variables, unseeing, occurs}
-use Rattle.dqdimacs_reader.specs.Building.{empty_formula, add_literal, distinct, with_free}
-use Rattle.dqdimacs_reader.specs.Grammar.{declare, add_spelled, InRange, AllInRange, SpellsFormula}
+use Rattle.dqdimacs_reader.specs.Building.{empty_formula, add_literal, with_free}
+use Rattle.dqdimacs_reader.specs.Grammar.{Constraint, plain, xor, declare, InRange, IsLawfulConstraint, AreLawfulConstraints, add_constraint, SpellsFormula}
 use Rattle.dqdimacs_reader.specs.Reading.{HasDistinctClauses}
-use Rattle.dqdimacs_reader.proofs.SpelledIsRead.{declares-keep}
+use Rattle.dq_formula.specs.Xor.{xor_clauses}
+use Rattle.dqdimacs_reader.proofs.SpelledIsRead.{declares-keep, clauses_of, with_clauses, constraint_keeps_variables}
+use Rattle.dqdimacs_reader.proofs.XorLines.{variables, xor_over, same_range, same_apart}
 
 same_literal-refl : (l : Literal) → same_literal l l ≡ true
 same_literal-refl (positive v) = eq-eqb v v refl
@@ -46,21 +48,56 @@ fold-in_range variables (l ∷ ls) clause before range =
     (λ absent. All-push (InRange variables) clause l before range.0) before)
     range.1
 
-matrix-spelled : (clauses : List (List Literal)) (g : Dqbf) → (fold add_spelled g clauses).matrix ≡ g.matrix ++ map distinct clauses
+matrix-spelled : (constraints : List Constraint) (g : Dqbf) → (fold add_constraint g constraints).matrix ≡ g.matrix ++ flat_map clauses_of constraints
 matrix-spelled [] g = sym (append-nil g.matrix)
-matrix-spelled (c ∷ cs) g = matrix-spelled cs (add_spelled g c) ∙ append_assoc g.matrix (distinct c ∷ []) (map distinct cs)
+matrix-spelled (c ∷ cs) g =
+    matrix-spelled cs (add_constraint g c)
+    ∙ ap (λ m. m ++ flat_map clauses_of cs) (with_clauses g c)
+    ∙ append_assoc g.matrix (clauses_of c) (flat_map clauses_of cs)
 
 -- the matrix of a spelled formula
-spelled_matrix : (text : List ℕ) (f : Dqbf) (s : SpellsFormula text f) → f.matrix ≡ map distinct s.clauses
+spelled_matrix : (text : List ℕ) (f : Dqbf) (s : SpellsFormula text f) → f.matrix ≡ flat_map clauses_of s.constraints
 spelled_matrix text f s =
     ap (λ (g : Dqbf). g.matrix) s.formula
-    ∙ matrix-spelled s.clauses (fold declare (empty_formula f.variables) s.parts)
-    ∙ ap (λ m. m ++ map distinct s.clauses) (declares-keep s.parts (empty_formula f.variables)).matrix
+    ∙ matrix-spelled s.constraints (fold declare (empty_formula f.variables) s.parts)
+    ∙ ap (λ m. m ++ flat_map clauses_of s.constraints) (declares-keep s.parts (empty_formula f.variables)).matrix
+
+-- a clause of a lawful text
+record IsLawfulClause (n : ℕ) (c : List Literal) : Type 0 where
+  in_range : All (InRange n) c
+  distinct : AllPairs (λ k l. k ≢ l) c
+
+no_pairs : AllPairs {X = Literal} (λ k l. k ≢ l) []
+no_pairs i j d before below = absurd (omega (arith, below))
+
+over_line : (n : ℕ) (literals : List Literal) → IsLawfulConstraint n (xor literals) → (clauses : List (List Literal)) →
+    AllByRecursion (λ c. variables c ≡ variables literals) clauses → AllByRecursion (IsLawfulClause n) clauses
+over_line n literals lawful [] over = tt
+over_line n literals lawful (c ∷ cs) over = (
+  record {
+    in_range = All-from_recursion (InRange n) c (same_range n literals c over.0 lawful.0);
+    distinct = same_apart literals c over.0 lawful.1.apart;
+  },
+  over_line n literals lawful cs over.1,
+)
+
+lawful_clauses : (n : ℕ) (constraint : Constraint) → IsLawfulConstraint n constraint → AllByRecursion (IsLawfulClause n) (clauses_of constraint)
+lawful_clauses n (plain literals) lawful =
+    (record { in_range = fold-in_range n literals [] (All-nil (InRange n)) lawful; distinct = fold-distinct literals [] no_pairs }, tt)
+lawful_clauses n (xor literals) lawful = over_line n literals lawful (xor_clauses literals) (xor_over literals)
+
+all_lawful : (n : ℕ) (constraints : List Constraint) → AreLawfulConstraints n constraints → All (IsLawfulClause n) (flat_map clauses_of constraints)
+all_lawful n [] lawful = All-nil (IsLawfulClause n)
+all_lawful n (c ∷ cs) lawful =
+    All-append (IsLawfulClause n) (clauses_of c) (flat_map clauses_of cs)
+    (All-from_recursion (IsLawfulClause n) (clauses_of c) (lawful_clauses n c lawful.0)) (all_lawful n cs lawful.1)
+
+spelled_is_lawful : (text : List ℕ) (f : Dqbf) → SpellsFormula text f → All (IsLawfulClause f.variables) f.matrix
+spelled_is_lawful text f s = rw (spelled_matrix text f s) (all_lawful f.variables s.constraints s.lawful_constraints)
 
 pub spelled_is_distinct : (text : List ℕ) (f : Dqbf) → SpellsFormula text f → HasDistinctClauses f
 spelled_is_distinct text f s =
-    rw (spelled_matrix text f s)
-    (All-map (AllPairs (λ j k. j ≢ k)) distinct s.clauses (λ k d below. fold-distinct (get_or s.clauses k d) [] (λ i j e order inside. absurd (omega arith))))
+    All-weaker (IsLawfulClause f.variables) (AllPairs (λ k l. k ≢ l)) (λ c lawful. lawful.distinct) f.matrix (spelled_is_lawful text f s)
 
 contains_listed : (xs : List ℕ) (v : ℕ) → list_any (λ x. x == v) xs ≡ true → Contains xs v
 contains_listed xs v h = Contains-from_any {eq = λ a b. b == a} (λ a b e. sym (eqb-true b a e)) v xs h
@@ -114,9 +151,9 @@ declared_with_free g v low high occurring =
     ] in
     rw all_is (contains_listed (us ++ (es ++ free)) v listed)
 
-clauses_keep_variables : (clauses : List (List Literal)) (g : Dqbf) → (fold add_spelled g clauses).variables ≡ g.variables
-clauses_keep_variables [] g = refl
-clauses_keep_variables (literals ∷ clauses) g = clauses_keep_variables clauses (add_spelled g literals)
+constraints_keep_variables : (constraints : List Constraint) (g : Dqbf) → (fold add_constraint g constraints).variables ≡ g.variables
+constraints_keep_variables [] g = refl
+constraints_keep_variables (c ∷ cs) g = constraints_keep_variables cs (add_constraint g c) ∙ constraint_keeps_variables g c
 
 literal_bound : (g : Dqbf) → All (All (InRange g.variables)) g.matrix → All (All (λ l. Contains (declared (with_free g)) (variable_of l))) g.matrix
 literal_bound g range j d below k e inside =
@@ -128,20 +165,14 @@ literal_bound g range j d below k e inside =
     (list_any_at (list_any (λ m. variable_of m == v)) g.matrix j d below
     (list_any_at (λ m. variable_of m == v) clause k e inside (eq-eqb v v refl)))
 
-each_in_range : (variables : ℕ) (clauses : List (List Literal)) → AllInRange variables clauses → All (All (InRange variables)) (map distinct clauses)
-each_in_range variables clauses range =
-    All-map (All (InRange variables)) distinct clauses
-    (All-weaker (AllByRecursion (InRange variables)) (λ c. All (InRange variables) (distinct c))
-    (λ c here. fold-in_range variables c [] (All-nil (InRange variables)) here) clauses (All-from_recursion (AllByRecursion (InRange variables)) clauses range))
-
 pub spelled_is_bound : (text : List ℕ) (f : Dqbf) → SpellsFormula text f → All (All (λ l. Contains (declared f) (variable_of l))) f.matrix
 spelled_is_bound text f s =
     let prefix = fold declare (empty_formula f.variables) s.parts in
-    let g = fold add_spelled prefix s.clauses in
-    let variables : g.variables ≡ f.variables = clauses_keep_variables s.clauses prefix ∙ (declares-keep s.parts (empty_formula f.variables)).variables in
-    let same : g.matrix ≡ map distinct s.clauses = ap (λ (h : Dqbf). h.matrix) (sym s.formula) ∙ spelled_matrix text f s in
+    let g = fold add_constraint prefix s.constraints in
+    let variables : g.variables ≡ f.variables = constraints_keep_variables s.constraints prefix ∙ (declares-keep s.parts (empty_formula f.variables)).variables in
+    let same : g.matrix ≡ f.matrix = ap (λ (h : Dqbf). h.matrix) (sym s.formula) in
+    let lawful = All-weaker (IsLawfulClause f.variables) (All (InRange f.variables)) (λ c is. is.in_range) f.matrix (spelled_is_lawful text f s) in
     let range : All (All (InRange g.variables)) g.matrix =
-    subst (λ v. All (All (InRange v)) g.matrix) (sym variables)
-    (subst (All (All (InRange f.variables))) (sym same) (each_in_range f.variables s.clauses s.in_range)) in
+    subst (λ v. All (All (InRange v)) g.matrix) (sym variables) (subst (All (All (InRange f.variables))) (sym same) lawful) in
     let Bound : Dqbf → Type 0 = λ h. All (All (λ l. Contains (declared h) (variable_of l))) h.matrix in
     subst Bound (sym s.formula) (literal_bound g range)

@@ -1,20 +1,22 @@
 -- What the grammar spells, the machine reads.
-use Rattle.std.proofs.Common.{◌≡◌, ℕ, ◌+◌, ◌<◌, ◌≤◌, ◌==◌, nat_lt, Bool, true, false, not, cond, List, [], ◌∷◌, ◌++◌, length, Option, None, Some, refl, sym, ◌∙◌, ap, arith, append_assoc, length-append, Ok, Err}
+use Rattle.std.proofs.Common.{◌≡◌, ℕ, ◌+◌, ◌<◌, ◌≤◌, ◌==◌, nat_lt, Bool, true, false, not, cond, List, [], ◌∷◌, ◌++◌, length, Option, None, Some, refl, sym, ◌∙◌, ap, subst, arith, append_assoc, length-append, Ok, Err}
 use Rattle.std.proofs.lemmas.List.{append-nil}
-use Rattle.std.specs.List.{AllByRecursion, flat_map, fold}
-use Rattle.std.proofs.lemmas.Bool.{le-ltb, ne_eqb}
-use Rattle.dq_lits.specs.Literal.{Literal, positive, negative}
+use Rattle.std.specs.List.{AllByRecursion, flat_map, fold, list_any}
+use Rattle.std.proofs.lemmas.Bool.{le-ltb, lt-ltb, ne_eqb}
+use Rattle.dq_lits.specs.Literal.{Literal, positive, negative, variable_of}
 use Rattle.dq_lits.specs.Formula.{Dqbf, is_universal}
 use Rattle.dq_text.specs.Token.{tokens_of, last_line_of}
 use Rattle.dq_formula.specs.Prefix.{is_declared}
-use Rattle.dqdimacs_reader.specs.Building.{empty_formula, add_universal, add_first, add_listed, add_clause, add_literal, distinct, with_free}
-use Rattle.dqdimacs_reader.specs.Grammar.{Part, universals, existentials, dependent, numbers, part_lexemes, literal_lexeme, clause_lexemes, header, IsNew, AreNew, IsSeen, IsLawfulPart, declare, AreLawfulParts, add_spelled, InRange, AllInRange, SpellsFormula}
-use Rattle.dqdimacs_reader.specs.Machine.{Reading, State, before_header, before_format, before_variables, before_clauses, check_limit, reading, at_part, in_universals, in_existentials, at_dependent, in_dependencies, in_clause, max_variables, max_clauses, fault_if, check_range, check_declared, check_dependent, check_dependency, with_formula, check, advance, is_empty}
+use Rattle.dq_formula.specs.Xor.{xor_clauses}
+use Rattle.dqdimacs_reader.specs.Building.{empty_formula, add_universal, add_first, add_listed, add_clause, add_xor, add_literal, distinct, with_free}
+use Rattle.dqdimacs_reader.specs.Grammar.{Part, universals, existentials, dependent, Constraint, plain, xor, numbers, part_lexemes, literal_lexeme, clause_lexemes, constraint_lexemes, header, IsNew, AreNew, IsSeen, IsLawfulPart, declare, AreLawfulParts, InRange, IsXor, IsLawfulConstraint, AreLawfulConstraints, add_constraint, SpellsFormula}
+use Rattle.dqdimacs_reader.specs.Machine.{Reading, State, before_header, before_format, before_variables, before_clauses, check_limit, reading, at_part, in_universals, in_existentials, at_dependent, in_dependencies, in_clause, in_xor, max_variables, max_clauses, max_xor, fault_if, check_range, check_room, check_literal, check_declared, check_dependent, check_dependency, check_part_letter, check_xor_end, check_xor_literal, stands_on, with_formula, with_constraint, check, advance}
 use Rattle.dqdimacs_reader.specs.declared.faults.FormulaFault.{FormulaFault}
-use Rattle.dqdimacs_reader.specs.declared.faults.FormulaFault.TheVariants.{PrefixLate, TooFewClauses, VarRange, Limit, DeclaredTwice, NotUniversal, EmptyD, TooManyClauses}
+use Rattle.dqdimacs_reader.specs.declared.faults.FormulaFault.TheVariants.{PrefixLate, TooFewClauses, VarRange, Limit, DeclaredTwice, NotUniversal, EmptyD, TooManyClauses, XorSize, XorRepeat}
 use Rattle.dqdimacs_reader.specs.declared.lexemes.Lexeme.{Lexeme}
-use Rattle.dqdimacs_reader.specs.declared.lexemes.Lexeme.TheVariants.{P, Cnf, A, D, E, Natural}
+use Rattle.dqdimacs_reader.specs.declared.lexemes.Lexeme.TheVariants.{P, Cnf, A, D, E, X, Natural}
 use Rattle.dqdimacs_reader.proofs.Runs.{formula_or_none, run, run_pass, reading_from_run}
+use Rattle.dqdimacs_reader.proofs.XorLines.{AreApart, none_before}
 
 no_fault : (b : Bool) (name : FormulaFault) (rest : Option FormulaFault) → b ≡ false → fault_if b name rest ≡ rest
 no_fault true name rest h = cc
@@ -77,18 +79,18 @@ dependent_passes r y new =
     ∙ in_range_passes r y declared new.in_range
     ∙ no_fault (is_declared r.formula y) DeclaredTwice None new.undeclared
 
--- the prefix stands before all clauses
-letter_passes : (matrix : List (List Literal)) → matrix ≡ [] → fault_if (not (is_empty matrix)) PrefixLate None ≡ None
-letter_passes matrix none = ap (λ m. fault_if (not (is_empty m)) PrefixLate None) none
+-- the prefix stands before all clauses and XOR lines
+letter_passes : (r : Reading) → r.constraints ≡ 0 → check_part_letter r ≡ None
+letter_passes r none = ap (λ n. fault_if (not (n == 0)) PrefixLate None) none
 
-read_part : (part : Part) (r : Reading) (rest : List Lexeme) → r.formula.matrix ≡ [] → IsLawfulPart r.formula part →
+read_part : (part : Part) (r : Reading) (rest : List Lexeme) → r.constraints ≡ 0 → IsLawfulPart r.formula part →
     run (at_part r) (part_lexemes part ++ rest) ≡ run (at_part (with_formula r (declare r.formula part))) rest
 read_part (universals vs) r rest none lawful =
-    run_pass (at_part r) A (numbers vs ++ rest) (letter_passes r.formula.matrix none) ∙ read_universals vs r rest lawful
+    run_pass (at_part r) A (numbers vs ++ rest) (letter_passes r none) ∙ read_universals vs r rest lawful
 read_part (existentials ys) r rest none lawful =
-    run_pass (at_part r) E (numbers ys ++ rest) (letter_passes r.formula.matrix none) ∙ read_existentials ys r rest lawful
+    run_pass (at_part r) E (numbers ys ++ rest) (letter_passes r none) ∙ read_existentials ys r rest lawful
 read_part (dependent y xs) r rest none lawful =
-    run_pass (at_part r) D (Natural y ∷ (numbers xs ++ rest)) (letter_passes r.formula.matrix none)
+    run_pass (at_part r) D (Natural y ∷ (numbers xs ++ rest)) (letter_passes r none)
     ∙ run_pass (at_dependent r) (Natural y) (numbers xs ++ rest) (dependent_passes r y lawful.0)
     ∙ read_dependencies xs r y [] rest lawful.1
 
@@ -109,60 +111,138 @@ declare-keeps (universals vs) f = keeps_fold add_universal (λ g v. record { var
 declare-keeps (existentials ys) f = keeps_fold add_first (λ g v. record { variables = refl; matrix = refl }) ys f
 declare-keeps (dependent y xs) f = record { variables = refl; matrix = refl }
 
-read_parts : (parts : List Part) (r : Reading) (rest : List Lexeme) → r.formula.matrix ≡ [] → AreLawfulParts r.formula parts →
+read_parts : (parts : List Part) (r : Reading) (rest : List Lexeme) → r.constraints ≡ 0 → AreLawfulParts r.formula parts →
     run (at_part r) (flat_map part_lexemes parts ++ rest) ≡ run (at_part (with_formula r (fold declare r.formula parts))) rest
 read_parts [] r rest none lawful = refl
 read_parts (part ∷ parts) r rest none lawful =
     ap (run (at_part r)) (append_assoc (part_lexemes part) (flat_map part_lexemes parts) rest)
     ∙ read_part part r (flat_map part_lexemes parts ++ rest) none lawful.0
-    ∙ read_parts parts (with_formula r (declare r.formula part)) rest ((declare-keeps part r.formula).matrix ∙ none) lawful.1
+    ∙ read_parts parts (with_formula r (declare r.formula part)) rest none lawful.1
+
+clause_literal_passes : (r : Reading) (v : ℕ) → 1 ≤ v → v ≤ r.formula.variables → check_literal r v ≡ None
+clause_literal_passes r v low high =
+    ap (λ b. cond b (check_room r 1) (check_range r v None)) (not_zero v low) ∙ in_range_passes r v None high
 
 literal_passes : (r : Reading) (clause : List Literal) (l : Literal) → InRange r.formula.variables l → check (in_clause r clause) (literal_lexeme l) ≡ None
-literal_passes r clause (positive v) range = in_range_passes r v None range.1
-literal_passes r clause (negative v) range = in_range_passes r v None range.1
+literal_passes r clause (positive v) range = clause_literal_passes r v range.0 range.1
+literal_passes r clause (negative v) range = clause_literal_passes r v range.0 range.1
 
 literal_goes_on : (r : Reading) (clause : List Literal) (l : Literal) → InRange r.formula.variables l →
     advance (in_clause r clause) (literal_lexeme l) ≡ in_clause r (add_literal clause l)
 literal_goes_on r clause (positive v) range = goes_on_set v _ _ range.0
 literal_goes_on r clause (negative v) range = goes_on_set v _ _ range.0
 
-read_literals : (literals : List Literal) (r : Reading) (clause : List Literal) (rest : List Lexeme) → AllByRecursion (InRange r.formula.variables) literals →
-    run (in_clause r clause) (clause_lexemes literals ++ rest) ≡ run (at_part (with_formula r (add_clause r.formula (fold add_literal clause literals)))) rest
-read_literals [] r clause rest range = run_pass (in_clause r clause) (Natural 0) rest (in_range_passes r 0 None (omega arith))
-read_literals (l ∷ ls) r clause rest range =
+-- the matrix has room for so many clauses
+abbrev HasRoom : Reading → ℕ → Type 0
+HasRoom r more = length r.formula.matrix + more ≤ max_clauses
+
+room_passes : (r : Reading) (more : ℕ) → HasRoom r more → check_room r more ≡ None
+room_passes r more room = no_fault (nat_lt max_clauses (length r.formula.matrix + more)) Limit None (le-ltb max_clauses (length r.formula.matrix + more) room)
+
+read_literals : (literals : List Literal) (r : Reading) (clause : List Literal) (rest : List Lexeme) → HasRoom r 1 → AllByRecursion (InRange r.formula.variables) literals →
+    run (in_clause r clause) (clause_lexemes literals ++ rest) ≡ run (at_part (with_constraint r (add_clause r.formula (fold add_literal clause literals)))) rest
+read_literals [] r clause rest room range = run_pass (in_clause r clause) (Natural 0) rest (room_passes r 1 room)
+read_literals (l ∷ ls) r clause rest room range =
     run_pass (in_clause r clause) (literal_lexeme l) (clause_lexemes ls ++ rest) (literal_passes r clause l range.0)
     ∙ ap (λ s. run s (clause_lexemes ls ++ rest)) (literal_goes_on r clause l range.0)
-    ∙ read_literals ls r (add_literal clause l) rest range.1
+    ∙ read_literals ls r (add_literal clause l) rest room range.1
 
--- room for another clause
-first_passes : (r : Reading) (l : Literal) → length r.formula.matrix < r.clauses → InRange r.formula.variables l → check (at_part r) (literal_lexeme l) ≡ None
-first_passes r (positive v) room range = no_fault (length r.formula.matrix == r.clauses) TooManyClauses (check_range r v None) (ne_eqb (length r.formula.matrix) r.clauses (λ e. omega arith)) ∙ in_range_passes r v None range.1
-first_passes r (negative v) room range = no_fault (length r.formula.matrix == r.clauses) TooManyClauses (check_range r v None) (ne_eqb (length r.formula.matrix) r.clauses (λ e. omega arith)) ∙ in_range_passes r v None range.1
+-- a clause or an XOR line is due
+due_passes : (r : Reading) (rest : Option FormulaFault) → r.constraints < r.clauses → fault_if (r.constraints == r.clauses) TooManyClauses rest ≡ rest
+due_passes r rest due = no_fault (r.constraints == r.clauses) TooManyClauses rest (ne_eqb r.constraints r.clauses (λ e. omega arith))
+
+first_passes : (r : Reading) (l : Literal) → r.constraints < r.clauses → InRange r.formula.variables l → check (at_part r) (literal_lexeme l) ≡ None
+first_passes r (positive v) due range = due_passes r (check_literal r v) due ∙ clause_literal_passes r v range.0 range.1
+first_passes r (negative v) due range = due_passes r (check_literal r v) due ∙ clause_literal_passes r v range.0 range.1
 
 first_goes_on : (r : Reading) (l : Literal) → InRange r.formula.variables l → advance (at_part r) (literal_lexeme l) ≡ in_clause r (add_literal [] l)
 first_goes_on r (positive v) range = goes_on_set v _ _ range.0
 first_goes_on r (negative v) range = goes_on_set v _ _ range.0
 
-zero_passes : (r : Reading) → length r.formula.matrix < r.clauses → check (at_part r) (Natural 0) ≡ None
-zero_passes r room = no_fault (length r.formula.matrix == r.clauses) TooManyClauses (check_range r 0 None) (ne_eqb (length r.formula.matrix) r.clauses (λ e. omega arith)) ∙ in_range_passes r 0 None (omega arith)
-
-read_clause : (literals : List Literal) (r : Reading) (rest : List Lexeme) → length r.formula.matrix < r.clauses → AllByRecursion (InRange r.formula.variables) literals →
-    run (at_part r) (clause_lexemes literals ++ rest) ≡ run (at_part (with_formula r (add_spelled r.formula literals))) rest
-read_clause [] r rest room range = run_pass (at_part r) (Natural 0) rest (zero_passes r room)
-read_clause (l ∷ ls) r rest room range =
-    run_pass (at_part r) (literal_lexeme l) (clause_lexemes ls ++ rest) (first_passes r l room range.0)
+read_clause : (literals : List Literal) (r : Reading) (rest : List Lexeme) → r.constraints < r.clauses → HasRoom r 1 → AllByRecursion (InRange r.formula.variables) literals →
+    run (at_part r) (clause_lexemes literals ++ rest) ≡ run (at_part (with_constraint r (add_clause r.formula (distinct literals)))) rest
+read_clause [] r rest due room range = run_pass (at_part r) (Natural 0) rest (due_passes r (check_literal r 0) due ∙ room_passes r 1 room)
+read_clause (l ∷ ls) r rest due room range =
+    run_pass (at_part r) (literal_lexeme l) (clause_lexemes ls ++ rest) (first_passes r l due range.0)
     ∙ ap (λ s. run s (clause_lexemes ls ++ rest)) (first_goes_on r l range.0)
-    ∙ read_literals ls r (add_literal [] l) rest range.1
+    ∙ read_literals ls r (add_literal [] l) rest room range.1
 
-read_clauses : (clauses : List (List Literal)) (r : Reading) → length r.formula.matrix + length clauses ≡ r.clauses → AllInRange r.formula.variables clauses →
-    run (at_part r) (flat_map clause_lexemes clauses) ≡ Some (with_free (fold add_spelled r.formula clauses))
-read_clauses [] r counted range =
-    ap (λ b. formula_or_none (cond b (Err TooFewClauses) (Ok (with_free r.formula)))) (le-ltb (length r.formula.matrix) r.clauses (omega arith))
-read_clauses (literals ∷ clauses) r counted range =
-    let next = with_formula r (add_spelled r.formula literals) in
-    let longer : length next.formula.matrix + length clauses ≡ r.clauses = omega (arith, length-append r.formula.matrix (distinct literals ∷ [])) in
-    read_clause literals r (flat_map clause_lexemes clauses) (omega arith) range.0
-    ∙ read_clauses clauses next longer range.1
+-- inside an XOR line
+xor_number_passes : (r : Reading) (before : List Literal) (v : ℕ) → 1 ≤ v → v ≤ r.formula.variables → length before < max_xor →
+    list_any (stands_on v) before ≡ false → cond (v == 0) (check_xor_end r before) (check_xor_literal r before v) ≡ None
+xor_number_passes r before v low high few none =
+    let repeat = fault_if (list_any (stands_on v) before) XorRepeat None in
+    let size = fault_if (not (nat_lt (length before) max_xor)) XorSize repeat in
+    ap (λ b. cond b (check_xor_end r before) (check_xor_literal r before v)) (not_zero v low)
+    ∙ in_range_passes r v size high
+    ∙ ap (λ b. fault_if (not b) XorSize repeat) (lt-ltb (length before) max_xor few)
+    ∙ no_fault (list_any (stands_on v) before) XorRepeat None none
+
+xor_passes : (r : Reading) (before : List Literal) (l : Literal) → InRange r.formula.variables l → length before < max_xor →
+    list_any (stands_on (variable_of l)) before ≡ false → check (in_xor r before) (literal_lexeme l) ≡ None
+xor_passes r before (positive v) range few none = xor_number_passes r before v range.0 range.1 few none
+xor_passes r before (negative v) range few none = xor_number_passes r before v range.0 range.1 few none
+
+xor_goes_on : (r : Reading) (before : List Literal) (l : Literal) → InRange r.formula.variables l →
+    advance (in_xor r before) (literal_lexeme l) ≡ in_xor r (before ++ l ∷ [])
+xor_goes_on r before (positive v) range = goes_on_set v _ _ range.0
+xor_goes_on r before (negative v) range = goes_on_set v _ _ range.0
+
+xor_end_passes : (r : Reading) (literals : List Literal) → IsXor literals → HasRoom r (length (xor_clauses literals)) → check_xor_end r literals ≡ None
+xor_end_passes r literals is room =
+    no_fault (length literals == 0) XorSize (check_room r (length (xor_clauses literals))) (ne_eqb (length literals) 0 (λ e. omega (arith, is.some)))
+    ∙ room_passes r (length (xor_clauses literals)) room
+
+read_xor_literals : (literals : List Literal) (r : Reading) (before all : List Literal) (rest : List Lexeme) → before ++ literals ≡ all →
+    IsXor all → HasRoom r (length (xor_clauses all)) → AllByRecursion (InRange r.formula.variables) literals →
+    run (in_xor r before) (clause_lexemes literals ++ rest) ≡ run (at_part (with_constraint r (add_xor r.formula all))) rest
+read_xor_literals [] r before all rest whole is room range =
+    let same : before ≡ all = sym (append-nil before) ∙ whole in
+    run_pass (in_xor r before) (Natural 0) rest (ap (check_xor_end r) same ∙ xor_end_passes r all is room)
+    ∙ ap (λ ls. run (at_part (with_constraint r (add_xor r.formula ls))) rest) same
+read_xor_literals (l ∷ ls) r before all rest whole is room range =
+    let few : length before < max_xor = omega (arith, is.few, ap length whole, length-append before (l ∷ ls)) in
+    let none = none_before before ls l (subst AreApart (sym whole) is.apart) in
+    run_pass (in_xor r before) (literal_lexeme l) (clause_lexemes ls ++ rest) (xor_passes r before l range.0 few none)
+    ∙ ap (λ s. run s (clause_lexemes ls ++ rest)) (xor_goes_on r before l range.0)
+    ∙ read_xor_literals ls r (before ++ l ∷ []) all rest (append_assoc before (l ∷ []) ls ∙ whole) is room range.1
+
+-- the matrix only grows
+abbrev pub clauses_of : Constraint → List (List Literal)
+clauses_of (plain literals) = distinct literals ∷ []
+clauses_of (xor literals) = xor_clauses literals
+
+pub with_clauses : (f : Dqbf) (constraint : Constraint) → (add_constraint f constraint).matrix ≡ f.matrix ++ clauses_of constraint
+with_clauses f (plain literals) = refl
+with_clauses f (xor literals) = refl
+
+pub constraint_keeps_variables : (f : Dqbf) (constraint : Constraint) → (add_constraint f constraint).variables ≡ f.variables
+constraint_keeps_variables f (plain literals) = refl
+constraint_keeps_variables f (xor literals) = refl
+
+matrix_grows : (constraints : List Constraint) (f : Dqbf) → length f.matrix ≤ length (fold add_constraint f constraints).matrix
+matrix_grows [] f = omega arith
+matrix_grows (c ∷ cs) f = omega (arith, matrix_grows cs (add_constraint f c), ap length (with_clauses f c), length-append f.matrix (clauses_of c))
+
+read_constraint : (c : Constraint) (r : Reading) (rest : List Lexeme) → r.constraints < r.clauses → HasRoom r (length (clauses_of c)) → IsLawfulConstraint r.formula.variables c →
+    run (at_part r) (constraint_lexemes c ++ rest) ≡ run (at_part (with_constraint r (add_constraint r.formula c))) rest
+read_constraint (plain literals) r rest due room lawful = read_clause literals r rest due room lawful
+read_constraint (xor literals) r rest due room lawful =
+    run_pass (at_part r) X (clause_lexemes literals ++ rest) (due_passes r None due)
+    ∙ read_xor_literals literals r [] literals rest refl lawful.1 room lawful.0
+
+read_constraints : (constraints : List Constraint) (r : Reading) → r.constraints + length constraints ≡ r.clauses →
+    length (fold add_constraint r.formula constraints).matrix ≤ max_clauses → AreLawfulConstraints r.formula.variables constraints →
+    run (at_part r) (flat_map constraint_lexemes constraints) ≡ Some (with_free (fold add_constraint r.formula constraints))
+read_constraints [] r counted few lawful =
+    ap (λ b. formula_or_none (cond b (Err TooFewClauses) (Ok (with_free r.formula)))) (le-ltb r.constraints r.clauses (omega (arith, counted)))
+read_constraints (c ∷ cs) r counted few lawful =
+    let next = with_constraint r (add_constraint r.formula c) in
+    let room : HasRoom r (length (clauses_of c)) =
+    omega (arith, few, matrix_grows cs next.formula, ap length (with_clauses r.formula c), length-append r.formula.matrix (clauses_of c)) in
+    let variables = sym (constraint_keeps_variables r.formula c) in
+    read_constraint c r (flat_map constraint_lexemes cs) (omega (arith, counted)) room lawful.0
+    ∙ read_constraints cs next (omega (arith, counted)) few (subst (λ v. AreLawfulConstraints v cs) variables lawful.1)
 
 pub declares-keep : (parts : List Part) (f : Dqbf) → Keeps f (fold declare f parts)
 declares-keep [] f = record { variables = refl; matrix = refl }
@@ -175,7 +255,7 @@ within : (limit n : ℕ) → n ≤ limit → check_limit limit n ≡ None
 within limit n h = no_fault (nat_lt limit n) Limit None (le-ltb limit n h)
 
 read_header : (variables clauses : ℕ) (rest : List Lexeme) → variables ≤ max_variables → clauses ≤ max_clauses →
-    run before_header (header variables clauses ++ rest) ≡ run (at_part (record { clauses = clauses; formula = empty_formula variables })) rest
+    run before_header (header variables clauses ++ rest) ≡ run (at_part (record { clauses = clauses; constraints = 0; formula = empty_formula variables })) rest
 read_header variables clauses rest few_variables few_clauses =
     run_pass before_header P (Cnf ∷ Natural variables ∷ Natural clauses ∷ rest) refl
     ∙ run_pass before_format Cnf (Natural variables ∷ Natural clauses ∷ rest) refl
@@ -185,16 +265,18 @@ read_header variables clauses rest few_variables few_clauses =
 pub spelled_is_read : (text : List ℕ) (f : Dqbf) → SpellsFormula text f → reading text ≡ Ok f
 spelled_is_read text f spells =
     let v = f.variables in
-    let n = length spells.clauses in
-    let start : Reading = record { clauses = n; formula = empty_formula v } in
+    let n = length spells.constraints in
+    let start : Reading = record { clauses = n; constraints = 0; formula = empty_formula v } in
     let prefix = fold declare (empty_formula v) spells.parts in
     let kept = declares-keep spells.parts (empty_formula v) in
-    let counted : length prefix.matrix + n ≡ n = omega (arith, ap length kept.matrix) in
-    let range : AllInRange prefix.variables spells.clauses = rw kept.variables spells.in_range in
-    let lexemes = flat_map part_lexemes spells.parts ++ flat_map clause_lexemes spells.clauses in
+    let few : length (fold add_constraint prefix spells.constraints).matrix ≤ max_clauses =
+    subst (λ (g : Dqbf). length g.matrix ≤ max_clauses) spells.formula spells.few_clauses in
+    let lawful : AreLawfulConstraints prefix.variables spells.constraints =
+    subst (λ w. AreLawfulConstraints w spells.constraints) (sym kept.variables) spells.lawful_constraints in
+    let lexemes = flat_map part_lexemes spells.parts ++ flat_map constraint_lexemes spells.constraints in
     reading_from_run (tokens_of text) before_header (last_line_of text) f
     (ap (run before_header) spells.spelling
-    ∙ read_header v n lexemes spells.few_variables spells.few_clauses
-    ∙ read_parts spells.parts start (flat_map clause_lexemes spells.clauses) refl spells.lawful
-    ∙ read_clauses spells.clauses (with_formula start prefix) counted range
+    ∙ read_header v n lexemes spells.few_variables spells.few_constraints
+    ∙ read_parts spells.parts start (flat_map constraint_lexemes spells.constraints) refl spells.lawful_parts
+    ∙ read_constraints spells.constraints (with_formula start prefix) (omega arith) few lawful
     ∙ ap Some (sym spells.formula))

@@ -5,6 +5,7 @@ use Rattle.dq_lits.specs.Literal.{Literal, same_literal}
 use Rattle.dq_lits.specs.Formula.{Dqbf}
 use Rattle.dq_formula.specs.Dependencies.{listed_universals}
 use Rattle.dq_formula.specs.Prefix.{free_variables, unseeing}
+use Rattle.dq_formula.specs.Xor.{xor_clauses}
 
 -- no declarations and no clauses yet
 abbrev pub empty_formula : ℕ → Dqbf
@@ -28,6 +29,10 @@ add_listed f y xs = add_existential f y (listed_universals f.universals xs)
 
 abbrev pub add_clause : Dqbf → List Literal → Dqbf
 add_clause f clause = record f { matrix = f.matrix ++ clause ∷ [] }
+
+-- an XOR line stands in the matrix as its clauses
+abbrev pub add_xor : Dqbf → List Literal → Dqbf
+add_xor f literals = record f { matrix = f.matrix ++ xor_clauses literals }
 
 -- a literal that a clause has already isn't added again
 abbrev pub add_literal : List Literal → Literal → List Literal

@@ -5,7 +5,7 @@ use Rattle.dq_text.specs.Number.{begins_with_minus, number_of}
 use Rattle.dq_text.specs.declared.numbers.Number.{Number}
 use Rattle.dq_text.specs.declared.numbers.Number.TheVariants.{Int, NotANumber, TooBig}
 use Rattle.dqdimacs_reader.specs.declared.lexemes.Lexeme.{Lexeme}
-use Rattle.dqdimacs_reader.specs.declared.lexemes.Lexeme.TheVariants.{P, Cnf, A, D, E, Natural, Negative, Large, NegativeLarge, Other}
+use Rattle.dqdimacs_reader.specs.declared.lexemes.Lexeme.TheVariants.{P, Cnf, A, D, E, X, Natural, Negative, Large, NegativeLarge, Other}
 
 abbrev pub number_lexeme : Bool → Number → Lexeme
 number_lexeme minus NotANumber = Other
@@ -20,4 +20,5 @@ lexeme_of text =
     if bytes_eq text (codes "a") then A else
     if bytes_eq text (codes "d") then D else
     if bytes_eq text (codes "e") then E else
+    if bytes_eq text (codes "x") then X else
     number_lexeme (begins_with_minus text) (number_of text)

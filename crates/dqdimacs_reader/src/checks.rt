@@ -1,12 +1,15 @@
 //! The checks of a token where it stands, in their order; see `specs/Machine.antt` for the whole
 //! table.
 
-ghost use Rattle.std.specs.Prelude.{◌≡◌, ◌<◌};
-ghost use Rattle.dqdimacs_reader.specs.Machine.{Reading, wanted, is_p, is_cnf, check_natural, check_limit, check_entry, check_signed, check_declared, check_dependent, check_dependency, check_part_letter, check_clause, check_literal};
+ghost use Rattle.std.specs.Prelude.{◌≡◌, ◌≤◌, ◌<◌, length};
+ghost use Rattle.std.specs.List.{list_any};
+ghost use Rattle.dq_formula.specs.Xor.{xor_clauses};
+ghost use Rattle.dqdimacs_reader.specs.Machine.{max_xor, wanted, is_p, is_cnf, check_natural, check_limit, check_entry, check_declared, check_dependent, check_dependency, check_part, check_literal, check_in_clause, check_room, check_in_xor, check_xor_end, check_xor_literal, stands_on};
 
 use crate::faults::FormulaFault;
 use crate::lexemes::Lexeme;
-use dq_formula::Formula;
+use dq_formula::{Formula, MAX_CLAUSES, MAX_XOR};
+use dq_lits::Lit;
 
 /// At the word `p`.
 pub fn header_fault(lexeme: Lexeme) -> Option<FormulaFault>
@@ -43,7 +46,7 @@ pub fn limit_fault(lexeme: Lexeme, limit: u64) -> Option<FormulaFault>
 /// Inside a set.
 pub fn declared_fault(formula: &Formula, lexeme: Lexeme) -> Option<FormulaFault>
     ensures { result
-        ≡ check_entry lexeme (check_declared (record { clauses = 0; formula = formula.now })) }
+        ≡ check_entry lexeme (check_declared (record { clauses = 0; constraints = 0; formula = formula.now })) }
 {
     match lexeme {
         Lexeme::P => Some(FormulaFault::HeaderTwice),
@@ -59,7 +62,7 @@ pub fn declared_fault(formula: &Formula, lexeme: Lexeme) -> Option<FormulaFault>
 /// At the variable of an item.
 pub fn dependent_fault(formula: &Formula, lexeme: Lexeme) -> Option<FormulaFault>
     ensures { result
-        ≡ check_entry lexeme (check_dependent (record { clauses = 0; formula = formula.now })) }
+        ≡ check_entry lexeme (check_dependent (record { clauses = 0; constraints = 0; formula = formula.now })) }
 {
     match lexeme {
         Lexeme::P => Some(FormulaFault::HeaderTwice),
@@ -75,7 +78,7 @@ pub fn dependent_fault(formula: &Formula, lexeme: Lexeme) -> Option<FormulaFault
 /// At a dependency of an item.
 pub fn dependency_fault(formula: &Formula, lexeme: Lexeme) -> Option<FormulaFault>
     ensures { result
-        ≡ check_entry lexeme (check_dependency (record { clauses = 0; formula = formula.now })) }
+        ≡ check_entry lexeme (check_dependency (record { clauses = 0; constraints = 0; formula = formula.now })) }
 {
     match lexeme {
         Lexeme::P => Some(FormulaFault::HeaderTwice),
@@ -88,41 +91,144 @@ pub fn dependency_fault(formula: &Formula, lexeme: Lexeme) -> Option<FormulaFaul
     }
 }
 
-/// At the start of a set, an item or a clause, where the header states so many clauses.
-pub fn part_fault(formula: &Formula, clauses: u64, lexeme: Lexeme) -> Option<FormulaFault>
-    ensures { let r : Reading = record { clauses = clauses; formula = formula.now } in result
-        ≡ check_signed lexeme (check_part_letter r) (check_clause r) }
+/// At the start of a set, an item, a clause or an XOR line, where so many of the last two were read
+/// of those that the header states.
+pub fn part_fault(
+    formula: &Formula,
+    constraints: u64,
+    clauses: u64,
+    lexeme: Lexeme,
+) -> Option<FormulaFault>
+    ensures { result
+        ≡ check_part (record { clauses = clauses; constraints = constraints; formula = formula.now })
+        lexeme }
 {
     match lexeme {
         Lexeme::P => Some(FormulaFault::HeaderTwice),
-        Lexeme::A | Lexeme::D | Lexeme::E if formula.clauses() > 0 => Some(
-            FormulaFault::PrefixLate,
-        ),
+        Lexeme::A | Lexeme::D | Lexeme::E if constraints > 0 => Some(FormulaFault::PrefixLate),
         Lexeme::A | Lexeme::D | Lexeme::E => None,
         Lexeme::Cnf | Lexeme::Other => Some(FormulaFault::BadNumber),
         Lexeme::Large | Lexeme::NegativeLarge => Some(FormulaFault::TooBig),
-        Lexeme::Natural(_) | Lexeme::Negative(_) if formula.clauses() as u64 == clauses => Some(
+        Lexeme::X | Lexeme::Natural(_) | Lexeme::Negative(_) if constraints == clauses => Some(
             FormulaFault::TooManyClauses,
         ),
-        Lexeme::Natural(v) | Lexeme::Negative(v) if v > formula.vars() => Some(
-            FormulaFault::VarRange,
-        ),
-        Lexeme::Natural(_) | Lexeme::Negative(_) => None,
+        Lexeme::X => None,
+        Lexeme::Natural(v) | Lexeme::Negative(v) => number_fault(formula, v),
     }
 }
 
 /// Inside a clause.
 pub fn literal_fault(formula: &Formula, lexeme: Lexeme) -> Option<FormulaFault>
-    ensures { result ≡ check_literal (record { clauses = 0; formula = formula.now }) lexeme }
+    ensures { result
+        ≡ check_in_clause (record { clauses = 0; constraints = 0; formula = formula.now }) lexeme }
 {
     match lexeme {
         Lexeme::P => Some(FormulaFault::HeaderTwice),
         Lexeme::A | Lexeme::D | Lexeme::E => Some(FormulaFault::PrefixLate),
-        Lexeme::Cnf | Lexeme::Other => Some(FormulaFault::BadNumber),
+        Lexeme::X | Lexeme::Cnf | Lexeme::Other => Some(FormulaFault::BadNumber),
         Lexeme::Large | Lexeme::NegativeLarge => Some(FormulaFault::TooBig),
-        Lexeme::Natural(v) | Lexeme::Negative(v) if v > formula.vars() => Some(
-            FormulaFault::VarRange,
-        ),
-        Lexeme::Natural(_) | Lexeme::Negative(_) => None,
+        Lexeme::Natural(v) | Lexeme::Negative(v) => number_fault(formula, v),
     }
+}
+
+// A literal of a clause by its variable, or the zero that ends it.
+fn number_fault(formula: &Formula, v: u64) -> Option<FormulaFault>
+    ensures { result
+        ≡ check_literal (record { clauses = 0; constraints = 0; formula = formula.now }) v }
+{
+    if v == 0 {
+        room_fault(formula, 1)
+    } else if v > formula.vars() {
+        Some(FormulaFault::VarRange)
+    } else {
+        None
+    }
+}
+
+// Where so many clauses come to the matrix.
+fn room_fault(formula: &Formula, more: usize) -> Option<FormulaFault>
+    requires { more ≤ 16 }
+    ensures { result
+        ≡ check_room (record { clauses = 0; constraints = 0; formula = formula.now }) more }
+{
+    if formula.clauses() + more > MAX_CLAUSES {
+        Some(FormulaFault::Limit)
+    } else {
+        None
+    }
+}
+
+/// Inside an XOR line, behind these literals.
+pub fn xor_fault(formula: &Formula, literals: &[Lit], lexeme: Lexeme) -> Option<FormulaFault>
+    requires few { length literals.now ≤ max_xor }
+    ensures { result
+        ≡ check_in_xor (record { clauses = 0; constraints = 0; formula = formula.now }) literals.now
+        lexeme }
+{
+    match lexeme {
+        Lexeme::P => Some(FormulaFault::HeaderTwice),
+        Lexeme::A | Lexeme::D | Lexeme::E => Some(FormulaFault::PrefixLate),
+        Lexeme::X | Lexeme::Cnf | Lexeme::Other => Some(FormulaFault::BadNumber),
+        Lexeme::Large | Lexeme::NegativeLarge => Some(FormulaFault::TooBig),
+        Lexeme::Natural(0) | Lexeme::Negative(0) => xor_end_fault(formula, literals),
+        Lexeme::Natural(v) | Lexeme::Negative(v) => xor_literal_fault(formula, literals, v),
+    }
+}
+
+// At the zero that ends an XOR line.
+fn xor_end_fault(formula: &Formula, literals: &[Lit]) -> Option<FormulaFault>
+    requires few { length literals.now ≤ max_xor }
+    ensures { result
+        ≡ check_xor_end (record { clauses = 0; constraints = 0; formula = formula.now })
+        literals.now }
+{
+    if literals.is_empty() {
+        return Some(FormulaFault::XorSize);
+    }
+    room_fault(formula, clauses_of_xor(literals))
+}
+
+// How many clauses an XOR line has: half of the choices of negated literals.
+fn clauses_of_xor(literals: &[Lit]) -> usize
+    requires some { 1 ≤ length literals.now }
+    requires few { length literals.now ≤ max_xor }
+    ensures value { result ≡ length (xor_clauses literals.now) }
+    ensures few { result ≤ 16 }
+{
+    let size = literals.len();
+    if size == 1 {
+        1
+    } else if size == 2 {
+        2
+    } else if size == 3 {
+        4
+    } else if size == 4 {
+        8
+    } else {
+        16
+    }
+}
+
+// At a literal of an XOR line.
+fn xor_literal_fault(formula: &Formula, literals: &[Lit], v: u64) -> Option<FormulaFault>
+    ensures { result
+        ≡ check_xor_literal (record { clauses = 0; constraints = 0; formula = formula.now })
+        literals.now v }
+{
+    if v > formula.vars() {
+        Some(FormulaFault::VarRange)
+    } else if literals.len() >= MAX_XOR {
+        Some(FormulaFault::XorSize)
+    } else if is_met(literals, v) {
+        Some(FormulaFault::XorRepeat)
+    } else {
+        None
+    }
+}
+
+// Whether one of the literals stands on the variable.
+fn is_met(literals: &[Lit], v: u64) -> bool
+    ensures { result ≡ list_any (stands_on v) literals.now }
+{
+    literals.iter().any(|l| l.var() == v)
 }

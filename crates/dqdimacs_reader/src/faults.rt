@@ -21,17 +21,22 @@ pub enum FormulaFault {
     NotUniversal,
     /// A `d` line declares no variable.
     EmptyD,
-    /// A set or an item behind the first token of a clause.
+    /// A set or an item behind the first token of a clause or an XOR line.
     PrefixLate,
     HeaderTwice,
-    /// The text ends before the header's number of clauses.
+    /// The text ends before the header's number of clauses and XOR lines.
     TooFewClauses,
-    /// A clause more than the header's number.
+    /// A clause or an XOR line more than the header's number.
     TooManyClauses,
-    /// The text ends inside a set, an item or a clause.
+    /// The text ends inside a set, an item, a clause or an XOR line.
     MissingZero,
-    /// More than 1,000,000 variables or 10,000,000 clauses.
+    /// More than 1,000,000 variables or 10,000,000 clauses, in the header or in the matrix, where an
+    /// XOR line stands as its clauses.
     Limit,
+    /// A variable a second time in an XOR line.
+    XorRepeat,
+    /// An XOR line without literals, or a sixth literal in one.
+    XorSize,
 }
 
 /// Why a reading stopped.

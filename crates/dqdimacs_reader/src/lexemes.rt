@@ -17,6 +17,8 @@ pub enum Lexeme {
     D,
     /// The letter `e`.
     E,
+    /// The letter `x`.
+    X,
     /// A number without a minus, below 10^18.
     Natural(u64),
     /// The magnitude of a number with a minus, from 1 and below 10^18.
@@ -42,6 +44,8 @@ pub fn classify(text: &[u8]) -> Lexeme
         Lexeme::D
     } else if is_word(text, b"e") {
         Lexeme::E
+    } else if is_word(text, b"x") {
+        Lexeme::X
     } else {
         number(text)
     }

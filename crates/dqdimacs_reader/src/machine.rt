@@ -19,7 +19,7 @@ pub enum Stage {
     Format,
     Variables,
     Clauses,
-    /// At the start of a set, an item or a clause.
+    /// At the start of a set, an item, a clause or an XOR line.
     Part,
     Universals,
     Existentials,
@@ -27,6 +27,7 @@ pub enum Stage {
     Dependent,
     Dependencies,
     Clause,
+    Xor,
 }
 
 /// The machine. Fields count from the stage on that fills them.
@@ -34,10 +35,14 @@ pub enum Stage {
 pub struct Machine {
     pub alloc: Global,
     pub stage: Stage,
+    /// How many clauses and XOR lines the header states.
     pub clauses: u64,
+    /// How many of these were read.
+    pub constraints: u64,
     pub formula: Formula,
     pub dependent: u64,
     pub dependencies: Vec<u64>,
+    /// Those of a clause or an XOR line, so far.
     pub literals: DistinctLiterals,
 }
 
@@ -50,6 +55,7 @@ pub fn start(alloc: Global) -> Machine
         alloc,
         stage: Stage::Header,
         clauses: 0,
+        constraints: 0,
         formula: Formula::new(alloc, 0),
         dependent: 0,
         dependencies: Vec::new(alloc),
@@ -59,6 +65,7 @@ pub fn start(alloc: Global) -> Machine
 
 /// The first check that a token fails.
 pub fn token_fault(machine: &Machine, lexeme: Lexeme) -> Option<FormulaFault>
+    requires { IsReady machine.now }
     ensures { result ≡ check (state_of machine.now) lexeme }
 {
     match machine.stage {
@@ -66,11 +73,17 @@ pub fn token_fault(machine: &Machine, lexeme: Lexeme) -> Option<FormulaFault>
         Stage::Format => checks::format_fault(lexeme),
         Stage::Variables => checks::limit_fault(lexeme, MAX_VARIABLES),
         Stage::Clauses => checks::limit_fault(lexeme, MAX_CLAUSES as u64),
-        Stage::Part => checks::part_fault(&machine.formula, machine.clauses, lexeme),
+        Stage::Part => checks::part_fault(
+            &machine.formula,
+            machine.constraints,
+            machine.clauses,
+            lexeme,
+        ),
         Stage::Universals => checks::declared_fault(&machine.formula, lexeme),
         Stage::Existentials => checks::declared_fault(&machine.formula, lexeme),
         Stage::Dependent => checks::dependent_fault(&machine.formula, lexeme),
         Stage::Dependencies => checks::dependency_fault(&machine.formula, lexeme),
         Stage::Clause => checks::literal_fault(&machine.formula, lexeme),
+        Stage::Xor => checks::xor_fault(&machine.formula, machine.literals.items(), lexeme),
     }
 }

@@ -72,9 +72,7 @@ fn end_fault(machine: &Machine) -> Option<FormulaFault>
         Stage::Header | Stage::Format | Stage::Variables | Stage::Clauses => Some(
             FormulaFault::NoHeader,
         ),
-        Stage::Part if (machine.formula.clauses() as u64) < machine.clauses => Some(
-            FormulaFault::TooFewClauses,
-        ),
+        Stage::Part if machine.constraints < machine.clauses => Some(FormulaFault::TooFewClauses),
         Stage::Part => None,
         _ => Some(FormulaFault::MissingZero),
     }

@@ -1,8 +1,8 @@
 //! The machine's steps: what a token that passes its checks does.
 
-ghost use Rattle.std.specs.Prelude.{◌≡◌, ◌≤◌, ◌<◌, [], None, OnOk, length};
-ghost use Rattle.dqdimacs_reader.specs.Machine.{check, advance, check_declared, check_dependency, at_start, in_clause, literal_or_end};
-ghost use Rattle.dqdimacs_reader.specs.MachineState.{state_of, reading_of, literal_on, IsReady, IsCounted};
+ghost use Rattle.std.specs.Prelude.{◌≡◌, ◌≢◌, ◌≤◌, ◌<◌, ◌+◌, ◌++◌, ◌∷◌, [], None, OnOk, length, if◌then◌else◌, ◌==◌};
+ghost use Rattle.dqdimacs_reader.specs.Machine.{check, advance, check_declared, check_dependency, check_literal, check_xor_end, check_xor_literal, at_start, in_clause, in_xor, literal_or_end, xor_literal_or_end};
+ghost use Rattle.dqdimacs_reader.specs.MachineState.{state_of, reading_of, literal_on, IsReady};
 
 use crate::distinct::DistinctLiterals;
 use crate::lexemes::Lexeme;
@@ -33,6 +33,7 @@ pub fn step(machine: &mut Machine, lexeme: Lexeme) -> Result<(), Memory>
         }
         (Stage::Clauses, Lexeme::Natural(n)) => {
             machine.clauses = n;
+            machine.constraints = 0;
             machine.stage = Stage::Part;
             Ok(())
         }
@@ -48,11 +49,13 @@ pub fn step(machine: &mut Machine, lexeme: Lexeme) -> Result<(), Memory>
         (Stage::Dependencies, Lexeme::Natural(x)) => take_dependency(machine, x),
         (Stage::Clause, Lexeme::Natural(v)) => take_literal(machine, v, false),
         (Stage::Clause, Lexeme::Negative(v)) => take_literal(machine, v, true),
+        (Stage::Xor, Lexeme::Natural(v)) => take_xor_literal(machine, v, false),
+        (Stage::Xor, Lexeme::Negative(v)) => take_xor_literal(machine, v, true),
         _ => unreachable!(),
     }
 }
 
-// At the start of a set, an item or a clause.
+// At the start of a set, an item, a clause or an XOR line.
 fn begin_part(machine: &mut Machine, lexeme: Lexeme) -> Result<(), Memory>
     requires stage { machine.old.stage ≡ Stage.Part }
     requires ready { IsReady machine.old }
@@ -64,12 +67,13 @@ fn begin_part(machine: &mut Machine, lexeme: Lexeme) -> Result<(), Memory>
         Lexeme::A => machine.stage = Stage::Universals,
         Lexeme::D => machine.stage = Stage::Dependent,
         Lexeme::E => machine.stage = Stage::Existentials,
+        Lexeme::X => begin_literals(machine, Stage::Xor),
         Lexeme::Natural(v) => {
-            begin_clause(machine);
+            begin_literals(machine, Stage::Clause);
             return take_literal(machine, v, false);
         }
         Lexeme::Negative(v) => {
-            begin_clause(machine);
+            begin_literals(machine, Stage::Clause);
             return take_literal(machine, v, true);
         }
         _ => unreachable!(),
@@ -77,17 +81,15 @@ fn begin_part(machine: &mut Machine, lexeme: Lexeme) -> Result<(), Memory>
     Ok(())
 }
 
-// A clause begins, where the header's number has room for one.
-fn begin_clause(machine: &mut Machine)
-    requires counted { IsCounted machine.old.clauses machine.old.formula }
-    requires room { length machine.old.formula.matrix < machine.old.clauses }
-    ensures state { state_of machine.new ≡ in_clause (reading_of machine.old) [] }
+// A clause or an XOR line begins, where the header's number has one more.
+fn begin_literals(machine: &mut Machine, stage: Stage)
+    requires due { machine.old.constraints < machine.old.clauses }
     ensures reading { reading_of machine.new ≡ reading_of machine.old }
-    ensures stage { machine.new.stage ≡ Stage.Clause }
-    ensures ready { IsReady machine.new }
+    ensures stage { machine.new.stage ≡ stage }
+    ensures literals { machine.new.literals ≡ [] }
 {
     machine.literals = DistinctLiterals::new(machine.alloc);
-    machine.stage = Stage::Clause;
+    machine.stage = stage;
 }
 
 // A variable of a universal set, or its end.
@@ -146,7 +148,7 @@ fn take_dependency(machine: &mut Machine, x: u64) -> Result<(), Memory>
 fn take_literal(machine: &mut Machine, v: u64, negative: bool) -> Result<(), Memory>
     requires stage { machine.old.stage ≡ Stage.Clause }
     requires ready { IsReady machine.old }
-    requires in_range { v ≤ machine.old.formula.variables }
+    requires passed { check_literal (reading_of machine.old) v ≡ None }
     ensures state { OnOk result
         (state_of machine.new
         ≡ literal_or_end (reading_of machine.old) machine.old.literals v
@@ -155,11 +157,42 @@ fn take_literal(machine: &mut Machine, v: u64, negative: bool) -> Result<(), Mem
 {
     if v == 0 {
         machine.formula.add_clause(machine.literals.items())?;
+        machine.constraints += 1;
         machine.stage = Stage::Part;
         return Ok(());
     }
-    // Its variables are few enough for literals.
-    machine.formula.every_formula_is_lawful();
-    let literal = if negative { Lit::neg(v) } else { Lit::pos(v) };
+    let literal = literal_of(&machine.formula, v, negative);
     machine.literals.add(literal)
+}
+
+// A literal of an XOR line by its variable, or the line's end.
+fn take_xor_literal(machine: &mut Machine, v: u64, negative: bool) -> Result<(), Memory>
+    requires stage { machine.old.stage ≡ Stage.Xor }
+    requires ready { IsReady machine.old }
+    requires passed { (if v == 0 then check_xor_end (reading_of machine.old) machine.old.literals
+        else check_xor_literal (reading_of machine.old) machine.old.literals v) ≡ None }
+    ensures state { OnOk result
+        (state_of machine.new
+        ≡ xor_literal_or_end (reading_of machine.old) machine.old.literals v
+        (literal_on negative v)) }
+    ensures ready { OnOk result (IsReady machine.new) }
+{
+    if v == 0 {
+        machine.formula.add_xor(machine.literals.items())?;
+        machine.constraints += 1;
+        machine.stage = Stage::Part;
+        return Ok(());
+    }
+    let literal = literal_of(&machine.formula, v, negative);
+    machine.literals.add(literal)
+}
+
+// The literal on a variable, of which there are few enough for literals.
+fn literal_of(formula: &Formula, v: u64, negative: bool) -> Lit
+    requires from_one { 1 ≤ v }
+    requires in_range { v ≤ formula.now.variables }
+    ensures { result ≡ literal_on negative v }
+{
+    formula.every_formula_is_lawful();
+    if negative { Lit::neg(v) } else { Lit::pos(v) }
 }
