@@ -16,7 +16,6 @@ ghost use Rattle.dqsolve_core.specs.Statuses.{code};
 use crate::reports::Output;
 use crate::statuses::Status;
 use crate::verdicts::{Found, search, true_text};
-use cdcl_core::Cdcl;
 use dq_formula::Formula;
 use dq_lits::Memory;
 use dq_lits::laws::{expansion_lifts, no_formula_is_both};
@@ -75,8 +74,7 @@ fn shown_of(alloc: Global, f: &Formula, log: &mut Log) -> Result<Demonstration, 
 {
     expansion_lifts();
     no_formula_is_both();
-    let mut oracle = Cdcl::new(alloc);
-    match search(alloc, &mut oracle, f, log) {
+    match search(alloc, f, log) {
         Ok(Found::Shown(id)) => judged(alloc, log, id, f),
         Ok(Found::Refuted(_)) => unreachable!(),
         Err(Stop::Limit) => Ok(Demonstration::CutOff),

@@ -8,6 +8,7 @@ ghost use Rattle.hint_log.specs.ProductiveLog.{IsProductiveLog};
 ghost use Rattle.aiger_text.specs.Canonical.{canonical_circuit};
 ghost use Rattle.cert_text.specs.Header.{max_count};
 ghost use Rattle.cert_export.specs.ExportedCircuit.{IsDecidedTrue};
+ghost use Rattle.cert_text.specs.Canonical.{canonical_proof};
 ghost use Rattle.dqcheck_core.specs.Report.{line};
 ghost use Rattle.repair_loop.specs.Searching.{IsShownFalse};
 ghost use Rattle.repair_loop.specs.Stopping.{IsStoppedAtLimit};
@@ -52,8 +53,7 @@ pub fn solve(alloc: Global, f: &Formula, bare: bool, log: &mut Log) -> Result<Ou
     ensures productive { IsProductiveLog f.now log.new.entries }
     ensures limit { log.new.limit ≡ log.old.limit }
 {
-    let mut oracle = Cdcl::new(alloc);
-    match search(alloc, &mut oracle, f, log) {
+    match search(alloc, f, log) {
         Ok(Found::Shown(id)) => true_output(alloc, log, id, f, bare),
         Ok(Found::Refuted(id)) => false_output(alloc, log, id, f, bare),
         Err(Stop::Limit) => unknown_output(alloc, log, f, bare),
@@ -61,8 +61,24 @@ pub fn solve(alloc: Global, f: &Formula, bare: bool, log: &mut Log) -> Result<Ou
     }
 }
 
-/// The search over a solver.
-pub(crate) fn search<O: Oracle>(
+/// The search, over a solver of its own.
+pub(crate) fn search(alloc: Global, f: &Formula, log: &mut Log) -> Result<Found, Stop>
+    requires formula { IsWellFormed f.now }
+    requires empty { log.old.entries ≡ [] }
+    ensures productive { IsProductiveLog f.now log.new.entries }
+    ensures limit_same { log.new.limit ≡ log.old.limit }
+    ensures is_true { (id : ℕ) → result ≡ Ok (Found.Shown id) → IsTrueFormula f.now }
+    ensures shown { (id : ℕ) → result ≡ Ok (Found.Shown id)
+        → IsDecidedTrue f.now log.new.entries id }
+    ensures refuted { (id : ℕ) → result ≡ Ok (Found.Refuted id) → IsShownFalse f.now log.new id }
+    ensures undecided { OnErr result (IsUndecided f.now log.new.entries) }
+    ensures limit { IsErrOf result Stop.Limit → IsStoppedAtLimit f.now log.new }
+{
+    let mut oracle = Cdcl::new(alloc);
+    search_by(alloc, &mut oracle, f, log)
+}
+
+fn search_by<O: Oracle>(
     alloc: Global,
     oracle: &mut O,
     f: &Formula,
@@ -133,9 +149,15 @@ pub(crate) fn true_text(
 fn circuit_text(alloc: Global, mut file: AagFile, proof: &Dqp) -> Result<Vec<u8>, Memory>
     ensures { IfOk result (λ text. text.items ≡ canonical_circuit (with_proof file proof.now)) }
 {
-    let written = write_dqp(alloc, proof)?;
-    file.comment = Some(Text::from_bytes(alloc, &written)?);
+    file.comment = Some(proof_text(alloc, proof)?);
     aiger_text::write(alloc, &file)
+}
+
+fn proof_text(alloc: Global, proof: &Dqp) -> Result<Text, Memory>
+    ensures { IfOk result (λ text. text ≡ canonical_proof proof.now) }
+{
+    let written = write_dqp(alloc, proof)?;
+    Ok(Text::from_bytes(alloc, &written)?)
 }
 
 // What is written of a false formula.

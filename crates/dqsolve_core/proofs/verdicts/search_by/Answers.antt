@@ -3,7 +3,7 @@ use Rattle.cert_export.specs.ExportedCircuit.{IsDecidedTrue}
 use Rattle.repair_loop.specs.Searching.{IsShownFalse}
 use Rattle.aig_graph.specs.Outputs.{outputs_of}
 use Rattle.dqsolve_core.proofs.DueOutputs.{decided, same_shown, same_refuted}
-use Rattle.dqsolve_core.proofs.verdicts.search.Goals as goal
+use Rattle.dqsolve_core.proofs.verdicts.search_by.Goals as goal
 
 pub returns-in-True-clause-shown : goal.returns-in-True-clause-shown
 returns-in-True-clause-shown g c id same =
