@@ -1,4 +1,4 @@
-//! Whole runs whose refutations are exported, and judged by the checker.
+//! A run of the loop whose refutation is exported, and judged by the checker.
 
 ghost use Rattle.std.specs.Prelude.{◌≡◌, ◌≤◌, [], length};
 ghost use Rattle.dq_lits.specs.Formula.{IsWellFormed};
@@ -7,10 +7,8 @@ ghost use Rattle.cert_text.specs.Header.{max_count};
 ghost use Rattle.expansion.specs.Table.{IsRefutedBy};
 
 use crate::reports::{Detail, Report};
-use crate::scans::compare_refutation;
 use aig_graph::Graph;
 use anyhow::{Result, anyhow};
-use cdcl_core::Cdcl;
 use cert_export::laws::productive_answers_can_be_exported;
 use cert_export::{clause_numbers, export_false};
 use cert_text::write_dqr;
@@ -21,57 +19,11 @@ use oracle::Oracle;
 use repair_loop::{Verdict, decide};
 use std::alloc::Global;
 
-// As many steps as a certificate may have.
-const MAX_STEPS: u64 = 1_000_000_000;
-
 // More bytes than any case's certificate has.
 const MAX_BYTES: usize = 1 << 20;
 
-/// Decides a formula in so many steps, and lets the checker judge the refutation.
-pub fn run(
-    alloc: Global,
-    f: &Formula,
-    limit: &str,
-    detail: Detail,
-    printed: &mut String,
-) -> Result<()>
-    requires formula { IsWellFormed f.now }
-{
-    let limit: u64 = limit.trim().parse()?;
-    if limit > MAX_STEPS {
-        return Err(anyhow!("too many steps: {limit}"));
-    }
-    run_within(alloc, f, limit, detail, printed)
-}
-
-fn run_within(
-    alloc: Global,
-    f: &Formula,
-    limit: u64,
-    detail: Detail,
-    printed: &mut String,
-) -> Result<()>
-    requires formula { IsWellFormed f.now }
-    requires limit { limit ≤ max_count }
-{
-    let mut report = Report::new(alloc, detail);
-    by_watches(alloc, f, limit, &mut report)?;
-    printed.push_str(&report.text)?;
-    compare_refutation(alloc, f, limit, &report, printed)
-}
-
-// Refutes a formula by the solver of the programs.
-fn by_watches(alloc: Global, f: &Formula, limit: u64, report: &mut Report) -> Result<()>
-    requires formula { IsWellFormed f.now }
-    requires limit { limit ≤ max_count }
-{
-    let mut oracle = Cdcl::new(alloc);
-    let mut log = Log::new(alloc, limit);
-    refute(alloc, &mut oracle, f, &mut log, report)
-}
-
 /// Decides a formula, and prints what the checker says of the refutation.
-pub fn refute<O: Oracle>(
+pub fn refute_by<O: Oracle>(
     alloc: Global,
     oracle: &mut O,
     f: &Formula,

@@ -15,7 +15,7 @@ mod forcing;
 mod gates;
 mod reports;
 mod rows;
-mod scans;
+mod runs;
 mod shown;
 mod tables;
 

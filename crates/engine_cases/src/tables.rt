@@ -20,7 +20,8 @@
 ghost use Rattle.dq_lits.specs.Formula.{IsWellFormed};
 
 use crate::reports::Detail;
-use crate::{circuits, decisions, definitions, expansions, exports, expressions, forcing, gates};
+use crate::runs::Aim;
+use crate::{circuits, definitions, expansions, expressions, forcing, gates, runs};
 use anyhow::{Result, anyhow};
 use dq_formula::Formula;
 use dqdimacs_reader::read;
@@ -35,10 +36,25 @@ pub fn take_line(alloc: Global, formula: &mut String, line: &str) -> Result<Opti
         "turns" => run(alloc, formula, rest, Kind::Turns),
         "rows" => run(alloc, formula, rest, Kind::Rows(Detail::Checks)),
         "points" => run(alloc, formula, rest, Kind::Rows(Detail::Bits)),
-        "decide" => run(alloc, formula, rest, Kind::Decision(Detail::Checks)),
-        "rounds" => run(alloc, formula, rest, Kind::Decision(Detail::Bits)),
-        "refute" => run(alloc, formula, rest, Kind::Refutation(Detail::Checks)),
-        "certificate" => run(alloc, formula, rest, Kind::Refutation(Detail::Bits)),
+        "decide" => run(
+            alloc,
+            formula,
+            rest,
+            Kind::Run(Aim::Verdict(Detail::Checks)),
+        ),
+        "rounds" => run(alloc, formula, rest, Kind::Run(Aim::Verdict(Detail::Bits))),
+        "refute" => run(
+            alloc,
+            formula,
+            rest,
+            Kind::Run(Aim::Refutation(Detail::Checks)),
+        ),
+        "certificate" => run(
+            alloc,
+            formula,
+            rest,
+            Kind::Run(Aim::Refutation(Detail::Bits)),
+        ),
         "define" => run(alloc, formula, rest, Kind::Definitions),
         "force" => run(alloc, formula, rest, Kind::Forcing),
         "gates" => run(alloc, formula, rest, Kind::Gates),
@@ -48,12 +64,11 @@ pub fn take_line(alloc: Global, formula: &mut String, line: &str) -> Result<Opti
 }
 
 /// Which engine is run.
-#[derive(Clone, Copy, Debug)]
+#[derive(Clone, Copy)]
 enum Kind {
     Turns,
     Rows(Detail),
-    Decision(Detail),
-    Refutation(Detail),
+    Run(Aim),
     Definitions,
     Forcing,
     Gates,
@@ -90,8 +105,7 @@ fn run_engine(
     match kind {
         Kind::Turns => circuits::run(alloc, f, steps, printed),
         Kind::Rows(detail) => expansions::run(alloc, f, steps, detail, printed),
-        Kind::Decision(detail) => decisions::run(alloc, f, steps, detail, printed),
-        Kind::Refutation(detail) => exports::run(alloc, f, steps, detail, printed),
+        Kind::Run(aim) => runs::run(alloc, f, steps, aim, printed),
         Kind::Definitions => definitions::run(alloc, f, steps, printed),
         Kind::Forcing => forcing::run(alloc, f, steps, printed),
         Kind::Gates => gates::run(alloc, f, steps, printed),
