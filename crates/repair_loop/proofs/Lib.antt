@@ -1,4 +1,5 @@
 mod Rows
+mod UniversalClauses
 mod Extends
 mod Stages
 mod Defined

@@ -8,6 +8,7 @@ ghost use Rattle.repair_loop.specs.Stopping.{IsStoppedAtLimit};
 use crate::candidates::Found;
 use crate::definitions::{Definitions, find_definitions};
 use crate::judging::{Candidates, Judged};
+use crate::universal_clauses::{find_false_clause, refute};
 use aig_graph::Graph;
 use candidate_functions::Outputs;
 use circuit_cnf::Checker;
@@ -59,6 +60,10 @@ pub fn decide<O: Oracle>(
     engines_leave_the_rest();
     engines_leave_tables();
     engines_leave_copies();
+    if let Some(found) = find_false_clause(alloc, f)? {
+        let id = refute(alloc, oracle, f, &found, log)?;
+        return Ok(Verdict::False(id));
+    }
     let definitions = find_definitions(alloc, oracle, graph, f, log)?;
     let table = Table::new(alloc, oracle, f, log)?;
     let checker = Checker::new(alloc, oracle, f, log)?;

@@ -13,7 +13,7 @@ ghost use Rattle.oracle.specs.Limits.{IsAtSomeLimit};
 use aig_graph::{Graph, Node};
 use definition_order::existentials_in_order;
 use dq_formula::{Formula, Rule};
-use dq_lits::Memory;
+use dq_lits::{Lit, Memory};
 use gate_definitions::Gates;
 use hint_log::{Log, Stop};
 use log_laws::laws::engines_leave_the_rest;
@@ -26,6 +26,9 @@ use std::alloc::Global;
 pub(crate) struct Definitions {
     pub(crate) padoa: Padoa,
     gates: Gates,
+    // Which existentials occur in a clause, in order of declaration: of others nothing is asked, as
+    // any bit does. No contract speaks of it.
+    occurs: Vec<bool>,
     // The node of each existential that has a definition, in order of declaration.
     pub(crate) nodes: Vec<Option<Node>>,
     // Bits that those without a definition are forced to have.
@@ -56,9 +59,15 @@ impl Definitions {
         Ok(Definitions {
             padoa,
             gates,
+            occurs: occurring(alloc, f)?,
             nodes: no_nodes(alloc, f.existentials().len())?,
             rules: Vec::new(alloc),
         })
+    }
+
+    // Whether the existential at a place occurs in a clause.
+    pub(crate) fn occurs_at(&self, place: usize) -> bool {
+        place < self.occurs.len() && self.occurs[place]
     }
 
     // Notes what was found of the existential at a place.
@@ -133,6 +142,9 @@ impl Definitions {
         ensures limit { IsErrOf result Stop.Limit → IsAtSomeLimit log.new }
     {
         engines_leave_the_rest();
+        if !self.occurs_at(existential.place) {
+            return Ok(());
+        }
         existential.f.every_formula_is_lawful();
         let found = self.ask(oracle, graph, existential, log)?;
         self.note(existential.place, found);
@@ -181,7 +193,30 @@ fn no_nodes(alloc: Global, n: usize) -> Result<Vec<Option<Node>>, Memory>
     Ok(vec![in alloc; None; n]?)
 }
 
-// Asks for a definition of each existential, those that see less first.
+// Which existentials occur in a clause, by their places.
+fn occurring(alloc: Global, f: &Formula) -> Result<Vec<bool>, Memory> {
+    let mut occurs = vec![in alloc; false; f.existentials().len()]?;
+    for j in 0..f.clauses() {
+        mark(f, f.clause(j), &mut occurs);
+    }
+    Ok(occurs)
+}
+
+fn mark(f: &Formula, clause: &[Lit], occurs: &mut [bool]) {
+    for l in clause {
+        if let Some(place) = f.existential_place(l.var()) {
+            mark_place(place, occurs);
+        }
+    }
+}
+
+fn mark_place(place: usize, occurs: &mut [bool]) {
+    if place < occurs.len() {
+        occurs[place] = true;
+    }
+}
+
+// Asks for a definition of each existential that occurs in a clause, those that see less first.
 pub(crate) fn find_definitions<O: Oracle>(
     alloc: Global,
     oracle: &mut O,

@@ -94,6 +94,9 @@ impl Definitions {
         ensures grew { LogGrew log.old log.new }
         ensures limit { IsErrOf result Stop.Limit → IsAtSomeLimit log.new }
     {
+        if !self.occurs_at(existential.place) {
+            return Ok(());
+        }
         if let Some(_) = self.nodes[existential.place] {
             return Ok(());
         }

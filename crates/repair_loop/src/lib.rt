@@ -10,3 +10,4 @@ mod decisions;
 mod definitions;
 mod forcing;
 mod judging;
+mod universal_clauses;
