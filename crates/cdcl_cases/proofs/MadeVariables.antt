@@ -12,8 +12,8 @@ use Rattle.hint_log.specs.Entries.{ProofLog, name_of, last_id}
 use Rattle.oracle.specs.Calls.{IsRefutedUnder}
 use Rattle.oracle.specs.declared.oracles.Answer.{Answer as Found}
 use Rattle.oracle.specs.declared.oracles.Answer.TheVariants.{Sat, Unsat}
-use Rattle.cdcl_core.specs.Growing.{HasLearned}
-use Rattle.cdcl_core.proofs.SearchTurns.{names_same}
+use Rattle.learning_trail.specs.Growing.{HasLearned}
+use Rattle.learning_trail.proofs.SearchTurns.{names_same}
 use Rattle.cdcl_cases.specs.declared.calls.Made.{Made}
 use Rattle.cdcl_cases.specs.Making.{AreMade}
 

@@ -11,8 +11,8 @@ use Rattle.cdcl_core.specs.Chains.{watch_at, place_of}
 use Rattle.cdcl_core.specs.Watching.{IsWatched, AreWatched, AreShort, NotesShort}
 use Rattle.cdcl_core.specs.Visits.{AreListed}
 use Rattle.cdcl_core.specs.Storage.{Stored, IsListed, HasLists}
-use Rattle.cdcl_core.proofs.FoundModels.{of_all}
-use Rattle.cdcl_core.proofs.Lessons.{live_more}
+use Rattle.learning_trail.proofs.FoundModels.{of_all}
+use Rattle.learning_trail.proofs.Lessons.{live_more}
 use Rattle.cdcl_core.proofs.VisitedClauses.{contains_last}
 
 pub watch_old : (xs : List Literal) (x : Literal) (i : ℕ) → i < length xs → watch_at (xs ++ x ∷ []) i ≡ watch_at xs i

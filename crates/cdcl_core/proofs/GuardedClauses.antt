@@ -7,13 +7,13 @@ use Rattle.dq_lits.specs.Literal.{Literal, opposite, same_literal}
 use Rattle.dq_lits.specs.Derivation.{stuck, falsified, unit, holds, status_of}
 use Rattle.hint_log.specs.ProductiveLog.{IsClosed}
 use Rattle.oracle.specs.Fit.{live_in}
-use Rattle.cdcl_core.specs.declared.trails.Step.{Step}
-use Rattle.cdcl_core.specs.Steps.{literals_of, is_decision, Grown}
+use Rattle.learning_trail.specs.declared.trails.Step.{Step}
+use Rattle.learning_trail.specs.Steps.{literals_of, is_decision, Grown}
 use Rattle.cdcl_core.specs.Chains.{watch_at}
 use Rattle.cdcl_core.specs.Watching.{AreWatched, AreSame, AreShort, Guards, AreShortTrue, IsGuarded, AreLevelsGuarded, IsMove, AreMoved}
-use Rattle.cdcl_core.proofs.ConflictAnalysis.{AreConsistent}
-use Rattle.cdcl_core.proofs.HeldLiterals.{any_gives, any_one, holds_first, holds_later, holds_cases, same_literal-sound, same_literal-refl, same_literal-sym, opposite-opposite}
-use Rattle.cdcl_core.proofs.ClauseStatus.{is_falsified, is_unit, stuck_from_true, stuck_from_two}
+use Rattle.learning_trail.proofs.ConflictAnalysis.{AreConsistent}
+use Rattle.learning_trail.proofs.HeldLiterals.{any_gives, any_one, holds_first, holds_later, holds_cases, same_literal-sound, same_literal-refl, same_literal-sym, opposite-opposite}
+use Rattle.learning_trail.proofs.ClauseStatus.{is_falsified, is_unit, stuck_from_true, stuck_from_two}
 
 abbrev pub Among : List Literal → List Literal → Type 0
 Among few many = (t : Literal) → holds few t ≡ true → holds many t ≡ true

@@ -8,20 +8,20 @@ use Rattle.dq_lits.specs.Literal.{Literal, positive, opposite, variable_of, same
 use Rattle.dq_lits.specs.Derivation.{unit, falsified, stuck, holds, status_of}
 use Rattle.oracle.specs.Fit.{live_in}
 use Rattle.cdcl_core.specs.declared.propagation.Look.TheVariants.{Kept, Moved, Falsified}
-use Rattle.cdcl_core.specs.declared.trails.Step.{Step}
+use Rattle.learning_trail.specs.declared.trails.Step.{Step}
 use Rattle.cdcl_core.specs.declared.watches.Watches.{Watches}
-use Rattle.cdcl_core.specs.Steps.{Trailed, literals_of, Grown, IsAt}
-use Rattle.cdcl_core.specs.Sound.{IsSound}
-use Rattle.cdcl_core.specs.Passes.{AreWithin}
+use Rattle.learning_trail.specs.Steps.{Trailed, literals_of, Grown, IsAt}
+use Rattle.learning_trail.specs.Sound.{IsSound}
+use Rattle.learning_trail.specs.Passes.{AreWithin}
 use Rattle.cdcl_core.specs.Chains.{watch_at, has, IsLinked, IsTaken, IsLeft}
 use Rattle.cdcl_core.specs.Watching.{IsWatched, AreWatched, AreSame, AreShort, IsGuarded, AreLevelsGuarded, IsMove, AreMoved, IsReady}
 use Rattle.cdcl_core.specs.Visits.{IsVisitable, IsLooked, IsDone, IsVisited, IsListVisited, IsVisiting, AreVisited, IsTrailVisited, IsProcessed, AreOnTrail, IsPuttingBack, IsPassing}
-use Rattle.cdcl_core.proofs.ConflictAnalysis.{sound_consistent, contains_none, contains_cases}
+use Rattle.learning_trail.proofs.ConflictAnalysis.{sound_consistent, contains_none, contains_cases}
 use Rattle.cdcl_core.proofs.GuardedClauses.{Among, among_grown, among_suffix, any_more, same_stuck, same-sym, watched_turned, guarded_moved, guarded_turned, levels_moved, levels_turned, levels_grown, short_kept, short_notes_turned, guards_visited, moved_both}
-use Rattle.cdcl_core.proofs.HeldLiterals.{any_one, opposite-opposite, holds_first, holds_later, same_literal-sound, same_literal-refl}
+use Rattle.learning_trail.proofs.HeldLiterals.{any_one, opposite-opposite, holds_first, holds_later, same_literal-sound, same_literal-refl}
 use Rattle.cdcl_core.proofs.LinkedLists.{has_first, has_later, has_cases, chain_short, chain_range}
-use Rattle.cdcl_core.proofs.LargerTrails.{grown_none, grown_one, grown_both, implied_step, literal_within, live_within}
-use Rattle.cdcl_core.proofs.ClauseStatus.{is_falsified, is_unit, implied_from}
+use Rattle.learning_trail.proofs.LargerTrails.{grown_none, grown_one, grown_both, implied_step, literal_within, live_within}
+use Rattle.learning_trail.proofs.ClauseStatus.{is_falsified, is_unit, implied_from}
 
 pub at_id : (clauses : List (List Literal)) (id : ℕ) (c : List Literal) → live_in clauses id ≡ Some c → slice_get clauses (id - 1) ≡ Some c
 at_id clauses zero c is = let n : None ≡ Some c = is in cc

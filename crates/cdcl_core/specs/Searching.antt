@@ -1,19 +1,25 @@
 -- What holds between the turns of a search.
-use Rattle.std.specs.Prelude.{◌≡◌, ℕ, ◌+◌, ◌-◌, ◌*◌, ◌≤◌, ◌<◌, true, false, List, length, IsSome, All, ◌⊎◌}
-use Rattle.std.specs.List.{list_any}
-use Rattle.dq_lits.specs.Literal.{Literal, variable_of, is_negative, opposite}
-use Rattle.dq_lits.specs.Derivation.{holds}
-use Rattle.hint_log.specs.Entries.{ProofLog, steps_of, name_of}
-use Rattle.hint_log.specs.Naming.{is_selector}
-use Rattle.oracle.specs.Fit.{Fit, live_in}
-use Rattle.oracle.specs.Calls.{IsRefutedUnder}
-use Rattle.cdcl_core.specs.Growing.{HasLearned}
+use Rattle.std.specs.Prelude.{◌≡◌, ℕ, ◌+◌, ◌-◌, ◌*◌, ◌≤◌, ◌<◌, List, length, ◌⊎◌}
+use Rattle.dq_lits.specs.Literal.{Literal}
+use Rattle.hint_log.specs.Entries.{ProofLog, steps_of}
 use Rattle.oracle.specs.declared.oracles.Answer.{Answer as Found}
-use Rattle.oracle.specs.declared.oracles.Answer.TheVariants.{Sat, Unsat}
+use Rattle.learning_trail.specs.Growing.{HasLearned}
+use Rattle.learning_trail.specs.Searching.{Searched, IsFound as IsFoundBy}
+use Rattle.oracle.specs.Fit.{Fit, live_in}
+use Rattle.learning_trail.specs.Steps.{literals_of}
+use Rattle.learning_trail.specs.Sound.{IsSound, IsGuided}
 use Rattle.cdcl_core.specs.declared.searchers.Searcher.{Searcher}
-use Rattle.cdcl_core.specs.Steps.{literals_of}
-use Rattle.cdcl_core.specs.Sound.{IsSound, IsGuided, AreTrue}
 use Rattle.cdcl_core.specs.Watching.{IsGuarded, AreLevelsGuarded, IsTopGuarded}
+
+-- what of it an analysis sees
+abbrev pub searched : Searcher → Searched
+searched s =
+    record {
+      clauses = s.clauses.clauses;
+      variables = s.variables;
+      trail = s.trail;
+      notes = s.notes;
+    }
 
 -- the searcher goes with the log, and its trail is one
 pub record IsSearching (assumptions : List Literal) (s : Searcher) (log : ProofLog) : Type 0 where
@@ -33,14 +39,6 @@ abbrev pub IsAllGuarded : Searcher → Type 0
 IsAllGuarded s =
     IsGuarded s.clauses.clauses s.clauses.first s.clauses.second (literals_of s.trail.steps)
     (literals_of s.trail.steps)
-
--- assumptions stand on variables that have names, and not beside their negations
-pub record AreAssumptions (log : ProofLog) (assumptions : List Literal) : Type 0 where
-  pub named : (l : Literal) → holds assumptions l ≡ true
-      → IsSome (name_of log.entries (variable_of l))
-  pub apart : (l : Literal) → holds assumptions l ≡ true → holds assumptions (opposite l) ≡ true → ⊥
-  pub switched : (l : Literal) → holds assumptions l ≡ true
-      → is_selector log.entries (variable_of l) ≡ true → is_negative l ≡ false
 
 -- how far a search is from its end
 abbrev pub left_of : Searcher → ProofLog → ℕ
@@ -69,15 +67,8 @@ pub record IsTurn (assumptions : List Literal) (s t : Searcher) (old new : Proof
   pub few : length t.trail.steps ≤ t.trail.room
   pub closer : left_of t new < left_of s old
 
--- the trail makes every assumption and every clause true
-pub record IsSatisfied (assumptions : List Literal) (s : Searcher) : Type 0 where
-  pub sound : IsSound (live_in s.clauses.clauses) s.trail.steps
-  pub assumed : AreTrue assumptions (literals_of s.trail.steps)
-  pub clauses : All (λ c. list_any (holds (literals_of s.trail.steps)) c ≡ true) s.clauses.clauses
-
 abbrev pub IsFound : List Literal → Searcher → ProofLog → ProofLog → Found → Type 0
-IsFound assumptions s old new Sat = HasLearned old new × IsSatisfied assumptions s
-IsFound assumptions s old new (Unsat id) = IsRefutedUnder old new assumptions id
+IsFound assumptions s old new found = IsFoundBy assumptions (searched s) old new found
 
 -- marks have a place for each variable that there is room for
 abbrev pub HasRoom : Searcher → Type 0

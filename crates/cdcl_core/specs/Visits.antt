@@ -6,11 +6,11 @@ use Rattle.dq_lits.specs.Derivation.{holds, status_of, falsified}
 use Rattle.oracle.specs.Fit.{live_in}
 use Rattle.cdcl_core.specs.declared.propagation.Look.{Look}
 use Rattle.cdcl_core.specs.declared.propagation.Look.TheVariants.{Kept, Moved, Falsified}
-use Rattle.cdcl_core.specs.declared.trails.Step.{Step}
+use Rattle.learning_trail.specs.declared.trails.Step.{Step}
 use Rattle.cdcl_core.specs.declared.watches.Watches.{Watches}
-use Rattle.cdcl_core.specs.Steps.{Trailed, literals_of, Grown, IsFree}
-use Rattle.cdcl_core.specs.Sound.{IsSound}
-use Rattle.cdcl_core.specs.Passes.{AreWithin}
+use Rattle.learning_trail.specs.Steps.{Trailed, literals_of, Grown, IsFree}
+use Rattle.learning_trail.specs.Sound.{IsSound}
+use Rattle.learning_trail.specs.Passes.{AreWithin}
 use Rattle.cdcl_core.specs.Chains.{watch_at, has, HasList, IsLinked, IsLeft}
 use Rattle.cdcl_core.specs.Watching.{AreWatched, AreMoved, IsGuarded, AreLevelsGuarded, AreShort, AreSame}
 

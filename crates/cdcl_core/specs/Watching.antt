@@ -3,8 +3,8 @@ use Rattle.std.specs.Prelude.{◌≡◌, ℕ, suc, ◌-◌, ◌≤◌, ◌<◌, 
 use Rattle.std.specs.List.{list_any}
 use Rattle.dq_lits.specs.Literal.{Literal, opposite, same_literal}
 use Rattle.dq_lits.specs.Derivation.{holds}
-use Rattle.cdcl_core.specs.declared.trails.Step.{Step}
-use Rattle.cdcl_core.specs.Steps.{literals_of, is_decision}
+use Rattle.learning_trail.specs.declared.trails.Step.{Step}
+use Rattle.learning_trail.specs.Steps.{literals_of, is_decision}
 use Rattle.cdcl_core.specs.Chains.{watch_at}
 
 -- both are literals of the clause, or it has no other literal than the one

@@ -9,19 +9,18 @@ ghost use Rattle.hint_log.specs.Entries.{Given};
 ghost use Rattle.oracle.specs.Fit.{Fit};
 ghost use Rattle.oracle.specs.Calls.{IsMade, IsPlain, IsModelUnder, IsRefutedUnder, assumed};
 ghost use Rattle.oracle.specs.Limits.{IsAtLimit};
-ghost use Rattle.cdcl_core.specs.Growing.{HasLearned};
-ghost use Rattle.cdcl_core.specs.Steps.{literals_of, literal_value};
-ghost use Rattle.cdcl_core.specs.Searching.{IsSearching, IsReady, AreAssumptions, IsFound, HasRoom, KeepsPlaces};
-ghost use Rattle.cdcl_core.specs.declared.trails.TruthValue.TheVariants.{True};
+ghost use Rattle.learning_trail.specs.Growing.{HasLearned};
+ghost use Rattle.learning_trail.specs.Steps.{literals_of, literal_value};
+ghost use Rattle.learning_trail.specs.Searching.{AreAssumptions};
+ghost use Rattle.cdcl_core.specs.Searching.{IsReady, HasRoom, KeepsPlaces, IsSearching, IsFound};
+ghost use Rattle.learning_trail.specs.declared.trails.TruthValue.TheVariants.{True};
 
-use crate::assumptions::Assumptions;
 use crate::clauses::ClauseStore;
-use crate::levels::back_to_start;
 use crate::search::search;
 use crate::searchers::Searcher;
-use crate::trails::{Trail, TruthValue};
 use dq_lits::{Lit, Memory};
 use hint_log::{Log, Origin, Stop};
+use learning_trail::{Assumptions, back_to_start, keep_values};
 use oracle::{Answer, Group};
 use std::alloc::Global;
 
@@ -55,18 +54,6 @@ pub(crate) fn grow(s: &mut Searcher, model: &mut Vec<bool>) -> Result<u64, Memor
     s.trail.grow()?;
     s.clauses.grow(var)?;
     Ok(var)
-}
-
-/// The clause of a group's literals.
-pub(crate) fn group_clause(alloc: Global, selector: Lit, lits: &[Lit]) -> Result<Vec<Lit>, Memory>
-    ensures { IfOk result (λ c. c.items ≡ opposite selector ∷ lits.now) }
-{
-    let mut clause = Vec::new(alloc);
-    clause.push(selector.not())?;
-    for l in lits {
-        clause.push(*l)?;
-    }
-    Ok(clause)
 }
 
 /// Logs a clause that was put to the solver, and holds it.
@@ -158,32 +145,5 @@ fn search_and_keep(
             Ok(Answer::Sat)
         }
         Answer::Unsat(id) => Ok(Answer::Unsat(id)),
-    }
-}
-
-// Keeps the values of the trail.
-fn keep_values(model: &mut [bool], trail: &Trail)
-    requires room { length model.old ≤ trail.now.room }
-    requires few { length model.old < 2 ^ 62 }
-    ensures len { length model.new ≡ length model.old }
-    ensures values { (i : ℕ) → i < length model.old
-        → (slice_index_or model.new i false ≡ true
-        → literal_value (literals_of trail.now.steps) (positive (suc i)) ≡ True)
-        × (literal_value (literals_of trail.now.steps) (positive (suc i)) ≡ True
-        → slice_index_or model.new i false ≡ true) }
-{
-    for i in 0..model.len() {
-        model[i] = is_true(trail.value(Lit::pos(i as u64 + 1)));
-    }
-}
-
-fn is_true(value: TruthValue) -> bool
-    ensures on { value ≡ True → result ≡ true }
-    ensures off { result ≡ true → value ≡ True }
-{
-    match value {
-        TruthValue::True => true,
-        TruthValue::False => false,
-        TruthValue::Unassigned => false,
     }
 }

@@ -5,16 +5,16 @@ ghost use Rattle.dq_lits.specs.Literal.{Literal, positive, same_literal};
 ghost use Rattle.dq_lits.specs.Derivation.{holds};
 ghost use Rattle.oracle.specs.Fit.{live_in};
 ghost use Rattle.cdcl_core.specs.Runs.{BeginAlike};
-ghost use Rattle.cdcl_core.specs.Steps.{literals_of, Grown};
-ghost use Rattle.cdcl_core.specs.Sound.{IsSound};
-ghost use Rattle.cdcl_core.specs.Passes.{AreWithin, IsPropagated};
+ghost use Rattle.learning_trail.specs.Steps.{literals_of, Grown};
+ghost use Rattle.learning_trail.specs.Sound.{IsSound};
+ghost use Rattle.learning_trail.specs.Passes.{AreWithin, IsPropagated};
 ghost use Rattle.cdcl_core.specs.Watching.{IsWatched, IsReady, IsGuarded, AreLevelsGuarded, NotesShort};
 
 use crate::arenas::Arena;
 use crate::propagation::propagate;
-use crate::trails::Trail;
 use crate::watches::{Watches, add_watch, make_lists, make_room, no_watches};
 use dq_lits::{Lit, Memory};
+use learning_trail::{Clauses, Trail};
 use std::alloc::Global;
 use std::marker::Model;
 
@@ -41,6 +41,14 @@ impl Model for ClauseStore {
     ghost invariant = { IsStored };
 }
 
+impl Clauses for ClauseStore {
+    ghost clauses = { λ s. s.clauses };
+
+    fn lits(&self, id: u64) -> &[Lit] {
+        self.arena.lits(id)
+    }
+}
+
 impl ClauseStore {
     ghost use Rattle.cdcl_core.specs.Storage.{HasLists, IsListed};
 
@@ -62,15 +70,6 @@ impl ClauseStore {
         ensures { result ≡ length self.now.clauses }
     {
         self.arena.len()
-    }
-
-    /// The literals of the clause with an id.
-    pub(crate) fn lits(&self, id: u64) -> &[Lit]
-        requires from_one { 1 ≤ id }
-        requires is_id { id ≤ length self.now.clauses }
-        ensures { live_in self.now.clauses id ≡ Some result.now }
-    {
-        self.arena.lits(id)
     }
 
     /// Of the clauses up to an id that begin with the same literal, one behind the other: the id
@@ -233,11 +232,4 @@ fn note_short(short: &mut Vec<u64>, watched: Watched, id: u64)
     if watched.first == watched.second && short.push(id).is_err() {
         unreachable!();
     }
-}
-
-/// Whether a literal is among others.
-pub(crate) fn holds(lits: &[Lit], l: Lit) -> bool
-    ensures { result ≡ holds lits.now l }
-{
-    lits.iter().any(|k| l == *k)
 }

@@ -9,16 +9,15 @@ ghost use Rattle.dq_lits.specs.Literal.{Literal, variable_of, same_literal};
 ghost use Rattle.dq_lits.specs.Derivation.{holds, status_of, stuck};
 ghost use Rattle.oracle.specs.Fit.{live_in};
 ghost use Rattle.hint_log.specs.ProductiveLog.{IsClosed};
-ghost use Rattle.cdcl_core.specs.Steps.{literals_of, IsFree};
+ghost use Rattle.learning_trail.specs.Steps.{literals_of, IsFree};
 ghost use Rattle.cdcl_core.specs.Runs.{BeginsTrue};
-ghost use Rattle.cdcl_core.specs.Passes.{AreWithin, IsOpening, AreTrueWithin};
+ghost use Rattle.learning_trail.specs.Passes.{AreWithin, IsOpening};
+ghost use Rattle.cdcl_core.specs.Passes.{AreTrueWithin};
 
-use crate::activities::Activities;
 use crate::clauses::{ClauseStore, Watched};
 use crate::positions::{Positions, Span};
-use crate::statuses::is_true;
-use crate::trails::{Trail, TruthValue};
 use dq_lits::Lit;
+use learning_trail::{Activities, Clauses, Trail, is_true, open_literal};
 
 /// A clause that has no true literal, and a literal of it without a value.
 #[derive(Clone, Copy, Debug)]
@@ -157,39 +156,4 @@ fn is_watch_true(trail: &Trail, watched: Watched) -> bool
 {
     watched.first != watched.second
         && (is_true(trail, watched.first) || is_true(trail, watched.second))
-}
-
-// The most active literal without a value, where the clause has no true literal.
-fn open_literal(trail: &Trail, lits: &[Lit], activities: &Activities) -> Option<Lit>
-    requires in_range { All (λ l. variable_of l ≤ trail.now.room) lits.now }
-    requires stuck { status_of (literals_of trail.now.steps) (Some lits.now) ≡ stuck }
-    ensures { MatchOption result
-        (list_any (holds (literals_of trail.now.steps)) lits.now ≡ true)
-        (λ l. IsFree (literals_of trail.now.steps) l × (holds lits.now l ≡ true)) }
-{
-    let mut best = None;
-    for l in lits {
-        match trail.value(*l) {
-            TruthValue::False => {}
-            TruthValue::True => return None,
-            TruthValue::Unassigned => best = Some(more_active(activities, &best, *l)),
-        }
-    }
-    best
-}
-
-// One of the two.
-fn more_active(activities: &Activities, best: &Option<Lit>, l: Lit) -> Lit
-    ensures { (result ≡ l) ⊎ (best.now ≡ Some result) }
-{
-    match best {
-        None => l,
-        Some(k) => {
-            if activities.is_more_active(l, *k) {
-                l
-            } else {
-                *k
-            }
-        }
-    }
 }

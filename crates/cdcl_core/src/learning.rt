@@ -8,22 +8,18 @@ ghost use Rattle.hint_log.specs.Entries.{steps_of, last_id, with_entry};
 ghost use Rattle.hint_log.specs.Entries.{Learned};
 ghost use Rattle.oracle.specs.Fit.{Fit, live_in};
 ghost use Rattle.oracle.specs.Limits.{IsAtLimit};
-ghost use Rattle.cdcl_core.specs.Growing.{HasLearned};
-ghost use Rattle.cdcl_core.specs.Steps.{literals_of, decision_of, is_decision, IsFree};
-ghost use Rattle.cdcl_core.specs.Marks.{is_level_marked};
-ghost use Rattle.cdcl_core.specs.Lessons.{IsLanded, LandsInLevel};
-ghost use Rattle.cdcl_core.specs.Searching.{IsSearching, HasTurned, KeepsPlaces};
+ghost use Rattle.learning_trail.specs.Growing.{HasLearned};
+ghost use Rattle.learning_trail.specs.Steps.{literals_of, decision_of, is_decision, IsFree};
+ghost use Rattle.learning_trail.specs.Marks.{is_level_marked};
+ghost use Rattle.learning_trail.specs.Lessons.{IsLanded, LandsInLevel};
+ghost use Rattle.cdcl_core.specs.Searching.{HasTurned, KeepsPlaces, IsSearching};
 ghost use Rattle.cdcl_core.specs.Storage.{HasLists, IsHeldWatched};
 
-use crate::analysis::analyse;
-use crate::assumptions::Assumptions;
 use crate::clauses::{ClauseStore, Watched};
-use crate::levels::{back_to_start, jump};
-use crate::notes::Notes;
 use crate::searchers::Searcher;
-use crate::trails::{Step, Trail};
 use dq_lits::Lit;
 use hint_log::{Log, Stop};
+use learning_trail::{Assumptions, Notes, Step, analyse, land};
 
 /// Learns from a falsified clause, and goes back to where what was learned is unit, or begins anew.
 pub(crate) fn learn(
@@ -81,39 +77,6 @@ fn log_clause(clauses: &mut ClauseStore, notes: &Notes, log: &mut Log) -> Result
     clauses.reserve(notes.literals())?;
     let id = log.learned(notes.literals(), notes.hints())?;
     Ok(id)
-}
-
-// Takes levels back to where the clause learned from a step is unit, and makes its literal true, or
-// takes everything back.
-fn land(trail: &mut Trail, notes: &Notes, first: &Step, id: u64, is_due: bool) -> Option<Lit>
-    requires in_range { trail.old.room < length notes.now.marks }
-    requires first { is_decision first.now ≡ false
-        → is_level_marked notes.now.marks trail.old.steps ≡ false }
-    requires decided { IsSome (decision_of (first.now ∷ trail.old.steps)) }
-    requires variable { variable_of first.now.literal ≤ trail.old.room }
-    requires free { IsFree (literals_of trail.old.steps) first.now.literal }
-    ensures landed { IsLanded trail.old trail.new first.now notes.now.marks id }
-    ensures level { MatchOption result (trail.new.steps ≡ [])
-        (λ l. LandsInLevel trail.old trail.new first.now notes.now.marks id l) }
-    ensures few { length trail.new.steps ≤ trail.new.room }
-{
-    if is_due {
-        back_to_start(trail);
-        return None;
-    }
-    match jump(trail, notes, first) {
-        None => {
-            back_to_start(trail);
-            None
-        }
-        Some(l) => {
-            trail.push(Step {
-                literal: first.literal.not(),
-                reason: Some(id),
-            });
-            Some(l)
-        }
-    }
 }
 
 // Holds the clause learned from a step, watched at its own literal and at one of the newest level.

@@ -12,18 +12,17 @@ ghost use Rattle.std.specs.List.{list_any};
 ghost use Rattle.dq_lits.specs.Literal.{Literal, variable_of, opposite};
 ghost use Rattle.dq_lits.specs.Derivation.{holds, status_of, falsified};
 ghost use Rattle.oracle.specs.Fit.{live_in};
-ghost use Rattle.cdcl_core.specs.Steps.{literals_of, Grown};
-ghost use Rattle.cdcl_core.specs.Sound.{IsSound};
-ghost use Rattle.cdcl_core.specs.Passes.{AreWithin};
+ghost use Rattle.learning_trail.specs.Steps.{literals_of, Grown};
+ghost use Rattle.learning_trail.specs.Sound.{IsSound};
+ghost use Rattle.learning_trail.specs.Passes.{AreWithin};
 ghost use Rattle.cdcl_core.specs.Chains.{watch_at, IsLinked, HasList, IsTaken, IsLeft};
 ghost use Rattle.cdcl_core.specs.Watching.{AreShort, IsReady, AreSame};
 ghost use Rattle.cdcl_core.specs.Visits.{IsVisitable, IsLooked, IsOther, AreOthersFalse, IsVisited, IsListVisited, AreVisited, IsTrailVisited, IsProcessed};
 
 use crate::arenas::Arena;
-use crate::statuses::{Status, is_true, status_of};
-use crate::trails::{Step, Trail, TruthValue};
 use crate::watches::{Watches, put_back, put_elsewhere, take};
 use dq_lits::Lit;
+use learning_trail::{Status, Step, Trail, TruthValue, is_true, status_of};
 
 /// Propagates to the end, or to a falsified clause, whose id it answers. All literals but the
 /// newest one were processed.

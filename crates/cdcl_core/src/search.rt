@@ -13,19 +13,19 @@ ghost use Rattle.hint_log.specs.Naming.{is_selector};
 ghost use Rattle.hint_log.specs.ProductiveLog.{IsClosed};
 ghost use Rattle.oracle.specs.Fit.{Fit, live_in};
 ghost use Rattle.oracle.specs.Limits.{IsAtLimit};
-ghost use Rattle.cdcl_core.specs.Growing.{HasLearned};
-ghost use Rattle.cdcl_core.specs.Steps.{literals_of, IsFree};
-ghost use Rattle.cdcl_core.specs.Searching.{IsSearching, IsReady, IsAllGuarded, AreAssumptions, IsTurn, IsFound, KeepsPlaces};
-ghost use Rattle.cdcl_core.specs.Sound.{AreTrue};
+ghost use Rattle.learning_trail.specs.Growing.{HasLearned};
+ghost use Rattle.learning_trail.specs.Steps.{literals_of, IsFree};
+ghost use Rattle.learning_trail.specs.Searching.{AreAssumptions};
+ghost use Rattle.cdcl_core.specs.Searching.{IsReady, IsAllGuarded, IsTurn, KeepsPlaces, IsSearching, IsFound};
+ghost use Rattle.learning_trail.specs.Sound.{AreTrue};
 
 use crate::answers::{answer_conflict, answer_false};
-use crate::assumptions::{Assumptions, Next, free_decision, next_assumption};
 use crate::decisions::open_clause;
 use crate::learning::learn;
 use crate::searchers::Searcher;
-use crate::trails::Step;
 use dq_lits::{Lit, Memory};
 use hint_log::{Log, Stop};
+use learning_trail::{Assumptions, Next, Step, free_decision, next_assumption};
 use oracle::Answer as Found;
 
 /// Searches to the end.

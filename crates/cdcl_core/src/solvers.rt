@@ -1,15 +1,12 @@
 ghost use Rattle.std.specs.Prelude.{◌≡◌, ◌≤◌, ◌<◌, ◌-◌, ◌^◌, false};
 
-use crate::activities::Activities;
-use crate::calls::{find, group_clause, grow, keep_given};
+use crate::calls::{find, grow, keep_given};
 use crate::clauses::ClauseStore;
-use crate::notes::Notes;
 use crate::positions::Positions;
-use crate::restarts::Restarts;
 use crate::searchers::Searcher;
-use crate::trails::Trail;
 use dq_lits::{Lit, Memory};
 use hint_log::{Log, Name, Origin, Stop};
+use learning_trail::{Activities, Notes, Restarts, Trail, group_clause};
 use oracle::{Answer, Group, Oracle, Tenant};
 use std::alloc::Global;
 use std::marker::Model;

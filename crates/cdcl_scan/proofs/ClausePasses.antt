@@ -1,58 +1,21 @@
 -- A pass over the clauses.
-use Rattle.std.proofs.Common.{◌≡◌, ℕ, zero, suc, ◌+◌, ◌<◌, ◌≤◌, Bool, true, false, inl, inr, List, [], ◌∷◌, ◌++◌, drop, drop-cons, IfSome, length, get_or, slice_get, Option, None, Some, refl, sym, ◌∙◌, ap, subst, arith, All, length-append}
+use Rattle.std.proofs.Common.{◌≡◌, ℕ, zero, suc, ◌+◌, ◌<◌, ◌≤◌, Bool, true, false, inl, inr, List, [], ◌∷◌, drop, drop-cons, IfSome, length, get_or, slice_get, Option, None, Some, refl, sym, ◌∙◌, ap, subst, arith, All, length-append}
 use Rattle.std.proofs.lemmas.Bool.{cases_lt}
-use Rattle.std.proofs.lemmas.List.{append_assoc}
-use Rattle.std.proofs.lemmas.List.Elements.{All-cons, All-append, All-get_or}
 use Rattle.std.proofs.lemmas.Option.{slice_get-get_or, slice_get_within}
 use Rattle.dq_lits.specs.Literal.{Literal, variable_of}
 use Rattle.dq_lits.specs.Derivation.{LiveClauses, unit, stuck, holds, status_of}
 use Rattle.hint_log.specs.ProductiveLog.{IsClosed}
 use Rattle.oracle.specs.Fit.{live_in}
-use Rattle.cdcl_scan.specs.declared.trails.Step.{Step}
-use Rattle.cdcl_scan.specs.Steps.{Trailed, literals_of, is_decision, Grown}
-use Rattle.cdcl_scan.specs.Sound.{IsSound}
-use Rattle.cdcl_scan.specs.Passes.{AreWithin}
+use Rattle.learning_trail.specs.declared.trails.Step.{Step}
+use Rattle.learning_trail.specs.Steps.{Trailed, literals_of, Grown}
+use Rattle.learning_trail.specs.Sound.{IsSound}
+use Rattle.learning_trail.specs.Passes.{AreWithin}
 use Rattle.cdcl_scan.specs.Scanning.{IsScanned, IsPropagating}
-use Rattle.cdcl_scan.proofs.HeldLiterals.{holds_cases}
 use Rattle.cdcl_scan.specs.declared.clauses.Run.{Run}
 use Rattle.cdcl_scan.specs.Runs.{Shares, IsRun, AreRuns, IsSharedTrue}
-use Rattle.cdcl_scan.proofs.ClauseStatus.{implied_from, stuck_from_true}
+use Rattle.learning_trail.proofs.LargerTrails.{implied_step, clause_within, literal_within, grown_one, grown_both}
+use Rattle.learning_trail.proofs.ClauseStatus.{implied_from, stuck_from_true}
 use Rattle.cdcl_scan.proofs.ClausePieces.{runs_low}
-
-abbrev pub implied_step : Literal → ℕ → Step
-implied_step l id = record { literal = l; reason = Some id }
-
-pub clause_read : (clauses : List (List Literal)) (i : ℕ) (c : List Literal) → i < length clauses → get_or clauses i c ≡ c → live_in clauses (suc i) ≡ Some c
-clause_read clauses i c lt at = slice_get-get_or clauses i c lt ∙ ap (λ x. Some x) at
-
-pub clause_within : (clauses : List (List Literal)) (room i : ℕ) (c : List Literal) → i < length clauses → get_or clauses i c ≡ c → AreWithin room clauses → All (λ l. variable_of l ≤ room) c
-clause_within clauses room i c lt at all =
-    let P : List Literal → Type 0 = λ d. All (λ (l : Literal). variable_of l ≤ room) d in
-    subst P at (All-get_or P clauses i c lt all)
-
-pub literal_within : (room : ℕ) (c : List Literal) (l : Literal) → All (λ k. variable_of k ≤ room) c → holds c l ≡ true → variable_of l ≤ room
-literal_within room c l all h = by c (λ k lt. All-get_or (λ (x : Literal). variable_of x ≤ room) c k l lt all) h
-  where
-    by : (xs : List Literal) → ((k : ℕ) → k < length xs → variable_of (get_or xs k l) ≤ room) → holds xs l ≡ true → variable_of l ≤ room
-    by [] at g = cc
-    by (x ∷ xs) at g = elim (holds_cases x xs l g) [
-      | inl e ↦ let h = at zero (omega arith) in let v : variable_of l ≡ variable_of x = ap variable_of e in omega (arith, h, v)
-      | inr later ↦ by xs (λ k lt. at (suc k) (omega arith)) later
-    ]
-
-pub grown_one : (old new : List Step) (l : Literal) (id : ℕ) → Grown old new → Grown old (implied_step l id ∷ new)
-grown_one old new l id g = record {
-  more = implied_step l id ∷ g.more;
-  is = ap (λ xs. implied_step l id ∷ xs) g.is;
-  implied = All-cons (λ s. is_decision s ≡ false) (implied_step l id) g.more refl g.implied;
-}
-
-pub grown_both : (a b c : List Step) → Grown a b → Grown b c → Grown a c
-grown_both a b c f g = record {
-  more = g.more ++ f.more;
-  is = g.is ∙ ap (λ xs. g.more ++ xs) f.is ∙ sym (append_assoc g.more f.more a);
-  implied = All-append (λ s. is_decision s ≡ false) g.more f.more g.implied f.implied;
-}
 
 grown_longer : (old new : List Step) → Grown old new → length old ≤ length new
 grown_longer old new g = omega (arith, ap length g.is, length-append g.more old)

@@ -6,7 +6,7 @@ use Rattle.dq_lits.specs.Literal.{Literal}
 use Rattle.cdcl_scan.specs.declared.clauses.Run.{Run}
 use Rattle.cdcl_scan.specs.Runs.{Shares, IsRun, AreRuns}
 use Rattle.cdcl_scan.specs.Pieces.{pieces, AreEnds, start_of}
-use Rattle.cdcl_scan.proofs.Lessons.{live_more}
+use Rattle.learning_trail.proofs.Lessons.{live_more}
 
 pub pieces-length : (xs : List Literal) (start : ℕ) (ends : List ℕ) → length (pieces xs start ends) ≡ length ends
 pieces-length xs start [] = refl

@@ -1,8 +1,8 @@
 -- How far a pass has come.
 use Rattle.std.specs.Prelude.{◌≡◌, ℕ, suc, ◌≤◌, ◌<◌, Bool, true, false, length}
 use Rattle.dq_lits.specs.Derivation.{LiveClauses, status_of, stuck}
-use Rattle.cdcl_scan.specs.Steps.{Trailed, literals_of, Grown}
-use Rattle.cdcl_scan.specs.Sound.{IsSound}
+use Rattle.learning_trail.specs.Steps.{Trailed, literals_of, Grown}
+use Rattle.learning_trail.specs.Sound.{IsSound}
 
 pub record IsScanned (live : LiveClauses) (old new : Trailed) (quiet : Bool)
     (first i : ℕ) : Type 0 where

@@ -11,25 +11,24 @@ ghost use Rattle.hint_log.specs.Entries.{last_id, with_entry};
 ghost use Rattle.hint_log.specs.Entries.{Answer};
 ghost use Rattle.oracle.specs.Calls.{IsRefutedUnder};
 ghost use Rattle.oracle.specs.Fit.{Fit, live_in};
-ghost use Rattle.cdcl_scan.specs.Steps.{literals_of, Shrunk};
-ghost use Rattle.cdcl_scan.specs.Sound.{IsSound, AreAssumed};
-ghost use Rattle.cdcl_scan.specs.Passes.{AreMarkable};
-ghost use Rattle.cdcl_scan.specs.Analyses.{IsAnalysis};
-ghost use Rattle.cdcl_scan.specs.Backing.{IsKeeping};
-ghost use Rattle.cdcl_scan.specs.Searching.{IsSearching, AreAssumptions, KeepsPlaces};
+ghost use Rattle.learning_trail.specs.Steps.{literals_of, Shrunk};
+ghost use Rattle.learning_trail.specs.Sound.{IsSound, AreAssumed};
+ghost use Rattle.learning_trail.specs.Passes.{AreMarkable};
+ghost use Rattle.learning_trail.specs.Analyses.{IsAnalysis};
+ghost use Rattle.learning_trail.specs.Backing.{IsKeeping};
+ghost use Rattle.learning_trail.specs.Searching.{AreAssumptions};
+ghost use Rattle.cdcl_scan.specs.Searching.{KeepsPlaces, IsSearching};
 
-use crate::analysis::{begin, resolve};
 use crate::clauses::ClauseStore;
-use crate::notes::Notes;
 use crate::searchers::Searcher;
-use crate::trails::{Step, Trail};
 use dq_lits::{Lit, Memory};
 use hint_log::Log;
+use learning_trail::{Assumptions, Notes, back_to, back_to_decisions, begin};
 
 /// Answers from a falsified clause where only assumptions were decided.
 pub(crate) fn answer_conflict(
     s: &mut Searcher,
-    assumptions: &[Lit],
+    assumptions: &Assumptions,
     conflict: u64,
     log: &mut Log,
 ) -> Result<u64, Memory>
@@ -51,7 +50,7 @@ pub(crate) fn answer_conflict(
 /// Answers from a false assumption.
 pub(crate) fn answer_false(
     s: &mut Searcher,
-    assumptions: &[Lit],
+    assumptions: &Assumptions,
     assumption: Lit,
     log: &mut Log,
 ) -> Result<u64, Memory>
@@ -72,26 +71,10 @@ pub(crate) fn answer_false(
     }
 }
 
-// Takes literals back, down to a true one, and answers its step.
-fn back_to(trail: &mut Trail, l: Lit) -> Step
-    requires { holds (literals_of trail.old.steps) l ≡ true }
-    ensures room { trail.new.room ≡ trail.old.room }
-    ensures shrunk { Shrunk trail.old.steps (result ∷ trail.new.steps) }
-    ensures still { holds (literals_of (result ∷ trail.new.steps)) l ≡ true }
-    ensures variable { variable_of result.literal ≡ variable_of l }
-{
-    while let Some(step) = trail.pop() {
-        if step.literal.var() == l.var() {
-            return step;
-        }
-    }
-    unreachable!()
-}
-
 // Answers from the clause that made an assumption false.
 fn answer_reason(
     s: &mut Searcher,
-    assumptions: &[Lit],
+    assumptions: &Assumptions,
     assumption: Lit,
     reason: u64,
     log: &mut Log,
@@ -115,7 +98,7 @@ fn answer_reason(
 }
 
 // Logs the answer that the notes lead to, and holds it.
-fn answer(s: &mut Searcher, assumptions: &[Lit], log: &mut Log) -> Result<u64, Memory>
+fn answer(s: &mut Searcher, assumptions: &Assumptions, log: &mut Log) -> Result<u64, Memory>
     requires searching { IsSearching assumptions.now s.old log.old }
     requires few { length s.old.notes.hints + length s.old.trail.steps ≤ length s.old.notes.marks }
     requires few_literals { length s.old.notes.literals + length s.old.trail.steps
@@ -136,27 +119,6 @@ fn answer(s: &mut Searcher, assumptions: &[Lit], log: &mut Log) -> Result<u64, M
     s.notes.turn();
     let id = keep_answer(&mut s.clauses, &s.notes, log)?;
     Ok(id)
-}
-
-// Takes all literals back, and adds the negations of the decisions that the marked ones rest on.
-fn back_to_decisions(trail: &mut Trail, clauses: &ClauseStore, notes: &mut Notes)
-    requires sound { IsSound (live_in clauses.now.clauses) trail.old.steps }
-    requires within { AreMarkable (length notes.old.marks) clauses.now.clauses }
-    requires in_range { trail.old.room < length notes.old.marks }
-    requires few { length notes.old.hints + length trail.old.steps ≤ length notes.old.marks }
-    requires few_literals { length notes.old.literals + length trail.old.steps
-        ≤ length notes.old.marks }
-    ensures bare { trail.new.steps ≡ [] }
-    ensures kept { IsKeeping (live_in clauses.now.clauses) trail.old trail.new notes.old notes.new }
-{
-    while let Some(step) = trail.pop() {
-        if notes.has(step.literal) {
-            match step.reason {
-                None => notes.add_literal(step.literal.not()),
-                Some(reason) => resolve(clauses, notes, step.literal, reason),
-            }
-        }
-    }
 }
 
 // Logs an answer, and holds it.

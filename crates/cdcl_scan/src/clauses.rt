@@ -8,6 +8,7 @@ ghost use Rattle.cdcl_scan.specs.Runs.{Shares, AreRuns};
 ghost use Rattle.cdcl_scan.specs.Pieces.{pieces, AreEnds, start_of};
 
 use dq_lits::{Lit, Memory};
+use learning_trail::{Clauses, holds};
 use std::alloc::Global;
 use std::marker::Model;
 
@@ -45,6 +46,14 @@ impl Model for ClauseStore {
     ghost invariant = { IsStored };
 }
 
+impl Clauses for ClauseStore {
+    ghost clauses = { λ s. s.clauses };
+
+    fn lits(&self, id: u64) -> &[Lit] {
+        piece(&self.literals, &self.ends, id as usize - 1)
+    }
+}
+
 impl ClauseStore {
     /// No clauses. It takes no memory.
     pub(crate) fn new(alloc: Global) -> ClauseStore
@@ -63,15 +72,6 @@ impl ClauseStore {
         ensures { result ≡ length self.now.clauses }
     {
         self.ends.len() as u64
-    }
-
-    /// The literals of the clause with an id.
-    pub(crate) fn lits(&self, id: u64) -> &[Lit]
-        requires from_one { 1 ≤ id }
-        requires is_id { id ≤ length self.now.clauses }
-        ensures { live_in self.now.clauses id ≡ Some result.now }
-    {
-        piece(&self.literals, &self.ends, id as usize - 1)
     }
 
     /// The runs in order.
@@ -189,11 +189,4 @@ fn is_shared(shared: &Option<Lit>, lits: &[Lit]) -> bool
         None => false,
         Some(l) => holds(lits, *l),
     }
-}
-
-/// Whether a literal is among others.
-pub(crate) fn holds(lits: &[Lit], l: Lit) -> bool
-    ensures { result ≡ holds lits.now l }
-{
-    lits.iter().any(|k| l == *k)
 }

@@ -8,25 +8,22 @@ ghost use Rattle.hint_log.specs.Entries.{steps_of, last_id, with_entry};
 ghost use Rattle.hint_log.specs.Entries.{Learned};
 ghost use Rattle.oracle.specs.Fit.{Fit, live_in};
 ghost use Rattle.oracle.specs.Limits.{IsAtLimit};
-ghost use Rattle.cdcl_scan.specs.Growing.{HasLearned};
-ghost use Rattle.cdcl_scan.specs.Steps.{literals_of, decision_of, is_decision, IsFree};
-ghost use Rattle.cdcl_scan.specs.Marks.{is_level_marked};
-ghost use Rattle.cdcl_scan.specs.Lessons.{IsLanded};
-ghost use Rattle.cdcl_scan.specs.Searching.{IsSearching, HasTurned, KeepsPlaces};
+ghost use Rattle.learning_trail.specs.Growing.{HasLearned};
+ghost use Rattle.learning_trail.specs.Steps.{literals_of, decision_of, is_decision, IsFree};
+ghost use Rattle.learning_trail.specs.Marks.{is_level_marked};
+ghost use Rattle.learning_trail.specs.Lessons.{IsLanded};
+ghost use Rattle.cdcl_scan.specs.Searching.{HasTurned, KeepsPlaces, IsSearching};
 
-use crate::analysis::analyse;
 use crate::clauses::ClauseStore;
-use crate::levels::{back_to_start, jump};
-use crate::notes::Notes;
 use crate::searchers::Searcher;
-use crate::trails::{Step, Trail};
 use dq_lits::Lit;
 use hint_log::{Log, Stop};
+use learning_trail::{Assumptions, Notes, analyse, land};
 
 /// Learns from a falsified clause, and goes back to where what was learned is unit, or begins anew.
 pub(crate) fn learn(
     s: &mut Searcher,
-    assumptions: &[Lit],
+    assumptions: &Assumptions,
     decision: Lit,
     conflict: u64,
     log: &mut Log,
@@ -55,7 +52,7 @@ pub(crate) fn learn(
     s.activities.decay();
     let id = keep(&mut s.clauses, &s.notes, log)?;
     let is_due = s.restarts.is_due();
-    land(&mut s.trail, &s.notes, first, id, is_due);
+    land(&mut s.trail, &s.notes, &first, id, is_due);
     Ok(())
 }
 
@@ -76,26 +73,4 @@ fn keep(clauses: &mut ClauseStore, notes: &Notes, log: &mut Log) -> Result<u64, 
     let id = log.learned(notes.literals(), notes.hints())?;
     clauses.push(notes.literals());
     Ok(id)
-}
-
-// Takes levels back to where the clause learned from a step is unit, and makes its literal true, or
-// takes everything back.
-fn land(trail: &mut Trail, notes: &Notes, first: Step, id: u64, is_due: bool)
-    requires in_range { trail.old.room < length notes.now.marks }
-    requires level { is_decision first ≡ false
-        → is_level_marked notes.now.marks trail.old.steps ≡ false }
-    requires variable { variable_of first.literal ≤ trail.old.room }
-    requires free { IsFree (literals_of trail.old.steps) first.literal }
-    ensures landed { IsLanded trail.old trail.new first notes.now.marks id }
-    ensures few { length trail.new.steps ≤ trail.new.room }
-{
-    if is_due {
-        back_to_start(trail);
-        return;
-    }
-    jump(trail, notes, &first);
-    trail.push(Step {
-        literal: first.literal.not(),
-        reason: Some(id),
-    });
 }

@@ -8,21 +8,13 @@
 
 pub use solvers::Scan;
 
-mod activities;
-mod analysis;
 mod answers;
-mod assumptions;
 mod calls;
 mod clauses;
 mod decisions;
 mod learning;
-mod levels;
-mod notes;
 mod passes;
-mod restarts;
 mod scans;
 mod search;
 mod searchers;
 mod solvers;
-mod statuses;
-mod trails;

@@ -9,15 +9,15 @@ ghost use Rattle.std.specs.Prelude.{◌≡◌, ◌≤◌, true, length, IfSome};
 ghost use Rattle.oracle.specs.Fit.{live_in};
 ghost use Rattle.dq_lits.specs.Literal.{variable_of};
 ghost use Rattle.cdcl_scan.specs.Runs.{IsRun, IsSharedTrue};
-ghost use Rattle.cdcl_scan.specs.Steps.{literals_of, Grown};
-ghost use Rattle.cdcl_scan.specs.Sound.{IsSound};
-ghost use Rattle.cdcl_scan.specs.Passes.{AreWithin, IsPassed, IsRunPassed, IsPropagated};
+ghost use Rattle.learning_trail.specs.Steps.{literals_of, Grown};
+ghost use Rattle.learning_trail.specs.Sound.{IsSound};
+ghost use Rattle.learning_trail.specs.Passes.{AreWithin, IsPropagated};
+ghost use Rattle.cdcl_scan.specs.Passes.{IsPassed, IsRunPassed};
 
 use crate::clauses::{ClauseStore, Run};
 use crate::passes::Pass;
-use crate::statuses::{Status, status_of};
-use crate::trails::{Step, Trail, TruthValue};
 use dq_lits::Lit;
+use learning_trail::{Clauses, Status, Step, Trail, TruthValue, status_of};
 
 /// Propagates to the end, or to a falsified clause, whose id it answers.
 pub(crate) fn propagate(trail: &mut Trail, clauses: &ClauseStore) -> Option<u64>

@@ -13,24 +13,28 @@ ghost use Rattle.hint_log.specs.Naming.{is_selector};
 ghost use Rattle.hint_log.specs.ProductiveLog.{IsClosed};
 ghost use Rattle.oracle.specs.Fit.{Fit, live_in};
 ghost use Rattle.oracle.specs.Limits.{IsAtLimit};
-ghost use Rattle.cdcl_scan.specs.Growing.{HasLearned};
-ghost use Rattle.cdcl_scan.specs.Steps.{literals_of, IsFree};
-ghost use Rattle.cdcl_scan.specs.Searching.{IsSearching, AreAssumptions, IsTurn, IsFound, KeepsPlaces};
-ghost use Rattle.cdcl_scan.specs.Sound.{AreTrue};
+ghost use Rattle.learning_trail.specs.Growing.{HasLearned};
+ghost use Rattle.learning_trail.specs.Steps.{literals_of, IsFree};
+ghost use Rattle.learning_trail.specs.Searching.{AreAssumptions};
+ghost use Rattle.cdcl_scan.specs.Searching.{IsTurn, KeepsPlaces, IsSearching, IsFound};
+ghost use Rattle.learning_trail.specs.Sound.{AreTrue};
 
 use crate::answers::{answer_conflict, answer_false};
-use crate::assumptions::{Next, free_decision, next_assumption};
 use crate::decisions::newest_open;
 use crate::learning::learn;
 use crate::scans::propagate;
 use crate::searchers::Searcher;
-use crate::trails::Step;
 use dq_lits::{Lit, Memory};
 use hint_log::{Log, Stop};
+use learning_trail::{Assumptions, Next, Step, free_decision, next_assumption};
 use oracle::Answer as Found;
 
 /// Searches to the end.
-pub(crate) fn search(s: &mut Searcher, assumptions: &[Lit], log: &mut Log) -> Result<Found, Stop>
+pub(crate) fn search(
+    s: &mut Searcher,
+    assumptions: &Assumptions,
+    log: &mut Log,
+) -> Result<Found, Stop>
     requires searching { IsSearching assumptions.now s.old log.old }
     requires few { length s.old.trail.steps ≤ s.old.trail.room }
     requires assumptions { AreAssumptions log.old assumptions.now }
@@ -49,7 +53,7 @@ pub(crate) fn search(s: &mut Searcher, assumptions: &[Lit], log: &mut Log) -> Re
 }
 
 // One conflict, or one decision.
-fn turn(s: &mut Searcher, assumptions: &[Lit], log: &mut Log) -> Result<Option<Found>, Stop>
+fn turn(s: &mut Searcher, assumptions: &Assumptions, log: &mut Log) -> Result<Option<Found>, Stop>
     requires searching { IsSearching assumptions.now s.old log.old }
     requires few { length s.old.trail.steps ≤ s.old.trail.room }
     requires assumptions { AreAssumptions log.old assumptions.now }
@@ -73,7 +77,7 @@ fn turn(s: &mut Searcher, assumptions: &[Lit], log: &mut Log) -> Result<Option<F
 // Learns from a falsified clause, or answers from it where only assumptions were decided.
 fn conflict(
     s: &mut Searcher,
-    assumptions: &[Lit],
+    assumptions: &Assumptions,
     id: u64,
     log: &mut Log,
 ) -> Result<Option<Found>, Stop>
@@ -104,7 +108,11 @@ fn conflict(
 }
 
 // Makes an assumption or another literal true, or finds that all is true or an assumption false.
-fn go_on(s: &mut Searcher, assumptions: &[Lit], log: &mut Log) -> Result<Option<Found>, Memory>
+fn go_on(
+    s: &mut Searcher,
+    assumptions: &Assumptions,
+    log: &mut Log,
+) -> Result<Option<Found>, Memory>
     requires searching { IsSearching assumptions.now s.old log.old }
     requires few { length s.old.trail.steps ≤ s.old.trail.room }
     requires closed { IsClosed (live_in s.old.clauses.clauses) (literals_of s.old.trail.steps) }
@@ -116,7 +124,7 @@ fn go_on(s: &mut Searcher, assumptions: &[Lit], log: &mut Log) -> Result<Option<
     ensures places { KeepsPlaces s.old s.new }
     ensures err { OnErr result (log.new ≡ log.old) }
 {
-    match next_assumption(&s.trail, assumptions) {
+    match next_assumption(&s.trail, assumptions, &mut 0) {
         Next::False(l) => {
             let answer = answer_false(s, assumptions, l, log)?;
             Ok(Some(Found::Unsat(answer)))
@@ -130,7 +138,7 @@ fn go_on(s: &mut Searcher, assumptions: &[Lit], log: &mut Log) -> Result<Option<
 }
 
 // Makes an open literal true, or finds that every clause is.
-fn settle(s: &mut Searcher, assumptions: &[Lit], log: &Log) -> Option<Found>
+fn settle(s: &mut Searcher, assumptions: &Assumptions, log: &Log) -> Option<Found>
     requires searching { IsSearching assumptions.now s.old log.now }
     requires closed { IsClosed (live_in s.old.clauses.clauses) (literals_of s.old.trail.steps) }
     requires assumed { AreTrue assumptions.now (literals_of s.old.trail.steps) }
@@ -148,7 +156,7 @@ fn settle(s: &mut Searcher, assumptions: &[Lit], log: &Log) -> Option<Found>
     }
 }
 
-fn decide(s: &mut Searcher, assumptions: &[Lit], l: Lit, log: &Log)
+fn decide(s: &mut Searcher, assumptions: &Assumptions, l: Lit, log: &Log)
     requires searching { IsSearching assumptions.now s.old log.now }
     requires closed { IsClosed (live_in s.old.clauses.clauses) (literals_of s.old.trail.steps) }
     requires free { IsFree (literals_of s.old.trail.steps) l }

@@ -1,8 +1,5 @@
-use crate::activities::Activities;
 use crate::clauses::ClauseStore;
-use crate::notes::Notes;
-use crate::restarts::Restarts;
-use crate::trails::Trail;
+use learning_trail::{Activities, Notes, Restarts, Trail};
 use std::alloc::Global;
 
 /// What a search works on.

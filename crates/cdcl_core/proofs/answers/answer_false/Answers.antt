@@ -1,11 +1,11 @@
 use Rattle.std.proofs.Common.{◌≡◌, ◌∷◌, sym, ap, ◌∙◌, subst, arith, true}
 use Rattle.dq_lits.specs.Literal.{variable_of, opposite}
 use Rattle.dq_lits.specs.Derivation.{holds}
-use Rattle.cdcl_core.specs.Steps.{literals_of}
+use Rattle.learning_trail.specs.Steps.{literals_of}
 use Rattle.cdcl_core.specs.Watching.{AreLevelsGuarded}
 use Rattle.cdcl_core.proofs.GuardedClauses.{levels_later}
-use Rattle.cdcl_core.proofs.HeldLiterals.{opposite-variable}
-use Rattle.cdcl_core.proofs.SearchTurns.{back_sound, back_guided, back_assumed, back_implied, back_reasoned}
+use Rattle.learning_trail.proofs.HeldLiterals.{opposite-variable}
+use Rattle.learning_trail.proofs.SearchTurns.{back_sound, back_guided, back_assumed, back_implied, back_reasoned}
 use Rattle.cdcl_core.proofs.answers.answer_false.Goals as goal
 
 pub answer_reason-requires-clause-searching : goal.answer_reason-requires-clause-searching

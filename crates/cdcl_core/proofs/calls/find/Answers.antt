@@ -1,8 +1,8 @@
 use Rattle.std.proofs.Common.{subst, sym, List}
 use Rattle.dq_lits.specs.Literal.{Literal}
 use Rattle.oracle.specs.Calls.{IsRefutedUnder}
-use Rattle.cdcl_core.specs.Searching.{AreAssumptions}
-use Rattle.cdcl_core.proofs.FoundModels.{assumptions_from}
+use Rattle.learning_trail.specs.Searching.{AreAssumptions}
+use Rattle.learning_trail.proofs.FoundModels.{assumptions_from}
 use Rattle.cdcl_core.proofs.calls.find.Goals as goal
 
 pub search_and_keep-found-requires-clause-assumptions : goal.search_and_keep-found-requires-clause-assumptions

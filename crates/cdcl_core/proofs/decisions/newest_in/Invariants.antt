@@ -2,7 +2,7 @@ use Rattle.std.proofs.Common.{◌≡◌, ◌≤◌, ◌<◌, ℕ, Some, true, Li
 use Rattle.std.specs.List.{list_any}
 use Rattle.dq_lits.specs.Literal.{Literal}
 use Rattle.dq_lits.specs.Derivation.{holds}
-use Rattle.cdcl_core.specs.Steps.{literals_of}
+use Rattle.learning_trail.specs.Steps.{literals_of}
 use Rattle.cdcl_core.proofs.decisions.newest_in.Given as goal
 
 abbrev pub invariant-loop-id : goal.invariant-loop-id

@@ -1,5 +1,5 @@
 use Rattle.std.proofs.Common.{arith, sym, ◌∙◌}
-use Rattle.cdcl_core.specs.Steps.{literals_of}
+use Rattle.learning_trail.specs.Steps.{literals_of}
 use Rattle.cdcl_core.proofs.EqualHeads.{true_alike, true_within, true_further, seen_none}
 use Rattle.cdcl_core.proofs.decisions.newest_open.Goals as goal
 

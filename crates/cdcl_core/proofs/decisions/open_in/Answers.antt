@@ -1,8 +1,8 @@
 use Rattle.std.proofs.Common.{inl, inr}
 use Rattle.dq_lits.specs.Derivation.{holds}
-use Rattle.cdcl_core.specs.Steps.{literals_of}
-use Rattle.cdcl_core.proofs.HeldLiterals.{any_one}
-use Rattle.cdcl_core.proofs.LargerTrails.{live_within, literal_within, opening_in}
+use Rattle.learning_trail.specs.Steps.{literals_of}
+use Rattle.learning_trail.proofs.HeldLiterals.{any_one}
+use Rattle.learning_trail.proofs.LargerTrails.{live_within, literal_within, opening_in}
 use Rattle.cdcl_core.proofs.VisitedClauses.{some_clause}
 use Rattle.cdcl_core.proofs.decisions.open_in.Goals as goal
 

@@ -1,5 +1,5 @@
 use Rattle.std.proofs.Common.{take}
-use Rattle.cdcl_core.specs.Steps.{literals_of}
+use Rattle.learning_trail.specs.Steps.{literals_of}
 use Rattle.cdcl_core.specs.Visits.{AreOthersFalse}
 use Rattle.cdcl_core.proofs.propagation.other_literal.Given as goal
 

@@ -2,10 +2,10 @@ use Rattle.std.proofs.Common.{◌≡◌, sym, ◌∙◌, ap, arith, Some, get_or
 use Rattle.std.proofs.lemmas.List.{get_or_default}
 use Rattle.std.proofs.lemmas.List.Elements.{Contains-get_or}
 use Rattle.dq_lits.specs.Derivation.{unit, status_of}
-use Rattle.cdcl_core.specs.Steps.{literals_of}
-use Rattle.cdcl_core.specs.Extension.{seen}
-use Rattle.cdcl_core.proofs.LargerTrails.{live_within, literal_within}
-use Rattle.cdcl_core.proofs.ClauseStatus.{implied_from}
+use Rattle.learning_trail.specs.Steps.{literals_of}
+use Rattle.learning_trail.specs.Extension.{seen}
+use Rattle.learning_trail.proofs.LargerTrails.{live_within, literal_within}
+use Rattle.learning_trail.proofs.ClauseStatus.{implied_from}
 use Rattle.cdcl_core.proofs.VisitedClauses.{passing_unit, passing_stuck}
 use Rattle.cdcl_core.proofs.propagation.pass_short.Goals as goal
 use Rattle.cdcl_core.proofs.propagation.pass_short.Goals.{in-Unit, in-Stuck}

@@ -1,8 +1,8 @@
 use Rattle.std.proofs.Common.{◌∙◌, subst, Ok, Err, Option, MatchOption, OnErr, Result}
-use Rattle.cdcl_core.specs.Growing.{HasLearned}
+use Rattle.learning_trail.specs.Growing.{HasLearned}
 use Rattle.oracle.specs.declared.oracles.Answer.{Answer as Found}
-use Rattle.cdcl_core.specs.Searching.{IsTurn, IsFound}
-use Rattle.cdcl_core.proofs.SearchTurns.{assumptions_same, learned_both, found_later}
+use Rattle.cdcl_core.specs.Searching.{IsTurn, IsFound, searched}
+use Rattle.learning_trail.proofs.SearchTurns.{assumptions_same, learned_both, found_later}
 use Rattle.cdcl_core.proofs.search.search.Goals as goal
 
 pub turn-requires-clause-assumptions : goal.turn-requires-clause-assumptions
@@ -43,4 +43,4 @@ returns-in-Some-clause-ok c =
     let asm = c.args.assumptions.now in
     let found : IsFound asm c.turn.new.s c.turns.log c.turn.new.log c.in-Some.found =
     subst (λ (o : Option Found). MatchOption o (IsTurn asm c.turns.s c.turn.new.s c.turns.log c.turn.new.log) (λ f. IsFound asm c.turn.new.s c.turns.log c.turn.new.log f)) c.in-Some.is c.in_ok-turn.ensures.ok in
-    found_later asm c.turn.new.s c.args.log.now c.turns.log c.turn.new.log c.in-Some.found c.turns.invariant.running.learned found
+    found_later asm (searched c.turn.new.s) c.args.log.now c.turns.log c.turn.new.log c.in-Some.found c.turns.invariant.running.learned found

@@ -3,8 +3,8 @@ use Rattle.dq_lits.specs.Literal.{Literal}
 use Rattle.dq_lits.specs.Derivation.{holds}
 use Rattle.hint_log.specs.Entries.{ProofLog}
 use Rattle.oracle.specs.Fit.{Fit, live_in}
-use Rattle.cdcl_scan.proofs.Taught.{clauses_within}
-use Rattle.cdcl_scan.proofs.LoggedAnswers.{answer_named, answer_ids, answer_fit, answer_refuted, conclude}
+use Rattle.learning_trail.proofs.Taught.{clauses_within}
+use Rattle.learning_trail.proofs.LoggedAnswers.{answer_named, answer_ids, answer_fit, answer_refuted, conclude}
 use Rattle.cdcl_scan.proofs.answers.answer.Goals as goal
 
 pub back_to_decisions-requires-clause-within : goal.back_to_decisions-requires-clause-within

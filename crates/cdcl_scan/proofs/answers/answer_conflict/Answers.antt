@@ -1,11 +1,11 @@
 use Rattle.std.proofs.Common.{[], map, reverse, length, sym, ◌∙◌, subst, arith, List, ℕ}
 use Rattle.dq_lits.specs.Literal.{Literal, opposite}
 use Rattle.oracle.specs.Fit.{live_in}
-use Rattle.cdcl_scan.specs.Steps.{literals_of}
-use Rattle.cdcl_scan.specs.Analyses.{IsAnalysis}
-use Rattle.cdcl_scan.proofs.ConflictAnalysis.{analysis_first, sound_consistent}
-use Rattle.cdcl_scan.proofs.TakenLevels.{conflict_of}
-use Rattle.cdcl_scan.proofs.Taught.{clauses_within}
+use Rattle.learning_trail.specs.Steps.{literals_of}
+use Rattle.learning_trail.specs.Analyses.{IsAnalysis}
+use Rattle.learning_trail.proofs.ConflictAnalysis.{analysis_first, sound_consistent}
+use Rattle.learning_trail.proofs.TakenLevels.{conflict_of}
+use Rattle.learning_trail.proofs.Taught.{clauses_within}
 use Rattle.cdcl_scan.proofs.answers.answer_conflict.Goals as goal
 
 pub begin-requires-clause-within : goal.begin-requires-clause-within

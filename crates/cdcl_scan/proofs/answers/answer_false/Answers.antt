@@ -1,9 +1,9 @@
 use Rattle.std.proofs.Common.{◌≡◌, ◌∷◌, sym, ap, ◌∙◌, arith, true}
 use Rattle.dq_lits.specs.Literal.{variable_of, opposite}
 use Rattle.dq_lits.specs.Derivation.{holds}
-use Rattle.cdcl_scan.specs.Steps.{literals_of}
-use Rattle.cdcl_scan.proofs.HeldLiterals.{opposite-variable}
-use Rattle.cdcl_scan.proofs.SearchTurns.{back_sound, back_guided, back_assumed, back_implied, back_reasoned}
+use Rattle.learning_trail.specs.Steps.{literals_of}
+use Rattle.learning_trail.proofs.HeldLiterals.{opposite-variable}
+use Rattle.learning_trail.proofs.SearchTurns.{back_sound, back_guided, back_assumed, back_implied, back_reasoned}
 use Rattle.cdcl_scan.proofs.answers.answer_false.Goals as goal
 
 pub answer_reason-requires-clause-searching : goal.answer_reason-requires-clause-searching

@@ -1,14 +1,14 @@
 use Rattle.std.proofs.Common.{◌≡◌, ◌∷◌, ◌++◌, ◌==◌, ◌&&◌, not, [], map, reverse, length, sym, ap, ◌∙◌, subst, arith, List, ℕ}
 use Rattle.dq_lits.specs.Literal.{Literal, variable_of, opposite}
 use Rattle.oracle.specs.Fit.{live_in}
-use Rattle.cdcl_scan.specs.Steps.{literals_of}
-use Rattle.cdcl_scan.specs.Marks.{marked, stands_on}
-use Rattle.cdcl_scan.specs.Noting.{Noted}
-use Rattle.cdcl_scan.specs.Analyses.{IsAnalysis}
-use Rattle.cdcl_scan.proofs.HeldLiterals.{opposite-opposite}
-use Rattle.cdcl_scan.proofs.ConflictAnalysis.{analysis_false, sound_consistent}
-use Rattle.cdcl_scan.proofs.BacktrackSteps.{reason_of}
-use Rattle.cdcl_scan.proofs.Taught.{clauses_within}
+use Rattle.learning_trail.specs.Steps.{literals_of}
+use Rattle.learning_trail.specs.Marks.{marked, stands_on}
+use Rattle.learning_trail.specs.Noting.{Noted}
+use Rattle.learning_trail.specs.Analyses.{IsAnalysis}
+use Rattle.learning_trail.proofs.HeldLiterals.{opposite-opposite}
+use Rattle.learning_trail.proofs.ConflictAnalysis.{analysis_false, sound_consistent}
+use Rattle.learning_trail.proofs.BacktrackSteps.{reason_of}
+use Rattle.learning_trail.proofs.Taught.{clauses_within}
 use Rattle.cdcl_scan.proofs.answers.answer_reason.Goals as goal
 
 pub begin-requires-clause-within : goal.begin-requires-clause-within

@@ -1,8 +1,8 @@
 use Rattle.std.proofs.Common.{subst, arith}
 use Rattle.oracle.specs.declared.oracles.Answer.{Answer as Found}
 use Rattle.oracle.specs.declared.oracles.Answer.TheVariants.{Sat}
-use Rattle.cdcl_scan.specs.Searching.{IsFound}
-use Rattle.cdcl_scan.proofs.FoundModels.{found_model}
+use Rattle.cdcl_scan.specs.Searching.{IsFound, searched}
+use Rattle.learning_trail.proofs.FoundModels.{found_model}
 use Rattle.cdcl_scan.proofs.calls.search_and_keep.Goals as goal
 
 pub returns-in-Sat-clause-sat : goal.returns-in-Sat-clause-sat
@@ -16,6 +16,6 @@ returns-in-Sat-clause-sat c = λ _.
     let vars = c.search.ensures.places.variables in
     let first = c.requires.model in (
       found.0,
-      found_model asm s c.keep_values.new.model old new c.search.ensures.fit found.0 c.requires.assumptions found.1 (omega (arith, len, vars, first))
+      found_model asm (searched s) c.keep_values.new.model old new c.search.ensures.fit found.0 c.requires.assumptions found.1 (omega (arith, len, vars, first))
           (λ i lt. c.keep_values.ensures.values i (omega (arith, lt, len))),
     )

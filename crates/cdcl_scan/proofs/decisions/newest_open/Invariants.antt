@@ -2,7 +2,7 @@ use Rattle.std.proofs.Common.{◌≡◌, ◌≤◌, ℕ, Some, true, List, lengt
 use Rattle.std.specs.List.{list_any}
 use Rattle.dq_lits.specs.Literal.{Literal}
 use Rattle.dq_lits.specs.Derivation.{holds}
-use Rattle.cdcl_scan.specs.Steps.{literals_of}
+use Rattle.learning_trail.specs.Steps.{literals_of}
 use Rattle.cdcl_scan.proofs.decisions.newest_open.Given as goal
 
 abbrev pub invariant-loop-id : goal.invariant-loop-id

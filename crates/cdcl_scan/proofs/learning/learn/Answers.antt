@@ -4,8 +4,9 @@ use Rattle.hint_log.specs.Entries.{ProofLog}
 use Rattle.hint_log.specs.declared.stops.Stop.TheVariants.{Limit}
 use Rattle.oracle.specs.Fit.{Fit, live_in}
 use Rattle.oracle.specs.Limits.{IsAtLimit}
-use Rattle.cdcl_scan.specs.Sound.{IsSound, IsGuided}
-use Rattle.cdcl_scan.proofs.Taught.{clauses_within, learn_named, learn_ids, learn_in_range, learn_free, learn_fit, learn_landed, learn_next, learned_one}
+use Rattle.learning_trail.specs.Sound.{IsSound, IsGuided}
+use Rattle.cdcl_scan.specs.Searching.{searched}
+use Rattle.learning_trail.proofs.Taught.{clauses_within, learn_named, learn_ids, learn_in_range, learn_free, learn_fit, learn_landed, learn_next, learned_one}
 use Rattle.cdcl_scan.proofs.learning.learn.Goals as goal
 
 pub analyse-first-requires-clause-within : goal.analyse-first-requires-clause-within
@@ -21,7 +22,7 @@ keep-requires-clause-named c =
     let step = c.analyse-first.result in
     let noted = c.analyse-first.new.notes in
     let lesson = c.analyse-first.ensures.lesson in
-    learn_named c.args.assumptions.now s log mid step noted.marks noted.literals noted.hints c.args.decision c.requires.searching c.requires.decided c.requires.chosen lesson
+    learn_named c.args.assumptions.now (searched s) log mid step noted.marks noted.literals noted.hints c.args.decision c.requires.searching c.requires.decided c.requires.chosen lesson
 
 pub keep-requires-clause-hints : goal.keep-requires-clause-hints
 keep-requires-clause-hints c =
@@ -31,7 +32,7 @@ keep-requires-clause-hints c =
     let step = c.analyse-first.result in
     let noted = c.analyse-first.new.notes in
     let lesson = c.analyse-first.ensures.lesson in
-    learn_ids c.args.assumptions.now s log mid step noted.marks noted.literals noted.hints c.args.decision c.requires.searching c.requires.decided c.requires.chosen lesson
+    learn_ids c.args.assumptions.now (searched s) log mid step noted.marks noted.literals noted.hints c.args.decision c.requires.searching c.requires.decided c.requires.chosen lesson
 
 pub land-requires-clause-variable : goal.land-requires-clause-variable
 land-requires-clause-variable c =
@@ -41,7 +42,7 @@ land-requires-clause-variable c =
     let step = c.analyse-first.result in
     let noted = c.analyse-first.new.notes in
     let lesson = c.analyse-first.ensures.lesson in
-    let low = learn_in_range c.args.assumptions.now s log mid step noted.marks noted.literals noted.hints c.args.decision c.requires.searching c.requires.decided c.requires.chosen lesson in
+    let low = learn_in_range c.args.assumptions.now (searched s) log mid step noted.marks noted.literals noted.hints c.args.decision c.requires.searching c.requires.decided c.requires.chosen lesson in
     let room = c.requires.searching.room in
     let q = lesson.room in
     omega (arith, low, room, q)
@@ -54,7 +55,7 @@ land-requires-clause-free c =
     let step = c.analyse-first.result in
     let noted = c.analyse-first.new.notes in
     let lesson = c.analyse-first.ensures.lesson in
-    learn_free c.args.assumptions.now s log mid step noted.marks noted.literals noted.hints c.args.decision c.requires.searching c.requires.decided c.requires.chosen lesson
+    learn_free c.args.assumptions.now (searched s) log mid step noted.marks noted.literals noted.hints c.args.decision c.requires.searching c.requires.decided c.requires.chosen lesson
 
 pub returns-clause-fit : goal.returns-clause-fit
 returns-clause-fit c =
@@ -66,7 +67,7 @@ returns-clause-fit c =
     let lesson = c.analyse-first.ensures.lesson in
     subst (λ (cs : List (List Literal)). Fit cs s.variables c.keep.new.log.entries) (sym c.in_ok-id.ensures.held)
     (subst (λ (l : ProofLog). Fit (s.clauses.clauses ++ noted.literals ∷ []) s.variables l.entries) (sym c.in_ok-id.ensures.ok)
-    (learn_fit c.args.assumptions.now s log mid step noted.marks noted.literals noted.hints c.args.decision c.requires.searching c.requires.decided c.requires.chosen lesson))
+    (learn_fit c.args.assumptions.now (searched s) log mid step noted.marks noted.literals noted.hints c.args.decision c.requires.searching c.requires.decided c.requires.chosen lesson))
 
 pub returns-clause-learned : goal.returns-clause-learned
 returns-clause-learned c =
@@ -87,13 +88,13 @@ returns-clause-ok c =
     let noted = c.analyse-first.new.notes in
     let lesson = c.analyse-first.ensures.lesson in
     let back = c.land.new.trail in
-    let landed = learn_landed c.args.assumptions.now s log mid step noted.marks noted.literals noted.hints c.args.decision c.requires.searching c.requires.decided c.requires.chosen lesson back c.in_ok-id.id c.in_ok-id.ensures.id c.land.ensures.landed in
+    let landed = learn_landed c.args.assumptions.now (searched s) log mid step noted.marks noted.literals noted.hints c.args.decision c.requires.searching c.requires.decided c.requires.chosen lesson back c.in_ok-id.id c.in_ok-id.ensures.id c.land.ensures.landed in
     let room : back.room ≡ s.trail.room = landed.room ∙ lesson.room in
     record {
       searching = record {
         fit = subst (λ (cs : List (List Literal)). Fit cs s.variables c.keep.new.log.entries) (sym c.in_ok-id.ensures.held)
             (subst (λ (l : ProofLog). Fit (s.clauses.clauses ++ noted.literals ∷ []) s.variables l.entries) (sym c.in_ok-id.ensures.ok)
-            (learn_fit c.args.assumptions.now s log mid step noted.marks noted.literals noted.hints c.args.decision c.requires.searching c.requires.decided c.requires.chosen lesson));
+            (learn_fit c.args.assumptions.now (searched s) log mid step noted.marks noted.literals noted.hints c.args.decision c.requires.searching c.requires.decided c.requires.chosen lesson));
         sound = subst (λ (cs : List (List Literal)). IsSound (live_in cs) back.steps) (sym c.in_ok-id.ensures.held) landed.sound;
         guided = subst (λ (l : ProofLog). IsGuided l.entries c.args.assumptions.now back.steps) (sym c.in_ok-id.ensures.ok) landed.guided;
         room = let r = c.requires.searching.room in omega (arith, r, room);
@@ -114,5 +115,5 @@ returns-in_err-id-clause-limit c = λ is.
     let stop : c.in_err-id.field-0.0 ≡ Limit = search rules in
     subst (λ (l : ProofLog). IsAtLimit l c.args.assumptions.now) (sym c.in_err-id.ensures.err) (record {
       reached = c.in_err-id.ensures.limit (ap (λ e. Err e) stop);
-      next = learn_next c.args.assumptions.now s log mid step noted.marks noted.literals noted.hints c.args.decision c.requires.searching c.requires.decided c.requires.chosen lesson;
+      next = learn_next c.args.assumptions.now (searched s) log mid step noted.marks noted.literals noted.hints c.args.decision c.requires.searching c.requires.decided c.requires.chosen lesson;
     })

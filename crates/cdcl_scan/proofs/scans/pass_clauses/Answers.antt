@@ -1,10 +1,11 @@
 use Rattle.std.proofs.Common.{◌≡◌, ◌+◌, sym, ◌∙◌, ap, arith, Some}
 use Rattle.dq_lits.specs.Derivation.{unit, status_of}
 use Rattle.oracle.specs.Fit.{live_in}
-use Rattle.cdcl_scan.specs.Steps.{literals_of}
-use Rattle.cdcl_scan.specs.Extension.{seen}
-use Rattle.cdcl_scan.proofs.ClauseStatus.{implied_from}
-use Rattle.cdcl_scan.proofs.ClausePasses.{live_read, live_within, literal_within, scanned_unit, scanned_stuck}
+use Rattle.learning_trail.specs.Steps.{literals_of}
+use Rattle.learning_trail.specs.Extension.{seen}
+use Rattle.learning_trail.proofs.ClauseStatus.{implied_from}
+use Rattle.learning_trail.proofs.LargerTrails.{literal_within}
+use Rattle.cdcl_scan.proofs.ClausePasses.{live_read, live_within, scanned_unit, scanned_stuck}
 use Rattle.cdcl_scan.proofs.scans.pass_clauses.Goals as goal
 use Rattle.cdcl_scan.proofs.scans.pass_clauses.Goals.{in-Unit, in-Stuck}
 

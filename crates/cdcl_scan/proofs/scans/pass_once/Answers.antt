@@ -3,7 +3,8 @@ use Rattle.oracle.specs.Fit.{live_in}
 use Rattle.cdcl_scan.specs.Passes.{IsRunPassed}
 use Rattle.cdcl_scan.specs.Scanning.{IsScanned}
 use Rattle.cdcl_scan.specs.declared.passes.Pass.TheVariants.{Quiet}
-use Rattle.cdcl_scan.proofs.ClausePasses.{next_run, no_run_left, grown_both, scanned_more, scanned_quiet, scanned_closed}
+use Rattle.learning_trail.proofs.LargerTrails.{grown_both}
+use Rattle.cdcl_scan.proofs.ClausePasses.{next_run, no_run_left, scanned_more, scanned_quiet, scanned_closed}
 use Rattle.cdcl_scan.proofs.scans.pass_once.Goals as goal
 use Rattle.cdcl_scan.proofs.scans.pass_once.Goals.{in-More, in-Quiet}
 

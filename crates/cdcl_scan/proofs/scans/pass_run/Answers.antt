@@ -1,5 +1,5 @@
 use Rattle.std.proofs.Common.{refl}
-use Rattle.cdcl_scan.specs.Steps.{literals_of}
+use Rattle.learning_trail.specs.Steps.{literals_of}
 use Rattle.cdcl_scan.proofs.ClausePasses.{shared_within, shared_stuck}
 use Rattle.cdcl_scan.proofs.scans.pass_run.Goals as goal
 

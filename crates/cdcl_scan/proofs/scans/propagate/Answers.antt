@@ -1,5 +1,6 @@
 use Rattle.oracle.specs.Fit.{live_in}
-use Rattle.cdcl_scan.proofs.ClausePasses.{grown_both, propagating_more}
+use Rattle.learning_trail.proofs.LargerTrails.{grown_both}
+use Rattle.cdcl_scan.proofs.ClausePasses.{propagating_more}
 use Rattle.cdcl_scan.proofs.scans.propagate.Goals as goal
 
 pub returns-in-Conflict-clause-grown : goal.returns-in-Conflict-clause-grown

@@ -1,5 +1,5 @@
 use Rattle.oracle.specs.Fit.{live_in}
-use Rattle.cdcl_scan.proofs.SearchTurns.{decided_assumed}
+use Rattle.learning_trail.proofs.SearchTurns.{decided_assumed}
 use Rattle.cdcl_scan.proofs.search.conflict.Goals as goal
 
 pub answer_conflict-requires-clause-assumed : goal.answer_conflict-requires-clause-assumed

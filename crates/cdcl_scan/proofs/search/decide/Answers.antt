@@ -1,8 +1,8 @@
 use Rattle.std.proofs.Common.{sym, ap, subst, arith}
 use Rattle.dq_lits.specs.Literal.{variable_of}
 use Rattle.oracle.specs.Fit.{live_in}
-use Rattle.cdcl_scan.specs.Steps.{Trailed}
-use Rattle.cdcl_scan.specs.Sound.{IsSound, IsGuided}
+use Rattle.learning_trail.specs.Steps.{Trailed}
+use Rattle.learning_trail.specs.Sound.{IsSound, IsGuided}
 use Rattle.cdcl_scan.proofs.search.decide.Goals as goal
 
 pub push-requires-clause-in_range : goal.push-requires-clause-in_range

@@ -1,6 +1,6 @@
 use Rattle.std.proofs.Common.{inr}
-use Rattle.cdcl_scan.specs.Steps.{literals_of}
-use Rattle.cdcl_scan.proofs.SearchTurns.{clauses_in_room, opening_stands}
+use Rattle.learning_trail.specs.Steps.{literals_of}
+use Rattle.learning_trail.proofs.SearchTurns.{clauses_in_room, opening_stands}
 use Rattle.cdcl_scan.proofs.search.settle.Goals as goal
 
 pub newest_open-requires-clause-in_range : goal.newest_open-requires-clause-in_range

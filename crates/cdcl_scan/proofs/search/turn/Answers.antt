@@ -1,5 +1,5 @@
 use Rattle.std.proofs.Common.{arith}
-use Rattle.cdcl_scan.proofs.SearchTurns.{clauses_in_room, guided_grown}
+use Rattle.learning_trail.proofs.SearchTurns.{clauses_in_room, guided_grown}
 use Rattle.cdcl_scan.proofs.search.turn.Goals as goal
 
 pub propagate-requires-clause-in_range : goal.propagate-requires-clause-in_range

@@ -2,12 +2,12 @@ use Rattle.std.proofs.Common.{◌≡◌, ℕ, Option, None, Some, MatchOption, L
 use Rattle.dq_lits.specs.Literal.{Literal}
 use Rattle.dq_lits.specs.Derivation.{falsified, status_of}
 use Rattle.oracle.specs.Fit.{live_in}
-use Rattle.cdcl_core.specs.Steps.{Trailed, literals_of}
-use Rattle.cdcl_core.specs.Sound.{IsSound}
-use Rattle.cdcl_core.specs.Passes.{AreWithin, IsPropagated}
+use Rattle.learning_trail.specs.Steps.{Trailed, literals_of}
+use Rattle.learning_trail.specs.Sound.{IsSound}
+use Rattle.learning_trail.specs.Passes.{AreWithin, IsPropagated}
 use Rattle.cdcl_core.specs.Watching.{AreWatched, IsGuarded}
 use Rattle.cdcl_core.specs.Storage.{Stored}
-use Rattle.cdcl_core.proofs.ConflictAnalysis.{sound_consistent}
+use Rattle.learning_trail.proofs.ConflictAnalysis.{sound_consistent}
 use Rattle.cdcl_core.proofs.GuardedClauses.{guarded_closed}
 use Rattle.cdcl_core.proofs.clauses.ClauseStore.propagate.Goals as goal
 

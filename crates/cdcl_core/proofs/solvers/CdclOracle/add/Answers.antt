@@ -6,9 +6,9 @@ use Rattle.oracle.specs.Fit.{Fit}
 use Rattle.oracle.specs.Searched.{Stands}
 use Rattle.oracle.specs.Calls.{IsPlain}
 use Rattle.cdcl_core.specs.Solver.{Shown}
-use Rattle.cdcl_core.proofs.Taught.{all_named}
-use Rattle.cdcl_core.proofs.FoundModels.{of_all}
-use Rattle.cdcl_core.proofs.FitLogs.{fit_given, given_stands, given_grouped}
+use Rattle.learning_trail.proofs.Taught.{all_named}
+use Rattle.learning_trail.proofs.FoundModels.{of_all}
+use Rattle.learning_trail.proofs.FitLogs.{fit_given, given_stands, given_grouped}
 use Rattle.cdcl_core.proofs.solvers.CdclOracle.add.Goals as goal
 
 pub returns-clause-fit : goal.returns-clause-fit

@@ -1,7 +1,7 @@
 use Rattle.std.proofs.Common.{sym, subst, [], List}
 use Rattle.dq_lits.specs.Literal.{Literal}
 use Rattle.oracle.specs.Fit.{Fit}
-use Rattle.cdcl_scan.proofs.FitLogs.{fit_first}
+use Rattle.learning_trail.proofs.FitLogs.{fit_first}
 use Rattle.cdcl_scan.proofs.solvers.Scan.new.Goals as goal
 
 pub returns : goal.returns

@@ -1,8 +1,0 @@
-use Rattle.std.proofs.Common.{◌≡◌, take, Some}
-use Rattle.dq_lits.specs.Derivation.{status_of}
-use Rattle.cdcl_scan.specs.Steps.{literals_of}
-use Rattle.cdcl_scan.specs.Extension.{seen}
-use Rattle.cdcl_scan.proofs.statuses.status_of.Given as goal
-
-abbrev pub invariant-loop-l : goal.invariant-loop-l
-invariant-loop-l l = seen l.status ≡ status_of (literals_of l.trail.steps) (Some (take l.l-index l.lits))

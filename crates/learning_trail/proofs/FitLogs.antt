@@ -1,0 +1,153 @@
+-- The solver goes with the log, as clauses are added to both.
+use Rattle.std.proofs.lemmas.Option.{slice_get_past}
+use Rattle.std.proofs.Common.{zero, is_some, not, ◌≡◌, ◌≢◌, ℕ, suc, ◌+◌, ◌==◌, true, false, cond, ◌&&◌, inl, inr, List, [], ◌∷◌, ◌++◌, length, Some, None, refl, sym, ◌∙◌, ap, subst, arith, length-append}
+use Rattle.std.specs.Option.{option_and_then}
+use Rattle.std.proofs.lemmas.Bool.{false≢true, cases_eq, eq-eqb, ne_eqb, and_from}
+use Rattle.dq_lits.specs.Literal.{Literal, positive, negative, variable_of, is_negative, opposite}
+use Rattle.dq_lits.specs.Derivation.{holds, IsDerived}
+use Rattle.hint_log.specs.Entries.{Entry}
+use Rattle.hint_log.specs.Entries.{Given, Learned, Answer}
+use Rattle.hint_log.specs.declared.origins.Origin.{Origin}
+use Rattle.hint_log.specs.Conditions.{AreNamed, AreIds}
+use Rattle.hint_log.specs.Entries.{clause_at, clause_of, name_of, last_id, has_id, numbered}
+use Rattle.hint_log.specs.ProductiveLog.{IsNewByPropagation}
+use Rattle.oracle.specs.Fit.{HoldsHintedSelectors}
+use Rattle.hint_log.specs.declared.names.Name.TheVariants.{Selector}
+use Rattle.oracle.specs.declared.groups.Group.{Group}
+use Rattle.oracle.specs.Calls.{IsMade, IsPlain}
+use Rattle.oracle.specs.Fit.{Fit, live_in}
+use Rattle.oracle.specs.Searched.{Stands, IsOfGroup}
+use Rattle.oracle.proofs.KeptSelectors.{holds_reached}
+use Rattle.learning_trail.proofs.Lessons.{live_more, last_clause}
+use Rattle.learning_trail.proofs.HeldLiterals.{holds_cases, opposite-variable, opposite-negative}
+
+module _ (held : List (List Literal)) (c : List Literal) (es : List Entry) (e : Entry) (numbered' : has_id e ≡ true) (is : clause_of e ≡ Some c) (count : length held ≡ last_id es) where
+  at_new : (id : ℕ) → id ≡ last_id es + 1 → clause_at (e ∷ es) id ≡ Some c
+  at_new id h =
+      ap (λ b. option_and_then clause_of (cond b (Some e) (numbered has_id es id))) (and_from (has_id e) (id == last_id es + 1) numbered' (eq-eqb id (last_id es + 1) h)) ∙ is
+
+  at_old : (id : ℕ) → id ≢ last_id es + 1 → clause_at (e ∷ es) id ≡ clause_at es id
+  at_old id n =
+      ap (λ b. option_and_then clause_of (cond (b && (id == last_id es + 1)) (Some e) (numbered has_id es id))) numbered'
+      ∙ ap (λ b. option_and_then clause_of (cond (true && b) (Some e) (numbered has_id es id))) (ne_eqb id (last_id es + 1) n)
+
+  pub same_more : ((id : ℕ) → live_in held id ≡ clause_at es id) → (id : ℕ) → live_in (held ++ c ∷ []) id ≡ clause_at (e ∷ es) id
+  same_more same id = elim (cases_eq id (last_id es + 1)) [
+    | inl h ↦
+        let at : id ≡ suc (length held) = omega (arith, h, count) in
+        ap (live_in (held ++ c ∷ [])) at ∙ last_clause held c ∙ sym (at_new id h)
+    | inr n ↦ elim (live_more held c id) [
+      | inl k ↦ k ∙ same id ∙ sym (at_old id n)
+      | inr k ↦ absurd (n (omega (arith, k.0, count)))
+    ]
+  ]
+
+  pub standing_more : (P : Literal → Type 0) → ((id : ℕ) (d : List Literal) (l : Literal) → clause_at es id ≡ Some d → holds d l ≡ true → P l)
+      → ((l : Literal) → holds c l ≡ true → P l) → (id : ℕ) (d : List Literal) (l : Literal) → clause_at (e ∷ es) id ≡ Some d → holds d l ≡ true → P l
+  standing_more P before new id d l at h = elim (cases_eq id (last_id es + 1)) [
+    | inl k ↦
+        let s : Some c ≡ Some d = sym (at_new id k) ∙ at in
+        let q : c ≡ d = cc in
+        new l (ap (λ x. holds x l) q ∙ h)
+    | inr n ↦ before id d l (sym (at_old id n) ∙ at) h
+  ]
+
+pub fit_learned : (held : List (List Literal)) (variables : ℕ) (es : List Entry) (c : List Literal) (hs : List ℕ) → Fit held variables es
+    → AreNamed es c → AreIds es hs → IsDerived (clause_at es) c hs → IsNewByPropagation es c → HoldsHintedSelectors es c hs → ((k : Literal) → holds c k ≡ true → Stands es k) → Fit (held ++ c ∷ []) variables (Learned c hs ∷ es)
+fit_learned held variables es c hs fit are_named are_ids derived new tied stands = record {
+  count = let n = fit.count in omega (arith, n, length-append held (c ∷ []));
+  same = same_more held c es (Learned c hs) refl refl fit.count fit.same;
+  in_range = fit.in_range;
+  all_named = fit.all_named;
+  selectors = fit.selectors;
+  logged = ((are_named, are_ids), fit.logged);
+  grouped = (tt, fit.grouped);
+  negated = λ id d k at h. let s = standing_more held c es (Learned c hs) refl refl fit.count (Stands es) fit.negated stands id d k at h in record { named = s.named; negated = s.negated };
+  derived = (derived, fit.derived);
+  new = (new, fit.new);
+  hinted = (tied, fit.hinted);
+  kept = (holds_reached es c hs fit.logged fit.grouped fit.hinted tied, fit.kept);
+}
+
+pub fit_answered : (held : List (List Literal)) (variables : ℕ) (es : List Entry) (c : List Literal) (hs : List ℕ) → Fit held variables es
+    → AreNamed es c → AreIds es hs → IsDerived (clause_at es) c hs → HoldsHintedSelectors es c hs → ((k : Literal) → holds c k ≡ true → Stands es k) → Fit (held ++ c ∷ []) variables (Answer c hs ∷ es)
+fit_answered held variables es c hs fit are_named are_ids derived tied stands = record {
+  count = let n = fit.count in omega (arith, n, length-append held (c ∷ []));
+  same = same_more held c es (Answer c hs) refl refl fit.count fit.same;
+  in_range = fit.in_range;
+  all_named = fit.all_named;
+  selectors = fit.selectors;
+  logged = ((are_named, are_ids), fit.logged);
+  grouped = (tt, fit.grouped);
+  negated = λ id d k at h. let s = standing_more held c es (Answer c hs) refl refl fit.count (Stands es) fit.negated stands id d k at h in record { named = s.named; negated = s.negated };
+  derived = (derived, fit.derived);
+  new = (tt, fit.new);
+  hinted = (tied, fit.hinted);
+  kept = (holds_reached es c hs fit.logged fit.grouped fit.hinted tied, fit.kept);
+}
+
+pub fit_given : (held : List (List Literal)) (variables : ℕ) (es : List Entry) (o : Origin) (c : List Literal) → Fit held variables es → AreNamed es c
+    → ((k : Literal) → holds c k ≡ true → Stands es k) → IsOfGroup es c → Fit (held ++ c ∷ []) variables (Given o c ∷ es)
+fit_given held variables es o c fit are_named stands grouped = record {
+  count = let n = fit.count in omega (arith, n, length-append held (c ∷ []));
+  same = same_more held c es (Given o c) refl refl fit.count fit.same;
+  in_range = fit.in_range;
+  all_named = fit.all_named;
+  selectors = fit.selectors;
+  logged = (are_named, fit.logged);
+  grouped = (grouped, fit.grouped);
+  negated = λ id d k at h. let s = standing_more held c es (Given o c) refl refl fit.count (Stands es) fit.negated stands id d k at h in record { named = s.named; negated = s.negated };
+  derived = (tt, fit.derived);
+  new = (tt, fit.new);
+  hinted = (tt, fit.hinted);
+  kept = (tt, fit.kept);
+}
+
+-- a group's clause stands
+pub given_stands : (es : List Entry) (g : Group) (lits : List Literal) → IsMade es g → ((l : Literal) → holds lits l ≡ true → IsPlain es l) → (l : Literal)
+    → holds (opposite g.selector ∷ lits) l ≡ true → Stands es l
+given_stands es g lits made plain l h =
+    elim (holds_cases (opposite g.selector) lits l h) [
+      | inl e ↦ subst (Stands es) (sym e) (record {
+        named = ap (λ v. is_some (name_of es v)) (opposite-variable g.selector) ∙ ap is_some made.named;
+        negated = λ sel. opposite-negative g.selector ∙ ap not made.positive;
+      })
+      | inr later ↦
+          let p = plain l later in
+          record { named = p.named; negated = λ sel. absurd (false≢true (sym p.no_selector ∙ sel)) }
+    ]
+
+pub given_grouped : (es : List Entry) (g : Group) (lits clause : List Literal) → IsMade es g → ((l : Literal) → holds lits l ≡ true → IsPlain es l) → clause ≡ opposite g.selector ∷ lits
+    → IsOfGroup es clause
+given_grouped es g lits clause made plain is = record {
+  group = variable_of g.selector;
+  rest = lits;
+  clause_is = is ∙ ap (λ l. l ∷ lits) (negated_positive g.selector made.positive);
+  named = made.named;
+  plain = plain;
+}
+  where
+    negated_positive : (l : Literal) → is_negative l ≡ false → opposite l ≡ negative (variable_of l)
+    negated_positive (positive v) e = refl
+    negated_positive (negative v) e = absurd (false≢true (sym e))
+
+nothing_held : (id : ℕ) → live_in [] id ≡ clause_at [] id
+nothing_held zero = refl
+nothing_held (suc i) = slice_get_past [] i (omega arith)
+
+-- a solver without clauses and variables goes with a log without entries
+pub fit_first : Fit [] 0 []
+fit_first = record {
+  count = refl;
+  same = nothing_held;
+  in_range = λ v some. absurd (false≢true some);
+  all_named = λ v low high. absurd (omega (arith, low, high));
+  selectors = λ v g is. let n : None ≡ Some (Selector g) = is in cc;
+  logged = tt;
+  grouped = tt;
+  negated = λ id c l at h. let n : None ≡ Some c = at in cc;
+  derived = tt;
+  new = tt;
+  hinted = tt;
+  kept = tt;
+}

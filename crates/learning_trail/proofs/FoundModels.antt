@@ -1,0 +1,135 @@
+-- What a search is asked for, and the values that it found.
+use Rattle.std.proofs.Common.{◌≡◌, ℕ, zero, suc, ◌-◌, ◌<◌, ◌≤◌, Bool, true, false, cond, not, ◌⊎◌, inl, inr, List, [], ◌∷◌, ◌++◌, map, length, slice_index_or, Some, None, IsSome, is_some, All, sym, ◌∙◌, ap, subst, arith}
+use Rattle.std.specs.List.{list_any}
+use Rattle.std.proofs.lemmas.Bool.{false≢true, false_from_ne_true}
+use Rattle.std.proofs.lemmas.List.Elements.{All-cons, All-nil, All-head, All-tail, All-get_or}
+use Rattle.std.proofs.lemmas.Option.{slice_get_within, get_or_from_slice_get}
+use Rattle.dq_lits.specs.Literal.{Assignment, Literal, positive, negative, variable_of, is_negative, opposite, literal_true}
+use Rattle.dq_lits.specs.Derivation.{holds, is_tautology}
+use Rattle.hint_log.specs.Entries.{Entry}
+use Rattle.hint_log.specs.declared.names.Name.TheVariants.{Selector}
+use Rattle.hint_log.specs.Entries.{ProofLog, clause_at, name_of}
+use Rattle.hint_log.specs.Naming.{is_selector, is_selector_name}
+use Rattle.oracle.specs.declared.groups.Group.{Group}
+use Rattle.oracle.specs.Fit.{Fit, live_in}
+use Rattle.oracle.specs.Calls.{IsMade, IsPlain, IsModelUnder, assumed}
+use Rattle.learning_trail.specs.Growing.{HasLearned}
+use Rattle.learning_trail.specs.Steps.{literals_of, literal_value}
+use Rattle.learning_trail.specs.declared.trails.TruthValue.TheVariants.{True, False, Unassigned}
+use Rattle.learning_trail.specs.Searching.{Searched, AreAssumptions, IsSatisfied}
+use Rattle.learning_trail.proofs.HeldLiterals.{holds_first, holds_later, holds_cases, opposite-variable, opposite-negative, any_one, any_gives, value_true}
+use Rattle.learning_trail.proofs.ConflictAnalysis.{AreConsistent, sound_consistent}
+use Rattle.learning_trail.proofs.SearchTurns.{assumptions_same}
+
+pub all_of : (P : Literal → Type 0) (xs : List Literal) → ((l : Literal) → holds xs l ≡ true → P l) → All P xs
+all_of P [] h = All-nil P
+all_of P (x ∷ xs) h = All-cons P x xs (h x (holds_first x xs)) (all_of P xs (λ l m. h l (holds_later x xs l m)))
+
+pub of_all : (P : Literal → Type 0) (xs : List Literal) → All P xs → (l : Literal) → holds xs l ≡ true → P l
+of_all P [] all l h = absurd (false≢true h)
+of_all P (x ∷ xs) all l h =
+    elim (holds_cases x xs l h) [
+      | inl e ↦ subst P (sym e) (All-head P x xs all)
+      | inr later ↦ of_all P xs (All-tail P x xs all) l later
+    ]
+
+pub clause_of_all : (P : List Literal → Type 0) (clauses : List (List Literal)) → All P clauses → (id : ℕ) (c : List Literal) → live_in clauses id ≡ Some c → P c
+clause_of_all P clauses all zero c at = let n : None ≡ Some c = at in cc
+clause_of_all P clauses all (suc i) c at =
+    let lt = slice_get_within clauses i c at in
+    subst P (get_or_from_slice_get clauses i c [] at) (All-get_or P clauses i [] lt all)
+
+-- a selector that was switched on
+pub record IsOn (es : List Entry) (l : Literal) : Type 0 where
+  pub positive : is_negative l ≡ false
+  pub named : name_of es (variable_of l) ≡ Some (Selector (variable_of l))
+
+pub on_or_plain : (es : List Entry) (active : List Group) (assume : List Literal) → All (IsMade es) active → (l : Literal) → holds (map (λ g. g.selector) active ++ assume) l ≡ true
+    → IsOn es l ⊎ (holds assume l ≡ true)
+on_or_plain es [] assume made l h = inr h
+on_or_plain es (g ∷ active) assume made l h =
+    elim (holds_cases g.selector (map (λ k. k.selector) active ++ assume) l h) [
+      | inl e ↦
+          let m = All-head (IsMade es) g active made in
+          inl (subst (IsOn es) (sym e) (record { positive = m.positive; named = m.named }))
+      | inr later ↦ on_or_plain es active assume (All-tail (IsMade es) g active made) l later
+    ]
+
+on_selector : (es : List Entry) (l : Literal) → IsOn es l → is_selector es (variable_of l) ≡ true
+on_selector es l on = ap is_selector_name on.named
+
+pub assumptions_from : (log : ProofLog) (active : List Group) (assume : List Literal) → All (IsMade log.entries) active → All (IsPlain log.entries) assume → is_tautology assume ≡ false
+    → AreAssumptions log (assumed active assume)
+assumptions_from log active assume made plain apart =
+    let es = log.entries in
+    let plain_one : (l : Literal) → holds assume l ≡ true → IsPlain es l = of_all (IsPlain es) assume plain in
+    let split : (l : Literal) → holds (assumed active assume) l ≡ true → IsOn es l ⊎ (holds assume l ≡ true) = on_or_plain es active assume made in
+    let clash : (l k : Literal) → variable_of l ≡ variable_of k → IsOn es l → holds assume k ≡ true → ⊥ = λ l k same on h.
+    false≢true (sym (plain_one k h).no_selector ∙ ap (is_selector es) (sym same) ∙ on_selector es l on) in
+    record {
+      named = λ l h. elim (split l h) [
+        | inl on ↦ ap is_some on.named
+        | inr k ↦ (plain_one l k).named
+      ];
+      apart = λ l h o. elim (split l h) [
+        | inl on ↦ elim (split (opposite l) o) [
+          | inl off ↦ false≢true (sym off.positive ∙ opposite-negative l ∙ ap not on.positive)
+          | inr k ↦ clash l (opposite l) (sym (opposite-variable l)) on k
+        ]
+        | inr k ↦ elim (split (opposite l) o) [
+          | inl off ↦ clash (opposite l) l (opposite-variable l) off k
+          | inr m ↦ false≢true (sym apart ∙ any_one (λ x. holds assume (opposite x)) assume l k m)
+        ]
+      ];
+      switched = λ l h sel. elim (split l h) [
+        | inl on ↦ on.positive
+        | inr k ↦ absurd (false≢true (sym (plain_one l k).no_selector ∙ sel))
+      ];
+    }
+
+-- the values that were kept
+abbrev pub AreKept : List Bool → List Literal → Type 0
+AreKept model trues =
+    (i : ℕ) → i < length model → (slice_index_or model i false ≡ true → literal_value trues (positive (suc i)) ≡ True)
+    × (literal_value trues (positive (suc i)) ≡ True → slice_index_or model i false ≡ true)
+
+valued : (trues : List Literal) (l : Literal) → AreConsistent trues → holds trues l ≡ true → literal_value trues l ≡ True
+valued trues l consistent h =
+    let other : holds trues (opposite l) ≡ false = false_from_ne_true (holds trues (opposite l)) (λ o. consistent l h o) in
+    ap (λ b. cond b False (cond (holds trues l) True Unassigned)) other ∙ ap (λ b. cond b True Unassigned) h
+
+pub literal_kept : (model : List Bool) (trues : List Literal) → AreKept model trues → AreConsistent trues → (l : Literal) → holds trues l ≡ true → 1 ≤ variable_of l
+    → variable_of l ≤ length model → literal_true (λ v. slice_index_or model (v - 1) false) l ≡ true
+literal_kept model trues kept consistent (positive zero) h low high = absurd (omega (arith, low))
+literal_kept model trues kept consistent (positive (suc i)) h low high =
+    let at : suc i - 1 ≡ i = omega arith in
+    let lt : i < length model = omega (arith, high) in
+    ap (λ n. slice_index_or model n false) at ∙ (kept i lt).1 (valued trues (positive (suc i)) consistent h)
+literal_kept model trues kept consistent (negative zero) h low high = absurd (omega (arith, low))
+literal_kept model trues kept consistent (negative (suc i)) h low high =
+    let at : suc i - 1 ≡ i = omega arith in
+    let lt : i < length model = omega (arith, high) in
+    let off : slice_index_or model i false ≡ false = false_from_ne_true (slice_index_or model i false) (λ on.
+    consistent (negative (suc i)) h (value_true trues (positive (suc i)) ((kept i lt).0 on))) in
+    ap (λ n. not (slice_index_or model n false)) at ∙ ap not off
+
+pub found_model : (assumptions : List Literal) (s : Searched) (model : List Bool) (old new : ProofLog) → Fit s.clauses s.variables new.entries → HasLearned old new → AreAssumptions old assumptions
+    → IsSatisfied assumptions s → length model ≡ s.variables → AreKept model (literals_of s.trail.steps)
+    → IsModelUnder (λ v. slice_index_or model (v - 1) false) (clause_at new.entries) assumptions
+found_model assumptions s model old new fit learned are satisfied long kept =
+    let trues = literals_of s.trail.steps in
+    let values : Assignment = λ v. slice_index_or model (v - 1) false in
+    let consistent = sound_consistent (live_in s.clauses) s.trail.steps satisfied.sound in
+    let one : (l : Literal) → IsSome (name_of new.entries (variable_of l)) → holds trues l ≡ true → literal_true values l ≡ true = λ l named h.
+    let r = fit.in_range (variable_of l) named in
+    let low = r.0 in
+    let high = r.1 in
+    literal_kept model trues kept consistent l h low (omega (arith, high, long)) in
+    let later = assumptions_same old new assumptions learned are in
+    record {
+      clauses = λ id c at.
+          let some = clause_of_all (λ d. list_any (holds trues) d ≡ true) s.clauses satisfied.clauses id c (fit.same id ∙ at) in
+          let r = any_gives (holds trues) c some in
+          any_one (literal_true values) c r.0 r.1 (one r.0 (fit.negated id c r.0 at r.1).named r.2);
+      assumptions_true = all_of (λ l. literal_true values l ≡ true) assumptions (λ l h. one l (later.named l h) (satisfied.assumed l h));
+    }

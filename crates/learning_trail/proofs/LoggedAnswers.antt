@@ -1,0 +1,77 @@
+-- An answer goes into the log.
+use Rattle.std.proofs.Common.{reverse, subst, ◌≡◌, ℕ, Bool, true, false, not, List, [], ◌∷◌, ◌++◌, map, is_some, refl, sym, ◌∙◌, ap}
+use Rattle.std.proofs.lemmas.Bool.{false≢true}
+use Rattle.dq_lits.specs.Literal.{Literal, is_negative, opposite}
+use Rattle.dq_lits.specs.Derivation.{LiveClauses, holds}
+use Rattle.hint_log.specs.Entries.{Answer}
+use Rattle.hint_log.specs.Conditions.{AreNamed, AreIds}
+use Rattle.hint_log.specs.Entries.{ProofLog, with_entry, name_of, last_id}
+use Rattle.hint_log.specs.Naming.{is_selector}
+use Rattle.oracle.specs.Fit.{Fit, live_in}
+use Rattle.oracle.specs.Searched.{Stands}
+use Rattle.oracle.specs.Calls.{IsRefutedUnder}
+use Rattle.hint_log.specs.Entries.{Entry}
+use Rattle.learning_trail.specs.declared.trails.Step.{Step}
+use Rattle.learning_trail.specs.Steps.{Trailed, literals_of}
+use Rattle.learning_trail.specs.Sound.{AreAssumed}
+use Rattle.learning_trail.specs.Noting.{Noted}
+use Rattle.learning_trail.specs.Backing.{IsKeeping}
+use Rattle.learning_trail.specs.Analyses.{IsAnalysis, AllStand}
+use Rattle.learning_trail.specs.Searching.{AreAssumptions}
+use Rattle.learning_trail.proofs.HeldLiterals.{opposite-variable, opposite-negative}
+use Rattle.learning_trail.proofs.AnswerClauses.{concluded_derived, concluded_tied}
+use Rattle.learning_trail.proofs.Taught.{all_named, all_ids}
+use Rattle.learning_trail.proofs.FitLogs.{fit_answered}
+use Rattle.learning_trail.proofs.LearnedClauses.{holds-reverse, analysis_turned}
+
+module _ (assumptions : List Literal) (held : List (List Literal)) (variables : ℕ) (log : ProofLog) (clause : List Literal) (marks : List Bool) (hints : List ℕ)
+    (fit : Fit held variables log.entries) (assumed : AreAssumptions log assumptions)
+    (negated : (l : Literal) → holds clause l ≡ true → holds assumptions (opposite l) ≡ true)
+    (analysis : IsAnalysis log.entries (live_in held) [] (map opposite clause) marks hints) where
+  pub answer_stands : (l : Literal) → holds clause l ≡ true → Stands log.entries l
+  answer_stands l h = record {
+    named = ap (λ v. is_some (name_of log.entries v)) (sym (opposite-variable l)) ∙ assumed.named (opposite l) (negated l h);
+    negated = λ sel.
+        let n = assumed.switched (opposite l) (negated l h) (ap (is_selector log.entries) (opposite-variable l) ∙ sel) in
+        turned (is_negative l) (sym (opposite-negative l) ∙ n);
+  }
+    where
+      turned : (b : Bool) → not b ≡ false → b ≡ true
+      turned true e = refl
+      turned false e = absurd (false≢true (sym e))
+
+  pub answer_named : AreNamed log.entries clause
+  answer_named = all_named log.entries clause answer_stands
+
+  pub answer_ids : AreIds log.entries hints
+  answer_ids = all_ids held variables log.entries hints fit analysis.ids
+
+  pub answer_fit : Fit (held ++ clause ∷ []) variables (Answer clause hints ∷ log.entries)
+  answer_fit = fit_answered held variables log.entries clause hints fit answer_named answer_ids (concluded_derived held variables log.entries clause marks hints fit analysis)
+      (concluded_tied held variables log.entries clause marks hints fit analysis) answer_stands
+
+  pub answer_refuted : (new : ProofLog) (id : ℕ) → new ≡ with_entry log (Answer clause hints) → id ≡ last_id new.entries → IsRefutedUnder log new assumptions id
+  answer_refuted new id is last = record {
+    last = last;
+    clause = clause;
+    hints = hints;
+    before = log;
+    learned = record { more = []; grown = refl; each = tt; limit = refl };
+    answered = is;
+    negated = negated;
+  }
+
+-- where the whole trail was taken back
+pub record IsConcluded (es : List Entry) (live : LiveClauses) (assumptions : List Literal) (noted : Noted) : Type 0 where
+  pub negated : (l : Literal) → holds noted.literals l ≡ true → holds assumptions (opposite l) ≡ true
+  pub analysis : IsAnalysis es live [] (map opposite noted.literals) noted.marks noted.hints
+
+pub conclude : (es : List Entry) (live : LiveClauses) (assumptions : List Literal) (old new : Trailed) (was now noted : Noted) → AllStand es live → AreAssumed assumptions old.steps
+    → ((l : Literal) → holds was.literals l ≡ true → holds assumptions (opposite l) ≡ true)
+    → IsAnalysis es live (literals_of old.steps) (map opposite was.literals) was.marks (reverse was.hints) → IsKeeping live old new was now → new.steps ≡ []
+    → noted ≡ record { marks = now.marks; hints = reverse now.hints; literals = reverse now.literals } → IsConcluded es live assumptions noted
+conclude es live assumptions old new was now noted stand assumed negated analysis keeping bare turned = record {
+  negated = λ l h. (keeping.negated assumptions assumed negated).1 l (sym (holds-reverse now.literals l) ∙ ap (λ (n : Noted). holds n.literals l) (sym turned) ∙ h);
+  analysis = analysis_turned es live now noted turned
+      (subst (λ (xs : List Step). IsAnalysis es live (literals_of xs) (map opposite now.literals) now.marks (reverse now.hints)) bare (keeping.analysis es stand analysis));
+}

@@ -1,0 +1,73 @@
+-- Which assumptions are true.
+use Rattle.std.proofs.Common.{◌≡◌, ℕ, zero, suc, ◌+◌, Bool, true, false, ◌||◌, List, [], ◌∷◌, take, slice_get, Some, None, Option, refl, sym, ◌∙◌, subst, arith, inl, inr}
+use Rattle.std.specs.List.{list_any}
+use Rattle.std.proofs.lemmas.Bool.{false≢true}
+use Rattle.dq_lits.specs.Literal.{Literal, same_literal}
+use Rattle.dq_lits.specs.Derivation.{holds}
+use Rattle.oracle.specs.declared.groups.Group.{Group}
+use Rattle.oracle.specs.Calls.{assumed}
+use Rattle.learning_trail.specs.Sound.{AreTrue}
+use Rattle.learning_trail.proofs.HeldLiterals.{holds_first, holds_later, holds_cases}
+
+pub none_true : (assumptions trues : List Literal) → AreTrue (take 0 assumptions) trues
+none_true [] trues = λ a h. absurd (false≢true h)
+none_true (x ∷ xs) trues = λ a h. absurd (false≢true h)
+
+pub true_later : (assumptions old new : List Literal) → ((t : Literal) → holds old t ≡ true → holds new t ≡ true) → AreTrue assumptions old → AreTrue assumptions new
+true_later assumptions old new more h = λ a among. more a (h a among)
+
+-- one more
+true_next : (assumptions trues : List Literal) (i : ℕ) (l : Literal) → slice_get assumptions i ≡ Some l → holds trues l ≡ true → AreTrue (take i assumptions) trues
+    → AreTrue (take (suc i) assumptions) trues
+true_next [] trues i l at on before = let n : None ≡ Some l = at in cc
+true_next (x ∷ xs) trues zero l at on before =
+    λ a h. elim (holds_cases x (take 0 xs) a h) [
+      | inl e ↦ subst (λ k. holds trues k ≡ true) (sym (e ∙ same at)) on
+      | inr later ↦ none_true xs trues a later
+    ]
+  where
+    same : Some x ≡ Some l → x ≡ l
+    same e = cc
+true_next (x ∷ xs) trues (suc i) l at on before =
+    let rest = true_next xs trues i l at on (λ a h. before a (holds_later x (take i xs) a h)) in
+    λ a h. elim (holds_cases x (take (suc i) xs) a h) [
+      | inl e ↦ before a (subst (λ k. holds (x ∷ take i xs) k ≡ true) (sym e) (holds_first x (take i xs)))
+      | inr later ↦ rest a later
+    ]
+
+pub true_more : (assumptions trues : List Literal) (i : ℕ) (l : Literal) → slice_get assumptions i ≡ Some l → holds trues l ≡ true → AreTrue (take i assumptions) trues
+    → AreTrue (take (i + 1) assumptions) trues
+true_more assumptions trues i l at on before =
+    let one : suc i ≡ i + 1 = omega arith in subst (λ n. AreTrue (take n assumptions) trues) one (true_next assumptions trues i l at on before)
+
+-- there is none behind them
+pub true_all : (assumptions trues : List Literal) (i : ℕ) → slice_get assumptions i ≡ None → AreTrue (take i assumptions) trues → AreTrue assumptions trues
+true_all [] trues i at before = λ a h. absurd (false≢true h)
+true_all (x ∷ xs) trues zero at before = let n : Some x ≡ None = at in cc
+true_all (x ∷ xs) trues (suc i) at before =
+    let rest = true_all xs trues i at (λ a h. before a (holds_later x (take i xs) a h)) in
+    λ a h. elim (holds_cases x xs a h) [
+      | inl e ↦ before a (subst (λ k. holds (x ∷ take i xs) k ≡ true) (sym e) (holds_first x (take i xs)))
+      | inr later ↦ rest a later
+    ]
+
+pub at_holds : (xs : List Literal) (i : ℕ) (l : Literal) → slice_get xs i ≡ Some l → holds xs l ≡ true
+at_holds [] i l at = let n : None ≡ Some l = at in cc
+at_holds (x ∷ xs) zero l at = subst (λ k. holds (x ∷ xs) k ≡ true) (same at) (holds_first x xs)
+  where
+    same : Some x ≡ Some l → x ≡ l
+    same e = cc
+at_holds (x ∷ xs) (suc i) l at = holds_later x xs l (at_holds xs i l at)
+
+pub among_assumed : (active : List Group) (literals : List Literal) (l : Literal) → holds (assumed active literals) l ≡ (list_any (λ g. same_literal l g.selector) active || holds literals l)
+among_assumed [] literals l = refl
+among_assumed (g ∷ active) literals l = by (same_literal l g.selector) (among_assumed active literals l)
+  where
+    by : (b : Bool) → holds (assumed active literals) l ≡ (list_any (λ g. same_literal l g.selector) active || holds literals l)
+        → (b || holds (assumed active literals) l) ≡ ((b || list_any (λ g. same_literal l g.selector) active) || holds literals l)
+    by true e = refl
+    by false e = e
+
+pub none_from : (o : Option Literal) → ((l : Literal) → o ≡ Some l → ⊥) → o ≡ None
+none_from None other = refl
+none_from (Some l) other = absurd (other l refl)

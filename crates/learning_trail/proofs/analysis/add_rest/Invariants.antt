@@ -1,0 +1,13 @@
+use Rattle.std.proofs.Common.{◌≤◌, length, take, reverse}
+use Rattle.oracle.specs.Fit.{live_in}
+use Rattle.learning_trail.specs.Backing.{IsTrimmed}
+use Rattle.learning_trail.proofs.analysis.add_rest.Given as goal
+
+abbrev pub invariant-loop-at : goal.invariant-loop-at
+invariant-loop-at g l = record {
+  within : l.at ≤ length l.steps;
+  trimmed : IsTrimmed (live_in (g.C.Clauses.clauses l.clauses)) l.trail.steps (reverse (take l.at l.steps)) l.fn.notes l.notes;
+}
+
+abbrev pub decreases-loop-at : goal.decreases-loop-at
+decreases-loop-at g l = l.at

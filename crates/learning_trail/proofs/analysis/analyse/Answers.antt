@@ -1,0 +1,47 @@
+use Rattle.std.proofs.Common.{◌≡◌, ◌∷◌, ◌++◌, [], reverse, sym, ap, ◌∙◌, subst, ◌==◌, refl}
+use Rattle.std.proofs.lemmas.Bool.{eq-eqb}
+use Rattle.dq_lits.specs.Literal.{variable_of}
+use Rattle.oracle.specs.Fit.{live_in}
+use Rattle.learning_trail.specs.Steps.{literals_of, decision_of}
+use Rattle.learning_trail.specs.Sound.{IsSound}
+use Rattle.learning_trail.specs.Analyses.{IsAnalysis}
+use Rattle.learning_trail.proofs.HeldLiterals.{any_one}
+use Rattle.learning_trail.proofs.ConflictAnalysis.{analysis_first, sound_consistent}
+use Rattle.learning_trail.proofs.Lessons.{sound_later}
+use Rattle.learning_trail.proofs.TakenLevels.{conflict_of, conflict_marked, is_some_of}
+use Rattle.learning_trail.proofs.LearnedClauses.{lesson_made}
+use Rattle.learning_trail.proofs.analysis.analyse.Goals as goal
+
+pub back_to_first-first-requires-clause-some : goal.back_to_first-first-requires-clause-some
+back_to_first-first-requires-clause-some g c =
+    let clauses = g.C.Clauses.clauses c.args.clauses.now in
+    let steps = c.args.trail.now.steps in
+    let k = conflict_of clauses c.args.conflict (literals_of steps) c.requires.conflict in
+    let d = is_some_of (decision_of steps) c.requires.decided in
+    conflict_marked (live_in clauses) steps c.begin.new.notes.marks k.clause c.args.conflict d.0 c.requires.sound d.1 k.is k.false_now
+    (λ l m. c.begin.ensures.marked k.clause (variable_of l) k.is ∙ any_one (λ x. variable_of x == variable_of l) k.clause l m (eq-eqb (variable_of l) (variable_of l) refl))
+
+pub add_rest-requires-clause-sound : goal.add_rest-requires-clause-sound
+add_rest-requires-clause-sound g c =
+    let live = live_in (g.C.Clauses.clauses c.args.clauses.now) in
+    let point = c.back_to_first-first.ensures in
+    (sound_later live point.shrunk.popped (c.back_to_first-first.result ∷ c.back_to_first-first.new.trail.steps) (subst (IsSound live) point.shrunk.is c.requires.sound)).1
+
+pub returns-clause-lesson : goal.returns-clause-lesson
+returns-clause-lesson g c =
+    let clauses = g.C.Clauses.clauses c.args.clauses.now in
+    let live = live_in clauses in
+    let old = c.args.trail.now in
+    let mid = c.back_to_first-first.new.trail in
+    let step = c.back_to_first-first.result in
+    let found = c.back_to_first-first.new.notes in
+    let point = c.back_to_first-first.ensures in
+    let k = conflict_of clauses c.args.conflict (literals_of old.steps) c.requires.conflict in
+    let hints : reverse c.begin.new.notes.hints ≡ c.args.conflict ∷ [] = ap reverse c.begin.ensures.hints in
+    let sound = sound_later live point.shrunk.popped (step ∷ mid.steps) (subst (IsSound live) point.shrunk.is c.requires.sound) in
+    let added = c.add_literal.ensures ∙ ap (λ l. record { marks = found.marks; hints = found.hints; literals = found.literals ++ l ∷ [] }) c.not.ensures in
+    lesson_made live old mid step c.begin.new.notes found c.add_literal.new.self c.add_rest.new.notes c.turn.new.self sound c.begin.ensures.literals
+    (λ entries stand. subst (IsAnalysis entries live (literals_of old.steps) [] c.begin.new.notes.marks) (sym hints)
+    (analysis_first entries live c.begin.new.notes.marks (literals_of old.steps) k.clause c.args.conflict k.is k.false_now (λ l m. stand c.args.conflict k.clause l k.is m) (sound_consistent live old.steps c.requires.sound)
+    (λ v. c.begin.ensures.marked k.clause v k.is)))
+    point added c.add_rest.ensures c.turn.ensures

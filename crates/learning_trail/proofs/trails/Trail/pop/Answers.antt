@@ -1,0 +1,22 @@
+use Rattle.std.proofs.Common.{◌≡◌, ◌++◌, ◌∷◌, [], suc, reverse, subst, ap, ◌∙◌, arith, List}
+use Rattle.std.proofs.lemmas.List.{length-set}
+use Rattle.dq_lits.specs.Literal.{variable_of}
+use Rattle.learning_trail.specs.TrailInside.{IsKept}
+use Rattle.learning_trail.specs.declared.trails.Step.{Step}
+use Rattle.learning_trail.specs.declared.trails.TruthValue.TheVariants.{Unassigned}
+use Rattle.learning_trail.proofs.KeptTrails.{kept_popped, newest}
+use Rattle.learning_trail.proofs.trails.Trail.pop.Goals as goal
+
+pub invariant_of-self-2 : goal.invariant_of-self-2
+invariant_of-self-2 c =
+    let inside = c.self.inside in
+    let step = c.in_ok-step.step in
+    let place = c.place_of.result in
+    let at : variable_of step.literal ≡ suc place = omega (arith, c.place_of.ensures) in
+    let split : inside.steps.items ≡ c.pop.new.self.items ++ step ∷ [] = c.in_ok-step.ensures.items in
+    let P : List Step → Type 0 = λ xs. IsKept inside.values.items xs in
+    let old : IsKept inside.values.items (step ∷ reverse c.pop.new.self.items) = subst P (ap reverse split ∙ newest c.pop.new.self.items step) c.self.invariant.kept in
+    record {
+      kept = kept_popped inside.values.items (reverse c.pop.new.self.items) step place at old;
+      room = omega (arith, length-set inside.values.items place Unassigned, c.self.invariant.room, c.pop.ensures.capacity);
+    }

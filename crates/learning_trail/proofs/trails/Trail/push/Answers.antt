@@ -1,0 +1,57 @@
+use Rattle.std.proofs.Common.{◌≡◌, ◌<◌, ◌++◌, ◌∷◌, [], suc, not, cond, reverse, length, set, sym, subst, ap, ◌∙◌, arith, List}
+use Rattle.std.specs.Result.{is_ok}
+use Rattle.std.proofs.lemmas.Bool.{both_ways}
+use Rattle.std.proofs.lemmas.List.{length-set, length-reverse}
+use Rattle.dq_lits.specs.Literal.{variable_of}
+use Rattle.learning_trail.specs.Steps.{Trailed, literals_of, IsFree}
+use Rattle.learning_trail.specs.TrailInside.{IsKept}
+use Rattle.learning_trail.specs.declared.trails.Step.{Step}
+use Rattle.learning_trail.specs.declared.trails.TruthValue.{TruthValue}
+use Rattle.learning_trail.specs.declared.trails.TruthValue.TheVariants.{True, False}
+use Rattle.learning_trail.proofs.AssignedLiterals.{value_where_true}
+use Rattle.learning_trail.proofs.KeptTrails.{kept_pushed, newest}
+use Rattle.learning_trail.proofs.trails.Trail.push.Goals as goal
+
+pub unreachable-requires : goal.unreachable-requires
+unreachable-requires c =
+    let inside = c.self.inside in
+    let place = c.place_of.result in
+    let at : variable_of c.args.step.literal ≡ suc place = omega (arith, c.place_of.ensures) in
+    let in_range : place < length inside.values.items = omega (arith, ap (λ t. t.room) c.self.view_is, at, c.requires.in_range) in
+    let free : IsFree (literals_of (reverse inside.steps.items)) c.args.step.literal = subst (λ (t : Trailed). IsFree (literals_of t.steps) c.args.step.literal) (sym c.self.view_is) c.requires.free in
+    let all = kept_pushed inside.values.items (reverse inside.steps.items) c.args.step place at in_range free c.self.invariant.kept in
+    let pushed = c.push.ensures.succeeds (omega (arith, all.1, length-reverse inside.steps.items, c.self.invariant.room, inside.steps.ok.0)) in
+    both_ways (is_ok c.push.result) (c.is_err.ensures.negation ∙ ap not c.if-is_err.true) pushed
+
+pub invariant_of-self : goal.invariant_of-self
+invariant_of-self c =
+    let inside = c.self.inside in
+    let place = c.place_of.result in
+    let step = c.args.step in
+    let more = c.push.new.self.items in
+    let at : variable_of step.literal ≡ suc place = omega (arith, c.place_of.ensures) in
+    let in_range : place < length inside.values.items = omega (arith, ap (λ t. t.room) c.self.view_is, at, c.requires.in_range) in
+    let free : IsFree (literals_of (reverse inside.steps.items)) step.literal = subst (λ (t : Trailed). IsFree (literals_of t.steps) c.args.step.literal) (sym c.self.view_is) c.requires.free in
+    let all = kept_pushed inside.values.items (reverse inside.steps.items) step place at in_range free c.self.invariant.kept in
+    let value : c.truth.result ≡ value_where_true step.literal = c.truth.ensures ∙ ap (λ b. cond (not b) True False) c.is_neg.ensures in
+    let longer : more ≡ inside.steps.items ++ step ∷ [] =
+    c.push.ensures.items ∙ ap (λ b. cond b (inside.steps.items ++ step ∷ []) inside.steps.items) (c.is_err.ensures.negation ∙ ap not c.if-is_err.false) in
+    let P : List Step → Type 0 = λ xs. IsKept (set inside.values.items place c.truth.result) xs in
+    let Q : TruthValue → Type 0 = λ t. IsKept (set inside.values.items place t) (step ∷ reverse inside.steps.items) in
+    record {
+      kept = subst P (sym (ap reverse longer ∙ newest inside.steps.items step)) (subst Q (sym value) all.0);
+      room = omega (arith, length-set inside.values.items place c.truth.result, c.self.invariant.room, c.push.ensures.capacity);
+    }
+
+pub returns-clause-few : goal.returns-clause-few
+returns-clause-few c =
+    let inside = c.self.inside in
+    let place = c.place_of.result in
+    let step = c.args.step in
+    let at : variable_of step.literal ≡ suc place = omega (arith, c.place_of.ensures) in
+    let in_range : place < length inside.values.items = omega (arith, ap (λ t. t.room) c.self.view_is, at, c.requires.in_range) in
+    let free : IsFree (literals_of (reverse inside.steps.items)) step.literal = subst (λ (t : Trailed). IsFree (literals_of t.steps) c.args.step.literal) (sym c.self.view_is) c.requires.free in
+    let all = kept_pushed inside.values.items (reverse inside.steps.items) step place at in_range free c.self.invariant.kept in
+    let longer : c.push.new.self.items ≡ inside.steps.items ++ step ∷ [] =
+    c.push.ensures.items ∙ ap (λ b. cond b (inside.steps.items ++ step ∷ []) inside.steps.items) (c.is_err.ensures.negation ∙ ap not c.if-is_err.false) in
+    omega (arith, ap length (ap reverse longer ∙ newest inside.steps.items step), all.1, length-set inside.values.items place c.truth.result)

@@ -1,0 +1,13 @@
+pub mod Analyses
+pub mod Backing
+pub mod Extension
+pub mod Growing
+pub mod Lessons
+pub mod Marks
+pub mod Noting
+pub mod Passes
+pub mod Searching
+pub mod Sound
+pub mod Steps
+pub mod Table
+pub mod TrailInside

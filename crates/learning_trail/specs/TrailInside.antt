@@ -1,0 +1,25 @@
+-- How a trail is kept.
+use Rattle.std.specs.Prelude.{◌≤◌, List, [], ◌∷◌, length, reverse, count_by, vec_capacity, All}
+use Rattle.dq_lits.specs.Literal.{variable_of}
+use Rattle.learning_trail.specs.declared.trails.Step.{Step}
+use Rattle.learning_trail.specs.declared.trails.TruthValue.{TruthValue}
+use Rattle.learning_trail.specs.Steps.{Trailed, literals_of, IsFree}
+use Rattle.learning_trail.specs.Table.{Tells, is_assigned}
+use Rattle.learning_trail.specs.declared.trails.Trail.TheInside.{Inside}
+
+abbrev pub trailed_in : Inside → Trailed
+trailed_in t = record { room = length t.values.items; steps = reverse t.steps.items }
+
+abbrev pub AreApart : List Step → Type 0
+AreApart [] = Unit {0}
+AreApart (s ∷ earlier) = IsFree (literals_of earlier) s.literal × AreApart earlier
+
+pub record IsKept (values : List TruthValue) (steps : List Step) : Type 0 where
+  pub told : Tells values (literals_of steps)
+  pub in_range : All (λ s. variable_of s.literal ≤ length values) steps
+  pub apart : AreApart steps
+  pub counted : length steps ≤ count_by is_assigned values
+
+pub record IsTrail (t : Inside) : Type 0 where
+  pub kept : IsKept t.values.items (reverse t.steps.items)
+  pub room : length t.values.items ≤ vec_capacity t.steps

@@ -1,0 +1,38 @@
+//! A trail of literals, and what is learned from it: the part of a clause-learning solver that
+//! doesn't ask how it propagates.
+//!
+//! The trail has the literals that were made true, by decisions or by clauses. A falsified clause
+//! teaches a clause by the first unique implication point, or, where assumptions alone were
+//! decided, answers by the decisions that it rests on. Solvers keep clauses in their own way, and
+//! are read by the id of a clause alone.
+#![tactic(auto)]
+
+pub use activities::Activities;
+pub use analysis::{analyse, begin};
+pub use answers::{back_to, back_to_decisions};
+pub use assumptions::{Assumptions, Next, free_decision, holds, next_assumption};
+pub use clauses::Clauses;
+pub use decisions::open_literal;
+pub use groups::group_clause;
+pub use learning::land;
+pub use levels::back_to_start;
+pub use models::keep_values;
+pub use notes::Notes;
+pub use restarts::Restarts;
+pub use statuses::{Status, is_true, status_of};
+pub use trails::{Step, Trail, TruthValue};
+
+mod activities;
+mod analysis;
+mod answers;
+mod assumptions;
+mod clauses;
+mod decisions;
+mod groups;
+mod learning;
+mod levels;
+mod models;
+mod notes;
+mod restarts;
+mod statuses;
+mod trails;

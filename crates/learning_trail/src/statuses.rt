@@ -1,0 +1,78 @@
+ghost use Rattle.std.specs.Prelude.{◌≡◌, ◌≤◌, Some, None, All, MatchOption, true};
+ghost use Rattle.std.specs.List.{list_any};
+ghost use Rattle.dq_lits.specs.Literal.{variable_of, same_literal};
+ghost use Rattle.dq_lits.specs.Derivation.{status_of, holds, stuck};
+ghost use Rattle.learning_trail.specs.Steps.{literals_of, IsFree};
+ghost use Rattle.learning_trail.specs.Extension.{seen, with_free, with_literal};
+
+use crate::trails::{Trail, TruthValue};
+use dq_lits::Lit;
+
+/// How a clause stands under a trail.
+#[derive(Clone, Copy)]
+pub enum Status {
+    /// Each of its literals is false.
+    Falsified,
+    /// As a set it has one literal that isn't false, and this one is unassigned.
+    Unit(Lit),
+    /// It has a true literal or two that aren't false.
+    Stuck,
+}
+
+pub fn status_of(trail: &Trail, lits: &[Lit]) -> Status
+    requires { All (λ l. variable_of l ≤ trail.now.room) lits.now }
+    ensures { seen result ≡ status_of (literals_of trail.now.steps) (Some lits.now) }
+{
+    let mut status = Status::Falsified;
+    for l in lits {
+        status = status.with_literal(*l, trail.value(*l));
+        if status.is_stuck() {
+            return status;
+        }
+    }
+    status
+}
+
+/// Whether a literal is true.
+pub fn is_true(trail: &Trail, l: Lit) -> bool
+    requires { variable_of l ≤ trail.now.room }
+    ensures { result ≡ true → holds (literals_of trail.now.steps) l ≡ true }
+{
+    match trail.value(l) {
+        TruthValue::True => true,
+        TruthValue::False => false,
+        TruthValue::Unassigned => false,
+    }
+}
+
+impl Status {
+    fn is_stuck(&self) -> bool
+        ensures { result ≡ true → self.now ≡ Status.Stuck }
+    {
+        match self {
+            Status::Stuck => true,
+            _ => false,
+        }
+    }
+
+    // With one more literal, of this value.
+    fn with_literal(&self, l: Lit, value: TruthValue) -> Status
+        ensures { seen result ≡ with_literal (seen self.now) l value }
+    {
+        match value {
+            TruthValue::False => *self,
+            TruthValue::True => Status::Stuck,
+            TruthValue::Unassigned => self.with_free(l),
+        }
+    }
+
+    fn with_free(&self, l: Lit) -> Status
+        ensures { seen result ≡ with_free (seen self.now) l }
+    {
+        match self {
+            Status::Falsified => Status::Unit(l),
+            Status::Unit(other) => { if *other == l { *self } else { Status::Stuck } }
+            Status::Stuck => Status::Stuck,
+        }
+    }
+}

@@ -1,0 +1,154 @@
+ghost use Rattle.std.specs.Prelude.{◌≡◌, ◌+◌, ◌≤◌, [], ◌∷◌, length, reverse, IfOk, OnErr, OnOk, IfSome, MatchOption, All, if◌then◌else◌};
+ghost use Rattle.dq_lits.specs.Literal.{variable_of};
+
+use dq_lits::{Lit, Memory};
+use std::alloc::Global;
+use std::marker::Model;
+
+/// What a literal is under a trail.
+#[derive(Clone, Copy, Debug, PartialEq, Eq)]
+pub enum TruthValue {
+    True,
+    False,
+    Unassigned,
+}
+
+/// A literal that was made true: by a clause, its reason, or by decision.
+#[derive(Clone, Copy, Debug)]
+pub struct Step {
+    pub literal: Lit,
+    /// The id of a clause.
+    pub reason: Option<u64>,
+}
+
+/// The literals that were made true, in order.
+#[derive(Debug, Drop)]
+pub struct Trail {
+    // The value of variable v at place v - 1.
+    values: Vec<TruthValue>,
+    steps: Vec<Step>,
+}
+
+impl Model for Trail {
+    ghost use Rattle.learning_trail.specs.Steps.{Trailed};
+
+    ghost Value = { Trailed };
+
+    ghost use Rattle.learning_trail.specs.TrailInside.{trailed_in, IsTrail};
+
+    ghost view = { trailed_in };
+
+    ghost invariant = { IsTrail };
+}
+
+impl Trail {
+    ghost use Rattle.learning_trail.specs.Steps.{literals_of, literal_value, IsFree, IsAt};
+
+    pub fn new(alloc: Global) -> Trail
+        ensures { result ≡ record { room = 0; steps = [] } }
+    {
+        Trail {
+            values: Vec::new(alloc),
+            steps: Vec::new(alloc),
+        }
+    }
+
+    /// Room for one variable more.
+    pub fn grow(&mut self) -> Result<(), Memory>
+        ensures ok { OnOk result
+            (self.new ≡ record { room = self.old.room + 1; steps = self.old.steps }) }
+        ensures err { OnErr result (self.new ≡ self.old) }
+    {
+        self.steps.reserve(self.values.len() + 1)?;
+        self.values.push(TruthValue::Unassigned)?;
+        Ok(())
+    }
+
+    pub fn value(&self, l: Lit) -> TruthValue
+        requires { variable_of l ≤ self.now.room }
+        ensures { result ≡ literal_value (literals_of self.now.steps) l }
+    {
+        match self.values[place_of(l)] {
+            TruthValue::Unassigned => TruthValue::Unassigned,
+            TruthValue::True => truth(!l.is_neg()),
+            TruthValue::False => truth(l.is_neg()),
+        }
+    }
+
+    /// Makes an unassigned literal true.
+    pub fn push(&mut self, step: Step)
+        requires in_range { variable_of step.literal ≤ self.old.room }
+        requires free { IsFree (literals_of self.old.steps) step.literal }
+        ensures is { self.new ≡ record { room = self.old.room; steps = step ∷ self.old.steps } }
+        ensures few { length self.new.steps ≤ self.new.room }
+    {
+        self.values[place_of(step.literal)] = truth(!step.literal.is_neg());
+        if self.steps.push(step).is_err() {
+            unreachable!();
+        }
+    }
+
+    /// Takes the newest literal back.
+    pub fn pop(&mut self) -> Option<Step>
+        ensures room { self.new.room ≡ self.old.room }
+        ensures steps { MatchOption result ((self.old.steps ≡ []) × (self.new.steps ≡ []))
+            (λ s. self.old.steps ≡ s ∷ self.new.steps) }
+        ensures in_range { IfSome result (λ s. variable_of s.literal ≤ self.old.room) }
+    {
+        let step = self.steps.pop()?;
+        self.values[place_of(step.literal)] = TruthValue::Unassigned;
+        Some(step)
+    }
+
+    /// How many variables there is room for.
+    pub fn room(&self) -> usize
+        ensures { result ≡ self.now.room }
+    {
+        self.values.len()
+    }
+
+    /// How many literals were made true.
+    pub fn len(&self) -> usize
+        ensures { result ≡ length self.now.steps }
+    {
+        self.steps.len()
+    }
+
+    /// The literal at a place, the oldest one at 0.
+    pub fn literal_at(&self, at: usize) -> Option<Lit>
+        ensures at { MatchOption result (length self.now.steps ≤ at)
+            (λ l. IsAt self.now.steps at l) }
+        ensures in_range { IfSome result (λ l. variable_of l ≤ self.now.room) }
+    {
+        if at < self.steps.len() {
+            Some(self.steps[at].literal)
+        } else {
+            None
+        }
+    }
+
+    /// The literals that were made true, with their reasons, the oldest first.
+    pub fn steps(&self) -> &[Step]
+        ensures value { reverse result.now ≡ self.now.steps }
+        ensures in_range { All (λ s. variable_of s.literal ≤ self.now.room) result.now }
+    {
+        &self.steps
+    }
+}
+
+// The place of a literal's variable in the table of values.
+fn place_of(l: Lit) -> usize
+    ensures { result + 1 ≡ variable_of l }
+{
+    l.var() as usize - 1
+}
+
+fn truth(is_true: bool) -> TruthValue
+    ensures { result ≡ (if is_true then TruthValue.True else TruthValue.False) }
+{
+    if is_true {
+        TruthValue::True
+    } else {
+        TruthValue::False
+    }
+}
