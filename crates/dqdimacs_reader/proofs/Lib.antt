@@ -1,5 +1,6 @@
 mod Keys
 mod ReadIsSpelled
+mod PiecesAnswer
 mod Runs
 mod SpelledClauses
 mod SpelledIsRead

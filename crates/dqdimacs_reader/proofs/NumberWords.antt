@@ -6,7 +6,7 @@ use Rattle.std.proofs.lemmas.Bool.{ne_eqb}
 use Rattle.dq_text.proofs.Numerals.{AreDigits, tells, decimal_digits, natural_is_read, negative_is_read}
 use Rattle.dq_text.specs.Number.{number_of}
 use Rattle.dq_text.specs.declared.numbers.Number.TheVariants.{Int}
-use Rattle.dqdimacs_reader.specs.Lexeme.{lexeme_of, number_lexeme}
+use Rattle.dqdimacs_reader.specs.Lexeme.{word_or, lexeme_of, number_lexeme}
 use Rattle.dqdimacs_reader.specs.declared.lexemes.Lexeme.{Lexeme}
 use Rattle.dqdimacs_reader.specs.declared.lexemes.Lexeme.TheVariants.{P as LetterP, Cnf, A, D, E, X, Natural, Negative}
 
@@ -17,19 +17,22 @@ other_word d w ds ws differs = ap (λ b. b && bytes_eq ds ws) (ne_eqb d w differ
 abbrev pub behind_letters : Bool → Bool → Bool → Bool → Bool → Bool → Lexeme → Lexeme
 behind_letters p c a d e x rest = if p then LetterP else if c then Cnf else if a then A else if d then D else if e then E else if x then X else rest
 
-no_letter : (p c a d e x : Bool) (rest : Lexeme) → p ≡ false → c ≡ false → a ≡ false → d ≡ false → e ≡ false → x ≡ false → behind_letters p c a d e x rest ≡ rest
+pub no_letter : (p c a d e x : Bool) (rest : Lexeme) → p ≡ false → c ≡ false → a ≡ false → d ≡ false → e ≡ false → x ≡ false → behind_letters p c a d e x rest ≡ rest
 no_letter p c a d e x rest hp hc ha hd he hx =
     ap (λ b. behind_letters b c a d e x rest) hp ∙ ap (λ b. behind_letters false b a d e x rest) hc
     ∙ ap (λ b. behind_letters false false b d e x rest) ha ∙ ap (λ b. behind_letters false false false b e x rest) hd
     ∙ ap (λ b. behind_letters false false false false b x rest) he ∙ ap (λ b. behind_letters false false false false false b rest) hx
 
-number_first : (d : ℕ) (ds : List ℕ) → d < 97 → lexeme_of (d ∷ ds) ≡ number_lexeme (d == 45) (number_of (d ∷ ds))
-number_first d ds small =
+pub no_word : (d : ℕ) (ds : List ℕ) (rest : Lexeme) → d < 97 → word_or (d ∷ ds) rest ≡ rest
+no_word d ds rest small =
     no_letter (bytes_eq (d ∷ ds) (112 ∷ [])) (bytes_eq (d ∷ ds) (99 ∷ 110 ∷ 102 ∷ [])) (bytes_eq (d ∷ ds) (97 ∷ []))
-    (bytes_eq (d ∷ ds) (100 ∷ [])) (bytes_eq (d ∷ ds) (101 ∷ [])) (bytes_eq (d ∷ ds) (120 ∷ [])) (number_lexeme (d == 45) (number_of (d ∷ ds)))
+    (bytes_eq (d ∷ ds) (100 ∷ [])) (bytes_eq (d ∷ ds) (101 ∷ [])) (bytes_eq (d ∷ ds) (120 ∷ [])) rest
     (other_word d 112 ds [] (λ h. omega arith)) (other_word d 99 ds (110 ∷ 102 ∷ []) (λ h. omega arith))
     (other_word d 97 ds [] (λ h. omega arith)) (other_word d 100 ds [] (λ h. omega arith)) (other_word d 101 ds [] (λ h. omega arith))
     (other_word d 120 ds [] (λ h. omega arith))
+
+number_first : (d : ℕ) (ds : List ℕ) → d < 97 → lexeme_of (d ∷ ds) ≡ number_lexeme (d == 45) (number_of (d ∷ ds))
+number_first d ds small = no_word d ds (number_lexeme (d == 45) (number_of (d ∷ ds))) small
 
 digits_lexeme : (ds : List ℕ) (n : ℕ) → 0 < length ds → AreDigits ds → number_of ds ≡ Int (pos n) → lexeme_of ds ≡ Natural n
 digits_lexeme [] n some are is = absurd (omega (arith, some))

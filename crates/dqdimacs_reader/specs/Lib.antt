@@ -5,4 +5,6 @@ pub mod Lexeme
 pub mod LiteralKey
 pub mod Machine
 pub mod MachineState
+pub mod Pieces
+pub mod Progress
 pub mod Reading

@@ -47,6 +47,14 @@ impl DistinctLiterals {
         }
     }
 
+    /// Takes all literals away, and keeps their memory.
+    pub fn clear(&mut self)
+        ensures { self.new ≡ [] }
+    {
+        self.literals.clear();
+        self.keys = None;
+    }
+
     /// Adds a literal, unless it is there already.
     pub fn add(&mut self, literal: Lit) -> Result<(), Memory>
         ensures ok { OnOk result (self.new ≡ add_literal self.old literal) }

@@ -1,8 +1,7 @@
-ghost use Rattle.std.specs.Prelude.{◌≡◌};
-ghost use Rattle.dqdimacs_reader.specs.Lexeme.{number_lexeme, lexeme_of};
-ghost use Rattle.dq_text.specs.Number.{begins_with_minus, number_of};
+ghost use Rattle.std.specs.Prelude.{◌≡◌, false};
+ghost use Rattle.dqdimacs_reader.specs.Lexeme.{number_lexeme, word_or, lexeme_of, summary_lexeme};
 
-use dq_text::{Number, has_minus, is_word, read_number};
+use dq_text::{Head, Number, TokenSummary, has_minus, is_word, read_number, summary_number};
 
 /// What a token is to the grammar.
 #[derive(Clone, Copy, Debug, PartialEq, Eq)]
@@ -34,6 +33,41 @@ pub enum Lexeme {
 pub fn classify(text: &[u8]) -> Lexeme
     ensures { result ≡ lexeme_of text.now }
 {
+    let lexeme = number(has_minus(text), read_number(text));
+    if may_be_word(text) {
+        word_or(text, lexeme)
+    } else {
+        lexeme
+    }
+}
+
+// Whether the first byte may be a word's: digits and signs stand before all letters.
+fn may_be_word(text: &[u8]) -> bool
+    ensures { result ≡ false → (rest : Lexeme) → word_or text.now rest ≡ rest }
+{
+    match text.split_first() {
+        None => false,
+        Some((first, _)) => *first >= b'a',
+    }
+}
+
+/// Classifies a token of which a summary was kept.
+pub fn classify_summary(token: TokenSummary) -> Lexeme
+    ensures { result ≡ summary_lexeme token }
+{
+    let lexeme = number(token.minus, summary_number(token));
+    match token.head {
+        Head::Empty | Head::Longer => lexeme,
+        Head::One(a) => word_or(&[a], lexeme),
+        Head::Two(a, b) => word_or(&[a, b], lexeme),
+        Head::Three(a, b, c) => word_or(&[a, b, c], lexeme),
+    }
+}
+
+// A word of the grammar, or else this.
+fn word_or(text: &[u8], lexeme: Lexeme) -> Lexeme
+    ensures { result ≡ word_or text.now lexeme }
+{
     if is_word(text, b"p") {
         Lexeme::P
     } else if is_word(text, b"cnf") {
@@ -47,16 +81,16 @@ pub fn classify(text: &[u8]) -> Lexeme
     } else if is_word(text, b"x") {
         Lexeme::X
     } else {
-        number(text)
+        lexeme
     }
 }
 
-fn number(text: &[u8]) -> Lexeme
-    ensures { result ≡ number_lexeme (begins_with_minus text.now) (number_of text.now) }
+fn number(minus: bool, number: Number) -> Lexeme
+    ensures { result ≡ number_lexeme minus number }
 {
-    match read_number(text) {
+    match number {
         Number::NotANumber => Lexeme::Other,
-        Number::TooBig if has_minus(text) => Lexeme::NegativeLarge,
+        Number::TooBig if minus => Lexeme::NegativeLarge,
         Number::TooBig => Lexeme::Large,
         Number::Int(n) if n < 0 => Lexeme::Negative(n.unsigned_abs()),
         Number::Int(n) => Lexeme::Natural(n.unsigned_abs()),

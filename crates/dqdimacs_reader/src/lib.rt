@@ -2,7 +2,7 @@
 #![tactic(auto)]
 
 pub use faults::{FormulaFault, ReadStop};
-pub use reader::read;
+pub use reader::{Reader, read};
 pub use writer::write;
 
 mod checks;
@@ -13,4 +13,5 @@ mod lexemes;
 mod machine;
 mod reader;
 mod steps;
+mod token_reader;
 mod writer;

@@ -1,19 +1,19 @@
-//! Reading a text.
+//! Reading a text, whole or in pieces.
 
-ghost use Rattle.std.specs.Prelude.{◌≡◌, IfOk};
+ghost use Rattle.std.specs.Prelude.{◌≡◌, ℕ, List, [], IfOk};
 ghost use Rattle.dq_lits.specs.Formula.{HasLawfulPrefix, IsWellFormed};
 ghost use Rattle.dqdimacs_reader.specs.Grammar.{SpellsFormula};
-ghost use Rattle.dqdimacs_reader.specs.Machine.{reading, on_line, at_end};
-ghost use Rattle.dqdimacs_reader.specs.MachineState.{state_of, IsReady};
-ghost use Rattle.dqdimacs_reader.specs.Reading.{IsReading, HasDistinctClauses, end_fault_of};
+ghost use Rattle.dqdimacs_reader.specs.Machine.{reading};
+ghost use Rattle.dqdimacs_reader.specs.Pieces.{StandsFor};
+ghost use Rattle.dqdimacs_reader.specs.Reading.{IsReading, HasDistinctClauses};
 
-use crate::faults::{FormulaFault, ReadStop};
-use crate::lexemes::classify;
-use crate::machine::{Machine, Stage, start, token_fault};
-use crate::steps::step;
+use crate::faults::ReadStop;
+use crate::token_reader::TokenReader;
 use dq_formula::Formula;
+use dq_io::Feed;
 use dq_lits::Memory;
-use dq_text::Tokens;
+use dq_text::TokenPieces;
+use dq_text::laws::{pieces_have_the_tokens, summaries_tell_words_and_numbers};
 use std::alloc::Global;
 
 /// Reads a DQDIMACS text: exactly the formula that it spells, or its first fault by line and name.
@@ -23,57 +23,64 @@ pub fn read(alloc: Global, bytes: &[u8]) -> Result<Formula, ReadStop>
     ensures well_formed { IfOk result IsWellFormed }
     ensures distinct { IfOk result HasDistinctClauses }
 {
-    read_tokens(alloc, bytes)
+    let mut reader = Reader::new(alloc);
+    reader.feed(bytes);
+    reader.end()
 }
 
-// Runs the machine over the text's tokens.
-fn read_tokens(alloc: Global, bytes: &[u8]) -> Result<Formula, ReadStop>
-    ensures exact { IsReading (reading bytes.now) result }
-    ensures lawful { IfOk result HasLawfulPrefix }
-{
-    let mut machine = start(alloc);
-    let mut tokens = Tokens::new(bytes);
-    while let Some(token) = tokens.next() {
-        let lexeme = classify(token.text);
-        if let Some(name) = token_fault(&machine, lexeme) {
-            return Err(ReadStop::Refused {
-                line: token.line,
-                name,
-            });
+/// Reads a DQDIMACS text that comes in pieces, however it is cut. It keeps the formula so far, and of
+/// a token whose end didn't come yet a summary, whatever its length.
+#[derive(Debug, Drop)]
+pub struct Reader {
+    pieces: TokenPieces,
+    tokens: TokenReader,
+}
+
+impl Reader {
+    /// Before the first piece. It takes no memory.
+    pub fn new(alloc: Global) -> Reader
+        ensures { StandsFor result [] }
+    {
+        summaries_tell_words_and_numbers();
+        pieces_have_the_tokens();
+        Reader {
+            pieces: TokenPieces::new(),
+            tokens: TokenReader::new(alloc),
         }
-        step(&mut machine, lexeme)?;
     }
-    finish(machine, tokens.last_line())
+
+    /// What `read` answers of all that was fed: a fault that was met, or want of memory, is told here.
+    pub fn end(self) -> Result<Formula, ReadStop>
+        ensures exact { (text : List ℕ) → StandsFor self text → IsReading (reading text) result }
+        ensures spelled { (text : List ℕ) → StandsFor self text
+            → IfOk result (SpellsFormula text) }
+        ensures well_formed { (text : List ℕ) → StandsFor self text → IfOk result IsWellFormed }
+        ensures distinct { (text : List ℕ) → StandsFor self text
+            → IfOk result HasDistinctClauses }
+    {
+        finish(self)
+    }
 }
 
-// What the end of the text decides.
-fn finish(machine: Machine, last_line: u64) -> Result<Formula, ReadStop>
-    requires { IsReady machine }
-    ensures exact { IsReading (on_line last_line (at_end (state_of machine))) result }
+impl Feed for Reader {
+    ghost stands = { StandsFor };
+
+    fn feed(&mut self, piece: &[u8]) {
+        if self.tokens.is_stopped() {
+            return;
+        }
+        match self.pieces.feed(&mut self.tokens, piece) {
+            Ok(()) => {}
+            Err(Memory) => self.tokens.lack_memory(),
+        }
+    }
+}
+
+fn finish(reader: Reader) -> Result<Formula, ReadStop>
+    ensures exact { (text : List ℕ) → StandsFor reader text → IsReading (reading text) result }
     ensures lawful { IfOk result HasLawfulPrefix }
 {
-    if let Some(name) = end_fault(&machine) {
-        return Err(ReadStop::Refused {
-            line: last_line,
-            name,
-        });
-    }
-    let Machine { mut formula, .. } = machine;
-    formula.add_free()?;
-    formula.every_formula_is_lawful();
-    Ok(formula)
-}
-
-// Why the text can't end here.
-fn end_fault(machine: &Machine) -> Option<FormulaFault>
-    ensures { result ≡ end_fault_of (at_end (state_of machine.now)) }
-{
-    match machine.stage {
-        Stage::Header | Stage::Format | Stage::Variables | Stage::Clauses => Some(
-            FormulaFault::NoHeader,
-        ),
-        Stage::Part if machine.constraints < machine.clauses => Some(FormulaFault::TooFewClauses),
-        Stage::Part => None,
-        _ => Some(FormulaFault::MissingZero),
-    }
+    let Reader { pieces, mut tokens } = reader;
+    let last_line = pieces.end(&mut tokens)?;
+    tokens.finish(last_line)
 }

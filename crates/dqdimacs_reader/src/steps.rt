@@ -4,7 +4,6 @@ ghost use Rattle.std.specs.Prelude.{◌≡◌, ◌≢◌, ◌≤◌, ◌<◌, �
 ghost use Rattle.dqdimacs_reader.specs.Machine.{check, advance, check_declared, check_dependency, check_literal, check_xor_end, check_xor_literal, at_start, in_clause, in_xor, literal_or_end, xor_literal_or_end};
 ghost use Rattle.dqdimacs_reader.specs.MachineState.{state_of, reading_of, literal_on, IsReady};
 
-use crate::distinct::DistinctLiterals;
 use crate::lexemes::Lexeme;
 use crate::machine::{Machine, Stage};
 use dq_formula::Formula;
@@ -88,7 +87,7 @@ fn begin_literals(machine: &mut Machine, stage: Stage)
     ensures stage { machine.new.stage ≡ stage }
     ensures literals { machine.new.literals ≡ [] }
 {
-    machine.literals = DistinctLiterals::new(machine.alloc);
+    machine.literals.clear();
     machine.stage = stage;
 }
 

@@ -1,31 +1,14 @@
-use Rattle.std.proofs.Common.{ℕ, List, Result, Ok, Err}
-use Rattle.std.specs.Result.{IfOk}
-use Rattle.dq_lits.specs.Formula.{Dqbf, HasLawfulPrefix, IsWellFormed}
-use Rattle.dqdimacs_reader.specs.Grammar.{SpellsFormula}
-use Rattle.dqdimacs_reader.specs.Machine.{reading}
-use Rattle.dqdimacs_reader.specs.Reading.{IsReading, HasDistinctClauses}
-use Rattle.dqdimacs_reader.specs.declared.faults.ReadStop.{ReadStop}
-use Rattle.dqdimacs_reader.proofs.ReadIsSpelled.{read_is_spelled}
-use Rattle.dqdimacs_reader.proofs.SpelledClauses.{spelled_is_bound, spelled_is_distinct}
+use Rattle.std.proofs.Common.{[]}
 use Rattle.dqdimacs_reader.proofs.reader.read.Goals as goal
 
-is_well_formed : (text : List ℕ) (r : Result Dqbf ReadStop) → IsReading (reading text) r → IfOk r HasLawfulPrefix → IfOk r IsWellFormed
-is_well_formed text (Ok f) read lawful = record { prefix = lawful; bound = spelled_is_bound text f (read_is_spelled text f read) }
-is_well_formed text (Err stop) read lawful = tt
-
-is_distinct : (text : List ℕ) (r : Result Dqbf ReadStop) → IsReading (reading text) r → IfOk r HasDistinctClauses
-is_distinct text (Ok f) read = spelled_is_distinct text f (read_is_spelled text f read)
-is_distinct text (Err stop) read = tt
-
-is_spelled : (text : List ℕ) (r : Result Dqbf ReadStop) → IsReading (reading text) r → IfOk r (SpellsFormula text)
-is_spelled text (Ok f) read = read_is_spelled text f read
-is_spelled text (Err stop) read = tt
+pub returns-clause-exact : goal.returns-clause-exact
+returns-clause-exact c = c.end.ensures.exact c.args.bytes.now (c.feed.ensures [] c.new-reader.ensures)
 
 pub returns-clause-spelled : goal.returns-clause-spelled
-returns-clause-spelled c = is_spelled c.args.bytes.now c.read_tokens.result c.read_tokens.ensures.exact
+returns-clause-spelled c = c.end.ensures.spelled c.args.bytes.now (c.feed.ensures [] c.new-reader.ensures)
 
 pub returns-clause-well_formed : goal.returns-clause-well_formed
-returns-clause-well_formed c = is_well_formed c.args.bytes.now c.read_tokens.result c.read_tokens.ensures.exact c.read_tokens.ensures.lawful
+returns-clause-well_formed c = c.end.ensures.well_formed c.args.bytes.now (c.feed.ensures [] c.new-reader.ensures)
 
 pub returns-clause-distinct : goal.returns-clause-distinct
-returns-clause-distinct c = is_distinct c.args.bytes.now c.read_tokens.result c.read_tokens.ensures.exact
+returns-clause-distinct c = c.end.ensures.distinct c.args.bytes.now (c.feed.ensures [] c.new-reader.ensures)

@@ -1,0 +1,95 @@
+-- What is read of a text that comes in pieces.
+use Rattle.std.proofs.Common.{◌≡◌, ℕ, ◌==◌, ◌&&◌, Bool, true, false, List, [], ◌∷◌, map, codes, Result, Err, refl, sym, ◌∙◌, ap, subst}
+use Rattle.std.specs.Str.{bytes_eq}
+use Rattle.dq_lits.specs.Formula.{Dqbf}
+use Rattle.dq_text.specs.Number.{begins_with_minus, number_of}
+use Rattle.dq_text.specs.Pieces.{SummarizedToken, summarized}
+use Rattle.dq_text.specs.Summary.{head_of, summary_of, summary_number}
+use Rattle.dq_text.specs.Token.{TextToken, tokens_of, last_line_of}
+use Rattle.dqdimacs_reader.specs.Lexeme.{number_lexeme, word_or, lexeme_of, head_or, summary_lexeme}
+use Rattle.dqdimacs_reader.specs.Machine.{State, before_header, check, advance, unless_fault, read_from, reading}
+use Rattle.dqdimacs_reader.specs.Progress.{Progress, goes_on, has_stopped, has_ended, goes_to, may_answer, read_summaries}
+use Rattle.dqdimacs_reader.specs.Reading.{IsReading}
+use Rattle.dqdimacs_reader.specs.declared.faults.ReadStop.{ReadStop}
+use Rattle.dqdimacs_reader.specs.declared.faults.ReadStop.TheVariants.{Refused, Memory}
+use Rattle.dqdimacs_reader.specs.declared.lexemes.Lexeme.{Lexeme}
+use Rattle.dqdimacs_reader.proofs.NumberWords.{no_letter}
+
+-- no word of the grammar has more than three bytes
+never : (b : Bool) → (b && false) ≡ false
+never true = refl
+never false = refl
+
+not_cnf : (p q r : Bool) → (p && (q && (r && false))) ≡ false
+not_cnf true true r = never r
+not_cnf true false r = refl
+not_cnf false q r = refl
+
+longer_word : (a b c d : ℕ) (bytes : List ℕ) (rest : Lexeme) → word_or (a ∷ b ∷ c ∷ d ∷ bytes) rest ≡ rest
+longer_word a b c d bytes rest =
+    let text = a ∷ b ∷ c ∷ d ∷ bytes in
+    no_letter (bytes_eq text (codes "p")) (bytes_eq text (codes "cnf")) (bytes_eq text (codes "a")) (bytes_eq text (codes "d")) (bytes_eq text (codes "e")) (bytes_eq text (codes "x")) rest
+    (never (a == 112)) (not_cnf (a == 99) (b == 110) (c == 102)) (never (a == 97)) (never (a == 100)) (never (a == 101)) (never (a == 120))
+
+head_word : (text : List ℕ) (rest : Lexeme) → head_or (head_of text) rest ≡ word_or text rest
+head_word [] rest = refl
+head_word (a ∷ []) rest = refl
+head_word (a ∷ b ∷ []) rest = refl
+head_word (a ∷ b ∷ c ∷ []) rest = refl
+head_word (a ∷ b ∷ c ∷ d ∷ bytes) rest = sym (longer_word a b c d bytes rest)
+
+-- what summaries tell
+pub record Tells : Type 0 where
+  pub head : (text : List ℕ) → (summary_of text).head ≡ head_of text
+  pub minus : (text : List ℕ) → (summary_of text).minus ≡ begins_with_minus text
+  pub number : (text : List ℕ) → summary_number (summary_of text) ≡ number_of text
+
+pub summary_is : Tells → (text : List ℕ) → summary_lexeme (summary_of text) ≡ lexeme_of text
+summary_is tells text =
+    let s = summary_of text in
+    ap (λ h. head_or h (number_lexeme s.minus (summary_number s))) (tells.head text)
+    ∙ ap (λ m. head_or (head_of text) (number_lexeme m (summary_number s))) (tells.minus text)
+    ∙ ap (λ n. head_or (head_of text) (number_lexeme (begins_with_minus text) n)) (tells.number text)
+    ∙ head_word text (number_lexeme (begins_with_minus text) (number_of text))
+
+read_tokens : Tells → (tokens : List TextToken) (state : State) (last_line : ℕ) → read_summaries state (map summarized tokens) last_line ≡ read_from state tokens last_line
+read_tokens tells [] state last_line = refl
+read_tokens tells (token ∷ tokens) state last_line =
+    ap (λ l. unless_fault (check state l) token.line (read_summaries (advance state l) (map summarized tokens) last_line)) (summary_is tells token.text)
+    ∙ ap (unless_fault (check state (lexeme_of token.text)) token.line) (read_tokens tells tokens (advance state (lexeme_of token.text)) last_line)
+
+-- what is read of a text's summarized tokens is read of the text
+pub whole_is_read : Tells → (text : List ℕ) (tokens : List SummarizedToken) (last_line : ℕ) → tokens ≡ map summarized (tokens_of text) → last_line ≡ last_line_of text →
+    read_summaries before_header tokens last_line ≡ reading text
+whole_is_read tells text tokens last_line same ends =
+    ap (λ ts. read_summaries before_header ts last_line) same
+    ∙ ap (read_summaries before_header (map summarized (tokens_of text))) ends
+    ∙ read_tokens tells (tokens_of text) before_header (last_line_of text)
+
+-- a step backwards: what may be answered behind a token may be answered before it
+pub before_token : (state : State) (lexeme : Lexeme) (line : ℕ) (next : Progress) → goes_to state lexeme line next →
+    (token : SummarizedToken) (tokens : List SummarizedToken) (last : ℕ) (answer : Result Dqbf ReadStop) →
+    summary_lexeme token.summary ≡ lexeme → token.line ≡ line → may_answer next tokens last answer → may_answer (goes_on state) (token ∷ tokens) last answer
+before_token state lexeme line (goes_on following) goes token tokens last answer is at may =
+    let l = summary_lexeme token.summary in
+    let same : unless_fault (check state l) token.line (read_summaries (advance state l) tokens last) ≡ read_summaries following tokens last =
+    ap (λ k. unless_fault (check state k) token.line (read_summaries (advance state k) tokens last)) is
+    ∙ ap (λ o. unless_fault o token.line (read_summaries (advance state lexeme) tokens last)) goes.0
+    ∙ ap (λ s. read_summaries s tokens last) (sym goes.1) in
+    subst (λ r. IsReading r answer) (sym same) may
+before_token state lexeme line (has_stopped (Refused number name)) goes token tokens last answer is at may =
+    let l = summary_lexeme token.summary in
+    let same : unless_fault (check state l) token.line (read_summaries (advance state l) tokens last) ≡ Err (record { line = number; name = name }) =
+    ap (λ k. unless_fault (check state k) token.line (read_summaries (advance state k) tokens last)) is
+    ∙ ap (λ o. unless_fault o token.line (read_summaries (advance state lexeme) tokens last)) goes.0
+    ∙ ap (λ n. Err (record { line = n; name = name })) (at ∙ sym goes.1) in
+    subst (λ a. IsReading (unless_fault (check state l) token.line (read_summaries (advance state l) tokens last)) a) (sym may) same
+before_token state lexeme line (has_stopped Memory) goes token tokens last answer is at may =
+    let l = summary_lexeme token.summary in
+    subst (λ a. IsReading (unless_fault (check state l) token.line (read_summaries (advance state l) tokens last)) a) (sym may) tt
+
+-- once it has stopped, its answer rests on no token
+pub stays : (progress : Progress) → has_ended progress ≡ true → (tokens others : List SummarizedToken) (last other : ℕ) (answer : Result Dqbf ReadStop) →
+    may_answer progress tokens last answer → may_answer progress others other answer
+stays (goes_on state) ended tokens others last other answer may = cc
+stays (has_stopped stop) ended tokens others last other answer may = may
