@@ -10,7 +10,7 @@ use std::collections::BTreeMap;
 use std::marker::Model;
 
 /// A graph of inputs and gates.
-#[derive(Debug, Drop)]
+#[derive(Drop)]
 pub struct Graph {
     inputs: usize,
     gates: Vec<Sides>,

@@ -4,7 +4,7 @@ ghost use Rattle.aig_graph.specs.Made.{sides_of};
 ghost use Rattle.aig_graph.specs.Joining.{IsBeside, node_by_side, beside_by, IsInner, AreApart, IsJoined};
 
 /// A node of a graph: a constant, or an input or a gate by its number, negated or not.
-#[derive(Clone, Copy, Debug, PartialEq, Eq, PartialOrd, Ord)]
+#[derive(Clone, Copy, PartialEq, Eq, PartialOrd, Ord)]
 pub enum Node {
     Constant(bool),
     Input(usize, bool),
@@ -12,7 +12,7 @@ pub enum Node {
 }
 
 /// What is inside of a node; the last value tells whether it is negated.
-#[derive(Clone, Copy, Debug)]
+#[derive(Clone, Copy)]
 pub enum Look {
     Constant(bool),
     Input(usize, bool),
@@ -21,7 +21,7 @@ pub enum Look {
 }
 
 /// The sides of a gate.
-#[derive(Clone, Copy, Debug)]
+#[derive(Clone, Copy)]
 pub struct Sides {
     pub left: Node,
     pub right: Node,
@@ -98,7 +98,7 @@ impl Sides {
 }
 
 // How a node stands to another one.
-#[derive(Clone, Copy, Debug)]
+#[derive(Clone, Copy)]
 pub(crate) enum Beside {
     Same,
     Opposite,

@@ -17,7 +17,7 @@ use number_tables::NumberSet;
 use std::alloc::Global;
 
 /// What was read behind the header, and the header's line.
-#[derive(Debug, Drop)]
+#[derive(Drop)]
 pub struct CircuitReader {
     pub header_line: u64,
     pub header: Header,
@@ -30,7 +30,7 @@ pub struct CircuitReader {
 }
 
 /// Which line comes next.
-#[derive(Clone, Copy, Debug, PartialEq, Eq)]
+#[derive(Clone, Copy, PartialEq, Eq)]
 pub enum Part {
     InputLine,
     OutputLine,

@@ -7,7 +7,7 @@ use std::alloc::Global;
 use std::marker::Model;
 
 /// Free text, byte for byte.
-#[derive(Debug, Drop)]
+#[derive(Drop)]
 pub struct Text {
     bytes: Vec<u8>,
 }
@@ -40,7 +40,7 @@ impl Text {
 
 /// A circuit file: the netlist, the symbols of its inputs and outputs, and the comment behind its
 /// line `c`.
-#[derive(Debug, Drop)]
+#[derive(Drop)]
 pub struct AagFile {
     pub circuit: Circuit,
     pub symbols: Symbols,
@@ -48,7 +48,7 @@ pub struct AagFile {
 }
 
 /// A circuit file that was read, and the number of its comment's first line, if it has a comment.
-#[derive(Debug, Drop)]
+#[derive(Drop)]
 pub struct ReadCircuit {
     pub file: AagFile,
     pub comment_line: Option<u64>,

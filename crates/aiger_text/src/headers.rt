@@ -13,7 +13,7 @@ use dq_text::{LineTokens, is_word};
 
 /// The header's counts: the largest variable, inputs, outputs and gates. The reader knows no
 /// latches.
-#[derive(Clone, Copy, Debug, PartialEq, Eq)]
+#[derive(Clone, Copy, PartialEq, Eq)]
 pub struct Header {
     pub max_var: u64,
     pub inputs: u64,

@@ -40,7 +40,7 @@ pub fn one_number(line: &[u8], numbers: &mut Vec<u64>) -> Result<u64, LineStop>
 
 /// The three natural numbers of a gate's line, of which nothing is known yet: the literal of the
 /// gate's variable, and the two that the gate reads.
-#[derive(Clone, Copy, Debug)]
+#[derive(Clone, Copy)]
 pub struct GateNumbers {
     pub lhs: u64,
     pub left: u64,

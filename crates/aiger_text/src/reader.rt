@@ -24,7 +24,7 @@ use dq_text::{Lines, is_blank};
 use std::alloc::Global;
 
 /// What a line was.
-#[derive(Clone, Copy, Debug, PartialEq, Eq)]
+#[derive(Clone, Copy, PartialEq, Eq)]
 pub enum Taken {
     /// A line of the file.
     Line,

@@ -10,7 +10,7 @@ use dq_text::{is_blank, natural};
 
 /// A symbol line: the place of an input or an output, and its name. The place of 10^18 stands for
 /// every larger one.
-#[derive(Clone, Copy, Debug)]
+#[derive(Clone, Copy)]
 pub struct SymbolEntry<'a> {
     pub of_input: bool,
     pub place: u64,

@@ -9,7 +9,7 @@ use std::alloc::Global;
 use std::marker::Model;
 
 /// Names for inputs and outputs, by place from 0.
-#[derive(Debug, Drop)]
+#[derive(Drop)]
 pub struct Symbols {
     inputs: IndexMap<u64, Text>,
     outputs: IndexMap<u64, Text>,

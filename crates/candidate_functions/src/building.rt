@@ -18,7 +18,7 @@ use std::alloc::Global;
 use std::marker::Model;
 
 /// A node for each existential, in order of declaration.
-#[derive(Debug, Drop)]
+#[derive(Drop)]
 pub struct Outputs {
     nodes: Vec<Node>,
 }

@@ -14,7 +14,7 @@ use std::alloc::Global;
 use std::collections::BTreeMap;
 
 // The pairs of a dependency set, with the first existential that has it.
-#[derive(Debug, Drop)]
+#[derive(Drop)]
 pub(crate) struct Class {
     pub y: u64,
     pub pairs: Vec<Pair>,

@@ -14,7 +14,7 @@ use std::collections::BTreeMap;
 
 // The first row with some bits at some places, by its round, and a node that is true where the
 // inputs there have these bits.
-#[derive(Clone, Copy, Debug)]
+#[derive(Clone, Copy)]
 pub(crate) struct Pair {
     pub round: u64,
     pub cube: Node,

@@ -16,7 +16,7 @@ use oracle::{Answer, Group, Oracle, Tenant};
 use std::alloc::Global;
 
 /// The variables that a solver made, in order, and a bound of their numbers.
-#[derive(Debug, Drop)]
+#[derive(Drop)]
 pub struct Made {
     pub variables: Vec<u64>,
     pub largest: u64,
@@ -142,7 +142,7 @@ pub fn values_of<O: Oracle>(
 }
 
 /// What a search gave.
-#[derive(Debug, Drop)]
+#[derive(Drop)]
 pub enum Found {
     /// The values of the variables in order.
     Values(Vec<bool>),

@@ -16,7 +16,7 @@ use rup_core::{Base, Derived, Marks, derive};
 use std::alloc::Global;
 
 /// A line of a proof.
-#[derive(Debug, Drop)]
+#[derive(Drop)]
 pub struct Line {
     pub id: u64,
     pub literals: Vec<i64>,
@@ -26,7 +26,7 @@ pub struct Line {
 }
 
 /// The clauses of a log up to its last one.
-#[derive(Clone, Copy, Debug)]
+#[derive(Clone, Copy)]
 struct Clauses<'a> {
     log: &'a Log,
     last: u64,

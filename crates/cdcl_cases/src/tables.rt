@@ -21,21 +21,21 @@ use oracle::{Oracle, Tenant};
 use std::alloc::Global;
 
 /// A clause of a group.
-#[derive(Debug, Drop)]
+#[derive(Drop)]
 pub struct Given {
     pub group: i64,
     pub literals: Vec<i64>,
 }
 
 /// The groups and assumptions that a search is under.
-#[derive(Debug, Drop)]
+#[derive(Drop)]
 pub struct Question {
     pub groups: Vec<i64>,
     pub assumed: Vec<i64>,
 }
 
 /// What the commands of a case have made so far.
-#[derive(Debug, Drop)]
+#[derive(Drop)]
 pub struct Case {
     pub made: Made,
     tenant: Tenant,

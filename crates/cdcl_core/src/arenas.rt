@@ -11,7 +11,7 @@ use std::alloc::Global;
 use std::marker::Model;
 
 /// Clauses in order of time, by their ids from 1 on.
-#[derive(Debug, Drop)]
+#[derive(Drop)]
 pub(crate) struct Arena {
     // The literals of all clauses, in order.
     literals: Vec<Lit>,

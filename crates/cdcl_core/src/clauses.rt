@@ -19,7 +19,7 @@ use std::alloc::Global;
 use std::marker::Model;
 
 /// Clauses in order of time, by their ids from 1 on.
-#[derive(Debug, Drop)]
+#[derive(Drop)]
 pub(crate) struct ClauseStore {
     arena: Arena,
     // Each clause is watched at two of its literals, where it has two that differ.
@@ -185,7 +185,7 @@ impl ClauseStore {
 }
 
 /// Two literals that a clause is watched at.
-#[derive(Clone, Copy, Debug)]
+#[derive(Clone, Copy)]
 pub(crate) struct Watched {
     pub(crate) first: Lit,
     pub(crate) second: Lit,

@@ -20,7 +20,7 @@ use dq_lits::Lit;
 use learning_trail::{Activities, Clauses, Trail, is_true, open_literal};
 
 /// A clause that has no true literal, and a literal of it without a value.
-#[derive(Clone, Copy, Debug)]
+#[derive(Clone, Copy)]
 pub(crate) struct Open {
     pub(crate) id: u64,
     pub(crate) literal: Lit,

@@ -7,7 +7,7 @@ use dq_lits::Memory;
 use std::alloc::Global;
 
 /// Ids of clauses, from the larger one downwards.
-#[derive(Clone, Copy, Debug)]
+#[derive(Clone, Copy)]
 pub(crate) struct Span {
     pub(crate) from: u64,
     /// Not this one itself.
@@ -15,7 +15,7 @@ pub(crate) struct Span {
 }
 
 /// Where an open clause is sought, now and at each level of the trail.
-#[derive(Debug, Drop)]
+#[derive(Drop)]
 pub(crate) struct Positions {
     // Where the newest open clause is: what was learned lately, or else behind what is known to be
     // true.

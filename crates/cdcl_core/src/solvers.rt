@@ -12,7 +12,7 @@ use std::alloc::Global;
 use std::marker::Model;
 
 /// A solver that learns clauses.
-#[derive(Debug, Drop)]
+#[derive(Drop)]
 pub struct Cdcl {
     searcher: Searcher,
     // The value of variable v at place v - 1.

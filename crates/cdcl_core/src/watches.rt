@@ -12,7 +12,7 @@ use dq_lits::{Lit, Memory};
 use std::alloc::Global;
 
 /// One of the two literals that each clause is watched at.
-#[derive(Debug, Drop)]
+#[derive(Drop)]
 pub(crate) struct Watches {
     /// The id of the first clause on each literal's list; 0, where there is none.
     pub(crate) heads: Vec<u64>,

@@ -16,7 +16,7 @@ use std::marker::Model;
 ///
 /// The clauses of a group share its negated selector, so that a whole group that isn't active is
 /// passed over at once.
-#[derive(Clone, Copy, Debug)]
+#[derive(Clone, Copy)]
 pub(crate) struct Run {
     /// None, where the clause is empty.
     pub(crate) shared: Option<Lit>,
@@ -25,7 +25,7 @@ pub(crate) struct Run {
 }
 
 /// Clauses in order of time, by their ids from 1 on.
-#[derive(Debug, Drop)]
+#[derive(Drop)]
 pub(crate) struct ClauseStore {
     // The literals of all clauses, in order.
     literals: Vec<Lit>,

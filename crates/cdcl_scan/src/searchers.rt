@@ -3,7 +3,7 @@ use learning_trail::{Activities, Notes, Restarts, Trail};
 use std::alloc::Global;
 
 /// What a search works on.
-#[derive(Debug, Drop)]
+#[derive(Drop)]
 pub(crate) struct Searcher {
     pub(crate) alloc: Global,
     pub(crate) variables: u64,

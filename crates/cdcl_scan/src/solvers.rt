@@ -11,7 +11,7 @@ use std::alloc::Global;
 use std::marker::Model;
 
 /// A solver that learns clauses.
-#[derive(Debug, Drop)]
+#[derive(Drop)]
 pub struct Scan {
     searcher: Searcher,
     // The value of variable v at place v - 1.

@@ -18,7 +18,7 @@ use std::alloc::Global;
 use std::marker::Model;
 
 /// Leaves of some variables, each found by the variable.
-#[derive(Debug, Drop)]
+#[derive(Drop)]
 pub(crate) struct Leaves {
     variables: NumberSet,
     leaves: Vec<Leaf>,

@@ -10,7 +10,7 @@ use std::alloc::Global;
 use std::marker::Model;
 
 /// New names for some variables, each found by the variable.
-#[derive(Debug, Drop)]
+#[derive(Drop)]
 pub(crate) struct Names {
     variables: NumberSet,
     names: Vec<u64>,

@@ -15,7 +15,7 @@ use std::alloc::Global;
 
 /// The group of the faults that the answer reaches, the leaves of the existentials in them, and the
 /// gates that these leaves and the proof rest on.
-#[derive(Debug, Drop)]
+#[derive(Drop)]
 pub(crate) struct Part {
     pub(crate) group: u64,
     pub(crate) gates: NumberSet,

@@ -19,7 +19,7 @@ use std::alloc::Global;
 use std::marker::Model;
 
 /// Lines, and by their places the clauses and the new ids of all ids so far.
-#[derive(Debug, Drop)]
+#[derive(Drop)]
 pub(crate) struct Written {
     clauses: FlatLists<Lit>,
     numbers: Vec<u64>,

@@ -2,7 +2,7 @@ use crate::steps::StepList;
 
 /// A circuit's proof (`dqp`): a derivation from the negated matrix, the clauses which say that some
 /// clause of the formula is false where the circuit's gates have their values.
-#[derive(Debug, Drop)]
+#[derive(Drop)]
 pub struct Dqp {
     pub steps: StepList,
 }

@@ -9,7 +9,7 @@ use crate::faults::CertFault;
 use dq_text::{LineTokens, is_word, natural};
 
 /// How many rows and steps a header announces.
-#[derive(Clone, Copy, Debug, PartialEq, Eq)]
+#[derive(Clone, Copy, PartialEq, Eq)]
 pub struct Counts {
     pub rows: u64,
     pub steps: u64,

@@ -1,5 +1,5 @@
 /// What a certificate shows, and where its header line begins.
-#[derive(Clone, Copy, Debug, PartialEq, Eq)]
+#[derive(Clone, Copy, PartialEq, Eq)]
 pub enum Kind {
     /// A circuit, which shows that a formula is true. Its header line begins at the byte `at`,
     /// counted from 0, and has the number `line`.
@@ -9,7 +9,7 @@ pub enum Kind {
 }
 
 /// What the line `s` states.
-#[derive(Clone, Copy, Debug, PartialEq, Eq)]
+#[derive(Clone, Copy, PartialEq, Eq)]
 pub enum Verdict {
     True,
     False,

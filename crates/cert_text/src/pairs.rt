@@ -7,7 +7,7 @@ use dq_formula::Formula;
 
 /// Pairs of an existential and a row: under row k the existential y is the variable (k - 1) * V +
 /// y, where V is the number of the formula's variables.
-#[derive(Clone, Copy, Debug)]
+#[derive(Clone, Copy)]
 pub struct Pairs<'a> {
     pub formula: &'a Formula,
     pub rows: u64,

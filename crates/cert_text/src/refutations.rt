@@ -3,7 +3,7 @@ use dq_lits::RowList;
 
 /// An expansion refutation (`dqr`): rows of the universals, and a derivation from the instances of
 /// the clauses under them.
-#[derive(Debug, Drop)]
+#[derive(Drop)]
 pub struct Dqr {
     pub rows: RowList,
     pub steps: StepList,

@@ -20,7 +20,7 @@ use dq_text::LineTokens;
 use std::alloc::Global;
 
 /// The numbers of a step, without the zeros that end its parts.
-#[derive(Clone, Copy, Debug)]
+#[derive(Clone, Copy)]
 pub struct StepNumbers<'a> {
     pub id: u64,
     pub literals: &'a [i64],
@@ -28,7 +28,7 @@ pub struct StepNumbers<'a> {
 }
 
 /// What is read of a line.
-#[derive(Debug, Drop)]
+#[derive(Drop)]
 pub struct StepBuffers {
     pub integers: Vec<i64>,
     pub literals: Vec<Lit>,

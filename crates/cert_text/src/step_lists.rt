@@ -15,7 +15,7 @@ use dq_text::Lines;
 use std::alloc::Global;
 
 /// The steps that are to come, as a header announces them.
-#[derive(Clone, Copy, Debug)]
+#[derive(Clone, Copy)]
 pub struct Announced<'a> {
     /// The variables that the literals may stand on.
     pub variables: Variables<'a>,

@@ -9,7 +9,7 @@ use std::marker::Model;
 
 /// A step: a clause, its id, and the ids of the clauses that it is derived from by unit
 /// propagation.
-#[derive(Clone, Copy, Debug)]
+#[derive(Clone, Copy)]
 pub struct Step<'a> {
     /// The id of the line's clause.
     pub id: u64,
@@ -21,7 +21,7 @@ pub struct Step<'a> {
 
 /// A list of steps. Their literals lie end to end, and so do their hints: a line takes no block of
 /// memory of its own.
-#[derive(Debug, Drop)]
+#[derive(Drop)]
 pub struct StepList {
     ids: Vec<u64>,
     literals: FlatLists<Lit>,

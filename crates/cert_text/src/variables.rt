@@ -5,7 +5,7 @@ ghost use Rattle.cert_text.specs.Variables.{is_variable};
 use crate::pairs::Pairs;
 
 /// The variables that a proof's literals may stand on.
-#[derive(Clone, Copy, Debug)]
+#[derive(Clone, Copy)]
 pub enum Variables<'a> {
     /// Pairs of an existential and a row.
     Pairs(Pairs<'a>),

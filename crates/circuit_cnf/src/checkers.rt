@@ -15,7 +15,7 @@ use std::alloc::Global;
 use std::collections::BTreeMap;
 
 /// Checks circuits against the matrix: what was given to the oracle once.
-#[derive(Debug, Drop)]
+#[derive(Drop)]
 pub struct Checker {
     pub(crate) alloc: Global,
     pub(crate) tenant: Tenant,

@@ -34,7 +34,7 @@ pub(crate) struct Faults<'g, 'f, 'l> {
 
 /// A literal of the matrix, by the numbers of its clause and of its place there, both from 1 on,
 /// and the leaf of its variable.
-#[derive(Clone, Copy, Debug)]
+#[derive(Clone, Copy)]
 pub(crate) struct Occurrence {
     pub clause: u64,
     pub place: u64,

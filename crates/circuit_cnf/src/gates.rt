@@ -14,7 +14,7 @@ use oracle::{Group, Oracle};
 use std::collections::BTreeMap;
 
 /// The gates that were given to the oracle, by their sides.
-#[derive(Debug, Drop)]
+#[derive(Drop)]
 pub(crate) struct Gates {
     pub(crate) group: Group,
     pub(crate) variables: BTreeMap<(u64, u64), u64>,
@@ -23,7 +23,7 @@ pub(crate) struct Gates {
 }
 
 /// A gate that was named, and how many of its clauses were given.
-#[derive(Clone, Copy, Debug)]
+#[derive(Clone, Copy)]
 pub(crate) struct Unfinished {
     pub(crate) left: Lit,
     pub(crate) right: Lit,

@@ -30,7 +30,7 @@ use oracle::{Answer, Oracle};
 use std::alloc::Global;
 
 /// Whether outputs make every clause true.
-#[derive(Debug, Drop)]
+#[derive(Drop)]
 pub enum Turn {
     /// They do, on every row; the logged answer of this id shows it.
     Holds(u64),

@@ -11,7 +11,7 @@ use std::marker::Model;
 use std::simd::u64x4;
 
 /// By variable, a bit for each of 256 rows: four lanes of 64. The constant has variable 0.
-#[derive(Debug, Drop)]
+#[derive(Drop)]
 pub struct Block {
     by_variable: Vec<u64x4>,
 }

@@ -8,7 +8,7 @@ use std::alloc::Global;
 use std::marker::Model;
 
 /// An and-gate: its variable is true where both right sides are.
-#[derive(Clone, Copy, Debug)]
+#[derive(Clone, Copy)]
 pub struct Gate {
     /// The variable that the gate defines.
     pub variable: u64,
@@ -22,7 +22,7 @@ pub struct Gate {
 /// negation, 0 is false and 1 is true. Its gates may stand in any order.
 ///
 /// Nothing in it is as long as the largest variable.
-#[derive(Debug, Drop)]
+#[derive(Drop)]
 pub struct Circuit {
     pub(crate) max_var: u64,
     pub(crate) inputs: Vec<u64>,

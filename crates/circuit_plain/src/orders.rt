@@ -34,7 +34,7 @@ impl From<Memory> for OrderStop {
 
 /// A topological order of a circuit's gates: their places, each behind those of the gates that it
 /// reads.
-#[derive(Debug, Drop)]
+#[derive(Drop)]
 pub struct Order {
     places: Vec<usize>,
 }

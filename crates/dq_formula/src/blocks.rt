@@ -19,14 +19,14 @@ const BLOCK: usize = 8192;
 const MOST_BEFORE: usize = 0x8000_0000;
 
 // Where a clause begins: in which block, and behind how many of its literals.
-#[derive(Clone, Copy, Debug)]
+#[derive(Clone, Copy)]
 pub(crate) struct Place {
     block: u32,
     start: u32,
 }
 
 // Clauses, in order. It takes no memory while there are none.
-#[derive(Debug, Drop)]
+#[derive(Drop)]
 pub(crate) struct Blocks {
     // Where each clause begins; it ends where the next one begins in its block, or with the block.
     places: Vec<Place>,

@@ -3,7 +3,7 @@ ghost use Rattle.std.specs.Prelude.{◌≡◌};
 use std::marker::Model;
 
 /// Universal variables, in order of declaration.
-#[derive(Debug, Drop)]
+#[derive(Drop)]
 pub struct Vars {
     vars: Vec<u64>,
 }
@@ -33,7 +33,7 @@ impl Vars {
 
 /// The dependency set of an existential: the universals whose bits its value is a function of. The
 /// same set may have either form.
-#[derive(Debug, Drop)]
+#[derive(Drop)]
 pub enum Deps {
     /// The universals declared first, so many of them.
     FirstOf(usize),

@@ -34,7 +34,7 @@ pub const MAX_CLAUSES: usize = 10_000_000;
 ///
 /// A call that adds something answers `Memory` where a growth was refused, and then has changed
 /// nothing.
-#[derive(Debug, Drop)]
+#[derive(Drop)]
 pub struct Formula {
     vars: u64,
     universals: IndexSet<u64>,

@@ -9,7 +9,7 @@ use std::alloc::Global;
 use std::marker::Model;
 
 // The clauses of a formula, which a contract sees as a list of lists.
-#[derive(Debug, Drop)]
+#[derive(Drop)]
 pub(crate) struct Matrix {
     blocks: Blocks,
 }

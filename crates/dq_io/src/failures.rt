@@ -8,7 +8,7 @@ use std::marker::Model;
 
 /// Counts calls and faults, and knows which calls are to fail. Both counts stay at their last
 /// value.
-#[derive(Debug, Drop)]
+#[derive(Drop)]
 pub struct Failures {
     failing: Vec<u64>,
     calls: u64,

@@ -13,7 +13,7 @@ use std::marker::Model;
 
 /// Files in memory, for tests: they tell what is held, give at most so many bytes a read, and fail
 /// at the calls of given numbers. Of several files of one name the first counts.
-#[derive(Debug, Drop)]
+#[derive(Drop)]
 pub struct MemFiles {
     greatest: usize,
     store: FileStore,

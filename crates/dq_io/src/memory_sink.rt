@@ -11,7 +11,7 @@ use std::marker::Model;
 
 /// A sink in memory, for tests: it tells what it took, takes at most so many bytes a write, and
 /// fails at the calls of given numbers, and where there is no memory for more bytes.
-#[derive(Debug, Drop)]
+#[derive(Drop)]
 pub struct MemSink {
     greatest: usize,
     taken: Vec<u8>,

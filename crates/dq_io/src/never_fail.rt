@@ -13,7 +13,7 @@ use std::marker::Model;
 
 /// Files in memory that never fail: a name that wasn't given opens as an empty file. Of several
 /// files of one name the first counts.
-#[derive(Debug, Drop)]
+#[derive(Drop)]
 pub struct NeverFailFiles {
     store: FileStore,
 }
@@ -88,7 +88,7 @@ impl Files for NeverFailFiles {
 }
 
 /// A sink that takes every byte and keeps none, so that it doesn't tell what it took.
-#[derive(Clone, Copy, Debug, PartialEq, Eq)]
+#[derive(Clone, Copy, PartialEq, Eq)]
 pub struct NeverFailSink;
 
 impl NeverFailSink {

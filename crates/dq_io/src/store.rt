@@ -6,7 +6,7 @@ use dq_lits::Memory;
 use std::alloc::Global;
 use std::marker::Model;
 
-#[derive(Debug, Drop)]
+#[derive(Drop)]
 struct NamedFile {
     name: String,
     bytes: Vec<u8>,
@@ -52,7 +52,7 @@ fn place_of(files: &[NamedFile], name: &str) -> Option<usize>
 }
 
 /// Files in memory, of which one may be open. Of several files of one name the first counts.
-#[derive(Debug, Drop)]
+#[derive(Drop)]
 pub struct FileStore {
     alloc: Global,
     files: Vec<NamedFile>,

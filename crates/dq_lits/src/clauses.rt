@@ -9,7 +9,7 @@ use std::alloc::Global;
 use std::marker::Model;
 
 /// A clause: a list of literals, true where one of them is.
-#[derive(Debug, Drop)]
+#[derive(Drop)]
 pub struct Clause {
     lits: Vec<Lit>,
 }

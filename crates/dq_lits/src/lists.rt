@@ -6,7 +6,7 @@ use std::alloc::Global;
 use std::marker::Model;
 
 /// A list of ids.
-#[derive(Debug, Drop)]
+#[derive(Drop)]
 pub struct Ids {
     ids: Vec<u64>,
 }
@@ -62,7 +62,7 @@ impl Ids {
 }
 
 /// A list of rows.
-#[derive(Debug, Drop)]
+#[derive(Drop)]
 pub struct RowList {
     rows: Vec<Row>,
 }

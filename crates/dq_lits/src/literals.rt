@@ -8,7 +8,7 @@ use std::marker::Model;
 /// A literal: a variable or its negation. Variables are numbered from 1 to 2^62 - 1.
 ///
 /// It is kept as DIMACS writes it: the variable's number, or its negative for the negated variable.
-#[derive(Clone, Copy, Debug)]
+#[derive(Clone, Copy)]
 pub struct Lit {
     code: i64,
 }

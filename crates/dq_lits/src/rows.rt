@@ -9,7 +9,7 @@ use std::marker::Model;
 const WORD_BITS: usize = 64;
 
 /// A row of bits, by place from 0. It takes a bit of memory for each.
-#[derive(Debug, Drop)]
+#[derive(Drop)]
 pub struct Row {
     len: usize,
     words: Vec<u64>,

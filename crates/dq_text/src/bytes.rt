@@ -2,7 +2,7 @@ ghost use Rattle.std.specs.Prelude.{◌≡◌};
 ghost use Rattle.dq_text.specs.Bytes.{kind_of};
 
 /// What a byte is to the cutting of a text into lines and tokens.
-#[derive(Clone, Copy, Debug, PartialEq, Eq)]
+#[derive(Clone, Copy, PartialEq, Eq)]
 pub enum ByteKind {
     /// A space, a tab or a CR.
     Blank,

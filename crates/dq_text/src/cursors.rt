@@ -9,7 +9,7 @@ use crate::bytes::{ByteKind, byte_kind};
 use crate::tokens::Token;
 
 /// Where the next byte of a text stands.
-#[derive(Clone, Copy, Debug, PartialEq, Eq)]
+#[derive(Clone, Copy, PartialEq, Eq)]
 pub enum LinePlace {
     /// Behind nothing but blanks on its line.
     LineStart,
@@ -19,7 +19,7 @@ pub enum LinePlace {
 }
 
 /// The bytes of a text that are left, and where they stand.
-#[derive(Clone, Copy, Debug)]
+#[derive(Clone, Copy)]
 pub struct Cursor<'a> {
     pub rest: &'a [u8],
     pub at: usize,

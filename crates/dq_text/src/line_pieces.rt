@@ -23,7 +23,7 @@ pub trait TakesLines {
 }
 
 /// The bytes of a line whose end didn't come yet.
-#[derive(Debug, Drop)]
+#[derive(Drop)]
 pub struct LinePieces {
     pub unfinished: Vec<u8>,
 }

@@ -9,7 +9,7 @@ use memchr::memchr;
 use std::marker::Model;
 
 /// A line of a text without its LF, with its number.
-#[derive(Clone, Copy, Debug)]
+#[derive(Clone, Copy)]
 pub struct Line<'a> {
     pub text: &'a [u8],
     pub number: u64,
@@ -17,7 +17,7 @@ pub struct Line<'a> {
 
 /// The lines of a text in order. LF alone ends a line, and behind the last LF no empty line
 /// follows.
-#[derive(Debug, Drop)]
+#[derive(Drop)]
 pub struct Lines<'a> {
     rest: &'a [u8],
     number: u64,
@@ -95,7 +95,7 @@ fn cut_line(bytes: &[u8]) -> (&[u8], &[u8])
 }
 
 /// The tokens of one line, where no line is a comment.
-#[derive(Debug, Drop)]
+#[derive(Drop)]
 pub struct LineTokens<'a> {
     rest: &'a [u8],
 }

@@ -8,7 +8,7 @@ use dq_lits::Memory;
 use itoa::Buffer;
 
 /// What a token is as a number: an optional `-` and decimal digits.
-#[derive(Clone, Copy, Debug, PartialEq, Eq)]
+#[derive(Clone, Copy, PartialEq, Eq)]
 pub enum Number {
     /// A number of magnitude below 10^18.
     Int(i64),

@@ -7,7 +7,7 @@ ghost use Rattle.dq_text.specs.Summary.{head_with, minus_with, digits_with, firs
 use crate::numbers::{Number, TOO_BIG};
 
 /// The first bytes of a token, where these are all.
-#[derive(Clone, Copy, Debug, PartialEq, Eq)]
+#[derive(Clone, Copy, PartialEq, Eq)]
 pub enum Head {
     Empty,
     One(u8),
@@ -18,7 +18,7 @@ pub enum Head {
 }
 
 /// The digits of a token behind its minus, if it has one.
-#[derive(Clone, Copy, Debug, PartialEq, Eq)]
+#[derive(Clone, Copy, PartialEq, Eq)]
 pub enum Digits {
     /// There is none yet.
     NoDigit,
@@ -29,7 +29,7 @@ pub enum Digits {
 }
 
 /// A token so far.
-#[derive(Clone, Copy, Debug, PartialEq, Eq)]
+#[derive(Clone, Copy, PartialEq, Eq)]
 pub struct TokenSummary {
     pub head: Head,
     /// Its first byte is `-`.

@@ -35,7 +35,7 @@ pub trait TakesTokens {
 
 /// Where the next piece begins: behind this token, which may have no byte, at this place of the
 /// line with this number.
-#[derive(Clone, Copy, Debug)]
+#[derive(Clone, Copy)]
 pub struct TokenPieces {
     pub token: TokenSummary,
     pub place: LinePlace,

@@ -5,7 +5,7 @@ use crate::cursors::{Cursor, LinePlace, skip_to_token, take_token};
 use std::marker::Model;
 
 /// A token with its line, from 1, and its place in the text, from 0.
-#[derive(Clone, Copy, Debug)]
+#[derive(Clone, Copy)]
 pub struct Token<'a> {
     pub text: &'a [u8],
     pub line: u64,
@@ -13,7 +13,7 @@ pub struct Token<'a> {
 }
 
 /// The tokens of a text in order, without its comment lines.
-#[derive(Debug, Drop)]
+#[derive(Drop)]
 pub struct Tokens<'a> {
     cursor: Cursor<'a>,
 }

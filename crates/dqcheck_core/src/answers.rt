@@ -8,7 +8,7 @@ use cert_text::CertFault;
 use skolem_checker::MapName;
 
 /// What is wrong with a certificate's text.
-#[derive(Clone, Copy, Debug, PartialEq, Eq)]
+#[derive(Clone, Copy, PartialEq, Eq)]
 pub enum CertificateFault {
     /// Its first lines, its lines as a refutation, or those of the proof in its comment have this
     /// fault.
@@ -20,7 +20,7 @@ pub enum CertificateFault {
 }
 
 /// The answer to a formula and a certificate.
-#[derive(Clone, Copy, Debug, PartialEq, Eq)]
+#[derive(Clone, Copy, PartialEq, Eq)]
 pub enum Answer {
     /// The certificate's text has a fault at this line.
     Refused { line: u64, name: CertificateFault },

@@ -13,7 +13,7 @@ use std::marker::Model;
 const FEW: usize = 16;
 
 /// The distinct literals of a clause, in order of first occurrence.
-#[derive(Debug, Drop)]
+#[derive(Drop)]
 pub struct DistinctLiterals {
     alloc: Global,
     literals: Vec<Lit>,

@@ -4,7 +4,7 @@ ghost use Rattle.dqdimacs_reader.specs.Lexeme.{number_lexeme, word_or, lexeme_of
 use dq_text::{Head, Number, TokenSummary, has_minus, is_word, read_number, summary_number};
 
 /// What a token is to the grammar.
-#[derive(Clone, Copy, Debug, PartialEq, Eq)]
+#[derive(Clone, Copy, PartialEq, Eq)]
 pub enum Lexeme {
     /// The word `p`.
     P,

@@ -13,7 +13,7 @@ use dq_lits::{Lit, Memory};
 use std::alloc::Global;
 
 /// Where the next token stands.
-#[derive(Clone, Copy, Debug, PartialEq, Eq)]
+#[derive(Clone, Copy, PartialEq, Eq)]
 pub enum Stage {
     Header,
     Format,
@@ -31,7 +31,7 @@ pub enum Stage {
 }
 
 /// The machine. Fields count from the stage on that fills them.
-#[derive(Debug, Drop)]
+#[derive(Drop)]
 pub struct Machine {
     pub alloc: Global,
     pub stage: Stage,

@@ -30,7 +30,7 @@ pub fn read(alloc: Global, bytes: &[u8]) -> Result<Formula, ReadStop>
 
 /// Reads a DQDIMACS text that comes in pieces, however it is cut. It keeps the formula so far, and of
 /// a token whose end didn't come yet a summary, whatever its length.
-#[derive(Debug, Drop)]
+#[derive(Drop)]
 pub struct Reader {
     pieces: TokenPieces,
     tokens: TokenReader,

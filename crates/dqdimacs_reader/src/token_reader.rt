@@ -23,7 +23,7 @@ use std::alloc::Global;
 use std::marker::Model;
 
 /// The machine, until a token has a fault or memory is wanting; from there on what stopped it.
-#[derive(Debug, Drop)]
+#[derive(Drop)]
 pub struct TokenReader {
     machine: Machine,
     stopped: Option<ReadStop>,

@@ -31,7 +31,7 @@ use std::alloc::Global;
 const MAX_TEXT: usize = 1 << 61;
 
 /// What was shown of a planted formula.
-#[derive(Clone, Copy, Debug)]
+#[derive(Clone, Copy)]
 pub enum Demonstration {
     /// It is true, and the checker accepts its certificate.
     Valid,

@@ -11,7 +11,7 @@ use dqdimacs_reader::FormulaFault;
 use std::alloc::Global;
 
 /// A text to be written, and the status to end with.
-#[derive(Debug, Drop)]
+#[derive(Drop)]
 pub struct Output {
     pub status: Status,
     pub text: Vec<u8>,

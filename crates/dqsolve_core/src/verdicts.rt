@@ -38,7 +38,7 @@ use repair_loop::{Verdict, decide};
 use std::alloc::Global;
 
 /// The id of the answer that shows the formula true, or of the one that shows it false.
-#[derive(Clone, Copy, Debug)]
+#[derive(Clone, Copy)]
 pub(crate) enum Found {
     Shown(u64),
     Refuted(u64),

@@ -41,7 +41,7 @@ pub struct SolveWords<'a> {
 }
 
 /// A search on the formula that is planted by a seed, in a size.
-#[derive(Clone, Copy, Debug)]
+#[derive(Clone, Copy)]
 pub struct DemoWords {
     pub seed: u64,
     pub size: u64,

@@ -129,7 +129,7 @@ impl<O: Oracle> Judging<O> {
 }
 
 /// What a turn told.
-#[derive(Debug, Drop)]
+#[derive(Drop)]
 pub enum Told {
     Holds,
     Fails { row: Row, values: Row, j: u64 },

@@ -70,7 +70,7 @@ fn step(graph: &mut Graph, f: &Formula, stack: &mut Vec<Node>, word: &str) -> Re
 }
 
 /// A gate of two nodes.
-#[derive(Clone, Copy, Debug)]
+#[derive(Clone, Copy)]
 enum Gate {
     And,
     Or,

@@ -3,7 +3,7 @@
 use std::alloc::Global;
 
 /// What is written of a model.
-#[derive(Clone, Copy, Debug)]
+#[derive(Clone, Copy)]
 pub enum Detail {
     /// Whether it is one.
     Checks,

@@ -10,7 +10,7 @@ use hint_log::{Leaf, Log, Name, Origin};
 use std::alloc::Global;
 
 /// How much of a log was shown.
-#[derive(Clone, Copy, Debug)]
+#[derive(Clone, Copy)]
 pub struct Shown {
     pub names: usize,
     pub id: u64,

@@ -13,7 +13,7 @@ use std::marker::Model;
 /// The first rows of each dependency set. They take a place for each, and never a row's bits; a row
 /// is found in time for its bits that are seen and the logarithm of the rows, once for each
 /// dependency set.
-#[derive(Debug, Drop)]
+#[derive(Drop)]
 pub(crate) struct FirstRows {
     leaders: Vec<usize>,
     orders: Vec<Order>,

@@ -18,7 +18,7 @@ use std::marker::Model;
 
 /// The rows that are the first to show their bits at the universals that an existential sees, in
 /// order of these bits. Rows are looked at when they are first needed.
-#[derive(Debug, Drop)]
+#[derive(Drop)]
 pub(crate) struct Order {
     places: Vec<usize>,
     learnt: usize,

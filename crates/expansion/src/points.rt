@@ -9,7 +9,7 @@ use std::marker::Model;
 
 /// A bit for each existential under each row of a table: the values of a model of all its
 /// instances.
-#[derive(Debug, Drop)]
+#[derive(Drop)]
 pub struct Points {
     pub(crate) existentials: Vec<u64>,
     // Their places, in order of the variables. No contract speaks of it, since what is found there

@@ -26,7 +26,7 @@ use std::alloc::Global;
 use std::marker::Model;
 
 /// Whether the instances have a model.
-#[derive(Debug, Drop)]
+#[derive(Drop)]
 pub enum Exp {
     /// They have: a bit for each pair.
     Model(Points),
@@ -35,7 +35,7 @@ pub enum Exp {
 }
 
 /// The instances of the matrix under some rows.
-#[derive(Debug, Drop)]
+#[derive(Drop)]
 pub struct Table {
     pub(crate) alloc: Global,
     pub(crate) group: Group,

@@ -9,7 +9,7 @@ use std::alloc::{AllocError, Global};
 use std::marker::Model;
 
 /// Lists, which a contract sees as a list of lists.
-#[derive(Debug, Drop)]
+#[derive(Drop)]
 pub struct FlatLists<T> {
     // Where each list ends in `items`.
     ends: Vec<usize>,

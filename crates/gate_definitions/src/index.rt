@@ -7,7 +7,7 @@ use std::alloc::Global;
 /// The numbers of the clauses on each existential, by its place, end to end. Whoever takes a clause
 /// from here reads it, so that no contract speaks of what is in the index: a number that is missing
 /// costs a gate that isn't found.
-#[derive(Debug, Drop)]
+#[derive(Drop)]
 pub(crate) struct Index {
     // Where each existential's numbers begin.
     starts: Vec<usize>,

@@ -28,7 +28,7 @@ mod literals;
 mod outputs;
 
 /// The clauses of a formula, in which gates are looked for.
-#[derive(Debug, Drop)]
+#[derive(Drop)]
 pub struct Gates {
     alloc: Global,
     index: Index,

@@ -13,7 +13,7 @@ use crate::origins::{Leaf, Origin};
 use dq_lits::{Lit, Row};
 
 /// What an entry is.
-#[derive(Clone, Copy, Debug)]
+#[derive(Clone, Copy)]
 pub enum EntryKind {
     Naming,
     Clause,
@@ -23,7 +23,7 @@ pub enum EntryKind {
 
 /// What a clause is. A fault is of a kind by its output: a constant, or a literal of this sign,
 /// whose variable is a number more.
-#[derive(Clone, Copy, Debug)]
+#[derive(Clone, Copy)]
 pub enum ClauseKind {
     OfInstance,
     OfGate,
@@ -44,7 +44,7 @@ pub enum ClauseKind {
 
 /// A round: the row, the values of the existentials there, and the number of a clause that is
 /// false.
-#[derive(Debug, Drop)]
+#[derive(Drop)]
 pub struct KeptRound {
     pub row: Row,
     pub values: Row,

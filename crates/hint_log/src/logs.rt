@@ -18,7 +18,7 @@ use std::alloc::Global;
 use std::marker::Model;
 
 /// The proof log of a search.
-#[derive(Debug, Drop)]
+#[derive(Drop)]
 pub struct Log {
     alloc: Global,
     limit: u64,

@@ -1,7 +1,7 @@
 use dq_lits::Lit;
 
 /// What a solver variable stands for.
-#[derive(Clone, Copy, Debug)]
+#[derive(Clone, Copy)]
 pub enum Name {
     /// The group of this number, which is the selector's own variable, is active.
     Selector { group: u64 },

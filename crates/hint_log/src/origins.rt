@@ -1,14 +1,14 @@
 use dq_lits::Lit;
 
 /// What stands at a place of a circuit: a constant, or a literal on an input or a gate.
-#[derive(Clone, Copy, Debug)]
+#[derive(Clone, Copy)]
 pub enum Leaf {
     Constant(bool),
     Literal(Lit),
 }
 
 /// Where a given clause comes from. It fixes the clause, but for the negated selector of its group.
-#[derive(Clone, Copy, Debug)]
+#[derive(Clone, Copy)]
 pub enum Origin {
     /// The instance of a clause under the row of a round.
     Instance {

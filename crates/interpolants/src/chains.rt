@@ -5,14 +5,14 @@ use std::alloc::Global;
 use std::marker::Model;
 
 /// A hint, and the literal that it made true.
-#[derive(Clone, Copy, Debug)]
+#[derive(Clone, Copy)]
 pub(crate) struct Link {
     pub(crate) pivot: Lit,
     pub(crate) hint: u64,
 }
 
 /// The hints of a line that made a literal true, newest first.
-#[derive(Debug, Drop)]
+#[derive(Drop)]
 pub(crate) struct Chain {
     links: Vec<Link>,
 }

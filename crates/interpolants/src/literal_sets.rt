@@ -9,7 +9,7 @@ use std::alloc::Global;
 use std::marker::Model;
 
 /// A set of literals.
-#[derive(Debug, Drop)]
+#[derive(Drop)]
 pub(crate) struct LiteralSet {
     positives: IndexSet<u64>,
     negatives: IndexSet<u64>,

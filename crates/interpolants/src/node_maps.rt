@@ -8,7 +8,7 @@ use std::alloc::Global;
 use std::marker::Model;
 
 /// Nodes by numbers: of variables, or of ids.
-#[derive(Debug, Drop)]
+#[derive(Drop)]
 pub(crate) struct NodeMap {
     nodes: IndexMap<u64, Node>,
 }

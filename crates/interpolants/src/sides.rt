@@ -21,7 +21,7 @@ use hint_log::{Log, Name};
 use std::alloc::Global;
 
 /// The A side: its assumptions, the selectors among them, and its variables, as positive literals.
-#[derive(Debug, Drop)]
+#[derive(Drop)]
 pub(crate) struct Side {
     pub(crate) assumed: LiteralSet,
     pub(crate) selectors: LiteralSet,

@@ -9,7 +9,7 @@ const LARGE: u64 = 1 << 48;
 const SCALE: u32 = 24;
 
 /// Scores of literals: those that stood in clauses of late conflicts have the highest.
-#[derive(Debug, Drop)]
+#[derive(Drop)]
 pub struct Activities {
     // The score of each variable, and behind it that of its negation.
     scores: Vec<u64>,

@@ -17,7 +17,7 @@ use std::marker::Model;
 
 /// What is to be true: the selectors of active groups, and literals. They stay where they are, so
 /// that a search takes no memory for them.
-#[derive(Debug, Drop)]
+#[derive(Drop)]
 pub struct Assumptions<'a> {
     active: &'a [Group],
     literals: &'a [Lit],

@@ -9,7 +9,7 @@ use std::alloc::Global;
 use std::marker::Model;
 
 /// Marks of variables, hints, and the literals of a clause to come.
-#[derive(Debug, Drop)]
+#[derive(Drop)]
 pub struct Notes {
     // The mark of variable v at place v; empty, or with place 0, which no variable has.
     marks: Vec<bool>,

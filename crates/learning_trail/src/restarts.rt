@@ -6,7 +6,7 @@ const UNIT: u64 = 32;
 ///
 /// The sequence is made by reluctant doubling (D. Knuth, "The Art of Computer Programming", volume
 /// 4B, 7.2.2.2).
-#[derive(Debug, Drop)]
+#[derive(Drop)]
 pub struct Restarts {
     // How many conflicts are left until the next one.
     left: u64,

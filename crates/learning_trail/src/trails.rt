@@ -6,7 +6,7 @@ use std::alloc::Global;
 use std::marker::Model;
 
 /// What a literal is under a trail.
-#[derive(Clone, Copy, Debug, PartialEq, Eq)]
+#[derive(Clone, Copy, PartialEq, Eq)]
 pub enum TruthValue {
     True,
     False,
@@ -14,7 +14,7 @@ pub enum TruthValue {
 }
 
 /// A literal that was made true: by a clause, its reason, or by decision.
-#[derive(Clone, Copy, Debug)]
+#[derive(Clone, Copy)]
 pub struct Step {
     pub literal: Lit,
     /// The id of a clause.
@@ -22,7 +22,7 @@ pub struct Step {
 }
 
 /// The literals that were made true, in order.
-#[derive(Debug, Drop)]
+#[derive(Drop)]
 pub struct Trail {
     // The value of variable v at place v - 1.
     values: Vec<TruthValue>,

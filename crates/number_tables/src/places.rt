@@ -6,7 +6,7 @@ use std::alloc::Global;
 use std::collections::BTreeMap;
 
 /// A map from numbers to places.
-#[derive(Debug, Drop)]
+#[derive(Drop)]
 pub(crate) struct Places {
     // By number, the place of a number that was small beside its place, or `NOWHERE`.
     table: Vec<u32>,

@@ -7,7 +7,7 @@ use std::alloc::Global;
 use std::marker::Model;
 
 /// Numbers in the order in which they were added, each once.
-#[derive(Debug, Drop)]
+#[derive(Drop)]
 pub struct NumberSet {
     numbers: Vec<u64>,
     places: Places,

@@ -3,7 +3,7 @@ ghost use Rattle.std.specs.Prelude.{◌≡◌};
 use dq_lits::Lit;
 
 /// Clauses that are switched on together, by their selector.
-#[derive(Clone, Copy, Debug)]
+#[derive(Clone, Copy)]
 pub struct Group {
     pub selector: Lit,
 }
@@ -19,5 +19,5 @@ impl Group {
 
 /// Who makes groups. A tenant's groups are its own: every group has a selector that no group had
 /// before, so that the token needs nothing to tell it from others.
-#[derive(Debug, Drop)]
+#[derive(Drop)]
 pub struct Tenant;

@@ -17,7 +17,7 @@ use dq_lits::{Lit, Memory};
 use hint_log::{Log, Name, Origin, Stop};
 
 /// What a search found.
-#[derive(Clone, Copy, Debug, PartialEq, Eq)]
+#[derive(Clone, Copy, PartialEq, Eq)]
 pub enum Answer {
     /// Values that make the active groups' clauses and the assumptions true.
     Sat,

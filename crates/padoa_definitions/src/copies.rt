@@ -19,7 +19,7 @@ use std::alloc::Global;
 
 /// A copy of the matrix: the group of its clauses, and the copies of the universals and of the
 /// existentials, in order of declaration.
-#[derive(Debug, Drop)]
+#[derive(Drop)]
 pub struct MatrixCopy {
     pub(crate) group: Group,
     pub(crate) universals: Vec<Lit>,
@@ -42,7 +42,7 @@ impl MatrixCopy {
 }
 
 /// A variable with its copies, the first and the second.
-#[derive(Clone, Copy, Debug)]
+#[derive(Clone, Copy)]
 pub(crate) struct Twins {
     pub variable: u64,
     pub first: Lit,

@@ -20,7 +20,7 @@ use oracle::{Answer, Oracle};
 /// Two rows, each with values of the existentials, that make the matrix true: what a definition of
 /// the existential may read is the same in both, and it is true in the first and false in the
 /// second.
-#[derive(Debug, Drop)]
+#[derive(Drop)]
 pub struct Pair {
     pub row1: Row,
     pub values1: Row,
@@ -29,7 +29,7 @@ pub struct Pair {
 }
 
 /// Whether an existential has a definition.
-#[derive(Debug, Drop)]
+#[derive(Drop)]
 pub enum Found {
     /// It has: this node.
     Defined(Node),

@@ -26,7 +26,7 @@ use hint_log::{Log, Name, Stop};
 use oracle::{Answer, Oracle};
 
 /// Whether an existential is forced to have a bit.
-#[derive(Debug, Drop)]
+#[derive(Drop)]
 pub enum Forced {
     /// It is, by this rule.
     Rule(Rule),

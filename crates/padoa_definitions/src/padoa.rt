@@ -16,7 +16,7 @@ use std::alloc::Global;
 
 /// What was given to the oracle once: two copies of the matrix, and an equation for each declared
 /// variable.
-#[derive(Debug, Drop)]
+#[derive(Drop)]
 pub struct Padoa {
     pub(crate) alloc: Global,
     pub(crate) first: MatrixCopy,

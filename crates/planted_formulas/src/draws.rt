@@ -4,7 +4,7 @@ ghost use Rattle.std.specs.Prelude.{◌≡◌, ◌<◌, ◌^◌};
 ghost use Rattle.planted_formulas.specs.Planted.{next_state, drawn};
 
 /// The state of the generator.
-#[derive(Debug, Drop)]
+#[derive(Drop)]
 pub(crate) struct Draws {
     pub state: u64,
 }

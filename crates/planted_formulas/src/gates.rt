@@ -6,7 +6,7 @@ ghost use Rattle.planted_formulas.specs.Planted.{next_state, next_gate};
 use crate::draws::Draws;
 
 /// The function of an existential: the conjunction of two universals, or their exclusive or.
-#[derive(Clone, Copy, Debug)]
+#[derive(Clone, Copy)]
 pub struct PlantedGate {
     pub output: u64,
     pub left: u64,

@@ -42,7 +42,7 @@ impl<'b> Model for NegatedMatrix<'b> {
 }
 
 /// A clause of the negated matrix.
-#[derive(Clone, Copy, Debug)]
+#[derive(Clone, Copy)]
 pub(crate) enum NegatedClause {
     /// There is none with the id, or a constant makes it true.
     Missing,

@@ -11,7 +11,7 @@ use dq_lits::Lit;
 use rup_core::FewLiterals;
 
 /// The literals of a clause that aren't constant.
-#[derive(Clone, Copy, Debug)]
+#[derive(Clone, Copy)]
 pub(crate) struct ShortClause {
     pub first: Option<Lit>,
     pub second: Option<Lit>,

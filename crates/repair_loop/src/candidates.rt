@@ -21,7 +21,7 @@ use padoa_definitions::laws::engines_leave_copies;
 use std::alloc::Global;
 
 // Candidates, or the id of the answer that refutes the rows.
-#[derive(Debug, Drop)]
+#[derive(Drop)]
 pub(crate) enum Found {
     Candidates(Outputs),
     Refuted(u64),

@@ -23,7 +23,7 @@ use padoa_definitions::laws::engines_leave_copies;
 use std::alloc::Global;
 
 /// What was decided, with the id of the logged answer that shows it.
-#[derive(Debug, Drop)]
+#[derive(Drop)]
 pub enum Verdict {
     /// The formula is true: an output for each existential.
     True(Outputs, u64),

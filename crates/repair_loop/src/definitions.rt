@@ -22,7 +22,7 @@ use padoa_definitions::{Found, Padoa};
 use std::alloc::Global;
 
 // What is known of the existentials, and the copies of the matrix that it is asked of.
-#[derive(Debug, Drop)]
+#[derive(Drop)]
 pub(crate) struct Definitions {
     pub(crate) padoa: Padoa,
     gates: Gates,

@@ -23,7 +23,7 @@ use padoa_definitions::Padoa;
 use padoa_definitions::laws::{engines_leave_copies, rounds_leave_copies};
 
 // Candidates hold, by the answer of this id; or they fail under a row, whose round is logged.
-#[derive(Debug, Drop)]
+#[derive(Drop)]
 pub(crate) enum Judged {
     Hold(u64),
     Fail(Row),

@@ -20,7 +20,7 @@ use oracle::Oracle;
 use std::alloc::Global;
 
 // A row under which a clause is false whatever the existentials are, and the clause's number.
-#[derive(Debug, Drop)]
+#[derive(Drop)]
 pub(crate) struct FalseClause {
     pub row: Row,
     pub number: u64,

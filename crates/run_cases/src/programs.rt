@@ -1,7 +1,7 @@
 //! The two programs that are run.
 
 /// The checker or the solver.
-#[derive(Clone, Copy, Debug)]
+#[derive(Clone, Copy)]
 pub enum Program {
     Checker,
     Solver,

@@ -9,7 +9,7 @@ use hint_log::Log;
 use std::alloc::Global;
 
 /// The most bytes of a call, and the numbers of the calls that fail.
-#[derive(Debug, Drop)]
+#[derive(Drop)]
 pub struct Calls {
     pub greatest: usize,
     pub failing: Vec<u64>,
@@ -26,7 +26,7 @@ impl Calls {
 }
 
 /// The program of a case, its files and its words, and how its files and its sink behave.
-#[derive(Debug, Drop)]
+#[derive(Drop)]
 pub struct Settings {
     pub program: Program,
     pub formula: Option<Vec<u8>>,
@@ -37,7 +37,7 @@ pub struct Settings {
 }
 
 /// What came of a run: its status, and what was written.
-#[derive(Debug, Drop)]
+#[derive(Drop)]
 pub struct Ran {
     pub status: u8,
     pub text: Vec<u8>,

@@ -5,7 +5,7 @@ ghost use Rattle.rup_core.specs.Reading.{clause_size, literal_at};
 use dq_lits::Lit;
 
 /// The literals of a short clause.
-#[derive(Clone, Copy, Debug)]
+#[derive(Clone, Copy)]
 pub struct FewLiterals {
     /// The literals, and others behind them.
     pub literals: [Lit; 3],

@@ -13,7 +13,7 @@ use crate::trails::{Trail, TruthValue};
 use dq_lits::{Lit, Memory};
 
 /// Whether a line is derived.
-#[derive(Clone, Copy, Debug, PartialEq, Eq)]
+#[derive(Clone, Copy, PartialEq, Eq)]
 pub enum Derived {
     /// Each hint but the last propagates, and the last one is falsified.
     Yes,

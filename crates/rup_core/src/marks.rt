@@ -7,7 +7,7 @@ use std::marker::Model;
 
 /// The memory of [`derive`](crate::derive): a mark for each of the first variables, a map for marks
 /// beyond them, and the trail that takes the marks back. Between calls no variable is marked.
-#[derive(Debug, Drop)]
+#[derive(Drop)]
 pub struct Marks {
     pub(crate) trail: Trail,
 }

@@ -10,7 +10,7 @@ use std::marker::Model;
 
 /// Where a clause lies among the literals of its page. The start of one that is gone lies behind
 /// its end.
-#[derive(Clone, Copy, Debug)]
+#[derive(Clone, Copy)]
 pub(crate) struct Span {
     start: usize,
     end: usize,
@@ -19,7 +19,7 @@ pub(crate) struct Span {
 const GONE: Span = Span { start: 1, end: 0 };
 
 /// Clauses by their places, their literals end to end.
-#[derive(Debug, Drop)]
+#[derive(Drop)]
 pub(crate) struct Page {
     spans: Vec<Span>,
     literals: Vec<Lit>,

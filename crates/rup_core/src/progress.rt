@@ -9,7 +9,7 @@ use crate::trails::Trail;
 use dq_lits::Memory;
 
 /// How the hints of a line stand so far.
-#[derive(Clone, Copy, Debug)]
+#[derive(Clone, Copy)]
 pub(crate) enum Progress {
     /// Each of them propagates.
     Going,

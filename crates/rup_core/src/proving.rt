@@ -29,7 +29,7 @@ use std::marker::Model;
 /// A line's literals come first (`begin`), then the hinted clauses one by one (`hint` with the
 /// clause of a base, `hint_line` with the id of a line), and then its id (`end`). So a base makes
 /// each clause once, when it is hinted, and a clause's variables may get their numbers then.
-#[derive(Debug, Drop)]
+#[derive(Drop)]
 pub struct Proving {
     trail: Trail,
     progress: Progress,

@@ -34,7 +34,7 @@ pub trait Steps {
 }
 
 /// Why a proof proves nothing.
-#[derive(Clone, Copy, Debug, PartialEq, Eq)]
+#[derive(Clone, Copy, PartialEq, Eq)]
 pub enum ProofFault {
     /// The first line that isn't derived, by its id.
     Underived(u64),

@@ -21,7 +21,7 @@ pub(crate) const PAGE: usize = 2048;
 /// back, unless lines are still to come there. So memory follows the literals of the clauses that
 /// there are, two words for each id of their pages, and less than a bit for each id of the other
 /// pages.
-#[derive(Debug, Drop)]
+#[derive(Drop)]
 pub struct Store {
     pages: Vec<Page>,
     // The id of the first place.

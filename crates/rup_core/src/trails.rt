@@ -11,7 +11,7 @@ use std::collections::BTreeMap;
 use std::marker::Model;
 
 /// What a literal is under a trail.
-#[derive(Clone, Copy, Debug, PartialEq, Eq)]
+#[derive(Clone, Copy, PartialEq, Eq)]
 pub(crate) enum TruthValue {
     True,
     False,
@@ -24,7 +24,7 @@ pub(crate) enum TruthValue {
 /// true are kept beside them, so that undoing takes time for these alone. The first variables have
 /// a table, and room for their literals from the start; those beyond it stand in an ordered map, so
 /// that memory and time follow what is made true, whichever numbers its variables have.
-#[derive(Debug, Drop)]
+#[derive(Drop)]
 pub(crate) struct Trail {
     // The value of variable v at place v - 1.
     near: Vec<TruthValue>,

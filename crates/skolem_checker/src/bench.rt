@@ -23,7 +23,7 @@ use std::marker::Model;
 const MAX_UNIVERSALS: usize = 20;
 
 /// A circuit that is tested against a formula, with all that the tests need.
-#[derive(Debug, Drop)]
+#[derive(Drop)]
 pub struct Bench<'a> {
     formula: &'a Formula,
     // The circuit that is tested. Its largest variable may be far beyond its lines, so that the

@@ -75,7 +75,7 @@ impl From<MapError> for BenchStop {
 }
 
 // Which symbols are read.
-#[derive(Clone, Copy, Debug, PartialEq, Eq)]
+#[derive(Clone, Copy, PartialEq, Eq)]
 pub(crate) enum Kind {
     Inputs,
     Outputs,
@@ -206,7 +206,7 @@ fn counts_fault(f: &Formula, file: &AagFile) -> Option<MapName>
 }
 
 /// By place: the universal of each input, and the existential of each output.
-#[derive(Debug, Drop)]
+#[derive(Drop)]
 pub(crate) struct Mapped {
     pub(crate) inputs: Vec<u64>,
     pub(crate) outputs: Vec<u64>,

@@ -21,7 +21,7 @@ use dq_lits::Memory;
 use std::alloc::Global;
 
 /// Room for 64 outputs at a time, a bit for each in every word.
-#[derive(Debug, Drop)]
+#[derive(Drop)]
 pub(crate) struct ReadWords {
     /// By variable of the circuit: which outputs reach it.
     pub reached: Vec<u64>,
