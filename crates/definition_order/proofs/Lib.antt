@@ -4,3 +4,4 @@ mod SortedExistentials
 mod ReadableExistentials
 mod SeenUniversals
 mod SizePlaces
+mod OrderedUniversals

@@ -1,6 +1,6 @@
 //! Which existentials a definition may read.
 
-ghost use Rattle.std.specs.Prelude.{◌≡◌, ◌<◌, ◌≤◌, ◌⊎◌, ◌↔◌, length, take, All, Contains, IsSome, IsTrue, Some, slice_get};
+ghost use Rattle.std.specs.Prelude.{◌≡◌, ◌≢◌, ◌<◌, ◌≤◌, ◌⊎◌, ◌↔◌, ℕ, length, take, All, Contains, IsSome, IfSome, IsTrue, None, Some, slice_get, slice_index};
 ghost use Rattle.dq_lits.specs.Formula.{Existential, existential_of};
 ghost use Rattle.dq_formula.specs.Dependencies.{listed_universals};
 ghost use Rattle.definition_order.specs.Order.{existential_place, ComesBefore, IsShared};
@@ -127,15 +127,45 @@ fn begins_with_first(f: &Formula, vars: &[u64], count: usize) -> bool
     vars[count - 1] == f.universals()[count - 1]
 }
 
+// Whether an existential sees these universals, which stand in order of declaration as those do that
+// it sees.
 fn sees_all(f: &Formula, y: u64, xs: &[u64]) -> bool
-    requires { IsSome (existential_of f.now y) }
+    requires existential { IsSome (existential_of f.now y) }
+    requires ordered { xs.now ≡ listed_universals f.now.universals xs.now }
     ensures { (e : Existential) → existential_of f.now y ≡ Some e
         → (IsTrue result ↔ All (Contains e.sees) xs.now) }
 {
+    are_among(f, xs, f.seen(y))
+}
+
+// Whether universals are all among others, where both stand in order of declaration: one walk
+// through the two, without a look-up.
+fn are_among(f: &Formula, xs: &[u64], ys: &[u64]) -> bool
+    requires first { xs.now ≡ listed_universals f.now.universals xs.now }
+    requires second { ys.now ≡ listed_universals f.now.universals ys.now }
+    ensures { IsTrue result ↔ All (Contains ys.now) xs.now }
+{
+    f.every_formula_is_lawful();
+    let mut at = 0;
     for x in xs {
-        if !f.sees(y, *x) {
-            return false;
+        match place_from(ys, at, *x) {
+            Some(place) => at = place + 1,
+            None => return false,
         }
     }
     true
+}
+
+// The first place from one on where a number stands.
+fn place_from(ys: &[u64], from: usize, x: u64) -> Option<usize>
+    ensures there { IfSome result (λ p. (from ≤ p) × (p < length ys.now) × (slice_index ys.now p ≡ x)) }
+    ensures nowhere { result ≡ None → (k : ℕ) → from ≤ k → k < length ys.now
+        → slice_index ys.now k ≢ x }
+{
+    for at in from..ys.len() {
+        if ys[at] == x {
+            return Some(at);
+        }
+    }
+    None
 }

@@ -1,8 +1,7 @@
-use Rattle.definition_order.proofs.SeenUniversals.{sees_more, sees_whole}
+use Rattle.definition_order.proofs.Firsts.{seen_told}
+use Rattle.definition_order.proofs.SeenUniversals.{seen_as}
 use Rattle.definition_order.proofs.shared.sees_all.Goals as goal
 
-pub loop-x-preserved : goal.loop-x-preserved
-loop-x-preserved c = sees_more c.args.f.now c.args.y c.args.xs.now c.loop-x.x-index c.sees.result c.loop-x.invariant c.loop-x-test.true c.sees.ensures c.if-not-sees.false
-
 pub returns : goal.returns
-returns c = sees_whole c.args.f.now c.args.y c.args.xs.now c.loop-x.x-index c.loop-x.invariant c.loop-x-test.false
+returns c = λ e known.
+    seen_told c.seen.result.now e.sees c.args.xs.now c.are_among.result (seen_as c.args.f.now c.args.y c.seen.result.now c.seen.ensures.set e known) c.are_among.ensures
