@@ -113,6 +113,18 @@ class Formula(Algebra):
         for a, b in zip(signals, others):
             self.clauses += [[*guard, a, -b], [*guard, -a, b]]
 
+    def declare(self, form, rng):
+        """Puts the declarations in this form: forward, as they were made, each gate behind its inputs, else shuffled or reversed, and then
+        the clauses are shuffled too."""
+        seen = list(self.seen.items())
+        if form == "reversed":
+            seen.reverse()
+        elif form == "shuffled":
+            rng.shuffle(seen)
+        self.seen = dict(seen)
+        if form != "forward":
+            rng.shuffle(self.clauses)
+
     def text(self):
         """DQDIMACS."""
         lines = [["p", "cnf", self.variables, len(self.clauses)], ["a", *self.universals, 0]]
@@ -211,6 +223,24 @@ def definitions(rng, size):
         signals.append(kind(*inputs if kind == formula.choice else inputs[:2]))
         signals = signals[:first] + signals[-2 * first :] if len(signals) > 3 * first else signals
     return formula, "TRUE"
+
+
+def parities(rng, size):
+    """As many exclusive ors of two signals as the size, over eight universals, each of which sees all. True."""
+    formula = Formula()
+    return gates_of_two(rng, formula, formula.word(8), size, formula.parity), "TRUE"
+
+
+def conjunctions(rng, size):
+    """The same of conjunctions, over twenty universals. True."""
+    formula = Formula()
+    return gates_of_two(rng, formula, formula.word(20), size, formula.conjunction), "TRUE"
+
+
+def gates_of_two(rng, formula, signals, size, gate):
+    for _ in range(size):
+        signals.append(gate(*(signal * rng.choice((1, -1)) for signal in rng.sample(signals, 2))))
+    return formula
 
 
 def against_plain(formula, circuit, plain, outputs, size, places, blind):
@@ -361,7 +391,8 @@ def blind(family):
     return lambda rng, size: family(rng, size, True)
 
 
-FAMILIES = {"definitions": (definitions, 4)}
+FORMS = ("forward", "shuffled", "reversed")
+FAMILIES = {"definitions": (definitions, 4), "parities": (parities, 5), "conjunctions": (conjunctions, 5)}
 for made, start in ((adder, 2), (comparator, 2), (multiplier, 3), (parity, 4), (controller, 2)):
     FAMILIES |= {made.__name__: (made, start), f"{made.__name__}-blind": (blind(made), start)}
 FAMILIES |= {"two-levels": (two_levels, 4), "random-sights": (random_sights, 4)}

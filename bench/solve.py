@@ -24,15 +24,15 @@ import time
 
 from bench import CHECKER
 from decisions import SOLVER, UNKNOWN
-from families import FAMILIES
+from families import FAMILIES, FORMS
 
 MOST_VARIABLES, MOST_CLAUSES = 1_000_000, 10_000_000
 GIGABYTE = 1_000_000_000
 VERDICTS = {10: "TRUE", 20: "FALSE"}
 OTHERS = ["pedant", "hqs", "dqbdd", "depqbf"]
-COLUMNS = ["family", "size", "seed", "variables", "universals", "clauses", "expected", "solver", "verdict", "seconds", "rounds", "learned"]
+COLUMNS = ["family", "size", "form", "seed", "variables", "universals", "clauses", "expected", "solver", "verdict", "seconds", "rounds", "learned"]
 COLUMNS += ["rows", "gates", "lines", "bytes", "check_seconds", "check"]
-WIDTHS = {"family": -17, "size": 6, "variables": 9, "clauses": 8, "solver": -8, "verdict": -8, "seconds": 8, "rounds": 7, "learned": 8}
+WIDTHS = {"family": -17, "size": 6, "form": -8, "variables": 9, "clauses": 8, "solver": -8, "verdict": -8, "seconds": 8, "rounds": 7, "learned": 8}
 WIDTHS |= {"rows": 7, "gates": 8, "lines": 8, "bytes": 10, "check_seconds": 13, "check": -12}
 
 
@@ -110,10 +110,11 @@ class Bench:
     def measure(self, family, size):
         """The solver's row, or None where the formula is too large; a fault raises."""
         formula, expected = FAMILIES[family][0](random.Random(f"{family} {size} {self.words.seed}"), size)
+        formula.declare(self.words.form, random.Random(f"{family} {size} {self.words.form} {self.words.seed}"))
         if formula.variables > MOST_VARIABLES or len(formula.clauses) > MOST_CLAUSES:
             return None
         path = self.write("formula", formula.text())
-        row = {"family": family, "size": size, "seed": self.words.seed, "variables": formula.variables, "solver": "dqsolve"}
+        row = {"family": family, "size": size, "form": self.words.form, "seed": self.words.seed, "variables": formula.variables, "solver": "dqsolve"}
         row |= {"universals": len(formula.universals), "clauses": len(formula.clauses), "expected": expected}
         faults = self.solve(path, row)
         rows = [row, *filter(None, (self.beside(name, formula, path, row) for name in self.others))]
@@ -171,6 +172,7 @@ def words_of(arguments):
     reader.add_argument("--memory", type=float, default=8, metavar="GIGABYTES", help="of a run (8)")
     reader.add_argument("--steps", type=int, metavar="N", help="the solver's limit of steps (its own)")
     reader.add_argument("--seed", type=int, default=1, help="of the formulas (1)")
+    reader.add_argument("--form", choices=FORMS, default="forward", help="of the declarations: gates behind their inputs, or any way")
     reader.add_argument("--sizes", type=sizes_of, metavar="N,..", help="these sizes only, as far as a family has them")
     reader.add_argument("--csv", metavar="FILE", help="where the table is written, a row for each run and solver")
     reader.add_argument("--solver", default=SOLVER, metavar="FILE", help="the built dqsolve")

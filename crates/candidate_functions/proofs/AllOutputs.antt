@@ -24,10 +24,10 @@ use Rattle.candidate_functions.specs.declared.classes.Class.{Class}
 use Rattle.definition_order.proofs.Declared.{contained_at, existential_at}
 use Rattle.candidate_functions.proofs.LargerGraphs.{extends-trans, rule_node_stays, first_output_stays}
 
-pub definition_there : (f : Dqbf) → IsLawful f → (g : AigGraph) (definitions : List (Option Node)) (p : ℕ) (y : Existential) (node : Node) → AreDefinitions f g definitions
-    → slice_get f.existentials p ≡ Some y → get_or definitions p None ≡ Some node → IsDefinition f g y node
-definition_there f lawful g definitions p y node are at is =
-    All-contains (λ z. (n : Node) → definition_of f definitions z ≡ Some n → IsDefinition f g z n) f.existentials y are (contained_at f.existentials p y at) node
+pub definition_there : (f : Dqbf) (ranks : List ℕ) → IsLawful f → (g : AigGraph) (definitions : List (Option Node)) (p : ℕ) (y : Existential) (node : Node) → AreDefinitions f ranks g definitions
+    → slice_get f.existentials p ≡ Some y → get_or definitions p None ≡ Some node → IsDefinition f ranks g y node
+definition_there f ranks lawful g definitions p y node are at is =
+    All-contains (λ z. (n : Node) → definition_of f definitions z ≡ Some n → IsDefinition f ranks g z n) f.existentials y are (contained_at f.existentials p y at) node
     (ap (λ k. get_or definitions k None) (existential_at f lawful.prefix p y at) ∙ is)
 
 -- how far a walk over the existentials has come
@@ -82,16 +82,16 @@ first_outputs_are_nodes f rows points rules definitions g nodes are k d below =
     let is = (are.each k (get_or f.existentials k none) within (slice_get-get_or f.existentials k none within)).is_node in
     subst (IsNode g) (get_or_default nodes k (Constant false) d below) is
 
-module _ (f : Dqbf) (lawful : IsLawful f) (rows : List (List Bool)) (points : PointBits) (rules : List Rule) (definitions : List (Option Node)) (g : AigGraph) (nodes : List Node)
-    (are : AreOutputs f rows points rules definitions g nodes) where
+module _ (f : Dqbf) (ranks : List ℕ) (lawful : IsLawful f) (rows : List (List Bool)) (points : PointBits) (rules : List Rule) (definitions : List (Option Node)) (g : AigGraph) (nodes : List Node)
+    (are : AreOutputs f ranks rows points rules definitions g nodes) where
   abbrev IsOne : Existential → Type 0
-  IsOne y = IsOutput f rows points rules g nodes y (definition_of f definitions y) (output_node f nodes y)
+  IsOne y = IsOutput f ranks rows points rules g nodes y (definition_of f definitions y) (output_node f nodes y)
 
   each_is : All IsOne f.existentials
   each_is k d below =
       let y = get_or f.existentials k d in
       let at = slice_get-get_or f.existentials k d below in
-      subst (λ p. IsOutput f rows points rules g nodes y (get_or definitions p None) (get_or nodes p (Constant false))) (sym (existential_at f lawful.prefix k y at)) (are.each k y at)
+      subst (λ p. IsOutput f ranks rows points rules g nodes y (get_or definitions p None) (get_or nodes p (Constant false))) (sym (existential_at f lawful.prefix k y at)) (are.each k y at)
 
   pub read_declared : ReadDeclared f (outputs_of f g nodes)
   read_declared = All-weaker IsOne (λ y. All (Contains y.sees) (outputs_of f g nodes y).support) (λ y is. is.reads) f.existentials each_is
@@ -103,7 +103,7 @@ module _ (f : Dqbf) (lawful : IsLawful f) (rows : List (List Bool)) (points : Po
   follow_rules = All-weaker IsOne (λ y. definition_of f definitions y ≡ None → FollowsRules f rows rules y (outputs_of f g nodes y)) (λ y is. is.by_rules) f.existentials each_is
 
   module _ (m : Assignment) (same : All (λ y. m y.variable ≡ (outputs_of f g nodes y).value m) f.existentials) where
-    have_values : (y : Existential) → HaveValues f g nodes y m
+    have_values : (y : Existential) → HaveValues f ranks g nodes y m
     have_values y q z at shared =
         All-contains (λ e. m e.variable ≡ (outputs_of f g nodes e).value m) f.existentials z same (contained_at f.existentials q z at)
         ∙ ap (λ p. (node_output f g (get_or nodes p (Constant false))).value m) (existential_at f lawful.prefix q z at)

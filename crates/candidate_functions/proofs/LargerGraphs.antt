@@ -68,10 +68,10 @@ module _ (old new : AigGraph) (h : Extends old new) where
     reads = support_stays f n by.is_node (Contains y.sees) by.reads;
   }
 
-  pub definition_stays : (f : Dqbf) (y : Existential) (n : Node) → IsDefinition f old y n → IsDefinition f new y n
-  definition_stays f y n is = record {
+  pub definition_stays : (f : Dqbf) (ranks : List ℕ) (y : Existential) (n : Node) → IsDefinition f ranks old y n → IsDefinition f ranks new y n
+  definition_stays f ranks y n is = record {
     is_node = h.nodes n is.is_node;
-    reads = subst (λ s. All (MayRead f y) (map (input_variable f) s)) (sym (h.supports n is.is_node)) is.reads;
+    reads = subst (λ s. All (MayRead f ranks y) (map (input_variable f) s)) (sym (h.supports n is.is_node)) is.reads;
     defines = λ m holds. is.defines m holds ∙ sym (h.values n is.is_node (λ i. m (input_variable f i)));
   }
 
@@ -94,5 +94,5 @@ module _ (old new : AigGraph) (h : Extends old new) where
   pub classes_stay : (f : Dqbf) (rows : List (List Bool)) (cs : List Class) → All (IsClass f rows old) cs → All (IsClass f rows new) cs
   classes_stay f rows cs all = All-weaker (IsClass f rows old) (IsClass f rows new) (class_stays f rows) cs all
 
-  pub definitions_stay : (f : Dqbf) (definitions : List (Option Node)) → AreDefinitions f old definitions → AreDefinitions f new definitions
-  definitions_stay f definitions are k d lt node is = definition_stays f (get_or f.existentials k d) node (are k d lt node is)
+  pub definitions_stay : (f : Dqbf) (ranks : List ℕ) (definitions : List (Option Node)) → AreDefinitions f ranks old definitions → AreDefinitions f ranks new definitions
+  definitions_stay f ranks definitions are k d lt node is = definition_stays f ranks (get_or f.existentials k d) node (are k d lt node is)

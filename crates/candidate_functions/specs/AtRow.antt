@@ -24,8 +24,8 @@ EveryRowHasValues =
 -- existentials that the definition reads taken at their pairs
 abbrev pub DefinedNeedNoArbiter : Type 0
 DefinedNeedNoArbiter =
-    (f : Dqbf) (graph : AigGraph) (y : Existential) (node : Node)
-    → existential_of f y.variable ≡ Some y → IsDefinition f graph y node
+    (f : Dqbf) (ranks : List ℕ) (graph : AigGraph) (y : Existential) (node : Node)
+    → existential_of f y.variable ≡ Some y → IsDefinition f ranks graph y node
     → (rows : List (List Bool)) (row : List Bool) (model : Assignment)
     → All (λ clause. InstanceHolds model (instance_clause f rows row clause)) f.matrix
     → (m : Assignment) → IsAtRow f rows row model m

@@ -21,10 +21,10 @@ abbrev pub definition_of : Dqbf → List (Option Node) → Existential → Optio
 definition_of f definitions y =
     slice_index_or definitions (position_or_len (λ z. z.variable == y.variable) f.existentials) None
 
-abbrev pub AreDefinitions : Dqbf → AigGraph → List (Option Node) → Type 0
-AreDefinitions f graph definitions =
+abbrev pub AreDefinitions : Dqbf → List ℕ → AigGraph → List (Option Node) → Type 0
+AreDefinitions f ranks graph definitions =
     All (λ y. (node : Node) → definition_of f definitions y ≡ Some node
-    → IsDefinition f graph y node) f.existentials
+    → IsDefinition f ranks graph y node) f.existentials
 
 -- the existential sees the bits that the row gives it
 abbrev pub SeesRow : Dqbf → Existential → List Bool → Assignment → Type 0

@@ -28,19 +28,20 @@ pub record IsPutAt (old new : AigGraph) (definition : Option Node) (place : ℕ)
   pub some : (d : Node) → definition ≡ Some d → HasPutAt old new d place before after
 
 -- each existential that a definition of y may read has its output's value
-abbrev pub HaveValues : Dqbf → AigGraph → List Node → Existential → Assignment → Type 0
-HaveValues f graph nodes y m =
-    (q : ℕ) (z : Existential) → slice_get f.existentials q ≡ Some z → IsShared f y z
+abbrev pub HaveValues : Dqbf → List ℕ → AigGraph → List Node → Existential → Assignment → Type 0
+HaveValues f ranks graph nodes y m =
+    (q : ℕ) (z : Existential) → slice_get f.existentials q ≡ Some z → IsShared f ranks y z
     → m z.variable ≡ (node_output f graph (slice_index_or nodes q (Constant false))).value m
 
 -- the output of an existential, beside those of the others
-pub record IsOutput (f : Dqbf) (rows : List (List Bool)) (points : PointBits) (rules : List Rule)
-    (graph : AigGraph) (nodes : List Node)
+pub record IsOutput (f : Dqbf) (ranks : List ℕ) (rows : List (List Bool))
+    (points : PointBits) (rules : List Rule) (graph : AigGraph) (nodes : List Node)
     (y : Existential) (definition : Option Node) (node : Node) : Type 0 where
   pub reads : All (Contains y.sees) (node_output f graph node).support
   pub at_pairs : AgreesAtPairs f rows points y (node_output f graph node)
   pub by_rules : definition ≡ None → FollowsRules f rows rules y (node_output f graph node)
-  pub defined : (d : Node) → definition ≡ Some d → (m : Assignment) → HaveValues f graph nodes y m
+  pub defined : (d : Node) → definition ≡ Some d → (m : Assignment)
+      → HaveValues f ranks graph nodes y m
       → (node_output f graph node).value m ≡ (defining_output f graph d).value m
 
 -- there is no definition at the place, or it was put in
@@ -48,20 +49,20 @@ abbrev pub IsSettled : List (Option Node) → List ℕ → ℕ → Type 0
 IsSettled definitions done p = (slice_index_or definitions p None ≡ None) ⊎ Contains done p
 
 -- the outputs at the places that are settled
-pub record AreSettled (f : Dqbf) (rows : List (List Bool)) (points : PointBits) (rules : List Rule)
-    (definitions : List (Option Node))
+pub record AreSettled (f : Dqbf) (ranks : List ℕ) (rows : List (List Bool))
+    (points : PointBits) (rules : List Rule) (definitions : List (Option Node))
     (graph : AigGraph) (done : List ℕ) (nodes : List Node) : Type 0 where
   pub each : (p : ℕ) (y : Existential) → slice_get f.existentials p ≡ Some y
       → IsSettled definitions done p
-      → IsOutput f rows points rules graph nodes y (slice_index_or definitions p None)
+      → IsOutput f ranks rows points rules graph nodes y (slice_index_or definitions p None)
       (slice_index_or nodes p (Constant false))
 
 -- the outputs of all existentials
-pub record AreOutputs (f : Dqbf) (rows : List (List Bool)) (points : PointBits) (rules : List Rule)
-    (definitions : List (Option Node))
+pub record AreOutputs (f : Dqbf) (ranks : List ℕ) (rows : List (List Bool))
+    (points : PointBits) (rules : List Rule) (definitions : List (Option Node))
     (graph : AigGraph) (nodes : List Node) : Type 0 where
   pub one_each : length nodes ≡ length f.existentials
   pub are_nodes : All (IsNode graph) nodes
   pub each : (p : ℕ) (y : Existential) → slice_get f.existentials p ≡ Some y
-      → IsOutput f rows points rules graph nodes y (slice_index_or definitions p None)
+      → IsOutput f ranks rows points rules graph nodes y (slice_index_or definitions p None)
       (slice_index_or nodes p (Constant false))

@@ -45,7 +45,7 @@ impl Outputs {
 /// has a definition gets it, with the outputs of the existentials that it reads put in; any other
 /// has its point's bit at each pair of the table, and elsewhere the bit of its first rule whose
 /// cube is true, else false. Definitions are in the order of the existentials; those that are
-/// missing are none.
+/// missing are none. The ranks are those by which they may read what they read.
 ///
 /// The graph has an input for each universal, and behind these one for each existential, for
 /// definitions to read. The points are those of a model of all instances under the table's rows.
@@ -57,6 +57,7 @@ pub fn build(
     table: &Table,
     points: &Points,
     rules: &[Rule],
+    ranks: &[usize],
     definitions: &[Option<Node>],
     graph: &mut Graph,
 ) -> Result<Outputs, Memory>
@@ -66,7 +67,7 @@ pub fn build(
     requires as_many { length points.now.rows ≡ length table.now.rows }
     requires points { ArePoints f.now table.now.rows (point_bits points.now) }
     requires rules { All (IsRule f.now) rules.now }
-    requires definitions { AreDefinitions f.now graph.old definitions.now }
+    requires definitions { AreDefinitions f.now ranks.now graph.old definitions.now }
     ensures extends { Extends graph.old graph.new }
     ensures one_each { IfOk result (λ nodes. length nodes ≡ length f.now.existentials) }
     ensures nodes { IfOk result (λ nodes. All (IsNode graph.new) nodes) }
@@ -90,6 +91,6 @@ pub fn build(
         definitions,
     };
     let mut nodes = first_outputs(alloc, &known, &others, graph)?;
-    put_definitions(alloc, f, definitions, &mut nodes, graph)?;
+    put_definitions(alloc, f, ranks, definitions, &mut nodes, graph)?;
     Ok(Outputs { nodes })
 }

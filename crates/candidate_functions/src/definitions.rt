@@ -22,12 +22,13 @@ use std::alloc::Global;
 pub(crate) fn put_definitions(
     alloc: Global,
     f: &Formula,
+    ranks: &[usize],
     definitions: &[Option<Node>],
     nodes: &mut Vec<Node>,
     graph: &mut Graph,
 ) -> Result<(), Memory>
     requires inputs { graph.old.inputs ≡ length f.now.universals + length f.now.existentials }
-    requires definitions { AreDefinitions f.now graph.old definitions.now }
+    requires definitions { AreDefinitions f.now ranks.now graph.old definitions.now }
     requires one_each { length nodes.old.items ≡ length f.now.existentials }
     requires nodes { All (IsNode graph.old) nodes.old.items }
     ensures extends { Extends graph.old graph.new }
@@ -36,10 +37,10 @@ pub(crate) fn put_definitions(
         → AreFirstOutputs f.now rows points rules definitions.now graph.old
         (length f.now.existentials) nodes.old.items
         → OnOk result
-        (AreOutputs f.now rows points rules definitions.now graph.new nodes.new.items) }
+        (AreOutputs f.now ranks.now rows points rules definitions.now graph.new nodes.new.items) }
 {
     f.every_formula_is_lawful();
-    let order = existentials_in_order(alloc, f)?;
+    let order = existentials_in_order(alloc, f, ranks)?;
     for at in 0..order.len() {
         let place = order[at];
         put_definition(definitions, place, nodes, graph)?;

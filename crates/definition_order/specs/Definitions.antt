@@ -1,5 +1,5 @@
 -- Definitions of existentials (A. Padoa, 1900; E. Beth, 1953), which may read other existentials.
-use Rattle.std.specs.Prelude.{◌≡◌, ℕ, map, slice_index}
+use Rattle.std.specs.Prelude.{◌≡◌, ℕ, List, map, slice_index}
 use Rattle.std.specs.List.{All}
 use Rattle.dq_lits.specs.Literal.{Assignment}
 use Rattle.dq_lits.specs.Formula.{Existential, Dqbf, declared}
@@ -23,8 +23,9 @@ defining_output f graph node = record {
 
 -- the node reads what a definition of the existential may read alone, and wherever the matrix is
 -- true, the existential has its value
-pub record IsDefinition (f : Dqbf) (graph : AigGraph) (y : Existential) (node : Node) : Type 0 where
+pub record IsDefinition (f : Dqbf) (ranks : List ℕ) (graph : AigGraph) (y : Existential)
+    (node : Node) : Type 0 where
   pub is_node : IsNode graph node
-  pub reads : All (MayRead f y) (defining_output f graph node).support
+  pub reads : All (MayRead f ranks y) (defining_output f graph node).support
   pub defines : (m : Assignment) → MatrixHolds f m
       → m y.variable ≡ (defining_output f graph node).value m

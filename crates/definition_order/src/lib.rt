@@ -1,4 +1,5 @@
-//! The order of the existentials by what they see, and which of them a definition may read.
+//! The order of the existentials by what they see and by ranks, and which of them a definition may
+//! read. Whoever asks for definitions gives the ranks: any numbers make an order.
 #![tactic(auto)]
 
 ghost use Rattle.std.specs.Prelude.{◌≡◌, IfOk, IsSome, Some};
@@ -16,27 +17,37 @@ mod reads;
 mod shared;
 mod sizes;
 
-/// The places of the existentials, those that see less first, and of those that see as many the one
-/// that is declared first.
-pub fn existentials_in_order(alloc: Global, f: &Formula) -> Result<Vec<usize>, Memory>
-    ensures { IfOk result (λ places. AreInOrder f.now places.items) }
+/// The places of the existentials, those that see less first, of those that see as many the one of
+/// lower rank, and of those of one rank the one that is declared first. Ranks are by place in order
+/// of declaration; those that are missing are 0.
+pub fn existentials_in_order(
+    alloc: Global,
+    f: &Formula,
+    ranks: &[usize],
+) -> Result<Vec<usize>, Memory>
+    ensures { IfOk result (λ places. AreInOrder f.now ranks.now places.items) }
 {
     f.every_formula_is_lawful();
-    let mut sized = sized_places(alloc, f)?;
+    let mut sized = sized_places(alloc, f, ranks)?;
     sized.sort_unstable();
     places_of(alloc, &sized)
 }
 
 /// The places of the existentials that a definition of this one may read: those that come before it
 /// in the order and see no more.
-pub fn shared_existentials(alloc: Global, f: &Formula, y: u64) -> Result<Vec<usize>, Memory>
+pub fn shared_existentials(
+    alloc: Global,
+    f: &Formula,
+    ranks: &[usize],
+    y: u64,
+) -> Result<Vec<usize>, Memory>
     requires existential { IsSome (existential_of f.now y) }
     ensures { (e : Existential) → existential_of f.now y ≡ Some e
-        → IfOk result (λ places. ArePlacesOfShared f.now e places.items) }
+        → IfOk result (λ places. ArePlacesOfShared f.now ranks.now e places.items) }
 {
     let mut places = Vec::new(alloc);
     for place in 0..f.existentials().len() {
-        if is_shared_at(f, place, y) {
+        if is_shared_at(f, ranks, place, y) {
             places.push(place)?;
         }
     }

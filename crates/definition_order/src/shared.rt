@@ -3,42 +3,51 @@
 ghost use Rattle.std.specs.Prelude.{◌≡◌, ◌≢◌, ◌<◌, ◌≤◌, ◌⊎◌, ◌↔◌, ℕ, length, take, All, Contains, IsSome, IfSome, IsTrue, None, Some, slice_get, slice_index};
 ghost use Rattle.dq_lits.specs.Formula.{Existential, existential_of};
 ghost use Rattle.dq_formula.specs.Dependencies.{listed_universals};
-ghost use Rattle.definition_order.specs.Order.{existential_place, ComesBefore, IsShared};
+ghost use Rattle.definition_order.specs.Order.{existential_place, RanksBefore, ComesBefore, IsShared};
 
 use dq_formula::{Deps, Formula};
 
 // Whether a definition of `y` may read the existential at a place.
-pub(crate) fn is_shared_at(f: &Formula, place: usize, y: u64) -> bool
+pub(crate) fn is_shared_at(f: &Formula, ranks: &[usize], place: usize, y: u64) -> bool
     requires place { place < length f.now.existentials }
     requires existential { IsSome (existential_of f.now y) }
     ensures { (e z : Existential) → existential_of f.now y ≡ Some e
         → slice_get f.now.existentials place ≡ Some z
-        → (IsTrue result ↔ IsShared f.now e z) }
+        → (IsTrue result ↔ IsShared f.now ranks.now e z) }
 {
     f.every_formula_is_lawful();
     let z = f.existentials()[place];
-    comes_before(f, z, y) && sees_no_more(f, z, y)
+    comes_before(f, ranks, z, y) && sees_no_more(f, z, y)
 }
 
-fn comes_before(f: &Formula, z: u64, y: u64) -> bool
+fn comes_before(f: &Formula, ranks: &[usize], z: u64, y: u64) -> bool
     requires first { IsSome (existential_of f.now z) }
     requires second { IsSome (existential_of f.now y) }
     ensures { (d e : Existential) → existential_of f.now z ≡ Some d
         → existential_of f.now y ≡ Some e
-        → (IsTrue result ↔ ComesBefore f.now d e) }
+        → (IsTrue result ↔ ComesBefore f.now ranks.now d e) }
 {
-    goes_first(
-        f.seen(z).len(),
-        place_of(f, z),
-        f.seen(y).len(),
-        place_of(f, y),
-    )
+    let (few, many) = (f.seen(z).len(), f.seen(y).len());
+    few < many || (few == many && ranks_before(ranks, place_of(f, z), place_of(f, y)))
 }
 
-fn goes_first(few: usize, p: usize, many: usize, q: usize) -> bool
-    ensures { IsTrue result ↔ ((few < many) ⊎ ((few ≡ many) × (p < q))) }
+fn ranks_before(ranks: &[usize], p: usize, q: usize) -> bool
+    ensures { IsTrue result ↔ RanksBefore ranks.now p q }
 {
-    few < many || (few == many && p < q)
+    goes_first(rank_at(ranks, p), p, rank_at(ranks, q), q)
+}
+
+fn goes_first(low: usize, p: usize, high: usize, q: usize) -> bool
+    ensures { IsTrue result ↔ ((low < high) ⊎ ((low ≡ high) × (p < q))) }
+{
+    low < high || (low == high && p < q)
+}
+
+// The rank at a place, 0 behind the last one.
+pub(crate) fn rank_at(ranks: &[usize], place: usize) -> usize
+    ensures { result ≡ slice_index ranks.now place }
+{
+    if place < ranks.len() { ranks[place] } else { 0 }
 }
 
 // Where an existential stands among all of them.

@@ -90,9 +90,7 @@ impl<O: Oracle> Defining<O> {
         if !f.is_existential(y) {
             return Err(anyhow!("no existential: {y}"));
         }
-        let found = self
-            .padoa
-            .define(&mut self.oracle, &mut self.graph, f, y, &mut self.log);
+        let found = self.padoa.define(&mut self.oracle, &mut self.graph, f, &[], y, &mut self.log);
         push_variable(alloc, y, printed)?;
         match found {
             Ok(Found::Defined(node)) => {

@@ -152,7 +152,7 @@ fn show_model(
     requires points { ArePoints f.now table.now.rows (point_bits points.now) }
 {
     let mut graph = Graph::new(alloc, f.universals().len() + f.existentials().len());
-    let outputs = build(alloc, f, table, points, &[], &[], &mut graph)?;
+    let outputs = build(alloc, f, table, points, &[], &[], &[], &mut graph)?;
     let candidates = Candidates {
         graph: &graph,
         nodes: outputs.items(),

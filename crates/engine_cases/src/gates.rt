@@ -29,7 +29,7 @@ fn show_gate(alloc: Global, f: &Formula, gates: &Gates, y: u64, printed: &mut St
         return Err(anyhow!("no existential: {y}"));
     }
     let mut graph = Graph::new(alloc, f.universals().len() + f.existentials().len());
-    let found = gates.read(f, y, &mut graph)?;
+    let found = gates.read(f, &[], y, &mut graph)?;
     push_variable(alloc, y, printed)?;
     match found {
         Some(node) => show_node(alloc, &variables(alloc, f)?, &graph, node, printed)?,

@@ -1,5 +1,5 @@
 -- Two halves of a choice.
-use Rattle.std.proofs.Common.{◌≡◌, ℕ, Bool, true, false, not, inl, inr, Some, refl, sym, ◌∙◌, ap, if◌then◌else◌}
+use Rattle.std.proofs.Common.{◌≡◌, ℕ, Bool, true, false, not, inl, inr, List, Some, refl, sym, ◌∙◌, ap, if◌then◌else◌}
 use Rattle.std.proofs.lemmas.Bool.{cases_Bool}
 use Rattle.dq_lits.specs.Literal.{opposite, same_literal, literal_true}
 use Rattle.dq_lits.specs.Formula.{Existential, Dqbf, existential_of}
@@ -16,9 +16,9 @@ is_same r false e h = cc
 abbrev pub choice_of : Half → Half → Choice
 choice_of half other = record { condition = half.condition; then_value = half.value; else_value = other.value }
 
-pub is_choice : (f : Dqbf) (y : ℕ) (e : Existential) (half other : Half) → existential_of f y ≡ Some e → same_literal other.condition (opposite half.condition) ≡ true
-    → IsHalf f y half → IsHalf f y other → AreReadable f e (choice_literals (choice_of half other)) → IsChoice f e (choice_of half other)
-is_choice f y e half other known against first second reads =
+pub is_choice : (f : Dqbf) (ranks : List ℕ) (y : ℕ) (e : Existential) (half other : Half) → existential_of f y ≡ Some e → same_literal other.condition (opposite half.condition) ≡ true
+    → IsHalf f y half → IsHalf f y other → AreReadable f ranks e (choice_literals (choice_of half other)) → IsChoice f ranks e (choice_of half other)
+is_choice f ranks y e half other known against first second reads =
     let own = (find_sound y f.existentials e known).1 in
     record {
       reads = reads;

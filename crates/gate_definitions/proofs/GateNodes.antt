@@ -20,27 +20,27 @@ use Rattle.gate_definitions.specs.declared.choices.Choice.{Choice}
 use Rattle.gate_definitions.specs.Stating.{AreReadable, IsConjunction, IsChoice, choice_literals, literal_node}
 
 -- what a definition may read is declared
-pub read_is_declared : (f : Dqbf) → IsLawful f → (y : ℕ) (e : Existential) → existential_of f y ≡ Some e → (v : ℕ) → MayRead f e v → Contains (declared f) v
-read_is_declared f lawful y e known v may = elim may [
+pub read_is_declared : (f : Dqbf) (ranks : List ℕ) → IsLawful f → (y : ℕ) (e : Existential) → existential_of f y ≡ Some e → (v : ℕ) → MayRead f ranks e v → Contains (declared f) v
+read_is_declared f ranks lawful y e known v may = elim may [
   | inl seen ↦ Contains-append_left f.universals (existential_variables f) v (All-contains (Contains f.universals) e.sees v (sees_universals f lawful y e known) seen)
   | inr shared ↦ Contains-append_right f.universals (existential_variables f) v (is_variable f v (subst IsSome (sym shared.1) refl))
 ]
 
-pub literals_are_declared : (f : Dqbf) → IsLawful f → (y : ℕ) (e : Existential) → existential_of f y ≡ Some e → (lits : List Literal) → AreReadable f e lits
+pub literals_are_declared : (f : Dqbf) (ranks : List ℕ) → IsLawful f → (y : ℕ) (e : Existential) → existential_of f y ≡ Some e → (lits : List Literal) → AreReadable f ranks e lits
     → All (λ l. Contains (declared f) (variable_of l)) lits
-literals_are_declared f lawful y e known lits reads =
-    All-weaker (λ l. MayRead f e (variable_of l)) (λ l. Contains (declared f) (variable_of l)) (λ l may. read_is_declared f lawful y e known (variable_of l) may) lits reads
+literals_are_declared f ranks lawful y e known lits reads =
+    All-weaker (λ l. MayRead f ranks e (variable_of l)) (λ l. Contains (declared f) (variable_of l)) (λ l may. read_is_declared f ranks lawful y e known (variable_of l) may) lits reads
 
-pub choice_is_declared : (f : Dqbf) → IsLawful f → (y : ℕ) (choice : Choice) → IsSome (existential_of f y) → ((e : Existential) → existential_of f y ≡ Some e → IsChoice f e choice)
+pub choice_is_declared : (f : Dqbf) (ranks : List ℕ) → IsLawful f → (y : ℕ) (choice : Choice) → IsSome (existential_of f y) → ((e : Existential) → existential_of f y ≡ Some e → IsChoice f ranks e choice)
     → All (λ l. Contains (declared f) (variable_of l)) (choice_literals choice)
-choice_is_declared f lawful y choice is gate =
+choice_is_declared f ranks lawful y choice is gate =
     some_existential f y (All (λ l. Contains (declared f) (variable_of l)) (choice_literals choice)) is
-    (λ e known. literals_are_declared f lawful y e known (choice_literals choice) (gate e known).reads)
+    (λ e known. literals_are_declared f ranks lawful y e known (choice_literals choice) (gate e known).reads)
 
-pub conjunction_is_declared : (f : Dqbf) → IsLawful f → (y : ℕ) (l : Literal) (lits : List Literal) → IsSome (existential_of f y) → ((e : Existential) → existential_of f y ≡ Some e → IsConjunction f e l lits)
+pub conjunction_is_declared : (f : Dqbf) (ranks : List ℕ) → IsLawful f → (y : ℕ) (l : Literal) (lits : List Literal) → IsSome (existential_of f y) → ((e : Existential) → existential_of f y ≡ Some e → IsConjunction f ranks e l lits)
     → All (λ k. Contains (declared f) (variable_of k)) lits
-conjunction_is_declared f lawful y l lits is gate =
-    some_existential f y (All (λ k. Contains (declared f) (variable_of k)) lits) is (λ e known. literals_are_declared f lawful y e known lits (gate e known).reads)
+conjunction_is_declared f ranks lawful y l lits is gate =
+    some_existential f y (All (λ k. Contains (declared f) (variable_of k)) lits) is (λ e known. literals_are_declared f ranks lawful y e known lits (gate e known).reads)
 
 module _ (f : Dqbf) (graph : AigGraph) (inputs : graph.inputs ≡ length f.universals + length f.existentials) where
   abbrev place : ℕ → ℕ
@@ -69,9 +69,9 @@ module _ (f : Dqbf) (graph : AigGraph) (inputs : graph.inputs ≡ length f.unive
   literal_value : (m : Assignment) (l : Literal) → Contains (declared f) (variable_of l) → node_value graph (values m) (literal_node f l) ≡ literal_true m l
   literal_value m l among = ap (λ v. with_sign (is_negative l) (m v)) (is_there (variable_of l) among) ∙ signed_is m l
 
-  literal_reads : (e : Existential) (l : Literal) → Contains (declared f) (variable_of l) → MayRead f e (variable_of l) → (i : ℕ) → Contains (node_support graph (literal_node f l)) i
-      → MayRead f e (input_variable f i)
-  literal_reads e l among may i reads = subst (MayRead f e) (sym (is_there (variable_of l) among) ∙ ap (input_variable f) (the_one reads)) may
+  literal_reads : (ranks : List ℕ) (e : Existential) (l : Literal) → Contains (declared f) (variable_of l) → MayRead f ranks e (variable_of l) → (i : ℕ) → Contains (node_support graph (literal_node f l)) i
+      → MayRead f ranks e (input_variable f i)
+  literal_reads ranks e l among may i reads = subst (MayRead f ranks e) (sym (is_there (variable_of l) among) ∙ ap (input_variable f) (the_one reads)) may
     where
       the_one : {p i : ℕ} → Contains (p ∷ []) i → p ≡ i
       the_one (zero, lt, at) = at
@@ -87,28 +87,28 @@ module _ (f : Dqbf) (graph : AigGraph) (inputs : graph.inputs ≡ length f.unive
       ap (λ b. b && list_all (node_value graph (values m)) (map (literal_node f) lits)) (literal_value m l (All-head D l lits among))
       ∙ ap (λ b. literal_true m l && b) (cube_value m lits (All-tail D l lits among))
 
-  module _ (new : AigGraph) (y : ℕ) (e : Existential) (known : existential_of f y ≡ Some e) (lawful : IsLawful f) where
+  module _ (ranks : List ℕ) (new : AigGraph) (y : ℕ) (e : Existential) (known : existential_of f y ≡ Some e) (lawful : IsLawful f) where
     -- a node that reads such inputs, and has the existential's value wherever the matrix is true
-    defines : (node : Node) → IsNode new node → ((i : ℕ) → Contains (node_support new node) i → MayRead f e (input_variable f i))
-        → ((m : Assignment) → MatrixHolds f m → m e.variable ≡ node_value new (values m) node) → IsDefinition f new e node
+    defines : (node : Node) → IsNode new node → ((i : ℕ) → Contains (node_support new node) i → MayRead f ranks e (input_variable f i))
+        → ((m : Assignment) → MatrixHolds f m → m e.variable ≡ node_value new (values m) node) → IsDefinition f ranks new e node
     defines node is reads same = record {
       is_node = is;
-      reads = All-map (MayRead f e) (input_variable f) (node_support new node) (λ k d lt. reads (get_or (node_support new node) k d) (Contains-get_or (node_support new node) k d lt));
+      reads = All-map (MayRead f ranks e) (input_variable f) (node_support new node) (λ k d lt. reads (get_or (node_support new node) k d) (Contains-get_or (node_support new node) k d lt));
       defines = same;
     }
 
     own : e.variable ≡ y
     own = (find_sound y f.existentials e known).1
 
-    pub conjunction_defines : (l : Literal) (lits : List Literal) (nodes : List Node) (made node : Node) → variable_of l ≡ y → IsConjunction f e l lits → nodes ≡ map (literal_node f) lits → IsCube graph new nodes made
+    pub conjunction_defines : (l : Literal) (lits : List Literal) (nodes : List Node) (made node : Node) → variable_of l ≡ y → IsConjunction f ranks e l lits → nodes ≡ map (literal_node f) lits → IsCube graph new nodes made
         → (IsNode new made → IsNode new node) → ((inputs : ℕ → Bool) → node_value new inputs node ≡ with_sign (is_negative l) (node_value new inputs made))
-        → node_support new node ≡ node_support new made → IsDefinition f new e node
+        → node_support new node ≡ node_support new made → IsDefinition f ranks new e node
     conjunction_defines l lits nodes made node on gate nodes_is made_is is value support =
         let cube = subst (λ ns. IsCube graph new ns made) nodes_is made_is in
-        let among = literals_are_declared f lawful y e known lits gate.reads in
-        let Reads : Node → Type 0 = λ n. (i : ℕ) → Contains (node_support graph n) i → MayRead f e (input_variable f i) in
+        let among = literals_are_declared f ranks lawful y e known lits gate.reads in
+        let Reads : Node → Type 0 = λ n. (i : ℕ) → Contains (node_support graph n) i → MayRead f ranks e (input_variable f i) in
         let each : All Reads (map (literal_node f) lits) = All-map Reads (literal_node f) lits
-        (λ k d lt. literal_reads e (get_or lits k d) (among k d lt) (gate.reads k d lt)) in
+        (λ k d lt. literal_reads ranks e (get_or lits k d) (among k d lt) (gate.reads k d lt)) in
         defines node (is cube.is_node)
         (λ i reads. (
         let by = cube.reads i (subst (λ xs. Contains xs i) support reads) in
@@ -125,14 +125,14 @@ module _ (f : Dqbf) (graph : AigGraph) (inputs : graph.inputs ≡ length f.unive
             not_back true b h = ap not h
             not_back false b h = ap not h
 
-    pub choice_defines : (choice : Choice) (c' t' o' made : Node) → IsChoice f e choice → c' ≡ literal_node f choice.condition → t' ≡ literal_node f choice.then_value
-        → o' ≡ literal_node f choice.else_value → IsChosen graph new c' t' o' made → IsDefinition f new e made
+    pub choice_defines : (choice : Choice) (c' t' o' made : Node) → IsChoice f ranks e choice → c' ≡ literal_node f choice.condition → t' ≡ literal_node f choice.then_value
+        → o' ≡ literal_node f choice.else_value → IsChosen graph new c' t' o' made → IsDefinition f ranks new e made
     choice_defines choice c' t' o' made gate c_is t_is o_is made_is =
         let chosen : IsChosen graph new (literal_node f choice.condition) (literal_node f choice.then_value) (literal_node f choice.else_value) made =
         subst (λ n. IsChosen graph new (literal_node f choice.condition) (literal_node f choice.then_value) n made) o_is
         (subst (λ n. IsChosen graph new (literal_node f choice.condition) n o' made) t_is (subst (λ n. IsChosen graph new n t' o' made) c_is made_is)) in
         let lits = choice.condition ∷ choice.then_value ∷ choice.else_value ∷ [] in
-        let among = literals_are_declared f lawful y e known lits gate.reads in
+        let among = literals_are_declared f ranks lawful y e known lits gate.reads in
         let c = choice.condition in
         let t = choice.then_value in
         let o = choice.else_value in
@@ -141,10 +141,10 @@ module _ (f : Dqbf) (graph : AigGraph) (inputs : graph.inputs ≡ length f.unive
         let in_o = among 2 c (omega arith) in
         defines made chosen.is_node
         (λ i reads. elim (chosen.reads i reads) [
-          | inl first ↦ literal_reads e c in_c (gate.reads 0 c (omega arith)) i first
+          | inl first ↦ literal_reads ranks e c in_c (gate.reads 0 c (omega arith)) i first
           | inr rest ↦ elim rest [
-            | inl second ↦ literal_reads e t in_t (gate.reads 1 c (omega arith)) i second
-            | inr third ↦ literal_reads e o in_o (gate.reads 2 c (omega arith)) i third
+            | inl second ↦ literal_reads ranks e t in_t (gate.reads 1 c (omega arith)) i second
+            | inr third ↦ literal_reads ranks e o in_o (gate.reads 2 c (omega arith)) i third
           ]
         ])
         (λ m holds.

@@ -1,5 +1,5 @@
 -- What clauses say of literals.
-use Rattle.std.proofs.Common.{◌≡◌, Bool, true, false, not, ◌||◌, ◌&&◌, cond, inl, inr, List, [], ◌∷◌, map, filter, All, refl, sym, ◌∙◌, ap, arith, true≢false}
+use Rattle.std.proofs.Common.{◌≡◌, ℕ, Bool, true, false, not, ◌||◌, ◌&&◌, cond, inl, inr, List, [], ◌∷◌, map, filter, All, refl, sym, ◌∙◌, ap, arith, true≢false}
 use Rattle.std.specs.List.{list_any, list_all}
 use Rattle.std.proofs.lemmas.Bool.{eqb-true, or_cases, and_parts, cases_Bool}
 use Rattle.std.proofs.lemmas.List.Elements.{All-head, All-tail}
@@ -88,9 +88,9 @@ all_true f m l (k ∷ cube) holds is each =
     ap (λ b. b && cube_true m cube) first ∙ all_true f m l cube holds is (All-tail (Implies f (l ∷ [])) k cube each)
 
 -- a long clause and the short ones
-pub is_conjunction : (f : Dqbf) (y : Existential) (l : Literal) (clause cube : List Literal) → IsImplied f clause → cube ≡ others l clause → All (Implies f (l ∷ [])) cube
-    → AreReadable f y cube → IsConjunction f y l cube
-is_conjunction f y l clause cube implied are each reads = record {
+pub is_conjunction : (f : Dqbf) (ranks : List ℕ) (y : Existential) (l : Literal) (clause cube : List Literal) → IsImplied f clause → cube ≡ others l clause → All (Implies f (l ∷ [])) cube
+    → AreReadable f ranks y cube → IsConjunction f ranks y l cube
+is_conjunction f ranks y l clause cube implied are each reads = record {
   reads = reads;
   same = λ m holds. elim (cases_Bool (literal_true m l)) [
     | inl is ↦ is ∙ sym (all_true f m l cube holds is each)

@@ -20,14 +20,14 @@ abbrev pub Implies : Dqbf → List Literal → Literal → Type 0
 Implies f cube l =
     (m : Assignment) → MatrixHolds f m → cube_true m cube ≡ true → literal_true m l ≡ true
 
-abbrev pub AreReadable : Dqbf → Existential → List Literal → Type 0
-AreReadable f y literals = All (λ l. MayRead f y (variable_of l)) literals
+abbrev pub AreReadable : Dqbf → List ℕ → Existential → List Literal → Type 0
+AreReadable f ranks y literals = All (λ l. MayRead f ranks y (variable_of l)) literals
 
 -- wherever the matrix is true, the literal is true exactly where all literals of the cube are,
 -- which a definition may read
-pub record IsConjunction (f : Dqbf) (y : Existential) (l : Literal)
+pub record IsConjunction (f : Dqbf) (ranks : List ℕ) (y : Existential) (l : Literal)
     (cube : List Literal) : Type 0 where
-  pub reads : AreReadable f y cube
+  pub reads : AreReadable f ranks y cube
   pub same : (m : Assignment) → MatrixHolds f m → literal_true m l ≡ cube_true m cube
 
 -- where the condition is true, the variable has the value of a literal
@@ -42,8 +42,8 @@ choice_literals choice = choice.condition ∷ choice.then_value ∷ choice.else_
 
 -- wherever the matrix is true, the existential has the value of the second literal where the first
 -- is true, else of the third
-pub record IsChoice (f : Dqbf) (y : Existential) (choice : Choice) : Type 0 where
-  pub reads : AreReadable f y (choice_literals choice)
+pub record IsChoice (f : Dqbf) (ranks : List ℕ) (y : Existential) (choice : Choice) : Type 0 where
+  pub reads : AreReadable f ranks y (choice_literals choice)
   pub same : (m : Assignment) → MatrixHolds f m
       → m y.variable
       ≡ (if literal_true m choice.condition then literal_true m choice.then_value

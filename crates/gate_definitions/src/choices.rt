@@ -33,7 +33,7 @@ pub(crate) struct Choice {
 
 // A clause of three literals, by its number, and the two beside the one that it was looked up for.
 #[derive(Clone, Copy)]
-struct Triple {
+pub(crate) struct Triple {
     number: u32,
     one: Lit,
     other: Lit,
@@ -41,7 +41,7 @@ struct Triple {
 
 impl Triple {
     // The two literals in the other order.
-    fn turned(&self) -> Triple {
+    pub(crate) fn turned(&self) -> Triple {
         Triple {
             number: self.number,
             one: self.other,
@@ -52,14 +52,14 @@ impl Triple {
 
 // Clauses of three literals that have some literal, each by its two other ones. Whoever uses such a
 // clause reads it, as it does a half: no contract speaks of what is in these maps.
-type Thirds = BTreeMap<((u64, bool), (u64, bool)), u32>;
+pub(crate) type Thirds = BTreeMap<((u64, bool), (u64, bool)), u32>;
 
 type Halves = BTreeMap<(u64, bool), Half>;
 
 /// The choice that the clauses on an output say it to be.
 pub(crate) fn find_choice(alloc: Global, output: &Output) -> Result<Option<Choice>, Memory>
     ensures { (e : Existential) → existential_of output.now.f.now output.now.y ≡ Some e
-        → IfOk result (λ found. IfSome found (IsChoice output.now.f.now e)) }
+        → IfOk result (λ found. IfSome found (IsChoice output.now.f.now output.now.ranks.now e)) }
 {
     let thirds = thirds_of(alloc, output, Lit::neg(output.y))?;
     let mut halves = BTreeMap::new(alloc);
@@ -84,7 +84,7 @@ fn choice_by(
     halves: &mut Halves,
 ) -> Result<Option<Choice>, Memory>
     ensures { (e : Existential) → existential_of output.now.f.now output.now.y ≡ Some e
-        → IfOk result (λ found. IfSome found (IsChoice output.now.f.now e)) }
+        → IfOk result (λ found. IfSome found (IsChoice output.now.f.now output.now.ranks.now e)) }
 {
     let found = choice_with(output, half_by(triple, thirds), halves)?;
     if found.is_some() {
@@ -94,7 +94,7 @@ fn choice_by(
 }
 
 // The half whose condition and value are the negations of a clause's other literals, in order.
-fn half_by(triple: &Triple, thirds: &Thirds) -> Option<Half> {
+pub(crate) fn half_by(triple: &Triple, thirds: &Thirds) -> Option<Half> {
     let negative = *thirds.get(&(key(triple.one), key(triple.other.not())))?;
     Some(Half {
         condition: triple.one.not(),
@@ -112,7 +112,7 @@ fn choice_with(
     halves: &mut Halves,
 ) -> Result<Option<Choice>, Memory>
     ensures { (e : Existential) → existential_of output.now.f.now output.now.y ≡ Some e
-        → IfOk result (λ found. IfSome found (IsChoice output.now.f.now e)) }
+        → IfOk result (λ found. IfSome found (IsChoice output.now.f.now output.now.ranks.now e)) }
 {
     let Some(half) = half else {
         return Ok(None);
@@ -126,7 +126,7 @@ fn choice_with(
 
 fn choice_of(output: &Output, half: &Half, other: &Half) -> Option<Choice>
     ensures { (e : Existential) → existential_of output.now.f.now output.now.y ≡ Some e
-        → IfSome result (IsChoice output.now.f.now e) }
+        → IfSome result (IsChoice output.now.f.now output.now.ranks.now e) }
 {
     let (f, y) = (output.f, output.y);
     if other.condition != half.condition.not() {
@@ -135,7 +135,7 @@ fn choice_of(output: &Output, half: &Half, other: &Half) -> Option<Choice>
     if !is_half(f, y, half) || !is_half(f, y, other) {
         return None;
     }
-    if !all_readable(f, y, &[half.condition, half.value, other.value]) {
+    if !all_readable(output, &[half.condition, half.value, other.value]) {
         return None;
     }
     Some(Choice {
@@ -160,7 +160,7 @@ fn is_half(f: &Formula, y: u64, half: &Half) -> bool
         )
 }
 
-fn thirds_of(alloc: Global, output: &Output, l: Lit) -> Result<Thirds, Memory> {
+pub(crate) fn thirds_of(alloc: Global, output: &Output, l: Lit) -> Result<Thirds, Memory> {
     let mut thirds = BTreeMap::new(alloc);
     for number in output.numbers {
         if let Some(triple) = triple_at(output.f, *number, l) {
@@ -172,7 +172,7 @@ fn thirds_of(alloc: Global, output: &Output, l: Lit) -> Result<Thirds, Memory> {
 }
 
 // A clause of three literals that has this one.
-fn triple_at(f: &Formula, number: u32, l: Lit) -> Option<Triple> {
+pub(crate) fn triple_at(f: &Formula, number: u32, l: Lit) -> Option<Triple> {
     let (one, other) = beside_two(clause_at(f, number)?, l)?;
     Some(Triple { number, one, other })
 }

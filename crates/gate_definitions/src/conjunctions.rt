@@ -15,7 +15,7 @@ use std::collections::BTreeMap;
 
 // The clauses of two literals that have the negation of some literal, each by its other literal.
 // Whoever uses such a clause reads it, so that no contract speaks of what is in the map.
-type Consequences = BTreeMap<(u64, bool), u32>;
+pub(crate) type Consequences = BTreeMap<(u64, bool), u32>;
 
 /// Literals that are all true where `l` is, and nowhere else, by the clauses on an output.
 pub(crate) fn find_conjunction(
@@ -25,7 +25,7 @@ pub(crate) fn find_conjunction(
 ) -> Result<Option<Vec<Lit>>, Memory>
     ensures { (e : Existential) → existential_of output.now.f.now output.now.y ≡ Some e
         → IfOk result (λ found. IfSome found (λ cube.
-        IsConjunction output.now.f.now e l cube.items)) }
+        IsConjunction output.now.f.now output.now.ranks.now e l cube.items)) }
 {
     let shorts = consequences(alloc, output, l)?;
     first_conjunction(alloc, output, l, &shorts)
@@ -40,7 +40,7 @@ fn first_conjunction(
 ) -> Result<Option<Vec<Lit>>, Memory>
     ensures { (e : Existential) → existential_of output.now.f.now output.now.y ≡ Some e
         → IfOk result (λ found. IfSome found (λ cube.
-        IsConjunction output.now.f.now e l cube.items)) }
+        IsConjunction output.now.f.now output.now.ranks.now e l cube.items)) }
 {
     for number in output.numbers {
         let found = conjunction_at(alloc, output, *number, l, shorts)?;
@@ -61,7 +61,7 @@ fn conjunction_at(
 ) -> Result<Option<Vec<Lit>>, Memory>
     ensures { (e : Existential) → existential_of output.now.f.now output.now.y ≡ Some e
         → IfOk result (λ found. IfSome found (λ cube.
-        IsConjunction output.now.f.now e l cube.items)) }
+        IsConjunction output.now.f.now output.now.ranks.now e l cube.items)) }
 {
     let f = output.f;
     let Some(clause) = clause_at(f, number) else {
@@ -71,14 +71,14 @@ fn conjunction_at(
         return Ok(None);
     }
     let cube = premises(alloc, clause, l)?;
-    if all_follow(f, &cube, l, shorts) && all_readable(f, output.y, &cube) {
+    if all_follow(f, &cube, l, shorts) && all_readable(output, &cube) {
         Ok(Some(cube))
     } else {
         Ok(None)
     }
 }
 
-fn consequences(alloc: Global, output: &Output, l: Lit) -> Result<Consequences, Memory> {
+pub(crate) fn consequences(alloc: Global, output: &Output, l: Lit) -> Result<Consequences, Memory> {
     let mut shorts = BTreeMap::new(alloc);
     for number in output.numbers {
         if let Some(other) = beside(output.f, *number, l.not()) {
@@ -105,7 +105,7 @@ fn beside(f: &Formula, number: u32, l: Lit) -> Option<Lit> {
 
 // Whether there is a short clause for each other literal; a clause that is longer than that isn't
 // read through.
-fn has_shorts(clause: &[Lit], l: Lit, shorts: &Consequences) -> bool {
+pub(crate) fn has_shorts(clause: &[Lit], l: Lit, shorts: &Consequences) -> bool {
     clause.len() <= shorts.len() + 1
         && clause
             .iter()

@@ -28,7 +28,8 @@ pub(crate) enum Gate {
 /// The gate that the clauses on an output say it to be.
 pub(crate) fn find_gate(alloc: Global, output: &Output) -> Result<Option<Gate>, Memory>
     ensures { (e : Existential) → existential_of output.now.f.now output.now.y ≡ Some e
-        → IfOk result (λ found. IfSome found (IsGate output.now.f.now output.now.y e)) }
+        → IfOk result (λ found. IfSome found
+        (IsGate output.now.f.now output.now.ranks.now output.now.y e)) }
 {
     let found = find_conjunction_gate(alloc, output, Lit::pos(output.y))?;
     if found.is_some() {
@@ -44,7 +45,8 @@ pub(crate) fn find_gate(alloc: Global, output: &Output) -> Result<Option<Gate>, 
 fn find_conjunction_gate(alloc: Global, output: &Output, l: Lit) -> Result<Option<Gate>, Memory>
     requires on_existential { variable_of l ≡ output.now.y }
     ensures { (e : Existential) → existential_of output.now.f.now output.now.y ≡ Some e
-        → IfOk result (λ found. IfSome found (IsGate output.now.f.now output.now.y e)) }
+        → IfOk result (λ found. IfSome found
+        (IsGate output.now.f.now output.now.ranks.now output.now.y e)) }
 {
     match find_conjunction(alloc, output, l)? {
         Some(cube) => Ok(Some(Gate::Conjunction(l, cube))),
@@ -54,7 +56,8 @@ fn find_conjunction_gate(alloc: Global, output: &Output, l: Lit) -> Result<Optio
 
 fn find_choice_gate(alloc: Global, output: &Output) -> Result<Option<Gate>, Memory>
     ensures { (e : Existential) → existential_of output.now.f.now output.now.y ≡ Some e
-        → IfOk result (λ found. IfSome found (IsGate output.now.f.now output.now.y e)) }
+        → IfOk result (λ found. IfSome found
+        (IsGate output.now.f.now output.now.ranks.now output.now.y e)) }
 {
     match find_choice(alloc, output)? {
         Some(choice) => Ok(Some(Gate::Choice(choice))),
@@ -74,11 +77,11 @@ impl Gate {
             ≡ length output.now.f.now.universals + length output.now.f.now.existentials }
         requires gate { (e : Existential) → existential_of output.now.f.now output.now.y
             ≡ Some e
-            → IsGate output.now.f.now output.now.y e self.now }
+            → IsGate output.now.f.now output.now.ranks.now output.now.y e self.now }
         ensures extends { Extends graph.old graph.new }
         ensures defines { (e : Existential)
             → existential_of output.now.f.now output.now.y ≡ Some e
-            → IfOk result (IsDefinition output.now.f.now graph.new e) }
+            → IfOk result (IsDefinition output.now.f.now output.now.ranks.now graph.new e) }
     {
         match self {
             Gate::Conjunction(l, cube) => conjunction_node(alloc, output, *l, cube, graph),
@@ -98,11 +101,11 @@ fn conjunction_node(
         ≡ length output.now.f.now.universals + length output.now.f.now.existentials }
     requires on_existential { variable_of l ≡ output.now.y }
     requires gate { (e : Existential) → existential_of output.now.f.now output.now.y ≡ Some e
-        → IsConjunction output.now.f.now e l cube.now }
+        → IsConjunction output.now.f.now output.now.ranks.now e l cube.now }
     ensures extends { Extends graph.old graph.new }
     ensures defines { (e : Existential) → existential_of output.now.f.now output.now.y
         ≡ Some e
-        → IfOk result (IsDefinition output.now.f.now graph.new e) }
+        → IfOk result (IsDefinition output.now.f.now output.now.ranks.now graph.new e) }
 {
     let f = output.f;
     f.every_formula_is_lawful();
@@ -116,11 +119,11 @@ fn choice_node(output: &Output, choice: &Choice, graph: &mut Graph) -> Result<No
     requires inputs { graph.old.inputs
         ≡ length output.now.f.now.universals + length output.now.f.now.existentials }
     requires gate { (e : Existential) → existential_of output.now.f.now output.now.y ≡ Some e
-        → IsChoice output.now.f.now e choice.now }
+        → IsChoice output.now.f.now output.now.ranks.now e choice.now }
     ensures extends { Extends graph.old graph.new }
     ensures defines { (e : Existential) → existential_of output.now.f.now output.now.y
         ≡ Some e
-        → IfOk result (IsDefinition output.now.f.now graph.new e) }
+        → IfOk result (IsDefinition output.now.f.now output.now.ranks.now graph.new e) }
 {
     let f = output.f;
     f.every_formula_is_lawful();

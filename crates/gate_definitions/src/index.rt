@@ -78,7 +78,7 @@ fn place_of(f: &Formula, l: Lit) -> usize {
 }
 
 // Makes the counts to where each existential's numbers end.
-fn add_up(counts: &mut [usize]) -> usize {
+pub(crate) fn add_up(counts: &mut [usize]) -> usize {
     let mut end = 0usize;
     for place in 0..counts.len() {
         end = end.saturating_add(counts[place]);

@@ -5,7 +5,7 @@
 //! are not found, which costs time alone.
 #![tactic(auto)]
 
-ghost use Rattle.std.specs.Prelude.{◌≡◌, ◌+◌, length, IfOk, IsSome, Some};
+ghost use Rattle.std.specs.Prelude.{◌≡◌, ◌<◌, ◌+◌, length, IfOk, IsSome, Some};
 ghost use Rattle.dq_lits.specs.Formula.{Existential, existential_of};
 ghost use Rattle.aig_graph.specs.declared.nodes.Node.{Node};
 ghost use Rattle.aig_graph.specs.Made.{Extends};
@@ -17,7 +17,9 @@ use dq_lits::Memory;
 use forms::find_gate;
 use index::Index;
 use outputs::Output;
+use ranks::Placing;
 use std::alloc::Global;
+use wires::Wires;
 
 mod choices;
 mod clauses;
@@ -26,6 +28,8 @@ mod forms;
 mod index;
 mod literals;
 mod outputs;
+mod ranks;
+mod wires;
 
 /// The clauses of a formula, in which gates are looked for.
 #[derive(Drop)]
@@ -44,22 +48,57 @@ impl Gates {
         })
     }
 
-    /// A definition of an existential that the clauses state, over what such a definition may read:
-    /// a conjunction or a disjunction of literals, one literal, a constant, a choice between two
-    /// literals by a third, or an exclusive or of two. None is found where the clauses state no
-    /// such gate. Time follows the clauses on the existential. The only error is want of memory; a
-    /// refused call leaves the graph as it was, but for gates that were made.
-    pub fn read(&self, f: &Formula, y: u64, graph: &mut Graph) -> Result<Option<Node>, Memory>
+    /// A rank for each existential, by place in order of declaration, such that gates can be read:
+    /// behind a gate's inputs its output, as far as the clauses don't go round in a circle. No
+    /// contract says so, since definitions are right by any ranks. Time and memory follow the
+    /// literals in clauses and the dependency sets, but for sorting; the only error is want of
+    /// memory.
+    pub fn ranks(&self, f: &Formula) -> Result<Vec<usize>, Memory> {
+        let mut wires = Wires::new(self.alloc, f.set_leaders(self.alloc)?)?;
+        for place in 0..f.existentials().len() {
+            self.put_wires(f, place, &mut wires)?;
+        }
+        Placing::new(self.alloc, wires)?.ranks(self.alloc)
+    }
+
+    // Puts the gates whose output stands at a place.
+    fn put_wires(&self, f: &Formula, place: usize, wires: &mut Wires) -> Result<(), Memory>
+        requires { place < length f.now.existentials }
+    {
+        f.every_formula_is_lawful();
+        let y = f.existentials()[place];
+        let output = Output {
+            f,
+            ranks: &[],
+            y,
+            numbers: self.index.on(f, y),
+        };
+        wires.put_all(&output, place)
+    }
+
+    /// A definition of an existential that the clauses state, over what such a definition may read
+    /// by these ranks: a conjunction or a disjunction of literals, one literal, a constant, a
+    /// choice between two literals by a third, or an exclusive or of two. None is found where the
+    /// clauses state no such gate. Time follows the clauses on the existential. The only error is
+    /// want of memory; a refused call leaves the graph as it was, but for gates that were made.
+    pub fn read(
+        &self,
+        f: &Formula,
+        ranks: &[usize],
+        y: u64,
+        graph: &mut Graph,
+    ) -> Result<Option<Node>, Memory>
         requires existential { IsSome (existential_of f.now y) }
         requires inputs { graph.old.inputs ≡ length f.now.universals + length f.now.existentials }
         ensures extends { Extends graph.old graph.new }
         ensures gate { (e : Existential) → existential_of f.now y ≡ Some e
             → IfOk result (λ found. (node : Node) → found ≡ Some node
-            → IsDefinition f.now graph.new e node) }
+            → IsDefinition f.now ranks.now graph.new e node) }
     {
         f.every_formula_is_lawful();
         let output = Output {
             f,
+            ranks,
             y,
             numbers: self.index.on(f, y),
         };

@@ -1,11 +1,12 @@
 //! Literals: as keys of maps, whether a definition may read them, and their nodes.
 
-ghost use Rattle.std.specs.Prelude.{◌≡◌, ◌<◌, ◌==◌, ◌+◌, ◌^◌, true, None, Some, IsSome, position, length, map, IfOk, All, Contains};
+ghost use Rattle.std.specs.Prelude.{◌≡◌, ◌<◌, ◌==◌, ◌+◌, ◌^◌, true, None, Some, position, length, map, IfOk, All, Contains};
 ghost use Rattle.std.specs.List.{position_or_len};
 ghost use Rattle.dq_lits.specs.Literal.{variable_of};
 ghost use Rattle.dq_lits.specs.Formula.{Existential, declared, existential_of};
 ghost use Rattle.gate_definitions.specs.Stating.{AreReadable, literal_node};
 
+use crate::outputs::Output;
 use aig_graph::Node;
 use definition_order::may_read;
 use dq_formula::Formula;
@@ -17,14 +18,14 @@ pub(crate) fn key(l: Lit) -> (u64, bool) {
     (l.var(), l.is_neg())
 }
 
-/// Whether a definition may read all of these literals' variables.
-pub(crate) fn all_readable(f: &Formula, y: u64, lits: &[Lit]) -> bool
-    requires existential { IsSome (existential_of f.now y) }
-    ensures { result ≡ true → (e : Existential) → existential_of f.now y ≡ Some e
-        → AreReadable f.now e lits.now }
+/// Whether a definition of an output may read all of these literals' variables.
+pub(crate) fn all_readable(output: &Output, lits: &[Lit]) -> bool
+    ensures { result ≡ true → (e : Existential)
+        → existential_of output.now.f.now output.now.y ≡ Some e
+        → AreReadable output.now.f.now output.now.ranks.now e lits.now }
 {
     for l in lits {
-        if !may_read(f, y, l.var()) {
+        if !may_read(output.f, output.ranks, output.y, l.var()) {
             return false;
         }
     }

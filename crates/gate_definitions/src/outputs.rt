@@ -5,10 +5,12 @@ ghost use Rattle.dq_lits.specs.Formula.{existential_of};
 
 use dq_formula::Formula;
 
-/// An existential of a formula, which is to be a gate's output, with the numbers of clauses on it.
+/// An existential of a formula, which is to be a gate's output, with the numbers of clauses on it,
+/// and the ranks by which its inputs come before it.
 #[derive(Drop)]
-pub(crate) struct Output<'f, 'n> {
+pub(crate) struct Output<'f, 'r, 'n> {
     pub f: &'f Formula,
+    pub ranks: &'r [usize],
     pub y: u64,
     pub numbers: &'n [u32],
     ghost existential: { IsSome (existential_of f.now y) },

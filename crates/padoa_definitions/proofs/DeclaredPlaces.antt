@@ -88,9 +88,9 @@ place_of_element : (ys : List Existential) (z : Existential) → Contains ys z �
 place_of_element ys z (k, lt, at) = (k, slice_get-get_or ys k z lt ∙ ap Some at)
 
 -- the places of what a definition may read: those of what its existential sees, and those of existentials that it shares
-pub shared_are_places : (f : Dqbf) → IsLawful f → (y : Existential) (seen shared places : List ℕ) → ArePlaces f.universals (Contains y.sees) seen → ArePlacesOfShared f y shared →
-    places ≡ seen ++ map (λ k. length f.universals + k) shared → ArePlaces (declared f) (MayRead f y) places
-shared_are_places f lawful y seen shared places are_seen are_shared is = subst (ArePlaces (declared f) (MayRead f y)) (sym is) (record {
+pub shared_are_places : (f : Dqbf) (ranks : List ℕ) → IsLawful f → (y : Existential) (seen shared places : List ℕ) → ArePlaces f.universals (Contains y.sees) seen → ArePlacesOfShared f ranks y shared →
+    places ≡ seen ++ map (λ k. length f.universals + k) shared → ArePlaces (declared f) (MayRead f ranks y) places
+shared_are_places f ranks lawful y seen shared places are_seen are_shared is = subst (ArePlaces (declared f) (MayRead f ranks y)) (sym is) (record {
   sound = λ p among. elim (Contains-append_cases seen (map (λ k. length f.universals + k) shared) p among) [
     | inl first ↦ (let r = are_seen.sound p first in (r.0, at_first f.universals (existential_variables f) p r.0 r.1, inl r.2))
     | inr second ↦ (
@@ -111,7 +111,7 @@ shared_are_places f lawful y seen shared places are_seen are_shared is = subst (
   ];
 })
 
-pub shared_within : (f : Dqbf) (y : Existential) (shared : List ℕ) → ArePlacesOfShared f y shared → All (λ k. k < length f.existentials) shared
-shared_within f y shared are k d lt =
+pub shared_within : (f : Dqbf) (ranks : List ℕ) (y : Existential) (shared : List ℕ) → ArePlacesOfShared f ranks y shared → All (λ k. k < length f.existentials) shared
+shared_within f ranks y shared are k d lt =
     let z = (are (get_or shared k d)).0 (k, lt, get_or_default shared k (get_or shared k d) d lt) in
     slice_get_within f.existentials (get_or shared k d) z.0 z.1

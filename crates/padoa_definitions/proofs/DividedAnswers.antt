@@ -56,15 +56,15 @@ copy_given es earlier f side (Copy s j) c stay test right =
       copied = subst (λ k. AreNamedAs es right.rest (copy_names k rest_is.clause)) same (named_stay earlier es stay right.rest (copy_names s rest_is.clause) rest_is.named);
     }
 
-link_given : (es earlier : List Entry) (f : Dqbf) (y : Existential) (x : ℕ) (origin : Origin) (c : List Literal) → NamesStay earlier es → MayRead f y x → is_link_of x origin ≡ true →
-    MatchesOrigin f earlier (Given origin c) → IsLinkGiven es f y c
-link_given es earlier f y x (Instance k j) c stay seen test right = cc
-link_given es earlier f y x (Gate v i) c stay seen test right = cc
-link_given es earlier f y x (Fault j i leaf) c stay seen test right = cc
-link_given es earlier f y x (Copy s j) c stay seen test right = cc
-link_given es earlier f y x (TermGate s j) c stay seen test right = cc
-link_given es earlier f y x (Differ z leaf part) c stay seen test right = cc
-link_given es earlier f y x (Link v i) c stay seen test right =
+link_given : (es earlier : List Entry) (f : Dqbf) (ranks : List ℕ) (y : Existential) (x : ℕ) (origin : Origin) (c : List Literal) → NamesStay earlier es → MayRead f ranks y x → is_link_of x origin ≡ true →
+    MatchesOrigin f earlier (Given origin c) → IsLinkGiven es f ranks y c
+link_given es earlier f ranks y x (Instance k j) c stay seen test right = cc
+link_given es earlier f ranks y x (Gate v i) c stay seen test right = cc
+link_given es earlier f ranks y x (Fault j i leaf) c stay seen test right = cc
+link_given es earlier f ranks y x (Copy s j) c stay seen test right = cc
+link_given es earlier f ranks y x (TermGate s j) c stay seen test right = cc
+link_given es earlier f ranks y x (Differ z leaf part) c stay seen test right = cc
+link_given es earlier f ranks y x (Link v i) c stay seen test right =
     let same : v ≡ x = eqb-true v x test in
     record {
       group = right.group;
@@ -73,7 +73,7 @@ link_given es earlier f y x (Link v i) c stay seen test right =
       part = i;
       is_group = stay right.group (Selector right.group) right.is_group;
       clause_is = right.clause_is;
-      read = subst (MayRead f y) (sym same) seen;
+      read = subst (MayRead f ranks y) (sym same) seen;
       which = right.rest_is.0;
       named = named_stay earlier es stay right.rest (link_names v i) right.rest_is.1;
     }
@@ -146,11 +146,11 @@ which_assumed p places active one other l are h =
       ]
     ]
 
-module _ (f : Dqbf) (y : Existential) (p : Padoa) (places : List ℕ) (active : List Group) (one other : Literal) (es before : List Entry) (clause : List Literal) (hints : List ℕ)
+module _ (f : Dqbf) (ranks : List ℕ) (y : Existential) (p : Padoa) (places : List ℕ) (active : List Group) (one other : Literal) (es before : List Entry) (clause : List Literal) (hints : List ℕ)
     (stays : (e : Entry) (entries : List Entry) (id : ℕ) → IsId entries id → numbered has_id (e ∷ entries) id ≡ numbered has_id entries id)
     (are_ids : (entries : List Entry) (id i : ℕ) → AreLogged entries → IsId entries id → Reaches entries id i → IsId entries i)
     (es_is : es ≡ Answer clause hints ∷ before) (searched : IsSearched (Answer clause hints ∷ before)) (padoa : IsPadoa f p (Answer clause hints ∷ before))
-    (are_places : ArePlaces (declared f) (MayRead f y) places) (are_active : AreActive p places active)
+    (are_places : ArePlaces (declared f) (MayRead f ranks y) places) (are_active : AreActive p places active)
     (one_is : name_literal (Answer clause hints ∷ before) one ≡ Some (named_literal (CopyOf 1 y.variable) false))
     (other_is : name_literal (Answer clause hints ∷ before) other ≡ Some (named_literal (CopyOf 2 y.variable) false))
     (negated : (l : Literal) → holds clause l ≡ true → holds (assumed active (one ∷ opposite other ∷ [])) (opposite l) ≡ true) where
@@ -200,7 +200,7 @@ module _ (f : Dqbf) (y : Existential) (p : Padoa) (places : List ℕ) (active : 
     data IsInSome : Type 0 where
       in_first : g ≡ first → IsInSome
       in_second : g ≡ group_variable p.second.group → IsInSome
-      in_link : (k x : ℕ) (link : Group) → MayRead f y x → IsLink f x link all → g ≡ group_variable link → IsInSome
+      in_link : (k x : ℕ) (link : Group) → MayRead f ranks y x → IsLink f x link all → g ≡ group_variable link → IsInSome
 
     group_of : (h : Group) → IsMade all h → positive g ≡ h.selector → g ≡ group_variable h
     group_of h made same = same_variable g (group_variable h) (same ∙ selector_is h made)
@@ -263,14 +263,14 @@ module _ (f : Dqbf) (y : Existential) (p : Padoa) (places : List ℕ) (active : 
     pub a_clause : list_any (λ l. holds a_side (opposite l) && is_selector all (variable_of l)) c ≡ true → IsCopyGiven all f 1 c
     a_clause h = let r = own (is_copy_of 1) first (on_a_group h) padoa.first.own in copy_given all is.earlier f 1 origin c stay r.0 r.1
 
-    pub b_clause : list_any (λ l. holds a_side (opposite l) && is_selector all (variable_of l)) c ≡ false → IsCopyGiven all f 2 c ⊎ IsLinkGiven all f y c
+    pub b_clause : list_any (λ l. holds a_side (opposite l) && is_selector all (variable_of l)) c ≡ false → IsCopyGiven all f 2 c ⊎ IsLinkGiven all f ranks y c
     b_clause h = by classified
       where
-        by : IsInSome → IsCopyGiven all f 2 c ⊎ IsLinkGiven all f y c
+        by : IsInSome → IsCopyGiven all f 2 c ⊎ IsLinkGiven all f ranks y c
         by (in_first same) = absurd (true≢false (sym (on_a_first same) ∙ h))
         by (in_second same) = let r = own (is_copy_of 2) (group_variable p.second.group) same padoa.second.own in inl (copy_given all is.earlier f 2 origin c stay r.0 r.1)
         by (in_link k x link seen is_link same) =
-            let r = own (is_link_of x) (group_variable link) same is_link.own in inr (link_given all is.earlier f y x origin c stay seen r.0 r.1)
+            let r = own (is_link_of x) (group_variable link) same is_link.own in inr (link_given all is.earlier f ranks y x origin c stay seen r.0 r.1)
 
   selector_literal : (h : Group) → IsMade all h → (l : Literal) → l ≡ h.selector → IsSelectorLiteral all l
   selector_literal h made l same = (group_variable h, same ∙ selector_is h made, made.named)
@@ -305,7 +305,7 @@ module _ (f : Dqbf) (y : Existential) (p : Padoa) (places : List ℕ) (active : 
     other_kind l none (by_one k same) = absurd (true≢false (sym (in_a l (inr same)) ∙ none))
     other_kind l none (by_other k same) = inr (ap (name_literal all) same ∙ opposite_name all other (CopyOf 2 y.variable) other_is)
 
-    pub divides : Divides f y q
+    pub divides : Divides f ranks y q
     divides = record {
       a_given = λ at c given on_a. let e = given_entry at c given in a_clause e.0 c (from_given at c given e) on_a;
       b_given = λ at c given on_b. let e = given_entry at c given in b_clause e.0 c (from_given at c given e) on_b;

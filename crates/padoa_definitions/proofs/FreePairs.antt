@@ -221,12 +221,12 @@ literal_at [] k lt = absurd (omega (arith, lt))
 literal_at (l ∷ ls) zero lt = (l, refl)
 literal_at (l ∷ ls) (suc k) lt = literal_at ls k (omega (arith, lt))
 
-pub free_pair : (f : Dqbf) (y : Existential) (p : Padoa) (places : List ℕ) (one other : Literal) (es : List Entry) (values : Assignment) (pair : Pair) → IsWellFormed f →
-    ((v w : ℕ) (name : Name) → name_of es v ≡ Some name → name_of es w ≡ Some name → v ≡ w) → IsPadoa f p es → ArePlaces (declared f) (MayRead f y) places →
+pub free_pair : (f : Dqbf) (ranks : List ℕ) (y : Existential) (p : Padoa) (places : List ℕ) (one other : Literal) (es : List Entry) (values : Assignment) (pair : Pair) → IsWellFormed f →
+    ((v w : ℕ) (name : Name) → name_of es v ≡ Some name → name_of es w ≡ Some name → v ≡ w) → IsPadoa f p es → ArePlaces (declared f) (MayRead f ranks y) places →
     Contains (declared f) y.variable →
     name_literal es one ≡ Some (named_literal (CopyOf 1 y.variable) false) → name_literal es other ≡ Some (named_literal (CopyOf 2 y.variable) false) →
-    ModelsCopies p places one other values es → IsPairOf p values pair → IsFreePair f y pair
-free_pair f y p places one other es values pair formula unique padoa are_places y_declared one_is other_is models are = record {
+    ModelsCopies p places one other values es → IsPairOf p values pair → IsFreePair f ranks y pair
+free_pair f ranks y p places one other es values pair formula unique padoa are_places y_declared one_is other_is models are = record {
   first = sample f es values formula unique live 1 p.first padoa.first pair.row1 pair.values1 are.row1 are.values1 first_on;
   second = sample f es values formula unique live 2 p.second padoa.second pair.row2 pair.values2 are.row2 are.values2 second_on;
   agree = agree_at;
@@ -277,7 +277,7 @@ free_pair f y p places one other es values pair formula unique padoa are_places 
         let is = copy_at es side (declared f) lits k x l.0 named at l.1 in
         (variable_of l.0, (named_variable es l.0 (CopyOf side x) false (name_of es (variable_of l.0)) refl is).0)
 
-    agree_at : (x : ℕ) → MayRead f y x → round_assignment f pair.row1 pair.values1 x ≡ round_assignment f pair.row2 pair.values2 x
+    agree_at : (x : ℕ) → MayRead f ranks y x → round_assignment f pair.row1 pair.values1 x ≡ round_assignment f pair.row2 pair.values2 x
     agree_at x among =
         let place = are_places.complete x among in
         let lt = slice_get_within (declared f) place.0 x place.1 in

@@ -74,21 +74,21 @@ link_true : (m : Assignment) (x i : ℕ) → (i ≡ 1) ⊎ (i ≡ 2) → list_an
 link_true m x i (inl one) = ap (λ k. list_any (named_true m) (link_names x k)) one ∙ either (m x)
 link_true m x i (inr two) = ap (λ k. list_any (named_true m) (link_names x k)) two ∙ either_back (m x)
 
-link_given_true : (entries : List Entry) (f : Dqbf) (y : Existential) (m : Assignment) (clause : List Literal) → IsLinkGiven entries f y clause → clause_true (copied_assignment entries m) clause ≡ true
-link_given_true entries f y m clause given =
+link_given_true : (entries : List Entry) (f : Dqbf) (ranks : List ℕ) (y : Existential) (m : Assignment) (clause : List Literal) → IsLinkGiven entries f ranks y clause → clause_true (copied_assignment entries m) clause ≡ true
+link_given_true entries f ranks y m clause given =
     let p = copied_assignment entries m in
     ap (clause_true p) given.clause_is
     ∙ or_right (literal_true p (negative given.group)) (clause_true p given.rest)
     (named_clause entries m given.rest (link_names given.variable given.part) given.named ∙ link_true m given.variable given.part given.which)
 
-module _ (q : Partition) (f : Dqbf) (graph : AigGraph) (y : Existential) (divides : Divides f y q) (shared : AreSharedCopies f y q.entries graph q.shared) where
+module _ (q : Partition) (f : Dqbf) (ranks : List ℕ) (graph : AigGraph) (y : Existential) (divides : Divides f ranks y q) (shared : AreSharedCopies f ranks y q.entries graph q.shared) where
   side_true : (m : Assignment) (side : Bool) → MatrixHolds f m → SideHolds q side (copied_assignment q.entries m)
   side_true m side holds_there at clause given on_side =
       elim (cases_Bool (is_on_a q clause)) [
         | inl on_a ↦ copy_given_true q.entries f 1 m clause holds_there (divides.a_given at clause given on_a)
         | inr on_b ↦ elim (divides.b_given at clause given on_b) [
           | inl copy ↦ copy_given_true q.entries f 2 m clause holds_there copy
-          | inr link ↦ link_given_true q.entries f y m clause link
+          | inr link ↦ link_given_true q.entries f ranks y m clause link
         ]
       ]
 
@@ -100,14 +100,14 @@ module _ (q : Partition) (f : Dqbf) (graph : AigGraph) (y : Existential) (divide
   selector_true : (m : Assignment) (l : Literal) → IsSelectorLiteral q.entries l → literal_true (copied_assignment q.entries m) l ≡ true
   selector_true m l (g, is, named) = ap (literal_true (copied_assignment q.entries m)) is ∙ ap (value_by m) named
 
-  pub interpolant_defines : (node : Node) → IsInterpolant q graph node → IsDefinition f graph y node
+  pub interpolant_defines : (node : Node) → IsInterpolant q graph node → IsDefinition f ranks graph y node
   interpolant_defines node is = record {
     is_node = is.is_node;
-    reads = All-map (MayRead f y) (input_variable f) (node_support graph node) (λ k d lt.
+    reads = All-map (MayRead f ranks y) (input_variable f) (node_support graph node) (λ k d lt.
         let i = get_or (node_support graph node) k d in
         let s = is.reads i (Contains-get_or (node_support graph node) k d lt) in
         let t = shared.are s.variable s.node s.node_is in
-        subst (λ j. MayRead f y (input_variable f j)) (sym (t.support i s.reads)) t.read);
+        subst (λ j. MayRead f ranks y (input_variable f j)) (sym (t.support i s.reads)) t.read);
     defines = λ m holds_there.
         let p = copied_assignment q.entries m in
         let agrees = shared_agree m in
@@ -133,4 +133,4 @@ module _ (q : Partition) (f : Dqbf) (graph : AigGraph) (y : Existential) (divide
       is_not false h = refl
 
 pub definitions_forced : DefinitionsAreForced
-definitions_forced f graph y node is choice solves m follows = is.defines m (solves m follows)
+definitions_forced f ranks graph y node is choice solves m follows = is.defines m (solves m follows)

@@ -71,9 +71,9 @@ padoa_learned f p old new grew padoa = padoa_stays f (IsNamed old.entries) old.e
 all_plain : (xs : List ℕ) → All (λ x. Unit {0}) xs
 all_plain xs i d lt = tt
 
-pub places_within : (f : Dqbf) (p : Padoa) (es : List Entry) (y : ℕ) (places : List ℕ) → IsPadoa f p es → IsSome (existential_of f y) →
-    ((e : Existential) → existential_of f y ≡ Some e → ArePlaces (declared f) (MayRead f e) places) → All (λ k. k < length p.links.items) places
-places_within f p es y places padoa is are =
+pub places_within : (f : Dqbf) (ranks : List ℕ) (p : Padoa) (es : List Entry) (y : ℕ) (places : List ℕ) → IsPadoa f p es → IsSome (existential_of f y) →
+    ((e : Existential) → existential_of f y ≡ Some e → ArePlaces (declared f) (MayRead f ranks e) places) → All (λ k. k < length p.links.items) places
+places_within f ranks p es y places padoa is are =
     some_existential f y (All (λ k. k < length p.links.items) places) is (λ e found k d lt.
     let r = (are e found).sound (get_or places k d) (k, lt, get_same places k d lt) in
     let within = slice_get_within (declared f) (get_or places k d) r.0 r.1 in
@@ -134,8 +134,8 @@ module _ (f : Dqbf) (p : Padoa) (assumptions : List Literal) (old new : ProofLog
 module _ (implied : LinesAreImplied)
     (stays : (e : Entry) (entries : List Entry) (id : ℕ) → IsId entries id → numbered has_id (e ∷ entries) id ≡ numbered has_id entries id)
     (are_ids : (entries : List Entry) (id i : ℕ) → AreLogged entries → IsId entries id → Reaches entries id i → IsId entries i)
-    (f : Dqbf) (p : Padoa) (v : ℕ) (places : List ℕ) (active : List Group) (one other : Literal) (old new : ProofLog) (id : ℕ)
-    (padoa : IsPadoa f p old.entries) (is : IsSome (existential_of f v)) (are : (e : Existential) → existential_of f v ≡ Some e → ArePlaces (declared f) (MayRead f e) places)
+    (f : Dqbf) (ranks : List ℕ) (p : Padoa) (v : ℕ) (places : List ℕ) (active : List Group) (one other : Literal) (old new : ProofLog) (id : ℕ)
+    (padoa : IsPadoa f p old.entries) (is : IsSome (existential_of f v)) (are : (e : Existential) → existential_of f v ≡ Some e → ArePlaces (declared f) (MayRead f ranks e) places)
     (are_active : AreActive p places active)
     (one_is : name_literal old.entries one ≡ Some (named_literal (CopyOf 1 v) false)) (other_is : name_literal old.entries other ≡ Some (named_literal (CopyOf 2 v) false))
     (searched : IsSearched new.entries) (r : IsRefutedUnder old new (assumed active (one ∷ opposite other ∷ [])) id) where
@@ -152,14 +152,14 @@ module _ (implied : LinesAreImplied)
   variable_is : (e : Existential) → existential_of f v ≡ Some e → e.variable ≡ v
   variable_is e found = (find_sound v f.existentials e found).1
 
-  pub shows : (e : Existential) → existential_of f v ≡ Some e → ShowsDefinition f e p one new.entries id
+  pub shows : (e : Existential) → existential_of f v ≡ Some e → ShowsDefinition f ranks e p one new.entries id
   shows e found =
       let v_is = variable_is e found in
       let all = Answer r.clause r.hints ∷ r.before.entries in
-      subst (λ es. ShowsDefinition f e p one es id) (sym (answered f p under old new id padoa r)) (subst (ShowsDefinition f e p one all) (sym (answer_last f p under old new id padoa r)) (record {
+      subst (λ es. ShowsDefinition f ranks e p one es id) (sym (answered f p under old new id padoa r)) (subst (ShowsDefinition f ranks e p one all) (sym (answer_last f p under old new id padoa r)) (record {
         is_id = record { from_one = omega arith; last = omega arith };
         derived = searched_there.derived;
-        divides = divides f e p places active one other all r.before.entries r.clause r.hints stays are_ids refl searched_there (padoa_answered f p under old new id padoa r) (are e found) are_active
+        divides = divides f ranks e p places active one other all r.before.entries r.clause r.hints stays are_ids refl searched_there (padoa_answered f p under old new id padoa r) (are e found) are_active
             (named_there one (CopyOf 1 e.variable) (one_is ∙ ap (λ x. Some (named_literal (CopyOf 1 x) false)) (sym v_is)))
             (named_there other (CopyOf 2 e.variable) (other_is ∙ ap (λ x. Some (named_literal (CopyOf 2 x) false)) (sym v_is))) r.negated;
       }))
@@ -171,7 +171,7 @@ module _ (implied : LinesAreImplied)
       undecided = some_existential f v (DecidesNothing f r.before.entries (Answer r.clause r.hints)) is (λ e found.
           let v_is = variable_is e found in
           undecided_answer implied f r.before.entries r.clause r.hints searched_there
-          (only_copies f e p places active one other (Answer r.clause r.hints ∷ r.before.entries) r.before.entries r.clause r.hints stays are_ids refl searched_there
+          (only_copies f ranks e p places active one other (Answer r.clause r.hints ∷ r.before.entries) r.before.entries r.clause r.hints stays are_ids refl searched_there
           (padoa_answered f p under old new id padoa r) (are e found) are_active
           (named_there one (CopyOf 1 e.variable) (one_is ∙ ap (λ x. Some (named_literal (CopyOf 1 x) false)) (sym v_is)))
           (named_there other (CopyOf 2 e.variable) (other_is ∙ ap (λ x. Some (named_literal (CopyOf 2 x) false)) (sym v_is))) r.negated))
@@ -180,9 +180,9 @@ pub on_answer : {P : Type 0} (a : AnswerOf) → (a ≡ Sat → P) → ((id : ℕ
 on_answer Sat sat unsat = sat refl
 on_answer (Unsat id) sat unsat = unsat id refl
 
-pub places_below : (f : Dqbf) (y n : ℕ) (places : List ℕ) → n ≡ length (declared f) → IsSome (existential_of f y) →
-    ((e : Existential) → existential_of f y ≡ Some e → ArePlaces (declared f) (MayRead f e) places) → All (λ k. k < n) places
-places_below f y n places same is are =
+pub places_below : (f : Dqbf) (ranks : List ℕ) (y n : ℕ) (places : List ℕ) → n ≡ length (declared f) → IsSome (existential_of f y) →
+    ((e : Existential) → existential_of f y ≡ Some e → ArePlaces (declared f) (MayRead f ranks e) places) → All (λ k. k < n) places
+places_below f ranks y n places same is are =
     some_existential f y (All (λ k. k < n) places) is (λ e found k d lt.
     let r = (are e found).sound (get_or places k d) (k, lt, get_or_default places k (get_or places k d) d lt) in
     let within = slice_get_within (declared f) (get_or places k d) r.0 r.1 in

@@ -46,7 +46,7 @@ module _ (g : ℕ → ℕ × Node) where
           cc
       by later false e (suc i, lt, at) = later k (i, omega (arith, lt), at)
 
-module _ (f : Dqbf) (y : Existential) (p : Padoa) (places : List ℕ) (es : List Entry) (are_places : ArePlaces (declared f) (MayRead f y) places)
+module _ (f : Dqbf) (ranks : List ℕ) (y : Existential) (p : Padoa) (places : List ℕ) (es : List Entry) (are_places : ArePlaces (declared f) (MayRead f ranks y) places)
     (copies : AreCopiesOf es 1 (declared f) (copies_of p.first)) where
   abbrev pick : ℕ → ℕ × Node
   pick k = (variable_of (get_or (copies_of p.first) k (positive 0)), Input k false)
@@ -60,7 +60,7 @@ module _ (f : Dqbf) (y : Existential) (p : Padoa) (places : List ℕ) (es : List
       (named_variable es (get_or lits k (positive 0)) (CopyOf 1 x) false (name_of es (pick k).0) refl is).0
 
   pub shared_copies : (graph : AigGraph) → ((v w : ℕ) (name : Name) → name_of es v ≡ Some name → name_of es w ≡ Some name → v ≡ w) →
-      AreSharedCopies f y es graph (shared_pairs p places)
+      AreSharedCopies f ranks y es graph (shared_pairs p places)
   shared_copies graph unique = record {
     are = λ v n is.
         let r = selected_sound pick places v n is in
@@ -72,7 +72,7 @@ module _ (f : Dqbf) (y : Existential) (p : Padoa) (places : List ℕ) (es : List
           named = ap (name_of es) r.2 ∙ copy_there k x.0 x.1 ∙ ap (λ z. Some (CopyOf 1 z)) (sym x_is);
           value = λ inputs. ap (node_value graph inputs) (sym r.3);
           support = λ i has. only k i (subst (λ m. Contains (node_support graph m) i) (sym r.3) has);
-          read = subst (MayRead f y) (sym x_is) x.2;
+          read = subst (MayRead f ranks y) (sym x_is) x.2;
         };
     all = λ v x named seen.
         let r = are_places.complete x seen in

@@ -59,10 +59,10 @@ abbrev IsA : Partition → ℕ → Type 0
 IsA q v = ((name_of q.entries v ≡ Some (Selector v)) × (holds q.a_side (positive v) ≡ true)) ⊎ ((m : Name) × (name_of q.entries v ≡ Some m) × IsCopy 1 m)
 
 -- those of the B side
-abbrev IsB : Partition → Dqbf → Existential → ℕ → Type 0
-IsB q f y v =
+abbrev IsB : Partition → Dqbf → List ℕ → Existential → ℕ → Type 0
+IsB q f ranks y v =
     ((name_of q.entries v ≡ Some (Selector v)) × (holds q.a_side (positive v) ≡ false))
-    ⊎ (((m : Name) × (name_of q.entries v ≡ Some m) × IsCopy 2 m) ⊎ ((x : ℕ) × (name_of q.entries v ≡ Some (CopyOf 1 x)) × MayRead f y x))
+    ⊎ (((m : Name) × (name_of q.entries v ≡ Some m) × IsCopy 2 m) ⊎ ((x : ℕ) × (name_of q.entries v ≡ Some (CopyOf 1 x)) × MayRead f ranks y x))
 
 selector_copy : (n : Option Name) (g side x : ℕ) → n ≡ Some (Selector g) → n ≡ Some (CopyOf side x) → ⊥
 selector_copy n g side x a b = let e : Some (Selector g) ≡ Some (CopyOf side x) = sym a ∙ b in cc
@@ -73,7 +73,7 @@ copy_sides n x z a b = let e : Some (CopyOf 1 x) ≡ Some (CopyOf 2 z) = sym a �
 no_selector : (n : Option Name) (m : Name) → n ≡ Some m → IsCopy 1 m → is_selector_name n ≡ true → ⊥
 no_selector n m is copy h = true≢false (sym h ∙ ap is_selector_name (is ∙ ap Some copy.1))
 
-module _ (q : Partition) (f : Dqbf) (y : Existential) (divides : Divides f y q) where
+module _ (q : Partition) (f : Dqbf) (ranks : List ℕ) (y : Existential) (divides : Divides f ranks y q) where
   abbrev test : Literal → Bool
   test l = holds q.a_side (opposite l) && is_selector q.entries (variable_of l)
 
@@ -115,11 +115,11 @@ module _ (q : Partition) (f : Dqbf) (y : Existential) (divides : Divides f y q) 
             absurd (true≢false (sym (ap (list_any test) is ∙ or_left (test (negative group)) (list_any test rest) here) ∙ on_b)))
       ]
 
-  b_group : (v group : ℕ) (rest clause : List Literal) → clause ≡ negative group ∷ rest → name_of q.entries group ≡ Some (Selector group) → is_on_a q clause ≡ false → group ≡ v → IsB q f y v
+  b_group : (v group : ℕ) (rest clause : List Literal) → clause ≡ negative group ∷ rest → name_of q.entries group ≡ Some (Selector group) → is_on_a q clause ≡ false → group ≡ v → IsB q f ranks y v
   b_group v group rest clause is named on_b same =
       inl (subst (λ n. (name_of q.entries n ≡ Some (Selector n)) × (holds q.a_side (positive n) ≡ false)) same (named, group_of_b group rest clause is named on_b))
 
-  b_kind : (v : ℕ) → IsOfB q v → IsB q f y v
+  b_kind : (v : ℕ) → IsOfB q v → IsB q f ranks y v
   b_kind v (inl (l, other, at)) =
       elim (divides.others l other) [
         | inl selector ↦ (
@@ -146,7 +146,7 @@ module _ (q : Partition) (f : Dqbf) (y : Existential) (divides : Divides f y q) 
         ]
       ]
 
-  pub copies_share : (graph : AigGraph) → AreSharedCopies f y q.entries graph q.shared → SharesAll q
+  pub copies_share : (graph : AigGraph) → AreSharedCopies f ranks y q.entries graph q.shared → SharesAll q
   copies_share graph shared v of_a of_b =
       let name = name_of q.entries v in
       elim (a_kind v of_a) [

@@ -20,23 +20,24 @@ pub record IsSample (f : Dqbf) (row values : List Bool) : Type 0 where
 
 -- two of them that agree on what a definition of the existential may read, and in which it is true
 -- and false
-pub record IsFreePair (f : Dqbf) (y : Existential) (pair : Pair) : Type 0 where
+pub record IsFreePair (f : Dqbf) (ranks : List ℕ) (y : Existential) (pair : Pair) : Type 0 where
   pub first : IsSample f pair.row1 pair.values1
   pub second : IsSample f pair.row2 pair.values2
-  pub agree : (v : ℕ) → MayRead f y v
+  pub agree : (v : ℕ) → MayRead f ranks y v
       → round_assignment f pair.row1 pair.values1 v ≡ round_assignment f pair.row2 pair.values2 v
   pub is_true : round_assignment f pair.row1 pair.values1 y.variable ≡ true
   pub is_false : round_assignment f pair.row2 pair.values2 y.variable ≡ false
 
 -- the answer is right
-abbrev pub IsFound : Dqbf → AigGraph → Existential → Found → Type 0
-IsFound f graph y (Defined node) = IsDefinition f graph y node
-IsFound f graph y (Free pair) = IsFreePair f y pair
+abbrev pub IsFound : Dqbf → List ℕ → AigGraph → Existential → Found → Type 0
+IsFound f ranks graph y (Defined node) = IsDefinition f ranks graph y node
+IsFound f ranks graph y (Free pair) = IsFreePair f ranks y pair
 
 -- every solving choice has the value of a definition, with each existential that this reads at that
 -- choice's value
 abbrev pub DefinitionsAreForced : Type 0
 DefinitionsAreForced =
-    (f : Dqbf) (graph : AigGraph) (y : Existential) (node : Node) → IsDefinition f graph y node →
+    (f : Dqbf) (ranks : List ℕ) (graph : AigGraph) (y : Existential) (node : Node)
+    → IsDefinition f ranks graph y node →
     (choice : HenkinChoice) → Solves choice f → (m : Assignment) → Follows f choice m
     → m y.variable ≡ (defining_output f graph node).value m

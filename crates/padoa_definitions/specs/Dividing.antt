@@ -37,7 +37,7 @@ pub record IsCopyGiven (entries : List Entry) (f : Dqbf) (side : ℕ)
 
 -- one half of an equation between the two copies of a variable that the definition may read, in a
 -- group
-pub record IsLinkGiven (entries : List Entry) (f : Dqbf) (y : Existential)
+pub record IsLinkGiven (entries : List Entry) (f : Dqbf) (ranks : List ℕ) (y : Existential)
     (clause : List Literal) : Type 0 where
   pub group : ℕ
   pub rest : List Literal
@@ -45,7 +45,7 @@ pub record IsLinkGiven (entries : List Entry) (f : Dqbf) (y : Existential)
   pub part : ℕ
   pub is_group : name_of entries group ≡ Some (Selector group)
   pub clause_is : clause ≡ negative group ∷ rest
-  pub read : MayRead f y variable
+  pub read : MayRead f ranks y variable
   pub which : (part ≡ 1) ⊎ (part ≡ 2)
   pub named : AreNamedAs entries rest (link_names variable part)
 
@@ -58,39 +58,40 @@ IsCopyLiteral entries side v negated l =
     name_literal entries l ≡ Some (named_literal (CopyOf side v) negated)
 
 -- the existential is true in the first copy, and false in the second
-pub record Divides (f : Dqbf) (y : Existential) (q : Partition) : Type 0 where
+pub record Divides (f : Dqbf) (ranks : List ℕ) (y : Existential) (q : Partition) : Type 0 where
   pub a_given : (at : ℕ) (clause : List Literal) → IsReachedGiven q at clause
       → is_on_a q clause ≡ true → IsCopyGiven q.entries f 1 clause
   pub b_given : (at : ℕ) (clause : List Literal) → IsReachedGiven q at clause
       → is_on_a q clause ≡ false
-      → IsCopyGiven q.entries f 2 clause ⊎ IsLinkGiven q.entries f y clause
+      → IsCopyGiven q.entries f 2 clause ⊎ IsLinkGiven q.entries f ranks y clause
   pub assumed : (l : Literal) → holds q.a_side l ≡ true
       → IsSelectorLiteral q.entries l ⊎ IsCopyLiteral q.entries 1 y.variable false l
   pub others : (l : Literal) → IsOther q l
       → IsSelectorLiteral q.entries l ⊎ IsCopyLiteral q.entries 2 y.variable true l
 
 -- a shared variable is the first copy of one that the definition may read, and its node that input
-pub record IsSharedCopy (f : Dqbf) (y : Existential) (entries : List Entry) (graph : AigGraph)
-    (v : ℕ) (n : Node) : Type 0 where
+pub record IsSharedCopy (f : Dqbf) (ranks : List ℕ) (y : Existential) (entries : List Entry)
+    (graph : AigGraph) (v : ℕ) (n : Node) : Type 0 where
   pub place : ℕ
   pub named : name_of entries v ≡ Some (CopyOf 1 (input_variable f place))
   pub value : (inputs : ℕ → Bool) → node_value graph inputs n ≡ inputs place
   pub support : (i : ℕ) → Contains (node_support graph n) i → i ≡ place
-  pub read : MayRead f y (input_variable f place)
+  pub read : MayRead f ranks y (input_variable f place)
 
-pub record AreSharedCopies (f : Dqbf) (y : Existential) (entries : List Entry) (graph : AigGraph)
-    (shared : List (ℕ × Node)) : Type 0 where
-  pub are : (v : ℕ) (n : Node) → node_of shared v ≡ Some n → IsSharedCopy f y entries graph v n
-  pub all : (v x : ℕ) → name_of entries v ≡ Some (CopyOf 1 x) → MayRead f y x
+pub record AreSharedCopies (f : Dqbf) (ranks : List ℕ) (y : Existential) (entries : List Entry)
+    (graph : AigGraph) (shared : List (ℕ × Node)) : Type 0 where
+  pub are : (v : ℕ) (n : Node) → node_of shared v ≡ Some n
+      → IsSharedCopy f ranks y entries graph v n
+  pub all : (v x : ℕ) → name_of entries v ≡ Some (CopyOf 1 x) → MayRead f ranks y x
       → IsSome (node_of shared v)
 
 -- the answer shows that the existential has a definition
-pub record ShowsDefinition (f : Dqbf) (y : Existential) (p : Padoa) (one : Literal)
-    (entries : List Entry) (id : ℕ) : Type 0 where
+pub record ShowsDefinition (f : Dqbf) (ranks : List ℕ) (y : Existential) (p : Padoa)
+    (one : Literal) (entries : List Entry) (id : ℕ) : Type 0 where
   pub is_id : IsId entries id
   pub derived : Each IsDerivedByHints entries
   pub divides : (shared : List (ℕ × Node))
-      → Divides f y (partition entries id (p.first.group.selector ∷ one ∷ []) shared)
+      → Divides f ranks y (partition entries id (p.first.group.selector ∷ one ∷ []) shared)
 
 -- the groups that are to be active: both copies, and the equations at some places
 pub record AreActive (p : Padoa) (places : List ℕ) (active : List Group) : Type 0 where

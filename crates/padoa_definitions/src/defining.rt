@@ -40,21 +40,23 @@ pub enum Found {
 /// Whether an existential is defined by what its definition may read: the declared variables at
 /// these places, universals first.
 #[derive(Drop)]
-pub(crate) struct Question<'f, 'p> {
+pub(crate) struct Question<'f, 'r, 'p> {
     pub f: &'f Formula,
+    pub ranks: &'r [usize],
     pub twins: Twins,
     pub places: &'p [usize],
 }
 
 impl Padoa {
     /// A definition of an existential over the universals that it sees and the existentials that
-    /// come before it and see no more, or values that show that there is none. It stops for want of
-    /// memory or at the log's limit, and may be called again then.
+    /// come before it by these ranks and see no more, or values that show that there is none. It
+    /// stops for want of memory or at the log's limit, and may be called again then.
     pub fn define<O: Oracle>(
         &mut self,
         oracle: &mut O,
         graph: &mut Graph,
         f: &Formula,
+        ranks: &[usize],
         y: u64,
         log: &mut Log,
     ) -> Result<Found, Stop>
@@ -70,15 +72,16 @@ impl Padoa {
             → Grew (IsAddedBy f.now copies group true log.old.entries) log.old log.new }
         ensures extends { Extends graph.old graph.new }
         ensures found { (e : Existential) → existential_of f.now y ≡ Some e
-            → IfOk result (IsFound f.now graph.new e) }
+            → IfOk result (IsFound f.now ranks.now graph.new e) }
         ensures limit { IsErrOf result Stop.Limit → IsAtSomeLimit log.new }
     {
         names_are_unique();
-        let places = shared_places(self.alloc, f, y)?;
+        let places = shared_places(self.alloc, f, ranks, y)?;
         let one = copied_variable(&self.first, f, y);
         let other = copied_variable(&self.second, f, y);
         let question = Question {
             f,
+            ranks,
             twins: Twins {
                 variable: y,
                 first: one,

@@ -34,19 +34,20 @@ impl Padoa {
             question.now.twins.variable) }
         requires places { (e : Existential)
             → existential_of question.now.f.now question.now.twins.variable ≡ Some e
-            → ArePlaces (declared question.now.f.now) (MayRead question.now.f.now e)
-            question.now.places.now }
+            → ArePlaces (declared question.now.f.now)
+            (MayRead question.now.f.now question.now.ranks.now e) question.now.places.now }
         requires twins { AreTwins log.now.entries question.now.twins }
         requires shown { (e : Existential)
             → existential_of question.now.f.now question.now.twins.variable ≡ Some e
-            → ShowsDefinition question.now.f.now e self.now question.now.twins.first
+            → ShowsDefinition question.now.f.now question.now.ranks.now e
+            self.now question.now.twins.first
             log.now.entries id }
         requires inputs { graph.old.inputs ≡ length question.now.f.now.universals
             + length question.now.f.now.existentials }
         ensures extends { Extends graph.old graph.new }
         ensures defined { (e : Existential)
             → existential_of question.now.f.now question.now.twins.variable ≡ Some e
-            → IfOk result (IsDefinition question.now.f.now graph.new e) }
+            → IfOk result (IsDefinition question.now.f.now question.now.ranks.now graph.new e) }
     {
         names_are_unique();
         log.every_log_is_lawful();

@@ -33,8 +33,8 @@ impl Padoa {
             question.now.twins.variable) }
         requires places { (e : Existential)
             → existential_of question.now.f.now question.now.twins.variable ≡ Some e
-            → ArePlaces (declared question.now.f.now) (MayRead question.now.f.now e)
-            question.now.places.now }
+            → ArePlaces (declared question.now.f.now)
+            (MayRead question.now.f.now question.now.ranks.now e) question.now.places.now }
         requires twins { AreTwins log.old.entries question.now.twins }
         ensures fit { O.Fits oracle.new log.new }
         ensures padoa { IsPadoa question.now.f.now self.now log.new.entries }
@@ -47,7 +47,8 @@ impl Padoa {
             log.new.entries }
         ensures unsat { (id : ℕ) (e : Existential)
             → existential_of question.now.f.now question.now.twins.variable ≡ Some e
-            → result ≡ Ok (Answer.Unsat id) → ShowsDefinition question.now.f.now e self.now
+            → result ≡ Ok (Answer.Unsat id)
+            → ShowsDefinition question.now.f.now question.now.ranks.now e self.now
             question.now.twins.first log.new.entries id }
         ensures limit { IsErrOf result Stop.Limit → IsAtSomeLimit log.new }
     {

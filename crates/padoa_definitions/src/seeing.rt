@@ -33,14 +33,20 @@ pub(crate) fn declared_at(f: &Formula, place: usize) -> u64
 }
 
 /// The places of the variables that a definition of an existential may read, universals first.
-pub(crate) fn shared_places(alloc: Global, f: &Formula, y: u64) -> Result<Vec<usize>, Memory>
+pub(crate) fn shared_places(
+    alloc: Global,
+    f: &Formula,
+    ranks: &[usize],
+    y: u64,
+) -> Result<Vec<usize>, Memory>
     requires declared { IsSome (existential_of f.now y) }
     ensures { (e : Existential) → existential_of f.now y ≡ Some e
-        → IfOk result (λ places. ArePlaces (declared f.now) (MayRead f.now e) places.items) }
+        → IfOk result (λ places. ArePlaces (declared f.now) (MayRead f.now ranks.now e)
+        places.items) }
 {
     f.every_formula_is_lawful();
     let mut places = seen_places(alloc, f, y)?;
-    let shared = shared_existentials(alloc, f, y)?;
+    let shared = shared_existentials(alloc, f, ranks, y)?;
     push_existentials(&mut places, f, &shared)?;
     Ok(places)
 }

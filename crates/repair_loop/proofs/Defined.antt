@@ -66,19 +66,19 @@ none_at (suc n) zero = refl
 none_at (suc n) (suc k) = none_at n k
 
 -- nothing is known yet
-pub nothing_known : (f : Dqbf) (graph : AigGraph) (definitions : List (Option Node)) (rules : List Rule) → definitions ≡ replicate (length f.existentials) None → rules ≡ []
-    → AreKnown f graph definitions rules
-nothing_known f graph definitions rules none empty = record {
+pub nothing_known : (f : Dqbf) (ranks : List ℕ) (graph : AigGraph) (definitions : List (Option Node)) (rules : List Rule) → definitions ≡ replicate (length f.existentials) None → rules ≡ []
+    → AreKnown f ranks graph definitions rules
+nothing_known f ranks graph definitions rules none empty = record {
   one_each = ap length none ∙ length-replicate (length f.existentials) None;
   defined = λ k d below node is. (let no = ap (λ ds. definition_of f ds (get_or f.existentials k d)) none ∙ none_at (length f.existentials) _ in let e : Some node ≡ None = sym is ∙ no in cc);
   forced = subst (All (IsRule f)) (sym empty) (All-nil (IsRule f));
 }
 
 -- what is known of the existential at a place
-pub known_at : (f : Dqbf) → HasLawfulPrefix f → (graph : AigGraph) (p : ℕ) (y : Existential) (before : List (Option Node)) (next : Option Node) (rules : List Rule)
-    → slice_get f.existentials p ≡ Some y → ((node : Node) → next ≡ Some node → IsDefinition f graph y node) → AreKnown f graph before rules
-    → AreKnown f graph (set before p next) rules
-known_at f lawful graph p y before next rules at here known = record {
+pub known_at : (f : Dqbf) (ranks : List ℕ) → HasLawfulPrefix f → (graph : AigGraph) (p : ℕ) (y : Existential) (before : List (Option Node)) (next : Option Node) (rules : List Rule)
+    → slice_get f.existentials p ≡ Some y → ((node : Node) → next ≡ Some node → IsDefinition f ranks graph y node) → AreKnown f ranks graph before rules
+    → AreKnown f ranks graph (set before p next) rules
+known_at f ranks lawful graph p y before next rules at here known = record {
   one_each = length-set before p next ∙ known.one_each;
   defined = defined;
   forced = known.forced;
@@ -86,7 +86,7 @@ known_at f lawful graph p y before next rules at here known = record {
   inside : p < length before
   inside = let e = known.one_each in let within = slice_get_within f.existentials p y at in omega (arith, e, within)
 
-  defined : AreDefinitions f graph (set before p next)
+  defined : AreDefinitions f ranks graph (set before p next)
   defined k d below node is =
       let z = get_or f.existentials k d in
       let at_k : slice_get f.existentials k ≡ Some z = slice_get-get_or f.existentials k d below in
@@ -97,16 +97,16 @@ known_at f lawful graph p y before next rules at here known = record {
             let same : p ≡ k = eqb-true p k e in
             let own : y ≡ z = let e : Some y ≡ Some z = sym at ∙ ap (slice_get f.existentials) same ∙ at_k in cc in
             let last : get_or (set before p next) k None ≡ next = ap (λ q. get_or (set before p next) q None) (sym same) ∙ get_or-set_same before p next None inside in
-            subst (λ e. IsDefinition f graph e node) own (here node (sym last ∙ there)))
+            subst (λ e. IsDefinition f ranks graph e node) own (here node (sym last ∙ there)))
         | inr e ↦ (
             let other : k ≢ p = λ is. false≢true (sym e ∙ eq-eqb p k (sym is)) in
             known.defined k d below node (ap (λ q. get_or before q None) place ∙ sym (get_or-set_other before p k next None other) ∙ there))
       ]
 
-pub known_stays : (f : Dqbf) (old new : AigGraph) (definitions : List (Option Node)) (rules : List Rule) → Extends old new → AreKnown f old definitions rules → AreKnown f new definitions rules
-known_stays f old new definitions rules extends known = record {
+pub known_stays : (f : Dqbf) (ranks : List ℕ) (old new : AigGraph) (definitions : List (Option Node)) (rules : List Rule) → Extends old new → AreKnown f ranks old definitions rules → AreKnown f ranks new definitions rules
+known_stays f ranks old new definitions rules extends known = record {
   one_each = known.one_each;
-  defined = definitions_stay old new extends f definitions known.defined;
+  defined = definitions_stay old new extends f ranks definitions known.defined;
   forced = known.forced;
 }
 
@@ -129,9 +129,9 @@ existential_there f lawful variables all i below =
     named_at f lawful variables all i (get_or variables i 0) (omega (arith, below, many)) refl
 
 -- what was found defines it, where it is a definition
-pub found_defines : (f : Dqbf) (graph : AigGraph) (y : Existential) (found : Found) → IsFound f graph y found → (node : Node) → definition_in found ≡ Some node → IsDefinition f graph y node
-found_defines f graph y (Defined own) is node same = subst (IsDefinition f graph y) (let e : own ≡ node = cc in e) is
-found_defines f graph y (Free pair) is node same = cc
+pub found_defines : (f : Dqbf) (ranks : List ℕ) (graph : AigGraph) (y : Existential) (found : Found) → IsFound f ranks graph y found → (node : Node) → definition_in found ≡ Some node → IsDefinition f ranks graph y node
+found_defines f ranks graph y (Defined own) is node same = subst (IsDefinition f ranks graph y) (let e : own ≡ node = cc in e) is
+found_defines f ranks graph y (Free pair) is node same = cc
 
 pub some_existential : (o : Option Existential) → IsSome o → (y : Existential) × (o ≡ Some y)
 some_existential None is = cc

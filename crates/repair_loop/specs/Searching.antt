@@ -46,11 +46,11 @@ abbrev pub definition_in : Found → Option Node
 definition_in (Defined node) = Some node
 definition_in (Free pair) = None
 
--- what is known of the existentials' functions
-pub record AreKnown (f : Dqbf) (graph : AigGraph) (definitions : List (Option Node))
-    (rules : List Rule) : Type 0 where
+-- what is known of the existentials' functions, where definitions read by these ranks
+pub record AreKnown (f : Dqbf) (ranks : List ℕ) (graph : AigGraph)
+    (definitions : List (Option Node)) (rules : List Rule) : Type 0 where
   pub one_each : length definitions ≡ length f.existentials
-  pub defined : AreDefinitions f graph definitions
+  pub defined : AreDefinitions f ranks graph definitions
   pub forced : All (IsRule f) rules
 
 -- an input for each universal and each existential

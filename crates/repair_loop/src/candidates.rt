@@ -40,8 +40,8 @@ impl Engines {
         requires fit { O.Fits oracle.old log.old }
         requires search { IsSearch f.now graph.old self.old.table self.old.checker
             self.old.definitions.padoa log.old.entries }
-        requires known { AreKnown f.now graph.old self.old.definitions.nodes.items
-            self.old.definitions.rules.items }
+        requires known { AreKnown f.now self.old.definitions.ranks.items graph.old
+            self.old.definitions.nodes.items self.old.definitions.rules.items }
         ensures fit { O.Fits oracle.new log.new }
         ensures extends { Extends graph.old graph.new }
         ensures padoa { self.new.definitions.padoa ≡ self.old.definitions.padoa }
@@ -53,8 +53,8 @@ impl Engines {
             → IsSearch f.now graph.new self.new.table self.new.checker self.new.definitions.padoa
             log.new.entries }
         ensures known { (outputs : _) → result ≡ Ok (Found.Candidates outputs)
-            → AreKnown f.now graph.new self.new.definitions.nodes.items
-            self.new.definitions.rules.items }
+            → AreKnown f.now self.new.definitions.ranks.items graph.new
+            self.new.definitions.nodes.items self.new.definitions.rules.items }
         ensures candidates { (outputs : _) → result ≡ Ok (Found.Candidates outputs)
             → AreBuilt f.now graph.new self.new.table.rows outputs }
         ensures undecided { OnErr result (IsUndecided f.now log.new.entries) }
@@ -77,6 +77,7 @@ impl Engines {
                     &self.table,
                     &points,
                     &self.definitions.rules,
+                    &self.definitions.ranks,
                     &self.definitions.nodes,
                     graph,
                 )?;

@@ -26,6 +26,8 @@ use std::alloc::Global;
 pub(crate) struct Definitions {
     pub(crate) padoa: Padoa,
     gates: Gates,
+    // By which ranks a definition may read others.
+    pub(crate) ranks: Vec<usize>,
     // Which existentials occur in a clause, in order of declaration: of others nothing is asked, as
     // any bit does. No contract speaks of it.
     occurs: Vec<bool>,
@@ -54,11 +56,13 @@ impl Definitions {
     fn none(alloc: Global, padoa: Padoa, gates: Gates, f: &Formula) -> Result<Definitions, Memory>
         ensures padoa { IfOk result (λ d. d.padoa ≡ padoa) }
         ensures known { (graph : _)
-            → IfOk result (λ d. AreKnown f.now graph d.nodes.items d.rules.items) }
+            → IfOk result (λ d. AreKnown f.now d.ranks.items graph d.nodes.items d.rules.items) }
     {
+        let ranks = gates.ranks(f)?;
         Ok(Definitions {
             padoa,
             gates,
+            ranks,
             occurs: occurring(alloc, f)?,
             nodes: no_nodes(alloc, f.existentials().len())?,
             rules: Vec::new(alloc),
@@ -75,6 +79,7 @@ impl Definitions {
         requires place { place < length self.old.nodes.items }
         ensures padoa { self.new.padoa ≡ self.old.padoa }
         ensures rules { self.new.rules.items ≡ self.old.rules.items }
+        ensures ranks { self.new.ranks.items ≡ self.old.ranks.items }
         ensures nodes { self.new.nodes.items
             ≡ slice_set self.old.nodes.items place (definition_in found) }
     {
@@ -97,16 +102,16 @@ impl Definitions {
         requires fresh { IsFresh order.now.f.now log.old.entries }
         requires padoa { IsPadoa order.now.f.now self.old.padoa log.old.entries }
         requires inputs { HasInputs order.now.f.now graph.old }
-        requires known { AreKnown order.now.f.now graph.old self.old.nodes.items
-            self.old.rules.items }
+        requires known { AreKnown order.now.f.now self.old.ranks.items graph.old
+            self.old.nodes.items self.old.rules.items }
         requires places { All (λ p. p < length order.now.f.now.existentials) order.now.places.now }
         ensures fit { O.Fits oracle.new log.new }
         ensures fresh { IsFresh order.now.f.now log.new.entries }
         ensures limit_same { log.new.limit ≡ log.old.limit }
         ensures extends { Extends graph.old graph.new }
         ensures padoa { OnOk result (IsPadoa order.now.f.now self.new.padoa log.new.entries) }
-        ensures known { OnOk result (AreKnown order.now.f.now graph.new self.new.nodes.items
-            self.new.rules.items) }
+        ensures known { OnOk result (AreKnown order.now.f.now self.new.ranks.items graph.new
+            self.new.nodes.items self.new.rules.items) }
         ensures limit { IsErrOf result Stop.Limit → IsAtSomeLimit log.new }
     {
         let f = order.f;
@@ -129,16 +134,16 @@ impl Definitions {
         requires fresh { IsFresh existential.now.f.now log.old.entries }
         requires padoa { IsPadoa existential.now.f.now self.old.padoa log.old.entries }
         requires inputs { HasInputs existential.now.f.now graph.old }
-        requires known { AreKnown existential.now.f.now graph.old self.old.nodes.items
-            self.old.rules.items }
+        requires known { AreKnown existential.now.f.now self.old.ranks.items graph.old
+            self.old.nodes.items self.old.rules.items }
         requires place { existential.now.place < length existential.now.f.now.existentials }
         ensures fit { O.Fits oracle.new log.new }
         ensures fresh { IsFresh existential.now.f.now log.new.entries }
         ensures limit_same { log.new.limit ≡ log.old.limit }
         ensures extends { Extends graph.old graph.new }
         ensures padoa { OnOk result (IsPadoa existential.now.f.now self.new.padoa log.new.entries) }
-        ensures known { OnOk result (AreKnown existential.now.f.now graph.new self.new.nodes.items
-            self.new.rules.items) }
+        ensures known { OnOk result (AreKnown existential.now.f.now self.new.ranks.items graph.new
+            self.new.nodes.items self.new.rules.items) }
         ensures limit { IsErrOf result Stop.Limit → IsAtSomeLimit log.new }
     {
         engines_leave_the_rest();
@@ -174,15 +179,15 @@ impl Definitions {
         ensures extends { Extends graph.old graph.new }
         ensures found { (e : Existential)
             → slice_get existential.now.f.now.existentials existential.now.place ≡ Some e
-            → IfOk result (IsFound existential.now.f.now graph.new e) }
+            → IfOk result (IsFound existential.now.f.now self.old.ranks.items graph.new e) }
         ensures limit { IsErrOf result Stop.Limit → IsAtSomeLimit log.new }
     {
         let f = existential.f;
         f.every_formula_is_lawful();
         let y = f.existentials()[existential.place];
-        match self.gates.read(f, y, graph)? {
+        match self.gates.read(f, &self.ranks, y, graph)? {
             Some(node) => Ok(Found::Defined(node)),
-            None => self.padoa.define(oracle, graph, f, y, log),
+            None => self.padoa.define(oracle, graph, f, &self.ranks, y, log),
         }
     }
 }
@@ -234,14 +239,15 @@ pub(crate) fn find_definitions<O: Oracle>(
     ensures limit_same { log.new.limit ≡ log.old.limit }
     ensures extends { Extends graph.old graph.new }
     ensures padoa { IfOk result (λ d. IsPadoa f.now d.padoa log.new.entries) }
-    ensures known { IfOk result (λ d. AreKnown f.now graph.new d.nodes.items d.rules.items) }
+    ensures known { IfOk result (λ d. AreKnown f.now d.ranks.items graph.new d.nodes.items
+        d.rules.items) }
     ensures limit { IsErrOf result Stop.Limit → IsAtSomeLimit log.new }
 {
     engines_leave_the_rest();
     let padoa = Padoa::new(alloc, oracle, f, log)?;
     let gates = Gates::new(alloc, f)?;
     let mut definitions = Definitions::none(alloc, padoa, gates, f)?;
-    let order = existentials_in_order(alloc, f)?;
+    let order = existentials_in_order(alloc, f, &definitions.ranks)?;
     definitions.find_all(oracle, graph, &Order { f, places: &order }, log)?;
     Ok(definitions)
 }

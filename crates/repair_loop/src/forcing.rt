@@ -48,6 +48,7 @@ impl Definitions {
         ensures fit { O.Fits oracle.new log.new }
         ensures same { self.new.padoa ≡ self.old.padoa }
         ensures nodes { self.new.nodes.items ≡ self.old.nodes.items }
+        ensures ranks { self.new.ranks.items ≡ self.old.ranks.items }
         ensures rules { All (IsRule f.now) self.new.rules.items }
         ensures goes_on { GoesOn f.now model.now.table.now self.old.padoa log.old.entries
             log.new.entries }
@@ -85,6 +86,7 @@ impl Definitions {
             ≡ existential_variables existential.now.f.now }
         requires point_rows { length model.now.points.now.rows ≡ length model.now.table.now.rows }
         ensures nodes { self.new.nodes.items ≡ self.old.nodes.items }
+        ensures ranks { self.new.ranks.items ≡ self.old.ranks.items }
         ensures fit { O.Fits oracle.new log.new }
         ensures padoa { IsPadoa existential.now.f.now self.new.padoa log.new.entries }
         ensures same { self.new.padoa ≡ self.old.padoa }
@@ -123,6 +125,7 @@ impl Definitions {
             ≡ existential_variables existential.now.f.now }
         requires point_rows { length model.now.points.now.rows ≡ length model.now.table.now.rows }
         ensures nodes { self.new.nodes.items ≡ self.old.nodes.items }
+        ensures ranks { self.new.ranks.items ≡ self.old.ranks.items }
         ensures fit { O.Fits oracle.new log.new }
         ensures padoa { IsPadoa existential.now.f.now self.new.padoa log.new.entries }
         ensures same { self.new.padoa ≡ self.old.padoa }
@@ -151,6 +154,7 @@ impl Definitions {
     fn keep(&mut self, forced: Forced) -> Result<(), Memory>
         ensures padoa { self.new.padoa ≡ self.old.padoa }
         ensures nodes { self.new.nodes.items ≡ self.old.nodes.items }
+        ensures ranks { self.new.ranks.items ≡ self.old.ranks.items }
         ensures rules { (f : Dqbf) → ((r : RuleState) → forced ≡ Forced.Rule r → IsRule f r)
             → All (IsRule f) self.old.rules.items → All (IsRule f) self.new.rules.items }
     {

@@ -18,7 +18,7 @@ pub put_definitions-requires-clause-definitions : goal.put_definitions-requires-
 put_definitions-requires-clause-definitions c =
     definitions_stay c.args.graph.now c.first_outputs.new.graph
     (extends-trans c.args.graph.now c.by_rules.new.graph c.first_outputs.new.graph c.in_ok-others.ensures.extends c.in_ok-nodes.ensures.extends)
-    c.args.f.now c.args.definitions.now c.requires.definitions
+    c.args.f.now c.args.ranks.now c.args.definitions.now c.requires.definitions
 
 pub put_definitions-requires-clause-one_each : goal.put_definitions-requires-clause-one_each
 put_definitions-requires-clause-one_each c =
@@ -56,7 +56,7 @@ returns-clause-reads c =
     let f = c.args.f.now in
     let rules = c.args.rules.now in
     let by = subst (AreByRules f c.by_rules.new.graph rules) (sym c.deref.ensures.value) c.in_ok-others.ensures.nodes in
-    read_declared f c.every_formula_is_lawful.ensures c.args.table.now.rows (point_bits c.args.points.now) rules c.args.definitions.now c.put_definitions.new.graph c.put_definitions.new.nodes.items
+    read_declared f c.args.ranks.now c.every_formula_is_lawful.ensures c.args.table.now.rows (point_bits c.args.points.now) rules c.args.definitions.now c.put_definitions.new.graph c.put_definitions.new.nodes.items
     (c.in_ok-put_definitions.ensures.outputs c.args.table.now.rows (point_bits c.args.points.now) rules c.requires.points (c.in_ok-nodes.ensures.outputs rules by))
 
 pub returns-clause-at_pairs : goal.returns-clause-at_pairs
@@ -64,7 +64,7 @@ returns-clause-at_pairs c =
     let f = c.args.f.now in
     let rules = c.args.rules.now in
     let by = subst (AreByRules f c.by_rules.new.graph rules) (sym c.deref.ensures.value) c.in_ok-others.ensures.nodes in
-    agree_at_pairs f c.every_formula_is_lawful.ensures c.args.table.now.rows (point_bits c.args.points.now) rules c.args.definitions.now c.put_definitions.new.graph c.put_definitions.new.nodes.items
+    agree_at_pairs f c.args.ranks.now c.every_formula_is_lawful.ensures c.args.table.now.rows (point_bits c.args.points.now) rules c.args.definitions.now c.put_definitions.new.graph c.put_definitions.new.nodes.items
     (c.in_ok-put_definitions.ensures.outputs c.args.table.now.rows (point_bits c.args.points.now) rules c.requires.points (c.in_ok-nodes.ensures.outputs rules by))
 
 pub returns-clause-by_rules : goal.returns-clause-by_rules
@@ -72,7 +72,7 @@ returns-clause-by_rules c =
     let f = c.args.f.now in
     let rules = c.args.rules.now in
     let by = subst (AreByRules f c.by_rules.new.graph rules) (sym c.deref.ensures.value) c.in_ok-others.ensures.nodes in
-    follow_rules f c.every_formula_is_lawful.ensures c.args.table.now.rows (point_bits c.args.points.now) rules c.args.definitions.now c.put_definitions.new.graph c.put_definitions.new.nodes.items
+    follow_rules f c.args.ranks.now c.every_formula_is_lawful.ensures c.args.table.now.rows (point_bits c.args.points.now) rules c.args.definitions.now c.put_definitions.new.graph c.put_definitions.new.nodes.items
     (c.in_ok-put_definitions.ensures.outputs c.args.table.now.rows (point_bits c.args.points.now) rules c.requires.points (c.in_ok-nodes.ensures.outputs rules by))
 
 pub returns-clause-defined : goal.returns-clause-defined
@@ -80,5 +80,5 @@ returns-clause-defined c =
     let f = c.args.f.now in
     let rules = c.args.rules.now in
     let by = subst (AreByRules f c.by_rules.new.graph rules) (sym c.deref.ensures.value) c.in_ok-others.ensures.nodes in
-    are_defined f c.every_formula_is_lawful.ensures c.args.table.now.rows (point_bits c.args.points.now) rules c.args.definitions.now c.put_definitions.new.graph c.put_definitions.new.nodes.items
+    are_defined f c.args.ranks.now c.every_formula_is_lawful.ensures c.args.table.now.rows (point_bits c.args.points.now) rules c.args.definitions.now c.put_definitions.new.graph c.put_definitions.new.nodes.items
     (c.in_ok-put_definitions.ensures.outputs c.args.table.now.rows (point_bits c.args.points.now) rules c.requires.points (c.in_ok-nodes.ensures.outputs rules by))

@@ -11,9 +11,9 @@ sees_no_more-requires-clause-first c = declared_at c.args.f.now c.every_formula_
 pub returns-then-comes_before : goal.returns-then-comes_before
 returns-then-comes_before c = λ e z known at.
     let own = known_at c.args.f.now c.every_formula_is_lawful.ensures c.existentials.result.now c.args.place z c.existentials.ensures at in
-    both_tell c.args.f.now e z c.comes_before.result c.sees_no_more.result c.if-comes_before.true (c.comes_before.ensures z e own known) (c.sees_no_more.ensures z e own known)
+    both_tell c.args.f.now c.args.ranks.now e z c.comes_before.result c.sees_no_more.result c.if-comes_before.true (c.comes_before.ensures z e own known) (c.sees_no_more.ensures z e own known)
 
 pub returns-else-comes_before : goal.returns-else-comes_before
 returns-else-comes_before c = λ e z known at.
     let own = known_at c.args.f.now c.every_formula_is_lawful.ensures c.existentials.result.now c.args.place z c.existentials.ensures at in
-    one_denies c.args.f.now e z c.comes_before.result c.if-comes_before.false (c.comes_before.ensures z e own known)
+    one_denies c.args.f.now c.args.ranks.now e z c.comes_before.result c.if-comes_before.false (c.comes_before.ensures z e own known)

@@ -4,4 +4,4 @@ use Rattle.definition_order.specs.Sizes.{sized_place}
 use Rattle.definition_order.proofs.sizes.sized_places.Given as goal
 
 abbrev pub invariant-loop-place : goal.invariant-loop-place
-invariant-loop-place l = l.sized.items ≡ map (sized_place l.f) (range_with_len 0 l.place)
+invariant-loop-place l = l.sized.items ≡ map (sized_place l.f l.ranks) (range_with_len 0 l.place)

@@ -35,7 +35,7 @@ pub find_all-requires-clause-places : goal.find_all-requires-clause-places
 find_all-requires-clause-places g c =
     let order = c.in_ok-order.ensures in
     let each : All (λ p. p < length c.args.f.now.existentials) c.in_ok-order.order.items = λ k d below. (order.each _).0 (Contains-get_or c.in_ok-order.order.items k d below) in
-    subst (All (λ p. p < length c.args.f.now.existentials)) (sym c.deref.ensures.value) each
+    subst (All (λ p. p < length c.args.f.now.existentials)) (sym c.deref-2.ensures.value) each
 
 pub returns-in_err-find_all-clause-limit_same : goal.returns-in_err-find_all-clause-limit_same
 returns-in_err-find_all-clause-limit_same g c = c.find_all.ensures.limit_same ∙ (c.new.ensures.grew 0).limit

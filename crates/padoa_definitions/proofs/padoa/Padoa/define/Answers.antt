@@ -58,9 +58,9 @@ returns-clause-found g c = λ e found.
     let padoa = c.search.ensures.padoa in
     let v_is = found_variable f c.args.y e found in
     let logged = (g.met.O.Oracle.searched c.search.new.oracle c.search.new.log c.search.ensures.fit).logged in
-    free_pair f e p c.deref.result.now c.copied_variable-one.result c.copied_variable-other.result es (g.O.Oracle.values c.search.new.oracle) c.in_ok-pair-in-Sat.pair c.requires.formula
+    free_pair f c.args.ranks.now e p c.deref.result.now c.copied_variable-one.result c.copied_variable-other.result es (g.O.Oracle.values c.search.new.oracle) c.in_ok-pair-in-Sat.pair c.requires.formula
     (λ v w name a b. c.names_are_unique.ensures es v w name logged a b) padoa
-    (subst (ArePlaces (declared f) (MayRead f e)) (sym c.deref.ensures.value) (c.in_ok-places.ensures e found)) (found_declared f c.args.y e found)
+    (subst (ArePlaces (declared f) (MayRead f c.args.ranks.now e)) (sym c.deref.ensures.value) (c.in_ok-places.ensures e found)) (found_declared f c.args.y e found)
     (c.copied_variable-one.ensures es 1 padoa.first.universals padoa.first.existentials ∙ ap (λ x. Some (named_literal (CopyOf 1 x) false)) (sym v_is))
     (c.copied_variable-other.ensures es 2 padoa.second.universals padoa.second.existentials ∙ ap (λ x. Some (named_literal (CopyOf 2 x) false)) (sym v_is))
     (c.search.ensures.sat (c.in_ok-id.was ∙ ap Ok c.in-Sat.is)) c.in_ok-pair-in-Sat.ensures

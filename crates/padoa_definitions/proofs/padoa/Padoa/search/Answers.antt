@@ -9,7 +9,7 @@ use Rattle.padoa_definitions.proofs.SearchAnswers.{places_within, active_made, p
 use Rattle.padoa_definitions.proofs.padoa.Padoa.search.Goals as goal
 
 pub active-requires : goal.active-requires
-active-requires g c = places_within c.args.question.now.f.now c.args.self.now c.args.log.now.entries c.args.question.now.twins.variable c.args.question.now.places.now c.requires.padoa c.requires.existential c.requires.places
+active-requires g c = places_within c.args.question.now.f.now c.args.question.now.ranks.now c.args.self.now c.args.log.now.entries c.args.question.now.twins.variable c.args.question.now.places.now c.requires.padoa c.requires.existential c.requires.places
 
 pub solve-requires-clause-made : goal.solve-requires-clause-made
 solve-requires-clause-made g c =
@@ -34,7 +34,7 @@ pub returns-clause-grew : goal.returns-clause-grew
 returns-clause-grew g c group =
     on_answer c.in_ok-answer.answer
     (λ e. learned_grew c.args.question.now.f.now c.args.log.now c.solve.new.log (c.solve.ensures.sat (c.in_ok-answer.was ∙ ap Ok e)).0 group)
-    (λ id e. refuted_grew c.derived_line_is_implied.ensures c.ids_stay.ensures c.reached_are_ids.ensures c.args.question.now.f.now c.args.self.now c.args.question.now.twins.variable c.args.question.now.places.now c.in_ok-active.active.items c.args.question.now.twins.first
+    (λ id e. refuted_grew c.derived_line_is_implied.ensures c.ids_stay.ensures c.reached_are_ids.ensures c.args.question.now.f.now c.args.question.now.ranks.now c.args.self.now c.args.question.now.twins.variable c.args.question.now.places.now c.in_ok-active.active.items c.args.question.now.twins.first
     c.args.question.now.twins.second c.args.log.now c.solve.new.log id c.requires.padoa c.requires.existential c.requires.places c.in_ok-active.ensures c.requires.twins.0 c.requires.twins.1
     (g.met.O.Oracle.searched c.solve.new.self c.solve.new.log c.solve.ensures.fit)
     (subst (λ gs. IsRefutedUnder c.args.log.now c.solve.new.log (assumed gs (c.args.question.now.twins.first ∷ opposite c.args.question.now.twins.second ∷ [])) id) c.deref.ensures.value
@@ -43,7 +43,7 @@ returns-clause-grew g c group =
 pub returns-clause-unsat : goal.returns-clause-unsat
 returns-clause-unsat g c = λ id y found is.
     let e : c.in_ok-answer.answer ≡ Unsat id = cc in
-    shows c.derived_line_is_implied.ensures c.ids_stay.ensures c.reached_are_ids.ensures c.args.question.now.f.now c.args.self.now c.args.question.now.twins.variable c.args.question.now.places.now c.in_ok-active.active.items c.args.question.now.twins.first
+    shows c.derived_line_is_implied.ensures c.ids_stay.ensures c.reached_are_ids.ensures c.args.question.now.f.now c.args.question.now.ranks.now c.args.self.now c.args.question.now.twins.variable c.args.question.now.places.now c.in_ok-active.active.items c.args.question.now.twins.first
     c.args.question.now.twins.second c.args.log.now c.solve.new.log id c.requires.padoa c.requires.existential c.requires.places c.in_ok-active.ensures c.requires.twins.0 c.requires.twins.1
     (g.met.O.Oracle.searched c.solve.new.self c.solve.new.log c.solve.ensures.fit)
     (subst (λ gs. IsRefutedUnder c.args.log.now c.solve.new.log (assumed gs (c.args.question.now.twins.first ∷ opposite c.args.question.now.twins.second ∷ [])) id) c.deref.ensures.value

@@ -82,13 +82,15 @@ returns-in_ok-outputs-in-Model-clause-kept g c =
 
 pub build-requires-clause-definitions : goal.build-requires-clause-definitions
 build-requires-clause-definitions g c =
-    subst (AreDefinitions c.args.f.now c.args.graph.now) (sym c.force_all.ensures.nodes ∙ sym c.deref-in-Model.ensures.value) c.requires.known.defined
+    subst (λ rs. AreDefinitions c.args.f.now rs c.args.graph.now c.deref-in-Model-2.result.now) (sym c.force_all.ensures.ranks ∙ sym c.deref-in-Model.ensures.value)
+    (subst (AreDefinitions c.args.f.now c.args.self.now.definitions.ranks.items c.args.graph.now) (sym c.force_all.ensures.nodes ∙ sym c.deref-in-Model-2.ensures.value) c.requires.known.defined)
 
 pub returns-in_ok-outputs-in-Model-clause-known : goal.returns-in_ok-outputs-in-Model-clause-known
 returns-in_ok-outputs-in-Model-clause-known g c outputs e =
-    known_stays c.args.f.now c.args.graph.now c.build.new.graph c.force_all.new.self.nodes.items c.force_all.new.self.rules.items c.build.ensures.extends (record {
+    known_stays c.args.f.now c.force_all.new.self.ranks.items c.args.graph.now c.build.new.graph c.force_all.new.self.nodes.items c.force_all.new.self.rules.items c.build.ensures.extends (record {
       one_each = ap length c.force_all.ensures.nodes ∙ c.requires.known.one_each;
-      defined = subst (AreDefinitions c.args.f.now c.args.graph.now) (sym c.force_all.ensures.nodes) c.requires.known.defined;
+      defined = subst (λ rs. AreDefinitions c.args.f.now rs c.args.graph.now c.force_all.new.self.nodes.items) (sym c.force_all.ensures.ranks)
+          (subst (AreDefinitions c.args.f.now c.args.self.now.definitions.ranks.items c.args.graph.now) (sym c.force_all.ensures.nodes) c.requires.known.defined);
       forced = c.force_all.ensures.rules;
     })
 

@@ -1,6 +1,8 @@
-use Rattle.std.proofs.Common.{refl}
+use Rattle.std.proofs.Common.{refl, subst, IfOk}
 use Rattle.candidate_functions.proofs.LargerGraphs.{extends-trans}
 use Rattle.definition_order.proofs.Declared.{known_at}
+use Rattle.definition_order.specs.Definitions.{IsDefinition}
+use Rattle.padoa_definitions.specs.Defining.{IsFound}
 use Rattle.repair_loop.proofs.Defined.{existential_there}
 use Rattle.repair_loop.proofs.definitions.Definitions.ask.Goals as goal
 
@@ -17,12 +19,12 @@ define-requires-clause-existential g c =
 pub returns-in-Some-clause-found : goal.returns-in-Some-clause-found
 returns-in-Some-clause-found g c e at =
     let known = known_at c.args.existential.now.f.now c.every_formula_is_lawful.ensures c.existentials.result.now c.args.existential.now.place e c.existentials.ensures at in
-    c.in_ok-node.ensures.gate e known c.in-Some.node c.in-Some.is
+    subst (λ ranks. IsDefinition c.args.existential.now.f.now ranks c.read.new.graph e c.in-Some.node) c.deref.ensures.value (c.in_ok-node.ensures.gate e known c.in-Some.node c.in-Some.is)
 
 pub returns-in-None-clause-found : goal.returns-in-None-clause-found
 returns-in-None-clause-found g c e at =
     let known = known_at c.args.existential.now.f.now c.every_formula_is_lawful.ensures c.existentials.result.now c.args.existential.now.place e c.existentials.ensures at in
-    c.define.ensures.found e known
+    subst (λ ranks. IfOk c.define.result (IsFound c.args.existential.now.f.now ranks c.define.new.graph e)) c.deref-in-None.ensures.value (c.define.ensures.found e known)
 
 pub returns-in-None-clause-extends : goal.returns-in-None-clause-extends
 returns-in-None-clause-extends g c = extends-trans c.args.graph.now c.read.new.graph c.define.new.graph c.read.ensures.extends c.define.ensures.extends

@@ -20,14 +20,17 @@ returns-clause-limit_same g c = (c.ask.ensures.grew 0).limit
 pub returns-clause-known : goal.returns-clause-known
 returns-clause-known g c =
     let f = c.args.existential.now.f.now in
+    let ranks = c.args.self.now.ranks.items in
+    let graph = c.ask.new.graph in
     let before = c.args.self.now.nodes.items in
     let rules = c.args.self.now.rules.items in
     let found = c.in_ok-found.found in
     let lawful = c.every_formula_is_lawful.ensures in
     let here = existential_there f lawful (existential_variables f) refl c.args.existential.now.place c.requires.place in
-    let still = known_stays f c.args.graph.now c.ask.new.graph before rules c.ask.ensures.extends c.requires.known in
-    let known = known_at f lawful.prefix c.ask.new.graph c.args.existential.now.place here.0 before (definition_in found) rules here.1
-    (found_defines f c.ask.new.graph here.0 found (c.in_ok-found.ensures.found here.0 here.1)) still in
-    let kept = subst (λ (d : Definitions). AreKnown f c.ask.new.graph (set d.nodes.items c.args.existential.now.place (definition_in found)) d.rules.items) (sym c.ask.ensures.same) known in
-    subst (λ ns. AreKnown f c.ask.new.graph ns c.note.new.self.rules.items) (sym c.note.ensures.nodes)
-    (subst (AreKnown f c.ask.new.graph _) (sym c.note.ensures.rules) kept)
+    let still = known_stays f ranks c.args.graph.now graph before rules c.ask.ensures.extends c.requires.known in
+    let known = known_at f ranks lawful.prefix graph c.args.existential.now.place here.0 before (definition_in found) rules here.1
+    (found_defines f ranks graph here.0 found (c.in_ok-found.ensures.found here.0 here.1)) still in
+    let kept = subst (λ (d : Definitions). AreKnown f d.ranks.items graph (set d.nodes.items c.args.existential.now.place (definition_in found)) d.rules.items) (sym c.ask.ensures.same) known in
+    subst (λ rs. AreKnown f rs graph c.note.new.self.nodes.items c.note.new.self.rules.items) (sym c.note.ensures.ranks)
+    (subst (λ ns. AreKnown f c.ask.new.self.ranks.items graph ns c.note.new.self.rules.items) (sym c.note.ensures.nodes)
+    (subst (AreKnown f c.ask.new.self.ranks.items graph _) (sym c.note.ensures.rules) kept))

@@ -16,6 +16,7 @@ loop-place-preserved g c =
       padoa = c.force.ensures.padoa;
       same = c.force.ensures.same ∙ inv.same;
       nodes = c.force.ensures.nodes ∙ inv.nodes;
+      ranks = c.force.ensures.ranks ∙ inv.ranks;
       rules = c.force.ensures.rules;
       goes_on = λ graph checker s.
           (subst (λ p. GoesOn c.args.f.now c.args.model.now.table.now p c.loop-place.log.entries c.force.new.log.entries) inv.same c.force.ensures.goes_on) graph checker (inv.goes_on graph checker s);
