@@ -85,7 +85,7 @@ within_hint was now after old new s id w len hints literals = record {
 }
 
 pub within_literal : (was now after : Noted) (old new : List Step) (s : Step) (l : Literal) → IsWithin was now old (s ∷ new)
-    → after ≡ record { marks = now.marks; hints = now.hints; literals = now.literals ++ l ∷ [] } → IsWithin was after old new
+    → after ≡ record { marks = now.marks; places = now.places; hints = now.hints; literals = now.literals ++ l ∷ [] } → IsWithin was after old new
 within_literal was now after old new s l w is = subst (λ (n : Noted). IsWithin was n old new) (sym is) (record {
   len = w.len;
   hints = let h = w.hints in omega (arith, h);
@@ -124,7 +124,7 @@ kept_one literals l t =
     or_false false = refl
 
 pub leads_noted : (live : LiveClauses) (old new : List Step) (was now after : Noted) (s : Step) → LeadsOn live old (s ∷ new) was now → IsSound live (s ∷ new)
-    → after ≡ record { marks = now.marks; hints = now.hints; literals = now.literals ++ opposite s.literal ∷ [] } → LeadsOn live old new was after
+    → after ≡ record { marks = now.marks; places = now.places; hints = now.hints; literals = now.literals ++ opposite s.literal ∷ [] } → LeadsOn live old new was after
 leads_noted live old new was now after s inv sound is = subst (LeadsOn live old new was) (sym is) (λ entries stand first.
     analysis_kept entries live now.marks (literals_of new) (map opposite now.literals) (map opposite (now.literals ++ opposite s.literal ∷ [])) s.literal (reverse now.hints) sound.0.free
     (kept_one now.literals s.literal) (inv entries stand first))
@@ -218,7 +218,7 @@ keeping_next clauses old now new was noted after s id inv popped room status mar
 
 pub keeping_decision : (live : LiveClauses) (old now new : Trailed) (was noted after : Noted) (s : Step)
     → IsKeeping live old now was noted → now.steps ≡ s ∷ new.steps → new.room ≡ now.room → is_decision s ≡ true
-    → after ≡ record { marks = noted.marks; hints = noted.hints; literals = noted.literals ++ opposite s.literal ∷ [] } → IsKeeping live old new was after
+    → after ≡ record { marks = noted.marks; places = noted.places; hints = noted.hints; literals = noted.literals ++ opposite s.literal ∷ [] } → IsKeeping live old new was after
 keeping_decision live old now new was noted after s inv popped room decided is =
     let sound = subst (IsSound live) popped inv.sound in
     let more_is : after.literals ≡ noted.literals ++ opposite s.literal ∷ [] = ap (λ (n : Noted). n.literals) is in

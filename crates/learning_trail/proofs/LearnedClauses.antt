@@ -28,7 +28,7 @@ kept-reverse xs t =
     ∙ sym (holds-map xs (opposite t)) ∙ ap (holds (map opposite xs)) (opposite-opposite t)
 
 -- what is noted, turned round
-pub analysis_turned : (entries : List Entry) (live : LiveClauses) (n turned : Noted) → turned ≡ record { marks = n.marks; hints = reverse n.hints; literals = reverse n.literals }
+pub analysis_turned : (entries : List Entry) (live : LiveClauses) (n turned : Noted) → turned ≡ record { marks = n.marks; places = n.places; hints = reverse n.hints; literals = reverse n.literals }
     → IsAnalysis entries live [] (map opposite n.literals) n.marks (reverse n.hints) → IsAnalysis entries live [] (map opposite turned.literals) turned.marks turned.hints
 analysis_turned entries live n turned is analysis =
     subst (λ (m : Noted). IsAnalysis entries live [] (map opposite m.literals) m.marks m.hints) (sym is)
@@ -38,9 +38,9 @@ module _ (live : LiveClauses) (old mid : Trailed) (step : Step) (begun found add
     (sound : IsSound live (step ∷ mid.steps)) (empty : begun.literals ≡ [])
     (begins : (entries : List Entry) → AllStand entries live → IsAnalysis entries live (literals_of old.steps) [] begun.marks (reverse begun.hints))
     (point : IsFirstPoint live old mid step begun found)
-    (adds : added ≡ record { marks = found.marks; hints = found.hints; literals = found.literals ++ opposite step.literal ∷ [] })
+    (adds : added ≡ record { marks = found.marks; places = found.places; hints = found.hints; literals = found.literals ++ opposite step.literal ∷ [] })
     (trimmed : IsTrimmed live mid.steps [] added left)
-    (turned : noted ≡ record { marks = left.marks; hints = reverse left.hints; literals = reverse left.literals }) where
+    (turned : noted ≡ record { marks = left.marks; places = left.places; hints = reverse left.hints; literals = reverse left.literals }) where
   added_is : added.literals ≡ opposite step.literal ∷ []
   added_is = ap (λ (n : Noted). n.literals) adds ∙ ap (λ ls. ls ++ opposite step.literal ∷ []) (point.literals ∙ empty)
 

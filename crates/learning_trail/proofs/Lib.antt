@@ -19,3 +19,6 @@ pub mod SetMarks
 pub mod TakenLevels
 pub mod Taught
 pub mod TrueAssumptions
+pub mod TouchedMarks
+pub mod PlacedSteps
+pub mod ListedPlaces

@@ -69,7 +69,7 @@ pub record IsConcluded (es : List Entry) (live : LiveClauses) (assumptions : Lis
 pub conclude : (es : List Entry) (live : LiveClauses) (assumptions : List Literal) (old new : Trailed) (was now noted : Noted) → AllStand es live → AreAssumed assumptions old.steps
     → ((l : Literal) → holds was.literals l ≡ true → holds assumptions (opposite l) ≡ true)
     → IsAnalysis es live (literals_of old.steps) (map opposite was.literals) was.marks (reverse was.hints) → IsKeeping live old new was now → new.steps ≡ []
-    → noted ≡ record { marks = now.marks; hints = reverse now.hints; literals = reverse now.literals } → IsConcluded es live assumptions noted
+    → noted ≡ record { marks = now.marks; places = now.places; hints = reverse now.hints; literals = reverse now.literals } → IsConcluded es live assumptions noted
 conclude es live assumptions old new was now noted stand assumed negated analysis keeping bare turned = record {
   negated = λ l h. (keeping.negated assumptions assumed negated).1 l (sym (holds-reverse now.literals l) ∙ ap (λ (n : Noted). holds n.literals l) (sym turned) ∙ h);
   analysis = analysis_turned es live now noted turned

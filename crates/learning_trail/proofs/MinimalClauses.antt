@@ -76,7 +76,7 @@ trimmed_past live steps rest was now s inv unmarked = record {
 
 pub trimmed_noted : (live : LiveClauses) (steps rest : List Step) (was now after : Noted) (s : Step) → IsSound live steps → IsTrimmed live steps (s ∷ rest) was now
     → marked now.marks (variable_of s.literal) ≡ true
-    → after ≡ record { marks = now.marks; hints = now.hints; literals = now.literals ++ opposite s.literal ∷ [] } → IsTrimmed live steps rest was after
+    → after ≡ record { marks = now.marks; places = now.places; hints = now.hints; literals = now.literals ++ opposite s.literal ∷ [] } → IsTrimmed live steps rest was after
 trimmed_noted live steps rest was now after s sound inv mark is =
     let sound_here = sound_later live inv.done (s ∷ rest) (subst (IsSound live) inv.split sound) in
     let marks_are : after.marks ≡ now.marks = ap (λ (n : Noted). n.marks) is in

@@ -1,18 +1,45 @@
 -- How the notes of an analysis are kept.
-use Rattle.std.specs.Prelude.{ℕ, ◌≤◌, Bool, List, length, vec_capacity}
+use Rattle.std.specs.Prelude.{◌≡◌, ℕ, ◌<◌, ◌≤◌, Bool, true, false, List, length, map, count_by, slice_index_or, All, Contains, vec_capacity}
 use Rattle.dq_lits.specs.Literal.{Literal}
+use Rattle.learning_trail.specs.declared.notes.Mark.{Mark}
+use Rattle.learning_trail.specs.declared.notes.Mark.TheVariants.{Clear, Marked, Past}
 use Rattle.learning_trail.specs.declared.notes.Notes.TheInside.{Inside}
 
 -- what notes show
 pub record Noted : Type 0 where
   pub marks : List Bool
+  pub places : List ℕ
   pub hints : List ℕ
   pub literals : List Literal
 
-abbrev pub noted_in : Inside → Noted
-noted_in n = record { marks = n.marks.items; hints = n.hints.items; literals = n.literals.items }
+abbrev pub is_marked : Mark → Bool
+is_marked Clear = false
+is_marked Marked = true
+is_marked Past = false
 
--- there is room for as many hints and literals as marks
+abbrev pub is_touched : Mark → Bool
+is_touched Clear = false
+is_touched Marked = true
+is_touched Past = true
+
+abbrev pub noted_in : Inside → Noted
+noted_in n = record {
+  marks = map is_marked n.marks.items;
+  places = n.places.items;
+  hints = n.hints.items;
+  literals = n.literals.items;
+}
+
+-- the variables whose marks aren't clear, none of them twice
+pub record AreTouched (marks : List Mark) (touched : List ℕ) : Type 0 where
+  pub in_range : All (λ v. v < length marks) touched
+  pub whole : (v : ℕ) → is_touched (slice_index_or marks v Clear) ≡ true → Contains touched v
+  pub few : length touched ≤ count_by is_touched marks
+
+-- there is room for as many variables, places, hints and literals as marks
 pub record HasPlaces (n : Inside) : Type 0 where
+  pub touched : AreTouched n.marks.items n.touched.items
+  pub room : length n.marks.items ≤ vec_capacity n.touched
+  pub places : length n.marks.items ≤ vec_capacity n.places
   pub hints : length n.marks.items ≤ vec_capacity n.hints
   pub literals : length n.marks.items ≤ vec_capacity n.literals

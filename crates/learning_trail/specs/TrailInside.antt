@@ -1,5 +1,5 @@
 -- How a trail is kept.
-use Rattle.std.specs.Prelude.{◌≤◌, List, [], ◌∷◌, length, reverse, count_by, vec_capacity, All}
+use Rattle.std.specs.Prelude.{◌≡◌, ℕ, ◌-◌, ◌≤◌, slice_index_or, List, [], ◌∷◌, length, reverse, count_by, vec_capacity, All}
 use Rattle.dq_lits.specs.Literal.{variable_of}
 use Rattle.learning_trail.specs.declared.trails.Step.{Step}
 use Rattle.learning_trail.specs.declared.trails.TruthValue.{TruthValue}
@@ -20,6 +20,17 @@ pub record IsKept (values : List TruthValue) (steps : List Step) : Type 0 where
   pub apart : AreApart steps
   pub counted : length steps ≤ count_by is_assigned values
 
+-- where a step stands is noted for its variable
+pub record IsPlaced (places : List ℕ) (s : Step) (at : ℕ) : Type 0 where
+  pub from_one : 1 ≤ variable_of s.literal
+  pub at_place : slice_index_or places (variable_of s.literal - 1) 0 ≡ at
+
+abbrev pub ArePlaced : List ℕ → List Step → Type 0
+ArePlaced places [] = Unit {0}
+ArePlaced places (s ∷ earlier) = IsPlaced places s (length earlier) × ArePlaced places earlier
+
 pub record IsTrail (t : Inside) : Type 0 where
   pub kept : IsKept t.values.items (reverse t.steps.items)
   pub room : length t.values.items ≤ vec_capacity t.steps
+  pub placed : ArePlaced t.places.items (reverse t.steps.items)
+  pub places : length t.places.items ≡ length t.values.items

@@ -17,6 +17,7 @@ ghost use Rattle.learning_trail.specs.Marks.{marked, stands_on, is_level_marked}
 ghost use Rattle.learning_trail.specs.Passes.{AreMarkable};
 ghost use Rattle.learning_trail.specs.Backing.{IsFirstPoint, IsTrimmed, IsRedundant};
 ghost use Rattle.learning_trail.specs.Lessons.{IsLesson};
+ghost use Rattle.learning_trail.specs.Noting.{Noted};
 
 use crate::activities::Activities;
 use crate::clauses::Clauses;
@@ -79,6 +80,7 @@ pub fn resolve<C: Clauses>(clauses: &C, notes: &mut Notes, l: Lit, reason: u64)
     requires in_range { variable_of l < length notes.old.marks }
     requires room { length notes.old.hints < length notes.old.marks }
     ensures len { length notes.new.marks ≡ length notes.old.marks }
+    ensures places { notes.new.places ≡ notes.old.places }
     ensures hints { notes.new.hints ≡ notes.old.hints ++ reason ∷ [] }
     ensures literals { notes.new.literals ≡ notes.old.literals }
     ensures marked { (c : List Literal) (v : ℕ) → live_in (C.clauses clauses.now) reason ≡ Some c
@@ -133,16 +135,39 @@ fn add_rest<C: Clauses>(trail: &Trail, clauses: &C, notes: &mut Notes)
         ≤ length notes.old.marks }
     ensures { IsTrimmed (live_in (C.clauses clauses.now)) trail.now.steps [] notes.old notes.new }
 {
+    notes.list_places(trail);
     let steps = trail.steps();
-    let mut at = steps.len();
+    let mut end = steps.len();
+    let mut at = notes.places().len();
     while at > 0 {
         at -= 1;
-        let step = steps[at];
-        if notes.has(step.literal) {
-            match redundant_by(clauses, notes, &step) {
-                Some(reason) => resolve(clauses, notes, step.literal, reason),
-                None => notes.add_literal(step.literal.not()),
-            }
+        let place = notes.places()[at];
+        if place < end {
+            end = place;
+            trim(clauses, notes, &steps[place]);
+        }
+    }
+}
+
+// Adds the negation of a step's literal, if it is marked and its reason doesn't rest on marked ones
+// alone.
+fn trim<C: Clauses>(clauses: &C, notes: &mut Notes, step: &Step)
+    requires within { AreMarkable (length notes.old.marks) (C.clauses clauses.now) }
+    requires in_range { variable_of step.now.literal < length notes.old.marks }
+    requires reason { IfSome step.now.reason
+        (λ id. (1 ≤ id) × (id ≤ length (C.clauses clauses.now))) }
+    requires room { length notes.old.hints < length notes.old.marks }
+    requires literal_room { length notes.old.literals < length notes.old.marks }
+    ensures places { notes.new.places ≡ notes.old.places }
+    ensures trimmed { (steps rest : List Step) (was : Noted)
+        → IsSound (live_in (C.clauses clauses.now)) steps
+        → IsTrimmed (live_in (C.clauses clauses.now)) steps (step.now ∷ rest) was notes.old
+        → IsTrimmed (live_in (C.clauses clauses.now)) steps rest was notes.new }
+{
+    if notes.has(step.literal) {
+        match redundant_by(clauses, notes, step) {
+            Some(reason) => resolve(clauses, notes, step.literal, reason),
+            None => notes.add_literal(step.literal.not()),
         }
     }
 }

@@ -1,18 +1,35 @@
 //! What an analysis writes down. There is room for all of it from the start.
 
-ghost use Rattle.std.specs.Prelude.{◌≡◌, ◌≤◌, ◌<◌, ◌+◌, ◌++◌, ◌∷◌, ◌==◌, ◌||◌, ◌&&◌, not, [], ℕ, true, false, length, reverse, All, OnOk, OnErr};
-ghost use Rattle.dq_lits.specs.Literal.{variable_of};
+ghost use Rattle.std.specs.Prelude.{◌≡◌, ◌≤◌, ◌<◌, ◌+◌, ◌++◌, ◌∷◌, ◌==◌, ◌||◌, ◌&&◌, not, [], List, ℕ, true, false, length, reverse, All, OnOk, OnErr, slice_index_or, vec_capacity, set, Contains};
+ghost use Rattle.std.specs.List.Sorted.{IsNonDecreasing};
+ghost use Rattle.dq_lits.specs.Literal.{Literal, variable_of};
+ghost use Rattle.learning_trail.specs.Steps.{IsAt};
 ghost use Rattle.learning_trail.specs.Marks.{marked, stands_on};
+ghost use Rattle.learning_trail.specs.Noting.{is_marked, is_touched, AreTouched};
 
+use crate::trails::Trail;
 use dq_lits::{Lit, Memory};
 use std::alloc::Global;
 use std::marker::Model;
+
+/// A variable's mark.
+#[derive(Clone, Copy, Debug)]
+pub(crate) enum Mark {
+    Clear,
+    Marked,
+    /// It was taken away, and isn't cleared yet.
+    Past,
+}
 
 /// Marks of variables, hints, and the literals of a clause to come.
 #[derive(Drop)]
 pub struct Notes {
     // The mark of variable v at place v; empty, or with place 0, which no variable has.
-    marks: Vec<bool>,
+    marks: Vec<Mark>,
+    // The variables whose marks aren't clear, so that clearing them passes no others.
+    touched: Vec<usize>,
+    // Where marked literals stand on a trail, in order.
+    places: Vec<usize>,
     hints: Vec<u64>,
     literals: Vec<Lit>,
 }
@@ -30,10 +47,12 @@ impl Model for Notes {
 impl Notes {
     /// No marks, for no variables. It takes no memory.
     pub fn new(alloc: Global) -> Notes
-        ensures { result ≡ record { marks = []; hints = []; literals = [] } }
+        ensures { result ≡ record { marks = []; places = []; hints = []; literals = [] } }
     {
         Notes {
             marks: Vec::new(alloc),
+            touched: Vec::new(alloc),
+            places: Vec::new(alloc),
             hints: Vec::new(alloc),
             literals: Vec::new(alloc),
         }
@@ -51,15 +70,19 @@ impl Notes {
     }
 
     /// Room for one variable more.
+    #[tactic(auto, using(crate::proofs::TouchedMarks::touched_grown))]
     pub fn grow(&mut self) -> Result<(), Memory>
         ensures ok { OnOk result (length self.new.marks ≡ length self.old.marks + 1) }
         ensures err { OnErr result (length self.new.marks ≡ length self.old.marks) }
     {
         self.hints.clear();
         self.literals.clear();
+        self.places.clear();
+        self.touched.reserve(self.marks.len() + 1)?;
+        self.places.reserve(self.marks.len() + 1)?;
         self.hints.reserve(self.marks.len() + 1)?;
         self.literals.reserve(self.marks.len() + 1)?;
-        self.marks.push(false)?;
+        self.marks.push(Mark::Clear)?;
         Ok(())
     }
 
@@ -68,7 +91,7 @@ impl Notes {
         requires { variable_of l < length self.now.marks }
         ensures { result ≡ marked self.now.marks (variable_of l) }
     {
-        self.marks[l.var() as usize]
+        is_marked(self.marks[l.var() as usize])
     }
 
     /// The hints.
@@ -92,7 +115,8 @@ impl Notes {
         ensures hints { self.new.hints ≡ [] }
         ensures literals { self.new.literals ≡ [] }
     {
-        unmark_all(&mut self.marks);
+        clear_all(&mut self.marks, &self.touched);
+        self.touched.clear();
         self.hints.clear();
         self.literals.clear();
     }
@@ -104,10 +128,13 @@ impl Notes {
         ensures len { length self.new.marks ≡ length self.old.marks }
         ensures marked { (v : ℕ)
             → marked self.new.marks v ≡ (marked self.old.marks v || stands_on lits.now v) }
+        ensures places { self.new.places ≡ self.old.places }
         ensures hints { self.new.hints ≡ self.old.hints ++ id ∷ [] }
         ensures literals { self.new.literals ≡ self.old.literals }
     {
-        mark_all(&mut self.marks, lits);
+        for l in lits {
+            self.add_mark(*l);
+        }
         if self.hints.push(id).is_err() {
             unreachable!();
         }
@@ -119,10 +146,24 @@ impl Notes {
         ensures len { length self.new.marks ≡ length self.old.marks }
         ensures marked { (v : ℕ)
             → marked self.new.marks v ≡ (not (variable_of l == v) && marked self.old.marks v) }
+        ensures places { self.new.places ≡ self.old.places }
         ensures hints { self.new.hints ≡ self.old.hints }
         ensures literals { self.new.literals ≡ self.old.literals }
     {
-        self.marks[l.var() as usize] = false;
+        take_mark(&mut self.marks, l.var() as usize);
+    }
+
+    // Marks a literal's variable.
+    fn add_mark(&mut self, l: Lit)
+        requires { variable_of l < length self.old.marks }
+        ensures len { length self.new.marks ≡ length self.old.marks }
+        ensures marked { (v : ℕ)
+            → marked self.new.marks v ≡ (marked self.old.marks v || variable_of l == v) }
+        ensures places { self.new.places ≡ self.old.places }
+        ensures hints { self.new.hints ≡ self.old.hints }
+        ensures literals { self.new.literals ≡ self.old.literals }
+    {
+        set_mark(&mut self.marks, &mut self.touched, l.var() as usize);
     }
 
     /// Adds a literal.
@@ -135,11 +176,30 @@ impl Notes {
         }
     }
 
+    /// Where marked literals stand, as they were listed last.
+    pub(crate) fn places(&self) -> &[usize]
+        ensures { result.now ≡ self.now.places }
+    {
+        &self.places
+    }
+
+    /// Lists where a trail's marked literals stand, in order; other places may be among these.
+    pub(crate) fn list_places(&mut self, trail: &Trail)
+        ensures same { self.new ≡ record self.old { places = self.new.places } }
+        ensures sorted { IsNonDecreasing self.new.places }
+        ensures covered { (at : ℕ) (l : Literal) → IsAt trail.now.steps at l
+            → marked self.old.marks (variable_of l) ≡ true → Contains self.new.places at }
+    {
+        list(&mut self.places, &self.marks, &self.touched, trail);
+        self.places.sort_unstable();
+    }
+
     /// Turns hints and literals round.
     pub fn turn(&mut self)
         ensures { self.new
             ≡ record {
               marks = self.old.marks;
+              places = self.old.places;
               hints = reverse self.old.hints;
               literals = reverse self.old.literals;
             } }
@@ -149,21 +209,102 @@ impl Notes {
     }
 }
 
-fn mark_all(marks: &mut [bool], lits: &[Lit])
-    requires { All (λ l. variable_of l < length marks.old) lits.now }
-    ensures len { length marks.new ≡ length marks.old }
-    ensures marked { (v : ℕ) → marked marks.new v ≡ (marked marks.old v || stands_on lits.now v) }
+fn is_marked(mark: Mark) -> bool
+    ensures { result ≡ is_marked mark }
 {
-    for l in lits {
-        marks[l.var() as usize] = true;
+    match mark {
+        Mark::Clear => false,
+        Mark::Marked => true,
+        Mark::Past => false,
     }
 }
 
-fn unmark_all(marks: &mut [bool])
-    ensures len { length marks.new ≡ length marks.old }
-    ensures unmarked { (v : ℕ) → marked marks.new v ≡ false }
+// Lists the places of the marked ones of these variables.
+fn list(places: &mut Vec<usize>, marks: &[Mark], touched: &[usize], trail: &Trail)
+    requires touched { AreTouched marks.now touched.now }
+    requires room { length marks.now ≤ vec_capacity places.old }
+    ensures listed { (at v : ℕ) (l : Literal) → IsAt trail.now.steps at l → variable_of l ≡ v
+        → is_marked (slice_index_or marks.now v Mark.Clear) ≡ true → Contains places.new.items at }
+    ensures capacity { vec_capacity places.old ≤ vec_capacity places.new }
 {
-    for m in marks.iter_mut() {
-        *m = false;
+    places.clear();
+    for v in touched {
+        list_one(places, marks[*v], *v, trail);
+    }
+}
+
+fn is_clear(mark: Mark) -> bool
+    ensures { result ≡ not (is_touched mark) }
+{
+    match mark {
+        Mark::Clear => true,
+        Mark::Marked => false,
+        Mark::Past => false,
+    }
+}
+
+fn set_mark(marks: &mut Vec<Mark>, touched: &mut Vec<usize>, v: usize)
+    requires in_range { v < length marks.old.items }
+    requires touched { AreTouched marks.old.items touched.old.items }
+    requires room { length marks.old.items ≤ vec_capacity touched.old }
+    ensures marks { marks.new.items ≡ set marks.old.items v Mark.Marked }
+    ensures touched { AreTouched marks.new.items touched.new.items }
+    ensures capacity { vec_capacity touched.old ≤ vec_capacity touched.new }
+{
+    let mark = marks[v];
+    marks[v] = Mark::Marked;
+    if is_clear(mark) {
+        put(touched, v);
+    }
+}
+
+fn put(touched: &mut Vec<usize>, v: usize)
+    requires { length touched.old.items < vec_capacity touched.old }
+    ensures items { touched.new.items ≡ touched.old.items ++ v ∷ [] }
+    ensures capacity { vec_capacity touched.old ≤ vec_capacity touched.new }
+{
+    if touched.push(v).is_err() {
+        unreachable!();
+    }
+}
+
+// Lists where a variable's literal stands, if it has this mark.
+fn list_one(places: &mut Vec<usize>, mark: Mark, v: usize, trail: &Trail)
+    requires { length places.old.items < vec_capacity places.old }
+    ensures kept { (at : ℕ) → Contains places.old.items at → Contains places.new.items at }
+    ensures listed { (at : ℕ) (l : Literal) → IsAt trail.now.steps at l → variable_of l ≡ v
+        → is_marked mark ≡ true → Contains places.new.items at }
+    ensures few { length places.new.items ≤ length places.old.items + 1 }
+    ensures capacity { vec_capacity places.old ≤ vec_capacity places.new }
+{
+    if !is_marked(mark) {
+        return;
+    }
+    if let Some(place) = trail.place(v) {
+        put(places, place);
+    }
+}
+
+fn take_mark(marks: &mut [Mark], v: usize)
+    requires { v < length marks.old }
+    ensures len { length marks.new ≡ length marks.old }
+    ensures marked { (w : ℕ) → is_marked (slice_index_or marks.new w Mark.Clear)
+        ≡ (not (v == w) && is_marked (slice_index_or marks.old w Mark.Clear)) }
+    ensures touched { (touched : List ℕ) → AreTouched marks.old touched
+        → AreTouched marks.new touched }
+{
+    if is_marked(marks[v]) {
+        marks[v] = Mark::Past;
+    }
+}
+
+// Clears the marks of these variables, which are all that aren't clear.
+fn clear_all(marks: &mut Vec<Mark>, touched: &[usize])
+    requires { AreTouched marks.old.items touched.now }
+    ensures len { length marks.new.items ≡ length marks.old.items }
+    ensures clear { (v : ℕ) → slice_index_or marks.new.items v Mark.Clear ≡ Mark.Clear }
+{
+    for v in touched {
+        marks[*v] = Mark::Clear;
     }
 }

@@ -1,5 +1,5 @@
-ghost use Rattle.std.specs.Prelude.{◌≡◌, ◌+◌, ◌≤◌, [], ◌∷◌, length, reverse, IfOk, OnErr, OnOk, IfSome, MatchOption, All, if◌then◌else◌};
-ghost use Rattle.dq_lits.specs.Literal.{variable_of};
+ghost use Rattle.std.specs.Prelude.{◌≡◌, ◌+◌, ◌<◌, ◌≤◌, ◌++◌, [], ◌∷◌, ℕ, Some, length, reverse, vec_capacity, IfOk, OnErr, OnOk, IfSome, MatchOption, All, if◌then◌else◌};
+ghost use Rattle.dq_lits.specs.Literal.{Literal, variable_of};
 
 use dq_lits::{Lit, Memory};
 use std::alloc::Global;
@@ -26,6 +26,8 @@ pub struct Step {
 pub struct Trail {
     // The value of variable v at place v - 1.
     values: Vec<TruthValue>,
+    // Where the literal of variable v stands, if it is true or false, at place v - 1.
+    places: Vec<usize>,
     steps: Vec<Step>,
 }
 
@@ -49,6 +51,7 @@ impl Trail {
     {
         Trail {
             values: Vec::new(alloc),
+            places: Vec::new(alloc),
             steps: Vec::new(alloc),
         }
     }
@@ -60,7 +63,9 @@ impl Trail {
         ensures err { OnErr result (self.new ≡ self.old) }
     {
         self.steps.reserve(self.values.len() + 1)?;
+        self.places.reserve(1)?;
         self.values.push(TruthValue::Unassigned)?;
+        put_place(&mut self.places);
         Ok(())
     }
 
@@ -83,6 +88,7 @@ impl Trail {
         ensures few { length self.new.steps ≤ self.new.room }
     {
         self.values[place_of(step.literal)] = truth(!step.literal.is_neg());
+        self.places[place_of(step.literal)] = self.steps.len();
         if self.steps.push(step).is_err() {
             unreachable!();
         }
@@ -127,12 +133,36 @@ impl Trail {
         }
     }
 
+    /// The place of a variable's literal, the oldest one at 0. There may be one where the variable
+    /// has no value.
+    pub(crate) fn place(&self, v: usize) -> Option<usize>
+        ensures { (at : ℕ) (k : Literal) → IsAt self.now.steps at k → variable_of k ≡ v
+            → result ≡ Some at }
+    {
+        if v > self.places.len() {
+            return None;
+        }
+        if v == 0 {
+            return None;
+        }
+        Some(self.places[v - 1])
+    }
+
     /// The literals that were made true, with their reasons, the oldest first.
     pub fn steps(&self) -> &[Step]
         ensures value { reverse result.now ≡ self.now.steps }
         ensures in_range { All (λ s. variable_of s.literal ≤ self.now.room) result.now }
     {
         &self.steps
+    }
+}
+
+fn put_place(places: &mut Vec<usize>)
+    requires { length places.old.items < vec_capacity places.old }
+    ensures { places.new.items ≡ places.old.items ++ 0 ∷ [] }
+{
+    if places.push(0).is_err() {
+        unreachable!();
     }
 }
 

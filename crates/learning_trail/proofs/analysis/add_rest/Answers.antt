@@ -1,81 +1,71 @@
-use Rattle.std.proofs.Common.{refl, ◌≡◌, ◌-◌, ◌∷◌, ◌++◌, [], sym, ◌∙◌, ap, subst, take, reverse, arith, ℕ}
-use Rattle.dq_lits.specs.Literal.{opposite}
+use Rattle.std.proofs.Common.{◌≡◌, ◌-◌, ◌<◌, ◌∷◌, ◌∙◌, ap, subst, sym, take, reverse, length, get_or, arith, ℕ, List}
+use Rattle.std.specs.List.Sorted.{IsNonDecreasing}
+use Rattle.std.proofs.lemmas.List.{take_all}
 use Rattle.oracle.specs.Fit.{live_in}
-use Rattle.learning_trail.specs.Steps.{literals_of}
-use Rattle.learning_trail.specs.Backing.{IsTrimmed, IsRedundant}
-use Rattle.learning_trail.proofs.BacktrackSteps.{reason_of, reason_at}
-use Rattle.learning_trail.proofs.MinimalClauses.{trim_step, reason_known, trimmed_past, trimmed_noted, trimmed_resolved}
+use Rattle.learning_trail.specs.declared.trails.Step.{Step}
+use Rattle.learning_trail.specs.Sound.{IsSound}
+use Rattle.learning_trail.specs.Backing.{IsTrimmed}
+use Rattle.learning_trail.proofs.Lessons.{sound_later}
+use Rattle.learning_trail.proofs.MinimalClauses.{reason_known}
+use Rattle.learning_trail.proofs.ListedPlaces.{AreBelow, below_first, below_next, trimmed_start, trimmed_to, trimmed_rest}
 use Rattle.learning_trail.proofs.analysis.add_rest.Goals as goal
 
-pub redundant_by-requires-clause-reason : goal.redundant_by-requires-clause-reason
-redundant_by-requires-clause-reason g c =
-    let t = trim_step (g.C.Clauses.clauses c.args.clauses.now) c.args.trail.now.steps c.steps-steps.result.now c.loop-at.at c.args.notes.now c.loop-at.notes c.index-steps-at.result
-    c.loop-at-test.true c.loop-at.invariant.within (sym c.index-steps-at.is) c.requires.sound c.loop-at.invariant.trimmed in
-    reason_known (g.C.Clauses.clauses c.args.clauses.now) (reverse (take (c.loop-at.at - 1) c.steps-steps.result.now)) c.index-steps-at.result t.sound
-
-pub resolve-requires-clause-from_one : goal.resolve-requires-clause-from_one
-resolve-requires-clause-from_one g c =
-    let step = c.index-steps-at.result in
-    let rest = reverse (take (c.loop-at.at - 1) c.steps-steps.result.now) in
-    let clauses = g.C.Clauses.clauses c.args.clauses.now in
-    let t = trim_step clauses c.args.trail.now.steps c.steps-steps.result.now c.loop-at.at c.args.notes.now c.loop-at.notes step
-    c.loop-at-test.true c.loop-at.invariant.within (sym c.index-steps-at.is) c.requires.sound c.loop-at.invariant.trimmed in
-    let redundant : IsRedundant (live_in clauses) c.loop-at.notes.marks step c.in-Some.reason = c.in-Some.ensures in
-    let status = reason_at (live_in clauses) (step ∷ rest) rest step c.in-Some.reason t.sound refl redundant.is in
-    (reason_of clauses c.in-Some.reason (literals_of rest) step.literal status).from_one
-
-pub resolve-requires-clause-is_id : goal.resolve-requires-clause-is_id
-resolve-requires-clause-is_id g c =
-    let step = c.index-steps-at.result in
-    let rest = reverse (take (c.loop-at.at - 1) c.steps-steps.result.now) in
-    let clauses = g.C.Clauses.clauses c.args.clauses.now in
-    let t = trim_step clauses c.args.trail.now.steps c.steps-steps.result.now c.loop-at.at c.args.notes.now c.loop-at.notes step
-    c.loop-at-test.true c.loop-at.invariant.within (sym c.index-steps-at.is) c.requires.sound c.loop-at.invariant.trimmed in
-    let redundant : IsRedundant (live_in clauses) c.loop-at.notes.marks step c.in-Some.reason = c.in-Some.ensures in
-    let status = reason_at (live_in clauses) (step ∷ rest) rest step c.in-Some.reason t.sound refl redundant.is in
-    (reason_of clauses c.in-Some.reason (literals_of rest) step.literal status).is_id
-
-pub loop-at-preserved-in-Some : goal.loop-at-preserved-in-Some
-loop-at-preserved-in-Some g c =
-    let step = c.index-steps-at.result in
-    let rest = reverse (take (c.loop-at.at - 1) c.steps-steps.result.now) in
-    let clauses = g.C.Clauses.clauses c.args.clauses.now in
-    let t = trim_step clauses c.args.trail.now.steps c.steps-steps.result.now c.loop-at.at c.args.notes.now c.loop-at.notes step
-    c.loop-at-test.true c.loop-at.invariant.within (sym c.index-steps-at.is) c.requires.sound c.loop-at.invariant.trimmed in
-    let redundant : IsRedundant (live_in clauses) c.loop-at.notes.marks step c.in-Some.reason = c.in-Some.ensures in
-    let status = reason_at (live_in clauses) (step ∷ rest) rest step c.in-Some.reason t.sound refl redundant.is in
+pub loop-at-init : goal.loop-at-init
+loop-at-init g c =
+    let was = c.args.notes.now in
+    let places = c.list_places.new.self.places in
+    let steps = c.args.trail.now.steps in
+    let items = c.steps-steps.result.now in
+    let count = ap length c.places-at.ensures in
     record {
-      within = t.below;
-      trimmed = trimmed_resolved clauses c.args.trail.now.steps rest c.args.notes.now c.loop-at.notes c.resolve.new.notes step c.in-Some.reason c.requires.sound t.trimmed status
-          (sym c.has.ensures ∙ c.if-has.true) redundant c.resolve.ensures.len c.resolve.ensures.hints c.resolve.ensures.literals c.resolve.ensures.marked;
+      within = omega (arith, count);
+      long = omega arith;
+      sorted = c.list_places.ensures.sorted;
+      below = subst (λ (n : ℕ). AreBelow was.marks items places n (length items)) (sym count) (below_first was.marks steps items places c.steps-steps.ensures.value c.list_places.ensures.covered);
+      trimmed = subst (λ (xs : List Step). IsTrimmed (live_in (g.C.Clauses.clauses c.args.clauses.now)) steps xs was c.list_places.new.self) (sym (ap reverse (take_all (length items) items (omega arith)) ∙ c.steps-steps.ensures.value))
+          (trimmed_start (live_in (g.C.Clauses.clauses c.args.clauses.now)) steps was c.list_places.new.self c.list_places.ensures.same);
     }
 
-pub loop-at-preserved-in-None : goal.loop-at-preserved-in-None
-loop-at-preserved-in-None g c =
-    let now = c.loop-at.notes in
-    let step = c.index-steps-at.result in
-    let t = trim_step (g.C.Clauses.clauses c.args.clauses.now) c.args.trail.now.steps c.steps-steps.result.now c.loop-at.at c.args.notes.now now step
-    c.loop-at-test.true c.loop-at.invariant.within (sym c.index-steps-at.is) c.requires.sound c.loop-at.invariant.trimmed in
-    let added : c.add_literal.new.self ≡ record { marks = now.marks; hints = now.hints; literals = now.literals ++ opposite step.literal ∷ [] } =
-    c.add_literal.ensures ∙ ap (λ l. record { marks = now.marks; hints = now.hints; literals = now.literals ++ l ∷ [] }) c.not.ensures in
-    record {
-      within = t.below;
-      trimmed = trimmed_noted (live_in (g.C.Clauses.clauses c.args.clauses.now)) c.args.trail.now.steps (reverse (take (c.loop-at.at - 1) c.steps-steps.result.now)) c.args.notes.now now c.add_literal.new.self step
-          c.requires.sound t.trimmed (sym c.has.ensures ∙ c.if-has.true) added;
-    }
+pub trim-requires-clause-reason : goal.trim-requires-clause-reason
+trim-requires-clause-reason g c =
+    let clauses = g.C.Clauses.clauses c.args.clauses.now in
+    let live = live_in clauses in
+    let inv = c.loop-at.invariant in
+    let at = c.loop-at.at in
+    let p = get_or c.places.result.now (at - 1) 0 in
+    let items = c.steps-steps.result.now in
+    let s = c.index-steps-place.result in
+    let t = trimmed_to live c.args.trail.now.steps items c.args.notes.now c.loop-at.notes c.loop-at.notes.places at c.loop-at.end p s inv.sorted c.loop-at-test.true inv.within
+    (ap (λ xs. get_or xs (at - 1) 0) c.places.ensures) c.if-place-end.true inv.long (sym c.index-steps-place.is) inv.below inv.trimmed in
+    reason_known clauses (reverse (take p items)) s (sound_later live t.done (s ∷ reverse (take p items)) (subst (IsSound live) t.split c.requires.sound))
 
-pub loop-at-preserved : goal.loop-at-preserved
-loop-at-preserved g c =
-    let step = c.index-steps-at.result in
-    let t = trim_step (g.C.Clauses.clauses c.args.clauses.now) c.args.trail.now.steps c.steps-steps.result.now c.loop-at.at c.args.notes.now c.loop-at.notes step
-    c.loop-at-test.true c.loop-at.invariant.within (sym c.index-steps-at.is) c.requires.sound c.loop-at.invariant.trimmed in
+pub loop-at-preserved-then-place-end : goal.loop-at-preserved-then-place-end
+loop-at-preserved-then-place-end g c =
+    let live = live_in (g.C.Clauses.clauses c.args.clauses.now) in
+    let was = c.args.notes.now in
+    let inv = c.loop-at.invariant in
+    let at = c.loop-at.at in
+    let p = get_or c.places.result.now (at - 1) 0 in
+    let items = c.steps-steps.result.now in
+    let s = c.index-steps-place.result in
+    let is : p ≡ get_or c.loop-at.notes.places (at - 1) 0 = ap (λ xs. get_or xs (at - 1) 0) c.places.ensures in
+    let near : p < c.loop-at.end = c.if-place-end.true in
+    let t = trimmed_to live c.args.trail.now.steps items was c.loop-at.notes c.loop-at.notes.places at c.loop-at.end p s inv.sorted c.loop-at-test.true inv.within is near inv.long
+    (sym c.index-steps-place.is) inv.below inv.trimmed in
+    let same = sym c.trim.ensures.places in
+    let count = ap length c.trim.ensures.places in
+    let within = inv.within in
+    let long = inv.long in
     record {
-      within = t.below;
-      trimmed = trimmed_past (live_in (g.C.Clauses.clauses c.args.clauses.now)) c.args.trail.now.steps (reverse (take (c.loop-at.at - 1) c.steps-steps.result.now)) c.args.notes.now c.loop-at.notes step
-          t.trimmed (sym c.has.ensures ∙ c.if-has.false);
+      within = omega (arith, count, within);
+      long = omega (arith, near, long);
+      sorted = subst (λ (xs : List ℕ). IsNonDecreasing xs) same inv.sorted;
+      below = subst (λ (xs : List ℕ). AreBelow was.marks items xs (at - 1) p) same (below_next was.marks items c.loop-at.notes.places at c.loop-at.end p c.loop-at-test.true inv.within is near inv.below);
+      trimmed = c.trim.ensures.trimmed c.args.trail.now.steps (reverse (take p items)) was c.requires.sound t;
     }
 
 pub returns : goal.returns
 returns g c =
-    let none : c.loop-at.at ≡ 0 = omega (arith, c.loop-at-test.false) in
-    subst (λ (n : ℕ). IsTrimmed (live_in (g.C.Clauses.clauses c.args.clauses.now)) c.args.trail.now.steps (reverse (take n c.steps-steps.result.now)) c.args.notes.now c.loop-at.notes) none c.loop-at.invariant.trimmed
+    let inv = c.loop-at.invariant in
+    trimmed_rest (live_in (g.C.Clauses.clauses c.args.clauses.now)) c.args.trail.now.steps c.steps-steps.result.now c.args.notes.now c.loop-at.notes c.loop-at.notes.places c.loop-at.at c.loop-at.end
+    (omega (arith, c.loop-at-test.false)) inv.long inv.below inv.trimmed

@@ -39,7 +39,7 @@ returns-clause-lesson g c =
     let k = conflict_of clauses c.args.conflict (literals_of old.steps) c.requires.conflict in
     let hints : reverse c.begin.new.notes.hints ≡ c.args.conflict ∷ [] = ap reverse c.begin.ensures.hints in
     let sound = sound_later live point.shrunk.popped (step ∷ mid.steps) (subst (IsSound live) point.shrunk.is c.requires.sound) in
-    let added = c.add_literal.ensures ∙ ap (λ l. record { marks = found.marks; hints = found.hints; literals = found.literals ++ l ∷ [] }) c.not.ensures in
+    let added = c.add_literal.ensures ∙ ap (λ l. record { marks = found.marks; places = found.places; hints = found.hints; literals = found.literals ++ l ∷ [] }) c.not.ensures in
     lesson_made live old mid step c.begin.new.notes found c.add_literal.new.self c.add_rest.new.notes c.turn.new.self sound c.begin.ensures.literals
     (λ entries stand. subst (IsAnalysis entries live (literals_of old.steps) [] c.begin.new.notes.marks) (sym hints)
     (analysis_first entries live c.begin.new.notes.marks (literals_of old.steps) k.clause c.args.conflict k.is k.false_now (λ l m. stand c.args.conflict k.clause l k.is m) (sound_consistent live old.steps c.requires.sound)

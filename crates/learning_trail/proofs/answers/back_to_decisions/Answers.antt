@@ -10,8 +10,8 @@ pub loop-step-preserved-in-None : goal.loop-step-preserved-in-None
 loop-step-preserved-in-None g c =
     let now = c.loop-step.notes in
     let step = c.in-Some.step in
-    let added : c.add_literal.new.self ≡ record { marks = now.marks; hints = now.hints; literals = now.literals ++ opposite step.literal ∷ [] } =
-    c.add_literal.ensures ∙ ap (λ l. record { marks = now.marks; hints = now.hints; literals = now.literals ++ l ∷ [] }) c.not.ensures in
+    let added : c.add_literal.new.self ≡ record { marks = now.marks; places = now.places; hints = now.hints; literals = now.literals ++ opposite step.literal ∷ [] } =
+    c.add_literal.ensures ∙ ap (λ l. record { marks = now.marks; places = now.places; hints = now.hints; literals = now.literals ++ l ∷ [] }) c.not.ensures in
     keeping_decision (live_in (g.C.Clauses.clauses c.args.clauses.now)) c.args.trail.now c.loop-step.trail c.pop.new.self c.args.notes.now now
     c.add_literal.new.self step c.loop-step.invariant c.in-Some.ensures.steps c.pop.ensures.room (ap is_none c.in-None.is) added
 

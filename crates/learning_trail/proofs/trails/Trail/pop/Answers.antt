@@ -1,7 +1,7 @@
 use Rattle.std.proofs.Common.{◌≡◌, ◌++◌, ◌∷◌, [], suc, reverse, subst, ap, ◌∙◌, arith, List}
 use Rattle.std.proofs.lemmas.List.{length-set}
 use Rattle.dq_lits.specs.Literal.{variable_of}
-use Rattle.learning_trail.specs.TrailInside.{IsKept}
+use Rattle.learning_trail.specs.TrailInside.{IsKept, ArePlaced}
 use Rattle.learning_trail.specs.declared.trails.Step.{Step}
 use Rattle.learning_trail.specs.declared.trails.TruthValue.TheVariants.{Unassigned}
 use Rattle.learning_trail.proofs.KeptTrails.{kept_popped, newest}
@@ -16,7 +16,10 @@ invariant_of-self-2 c =
     let split : inside.steps.items ≡ c.pop.new.self.items ++ step ∷ [] = c.in_ok-step.ensures.items in
     let P : List Step → Type 0 = λ xs. IsKept inside.values.items xs in
     let old : IsKept inside.values.items (step ∷ reverse c.pop.new.self.items) = subst P (ap reverse split ∙ newest c.pop.new.self.items step) c.self.invariant.kept in
+    let placed : ArePlaced inside.places.items (step ∷ reverse c.pop.new.self.items) = subst (ArePlaced inside.places.items) (ap reverse split ∙ newest c.pop.new.self.items step) c.self.invariant.placed in
     record {
+      placed = placed.1;
+      places = let n = c.self.invariant.places in omega (arith, n, length-set inside.values.items place Unassigned);
       kept = kept_popped inside.values.items (reverse c.pop.new.self.items) step place at old;
       room = omega (arith, length-set inside.values.items place Unassigned, c.self.invariant.room, c.pop.ensures.capacity);
     }

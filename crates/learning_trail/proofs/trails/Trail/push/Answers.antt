@@ -1,15 +1,16 @@
-use Rattle.std.proofs.Common.{◌≡◌, ◌<◌, ◌++◌, ◌∷◌, [], suc, not, cond, reverse, length, set, sym, subst, ap, ◌∙◌, arith, List}
+use Rattle.std.proofs.Common.{◌≡◌, ◌<◌, ◌++◌, ◌∷◌, [], suc, not, cond, reverse, length, set, sym, subst, ap, ◌∙◌, arith, List, ℕ}
 use Rattle.std.specs.Result.{is_ok}
 use Rattle.std.proofs.lemmas.Bool.{both_ways}
 use Rattle.std.proofs.lemmas.List.{length-set, length-reverse}
 use Rattle.dq_lits.specs.Literal.{variable_of}
 use Rattle.learning_trail.specs.Steps.{Trailed, literals_of, IsFree}
-use Rattle.learning_trail.specs.TrailInside.{IsKept}
+use Rattle.learning_trail.specs.TrailInside.{IsKept, ArePlaced}
 use Rattle.learning_trail.specs.declared.trails.Step.{Step}
 use Rattle.learning_trail.specs.declared.trails.TruthValue.{TruthValue}
 use Rattle.learning_trail.specs.declared.trails.TruthValue.TheVariants.{True, False}
 use Rattle.learning_trail.proofs.AssignedLiterals.{value_where_true}
 use Rattle.learning_trail.proofs.KeptTrails.{kept_pushed, newest}
+use Rattle.learning_trail.proofs.PlacedSteps.{placed_pushed}
 use Rattle.learning_trail.proofs.trails.Trail.push.Goals as goal
 
 pub unreachable-requires : goal.unreachable-requires
@@ -36,11 +37,18 @@ invariant_of-self c =
     let value : c.truth.result ≡ value_where_true step.literal = c.truth.ensures ∙ ap (λ b. cond (not b) True False) c.is_neg.ensures in
     let longer : more ≡ inside.steps.items ++ step ∷ [] =
     c.push.ensures.items ∙ ap (λ b. cond b (inside.steps.items ++ step ∷ []) inside.steps.items) (c.is_err.ensures.negation ∙ ap not c.if-is_err.false) in
+    let again : variable_of step.literal ≡ suc c.place_of-2.result = omega (arith, c.place_of-2.ensures) in
+    let in_range_again : c.place_of-2.result < length inside.places.items = let n = c.self.invariant.places in omega (arith, n, at, again, in_range) in
+    let count : c.len.result ≡ length (reverse inside.steps.items) = omega (arith, c.len.ensures, length-reverse inside.steps.items, inside.steps.ok.0) in
     let P : List Step → Type 0 = λ xs. IsKept (set inside.values.items place c.truth.result) xs in
     let Q : TruthValue → Type 0 = λ t. IsKept (set inside.values.items place t) (step ∷ reverse inside.steps.items) in
     record {
       kept = subst P (sym (ap reverse longer ∙ newest inside.steps.items step)) (subst Q (sym value) all.0);
       room = omega (arith, length-set inside.values.items place c.truth.result, c.self.invariant.room, c.push.ensures.capacity);
+      placed = subst (λ (xs : List Step). ArePlaced (set inside.places.items c.place_of-2.result c.len.result) xs) (sym (ap reverse longer ∙ newest inside.steps.items step))
+          (subst (λ (n : ℕ). ArePlaced (set inside.places.items c.place_of-2.result n) (step ∷ reverse inside.steps.items)) (sym count)
+          (placed_pushed inside.places.items (reverse inside.steps.items) step c.place_of-2.result again in_range_again free c.self.invariant.placed));
+      places = let n = c.self.invariant.places in omega (arith, n, length-set inside.places.items c.place_of-2.result c.len.result, length-set inside.values.items place c.truth.result);
     }
 
 pub returns-clause-few : goal.returns-clause-few
