@@ -1,4 +1,5 @@
 pub mod CertificateNames
+pub mod FormulaFiles
 pub mod Judgement
 pub mod Outputs
 pub mod Places

@@ -3,7 +3,7 @@ use Rattle.std.specs.Prelude.{◌≡◌, ℕ, ◌<◌, List, Option}
 use Rattle.dq_io.specs.State.{FilesState}
 use Rattle.dq_lits.specs.Formula.{Dqbf}
 use Rattle.dqcheck_words.specs.Command.{Command}
-use Rattle.dqcheck_core.specs.Report.{Report, usage, source_fault, long_formula, long_certificate, refused_formula, judged, text_of, status_of}
+use Rattle.dqcheck_core.specs.Report.{Report, source_fault, long_certificate, judged, text_of, status_of}
 use Rattle.dqcheck_core.specs.Running.{max_certificate, IsLong, IsAnswerTo, IsUnreadable, PickedOnce, IsDue}
 use Rattle.dqcheck_core.specs.Statuses.{code}
 use Rattle.dqcheck_core.specs.declared.reports.Output.{Output}

@@ -6,6 +6,7 @@
 #![tactic(auto)]
 
 pub use answers::{Answer, CertificateFault};
+pub use formulas::{FormulaStop, read_formula};
 pub use judging::judge;
 pub use names::formula_fault_name;
 pub use run::dqcheck_run;
@@ -13,6 +14,7 @@ pub use statuses::Status;
 
 mod answers;
 mod circuits;
+mod formulas;
 mod judging;
 pub mod laws;
 mod names;

@@ -10,6 +10,7 @@ ghost use Rattle.dqcheck_core.specs.Running.{max_formula, max_certificate, Ends,
 ghost use Rattle.dqcheck_core.specs.Outputs.{IsOutputDue, IsOutputBehind};
 ghost use Rattle.dqcheck_core.specs.Statuses.{code};
 
+use crate::formulas::{FormulaStop, read_formula};
 use crate::judging::judge;
 use crate::laws::{acceptance_is_sound, one_judgement};
 use crate::reports::{
@@ -23,9 +24,6 @@ use dq_lits::Memory;
 use dqcheck_words::{FileNames, file_names};
 use dqdimacs_reader::laws::formula_or_first_fault;
 use std::alloc::Global;
-
-/// The most bytes of a formula.
-const MAX_FORMULA: u64 = 1 << 30;
 
 /// The most bytes of a certificate.
 const MAX_CERTIFICATE: u64 = 1 << 40;
@@ -114,18 +112,12 @@ fn report_files<F: Files>(alloc: Global, names: FileNames, files: &mut F) -> Res
         → F.faults files.new ≡ F.faults files.old) }
     ensures held { F.held files.new ≡ F.held files.old }
 {
-    let text = match read_all(alloc, files, names.formula, MAX_FORMULA) {
-        Ok(text) => text,
-        Err(ReadStop::Memory) => return Err(Memory),
-        Err(ReadStop::Fault) => return source_fault_output(alloc),
-        Err(ReadStop::TooLong) => return long_formula_output(alloc),
-    };
-    let read = dqdimacs_reader::read(alloc, &text);
-    drop(text);
-    match read {
+    match read_formula(alloc, files, names.formula) {
         Ok(formula) => report_certificate(alloc, &formula, names, files),
-        Err(dqdimacs_reader::ReadStop::Refused { line, name }) => refused_output(alloc, line, name),
-        Err(dqdimacs_reader::ReadStop::Memory) => Err(Memory),
+        Err(FormulaStop::Memory) => Err(Memory),
+        Err(FormulaStop::Fault) => source_fault_output(alloc),
+        Err(FormulaStop::TooLong) => long_formula_output(alloc),
+        Err(FormulaStop::Refused { line, name }) => refused_output(alloc, line, name),
     }
 }
 

@@ -23,17 +23,15 @@ use crate::reports::{
 };
 use crate::statuses::Status;
 use crate::verdicts::solve;
-use dq_io::{Files, ReadStop, Sink, read_all, write_all};
+use dq_io::{Files, Sink, write_all};
 use dq_lits::Memory;
+use dqcheck_core::{FormulaStop, read_formula};
 use dqdimacs_reader::laws::formula_or_first_fault;
 use dqsolve_words::laws::numbers_are_in_range;
 use dqsolve_words::{CommandWords, DemoWords, SolveWords, command_words};
 use hint_log::Log;
 use planted_formulas::planted_formula;
 use std::alloc::Global;
-
-/// The most bytes of a formula.
-const MAX_FORMULA: u64 = 1 << 30;
 
 /// The most steps of a search on a planted formula.
 const DEFAULT_STEPS: u64 = 1_000_000;
@@ -169,17 +167,11 @@ fn report_file<F: Files>(
     ensures held { F.held files.new ≡ F.held files.old }
 {
     log.rewind(asked.steps);
-    let text = match read_all(alloc, files, asked.file, MAX_FORMULA) {
-        Ok(text) => text,
-        Err(ReadStop::Memory) => return Err(Memory),
-        Err(ReadStop::Fault) => return source_fault_output(alloc),
-        Err(ReadStop::TooLong) => return long_formula_output(alloc),
-    };
-    let read = dqdimacs_reader::read(alloc, &text);
-    drop(text);
-    match read {
+    match read_formula(alloc, files, asked.file) {
         Ok(formula) => solve(alloc, &formula, asked.bare, log),
-        Err(dqdimacs_reader::ReadStop::Refused { line, name }) => refused_output(alloc, line, name),
-        Err(dqdimacs_reader::ReadStop::Memory) => Err(Memory),
+        Err(FormulaStop::Memory) => Err(Memory),
+        Err(FormulaStop::Fault) => source_fault_output(alloc),
+        Err(FormulaStop::TooLong) => long_formula_output(alloc),
+        Err(FormulaStop::Refused { line, name }) => refused_output(alloc, line, name),
     }
 }
