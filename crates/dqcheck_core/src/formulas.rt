@@ -17,7 +17,7 @@ const MAX_FORMULA: u64 = 1 << 30;
 const PIECE: usize = 65536;
 
 /// Why a file gave no formula.
-#[derive(Clone, Copy, Debug, PartialEq, Eq)]
+#[derive(Clone, Copy, PartialEq, Eq)]
 pub enum FormulaStop {
     Memory,
     /// The files counted a fault.

@@ -6,7 +6,7 @@ use dq_lits::Memory;
 use std::alloc::Global;
 
 /// The existentials that are placed one after another, by their places in order of declaration.
-#[derive(Debug, Drop)]
+#[derive(Drop)]
 pub(crate) struct Placing {
     gates: Vec<Wired>,
     // The inputs that tie with their gates' outputs, in order, each with the gate; and where those

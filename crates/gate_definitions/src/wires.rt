@@ -14,7 +14,7 @@ use std::collections::BTreeMap;
 const MOST_CONJUNCTIONS: usize = 4;
 
 /// A gate, by the place of its output, and how many of its inputs still have to come before it.
-#[derive(Clone, Copy, Debug)]
+#[derive(Clone, Copy)]
 pub(crate) struct Wired {
     pub(crate) output: usize,
     pub(crate) missing: usize,
@@ -22,7 +22,7 @@ pub(crate) struct Wired {
 
 /// The gates that were found. No contract speaks of them: whoever reads a gate off compares its
 /// clauses.
-#[derive(Debug, Drop)]
+#[derive(Drop)]
 pub(crate) struct Wires {
     alloc: Global,
     // For each existential, by place, that of one with the same dependency set: these tie.
