@@ -502,6 +502,21 @@ def one_long_clause(count):
     return lines("p cnf 1000000 1", f"{literals} 0"), None
 
 
+def many_xor_lines(count):
+    """So many XOR lines of five literals, of 16 clauses each."""
+    return lines(f"p cnf 5 {count}", *["x 1 2 3 4 5 0"] * count), None
+
+
+def one_long_token(count):
+    """A literal behind so many zeros."""
+    return lines("p cnf 1 1", f"{'0' * count}1 0"), None
+
+
+def one_long_comment(count):
+    """A comment of so many bytes, without an end."""
+    return f"p cnf 1 1\n1 0\nc{'x' * count}", None
+
+
 def at(make, size):
     """A measurement of this size."""
 
@@ -538,6 +553,9 @@ MEASUREMENTS = [
     *(at(long_last_clause, size) for size in (20_000, 40_000)),
     *(at(one_dependency_set, size) for size in (10_000, 20_000)),
     *(at(one_long_clause, size) for size in (500_000, 1_000_000)),
+    *(at(many_xor_lines, size) for size in (100_000, 200_000)),
+    *(at(one_long_token, size) for size in (10_000_000, 20_000_000)),
+    *(at(one_long_comment, size) for size in (10_000_000, 20_000_000)),
 ]
 
 
