@@ -188,11 +188,11 @@ module _ (f : Dqbf) (rows : List (List Bool)) (points : PointBits) (rules : List
       (bit_there f rows points y old pairs t are m k row at sees false)
 
   follows : FollowsRules f rows rules y (node_output f new node)
-  follows m away =
+  follows m bit away first =
       let i : ℕ → Bool = λ p. m (slice_index f.universals p) in
       is.value i ∙ patched_none (node_value old i other) (at_pair old (has_bit true points y.variable) pairs i) (at_pair old (has_bit false points y.variable) pairs i)
       (nothing_there f rows points y old pairs t are m away true) (nothing_there f rows points y old pairs t are m away false)
-      ∙ by.value m
+      ∙ by.value m bit first
 
   read_by_pair : (i : ℕ) → IsReadByPair old pairs i → Contains y.sees (slice_index f.universals i)
   read_by_pair i r =

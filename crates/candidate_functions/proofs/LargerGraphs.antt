@@ -64,7 +64,7 @@ module _ (old new : AigGraph) (h : Extends old new) where
   pub rule_node_stays : (f : Dqbf) (rules : List Rule) (y : Existential) (n : Node) → IsByRules f old rules y n → IsByRules f new rules y n
   rule_node_stays f rules y n by = record {
     is_node = h.nodes n by.is_node;
-    value = λ m. h.values n by.is_node (λ i. m (slice_index f.universals i)) ∙ by.value m;
+    value = λ m bit is. h.values n by.is_node (λ i. m (slice_index f.universals i)) ∙ by.value m bit is;
     reads = support_stays f n by.is_node (Contains y.sees) by.reads;
   }
 
@@ -81,7 +81,7 @@ module _ (old new : AigGraph) (h : Extends old new) where
     is_node = h.nodes n is.is_node;
     reads = support_stays f n is.is_node (Contains y.sees) is.reads;
     at_pairs = λ k row m at sees. h.values n is.is_node (λ i. m (slice_index f.universals i)) ∙ is.at_pairs k row m at sees;
-    by_rules = λ m away. h.values n is.is_node (λ i. m (slice_index f.universals i)) ∙ is.by_rules m away;
+    by_rules = λ m bit away first. h.values n is.is_node (λ i. m (slice_index f.universals i)) ∙ is.by_rules m bit away first;
   }
 
   pub first_output_stays : (f : Dqbf) (rows : List (List Bool)) (points : PointBits) (rules : List Rule) (y : Existential) (definition : Option Node) (n : Node)

@@ -10,3 +10,4 @@ pub mod AtRows
 pub mod DefinedPoints
 pub mod AllOutputs
 pub mod SettledDefinitions
+pub mod TreeNodes

@@ -1,5 +1,5 @@
 -- Nodes for cubes of rules, and for what the rules say of each existential.
-use Rattle.std.proofs.Common.{◌≡◌, ℕ, zero, suc, ◌+◌, ◌-◌, ◌<◌, ◌≤◌, ◌==◌, false, cond, not, ◌&&◌, List, [], ◌∷◌, map, length, get_or, set, drop, slice_get, slice_index, None, Some, position, refl, sym, ◌∙◌, ap, subst, inl, inr, arith, eq-eqb}
+use Rattle.std.proofs.Common.{◌≡◌, ℕ, zero, suc, ◌+◌, ◌-◌, ◌<◌, ◌≤◌, ◌==◌, Bool, true, false, cond, not, ◌&&◌, List, [], ◌∷◌, map, length, get_or, set, drop, slice_get, slice_index, Option, None, Some, position, refl, sym, ◌∙◌, ap, subst, inl, inr, arith, eq-eqb}
 use Rattle.std.specs.List.{All, Contains, list_all}
 use Rattle.std.proofs.lemmas.List.{length-set}
 use Rattle.std.proofs.Math.Seq.{drop-cons}
@@ -10,7 +10,7 @@ use Rattle.std.proofs.lemmas.Option.{slice_get_within, get_or_from_slice_get}
 use Rattle.dq_lits.specs.Literal.{Assignment, Literal, positive, negative, variable_of, literal_true}
 use Rattle.dq_lits.specs.Formula.{Existential, Dqbf, existential_of}
 use Rattle.dq_formula.specs.Prefix.{IsLawful, existential_variables}
-use Rattle.dq_formula.specs.Rules.{cube_true, IsRule, rule_bit}
+use Rattle.dq_formula.specs.Rules.{cube_true, IsRule}
 use Rattle.dq_formula.specs.declared.rules.Rule.{Rule}
 use Rattle.dq_formula.proofs.Places.{place}
 use Rattle.dq_formula.proofs.Sorted.{place-below, get_or-place}
@@ -18,6 +18,7 @@ use Rattle.aig_graph.specs.Graph.{AigGraph, node_value, node_support, IsNode}
 use Rattle.aig_graph.specs.Made.{Extends, IsCube, IsChosen}
 use Rattle.aig_graph.specs.declared.nodes.Node.{Node}
 use Rattle.aig_graph.specs.declared.nodes.Node.TheVariants.{Constant}
+use Rattle.candidate_functions.specs.Candidates.{first_bit}
 use Rattle.candidate_functions.specs.Pairs.{input_literal, IsCubeNode, IsByRules, AreByRules}
 use Rattle.candidate_functions.proofs.RowCubes.{mapped_from, only_one}
 use Rattle.candidate_functions.proofs.DeclaredPlaces.{is_found, all_mapped, one_mapped, unplaced}
@@ -61,18 +62,24 @@ cube_node_made f old new ls n among cube = record {
       subst (Contains sees) (sym there) (All-contains (λ k. Contains sees (variable_of k)) ls l seen from.1));
 }
 
-rule_here : (rule : Rule) (later : List Rule) (v : ℕ) (m : Assignment) → rule.y ≡ v → rule_bit (rule ∷ later) v m ≡ cond (cube_true m rule.cube) rule.bit (rule_bit later v m)
-rule_here rule later v m is = ap (λ b. cond (b && cube_true m rule.cube) rule.bit (rule_bit later v m)) (eq-eqb rule.y v is)
+rule_here : (rule : Rule) (later : List Rule) (v : ℕ) (m : Assignment) → rule.y ≡ v
+    → first_bit (rule ∷ later) v m ≡ cond (cube_true m rule.cube) (Some rule.bit) (first_bit later v m)
+rule_here rule later v m is = ap (λ b. cond (b && cube_true m rule.cube) (Some rule.bit) (first_bit later v m)) (eq-eqb rule.y v is)
 
-rule_elsewhere : (rule : Rule) (later : List Rule) (v : ℕ) (m : Assignment) → (rule.y ≡ v → ⊥) → rule_bit (rule ∷ later) v m ≡ rule_bit later v m
-rule_elsewhere rule later v m other = ap (λ b. cond (b && cube_true m rule.cube) rule.bit (rule_bit later v m)) (ne_eqb rule.y v other)
+rule_elsewhere : (rule : Rule) (later : List Rule) (v : ℕ) (m : Assignment) → (rule.y ≡ v → ⊥) → first_bit (rule ∷ later) v m ≡ first_bit later v m
+rule_elsewhere rule later v m other = ap (λ b. cond (b && cube_true m rule.cube) (Some rule.bit) (first_bit later v m)) (ne_eqb rule.y v other)
 
 by_other_rule : (f : Dqbf) (g : AigGraph) (rule : Rule) (later : List Rule) (y : Existential) (n : Node) → (rule.y ≡ y.variable → ⊥) → IsByRules f g later y n → IsByRules f g (rule ∷ later) y n
 by_other_rule f g rule later y n other by = record {
   is_node = by.is_node;
-  value = λ m. by.value m ∙ sym (rule_elsewhere rule later y.variable m other);
+  value = λ m bit is. by.value m bit (sym (rule_elsewhere rule later y.variable m other) ∙ is);
   reads = by.reads;
 }
+
+-- the rule's bit where its cube is true, else what later ones say
+chosen_bit : (c own before bit : Bool) (later : Option Bool) → (later ≡ Some bit → before ≡ bit) → cond c (Some own) later ≡ Some bit → cond c own before ≡ bit
+chosen_bit true own before bit later is first = cc
+chosen_bit false own before bit later is first = is first
 
 by_own_rule : (f : Dqbf) (mid new : AigGraph) (rule : Rule) (later : List Rule) (y : Existential) (cube before node : Node)
     → rule.y ≡ y.variable → All (λ l. Contains y.sees (variable_of l)) rule.cube
@@ -80,11 +87,11 @@ by_own_rule : (f : Dqbf) (mid new : AigGraph) (rule : Rule) (later : List Rule) 
     → IsByRules f new (rule ∷ later) y node
 by_own_rule f mid new rule later y cube before node own seen is by chosen = record {
   is_node = chosen.is_node;
-  value = λ m.
+  value = λ m bit first.
       chosen.value (λ i. m (slice_index f.universals i))
       ∙ ap (λ b. cond b rule.bit (node_value mid (λ i. m (slice_index f.universals i)) before)) (is.value m)
-      ∙ ap (cond (cube_true m rule.cube) rule.bit) (by.value m)
-      ∙ sym (rule_here rule later y.variable m own);
+      ∙ chosen_bit (cube_true m rule.cube) rule.bit (node_value mid (λ i. m (slice_index f.universals i)) before) bit (first_bit later y.variable m) (by.value m bit)
+      (sym (rule_here rule later y.variable m own) ∙ first);
   reads = all_mapped (Contains y.sees) (slice_index f.universals) (node_support new node) (λ i has. elim (chosen.reads i has) [
     | inl c ↦ one_mapped (Contains y.sees) (slice_index f.universals) (node_support mid cube) i (is.reads y.sees seen) c
     | inr rest ↦ (elim rest [

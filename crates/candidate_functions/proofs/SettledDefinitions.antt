@@ -98,7 +98,7 @@ module _ (f : Dqbf) (ranks : List ℕ) (lawful : IsLawful f) (definitions : List
     kept p y at settled = record {
       reads = subst (λ n. All (Contains y.sees) (node_output f h n).support) (sym (stays_at p settled)) (support_stays g h grown f (before_at p) (has_node p y at) (Contains y.sees) o.reads);
       at_pairs = λ k row m there sees. value_stays p y at settled m ∙ o.at_pairs k row m there sees;
-      by_rules = λ none m away. value_stays p y at settled m ∙ o.by_rules none m away;
+      by_rules = λ none m bit away first. value_stays p y at settled m ∙ o.by_rules none m bit away first;
       defined = λ d is m have. value_stays p y at settled m ∙ o.defined d is m (values_before d is m have) ∙ sym (definition_value p y d at is m);
     } where
       o : IsOutput f ranks rows points rules g nodes y (definition p) (before_at p)

@@ -2,3 +2,4 @@ pub mod AtRow
 pub mod Candidates
 pub mod Pairs
 pub mod Settling
+pub mod Trees

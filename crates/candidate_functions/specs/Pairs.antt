@@ -6,14 +6,14 @@ use Rattle.dq_lits.specs.Formula.{Existential, Dqbf, existential_of}
 use Rattle.dq_lits.specs.Henkin.{same_bit}
 use Rattle.dq_lits.specs.Literal.{Assignment, Literal, variable_of, is_negative}
 use Rattle.dq_lits.specs.Row.{bit_of}
-use Rattle.dq_formula.specs.Rules.{cube_true, rule_bit}
+use Rattle.dq_formula.specs.Rules.{cube_true}
 use Rattle.dq_formula.specs.declared.rules.Rule.{Rule}
 use Rattle.aig_graph.specs.Graph.{AigGraph, IsNode, node_value, node_support}
 use Rattle.aig_graph.specs.Outputs.{node_output}
 use Rattle.aig_graph.specs.declared.nodes.Node.{Node}
 use Rattle.aig_graph.specs.declared.nodes.Node.TheVariants.{Constant, Input}
 use Rattle.expansion.specs.Table.{PointBits}
-use Rattle.candidate_functions.specs.Candidates.{AgreesAtPairs, FollowsRules}
+use Rattle.candidate_functions.specs.Candidates.{first_bit, AgreesAtPairs, FollowsRules}
 use Rattle.candidate_functions.specs.declared.classes.Class.{Class}
 use Rattle.candidate_functions.specs.declared.cubes.Pair.{Pair}
 
@@ -127,11 +127,12 @@ pub record IsPatched (old new : AigGraph) (points : PointBits) (y : ℕ) (pairs 
   pub reads : (i : ℕ) → Contains (node_support new node) i
       → Contains (node_support old other) i ⊎ IsReadByPair old pairs i
 
--- a node with the bit of an existential's first rule whose cube is true, else false
+-- a node with the bit of an existential's first rule whose cube is true, where there is one
 pub record IsByRules (f : Dqbf) (graph : AigGraph) (rules : List Rule) (y : Existential)
     (node : Node) : Type 0 where
   pub is_node : IsNode graph node
-  pub value : (m : Assignment) → (node_output f graph node).value m ≡ rule_bit rules y.variable m
+  pub value : (m : Assignment) (bit : Bool) → first_bit rules y.variable m ≡ Some bit
+      → (node_output f graph node).value m ≡ bit
   pub reads : All (Contains y.sees) (node_output f graph node).support
 
 -- the universal's input, or its negation

@@ -8,6 +8,7 @@ ghost use Rattle.expansion.specs.Table.{ArePoints, point_bits};
 ghost use Rattle.candidate_functions.specs.Candidates.{AreDefinitions, AgreeAtPairs, FollowRules, AreDefined};
 
 use crate::definitions::put_definitions;
+use crate::guesses::Trees;
 use crate::outputs::{Known, first_outputs};
 use crate::rules::by_rules;
 use aig_graph::{Graph, Node};
@@ -44,7 +45,8 @@ impl Outputs {
 /// Candidates for the existentials' functions, which read what they may, universals alone. One that
 /// has a definition gets it, with the outputs of the existentials that it reads put in; any other
 /// has its point's bit at each pair of the table, and elsewhere the bit of its first rule whose
-/// cube is true, else false. Definitions are in the order of the existentials; those that are
+/// cube is true; where there is none, what its tree says, of which no contract speaks. The trees
+/// first grow by the points. Definitions are in the order of the existentials; those that are
 /// missing are none. The ranks are those by which they may read what they read.
 ///
 /// The graph has an input for each universal, and behind these one for each existential, for
@@ -56,6 +58,7 @@ pub fn build(
     f: &Formula,
     table: &Table,
     points: &Points,
+    trees: &mut Trees,
     rules: &[Rule],
     ranks: &[usize],
     definitions: &[Option<Node>],
@@ -83,13 +86,13 @@ pub fn build(
     ensures defined { IfOk result (λ nodes. AreDefined f.now graph.new definitions.now nodes) }
 {
     f.every_formula_is_lawful();
-    let others = by_rules(alloc, f, rules, graph)?;
     let known = Known {
         f,
         table,
         points,
         definitions,
     };
+    let others = by_rules(alloc, &known, trees, rules, graph)?;
     let mut nodes = first_outputs(alloc, &known, &others, graph)?;
     put_definitions(alloc, f, ranks, definitions, &mut nodes, graph)?;
     Ok(Outputs { nodes })

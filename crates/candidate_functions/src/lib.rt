@@ -3,12 +3,16 @@
 #![tactic(auto)]
 
 pub use building::{Outputs, build};
+pub use guesses::Trees;
 
 mod building;
 mod classes;
 mod cubes;
 mod definitions;
+mod examples;
+mod guesses;
 pub mod laws;
 mod outputs;
 mod patches;
 mod rules;
+mod trees;

@@ -1,43 +1,63 @@
 //! What the rules say of each existential, as nodes.
 
-ghost use Rattle.std.specs.Prelude.{◌≡◌, ◌≤◌, ◌∷◌, false, length, map, replicate, List, All, Contains, IfOk, OnOk};
+ghost use Rattle.std.specs.Prelude.{◌≡◌, ◌≤◌, ◌∷◌, [], length, map, List, All, Contains, IfOk, OnOk};
 ghost use Rattle.dq_lits.specs.Literal.{variable_of};
+ghost use Rattle.dq_formula.specs.Prefix.{existential_variables};
 ghost use Rattle.dq_formula.specs.Rules.{IsRule};
 ghost use Rattle.dq_formula.specs.declared.rules.Rule.{Rule as RuleState};
 ghost use Rattle.aig_graph.specs.Graph.{IsNode};
 ghost use Rattle.aig_graph.specs.Made.{Extends};
 ghost use Rattle.candidate_functions.specs.Pairs.{input_literal, IsCubeNode, AreByRules};
 
+use crate::guesses::Trees;
+use crate::outputs::Known;
 use aig_graph::{Graph, Node};
 use dq_formula::{Formula, Rule};
 use dq_lits::{Lit, Memory};
 use std::alloc::Global;
 
-// For each existential a node with the bit of its first rule whose cube is true, else false.
+// For each existential a node with the bit of its first rule whose cube is true; where there is
+// none, it is what the existential's tree says.
 pub(crate) fn by_rules(
     alloc: Global,
-    f: &Formula,
+    known: &Known,
+    trees: &mut Trees,
     rules: &[Rule],
     graph: &mut Graph,
 ) -> Result<Vec<Node>, Memory>
-    requires inputs { length f.now.universals ≤ graph.old.inputs }
-    requires rules { All (IsRule f.now) rules.now }
+    requires inputs { length known.now.f.now.universals ≤ graph.old.inputs }
+    requires variables { known.now.points.now.variables ≡ existential_variables known.now.f.now }
+    requires as_many { length known.now.points.now.rows ≡ length known.now.table.now.rows }
+    requires rules { All (IsRule known.now.f.now) rules.now }
     ensures extends { Extends graph.old graph.new }
-    ensures nodes { IfOk result (λ nodes. AreByRules f.now graph.new rules.now nodes.items) }
+    ensures nodes { IfOk result
+        (λ nodes. AreByRules known.now.f.now graph.new rules.now nodes.items) }
 {
-    let mut nodes = all_false(alloc, f.existentials().len())?;
-    let mut at = rules.len();
-    while at > 0 {
-        at -= 1;
-        put_rule(alloc, f, &rules[at], &mut nodes, graph)?;
-    }
+    let mut nodes = trees.nodes(known, graph)?;
+    put_rules(alloc, known.f, rules, &mut nodes, graph)?;
     Ok(nodes)
 }
 
-fn all_false(alloc: Global, n: usize) -> Result<Vec<Node>, Memory>
-    ensures { IfOk result (λ nodes. nodes.items ≡ replicate n (Node.Constant false)) }
+// Puts rules over a node for each existential.
+fn put_rules(
+    alloc: Global,
+    f: &Formula,
+    rules: &[Rule],
+    nodes: &mut Vec<Node>,
+    graph: &mut Graph,
+) -> Result<(), Memory>
+    requires inputs { length f.now.universals ≤ graph.old.inputs }
+    requires rules { All (IsRule f.now) rules.now }
+    requires guesses { AreByRules f.now graph.old [] nodes.old.items }
+    ensures extends { Extends graph.old graph.new }
+    ensures nodes { OnOk result (AreByRules f.now graph.new rules.now nodes.new.items) }
 {
-    Ok(vec![in alloc; Node::Constant(false); n]?)
+    let mut at = rules.len();
+    while at > 0 {
+        at -= 1;
+        put_rule(alloc, f, &rules[at], nodes, graph)?;
+    }
+    Ok(())
 }
 
 // Puts a rule before the later ones.

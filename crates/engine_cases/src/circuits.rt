@@ -27,7 +27,23 @@ const LIMIT: u64 = 1000;
 pub fn run(alloc: Global, f: &Formula, turns: &str, printed: &mut String) -> Result<()>
     requires formula { IsWellFormed f.now }
 {
-    let mut judging = begin(alloc, Cdcl::new(alloc), Log::new(alloc, LIMIT), f)?;
+    run_by(alloc, Cdcl::new(alloc), Log::new(alloc, LIMIT), f, turns, printed)
+}
+
+// Over any solver: what drops one here is the same few steps whatever it holds.
+fn run_by<O: Oracle + Drop>(
+    alloc: Global,
+    oracle: O,
+    log: Log,
+    f: &Formula,
+    turns: &str,
+    printed: &mut String,
+) -> Result<()>
+    requires formula { IsWellFormed f.now }
+    requires fit { O.Fits oracle log }
+    requires empty { log.entries ≡ [] }
+{
+    let mut judging = begin(alloc, oracle, log, f)?;
     judging.take_turns(alloc, f, turns, printed)
 }
 

@@ -22,7 +22,23 @@ const LIMIT: u64 = 1000;
 pub fn run(alloc: Global, f: &Formula, existentials: &str, printed: &mut String) -> Result<()>
     requires formula { IsWellFormed f.now }
 {
-    let mut defining = begin(alloc, Cdcl::new(alloc), Log::new(alloc, LIMIT), f)?;
+    run_by(alloc, Cdcl::new(alloc), Log::new(alloc, LIMIT), f, existentials, printed)
+}
+
+// Over any solver: what drops one here is the same few steps whatever it holds.
+fn run_by<O: Oracle + Drop>(
+    alloc: Global,
+    oracle: O,
+    log: Log,
+    f: &Formula,
+    existentials: &str,
+    printed: &mut String,
+) -> Result<()>
+    requires formula { IsWellFormed f.now }
+    requires fit { O.Fits oracle log }
+    requires empty { log.entries ≡ [] }
+{
+    let mut defining = begin(alloc, oracle, log, f)?;
     defining.define_each(alloc, f, existentials, printed)
 }
 

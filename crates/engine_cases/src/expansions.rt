@@ -15,7 +15,7 @@ use crate::rows::row_of;
 use crate::shown::{Shown, show_more};
 use aig_graph::Graph;
 use anyhow::{Result, anyhow};
-use candidate_functions::build;
+use candidate_functions::{Trees, build};
 use cdcl_core::Cdcl;
 use dq_formula::Formula;
 use dq_lits::Row;
@@ -40,10 +40,26 @@ pub fn run(
     requires formula { IsWellFormed f.now }
 {
     let mut report = Report::new(alloc, detail);
-    let mut expanding = begin(alloc, Cdcl::new(alloc), Log::new(alloc, LIMIT), f)?;
-    expanding.add_rows(alloc, f, rows, &mut report)?;
+    run_by(alloc, Cdcl::new(alloc), Log::new(alloc, LIMIT), f, rows, &mut report)?;
     printed.push_str(&report.text)?;
     Ok(())
+}
+
+// Over any solver: what drops one here is the same few steps whatever it holds.
+fn run_by<O: Oracle + Drop>(
+    alloc: Global,
+    oracle: O,
+    log: Log,
+    f: &Formula,
+    rows: &str,
+    report: &mut Report,
+) -> Result<()>
+    requires formula { IsWellFormed f.now }
+    requires fit { O.Fits oracle log }
+    requires empty { log.entries ≡ [] }
+{
+    let mut expanding = begin(alloc, oracle, log, f)?;
+    expanding.add_rows(alloc, f, rows, report)
 }
 
 fn begin<O: Oracle + Drop>(
@@ -152,7 +168,8 @@ fn show_model(
     requires points { ArePoints f.now table.now.rows (point_bits points.now) }
 {
     let mut graph = Graph::new(alloc, f.universals().len() + f.existentials().len());
-    let outputs = build(alloc, f, table, points, &[], &[], &[], &mut graph)?;
+    let mut trees = Trees::new(alloc);
+    let outputs = build(alloc, f, table, points, &mut trees, &[], &[], &[], &mut graph)?;
     let candidates = Candidates {
         graph: &graph,
         nodes: outputs.items(),

@@ -60,8 +60,22 @@ fn ask(alloc: Global, f: &Formula, question: &Question) -> Result<Forced>
     requires formula { IsWellFormed f.now }
     requires row { length question.now.row ≡ length f.now.universals }
 {
-    let mut oracle = Cdcl::new(alloc);
-    let mut log = Log::new(alloc, LIMIT);
+    ask_by(alloc, Cdcl::new(alloc), Log::new(alloc, LIMIT), f, question)
+}
+
+// Over any solver: what drops one here is the same few steps whatever it holds.
+fn ask_by<O: Oracle + Drop>(
+    alloc: Global,
+    mut oracle: O,
+    mut log: Log,
+    f: &Formula,
+    question: &Question,
+) -> Result<Forced>
+    requires formula { IsWellFormed f.now }
+    requires row { length question.now.row ≡ length f.now.universals }
+    requires fit { O.Fits oracle log }
+    requires empty { log.entries ≡ [] }
+{
     let mut padoa = Padoa::new(alloc, &mut oracle, f, &mut log)?;
     force(&mut oracle, &mut log, &mut padoa, f, question)
 }

@@ -76,6 +76,7 @@ impl Engines {
                     f,
                     &self.table,
                     &points,
+                    &mut self.trees,
                     &self.definitions.rules,
                     &self.definitions.ranks,
                     &self.definitions.nodes,

@@ -10,7 +10,7 @@ use crate::definitions::{Definitions, find_definitions};
 use crate::judging::{Candidates, Judged};
 use crate::universal_clauses::{find_false_clause, refute};
 use aig_graph::Graph;
-use candidate_functions::Outputs;
+use candidate_functions::{Outputs, Trees};
 use circuit_cnf::Checker;
 use circuit_cnf::laws::checkers_stay;
 use dq_formula::Formula;
@@ -72,18 +72,20 @@ pub fn decide<O: Oracle>(
         table,
         checker,
         definitions,
+        trees: Trees::new(alloc),
     };
     engines.all_rounds(oracle, graph, f, log)
 }
 
 // The engines that the search goes round: the table that has the rows so far, what checks the
-// candidates, and what is known of the existentials.
+// candidates, what is known of the existentials, and their trees.
 #[derive(Drop)]
 pub(crate) struct Engines {
     pub(crate) alloc: Global,
     pub(crate) table: Table,
     pub(crate) checker: Checker,
     pub(crate) definitions: Definitions,
+    pub(crate) trees: Trees,
 }
 
 impl Engines {

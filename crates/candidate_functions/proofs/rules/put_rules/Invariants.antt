@@ -1,7 +1,7 @@
 use Rattle.std.proofs.Common.{◌≤◌, drop, length}
 use Rattle.aig_graph.specs.Made.{Extends}
 use Rattle.candidate_functions.specs.Pairs.{AreByRules}
-use Rattle.candidate_functions.proofs.rules.by_rules.Given as goal
+use Rattle.candidate_functions.proofs.rules.put_rules.Given as goal
 
 abbrev pub invariant-loop-at : goal.invariant-loop-at
 invariant-loop-at l = record {

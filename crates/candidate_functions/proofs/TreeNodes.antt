@@ -1,0 +1,126 @@
+-- Nodes over what an existential sees.
+use Rattle.std.proofs.Common.{◌≡◌, ℕ, suc, ◌+◌, ◌-◌, ◌<◌, ◌≤◌, Bool, false, List, [], ◌∷◌, ◌++◌, length, get_or, set, slice_get, slice_index, None, Some, sym, ◌∙◌, ap, subst, inl, inr, arith}
+use Rattle.std.specs.List.{All, Contains}
+use Rattle.std.proofs.lemmas.Bool.{cases_lt}
+use Rattle.std.proofs.lemmas.List.{get_or_past, length-set, length_push, get_or_push}
+use Rattle.std.proofs.Math.ListN.{get_or-append}
+use Rattle.std.proofs.lemmas.List.Elements.{All-set, All-contains}
+use Rattle.std.proofs.lemmas.Option.{slice_get_within}
+use Rattle.dq_lits.specs.Formula.{Existential, Dqbf, existential_of}
+use Rattle.dq_formula.specs.Prefix.{IsLawful}
+use Rattle.dq_formula.proofs.Places.{place}
+use Rattle.dq_formula.proofs.Sorted.{get_or-place}
+use Rattle.aig_graph.specs.Graph.{AigGraph, IsNode, node_support}
+use Rattle.aig_graph.specs.Made.{Extends, IsChosen}
+use Rattle.aig_graph.specs.declared.nodes.Node.{Node}
+use Rattle.aig_graph.specs.declared.nodes.Node.TheVariants.{Constant, Input}
+use Rattle.definition_order.proofs.Declared.{sees_universals}
+use Rattle.candidate_functions.specs.Pairs.{universal_places, IsByRules, AreByRules}
+use Rattle.candidate_functions.specs.Trees.{IsOver}
+use Rattle.candidate_functions.proofs.RowCubes.{only_one, mapped_from}
+use Rattle.candidate_functions.proofs.DeclaredPlaces.{is_found, all_mapped}
+use Rattle.candidate_functions.proofs.LargerGraphs.{extends-trans, rule_node_stays}
+
+pub over_stays : (old new : AigGraph) → Extends old new → (places : List ℕ) (n : Node) → IsOver old places n → IsOver new places n
+over_stays old new h places n is = record {
+  is_node = h.nodes n is.is_node;
+  reads = λ i has. is.reads i (subst (λ s. Contains s i) (h.supports n is.is_node) has);
+}
+
+pub constant_over : (g : AigGraph) (places : List ℕ) (b : Bool) → IsOver g places (Constant b)
+constant_over g places b = record {
+  is_node = tt;
+  reads = λ i has. absurd (let (k, below, at) = has in omega (arith, below));
+}
+
+pub all_over_stay : (old new : AigGraph) → Extends old new → (places : List ℕ) (nodes : List Node) → All (IsOver old places) nodes → All (IsOver new places) nodes
+all_over_stay old new h places nodes are k d lt = over_stays old new h places (get_or nodes k d) (are k d lt)
+
+pub at_over : (g : AigGraph) (places : List ℕ) (nodes : List Node) → All (IsOver g places) nodes → (k : ℕ) → IsOver g places (get_or nodes k (Constant false))
+at_over g places nodes are k = elim (cases_lt k (length nodes)) [
+  | inl below ↦ are k (Constant false) below
+  | inr not_below ↦ subst (IsOver g places) (sym (get_or_past nodes k (Constant false) (omega (arith, not_below)))) (constant_over g places false)
+]
+
+pub chosen_over : (old new : AigGraph) (places : List ℕ) (p : ℕ) (t e n : Node) → Contains places p → IsOver old places t → IsOver old places e
+    → IsChosen old new (Input p false) t e n → IsOver new places n
+chosen_over old new places p t e n among over other chosen = record {
+  is_node = chosen.is_node;
+  reads = λ i has. elim (chosen.reads i has) [
+    | inl c ↦ subst (Contains places) (only_one p i c) among
+    | inr rest ↦ (elim rest [
+      | inl left ↦ over.reads i left
+      | inr right ↦ other.reads i right
+    ])
+  ];
+}
+
+-- how far a walk from the last branch to the first has come
+pub record TreeSoFar (old new : AigGraph) (places : List ℕ) (at : ℕ) (nodes : List Node) : Type 0 where
+  pub grown : Extends old new
+  pub within : at ≤ length nodes
+  pub over : All (IsOver new places) nodes
+
+put_over : (g : AigGraph) (places : List ℕ) (nodes : List Node) (p : ℕ) (n : Node) → All (IsOver g places) nodes → IsOver g places n → All (IsOver g places) (set nodes p n)
+put_over g places nodes p n are is = All-set (IsOver g places) nodes p n is are
+
+pub tree_more : (old mid new : AigGraph) (places : List ℕ) (at : ℕ) (nodes : List Node) (n : Node) → 0 < at → TreeSoFar old mid places at nodes → Extends mid new → IsOver new places n
+    → TreeSoFar old new places (at - 1) (set nodes (at - 1) n)
+tree_more old mid new places at nodes n some far grown is = record {
+  grown = extends-trans old mid new far.grown grown;
+  within = (let w = far.within in let s = length-set nodes (at - 1) n in omega arith);
+  over = put_over new places nodes (at - 1) n (all_over_stay mid new grown places nodes far.over) is;
+}
+
+none_is : {X : Type 0} (x : X) → None ≡ Some x → ⊥
+none_is x e = cc
+
+-- without rules nothing is said of its values
+pub unruled : (f : Dqbf) → IsLawful f → (v : ℕ) (y : Existential) → existential_of f v ≡ Some y → (g : AigGraph) (places : List ℕ) → places ≡ universal_places f y.sees
+    → (n : Node) → IsOver g places n → IsByRules f g [] y n
+unruled f lawful v y found g places are n is = record {
+  is_node = is.is_node;
+  value = λ m bit first. absurd (none_is bit first);
+  reads = all_mapped (Contains y.sees) (slice_index f.universals) (node_support g n) (λ i has.
+      let from = mapped_from (place f.universals) y.sees i (subst (λ ps. Contains ps i) are (is.reads i has)) in
+      let x = from.0 in
+      let among = All-contains (Contains f.universals) y.sees x (sees_universals f lawful v y found) from.1 in
+      let there : get_or f.universals i 0 ≡ x = ap (λ q. get_or f.universals q 0) (sym from.2) ∙ get_or-place f.universals x 0 (is_found f.universals x among) in
+      subst (Contains y.sees) (sym there) from.1);
+}
+
+-- a constant reads nothing
+pub unruled_constant : (f : Dqbf) (g : AigGraph) (y : Existential) (b : Bool) → IsByRules f g [] y (Constant b)
+unruled_constant f g y b = record {
+  is_node = tt;
+  value = λ m bit first. absurd (none_is bit first);
+  reads = λ k d below. absurd (omega (arith, below));
+}
+
+-- the nodes of the first existentials
+pub record NodesSoFar (f : Dqbf) (old new : AigGraph) (count : ℕ) (nodes : List Node) : Type 0 where
+  pub grown : Extends old new
+  pub one_each : length nodes ≡ count
+  pub each : (p : ℕ) (y : Existential) → p < count → slice_get f.existentials p ≡ Some y → IsByRules f new [] y (get_or nodes p (Constant false))
+
+pub node_more : (f : Dqbf) (old mid new : AigGraph) (count : ℕ) (nodes : List Node) (n : Node) → NodesSoFar f old mid count nodes → Extends mid new
+    → ((y : Existential) → slice_get f.existentials count ≡ Some y → IsByRules f new [] y n) → NodesSoFar f old new (count + 1) (nodes ++ n ∷ [])
+node_more f old mid new count nodes n far grown is = record {
+  grown = extends-trans old mid new far.grown grown;
+  one_each = length_push nodes n ∙ ap (λ k. k + 1) far.one_each;
+  each = λ p y below at. elim (cases_lt p count) [
+    | inl early ↦ subst (IsByRules f new [] y) (sym (get_or-append nodes (n ∷ []) (Constant false) p (let long = far.one_each in omega arith)))
+        (rule_node_stays mid new grown f [] y (get_or nodes p (Constant false)) (far.each p y early at))
+    | inr late ↦ (
+        let here : p ≡ count = omega arith in
+        let last : get_or (nodes ++ n ∷ []) count (Constant false) ≡ n = get_or_push nodes n (Constant false) count far.one_each in
+        subst (λ q. IsByRules f new [] y (get_or (nodes ++ n ∷ []) q (Constant false))) (sym here)
+        (subst (IsByRules f new [] y) (sym last) (is y (subst (λ q. slice_get f.existentials q ≡ Some y) here at))))
+  ];
+}
+
+pub all_nodes : (f : Dqbf) (old new : AigGraph) (count : ℕ) (nodes : List Node) → count ≡ length f.existentials → NodesSoFar f old new count nodes → AreByRules f new [] nodes
+all_nodes f old new count nodes all far = record {
+  one_each = far.one_each ∙ all;
+  each = λ p y at. far.each p y (let w = slice_get_within f.existentials p y at in omega (arith, w, all)) at;
+}

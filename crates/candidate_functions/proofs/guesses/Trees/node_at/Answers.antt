@@ -1,0 +1,10 @@
+use Rattle.definition_order.proofs.Declared.{known_at, declared_at}
+use Rattle.candidate_functions.proofs.guesses.Trees.node_at.Goals as goal
+
+pub learned-requires-clause-declared : goal.learned-requires-clause-declared
+learned-requires-clause-declared c = declared_at c.args.known.now.f.now c.every_formula_is_lawful.ensures c.existentials.result.now c.args.place c.existentials.ensures c.requires.place
+
+pub returns-in-None-Some-clause-node : goal.returns-in-None-Some-clause-node
+returns-in-None-Some-clause-node c = λ y at.
+    let f = c.args.known.now.f.now in
+    c.learned.ensures.node y (known_at f c.every_formula_is_lawful.ensures c.existentials.result.now c.args.place y c.existentials.ensures at)

@@ -1,0 +1,175 @@
+//! A model's points as examples of one existential: rows, with the bit that it has there.
+
+ghost use Rattle.std.specs.Prelude.{◌≡◌, ◌≤◌, length, Contains};
+
+use dq_lits::{Memory, Row};
+use expansion::{Points, Table};
+use std::alloc::Global;
+
+// The most universals that are compared for a test: for those of a hostile formula all would be the
+// product of two counts.
+const MOST_TESTS: usize = 64;
+
+// Scores are sums of quotients, which this factor keeps apart.
+const SCALE: u64 = 1024;
+
+// Rows, each with a bit, and the places that are seen there.
+#[derive(Drop)]
+pub(crate) struct Examples<'a> {
+    pub table: &'a Table,
+    pub bits: &'a [bool],
+    pub places: &'a [usize],
+}
+
+// The bits of an existential in the rounds of a table.
+pub(crate) fn bits_of(
+    alloc: Global,
+    table: &Table,
+    points: &Points,
+    y: u64,
+) -> Result<Vec<bool>, Memory>
+    requires as_many { length points.now.rows ≡ length table.now.rows }
+    requires existential { Contains points.now.variables y }
+{
+    let mut bits = Vec::new(alloc);
+    for k in 0..table.rows() {
+        bits.push(points.bit(y, k + 1))?;
+    }
+    Ok(bits)
+}
+
+impl Examples<'_> {
+    /// The numbers of all examples.
+    pub(crate) fn numbers(&self, alloc: Global) -> Result<Vec<usize>, Memory> {
+        let mut numbers = Vec::new(alloc);
+        for number in 0..self.bits.len() {
+            numbers.push(number)?;
+        }
+        Ok(numbers)
+    }
+
+    /// Those of some examples at which a universal has a bit.
+    pub(crate) fn with(
+        &self,
+        alloc: Global,
+        some: &[usize],
+        seen: usize,
+        bit: bool,
+    ) -> Result<Vec<usize>, Memory> {
+        let mut found = Vec::new(alloc);
+        for number in some {
+            if self.sees(*number, seen) == bit {
+                found.push(*number)?;
+            }
+        }
+        Ok(found)
+    }
+
+    /// The bit of the first of some examples.
+    pub(crate) fn first_bit(&self, some: &[usize]) -> bool {
+        match some.first() {
+            Some(number) => self.bit(*number),
+            None => false,
+        }
+    }
+
+    /// The universal that parts some examples by their bits best, by its place among those that are
+    /// seen: of those in which two examples with other bits differ. None where all have one bit.
+    pub(crate) fn best_test(&self, some: &[usize]) -> Option<usize> {
+        let one = some.first()?;
+        let bit = self.bit(*one);
+        let other = some.iter().find(|number| self.bit(**number) != bit)?;
+        let mut best = None;
+        let mut least = u64::MAX;
+        let mut tests = 0usize;
+        for seen in 0..self.places.len() {
+            if tests < MOST_TESTS && self.sees(*one, seen) != self.sees(*other, seen) {
+                tests += 1;
+                let score = self.score(some, seen);
+                if score < least {
+                    least = score;
+                    best = Some(seen);
+                }
+            }
+        }
+        best
+    }
+
+    // How mixed the bits of examples are at both branches of a test: of each the product of the ones
+    // and the zeros, over how many there are (the Gini impurity, L. Breiman et al., "Classification
+    // and regression trees", 1984).
+    fn score(&self, some: &[usize], seen: usize) -> u64 {
+        let mut counts = Counts::none();
+        for number in some {
+            counts.add(self.sees(*number, seen), self.bit(*number));
+        }
+        counts.score()
+    }
+
+    fn bit(&self, number: usize) -> bool {
+        match self.bits.get(number) {
+            Some(bit) => *bit,
+            None => false,
+        }
+    }
+
+    // Whether a universal is true in an example.
+    fn sees(&self, number: usize, seen: usize) -> bool {
+        match self.places.get(seen) {
+            Some(place) => bit_at(self.table, number, *place),
+            None => false,
+        }
+    }
+}
+
+// The bit at a place of a row, by its number from 0 on.
+fn bit_at(table: &Table, number: usize, place: usize) -> bool {
+    let k = number as u64;
+    if k >= table.rows() {
+        return false;
+    }
+    let row: &Row = table.row(k + 1);
+    place < row.len() && row.get(place)
+}
+
+// How many examples there are at each branch of a test, by their bits.
+#[derive(Drop)]
+struct Counts {
+    yes_ones: u64,
+    yes_zeros: u64,
+    no_ones: u64,
+    no_zeros: u64,
+}
+
+impl Counts {
+    fn none() -> Counts {
+        Counts {
+            yes_ones: 0,
+            yes_zeros: 0,
+            no_ones: 0,
+            no_zeros: 0,
+        }
+    }
+
+    fn add(&mut self, is_yes: bool, bit: bool) {
+        let count = match (is_yes, bit) {
+            (true, true) => &mut self.yes_ones,
+            (true, false) => &mut self.yes_zeros,
+            (false, true) => &mut self.no_ones,
+            (false, false) => &mut self.no_zeros,
+        };
+        *count = count.saturating_add(1);
+    }
+
+    fn score(&self) -> u64 {
+        mixed(self.yes_ones, self.yes_zeros).saturating_add(mixed(self.no_ones, self.no_zeros))
+    }
+}
+
+fn mixed(ones: u64, zeros: u64) -> u64 {
+    let all = ones.saturating_add(zeros);
+    if all == 0 {
+        return 0;
+    }
+    ones.saturating_mul(zeros).saturating_mul(SCALE) / all
+}

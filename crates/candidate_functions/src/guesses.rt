@@ -1,0 +1,115 @@
+//! What candidates are where neither a pair nor a rule says their bit: each existential's tree.
+
+ghost use Rattle.std.specs.Prelude.{◌≡◌, ◌≤◌, ◌<◌, [], length, IfOk, Some, IsSome, slice_get};
+ghost use Rattle.dq_lits.specs.Formula.{Existential, existential_of};
+ghost use Rattle.dq_formula.specs.Prefix.{existential_variables};
+ghost use Rattle.aig_graph.specs.Made.{Extends};
+ghost use Rattle.candidate_functions.specs.Pairs.{IsByRules, AreByRules};
+
+use crate::definitions::definition_at;
+use crate::examples::{Examples, bits_of};
+use crate::outputs::Known;
+use crate::trees::Tree;
+use aig_graph::{Graph, Node};
+use dq_lits::Memory;
+use std::alloc::Global;
+
+/// Decision trees of a formula's existentials, which grow from call to call of `build`. What they
+/// say is a guess, of which no contract speaks.
+#[derive(Drop)]
+pub struct Trees {
+    alloc: Global,
+    // By place of the existential.
+    trees: Vec<Tree>,
+}
+
+impl Trees {
+    /// None has grown yet. It takes no memory.
+    pub fn new(alloc: Global) -> Trees {
+        Trees {
+            alloc,
+            trees: Vec::new(alloc),
+        }
+    }
+
+    // For each existential without a definition the node of its tree, which grows first; any node
+    // for another one.
+    pub(crate) fn nodes(&mut self, known: &Known, graph: &mut Graph) -> Result<Vec<Node>, Memory>
+        requires inputs { length known.now.f.now.universals ≤ graph.old.inputs }
+        requires variables { known.now.points.now.variables ≡ existential_variables known.now.f.now }
+        requires as_many { length known.now.points.now.rows ≡ length known.now.table.now.rows }
+        ensures extends { Extends graph.old graph.new }
+        ensures nodes { IfOk result
+            (λ nodes. AreByRules known.now.f.now graph.new [] nodes.items) }
+    {
+        known.f.every_formula_is_lawful();
+        let mut nodes = Vec::new(self.alloc);
+        for place in 0..known.f.existentials().len() {
+            self.grow(place)?;
+            let node = self.node_at(known, place, graph)?;
+            nodes.push(node)?;
+        }
+        Ok(nodes)
+    }
+
+    // Has a tree at a place.
+    fn grow(&mut self, place: usize) -> Result<(), Memory> {
+        if place >= self.trees.len() {
+            self.trees.push(Tree::new(self.alloc))?;
+        }
+        Ok(())
+    }
+
+    fn node_at(&mut self, known: &Known, place: usize, graph: &mut Graph) -> Result<Node, Memory>
+        requires place { place < length known.now.f.now.existentials }
+        requires inputs { length known.now.f.now.universals ≤ graph.old.inputs }
+        requires variables { known.now.points.now.variables ≡ existential_variables known.now.f.now }
+        requires as_many { length known.now.points.now.rows ≡ length known.now.table.now.rows }
+        ensures extends { Extends graph.old graph.new }
+        ensures node { (y : Existential) → slice_get known.now.f.now.existentials place ≡ Some y
+            → IfOk result (IsByRules known.now.f.now graph.new [] y) }
+    {
+        known.f.every_formula_is_lawful();
+        match (
+            definition_at(known.definitions, place),
+            self.trees.get_mut(place),
+        ) {
+            (None, Some(tree)) => learned(
+                self.alloc,
+                known,
+                known.f.existentials()[place],
+                tree,
+                graph,
+            ),
+            _ => Ok(Node::constant(false)),
+        }
+    }
+}
+
+// The node of an existential's tree, which grows first.
+fn learned(
+    alloc: Global,
+    known: &Known,
+    y: u64,
+    tree: &mut Tree,
+    graph: &mut Graph,
+) -> Result<Node, Memory>
+    requires declared { IsSome (existential_of known.now.f.now y) }
+    requires inputs { length known.now.f.now.universals ≤ graph.old.inputs }
+    requires variables { known.now.points.now.variables ≡ existential_variables known.now.f.now }
+    requires as_many { length known.now.points.now.rows ≡ length known.now.table.now.rows }
+    ensures extends { Extends graph.old graph.new }
+    ensures node { (e : Existential) → existential_of known.now.f.now y ≡ Some e
+        → IfOk result (IsByRules known.now.f.now graph.new [] e) }
+{
+    known.f.every_formula_is_lawful();
+    let places = known.f.seen_places(alloc, y)?;
+    let bits = bits_of(alloc, known.table, known.points, y)?;
+    let examples = Examples {
+        table: known.table,
+        bits: &bits,
+        places: &places,
+    };
+    tree.learn(alloc, &examples)?;
+    tree.node(alloc, &places, graph)
+}

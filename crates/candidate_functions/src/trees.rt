@@ -1,0 +1,187 @@
+//! Decision trees over what existentials see, grown from a model's points: what a candidate is away
+//! from the pairs and the rules (J. R. Quinlan, "Induction of decision trees", 1986).
+//!
+//! No contract speaks of the tests: a tree becomes a node, whatever it says, and rules and points
+//! are put over it. Tests stay from call to call, and a tree grows only where points disagree, so
+//! that candidates change little from round to round.
+
+ghost use Rattle.std.specs.Prelude.{◌≡◌, ◌<◌, false, replicate, slice_index_or, All, IfOk};
+ghost use Rattle.aig_graph.specs.Made.{Extends};
+ghost use Rattle.candidate_functions.specs.Trees.{IsOver};
+
+use crate::examples::Examples;
+use aig_graph::{Graph, Node};
+use dq_lits::Memory;
+use std::alloc::Global;
+
+// What is done at a place of a tree: all is decided, or a universal is tested, by its place among
+// those that the existential sees. Both branches stand further on.
+#[derive(Clone, Copy)]
+enum Branch {
+    Leaf(bool),
+    Test { seen: usize, yes: usize, no: usize },
+}
+
+// A decision tree; its root stands first. Without branches it is false.
+#[derive(Drop)]
+pub(crate) struct Tree {
+    branches: Vec<Branch>,
+}
+
+// The examples that come to a branch, by their numbers.
+#[derive(Drop)]
+struct Part {
+    at: usize,
+    examples: Vec<usize>,
+}
+
+impl Tree {
+    pub(crate) fn new(alloc: Global) -> Tree {
+        Tree {
+            branches: Vec::new(alloc),
+        }
+    }
+
+    // Grows until all examples at a leaf have one bit, which is the leaf's then.
+    pub(crate) fn learn(&mut self, alloc: Global, examples: &Examples) -> Result<(), Memory> {
+        if self.branches.is_empty() {
+            self.branches.push(Branch::Leaf(false))?;
+        }
+        let mut parts = Vec::new(alloc);
+        let all = examples.numbers(alloc)?;
+        parts.push(Part {
+            at: 0,
+            examples: all,
+        })?;
+        for _ in 0..u64::MAX {
+            match parts.pop() {
+                None => return Ok(()),
+                Some(part) => self.visit(alloc, examples, part, &mut parts)?,
+            }
+        }
+        Ok(())
+    }
+
+    // Parts the examples at a test; makes a leaf a test where they disagree.
+    fn visit(
+        &mut self,
+        alloc: Global,
+        examples: &Examples,
+        part: Part,
+        parts: &mut Vec<Part>,
+    ) -> Result<(), Memory> {
+        if part.examples.is_empty() {
+            return Ok(());
+        }
+        match self.branches.get(part.at) {
+            None => Ok(()),
+            Some(Branch::Test { seen, yes, no }) => {
+                let ones = examples.with(alloc, &part.examples, *seen, true)?;
+                let zeros = examples.with(alloc, &part.examples, *seen, false)?;
+                let (yes, no) = (*yes, *no);
+                parts.push(Part {
+                    at: yes,
+                    examples: ones,
+                })?;
+                parts.push(Part {
+                    at: no,
+                    examples: zeros,
+                })?;
+                Ok(())
+            }
+            Some(Branch::Leaf(_)) => self.settle(examples, part, parts),
+        }
+    }
+
+    // Gives a leaf the bit of its examples, or a test where they disagree: they come back to it.
+    fn settle(
+        &mut self,
+        examples: &Examples,
+        part: Part,
+        parts: &mut Vec<Part>,
+    ) -> Result<(), Memory> {
+        match examples.best_test(&part.examples) {
+            None => {
+                self.put(part.at, Branch::Leaf(examples.first_bit(&part.examples)));
+                Ok(())
+            }
+            Some(seen) => {
+                let yes = self.branches.len();
+                self.branches.push(Branch::Leaf(false))?;
+                let no = self.branches.len();
+                self.branches.push(Branch::Leaf(false))?;
+                self.put(part.at, Branch::Test { seen, yes, no });
+                parts.push(part)?;
+                Ok(())
+            }
+        }
+    }
+
+    fn put(&mut self, at: usize, branch: Branch) {
+        if let Some(place) = self.branches.get_mut(at) {
+            *place = branch;
+        }
+    }
+
+    /// The tree as a node, over the inputs at the places that the existential sees.
+    pub(crate) fn node(
+        &self,
+        alloc: Global,
+        places: &[usize],
+        graph: &mut Graph,
+    ) -> Result<Node, Memory>
+        requires places { All (λ p. p < graph.old.inputs) places.now }
+        ensures extends { Extends graph.old graph.new }
+        ensures node { IfOk result (IsOver graph.new places.now) }
+    {
+        let mut nodes = no_nodes(alloc, self.branches.len())?;
+        let mut at = nodes.len();
+        while at > 0 {
+            at -= 1;
+            nodes[at] = self.branch_node(at, places, &nodes, graph)?;
+        }
+        Ok(node_at(&nodes, 0))
+    }
+
+    // The node of a branch, where those of the branches further on are known.
+    fn branch_node(
+        &self,
+        at: usize,
+        places: &[usize],
+        nodes: &[Node],
+        graph: &mut Graph,
+    ) -> Result<Node, Memory>
+        requires places { All (λ p. p < graph.old.inputs) places.now }
+        requires nodes { All (IsOver graph.old places.now) nodes.now }
+        ensures extends { Extends graph.old graph.new }
+        ensures node { IfOk result (IsOver graph.new places.now) }
+    {
+        match self.branches.get(at) {
+            Some(Branch::Test { seen, yes, no }) => match places.get(*seen) {
+                Some(place) => {
+                    let input = graph.input(*place);
+                    graph.mux(input, node_at(nodes, *yes), node_at(nodes, *no))
+                }
+                None => Ok(Node::constant(false)),
+            },
+            Some(Branch::Leaf(bit)) => Ok(Node::constant(*bit)),
+            None => Ok(Node::constant(false)),
+        }
+    }
+}
+
+fn no_nodes(alloc: Global, n: usize) -> Result<Vec<Node>, Memory>
+    ensures { IfOk result (λ nodes. nodes.items ≡ replicate n (Node.Constant false)) }
+{
+    Ok(vec![in alloc; Node::Constant(false); n]?)
+}
+
+// The node at a place; false where there is none.
+fn node_at(nodes: &[Node], at: usize) -> Node
+    ensures { result ≡ slice_index_or nodes.now at (Node.Constant false) }
+{
+    match nodes.get(at) {
+        Some(node) => *node,
+        None => Node::Constant(false),
+    }
+}
