@@ -1,7 +1,8 @@
 -- A node with the points' bits at the pairs of a dependency set is a candidate.
-use Rattle.std.proofs.Common.{◌≡◌, ℕ, suc, ◌+◌, ◌*◌, Bool, true, false, not, ◌&&◌, ◌||◌, List, [], ◌∷◌, map, length, get_or, slice_get, slice_index, Some, refl, sym, ◌∙◌, ap, subst, inl, inr, arith}
+use Rattle.std.proofs.Common.{◌≡◌, ℕ, suc, ◌+◌, ◌-◌, ◌*◌, ◌<◌, Bool, true, false, not, ◌&&◌, ◌||◌, List, [], ◌∷◌, map, length, get_or, slice_get, slice_index, Some, refl, sym, ◌∙◌, ap, subst, inl, inr, arith}
 use Rattle.std.specs.List.{All, Contains, list_any, position_or_len}
-use Rattle.std.proofs.lemmas.Bool.{and_parts}
+use Rattle.std.proofs.lemmas.Bool.{and_parts, cases_lt}
+use Rattle.std.proofs.lemmas.List.{get_or_past}
 use Rattle.std.proofs.lemmas.List.Elements.{All-contains, All-head, All-tail}
 use Rattle.std.proofs.lemmas.List.Folds.{list_any_at}
 use Rattle.std.proofs.lemmas.Option.{slice_get_within, get_or_from_slice_get}
@@ -11,18 +12,23 @@ use Rattle.dq_lits.specs.Henkin.{same_bit, same_bits, restriction}
 use Rattle.dq_lits.specs.Row.{bit_of}
 use Rattle.dq_lits.specs.Expansion.{row_assignment, pair_number}
 use Rattle.dq_formula.specs.declared.rules.Rule.{Rule}
-use Rattle.dq_formula.proofs.Places.{place}
+use Rattle.dq_formula.specs.Prefix.{IsLawful}
+use Rattle.dq_formula.proofs.Places.{place, place-get_or}
+use Rattle.dq_formula.proofs.Subsets.{distinct_universals}
 use Rattle.dq_formula.proofs.Sorted.{get_or-place}
 use Rattle.dq_formula.proofs.Restrictions.{assignment_of-place}
 use Rattle.aig_graph.specs.Graph.{AigGraph, node_value, node_support}
 use Rattle.aig_graph.specs.Outputs.{node_output}
+use Rattle.aig_graph.proofs.Supported.{node_same}
 use Rattle.aig_graph.specs.declared.nodes.Node.{Node}
 use Rattle.expansion.specs.Table.{PointBits, ArePoints}
 use Rattle.candidate_functions.specs.Candidates.{SeesRow, AgreesAtPairs, FollowsRules}
 use Rattle.candidate_functions.specs.Pairs.{agrees, universal_places, has_bit, at_pair, IsPair, HasPair, ArePairs, IsReadByPair, IsPatched, IsByRules, IsCandidate}
+use Rattle.candidate_functions.specs.Differing.{HasOwnPoint, AreDiffering}
 use Rattle.candidate_functions.specs.declared.cubes.Pair.{Pair}
 use Rattle.candidate_functions.proofs.RowCubes.{mapped_from}
-use Rattle.candidate_functions.proofs.DeclaredPlaces.{is_found, all_mapped, one_mapped}
+use Rattle.candidate_functions.proofs.DeclaredPlaces.{is_found, all_from_contains, all_mapped, one_mapped}
+use Rattle.candidate_functions.proofs.DefinedPoints.{same_bits_seen, none_at_zero}
 
 same_from : (a b : Bool) → same_bit a b ≡ true → b ≡ a
 same_from true b h = h
@@ -100,6 +106,11 @@ patched_one false o ones zeros h k l = ap (λ c. c || (o && not zeros)) (k refl)
     none true = refl
     none false = refl
 
+patched_right : (b o ones zeros : Bool) → o ≡ b → (b ≡ true → zeros ≡ false) → (b ≡ false → ones ≡ false) → (ones || (o && not zeros)) ≡ b
+patched_right true o true zeros is h k = refl
+patched_right true o false zeros is h k = ap (λ c. c && not zeros) is ∙ ap not (h refl)
+patched_right false o ones zeros is h k = ap (λ c. c || (o && not zeros)) (k refl) ∙ ap (λ c. c && not zeros) is
+
 patched_none : (o ones zeros : Bool) → ones ≡ false → zeros ≡ false → (ones || (o && not zeros)) ≡ o
 patched_none o ones zeros h k = ap (λ c. c || (o && not zeros)) h ∙ ap (λ c. o && not c) k ∙ itself o
   where
@@ -115,7 +126,7 @@ pub record AtExistential (f : Dqbf) (rows : List (List Bool)) (points : PointBit
       → points (j + 1) y.variable ≡ points (k + 1) y.variable
 
 module _ (f : Dqbf) (rows : List (List Bool)) (points : PointBits) (y : Existential) (g : AigGraph) (pairs : List Pair) (t : AtExistential f rows points y)
-    (are : ArePairs rows g (universal_places f y.sees) (length rows) pairs) (m : Assignment) where
+    (are : ArePairs rows g (universal_places f y.sees) (length rows) pairs) (some : List Pair) (among_pairs : (p : Pair) → Contains some p → Contains pairs p) (m : Assignment) where
   abbrev inputs : ℕ → Bool
   inputs i = m (slice_index f.universals i)
 
@@ -157,46 +168,75 @@ module _ (f : Dqbf) (rows : List (List Bool)) (points : PointBits) (y : Existent
     own_bit : points has.pair.round y.variable ≡ points (k + 1) y.variable
     own_bit = bit_by has.pair has.among k row at sees own_holds
 
-    bit_there : (b : Bool) → points (k + 1) y.variable ≡ b → at_pair g (has_bit b points y.variable) pairs inputs ≡ true
-    bit_there b is =
-        one_passes (λ q. has_bit b points y.variable q.round && node_value g inputs q.cube) pairs has.pair has.among
+    bit_there : Contains some has.pair → (b : Bool) → points (k + 1) y.variable ≡ b → at_pair g (has_bit b points y.variable) some inputs ≡ true
+    bit_there own b is =
+        one_passes (λ q. has_bit b points y.variable q.round && node_value g inputs q.cube) some has.pair own
         (both (has_bit b points y.variable has.pair.round) (node_value g inputs has.pair.cube) (same_to b (points has.pair.round y.variable) (own_bit ∙ is)) own_holds)
 
-    bit_absent : (b : Bool) → points (k + 1) y.variable ≡ b → at_pair g (has_bit (not b) points y.variable) pairs inputs ≡ false
+    bit_absent : (b : Bool) → points (k + 1) y.variable ≡ b → at_pair g (has_bit (not b) points y.variable) some inputs ≡ false
     bit_absent b is =
-        none_pass (λ q. has_bit (not b) points y.variable q.round && node_value g inputs q.cube) pairs (λ q among.
+        none_pass (λ q. has_bit (not b) points y.variable q.round && node_value g inputs q.cube) some (λ q among.
         and_none (has_bit (not b) points y.variable q.round) (node_value g inputs q.cube) (λ holds.
-        ap (same_bit (not b)) (bit_by q among k row at sees holds ∙ is) ∙ other_bit b))
+        ap (same_bit (not b)) (bit_by q (among_pairs q among) k row at sees holds ∙ is) ∙ other_bit b))
 
-  nothing_there : All (λ row. SeesRow f y row m → ⊥) rows → (b : Bool) → at_pair g (has_bit b points y.variable) pairs inputs ≡ false
+    -- at a pair whose own row has the point, a node that reads what is seen has it
+    own_value : IsLawful f → (node : Node) → All (Contains y.sees) (node_output f g node).support → HasOwnPoint rows points y.variable g node has.pair
+        → node_value g inputs node ≡ points (k + 1) y.variable
+    own_value lawful node reads right =
+        let p = pair_of has.pair has.among in
+        let seen = seen_by has.pair has.among own_holds in
+        let at_round : slice_get rows (has.pair.round - 1) ≡ Some p.row = subst (λ j. slice_get rows j ≡ Some p.row) (let r = p.round in omega arith) p.at in
+        sym (node_same (bit_of p.row) inputs g node (all_from_contains (λ j. bit_of p.row j ≡ inputs j) (node_support g node) (λ j read.
+        let x = slice_index f.universals j in
+        let own = one_mapped (Contains y.sees) (slice_index f.universals) (node_support g node) j reads read in
+        let among = All-contains (Contains f.universals) y.sees x t.among own in
+        let below : j < length f.universals = elim (cases_lt j (length f.universals)) [
+          | inl b ↦ b
+          | inr past ↦ absurd (none_at_zero f lawful x (get_or_past f.universals j 0 (omega (arith, past))) (inl among))
+        ] in
+        let there : place f.universals x ≡ j = place-get_or f.universals j 0 (distinct_universals f lawful.prefix) below in
+        sym (ap (bit_of p.row) there) ∙ assignment_of-place f.universals p.row x (row_length p.place p.row p.at) ∙ sym (same_bits_seen m (row_assignment f p.row) y.sees x seen own))))
+        ∙ right p.row at_round ∙ own_bit
+
+  nothing_there : All (λ row. SeesRow f y row m → ⊥) rows → (b : Bool) → at_pair g (has_bit b points y.variable) some inputs ≡ false
   nothing_there away b =
-      none_pass (λ q. has_bit b points y.variable q.round && node_value g inputs q.cube) pairs (λ q among.
+      none_pass (λ q. has_bit b points y.variable q.round && node_value g inputs q.cube) some (λ q own.
       and_none (has_bit b points y.variable q.round) (node_value g inputs q.cube) (λ holds.
+      let among = among_pairs q own in
       let p = pair_of q among in
       absurd (subst (λ r. SeesRow f y r m → ⊥) (get_or_from_slice_get rows p.place p.row p.row p.at) (away p.place p.row (slice_get_within rows p.place p.row p.at)) (seen_by q among holds))))
 
-module _ (f : Dqbf) (rows : List (List Bool)) (points : PointBits) (rules : List Rule) (y : Existential) (old new : AigGraph) (pairs : List Pair) (other node : Node)
-    (t : AtExistential f rows points y) (are : ArePairs rows old (universal_places f y.sees) (length rows) pairs) (by : IsByRules f old rules y other)
-    (is : IsPatched old new points y.variable pairs other node) where
+module _ (f : Dqbf) (rows : List (List Bool)) (points : PointBits) (rules : List Rule) (y : Existential) (old new : AigGraph) (pairs some : List Pair) (other node : Node)
+    (lawful : IsLawful f) (t : AtExistential f rows points y) (are : ArePairs rows old (universal_places f y.sees) (length rows) pairs) (by : IsByRules f old rules y other)
+    (differ : AreDiffering rows points y.variable old other pairs some) (is : IsPatched old new points y.variable some other node) where
   at_pairs : AgreesAtPairs f rows points y (node_output f new node)
   at_pairs k row m at sees =
       let i : ℕ → Bool = λ p. m (slice_index f.universals p) in
       let b = points (k + 1) y.variable in
-      is.value i ∙ patched_one b (node_value old i other) (at_pair old (has_bit true points y.variable) pairs i) (at_pair old (has_bit false points y.variable) pairs i)
-      (bit_there f rows points y old pairs t are m k row at sees true)
-      (bit_absent f rows points y old pairs t are m k row at sees false)
-      (bit_there f rows points y old pairs t are m k row at sees false)
+      let pair = has f rows points y old pairs t are some differ.among m k row at sees in
+      let ones = at_pair old (has_bit true points y.variable) some i in
+      let zeros = at_pair old (has_bit false points y.variable) some i in
+      is.value i ∙ (elim (differ.others pair.pair pair.among) [
+        | inl own ↦ patched_one b (node_value old i other) ones zeros
+            (bit_there f rows points y old pairs t are some differ.among m k row at sees own true)
+            (bit_absent f rows points y old pairs t are some differ.among m k row at sees false)
+            (bit_there f rows points y old pairs t are some differ.among m k row at sees own false)
+        | inr right ↦ patched_right b (node_value old i other) ones zeros
+            (own_value f rows points y old pairs t are some differ.among m k row at sees lawful other by.reads right)
+            (bit_absent f rows points y old pairs t are some differ.among m k row at sees true)
+            (bit_absent f rows points y old pairs t are some differ.among m k row at sees false)
+      ])
 
   follows : FollowsRules f rows rules y (node_output f new node)
   follows m bit away first =
       let i : ℕ → Bool = λ p. m (slice_index f.universals p) in
-      is.value i ∙ patched_none (node_value old i other) (at_pair old (has_bit true points y.variable) pairs i) (at_pair old (has_bit false points y.variable) pairs i)
-      (nothing_there f rows points y old pairs t are m away true) (nothing_there f rows points y old pairs t are m away false)
+      is.value i ∙ patched_none (node_value old i other) (at_pair old (has_bit true points y.variable) some i) (at_pair old (has_bit false points y.variable) some i)
+      (nothing_there f rows points y old pairs t are some differ.among m away true) (nothing_there f rows points y old pairs t are some differ.among m away false)
       ∙ by.value m bit first
 
-  read_by_pair : (i : ℕ) → IsReadByPair old pairs i → Contains y.sees (slice_index f.universals i)
+  read_by_pair : (i : ℕ) → IsReadByPair old some i → Contains y.sees (slice_index f.universals i)
   read_by_pair i r =
-      let p = All-contains (IsPair rows old (universal_places f y.sees)) pairs r.pair are.each r.among in
+      let p = All-contains (IsPair rows old (universal_places f y.sees)) pairs r.pair are.each (differ.among r.pair r.among) in
       let from = mapped_from (place f.universals) y.sees i (p.cube.reads i r.reads) in
       let x = from.0 in
       let among = All-contains (Contains f.universals) y.sees x t.among from.1 in

@@ -49,7 +49,7 @@ pub defined_at_pair : (f : Dqbf) (ranks : List ℕ) (graph : AigGraph) (y : Exis
 defined_at_pair f ranks graph y node own is rows row model instances m t =
     sym (t.existential y.variable y own) ∙ is.defines m (λ j e inside. clause_holds f rows row model m t (get_or f.matrix j e) (instances j e inside))
 
-same_bits_seen : (m n : Assignment) (xs : List ℕ) (x : ℕ) → map m xs ≡ map n xs → Contains xs x → m x ≡ n x
+pub same_bits_seen : (m n : Assignment) (xs : List ℕ) (x : ℕ) → map m xs ≡ map n xs → Contains xs x → m x ≡ n x
 same_bits_seen m n xs x same (k, below, is) =
     ap m (sym is) ∙ sym (get_or-map m xs k x (m x) below) ∙ ap (λ bs. get_or bs k (m x)) same ∙ get_or-map n xs k x (m x) below ∙ ap n is
 
@@ -62,7 +62,7 @@ map_agree m n (x ∷ xs) each =
 pub sees_row_too : (f : Dqbf) (y z : Existential) (row : List Bool) (m : Assignment) → All (Contains y.sees) z.sees → SeesRow f y row m → SeesRow f z row m
 sees_row_too f y z row m no_more sees = map_agree m (row_assignment f row) z.sees (λ x among. same_bits_seen m (row_assignment f row) y.sees x sees (All-contains (Contains y.sees) z.sees x no_more among))
 
-none_at_zero : (f : Dqbf) → IsLawful f → (v : ℕ) → v ≡ 0 → Contains f.universals v ⊎ ((z : Existential) × (existential_of f v ≡ Some z)) → ⊥
+pub none_at_zero : (f : Dqbf) → IsLawful f → (v : ℕ) → v ≡ 0 → Contains f.universals v ⊎ ((z : Existential) × (existential_of f v ≡ Some z)) → ⊥
 none_at_zero f lawful v none (inl universal) =
     let range = All-contains (λ w. (1 ≤ w) × (w ≤ f.variables)) (f.universals ++ map variable f.existentials) v lawful.prefix.in_range (Contains-append_left f.universals (map variable f.existentials) v universal) in
     omega (arith, range.0)

@@ -11,3 +11,4 @@ pub mod DefinedPoints
 pub mod AllOutputs
 pub mod SettledDefinitions
 pub mod TreeNodes
+pub mod DifferingPairs

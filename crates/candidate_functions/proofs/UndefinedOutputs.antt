@@ -10,6 +10,7 @@ use Rattle.aig_graph.specs.Made.{Extends}
 use Rattle.aig_graph.specs.declared.nodes.Node.{Node}
 use Rattle.expansion.specs.Table.{PointBits, ArePoints}
 use Rattle.candidate_functions.specs.Pairs.{AreSeenPairs, HasClass, IsPatched, IsByRules, IsCandidate}
+use Rattle.candidate_functions.specs.Differing.{AreDiffering}
 use Rattle.candidate_functions.specs.declared.classes.Class.{Class}
 use Rattle.candidate_functions.specs.declared.cubes.Pair.{Pair}
 use Rattle.candidate_functions.proofs.AgreeingNodes.{AtExistential, same_point, patched_is_candidate}
@@ -28,12 +29,12 @@ at_existential f lawful rows points whole are v y found =
 
 pub undefined_is_candidate : (f : Dqbf) → IsLawful f → (rows : List (List Bool)) (points : PointBits) → All (λ row. length row ≡ length f.universals) rows → ArePoints f rows points
     → (rules : List Rule) (v : ℕ) (y : Existential) → existential_of f v ≡ Some y → (old mid new : AigGraph) → Extends old mid
-    → (pairs : List Pair) → AreSeenPairs f rows mid y.sees pairs → (other node : Node) → IsByRules f old rules y other
-    → IsPatched mid new points v pairs other node → IsCandidate f rows points rules new y node
-undefined_is_candidate f lawful rows points whole are rules v y found old mid new grown pairs seen other node by patched =
+    → (pairs some : List Pair) → AreSeenPairs f rows mid y.sees pairs → (other node : Node) → IsByRules f old rules y other
+    → AreDiffering rows points v mid other pairs some → IsPatched mid new points v some other node → IsCandidate f rows points rules new y node
+undefined_is_candidate f lawful rows points whole are rules v y found old mid new grown pairs some seen other node by differ patched =
     let own = (find_sound v f.existentials y found).1 in
-    patched_is_candidate f rows points rules y mid new pairs other node (at_existential f lawful rows points whole are v y found) seen
-    (rule_node_stays old mid grown f rules y other by) (subst (λ w. IsPatched mid new points w pairs other node) (sym own) patched)
+    patched_is_candidate f rows points rules y mid new pairs some other node lawful (at_existential f lawful rows points whole are v y found) seen
+    (rule_node_stays old mid grown f rules y other by) (subst (λ w. AreDiffering rows points w mid other pairs some) (sym own) differ) (subst (λ w. IsPatched mid new points w some other node) (sym own) patched)
 
 -- the pairs that stand at a class's place
 pub pairs_there : (f : Dqbf) (rows : List (List Bool)) (g : AigGraph) (cs : List Class) (place v : ℕ) (c : Class) (pairs : List Pair)

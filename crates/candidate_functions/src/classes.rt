@@ -6,6 +6,7 @@ ghost use Rattle.aig_graph.specs.Made.{Extends};
 ghost use Rattle.candidate_functions.specs.Pairs.{set_of, AreSeenPairs, IsClass, HasClass, HasClassLike};
 
 use crate::cubes::{Pair, all_pairs};
+use crate::differing::Work;
 use aig_graph::Graph;
 use dq_formula::Formula;
 use dq_lits::Memory;
@@ -26,6 +27,7 @@ pub(crate) struct Classes {
     pub alloc: Global,
     pub classes: Vec<Class>,
     pub known: KnownSets,
+    pub work: Work,
 }
 
 // For each existential, by place, one with the same dependency set, and for such a one the place of
@@ -64,6 +66,7 @@ pub(crate) fn no_classes(alloc: Global, f: &Formula) -> Result<Classes, Memory>
             leaders,
             places: BTreeMap::new(alloc),
         },
+        work: Work::new(),
     })
 }
 

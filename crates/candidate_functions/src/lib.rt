@@ -9,6 +9,7 @@ mod building;
 mod classes;
 mod cubes;
 mod definitions;
+mod differing;
 mod examples;
 mod guesses;
 pub mod laws;

@@ -11,6 +11,7 @@ ghost use Rattle.candidate_functions.specs.Pairs.{IsClass, IsByRules, AreByRules
 
 use crate::classes::{Classes, no_classes};
 use crate::definitions::definition_at;
+use crate::differing::pairs_to_patch;
 use crate::patches::patched;
 use aig_graph::{Graph, Node};
 use dq_formula::Formula;
@@ -132,6 +133,9 @@ impl Classes {
     {
         known.f.every_formula_is_lawful();
         let place = self.class_of(known.f, known.table, y, graph)?;
-        patched(&self.classes[place].pairs, known.points, y, other, graph)
+        let pairs = &self.classes[place].pairs;
+        let compares = self.work.takes(pairs.len(), graph.place(other));
+        let some = pairs_to_patch(self.alloc, compares, known, y, pairs, other, graph)?;
+        patched(&some, known.points, y, other, graph)
     }
 }
