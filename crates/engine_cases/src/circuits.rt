@@ -27,7 +27,14 @@ const LIMIT: u64 = 1000;
 pub fn run(alloc: Global, f: &Formula, turns: &str, printed: &mut String) -> Result<()>
     requires formula { IsWellFormed f.now }
 {
-    run_by(alloc, Cdcl::new(alloc), Log::new(alloc, LIMIT), f, turns, printed)
+    run_by(
+        alloc,
+        Cdcl::new(alloc),
+        Log::new(alloc, LIMIT),
+        f,
+        turns,
+        printed,
+    )
 }
 
 // Over any solver: what drops one here is the same few steps whatever it holds.

@@ -49,7 +49,12 @@ fn decided<O: Oracle>(
     requires empty { log.old.entries ≡ [] }
 {
     let mut graph = Graph::new(alloc, f.universals().len() + f.existentials().len());
-    match decide(alloc, oracle, &mut graph, f, log) {
+    let verdict = decide(alloc, oracle, &mut graph, f, log);
+    word_of(&verdict)
+}
+
+fn word_of(verdict: &Result<Verdict, Stop>) -> Result<&'static str> {
+    match verdict {
         Ok(Verdict::True(_, _)) => Ok(": true"),
         Ok(Verdict::False(_)) => Ok(": false"),
         Err(Stop::Limit) => Ok(": limit"),

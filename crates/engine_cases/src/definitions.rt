@@ -2,11 +2,12 @@
 
 ghost use Rattle.std.specs.Prelude.{◌≡◌, [], IfOk};
 ghost use Rattle.dq_lits.specs.Formula.{IsWellFormed};
+ghost use Rattle.aig_graph.specs.Graph.{IsNode};
 ghost use Rattle.engine_cases.specs.Ready.{IsLinked};
 
 use crate::evaluation::show_node;
 use crate::shown::{Shown, push_signed, show_more};
-use aig_graph::Graph;
+use aig_graph::{Graph, Node};
 use anyhow::{Result, anyhow};
 use cdcl_core::Cdcl;
 use dq_formula::Formula;
@@ -22,7 +23,14 @@ const LIMIT: u64 = 1000;
 pub fn run(alloc: Global, f: &Formula, existentials: &str, printed: &mut String) -> Result<()>
     requires formula { IsWellFormed f.now }
 {
-    run_by(alloc, Cdcl::new(alloc), Log::new(alloc, LIMIT), f, existentials, printed)
+    run_by(
+        alloc,
+        Cdcl::new(alloc),
+        Log::new(alloc, LIMIT),
+        f,
+        existentials,
+        printed,
+    )
 }
 
 // Over any solver: what drops one here is the same few steps whatever it holds.
@@ -106,18 +114,32 @@ impl<O: Oracle> Defining<O> {
         if !f.is_existential(y) {
             return Err(anyhow!("no existential: {y}"));
         }
-        let found = self.padoa.define(&mut self.oracle, &mut self.graph, f, &[], y, &mut self.log);
         push_variable(alloc, y, printed)?;
-        match found {
-            Ok(Found::Defined(node)) => {
-                show_node(alloc, &variables(alloc, f)?, &self.graph, node, printed)?;
-            }
-            Ok(Found::Free(_)) => printed.push_str("free")?,
-            Err(Stop::Limit) => printed.push_str("limit")?,
-            Err(Stop::Memory) => return Err(anyhow!("out of memory")),
+        let found = self.padoa.define(&mut self.oracle, &mut self.graph, f, &[], y, &mut self.log);
+        match &found {
+            Ok(Found::Defined(node)) => show_definition(alloc, f, &self.graph, *node, printed),
+            Ok(Found::Free(_)) => push_word("free", printed),
+            Err(Stop::Limit) => push_word("limit", printed),
+            Err(Stop::Memory) => Err(anyhow!("out of memory")),
         }
-        Ok(())
     }
+}
+
+fn show_definition(
+    alloc: Global,
+    f: &Formula,
+    graph: &Graph,
+    node: Node,
+    printed: &mut String,
+) -> Result<()>
+    requires node { IsNode graph.now node }
+{
+    show_node(alloc, &variables(alloc, f)?, graph, node, printed)
+}
+
+fn push_word(word: &str, printed: &mut String) -> Result<()> {
+    printed.push_str(word)?;
+    Ok(())
 }
 
 /// Begins the line of an existential.

@@ -40,7 +40,14 @@ pub fn run(
     requires formula { IsWellFormed f.now }
 {
     let mut report = Report::new(alloc, detail);
-    run_by(alloc, Cdcl::new(alloc), Log::new(alloc, LIMIT), f, rows, &mut report)?;
+    run_by(
+        alloc,
+        Cdcl::new(alloc),
+        Log::new(alloc, LIMIT),
+        f,
+        rows,
+        &mut report,
+    )?;
     printed.push_str(&report.text)?;
     Ok(())
 }
@@ -169,7 +176,17 @@ fn show_model(
 {
     let mut graph = Graph::new(alloc, f.universals().len() + f.existentials().len());
     let mut trees = Trees::new(alloc);
-    let outputs = build(alloc, f, table, points, &mut trees, &[], &[], &[], &mut graph)?;
+    let outputs = build(
+        alloc,
+        f,
+        table,
+        points,
+        &mut trees,
+        &[],
+        &[],
+        &[],
+        &mut graph,
+    )?;
     let candidates = Candidates {
         graph: &graph,
         nodes: outputs.items(),

@@ -88,8 +88,21 @@ fn set_formula(alloc: Global, formula: &mut String, rest: &str) -> Result<Option
 fn run(alloc: Global, formula: &str, rest: &str, kind: Kind) -> Result<Option<String>> {
     let (name, steps) = rest.split_once(" : ").unwrap_or((rest, ""));
     let formula = read(alloc, formula.as_bytes())?;
+    run_named(alloc, &formula, name, steps, kind)
+}
+
+// What a run prints, behind its name.
+fn run_named(
+    alloc: Global,
+    f: &Formula,
+    name: &str,
+    steps: &str,
+    kind: Kind,
+) -> Result<Option<String>>
+    requires formula { IsWellFormed f.now }
+{
     let mut printed = String::from_str(alloc, name)?;
-    run_engine(alloc, &formula, steps, kind, &mut printed)?;
+    run_engine(alloc, f, steps, kind, &mut printed)?;
     Ok(Some(printed))
 }
 
