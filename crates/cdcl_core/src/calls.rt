@@ -70,6 +70,7 @@ pub(crate) fn keep_given(
     ensures err { OnErr result (log.new ≡ log.old) }
     ensures err_held { OnErr result (clauses.new.clauses ≡ clauses.old.clauses) }
 {
+    clauses.add_cursor(clause)?;
     clauses.reserve(clause)?;
     let id = log.given(origin, clause)?;
     clauses.push(clause);

@@ -170,6 +170,7 @@ fn settle(s: &mut Searcher, assumptions: &Assumptions, log: &Log) -> Option<Foun
 {
     match open_clause(&s.trail, &s.clauses, &s.activities, &s.positions) {
         Some(open) => {
+            s.clauses.set_cursor(open.id, open.place);
             s.positions.open(open.id, s.trail.len(), s.clauses.len());
             decide(s, assumptions, open.literal, log);
             None
