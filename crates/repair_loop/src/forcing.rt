@@ -10,6 +10,7 @@ ghost use Rattle.repair_loop.specs.Searching.{GoesOn, LogGrew};
 ghost use Rattle.oracle.specs.Limits.{IsAtSomeLimit};
 
 use crate::definitions::{Definitions, ExistentialAt};
+use crate::samples::Sample;
 use circuit_cnf::laws::checkers_stay;
 use dq_formula::Formula;
 use dq_lits::Memory;
@@ -19,6 +20,7 @@ use hint_log::{Log, Stop};
 use log_laws::laws::engines_leave_the_rest;
 use oracle::Oracle;
 use padoa_definitions::Forced;
+use std::alloc::Global;
 
 // A model of the instances of a table's rows.
 #[derive(Drop)]
@@ -58,18 +60,20 @@ impl Definitions {
         if model.table.rows() == 0 {
             return Ok(());
         }
+        let mut sample = newest_sample(self.questions.alloc, f, model)?;
         for place in 0..f.existentials().len() {
-            self.force(oracle, &ExistentialAt { f, place }, model, log)?;
+            self.force(oracle, &ExistentialAt { f, place }, model, &mut sample, log)?;
         }
         Ok(())
     }
 
-    // Asks the same of an existential.
+    // Asks the same of an existential, unless it isn't worth it.
     fn force<O: Oracle>(
         &mut self,
         oracle: &mut O,
         existential: &ExistentialAt,
         model: &TableModel,
+        sample: &mut Sample,
         log: &mut Log,
     ) -> Result<(), Stop>
         requires as_many { length self.old.nodes.items
@@ -96,10 +100,13 @@ impl Definitions {
         ensures grew { LogGrew log.old log.new }
         ensures limit { IsErrOf result Stop.Limit → IsAtSomeLimit log.new }
     {
-        if !self.occurs_at(existential.place) {
+        if let Some(_) = self.nodes[existential.place] {
             return Ok(());
         }
-        if let Some(_) = self.nodes[existential.place] {
+        if !self
+            .questions
+            .is_worth_forcing(existential.f, existential.place, sample)
+        {
             return Ok(());
         }
         self.force_bit(oracle, existential, model, log)
@@ -146,6 +153,7 @@ impl Definitions {
         let forced = self
             .padoa
             .force(oracle, f, y, model.table.row(newest), bit, log)?;
+        self.questions.learn_bit(existential.place, &forced);
         self.keep(forced)?;
         Ok(())
     }
@@ -166,4 +174,19 @@ impl Definitions {
             Forced::Loose { .. } => Ok(()),
         }
     }
+}
+
+// The newest row, and the points' bits there.
+fn newest_sample(alloc: Global, f: &Formula, model: &TableModel) -> Result<Sample, Memory>
+    requires some { 1 ≤ length model.now.table.now.rows }
+    requires variables { model.now.points.now.variables ≡ existential_variables f.now }
+    requires point_rows { length model.now.points.now.rows ≡ length model.now.table.now.rows }
+{
+    f.every_formula_is_lawful();
+    let newest = model.table.rows();
+    let mut values = Vec::new(alloc);
+    for y in f.existentials() {
+        values.push(model.points.bit(*y, newest))?;
+    }
+    Sample::new(alloc, f, model.table.row(newest), values)
 }

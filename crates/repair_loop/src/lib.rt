@@ -10,4 +10,8 @@ mod decisions;
 mod definitions;
 mod forcing;
 mod judging;
+mod occurrences;
+mod questions;
+mod samples;
 mod universal_clauses;
+mod walks;
