@@ -56,6 +56,7 @@ pub(crate) fn learn(
     let is_due = is_restart_due(&mut s.restarts, &s.trail, &s.notes, &s.positions);
     let level = land(&mut s.trail, &s.notes, &first, id, is_due);
     hold(&mut s.clauses, &s.notes, &first, &level);
+    s.focus.back(s.trail.len().wrapping_sub(1));
     s.positions.back(s.trail.len().wrapping_sub(1), id);
     Ok(())
 }

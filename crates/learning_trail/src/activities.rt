@@ -74,8 +74,19 @@ impl Activities {
         self.score(l) > self.score(other)
     }
 
+    /// How active the literals of a variable are together.
+    pub fn of_variable(&self, v: u64) -> u64 {
+        let place = (v.wrapping_sub(1) as usize).wrapping_mul(2);
+        self.score_at(place)
+            .saturating_add(self.score_at(place.wrapping_add(1)))
+    }
+
     fn score(&self, l: Lit) -> u64 {
-        match self.scores.get(place_of(l)) {
+        self.score_at(place_of(l))
+    }
+
+    fn score_at(&self, place: usize) -> u64 {
+        match self.scores.get(place) {
             Some(score) => score.after(self.scaled),
             None => 0,
         }
