@@ -1,6 +1,6 @@
 //! The rules that the clauses force, which are asked for at each new row.
 
-ghost use Rattle.std.specs.Prelude.{◌≡◌, ◌<◌, ◌≤◌, length, All, IsErrOf};
+ghost use Rattle.std.specs.Prelude.{◌≡◌, ◌<◌, ◌≤◌, length, All, IfOk, IfSome, IsErrOf};
 ghost use Rattle.dq_lits.specs.Formula.{Dqbf, IsWellFormed};
 ghost use Rattle.dq_formula.specs.Prefix.{existential_variables};
 ghost use Rattle.dq_formula.specs.Rules.{IsRule};
@@ -11,8 +11,9 @@ ghost use Rattle.oracle.specs.Limits.{IsAtSomeLimit};
 
 use crate::definitions::{Definitions, ExistentialAt};
 use crate::samples::Sample;
+use crate::stated_rules::stated_rule;
 use circuit_cnf::laws::checkers_stay;
-use dq_formula::Formula;
+use dq_formula::{Formula, Rule};
 use dq_lits::Memory;
 use expansion::laws::engines_leave_tables;
 use expansion::{Points, Table};
@@ -109,7 +110,35 @@ impl Definitions {
         {
             return Ok(());
         }
+        if let Some(rule) = self.find_stated(existential, sample)? {
+            self.keep(Forced::Rule(rule))?;
+            return Ok(());
+        }
         self.force_bit(oracle, existential, model, log)
+    }
+
+    // The rule that some clause states of an existential's bit in a sample, of those that need it.
+    fn find_stated(
+        &self,
+        existential: &ExistentialAt,
+        sample: &Sample,
+    ) -> Result<Option<Rule>, Memory>
+        requires place { existential.now.place < length existential.now.f.now.existentials }
+        ensures { IfOk result (λ found. IfSome found (IsRule existential.now.f.now)) }
+    {
+        let f = existential.f;
+        f.every_formula_is_lawful();
+        let y = f.existentials()[existential.place];
+        let bit = sample.bit(existential.place);
+        for number in self.questions.occurrences.with(existential.place, bit) {
+            let at = *number as usize;
+            if sample.count(*number) < 2 && at < f.clauses() {
+                if let Some(rule) = stated_rule(self.questions.alloc, f, y, bit, at)? {
+                    return Ok(Some(rule));
+                }
+            }
+        }
+        Ok(None)
     }
 
     // Asks for a rule that gives an existential its point's bit at the newest row.

@@ -13,5 +13,6 @@ mod judging;
 mod occurrences;
 mod questions;
 mod samples;
+mod stated_rules;
 mod universal_clauses;
 mod walks;

@@ -28,7 +28,7 @@ const MOST_LOOSE: u8 = 8;
 #[derive(Drop)]
 pub(crate) struct Questions {
     pub alloc: Global,
-    occurrences: Occurrences,
+    pub occurrences: Occurrences,
     // The existentials' places in the order in which they are asked for, and their numbers there.
     order: Vec<usize>,
     numbers: Vec<usize>,

@@ -47,7 +47,8 @@ impl Walk<'_, '_, '_> {
                 return Ok(true);
             };
             let Some(other) = self.best_in(number, place) else {
-                break;
+                self.go_back();
+                return Ok(false);
             };
             self.turn_one(other)?;
         }
