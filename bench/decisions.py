@@ -1,7 +1,7 @@
-"""Runs the built solver on random small formulas. Each verdict is compared with all choices of bits at the pairs of existentials and
-what they see, tried one by one; each certificate is judged by the built checker and by the second judge, reference.py. Then the solver
-runs with each number of steps from 1 on: below what the verdict takes the answer is UNKNOWN with as many steps in its counts, and
-from there on the verdict, with the same bytes."""
+"""Runs the built solver on random small formulas, declared in any order. Each verdict is compared with all choices of bits at the pairs of
+existentials and what they see, tried one by one; each certificate is judged by the built checker and by the second judge, reference.py.
+Then the solver runs with each number of steps from 1 on: below what the verdict takes the answer is UNKNOWN with as many steps in its
+counts, and from there on the verdict, with the same bytes."""
 
 import collections
 import itertools
@@ -78,7 +78,7 @@ def compare(count, seed):
     with tempfile.TemporaryDirectory() as folder:
         path = os.path.join(folder, "formula")
         for case in range(1, count + 1):
-            formula = loop.random_formula(rng)
+            formula = loop.shuffled(rng, loop.random_formula(rng))
             text = loop.text_of(formula).replace(" / ", "\n").encode() + b"\n"
             with open(path, "wb") as file:
                 file.write(text)

@@ -381,6 +381,48 @@ def random_sights(rng, size):
     return formula, ""
 
 
+def implications(rng, size):
+    """A chain of implications among existentials that see a universal of their own each. True."""
+    formula = Formula()
+    signals = [formula.existential([x]) for x in formula.word(size)]
+    formula.clauses += [[-a, b] for a, b in zip(signals, signals[1:])]
+    return formula, "TRUE"
+
+
+def unseen(rng, size):
+    """As many random clauses of three existentials that see nothing as there are existentials."""
+    formula = Formula()
+    formula.universal()
+    random_clauses(rng, formula, size, ([formula.existential([]) for _ in range(size)], 3))
+    return formula, ""
+
+
+def long_clauses(rng, size):
+    """Existentials that see forty universals, each in a clause with twenty of them. True."""
+    formula = Formula()
+    universals = formula.word(40)
+    formula.clauses += [[formula.existential(), *rng.sample(universals, 20)] for _ in range(size)]
+    return formula, "TRUE"
+
+
+def half_free(rng, size):
+    """Existentials that see two universals each, every other one their conjunction, the rest in a clause with the one before. True."""
+    formula = Formula(narrow=True)
+    universals = formula.word(max(2, size))
+    for a, b in zip(universals[::2], universals[1::2]):
+        gate = formula.conjunction(a, b)
+        formula.clauses.append([-formula.existential([a, b]), a, gate])
+    return formula, "TRUE"
+
+
+def one_set(rng, size):
+    """Existentials with one dependency set of as many universals, which each states anew, each in a clause with a universal. True."""
+    formula = Formula()
+    universals = formula.word(size)
+    formula.clauses += [[formula.existential(universals), x] for x in universals]
+    return formula, "TRUE"
+
+
 def random_clauses(rng, formula, count, *parts):
     for _ in range(count):
         chosen = [v for variables, number in parts for v in rng.sample(variables, min(number, len(variables)))]
@@ -396,3 +438,5 @@ FAMILIES = {"definitions": (definitions, 4), "parities": (parities, 5), "conjunc
 for made, start in ((adder, 2), (comparator, 2), (multiplier, 3), (parity, 4), (controller, 2)):
     FAMILIES |= {made.__name__: (made, start), f"{made.__name__}-blind": (blind(made), start)}
 FAMILIES |= {"two-levels": (two_levels, 4), "random-sights": (random_sights, 4)}
+FAMILIES |= {"implications": (implications, 100), "unseen": (unseen, 100), "long-clauses": (long_clauses, 50)}
+FAMILIES |= {"half-free": (half_free, 100), "one-set": (one_set, 50)}

@@ -30,6 +30,13 @@ def random_formula(rng):
     return universals, existentials, clauses
 
 
+def shuffled(rng, formula):
+    """The same formula with its universals, its existentials and its clauses in any order."""
+    universals, existentials, clauses = formula
+    declared = rng.sample(list(existentials), len(existentials))
+    return rng.sample(universals, len(universals)), {y: existentials[y] for y in declared}, rng.sample(clauses, len(clauses))
+
+
 def random_clause(rng, variables):
     some = rng.sample(variables, rng.randint(1, min(3, len(variables))))
     return [v * rng.choice((1, -1)) for v in some]
@@ -102,7 +109,7 @@ def main(words):
     count = int(words[1]) if len(words) > 1 else 1000
     seed = int(words[2]) if len(words) > 2 else 1
     rng = random.Random(seed)
-    formulas = [random_formula(rng) for _ in range(count)]
+    formulas = [shuffled(rng, random_formula(rng)) for _ in range(count)]
     lines = printed(program, formulas)
     differences = 0
     for place, formula in enumerate(formulas):

@@ -10,7 +10,7 @@ use Rattle.std.proofs.lemmas.Option.{slice_get_within, get_or_from_slice_get}
 use Rattle.dq_lits.specs.Literal.{Assignment, Literal, positive, negative, variable_of, literal_true}
 use Rattle.dq_lits.specs.Formula.{Existential, Dqbf, existential_of}
 use Rattle.dq_formula.specs.Prefix.{IsLawful, existential_variables}
-use Rattle.dq_formula.specs.Rules.{cube_true, IsRule}
+use Rattle.dq_formula.specs.Rules.{cube_true, first_bit, IsRule}
 use Rattle.dq_formula.specs.declared.rules.Rule.{Rule}
 use Rattle.dq_formula.proofs.Places.{place}
 use Rattle.dq_formula.proofs.Sorted.{place-below, get_or-place}
@@ -18,7 +18,6 @@ use Rattle.aig_graph.specs.Graph.{AigGraph, node_value, node_support, IsNode}
 use Rattle.aig_graph.specs.Made.{Extends, IsCube, IsChosen}
 use Rattle.aig_graph.specs.declared.nodes.Node.{Node}
 use Rattle.aig_graph.specs.declared.nodes.Node.TheVariants.{Constant}
-use Rattle.candidate_functions.specs.Candidates.{first_bit}
 use Rattle.candidate_functions.specs.Pairs.{input_literal, IsCubeNode, IsByRules, AreByRules}
 use Rattle.candidate_functions.proofs.RowCubes.{mapped_from, only_one}
 use Rattle.candidate_functions.proofs.DeclaredPlaces.{is_found, all_mapped, one_mapped, unplaced}

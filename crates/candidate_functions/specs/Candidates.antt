@@ -1,13 +1,13 @@
 -- Candidates: functions for the existentials that agree with a model of the expansion at the pairs
 -- of its rows.
-use Rattle.std.specs.Prelude.{◌≡◌, ℕ, ◌+◌, ◌==◌, ◌&&◌, Bool, List, [], ◌∷◌, slice_get, slice_index_or, Option, None, Some, if◌then◌else◌}
+use Rattle.std.specs.Prelude.{◌≡◌, ℕ, ◌+◌, ◌==◌, Bool, List, slice_get, slice_index_or, Option, None, Some}
 use Rattle.std.specs.List.{All, position_or_len}
 use Rattle.dq_lits.specs.Literal.{Assignment}
 use Rattle.dq_lits.specs.Formula.{Existential, Dqbf}
 use Rattle.dq_lits.specs.Henkin.{restriction}
 use Rattle.dq_lits.specs.Expansion.{row_assignment}
 use Rattle.dq_lits.specs.Skolem.{OutputFunction}
-use Rattle.dq_formula.specs.Rules.{cube_true}
+use Rattle.dq_formula.specs.Rules.{first_bit}
 use Rattle.dq_formula.specs.declared.rules.Rule.{Rule}
 use Rattle.aig_graph.specs.declared.nodes.Node.{Node}
 use Rattle.aig_graph.specs.Graph.{AigGraph}
@@ -36,12 +36,6 @@ abbrev pub AgreesAtPairs : Dqbf → List (List Bool) → PointBits → Existenti
 AgreesAtPairs f rows points y output =
     (k : ℕ) (row : List Bool) (m : Assignment) → slice_get rows k ≡ Some row → SeesRow f y row m
     → output.value m ≡ points (k + 1) y.variable
-
--- the bit of the first rule on a variable whose cube is true, if there is one
-abbrev pub first_bit : List Rule → ℕ → Assignment → Option Bool
-first_bit [] v m = None
-first_bit (rule ∷ later) v m =
-    if rule.y == v && cube_true m rule.cube then Some rule.bit else first_bit later v m
 
 -- away from the pairs of the rows it has the bit of the first rule whose cube is true; where there
 -- is none, it may have either bit

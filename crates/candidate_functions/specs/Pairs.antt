@@ -6,14 +6,14 @@ use Rattle.dq_lits.specs.Formula.{Existential, Dqbf, existential_of}
 use Rattle.dq_lits.specs.Henkin.{same_bit}
 use Rattle.dq_lits.specs.Literal.{Assignment, Literal, variable_of, is_negative}
 use Rattle.dq_lits.specs.Row.{bit_of}
-use Rattle.dq_formula.specs.Rules.{cube_true}
+use Rattle.dq_formula.specs.Rules.{cube_true, first_bit}
 use Rattle.dq_formula.specs.declared.rules.Rule.{Rule}
 use Rattle.aig_graph.specs.Graph.{AigGraph, IsNode, node_value, node_support}
 use Rattle.aig_graph.specs.Outputs.{node_output}
 use Rattle.aig_graph.specs.declared.nodes.Node.{Node}
 use Rattle.aig_graph.specs.declared.nodes.Node.TheVariants.{Constant, Input}
 use Rattle.expansion.specs.Table.{PointBits}
-use Rattle.candidate_functions.specs.Candidates.{first_bit, AgreesAtPairs, FollowsRules}
+use Rattle.candidate_functions.specs.Candidates.{AgreesAtPairs, FollowsRules}
 use Rattle.candidate_functions.specs.declared.classes.Class.{Class}
 use Rattle.candidate_functions.specs.declared.cubes.Pair.{Pair}
 

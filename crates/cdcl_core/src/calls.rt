@@ -49,6 +49,7 @@ pub(crate) fn grow(s: &mut Searcher, model: &mut Vec<bool>) -> Result<u64, Memor
     model.reserve(1)?;
     s.activities.grow()?;
     s.positions.grow()?;
+    s.focus.grow()?;
     s.notes.begin()?;
     s.notes.grow()?;
     s.trail.grow()?;
@@ -70,6 +71,7 @@ pub(crate) fn keep_given(
     ensures err { OnErr result (log.new ≡ log.old) }
     ensures err_held { OnErr result (clauses.new.clauses ≡ clauses.old.clauses) }
 {
+    clauses.add_cursor(clause)?;
     clauses.reserve(clause)?;
     let id = log.given(origin, clause)?;
     clauses.push(clause);
@@ -108,9 +110,11 @@ pub(crate) fn find(
     ensures limit { result ≡ Err Stop.Limit → IsAtLimit log.new (assumed active.now assume.now) }
 {
     s.notes.begin()?;
+    s.focus.begin(&s.activities)?;
     s.positions.begin();
     let assumptions = Assumptions::new(active, assume);
     let found = search_and_keep(s, model, &assumptions, log);
+    s.focus.end();
     back_to_start(&mut s.trail);
     found
 }
@@ -142,6 +146,7 @@ fn search_and_keep(
     match search(s, assumptions, log)? {
         Answer::Sat => {
             keep_values(model, &s.trail);
+            s.focus.keep(&s.trail);
             Ok(Answer::Sat)
         }
         Answer::Unsat(id) => Ok(Answer::Unsat(id)),

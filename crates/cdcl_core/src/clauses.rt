@@ -11,6 +11,7 @@ ghost use Rattle.learning_trail.specs.Passes.{AreWithin, IsPropagated};
 ghost use Rattle.cdcl_core.specs.Watching.{IsWatched, IsReady, IsGuarded, AreLevelsGuarded, NotesShort};
 
 use crate::arenas::Arena;
+use crate::cursors::Cursors;
 use crate::propagation::propagate;
 use crate::watches::{Watches, add_watch, make_lists, make_room, no_watches};
 use dq_lits::{Lit, Memory};
@@ -27,6 +28,7 @@ pub(crate) struct ClauseStore {
     second: Watches,
     // The ids of the other clauses.
     short: Vec<u64>,
+    cursors: Cursors,
     // How many literals one clause more may have; there is no room for a clause where it is 0.
     spare: usize,
 }
@@ -61,6 +63,7 @@ impl ClauseStore {
             first: no_watches(alloc),
             second: no_watches(alloc),
             short: Vec::new(alloc),
+            cursors: Cursors::new(alloc),
             spare: 0,
         }
     }
@@ -94,6 +97,25 @@ impl ClauseStore {
             first: self.first.literals[id as usize - 1],
             second: self.second.literals[id as usize - 1],
         }
+    }
+
+    /// A place to look at the next clause from, if it is long.
+    pub(crate) fn add_cursor(&mut self, lits: &[Lit]) -> Result<(), Memory>
+        ensures clauses { self.new.clauses ≡ self.old.clauses }
+    {
+        self.cursors.add(self.arena.len() + 1, lits)
+    }
+
+    /// Where a long clause is to be looked at for a literal to decide.
+    pub(crate) fn cursor(&self, id: u64, lits: &[Lit]) -> Option<usize> {
+        self.cursors.decided(id, lits)
+    }
+
+    /// Notes where a literal to decide was found.
+    pub(crate) fn set_cursor(&mut self, id: u64, place: usize)
+        ensures { self.new ≡ self.old }
+    {
+        self.cursors.decide(id, place);
     }
 
     /// Makes lists for the literals of a variable.
@@ -180,6 +202,7 @@ impl ClauseStore {
             &mut self.first,
             &mut self.second,
             &self.short,
+            &mut self.cursors,
         )
     }
 }

@@ -17,13 +17,15 @@ ghost use Rattle.cdcl_core.specs.Passes.{AreTrueWithin};
 use crate::clauses::{ClauseStore, Watched};
 use crate::positions::{Positions, Span};
 use dq_lits::Lit;
-use learning_trail::{Activities, Clauses, Trail, is_true, open_literal};
+use learning_trail::{Activities, Clauses, Trail, is_true, next_not_false, open_literal_at};
 
 /// A clause that has no true literal, and a literal of it without a value.
 #[derive(Clone, Copy)]
 pub(crate) struct Open {
     pub(crate) id: u64,
     pub(crate) literal: Lit,
+    /// Where the literal stands, if the clause is long.
+    pub(crate) place: usize,
 }
 
 /// The newest open clause, sought where it may be at first, and then among all.
@@ -120,8 +122,9 @@ fn newest_in(
 {
     let mut id = span.from;
     while id > span.down_to {
-        if let Some(literal) = open_in(trail, clauses, activities, id) {
-            return Some(Open { id, literal });
+        let open = open_in(trail, clauses, activities, id);
+        if open.is_some() {
+            return open;
         }
         id -= 1;
     }
@@ -129,7 +132,7 @@ fn newest_in(
 }
 
 // A literal without a value of the clause with an id, where it has no true literal.
-fn open_in(trail: &Trail, clauses: &ClauseStore, activities: &Activities, id: u64) -> Option<Lit>
+fn open_in(trail: &Trail, clauses: &ClauseStore, activities: &Activities, id: u64) -> Option<Open>
     requires in_range { AreWithin trail.now.room clauses.now.clauses }
     requires closed { IsClosed (live_in clauses.now.clauses) (literals_of trail.now.steps) }
     requires from_one { 1 ≤ id }
@@ -137,12 +140,28 @@ fn open_in(trail: &Trail, clauses: &ClauseStore, activities: &Activities, id: u6
     ensures { MatchOption result
         ((c : List Literal) → live_in clauses.now.clauses id ≡ Some c
         → list_any (holds (literals_of trail.now.steps)) c ≡ true)
-        (λ l. IsOpening clauses.now.clauses (literals_of trail.now.steps) (Some l)) }
+        (λ open'.
+        IsOpening clauses.now.clauses (literals_of trail.now.steps) (Some open'.literal)) }
 {
     if is_watch_true(trail, clauses.watched(id)) {
         return None;
     }
-    open_literal(trail, clauses.lits(id), activities)
+    let lits = clauses.lits(id);
+    let place = place_in(trail, clauses, lits, id);
+    match open_literal_at(trail, lits, place, activities) {
+        Some(literal) => Some(Open { id, literal, place }),
+        None => None,
+    }
+}
+
+// Where a clause is to be looked at first; behind its end, where it isn't long.
+fn place_in(trail: &Trail, clauses: &ClauseStore, lits: &[Lit], id: u64) -> usize
+    requires { All (λ l. variable_of l ≤ trail.now.room) lits.now }
+{
+    match clauses.cursor(id, lits) {
+        Some(from) => next_not_false(trail, lits, from),
+        None => lits.len(),
+    }
 }
 
 // Whether one of two literals is true, where they differ.

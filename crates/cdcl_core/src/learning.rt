@@ -16,10 +16,11 @@ ghost use Rattle.cdcl_core.specs.Searching.{HasTurned, KeepsPlaces, IsSearching}
 ghost use Rattle.cdcl_core.specs.Storage.{HasLists, IsHeldWatched};
 
 use crate::clauses::{ClauseStore, Watched};
+use crate::positions::Positions;
 use crate::searchers::Searcher;
 use dq_lits::Lit;
 use hint_log::{Log, Stop};
-use learning_trail::{Assumptions, Notes, Step, analyse, land};
+use learning_trail::{Assumptions, Notes, Restarts, Step, Trail, analyse, land, newest_place};
 
 /// Learns from a falsified clause, and goes back to where what was learned is unit, or begins anew.
 pub(crate) fn learn(
@@ -52,11 +53,29 @@ pub(crate) fn learn(
     );
     s.activities.decay();
     let id = log_clause(&mut s.clauses, &s.notes, log)?;
-    let is_due = s.restarts.is_due();
+    let is_due = is_restart_due(&mut s.restarts, &s.trail, &s.notes, &s.positions);
     let level = land(&mut s.trail, &s.notes, &first, id, is_due);
     hold(&mut s.clauses, &s.notes, &first, &level);
+    s.focus.back(s.trail.len().wrapping_sub(1));
     s.positions.back(s.trail.len().wrapping_sub(1), id);
     Ok(())
+}
+
+// Whether the search begins anew. It goes back to the assumptions then; where it does so anyway,
+// they stay.
+fn is_restart_due(
+    restarts: &mut Restarts,
+    trail: &Trail,
+    notes: &Notes,
+    positions: &Positions,
+) -> bool {
+    if !restarts.is_due() {
+        return false;
+    }
+    match newest_place(trail, notes.literals()) {
+        Some(place) => positions.is_free(place),
+        None => true,
+    }
 }
 
 // Logs the clause that was learned, and makes room for it.

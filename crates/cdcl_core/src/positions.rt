@@ -1,7 +1,8 @@
 //! Where an open clause is sought: a policy that no contract speaks of.
 //!
 //! Clauses of larger ids than the newest open one have true literals, and still have them once the
-//! trail is taken back to where that one was open; but for clauses that were learned meanwhile.
+//! trail is taken back to where that one was open; but for clauses that were learned meanwhile. So
+//! it is where all but the assumptions are taken back: what these make true they make true again.
 
 use dq_lits::Memory;
 use std::alloc::Global;
@@ -25,6 +26,10 @@ pub(crate) struct Positions {
     // clauses there were.
     opened: Vec<u64>,
     counts: Vec<u64>,
+    // The first level that isn't assumed, and the same of it when it began last in this search.
+    free: usize,
+    free_opened: u64,
+    free_count: u64,
 }
 
 const NOWHERE: Span = Span {
@@ -46,6 +51,9 @@ impl Positions {
             rest: NOWHERE,
             opened: Vec::new(alloc),
             counts: Vec::new(alloc),
+            free: usize::MAX,
+            free_opened: u64::MAX,
+            free_count: 0,
         }
     }
 
@@ -56,10 +64,30 @@ impl Positions {
         Ok(())
     }
 
-    /// All clauses are to be looked at.
+    /// All clauses are to be looked at: a search begins.
     pub(crate) fn begin(&mut self) {
-        self.newest = NOWHERE;
-        self.rest = NOWHERE;
+        self.free_opened = u64::MAX;
+        self.back_to_assumptions(0);
+    }
+
+    // What the assumptions make true isn't to be looked at again.
+    fn back_to_assumptions(&mut self, clauses: u64) {
+        self.free = usize::MAX;
+        if self.free_opened > clauses {
+            self.newest = NOWHERE;
+            self.rest = NOWHERE;
+        } else {
+            self.newest = Span {
+                from: clauses,
+                down_to: self.free_count,
+            };
+            self.rest = down_from(self.free_opened);
+        }
+    }
+
+    /// Whether a place of the trail is of a level that isn't assumed.
+    pub(crate) fn is_free(&self, place: usize) -> bool {
+        self.free <= place
     }
 
     /// What is to be looked at first.
@@ -81,6 +109,11 @@ impl Positions {
             self.rest = down_from(id);
         }
         self.set(literals, id, clauses);
+        if literals <= self.free {
+            self.free = literals;
+            self.free_opened = id;
+            self.free_count = clauses;
+        }
     }
 
     /// Notes that an assumption is decided where so many literals are true.
@@ -92,7 +125,7 @@ impl Positions {
     pub(crate) fn back(&mut self, literals: usize, clauses: u64) {
         let opened = at(&self.opened, literals);
         if opened > clauses {
-            self.begin();
+            self.back_to_assumptions(clauses);
         } else {
             self.newest = Span {
                 from: clauses,

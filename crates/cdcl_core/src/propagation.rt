@@ -7,7 +7,7 @@
 //! is true; and it was true at the end of the same level, so that going back over levels leaves all
 //! watches as they are.
 
-ghost use Rattle.std.specs.Prelude.{◌≡◌, ◌≤◌, ◌-◌, [], ℕ, List, true, length, All, MatchOption, Some, Contains};
+ghost use Rattle.std.specs.Prelude.{◌≡◌, ◌≤◌, ◌-◌, [], ℕ, List, true, length, All, MatchOption, Some, IfSome, Contains};
 ghost use Rattle.std.specs.List.{list_any};
 ghost use Rattle.dq_lits.specs.Literal.{Literal, variable_of, opposite};
 ghost use Rattle.dq_lits.specs.Derivation.{holds, status_of, falsified};
@@ -20,9 +20,10 @@ ghost use Rattle.cdcl_core.specs.Watching.{AreShort, IsReady, AreSame};
 ghost use Rattle.cdcl_core.specs.Visits.{IsVisitable, IsLooked, IsOther, AreOthersFalse, IsVisited, IsListVisited, AreVisited, IsTrailVisited, IsProcessed};
 
 use crate::arenas::Arena;
+use crate::cursors::Cursors;
 use crate::watches::{Watches, put_back, put_elsewhere, take};
 use dq_lits::Lit;
-use learning_trail::{Status, Step, Trail, TruthValue, is_true, status_of};
+use learning_trail::{Status, Step, Trail, TruthValue, is_false, is_true, status_of};
 
 /// Propagates to the end, or to a falsified clause, whose id it answers. All literals but the
 /// newest one were processed.
@@ -32,6 +33,7 @@ pub(crate) fn propagate(
     first: &mut Watches,
     second: &mut Watches,
     short: &[u64],
+    cursors: &mut Cursors,
 ) -> Option<u64>
     requires visitable { IsVisitable arena.now.clauses trail.old first.old second.old }
     requires linked { IsLinked first.old 0 [] }
@@ -48,9 +50,9 @@ pub(crate) fn propagate(
         if let Some(id) = pass_short(trail, arena, short) {
             return Some(id);
         }
-        return visit_from(trail, arena, first, second, 0);
+        return visit_from(trail, arena, cursors, first, second, 0);
     }
-    visit_from(trail, arena, first, second, done - 1)
+    visit_from(trail, arena, cursors, first, second, done - 1)
 }
 
 // Makes the literals of short clauses true.
@@ -87,6 +89,7 @@ fn pass_short(trail: &mut Trail, arena: &Arena, short: &[u64]) -> Option<u64>
 fn visit_from(
     trail: &mut Trail,
     arena: &Arena,
+    cursors: &mut Cursors,
     first: &mut Watches,
     second: &mut Watches,
     from: usize,
@@ -103,7 +106,7 @@ fn visit_from(
         match trail.literal_at(at) {
             None => return None,
             Some(l) => {
-                if let Some(id) = visit_both(trail, arena, first, second, l.not()) {
+                if let Some(id) = visit_both(trail, arena, cursors, first, second, l.not()) {
                     return Some(id);
                 }
             }
@@ -116,6 +119,7 @@ fn visit_from(
 fn visit_both(
     trail: &mut Trail,
     arena: &Arena,
+    cursors: &mut Cursors,
     first: &mut Watches,
     second: &mut Watches,
     l: Lit,
@@ -128,16 +132,17 @@ fn visit_both(
     ensures { AreVisited arena.now.clauses trail.old trail.new first.old first.new second.old
         second.new l result }
 {
-    if let Some(id) = visit_list(trail, arena, first, second, l) {
+    if let Some(id) = visit_list(trail, arena, cursors, first, second, l) {
         return Some(id);
     }
-    visit_list(trail, arena, second, first, l)
+    visit_list(trail, arena, cursors, second, first, l)
 }
 
 // Visits the clauses on a false literal's list.
 fn visit_list(
     trail: &mut Trail,
     arena: &Arena,
+    cursors: &mut Cursors,
     these: &mut Watches,
     others: &Watches,
     l: Lit,
@@ -154,7 +159,7 @@ fn visit_list(
         if at == 0 {
             return None;
         }
-        match visit(trail, arena, these, others, l, at) {
+        match visit(trail, arena, cursors, these, others, l, at) {
             Some(next) => at = next,
             None => {
                 put_all_back(these, at, l);
@@ -215,6 +220,7 @@ pub(crate) enum Look {
 fn visit(
     trail: &mut Trail,
     arena: &Arena,
+    cursors: &mut Cursors,
     these: &mut Watches,
     others: &Watches,
     l: Lit,
@@ -235,7 +241,7 @@ fn visit(
     if is_true(trail, other) {
         return Some(put_back(these, id, l));
     }
-    match look_at(trail, arena.lits(id), other, id) {
+    match look_at(trail, arena.lits(id), cursors, other, id) {
         Look::Kept => Some(put_back(these, id, l)),
         Look::Moved(k) => Some(put_elsewhere(these, id, k)),
         Look::Falsified => None,
@@ -244,7 +250,7 @@ fn visit(
 
 // Looks at a clause, beside its other watched literal, which it makes true where all others are
 // false.
-fn look_at(trail: &mut Trail, lits: &[Lit], other: Lit, id: u64) -> Look
+fn look_at(trail: &mut Trail, lits: &[Lit], cursors: &mut Cursors, other: Lit, id: u64) -> Look
     requires in_range { All (λ l. variable_of l ≤ trail.old.room) lits.now }
     requires other_in_range { variable_of other ≤ trail.old.room }
     requires few { length trail.old.steps ≤ trail.old.room }
@@ -253,11 +259,11 @@ fn look_at(trail: &mut Trail, lits: &[Lit], other: Lit, id: u64) -> Look
 {
     match trail.value(other) {
         TruthValue::True => Look::Kept,
-        TruthValue::False => match other_literal(trail, lits, other) {
+        TruthValue::False => match other_literal(trail, lits, cursors, other, id) {
             Some(k) => Look::Moved(k),
             None => Look::Falsified,
         },
-        TruthValue::Unassigned => match other_literal(trail, lits, other) {
+        TruthValue::Unassigned => match other_literal(trail, lits, cursors, other, id) {
             Some(k) => Look::Moved(k),
             None => {
                 trail.push(Step {
@@ -270,8 +276,61 @@ fn look_at(trail: &mut Trail, lits: &[Lit], other: Lit, id: u64) -> Look
     }
 }
 
-// A literal that isn't false, beside the other watched literal.
-fn other_literal(trail: &Trail, lits: &[Lit], other: Lit) -> Option<Lit>
+// A literal that isn't false, beside the other watched literal; of a long clause, from where it was
+// looked at last.
+fn other_literal(
+    trail: &Trail,
+    lits: &[Lit],
+    cursors: &mut Cursors,
+    other: Lit,
+    id: u64,
+) -> Option<Lit>
+    requires { All (λ l. variable_of l ≤ trail.now.room) lits.now }
+    ensures { MatchOption result (AreOthersFalse (literals_of trail.now.steps) lits.now other)
+        (λ k. IsOther (literals_of trail.now.steps) lits.now other k) }
+{
+    if let Some(from) = cursors.watched(id, lits) {
+        let place = next_other(trail, lits, other, from);
+        cursors.watch(id, place);
+        let found = other_at(trail, lits, other, place);
+        if found.is_some() {
+            return found;
+        }
+    }
+    first_other(trail, lits, other)
+}
+
+// The first place, from one on, of a literal that isn't false, beside the other watched literal; 0,
+// where there is none.
+fn next_other(trail: &Trail, lits: &[Lit], other: Lit, from: usize) -> usize
+    requires { All (λ l. variable_of l ≤ trail.now.room) lits.now }
+{
+    for place in from..lits.len() {
+        if lits[place] != other && !is_false(trail, lits[place]) {
+            return place;
+        }
+    }
+    0
+}
+
+// The literal at a place, if it isn't false, nor the other watched literal.
+fn other_at(trail: &Trail, lits: &[Lit], other: Lit, place: usize) -> Option<Lit>
+    requires { All (λ l. variable_of l ≤ trail.now.room) lits.now }
+    ensures { IfSome result (λ k. IsOther (literals_of trail.now.steps) lits.now other k) }
+{
+    if place >= lits.len() {
+        return None;
+    }
+    let l = lits[place];
+    if l != other && !is_false(trail, l) {
+        Some(l)
+    } else {
+        None
+    }
+}
+
+// The first literal that isn't false, beside the other watched literal.
+fn first_other(trail: &Trail, lits: &[Lit], other: Lit) -> Option<Lit>
     requires { All (λ l. variable_of l ≤ trail.now.room) lits.now }
     ensures { MatchOption result (AreOthersFalse (literals_of trail.now.steps) lits.now other)
         (λ k. IsOther (literals_of trail.now.steps) lits.now other k) }
@@ -282,15 +341,4 @@ fn other_literal(trail: &Trail, lits: &[Lit], other: Lit) -> Option<Lit>
         }
     }
     None
-}
-
-fn is_false(trail: &Trail, l: Lit) -> bool
-    requires { variable_of l ≤ trail.now.room }
-    ensures { result ≡ holds (literals_of trail.now.steps) (opposite l) }
-{
-    match trail.value(l) {
-        TruthValue::True => false,
-        TruthValue::False => true,
-        TruthValue::Unassigned => false,
-    }
 }

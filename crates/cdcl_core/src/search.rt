@@ -5,7 +5,7 @@
 //! any other one a learned clause, which is new for that reason. Each turn that goes on counts a
 //! step or makes the trail longer.
 
-ghost use Rattle.std.specs.Prelude.{◌≡◌, ◌≤◌, ◌<◌, ◌+◌, ◌⊎◌, true, length, take, IfOk, OnErr, Ok, Err, IsSome, MatchOption};
+ghost use Rattle.std.specs.Prelude.{◌≡◌, ◌≤◌, ◌<◌, ◌+◌, ◌⊎◌, true, false, length, take, IfOk, OnErr, Ok, Err, IsSome, IfSome, MatchOption};
 ghost use Rattle.dq_lits.specs.Literal.{Literal, variable_of, is_negative};
 ghost use Rattle.dq_lits.specs.Derivation.{holds, status_of, falsified};
 ghost use Rattle.hint_log.specs.Entries.{name_of};
@@ -24,7 +24,7 @@ use crate::decisions::open_clause;
 use crate::learning::learn;
 use crate::searchers::Searcher;
 use dq_lits::{Lit, Memory};
-use hint_log::{Log, Stop};
+use hint_log::{Log, Name, Stop};
 use learning_trail::{Assumptions, Next, Step, free_decision, next_assumption};
 use oracle::Answer as Found;
 
@@ -155,8 +155,31 @@ fn go_on(
     }
 }
 
-// Makes an open literal true, or finds that every clause is.
+// Decides a variable in focus, or an open literal, or finds that every clause is true.
 fn settle(s: &mut Searcher, assumptions: &Assumptions, log: &Log) -> Option<Found>
+    requires searching { IsSearching assumptions.now s.old log.now }
+    requires closed { IsClosed (live_in s.old.clauses.clauses) (literals_of s.old.trail.steps) }
+    requires guarded { IsAllGuarded s.old }
+    requires assumed { AreTrue assumptions.now (literals_of s.old.trail.steps) }
+    ensures more { (t : Literal) → holds (literals_of s.old.trail.steps) t ≡ true
+        → holds (literals_of s.new.trail.steps) t ≡ true }
+    ensures ok { MatchOption result (IsTurn assumptions.now s.old s.new log.now log.now)
+        (λ f. IsFound assumptions.now s.new log.now log.now f) }
+    ensures fit { Fit s.new.clauses.clauses s.new.variables log.now.entries }
+    ensures places { KeepsPlaces s.old s.new }
+{
+    match focused(s, log) {
+        Some(l) => {
+            s.positions.assume(s.trail.len());
+            decide(s, assumptions, l, log);
+            None
+        }
+        None => decide_open(s, assumptions, log),
+    }
+}
+
+// Makes an open literal true, or finds that every clause is.
+fn decide_open(s: &mut Searcher, assumptions: &Assumptions, log: &Log) -> Option<Found>
     requires searching { IsSearching assumptions.now s.old log.now }
     requires closed { IsClosed (live_in s.old.clauses.clauses) (literals_of s.old.trail.steps) }
     requires guarded { IsAllGuarded s.old }
@@ -170,11 +193,30 @@ fn settle(s: &mut Searcher, assumptions: &Assumptions, log: &Log) -> Option<Foun
 {
     match open_clause(&s.trail, &s.clauses, &s.activities, &s.positions) {
         Some(open) => {
+            s.clauses.set_cursor(open.id, open.place);
             s.positions.open(open.id, s.trail.len(), s.clauses.len());
             decide(s, assumptions, open.literal, log);
             None
         }
         None => Some(Found::Sat),
+    }
+}
+
+// A literal on a variable in focus, if one has no value. Selectors aren't decided.
+fn focused(s: &mut Searcher, log: &Log) -> Option<Lit>
+    requires fit { Fit s.old.clauses.clauses s.old.variables log.now.entries }
+    ensures same { s.new ≡ record s.old { focus = s.new.focus } }
+    ensures free { IfSome result (IsFree (literals_of s.old.trail.steps)) }
+    ensures named { IfSome result (λ l. IsSome (name_of log.now.entries (variable_of l))) }
+    ensures chosen { IfSome result (λ l. is_selector log.now.entries (variable_of l) ≡ false) }
+{
+    let l = s.focus.next(&s.trail)?;
+    if l.var() > s.variables {
+        return None;
+    }
+    match log.name(l.var()) {
+        Name::Selector { .. } => None,
+        _ => Some(l),
     }
 }
 

@@ -2,6 +2,7 @@ ghost use Rattle.std.specs.Prelude.{◌≡◌, ◌≤◌, ◌<◌, ◌-◌, ◌^
 
 use crate::calls::{find, grow, keep_given};
 use crate::clauses::ClauseStore;
+use crate::focus::Focus;
 use crate::positions::Positions;
 use crate::searchers::Searcher;
 use dq_lits::{Lit, Memory};
@@ -48,6 +49,7 @@ impl Cdcl {
                 activities: Activities::new(alloc),
                 restarts: Restarts::new(),
                 positions: Positions::new(alloc),
+                focus: Focus::new(alloc),
             },
             model: Vec::new(alloc),
             is_told: false,
@@ -69,6 +71,10 @@ impl Oracle for Cdcl {
 
     fn tenant(&mut self) -> Result<Tenant, Memory> {
         Ok(Tenant)
+    }
+
+    fn focus(&mut self, variables: &[u64]) -> Result<(), Memory> {
+        self.searcher.focus.set(variables)
     }
 
     fn new_var(&mut self, name: Name, log: &mut Log) -> Result<u64, Memory> {

@@ -69,6 +69,10 @@ impl Oracle for Scan {
         Ok(Tenant)
     }
 
+    fn focus(&mut self, _variables: &[u64]) -> Result<(), Memory> {
+        Ok(())
+    }
+
     fn new_var(&mut self, name: Name, log: &mut Log) -> Result<u64, Memory> {
         let var = grow(&mut self.searcher, &mut self.model)?;
         log.named(var, name)?;

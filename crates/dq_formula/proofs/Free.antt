@@ -4,12 +4,13 @@ use Rattle.std.proofs.lemmas.List.Elements.{All-nil, All-push, All-filter, All-f
 use Rattle.std.proofs.lemmas.List.FromFn.{length-range_with_len, get_or-range_with_len}
 use Rattle.std.proofs.lemmas.List.Folds.{list_any-append}
 use Rattle.std.proofs.lemmas.List.Sorted.{list_any-IsPermutation, All-permutation, IsNonDecreasingBy-from_sort}
-use Rattle.std.proofs.lemmas.Map.Keys.{IsStrictlyIncreasing-from_distinct, IsDistinct-IsPermutation, IsDistinct-from_apart, IsDistinct-head, IsDistinct-tail, IsDistinct-cons}
+use Rattle.std.proofs.lemmas.Map.Keys.{IsStrictlyIncreasing-from_distinct, IsDistinct-IsPermutation, IsDistinct-from_apart, IsDistinct-push, IsDistinct-head, IsDistinct-tail, IsDistinct-cons}
 use Rattle.std.specs.List.{list_any, All, AllByRecursion, IsDistinct, range_with_len}
 use Rattle.std.specs.List.Sorted.{IsPermutation, IsSorted}
 use Rattle.std.specs.Ordering.{nat_cmp}
 use Rattle.std.proofs.lemmas.Bool.{eqb-true}
-use Rattle.indexmap.specs.IndexSet.{insert_key}
+use Rattle.std.proofs.lemmas.Cmp.{nat_eq_equiv}
+use Rattle.number_tables.specs.Numbers.{with_number}
 use Rattle.dq_lits.specs.Formula.{Dqbf}
 use Rattle.dq_formula.specs.Prefix.{occurs, is_declared, free_variables, AreUndeclaredIn}
 use Rattle.dq_formula.proofs.Entries.{eqb-flip}
@@ -47,14 +48,14 @@ range-filter low n vs sorted within distinct moved order =
     kept ∙ filter_agree (has sorted) (has vs) (λ u. sym (list_any-IsPermutation (λ x. eqb x u) vs sorted moved)) us
 
 -- the undeclared variables that occur, sorted
-pub free-variables : (f : Dqbf) (vs sorted : List ℕ) → AreUndeclaredIn f f.matrix vs → IsDistinct eqb vs → IsPermutation vs sorted → IsSorted nat_cmp sorted → sorted ≡ free_variables f
-free-variables f vs sorted are distinct moved order =
-    range-filter 1 f.variables vs sorted (λ k d l. let h = are.in_range k d l in (h.0, omega (arith, h.1))) distinct moved order
+pub free-variables : (f : Dqbf) (vs sorted : List ℕ) → AreUndeclaredIn f f.matrix vs → IsPermutation vs sorted → IsSorted nat_cmp sorted → sorted ≡ free_variables f
+free-variables f vs sorted are moved order =
+    range-filter 1 f.variables vs sorted (λ k d l. let h = are.in_range k d l in (h.0, omega (arith, h.1))) are.distinct moved order
     ∙ filter_agree (has vs) (λ v. not (is_declared f v) && occurs f.matrix v) are.complete (range_with_len 1 f.variables)
 
 -- no clause, and an empty one more
 pub none_undeclared : (f : Dqbf) → AreUndeclaredIn f [] []
-none_undeclared f = record { in_range = All-nil (λ v. (1 ≤ v) × (v ≤ f.variables)); complete = λ v. sym (and-false (not (is_declared f v))) }
+none_undeclared f = record { distinct = IsDistinct-from_apart eqb [] (λ i j d l m. absurd (omega (arith, m))); in_range = All-nil (λ v. (1 ≤ v) × (v ≤ f.variables)); complete = λ v. sym (and-false (not (is_declared f v))) }
   where
     and-false : (b : Bool) → (b && false) ≡ false
     and-false true = refl
@@ -65,6 +66,7 @@ occurs-push clauses c v = list_any-append (list_any (λ l. eqb (variable_of l) v
 
 pub empty_clause_undeclared : (f : Dqbf) (clauses : List (List Literal)) (vs : List ℕ) → AreUndeclaredIn f clauses vs → AreUndeclaredIn f (clauses ++ [] ∷ []) vs
 empty_clause_undeclared f clauses vs are = record {
+  distinct = are.distinct;
   in_range = are.in_range;
   complete = λ v. are.complete v ∙ ap (λ b. not (is_declared f v) && b) (sym (occurs-push clauses [] v ∙ or-false (occurs clauses v)));
 }
@@ -91,6 +93,7 @@ occurs-literal clauses c l v =
 pub declared_literal : (f : Dqbf) (clauses : List (List Literal)) (c : List Literal) (l : Literal) (vs : List ℕ) → is_declared f (variable_of l) ≡ true
     → AreUndeclaredIn f (clauses ++ c ∷ []) vs → AreUndeclaredIn f (clauses ++ (c ++ l ∷ []) ∷ []) vs
 declared_literal f clauses c l vs declared are = record {
+  distinct = are.distinct;
   in_range = are.in_range;
   complete = λ v. are.complete v ∙ same v (eqb (variable_of l) v) refl ∙ ap (λ b. not (is_declared f v) && b) (sym (occurs-literal clauses c l v));
 }
@@ -108,34 +111,39 @@ declared_literal f clauses c l vs declared are = record {
     same v false e = rw e (ap (λ b. not (is_declared f v) && b) (or-no (occurs (clauses ++ c ∷ []) v)))
 
 -- on an undeclared one
-has-insert : (vs : List ℕ) (w v : ℕ) → has (insert_key eqb vs w) v ≡ (has vs v || eqb w v)
-has-insert vs w v = by (list_any (eqb w) vs) refl
+has-insert : (vs : List ℕ) (w v : ℕ) → has (with_number vs w) v ≡ (has vs v || eqb w v)
+has-insert vs w v = by (has vs w) refl
   where
     or-same : (b e : Bool) → (e ≡ true → b ≡ true) → b ≡ (b || e)
     or-same true e h = refl
     or-same false true h = h refl
     or-same false false h = refl
 
-    there : list_any (eqb w) vs ≡ true → eqb w v ≡ true → has vs v ≡ true
-    there h e = ap (has vs) (sym (eqb-true w v e)) ∙ ap (λ p. list_any p vs) (sym (flip w)) ∙ h
-
-    by : (b : Bool) → list_any (eqb w) vs ≡ b → has (insert_key eqb vs w) v ≡ (has vs v || eqb w v)
-    by true h = rw h (or-same (has vs v) (eqb w v) (there h))
+    by : (b : Bool) → has vs w ≡ b → has (with_number vs w) v ≡ (has vs v || eqb w v)
+    by true h = rw h (or-same (has vs v) (eqb w v) (λ e. ap (has vs) (sym (eqb-true w v e)) ∙ h))
     by false h = rw h (list_any-append (λ x. eqb x v) vs (w ∷ []) ∙ ap (λ b. has vs v || b) (or-no (eqb w v)))
       where
         or-no : (b : Bool) → (b || false) ≡ b
         or-no true = refl
         or-no false = refl
 
+distinct-insert : (vs : List ℕ) (w : ℕ) → IsDistinct eqb vs → IsDistinct eqb (with_number vs w)
+distinct-insert vs w distinct = by (has vs w) refl
+  where
+    by : (b : Bool) → has vs w ≡ b → IsDistinct eqb (with_number vs w)
+    by true h = rw h distinct
+    by false h = rw h (IsDistinct-push nat_eq_equiv vs w distinct (ap (λ p. list_any p vs) (flip w) ∙ h))
+
 pub undeclared_literal : (f : Dqbf) (clauses : List (List Literal)) (c : List Literal) (l : Literal) (vs vs' : List ℕ) → is_declared f (variable_of l) ≡ false → 1 ≤ variable_of l → variable_of l ≤ f.variables
-    → vs' ≡ insert_key eqb vs (variable_of l) → AreUndeclaredIn f (clauses ++ c ∷ []) vs → AreUndeclaredIn f (clauses ++ (c ++ l ∷ []) ∷ []) vs'
+    → vs' ≡ with_number vs (variable_of l) → AreUndeclaredIn f (clauses ++ c ∷ []) vs → AreUndeclaredIn f (clauses ++ (c ++ l ∷ []) ∷ []) vs'
 undeclared_literal f clauses c l vs vs' undeclared low high inserted are = record {
-  in_range = subst (All (λ v. (1 ≤ v) × (v ≤ f.variables))) (sym inserted) (within (list_any (eqb (variable_of l)) vs) refl);
+  distinct = subst (IsDistinct eqb) (sym inserted) (distinct-insert vs (variable_of l) are.distinct);
+  in_range = subst (All (λ v. (1 ≤ v) × (v ≤ f.variables))) (sym inserted) (within (has vs (variable_of l)) refl);
   complete = λ v. ap (λ ks. has ks v) inserted ∙ has-insert vs (variable_of l) v ∙ ap (λ b. b || eqb (variable_of l) v) (are.complete v)
       ∙ same v (eqb (variable_of l) v) refl ∙ ap (λ b. not (is_declared f v) && b) (sym (occurs-literal clauses c l v));
 }
   where
-    within : (b : Bool) → list_any (eqb (variable_of l)) vs ≡ b → All (λ v. (1 ≤ v) × (v ≤ f.variables)) (insert_key eqb vs (variable_of l))
+    within : (b : Bool) → has vs (variable_of l) ≡ b → All (λ v. (1 ≤ v) × (v ≤ f.variables)) (with_number vs (variable_of l))
     within true h = rw h are.in_range
     within false h = rw h (All-push (λ v. (1 ≤ v) × (v ≤ f.variables)) vs (variable_of l) are.in_range (low, high))
 

@@ -11,9 +11,11 @@ use Rattle.dq_formula.specs.declared.dependencies.Deps.{Deps}
 use Rattle.dq_formula.specs.declared.dependencies.Deps.TheVariants.{FirstOf, Listed}
 use Rattle.dq_formula.specs.Dependencies.{dependencies, listed_universals, IsDependencySet}
 use Rattle.dq_formula.specs.Layout.{existential, formula_of, IsInRange, IsKept}
-use Rattle.indexmap.specs.IndexSet.{insert_key}
+use Rattle.number_tables.specs.Numbers.{with_number}
 use Rattle.indexmap.specs.IndexMap.{IndexMap, insert_entry}
 use Rattle.indexmap.proofs.CallerLemmas.{insert_entry-new}
+use Rattle.std.proofs.lemmas.Cmp.{nat_eq_equiv}
+use Rattle.std.proofs.lemmas.Map.Keys.{IsDistinct-push}
 use Rattle.std.proofs.lemmas.Map.Made.{is_some-lookup}
 use Rattle.dq_formula.specs.Prefix.{is_declared}
 use Rattle.dq_formula.proofs.Entries.{map-variable}
@@ -61,10 +63,10 @@ undeclared-keys variables us es matrix v undeclared =
     undeclared-parts us (keys_of es) v (ap (λ ks. has (us ++ ks) v) (sym (map-variable us es)) ∙ undeclared)
 
 universal-new : (variables : ℕ) (us : List ℕ) (es : List (ℕ × Deps)) (matrix : List (List Literal)) (v : ℕ) (us' : List ℕ)
-    → is_declared (formula_of variables us es matrix) v ≡ false → us' ≡ insert_key eqb us v → us' ≡ us ++ v ∷ []
+    → is_declared (formula_of variables us es matrix) v ≡ false → us' ≡ with_number us v → us' ≡ us ++ v ∷ []
 universal-new variables us es matrix v us' undeclared inserted =
     let none = (undeclared-keys variables us es matrix v undeclared).0 in
-    inserted ∙ rw (flip v, none) refl
+    inserted ∙ rw none refl
 
 disjoint-push : (us : List ℕ) (v : ℕ) (ks : List ℕ) → All (λ y. has us y ≡ false) ks → has ks v ≡ false → All (λ y. has (us ++ v ∷ []) y ≡ false) ks
 disjoint-push us v ks apart none k d l =
@@ -75,14 +77,14 @@ disjoint-push us v ks apart none k d l =
 -- a universal is added behind the others
 pub IsKept-universal : (variables : ℕ) (us : List ℕ) (es : List (ℕ × Deps)) (matrix : List (List Literal)) (v : ℕ) (us' : List ℕ)
     → IsKept variables us es matrix → 1 ≤ v → v ≤ variables → is_declared (formula_of variables us es matrix) v ≡ false
-    → us' ≡ insert_key eqb us v → IsDistinct eqb us' → IsKept variables us' es matrix
-IsKept-universal variables us es matrix v us' kept low high undeclared inserted distinct =
+    → us' ≡ with_number us v → IsKept variables us' es matrix
+IsKept-universal variables us es matrix v us' kept low high undeclared inserted =
     let new = universal-new variables us es matrix v us' undeclared inserted in
     let parts = undeclared-keys variables us es matrix v undeclared in
     record {
       universals_in_range = subst (All (IsInRange variables)) (sym new) (All-push (IsInRange variables) us v kept.universals_in_range (low, high));
       existentials_in_range = kept.existentials_in_range;
-      distinct_universals = distinct;
+      distinct_universals = subst (IsDistinct eqb) (sym new) (IsDistinct-push nat_eq_equiv us v kept.distinct_universals (ap (λ p. list_any p us) (flip v) ∙ parts.0));
       distinct_existentials = kept.distinct_existentials;
       disjoint = subst (λ xs. All (λ y. has xs y ≡ false) (keys_of es)) (sym new) (disjoint-push us v (keys_of es) kept.disjoint parts.1);
       sets = subst (λ xs. All (IsDependencySet xs) (values_of es)) (sym new) (λ k d l. IsDependencySet-push us v (get_or (values_of es) k d) parts.0 (kept.sets k d l));
@@ -92,7 +94,7 @@ IsKept-universal variables us es matrix v us' kept low high undeclared inserted 
     }
 
 pub formula_of-universal : (variables : ℕ) (us : List ℕ) (es : List (ℕ × Deps)) (matrix : List (List Literal)) (v : ℕ) (us' : List ℕ)
-    → IsKept variables us es matrix → is_declared (formula_of variables us es matrix) v ≡ false → us' ≡ insert_key eqb us v
+    → IsKept variables us es matrix → is_declared (formula_of variables us es matrix) v ≡ false → us' ≡ with_number us v
     → formula_of variables us' es matrix ≡ record (formula_of variables us es matrix) { universals = us ++ v ∷ [] }
 formula_of-universal variables us es matrix v us' kept undeclared inserted =
     rw (universal-new variables us es matrix v us' undeclared inserted, existentials-push us v es kept.sets) refl

@@ -1,11 +1,14 @@
 -- Existentials that stand for others with the same dependency set.
-use Rattle.std.proofs.Common.{◌≡◌, ℕ, ◌+◌, ◌-◌, ◌<◌, true, Bool, List, [], ◌∷◌, ◌++◌, length, get_or, Some, IsSome, IsTrue, ◌↔◌, refl, sym, ◌∙◌, ap, subst, arith, ⊎_elim}
+use Rattle.std.proofs.Common.{◌≡◌, ℕ, ◌+◌, ◌-◌, ◌<◌, true, Bool, List, [], ◌∷◌, ◌++◌, length, get_or, slice_get, Some, IsSome, IsTrue, ◌↔◌, refl, sym, ◌∙◌, ap, subst, arith, ⊎_elim}
 use Rattle.std.specs.List.{All}
 use Rattle.std.specs.Option.{option_map}
 use Rattle.std.proofs.lemmas.Bool.{cases_lt}
-use Rattle.std.proofs.lemmas.List.{get_or-map, get_or_append_left, get_or-append_right}
+use Rattle.std.proofs.lemmas.List.{length-map, get_or-map, get_or_append_left, get_or-append_right}
 use Rattle.std.proofs.lemmas.Option.{slice_get-get_or, get_or_from_slice_get}
 use Rattle.dq_lits.specs.Formula.{Dqbf, Existential, existential_of}
+use Rattle.std.specs.Map.{values_of}
+use Rattle.dq_formula.specs.declared.dependencies.Deps.{Deps}
+use Rattle.dq_formula.specs.declared.dependencies.Deps.TheVariants.{FirstOf}
 use Rattle.dq_formula.specs.Prefix.{existential_variables}
 use Rattle.dq_formula.specs.Sets.{IsLeader}
 
@@ -21,20 +24,17 @@ module _ (f : Dqbf) (named : All (λ y. existential_of f y.variable ≡ Some y) 
   pub is_existential : (p : ℕ) → p < length f.existentials → IsSome (existential_of f (get_or ys p 0))
   is_existential p below = subst IsSome (sym (found p below)) refl
 
-  -- one with the same set stands for another
-  pub leads : (leader place : ℕ) (b : Bool) → leader < place → place < length f.existentials → b ≡ true
-      → ((d e : Existential) → existential_of f (get_or ys leader 0) ≡ Some d → existential_of f (get_or ys place 0) ≡ Some e → IsTrue b ↔ (d.sees ≡ e.sees)) → IsLeader f leader place
-  leads leader place b before below is test =
-      let low : leader < length f.existentials = omega (arith, before, below) in
-      let z = get_or f.existentials leader nobody in
-      record {
-        not_behind = omega (arith, before);
-        same_set = λ y y_is. (
-          z,
-          slice_get-get_or f.existentials leader nobody low,
-          (test z (get_or f.existentials place nobody) (found leader low) (found place below)).0 is ∙ ap (λ (e : Existential). e.sees) (get_or_from_slice_get f.existentials place y nobody y_is),
-        );
-      }
+-- one with the same set stands for another
+pub leads : (f : Dqbf) (leader place : ℕ) (b : Bool) → leader < place → place < length f.existentials → b ≡ true
+    → ((d e : Existential) → slice_get f.existentials leader ≡ Some d → slice_get f.existentials place ≡ Some e → IsTrue b ↔ (d.sees ≡ e.sees)) → IsLeader f leader place
+leads f leader place b before below is test =
+    let low : leader < length f.existentials = omega (arith, before, below) in
+    let z = get_or f.existentials leader nobody in
+    let there = slice_get-get_or f.existentials leader nobody low in
+    record {
+      not_behind = omega (arith, before);
+      same_set = λ y y_is. (z, there, (test z y there y_is).0 is);
+    }
 
 -- a leader has the set of the one that it stands for
 module _ (f : Dqbf) (named : All (λ y. existential_of f y.variable ≡ Some y) f.existentials) (ys : List ℕ) (same : ys ≡ existential_variables f) where
@@ -58,3 +58,13 @@ leaders_more f leaders leader each last k below = ⊎_elim
   where
     at-end : get_or (leaders ++ leader ∷ []) (length leaders) 0 ≡ leader
     at-end = get_or-append_right leaders (leader ∷ []) (length leaders) (length leaders) 0 refl (omega arith) ∙ (let e : length leaders - length leaders ≡ 0 = omega arith in rw e refl)
+
+-- what holds of all dependency sets holds of the one at a place
+pub set_at : (P : Deps → Type 0) (entries : List (ℕ × Deps)) (place : ℕ) (entry : ℕ × Deps) → slice_get entries place ≡ Some entry
+    → place < length entries → All P (values_of entries) → P entry.1
+set_at P entries place entry is below all =
+    let none : ℕ × Deps = (0, FirstOf 0) in
+    let size = length-map entries (λ (e : ℕ × Deps). e.1) in
+    subst P
+    (get_or-map (λ (e : ℕ × Deps). e.1) entries place none (FirstOf 0) below ∙ ap (λ (e : ℕ × Deps). e.1) (get_or_from_slice_get entries place entry none is))
+    (all place (FirstOf 0) (omega (arith, size, below)))

@@ -1,7 +1,7 @@
 -- What the prefix of a DQBF declares, and what it leaves free (DQDIMACS: a variable that occurs in
 -- a clause and is not declared is an existential that sees nothing).
-use Rattle.std.specs.Prelude.{◌≡◌, ℕ, ◌==◌, ◌≤◌, Bool, not, ◌&&◌, List, [], length, map, Some}
-use Rattle.std.specs.List.{All, list_any, filter, range_with_len}
+use Rattle.std.specs.Prelude.{◌≡◌, ℕ, ◌==◌, ◌≤◌, nat_eq, Bool, not, ◌&&◌, List, [], length, map, Some}
+use Rattle.std.specs.List.{All, IsDistinct, list_any, filter, range_with_len}
 use Rattle.dq_lits.specs.Literal.{Literal, variable_of}
 use Rattle.dq_lits.specs.Formula.{Existential, Dqbf, declared, existential_of, HasLawfulPrefix}
 use Rattle.dq_formula.specs.declared.formula.TheConstants.{MAX_VARIABLES, MAX_CLAUSES}
@@ -23,8 +23,9 @@ abbrev pub free_variables : Dqbf → List ℕ
 free_variables f =
     filter (λ v. not (is_declared f v) && occurs f.matrix v) (range_with_len 1 f.variables)
 
--- these are the undeclared variables that occur in some of the clauses
+-- these are the undeclared variables that occur in some of the clauses, each once
 pub record AreUndeclaredIn (f : Dqbf) (clauses : List (List Literal)) (variables : List ℕ) : Type 0 where
+  pub distinct : IsDistinct nat_eq variables
   pub in_range : All (λ v. (1 ≤ v) × (v ≤ f.variables)) variables
   pub complete : (v : ℕ)
       → list_any (λ x. x == v) variables ≡ (not (is_declared f v) && occurs clauses v)

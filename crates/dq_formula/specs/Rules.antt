@@ -1,5 +1,5 @@
 -- Rules: bits that existentials are forced to have.
-use Rattle.std.specs.Prelude.{◌≡◌, ◌==◌, ℕ, Bool, true, false, ◌&&◌, List, [], ◌∷◌, Some, if◌then◌else◌}
+use Rattle.std.specs.Prelude.{◌≡◌, ◌==◌, ℕ, Bool, true, ◌&&◌, List, [], ◌∷◌, Option, None, Some, if◌then◌else◌}
 use Rattle.std.specs.List.{All, Contains, list_all}
 use Rattle.dq_lits.specs.Literal.{Assignment, Literal, variable_of, literal_true}
 use Rattle.dq_lits.specs.Formula.{Existential, Dqbf, existential_of}
@@ -18,8 +18,8 @@ pub record IsRule (f : Dqbf) (rule : Rule) : Type 0 where
   pub forced : (m : Assignment) → MatrixHolds f m → cube_true m rule.cube ≡ true
       → m rule.y ≡ rule.bit
 
--- the bit of the first rule on the variable whose cube is true, else false
-abbrev pub rule_bit : List Rule → ℕ → Assignment → Bool
-rule_bit [] y m = false
-rule_bit (rule ∷ later) y m =
-    if rule.y == y && cube_true m rule.cube then rule.bit else rule_bit later y m
+-- the bit of the first rule on a variable whose cube is true, if there is one
+abbrev pub first_bit : List Rule → ℕ → Assignment → Option Bool
+first_bit [] y m = None
+first_bit (rule ∷ later) y m =
+    if rule.y == y && cube_true m rule.cube then Some rule.bit else first_bit later y m

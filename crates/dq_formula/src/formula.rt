@@ -16,7 +16,8 @@ ghost use Rattle.dq_formula.specs.Prefix.{IsLawful, AreUndeclaredIn, is_declared
 use crate::dependencies::{Deps, Vars};
 use crate::matrix::Matrix;
 use dq_lits::{Lit, Memory, Row};
-use indexmap::{IndexMap, IndexSet};
+use indexmap::IndexMap;
+use number_tables::NumberSet;
 use std::alloc::Global;
 use std::marker::Model;
 
@@ -37,7 +38,7 @@ pub const MAX_CLAUSES: usize = 10_000_000;
 #[derive(Drop)]
 pub struct Formula {
     vars: u64,
-    universals: IndexSet<u64>,
+    universals: NumberSet,
     existentials: IndexMap<u64, Deps>,
     matrix: Matrix,
 }
@@ -50,10 +51,10 @@ impl Model for Formula {
     ghost use Rattle.dq_formula.specs.Layout.{formula_of, IsKept};
 
     ghost view = { λ f.
-        formula_of f.vars f.universals.keys f.existentials.entries f.matrix };
+        formula_of f.vars f.universals f.existentials.entries f.matrix };
 
     ghost invariant = { λ f.
-        IsKept f.vars f.universals.keys f.existentials.entries f.matrix };
+        IsKept f.vars f.universals f.existentials.entries f.matrix };
 }
 
 // The elements at these places.
@@ -89,7 +90,7 @@ impl Formula {
     {
         Formula {
             vars,
-            universals: IndexSet::new(alloc),
+            universals: NumberSet::new(alloc),
             existentials: IndexMap::new(alloc),
             matrix: Matrix::new(alloc),
         }
@@ -114,7 +115,7 @@ impl Formula {
     pub fn universals(&self) -> &[u64]
         ensures { result.now ≡ self.now.universals }
     {
-        self.universals.as_slice()
+        self.universals.items()
     }
 
     /// The existentials, in order of declaration.
@@ -128,7 +129,7 @@ impl Formula {
     pub fn is_universal(&self, v: u64) -> bool
         ensures { result ≡ is_universal self.now v }
     {
-        self.universals.contains(&v)
+        self.universals.contains(v)
     }
 
     /// Whether a variable is declared as an existential.
@@ -149,7 +150,7 @@ impl Formula {
     pub fn universal_place(&self, x: u64) -> Option<usize>
         ensures { result ≡ position (λ u. u == x) self.now.universals }
     {
-        self.universals.get_index_of(&x)
+        self.universals.place(x)
     }
 
     /// The place of an existential in the order of declaration, counted from 0.
@@ -188,13 +189,26 @@ impl Formula {
         }
     }
 
+    // The dependency set of the existential at a place.
+    pub(crate) fn set_at(&self, place: usize) -> &Deps
+        requires { place < length self.now.existentials }
+        ensures set { IfSome (slice_get self.now.existentials place) (λ e.
+            dependencies self.now.universals result.now ≡ e.sees) }
+        ensures form { IsDependencySet self.now.universals result.now }
+    {
+        match self.existentials.get_index(place) {
+            Some((_, deps)) => deps,
+            None => unreachable!(),
+        }
+    }
+
     /// Whether an existential depends on a variable.
     pub fn sees(&self, y: u64, x: u64) -> bool
         requires { IsSome (existential_of self.now y) }
         ensures { IfSome (existential_of self.now y) (λ e. IsTrue result ↔ Contains e.sees x) }
     {
         let deps = self.deps_of(y);
-        let Some(place) = self.universals.get_index_of(&x) else {
+        let Some(place) = self.universals.place(x) else {
             return false;
         };
         match deps {
@@ -335,7 +349,7 @@ impl Formula {
         places.sort_unstable();
         places.dedup();
         let alloc = self.matrix.alloc();
-        let vars = picked(alloc, self.universals.as_slice(), &places)?;
+        let vars = picked(alloc, self.universals.items(), &places)?;
         Ok(Vars::from_vec(vars))
     }
 
@@ -419,17 +433,17 @@ impl Formula {
         ensures { IfOk result (λ free. free.items ≡ free_variables self.now) }
     {
         let undeclared = self.undeclared()?;
-        let mut free = Vec::from_slice(self.matrix.alloc(), undeclared.as_slice())?;
+        let mut free = Vec::from_slice(self.matrix.alloc(), undeclared.items())?;
         free.sort_unstable();
         Ok(free)
     }
 
     // The variables that occur undeclared, each once.
-    fn undeclared(&self) -> Result<IndexSet<u64>, Memory>
-        ensures { IfOk result (λ vars. AreUndeclaredIn self.now self.now.matrix vars.keys) }
+    fn undeclared(&self) -> Result<NumberSet, Memory>
+        ensures { IfOk result (AreUndeclaredIn self.now self.now.matrix) }
     {
         self.every_formula_is_lawful();
-        let mut vars = IndexSet::new(self.matrix.alloc());
+        let mut vars = NumberSet::new(self.matrix.alloc());
         for j in 0..self.clauses() {
             self.add_undeclared(self.clause(j), &mut vars)?;
         }
@@ -437,11 +451,11 @@ impl Formula {
     }
 
     // Adds the undeclared variables of a clause to those of earlier ones.
-    fn add_undeclared(&self, clause: &[Lit], vars: &mut IndexSet<u64>) -> Result<(), Memory>
+    fn add_undeclared(&self, clause: &[Lit], vars: &mut NumberSet) -> Result<(), Memory>
         requires { All (λ l. variable_of l ≤ self.now.variables) clause.now }
-        ensures { (earlier : List (List Literal)) → AreUndeclaredIn self.now earlier vars.old.keys
+        ensures { (earlier : List (List Literal)) → AreUndeclaredIn self.now earlier vars.old
             → OnOk result
-            (AreUndeclaredIn self.now (earlier ++ clause.now ∷ []) vars.new.keys) }
+            (AreUndeclaredIn self.now (earlier ++ clause.now ∷ []) vars.new) }
     {
         for lit in clause {
             self.add_if_undeclared(*lit, vars)?;
@@ -449,11 +463,11 @@ impl Formula {
         Ok(())
     }
 
-    fn add_if_undeclared(&self, lit: Lit, vars: &mut IndexSet<u64>) -> Result<(), Memory>
+    fn add_if_undeclared(&self, lit: Lit, vars: &mut NumberSet) -> Result<(), Memory>
         requires { variable_of lit ≤ self.now.variables }
         ensures { (clauses : List (List Literal)) (clause : List Literal)
-            → AreUndeclaredIn self.now (clauses ++ clause ∷ []) vars.old.keys → OnOk result
-            (AreUndeclaredIn self.now (clauses ++ (clause ++ lit ∷ []) ∷ []) vars.new.keys) }
+            → AreUndeclaredIn self.now (clauses ++ clause ∷ []) vars.old → OnOk result
+            (AreUndeclaredIn self.now (clauses ++ (clause ++ lit ∷ []) ∷ []) vars.new) }
     {
         let v = lit.var();
         if self.is_declared(v) {

@@ -1,6 +1,7 @@
 //! Existentials with one dependency set.
 
-ghost use Rattle.std.specs.Prelude.{◌≡◌, ◌<◌, length, IfOk};
+ghost use Rattle.std.specs.Prelude.{◌≡◌, ◌≤◌, ◌<◌, ◌↔◌, IsTrue, Some, length, take, slice_get, IfOk, IfSome};
+ghost use Rattle.dq_lits.specs.Formula.{Existential};
 ghost use Rattle.dq_formula.specs.Sets.{IsLeader, AreLeaders};
 
 use crate::dependencies::Deps;
@@ -85,12 +86,26 @@ impl Formula {
         self.every_formula_is_lawful();
         let mut known = KnownSets::new(alloc);
         let mut leaders = Vec::new(alloc);
+        let mut latest = 0;
         for place in 0..self.existentials().len() {
-            let set = self.deps_of(self.existentials()[place]);
-            let proposed = known.first_with(self, set, place)?;
-            leaders.push(self.leader(proposed, place))?;
+            latest = self.leader_of(&mut known, latest, place)?;
+            leaders.push(latest)?;
         }
         Ok(leaders)
+    }
+
+    // The place of one that has the same dependency set: the latest one that was found, or else one
+    // that was met.
+    fn leader_of(&self, known: &mut KnownSets, latest: usize, place: usize) -> Result<usize, Memory>
+        requires { place < length self.now.existentials }
+        ensures { IfOk result (λ leader. IsLeader self.now leader place) }
+    {
+        let near = self.leader(latest, place);
+        if near < place {
+            return Ok(near);
+        }
+        let proposed = known.first_with(self, self.set_at(place), place)?;
+        Ok(self.leader(proposed, place))
     }
 
     // The place that is proposed, if it is as good; else the existential's own.
@@ -98,12 +113,48 @@ impl Formula {
         requires { place < length self.now.existentials }
         ensures { IsLeader self.now result place }
     {
-        self.every_formula_is_lawful();
-        let ys = self.existentials();
-        if proposed < place && self.have_one_set(ys[proposed], ys[place]) {
+        if proposed < place && self.are_alike(proposed, place) {
             proposed
         } else {
             place
+        }
+    }
+
+    // Whether the existentials at two places have one dependency set.
+    fn are_alike(&self, first: usize, second: usize) -> bool
+        requires first { first < length self.now.existentials }
+        requires second { second < length self.now.existentials }
+        ensures { (d e : Existential) → slice_get self.now.existentials first ≡ Some d
+            → slice_get self.now.existentials second ≡ Some e
+            → (IsTrue result ↔ (d.sees ≡ e.sees)) }
+    {
+        match self.set_at(first) {
+            Deps::FirstOf(count) => self.has_first(second, *count),
+            Deps::Listed(vars) => self.members(second) == vars.items(),
+        }
+    }
+
+    // Whether the existential at a place depends on just the first universals, so many of them.
+    fn has_first(&self, place: usize, count: usize) -> bool
+        requires there { place < length self.now.existentials }
+        requires few { count ≤ length self.now.universals }
+        ensures { (e : Existential) → slice_get self.now.existentials place ≡ Some e
+            → (IsTrue result ↔ (take count self.now.universals ≡ e.sees)) }
+    {
+        match self.set_at(place) {
+            Deps::FirstOf(n) => count == *n,
+            Deps::Listed(vars) => &self.universals()[..count] == vars.items(),
+        }
+    }
+
+    // The universals that the existential at a place depends on.
+    fn members(&self, place: usize) -> &[u64]
+        requires { place < length self.now.existentials }
+        ensures { IfSome (slice_get self.now.existentials place) (λ e. result.now ≡ e.sees) }
+    {
+        match self.set_at(place) {
+            Deps::FirstOf(n) => &self.universals()[..*n],
+            Deps::Listed(vars) => vars.items(),
         }
     }
 }

@@ -9,5 +9,6 @@ pub mod Numerals
 mod PiecedLines
 mod PiecedTokens
 mod ShortNumbers
+mod SkippedBytes
 mod TokenLines
 mod WholeTokens

@@ -11,7 +11,7 @@ use Rattle.dq_text.specs.Token.{is_separator, line_after, line_feeds, last_line_
 use Rattle.dq_text.specs.declared.bytes.ByteKind.{ByteKind}
 use Rattle.dq_text.specs.declared.bytes.ByteKind.TheVariants.{Blank, LineFeed, LetterC, Other}
 
-unless_feed : (blank letter : Bool) (line : ℕ) → line_after (if blank then Blank else if letter then LetterC else Other) line ≡ line
+pub unless_feed : (blank letter : Bool) (line : ℕ) → line_after (if blank then Blank else if letter then LetterC else Other) line ≡ line
 unless_feed true letter line = refl
 unless_feed false true line = refl
 unless_feed false false line = refl

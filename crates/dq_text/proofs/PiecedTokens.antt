@@ -176,7 +176,7 @@ run_in_line (byte ∷ text) rest token line visible =
     in_line_step (kind_of byte) token line byte (λ t p l. tokens_behind t p l (text ++ rest)) (All-head IsVisible byte text visible)
     ∙ run_in_line text rest (grown token byte) line (All-tail IsVisible byte text visible)
 
-none_begun : (head : Head) → is_begun head ≡ false → head ≡ Empty
+pub none_begun : (head : Head) → is_begun head ≡ false → head ≡ Empty
 none_begun Empty h = refl
 none_begun (One a) h = cc
 none_begun (Two a b) h = cc
@@ -184,7 +184,7 @@ none_begun (Three a b c) h = cc
 none_begun Longer h = cc
 
 -- what was kept before a token's first byte doesn't matter
-first_grown : (token : TokenSummary) (byte : ℕ) → token.head ≡ Empty → grown token byte ≡ grown no_bytes byte
+pub first_grown : (token : TokenSummary) (byte : ℕ) → token.head ≡ Empty → grown token byte ≡ grown no_bytes byte
 first_grown token byte h = search (h)
 
 -- a token that ended is in front of what comes where none is begun

@@ -1,5 +1,5 @@
 -- Numbers that begin a line.
-use Rattle.std.proofs.Common.{◌≡◌, ℕ, zero, suc, ◌+◌, ◌*◌, ◌-◌, ◌≤◌, ◌<◌, ◌^◌, pos, negsuc, neg_ℤ, true, false, not, if◌then◌else◌, ℤ, w64, to_z, of_z, List, [], ◌∷◌, ◌++◌, length, take, drop, map, length-drop, refl, ◌∙◌, ap, arith, sym}
+use Rattle.std.proofs.Common.{◌≡◌, ℕ, zero, suc, ◌+◌, ◌*◌, ◌-◌, ◌≤◌, ◌<◌, ◌^◌, pos, negsuc, neg_ℤ, true, false, not, min, Some, None, if◌then◌else◌, ℤ, w64, to_z, of_z, List, [], ◌∷◌, ◌++◌, length, take, drop, map, length-drop, refl, ◌∙◌, ap, arith, sym}
 use Rattle.std.proofs.Math.Nat.{pow-le-pow_right, pow-suc}
 use Rattle.std.specs.Char.{is_ascii_digit}
 use Rattle.std.specs.List.{list_all}
@@ -7,8 +7,8 @@ use Rattle.std.proofs.lemmas.Int.{to_z-of_z}
 use Rattle.std.proofs.lemmas.List.{take-append-drop, take-take, take_all, length-take, length-take-le}
 use Rattle.dq_text.specs.Bytes.{kind_of}
 use Rattle.dq_text.specs.Line.{line_tokens, extend_token}
-use Rattle.dq_text.specs.Number.{decimal_value, number_of}
-use Rattle.dq_text.specs.ShortNumber.{BeginsWithNatural, IsLeadingValue}
+use Rattle.dq_text.specs.Number.{are_digits, decimal_value, number_of}
+use Rattle.dq_text.specs.ShortNumber.{AreFewDigits, BeginsWithNatural, IsLeadingValue}
 use Rattle.dq_text.specs.Token.{is_separator, goes_on}
 use Rattle.dq_text.specs.declared.numbers.Number.TheVariants.{Int}
 use Rattle.dq_text.specs.declared.bytes.ByteKind.TheVariants.{Other}
@@ -117,3 +117,21 @@ negated_inside (suc v) small = to_z-of_z w64 (negsuc v) (omega (arith, small))
 
 pub above_limit : (n : ℤ) (v : ℕ) → v < 10 ^ 18 → n ≡ neg_ℤ (pos v) → to_z w64 (of_z w64 n) ≡ neg_ℤ (pos v)
 above_limit n v small is = ap (λ k. to_z w64 (of_z w64 k)) is ∙ negated_inside v small
+
+-- the first bytes are digits, and these are all
+pub whole_value : (bytes : List ℕ) (value count : ℕ) → IsLeadingValue bytes value count → 0 < count → count ≡ length bytes → AreFewDigits bytes value
+whole_value bytes value count leading some whole =
+    let all : take count bytes ≡ bytes = take_all count bytes (omega (arith, whole)) in
+    record {
+      are = are_some bytes (omega (arith, some, whole)) (ap (list_all is_ascii_digit) (sym all) ∙ leading.are);
+      value_is = leading.value_is ∙ ap decimal_value all;
+      small = leading.small;
+    }
+
+pub capped : (digits : List ℕ) (value : ℕ) → AreFewDigits digits value →
+    Some value ≡ (if are_digits digits then Some (min (decimal_value digits) (10 ^ 18)) else None)
+capped digits value few =
+    let small = few.small in
+    let is = few.value_is in
+    let least : min (decimal_value digits) (10 ^ 18) ≡ value = omega (arith, small, is) in
+    sym (ap (λ b. if b then Some (min (decimal_value digits) (10 ^ 18)) else None) few.are ∙ ap Some least)

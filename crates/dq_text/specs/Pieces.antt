@@ -1,6 +1,6 @@
 -- The tokens of a text that comes in pieces, wherever it is cut: a token may begin in one piece and
 -- end in another, so that what is known of it is its summary.
-use Rattle.std.specs.Prelude.{ℕ, ◌≡◌, ◌<◌, ◌++◌, length, Bool, true, false, List, [], ◌∷◌, if◌then◌else◌}
+use Rattle.std.specs.Prelude.{ℕ, ◌≡◌, ◌≢◌, ◌<◌, ◌≤◌, ◌++◌, length, Bool, true, false, List, [], ◌∷◌, if◌then◌else◌}
 use Rattle.std.specs.List.{All}
 use Rattle.dq_text.specs.Bytes.{kind_of}
 use Rattle.dq_text.specs.Cursor.{begins_token}
@@ -9,7 +9,7 @@ use Rattle.dq_text.specs.Summary.{is_begun, no_bytes, grown, summary_of}
 use Rattle.dq_text.specs.Token.{TextToken, place_after, line_after, is_in_token, is_separator}
 use Rattle.dq_text.specs.declared.bytes.ByteKind.{ByteKind}
 use Rattle.dq_text.specs.declared.cursors.LinePlace.{LinePlace}
-use Rattle.dq_text.specs.declared.cursors.LinePlace.TheVariants.{LineStart}
+use Rattle.dq_text.specs.declared.cursors.LinePlace.TheVariants.{LineStart, InLine, InComment}
 use Rattle.dq_text.specs.declared.summaries.TokenSummary.{TokenSummary}
 use Rattle.dq_text.specs.declared.token_pieces.TokenPieces.{TokenPieces}
 
@@ -70,3 +70,23 @@ pub record IsWholeToken (pieces : TokenPieces) (bytes text behind : List ℕ) : 
   pub some : 0 < length text
   pub visible : All IsVisible text
   pub ends : begins_with_separator behind ≡ true
+
+-- the bytes are some without an LF, and then these
+pub record IsBehindLine (bytes left : List ℕ) : Type 0 where
+  pub before : List ℕ
+  pub parts : bytes ≡ before ++ left
+  pub one_line : All (λ byte. byte ≢ 10) before
+
+-- at this place all bytes, but in a comment those from some place on, at or before its LF
+abbrev pub EndsComment : LinePlace → List ℕ → List ℕ → Type 0
+EndsComment InComment bytes left = IsBehindLine bytes left
+EndsComment LineStart bytes left = left ≡ bytes
+EndsComment InLine bytes left = left ≡ bytes
+
+-- from here on what is left gives what the bytes gave before
+pub record Skips (old new : TokenPieces) (bytes left : List ℕ) : Type 0 where
+  pub shorter : length left ≤ length bytes
+  pub tokens : (more : List ℕ)
+      → tokens_to_come old (bytes ++ more) ≡ tokens_to_come new (left ++ more)
+  pub lines : (more : List ℕ)
+      → last_line_to_come old (bytes ++ more) ≡ last_line_to_come new (left ++ more)

@@ -3,7 +3,7 @@ use Rattle.std.specs.Prelude.{◌≡◌, ℕ, ◌<◌, ◌≤◌, ◌^◌, true,
 use Rattle.std.specs.Char.{is_ascii_digit}
 use Rattle.std.specs.List.{list_all}
 use Rattle.dq_text.specs.Line.{line_tokens}
-use Rattle.dq_text.specs.Number.{decimal_value}
+use Rattle.dq_text.specs.Number.{are_digits, decimal_value}
 use Rattle.dq_text.specs.Token.{goes_on}
 
 -- the first bytes, so many, are digits with this value
@@ -11,6 +11,12 @@ pub record IsLeadingValue (bytes : List ℕ) (value count : ℕ) : Type 0 where
   pub within : count ≤ length bytes
   pub are : list_all is_ascii_digit (take count bytes) ≡ true
   pub value_is : value ≡ decimal_value (take count bytes)
+  pub small : value < 10 ^ 18
+
+-- these are digits with this value
+pub record AreFewDigits (digits : List ℕ) (value : ℕ) : Type 0 where
+  pub are : are_digits digits ≡ true
+  pub value_is : value ≡ decimal_value digits
   pub small : value < 10 ^ 18
 
 -- these bytes are digits with this value, and then others, in which the token doesn't go on, with

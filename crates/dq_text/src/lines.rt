@@ -85,7 +85,7 @@ impl<'a> Lines<'a> {
 }
 
 /// The first line without its LF, and what stands behind it.
-fn cut_line(bytes: &[u8]) -> (&[u8], &[u8])
+pub fn cut_line(bytes: &[u8]) -> (&[u8], &[u8])
     ensures first { IsFirstLine bytes.now result.0.now result.1.now }
 {
     match memchr(b'\n', bytes) {

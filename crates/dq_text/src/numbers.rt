@@ -4,6 +4,7 @@ ghost use Rattle.std.specs.List.{flat_map};
 ghost use Rattle.dq_text.specs.Number.{are_digits, decimal_value, number_of, begins_with_minus, natural_of};
 ghost use Rattle.dq_text.specs.Written.{number_text, number_line};
 
+use crate::short_numbers::few_digits;
 use dq_lits::Memory;
 use itoa::Buffer;
 
@@ -61,7 +62,20 @@ pub fn natural(token: &[u8]) -> Option<u64>
 }
 
 /// The value of decimal digits, at most 10^18; none where there are other bytes or no digits.
+#[tactic(auto, using(crate::proofs::ShortNumbers::capped))]
 fn capped_value(digits: &[u8]) -> Option<u64>
+    ensures { result
+        ≡ (if are_digits digits.now then Some (min (decimal_value digits.now) (10 ^ 18))
+        else None) }
+{
+    match few_digits(digits) {
+        Some(value) => Some(value),
+        None => capped_value_of_many(digits),
+    }
+}
+
+// The same digit by digit, however many there are.
+fn capped_value_of_many(digits: &[u8]) -> Option<u64>
     ensures { result
         ≡ (if are_digits digits.now then Some (min (decimal_value digits.now) (10 ^ 18))
         else None) }

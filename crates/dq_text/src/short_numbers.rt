@@ -3,7 +3,7 @@
 ghost use Rattle.std.specs.Prelude.{◌≡◌, ◌≤◌, ◌<◌, ◌^◌, ◌∷◌, false, pos, neg_ℤ, length, map, take, IfSome};
 ghost use Rattle.dq_text.specs.Line.{line_tokens};
 ghost use Rattle.dq_text.specs.Number.{number_of};
-ghost use Rattle.dq_text.specs.ShortNumber.{BeginsWithNatural, IsLeadingValue};
+ghost use Rattle.dq_text.specs.ShortNumber.{AreFewDigits, BeginsWithNatural, IsLeadingValue};
 ghost use Rattle.dq_text.specs.Token.{goes_on};
 ghost use Rattle.dq_text.specs.declared.numbers.Number.TheVariants.{Int};
 
@@ -22,6 +22,24 @@ pub fn short_number(bytes: &[u8]) -> Option<(i64, &[u8])>
     match bytes.split_first() {
         Some((b'-', digits)) => behind_minus(digits),
         _ => without_minus(bytes),
+    }
+}
+
+/// The value of digits, of which there are at most 18; none where it isn't as simple.
+pub fn few_digits(digits: &[u8]) -> Option<u64>
+    ensures { IfSome result (λ value. AreFewDigits digits.now value) }
+{
+    if digits.len() > MOST_DIGITS {
+        return None;
+    }
+    let (value, count) = leading_value(digits);
+    if count == 0 {
+        return None;
+    }
+    if count == digits.len() {
+        Some(value)
+    } else {
+        None
     }
 }
 

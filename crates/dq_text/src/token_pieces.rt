@@ -1,13 +1,15 @@
 //! The tokens of a text that comes in pieces, wherever it is cut. Of a token whose end didn't come
 //! yet its summary alone is kept, so that a token of any length is read in the same memory.
 
-ghost use Rattle.std.specs.Prelude.{◌≡◌, ◌<◌, ◌∷◌, ◌++◌, [], ℕ, List, length, true, IfOk, OnOk, IfSome};
-ghost use Rattle.dq_text.specs.Pieces.{SummarizedToken, IsAtStart, IsWholeToken, tokens_to_come, last_line_to_come, no_pieces, ended};
+ghost use Rattle.std.specs.Prelude.{◌≡◌, ◌<◌, ◌≤◌, ◌∷◌, ◌++◌, [], ℕ, List, length, true, false, IfOk, OnOk, IfSome};
+ghost use Rattle.dq_text.specs.Bytes.{kind_of};
+ghost use Rattle.dq_text.specs.Pieces.{SummarizedToken, IsAtStart, IsWholeToken, IsBehindLine, EndsComment, Skips, tokens_to_come, last_line_to_come, no_pieces, ended};
 ghost use Rattle.dq_text.specs.Summary.{summary_of, no_bytes};
-ghost use Rattle.dq_text.specs.Token.{line_after};
+ghost use Rattle.dq_text.specs.Token.{line_after, is_in_token};
 
 use crate::bytes::{ByteKind, byte_kind};
 use crate::cursors::{LinePlace, is_token_byte, next_place, separator_free_length};
+use crate::lines::cut_line;
 use crate::summaries::{TokenSummary, grown, is_begun, no_bytes};
 use dq_lits::Memory;
 
@@ -79,8 +81,29 @@ impl TokenPieces {
         Ok(self.line)
     }
 
-    // Takes a token that begins and ends here, or else a byte; what is left is shorter.
+    // Takes a token that begins and ends here, or else a byte, and what stands between it and the
+    // next token; what is left is shorter.
+    #[tactic(auto, using(crate::proofs::SkippedBytes::shorter_on))]
     fn step<'a, T: TakesTokens>(
+        &mut self,
+        taker: &mut T,
+        rest: &'a [u8],
+    ) -> Result<&'a [u8], Memory>
+        requires some { 0 < length rest.now }
+        ensures shorter { IfOk result (λ left. length left.now < length rest.now) }
+        ensures given { IfOk result (λ left. (bytes : List ℕ) (answer : T.Answer)
+            → T.gives taker.new (tokens_to_come self.new (left.now ++ bytes))
+            (last_line_to_come self.new (left.now ++ bytes)) answer
+            → T.gives taker.old (tokens_to_come self.old (rest.now ++ bytes))
+            (last_line_to_come self.old (rest.now ++ bytes)) answer) }
+    {
+        let left = self.take(taker, rest)?;
+        let behind = skip_to_token(self, left)?;
+        Ok(behind)
+    }
+
+    // Takes a token that begins and ends here, or else a byte; what is left is shorter.
+    fn take<'a, T: TakesTokens>(
         &mut self,
         taker: &mut T,
         rest: &'a [u8],
@@ -105,6 +128,70 @@ impl TokenPieces {
             }
         }
     }
+}
+
+// Goes on to the first byte of a token, or to the end, unless a token is begun.
+#[tactic(auto, using(crate::proofs::SkippedBytes::nothing_skipped, crate::proofs::SkippedBytes::skipped_fresh))]
+fn skip_to_token<'a>(pieces: &mut TokenPieces, bytes: &'a [u8]) -> Result<&'a [u8], Memory>
+    ensures { IfOk result (λ left. Skips pieces.old pieces.new bytes.now left.now) }
+{
+    if is_begun(pieces.token.head) {
+        return Ok(bytes);
+    }
+    pieces.token = no_bytes();
+    let left = skip_between(pieces, bytes)?;
+    Ok(left)
+}
+
+// The same between tokens.
+#[tactic(auto, using(crate::proofs::SkippedBytes::nothing_skipped, crate::proofs::SkippedBytes::skipped_on))]
+fn skip_between<'a>(pieces: &mut TokenPieces, bytes: &'a [u8]) -> Result<&'a [u8], Memory>
+    requires { pieces.old.token ≡ no_bytes }
+    ensures { IfOk result (λ left. Skips pieces.old pieces.new bytes.now left.now) }
+{
+    let mut rest = bytes;
+    while let Some((byte, behind)) = rest.split_first() {
+        if is_token_byte(byte_kind(*byte), pieces.place) {
+            break;
+        }
+        rest = pass(pieces, *byte, behind)?;
+    }
+    Ok(rest)
+}
+
+// Goes behind a byte of no token, and in a comment on to the LF that ends it.
+fn pass<'a>(pieces: &mut TokenPieces, byte: u8, behind: &'a [u8]) -> Result<&'a [u8], Memory>
+    requires fresh { pieces.old.token ≡ no_bytes }
+    requires between { is_in_token (kind_of byte) pieces.old.place ≡ false }
+    ensures fresh { OnOk result (pieces.new.token ≡ no_bytes) }
+    ensures shorter { IfOk result (λ left. length left.now ≤ length behind.now) }
+    ensures skips { IfOk result
+        (λ left. Skips pieces.old pieces.new (byte ∷ behind.now) left.now) }
+{
+    let kind = byte_kind(byte);
+    pieces.line = counted_line(kind, pieces.line)?;
+    pieces.place = next_place(kind, pieces.place);
+    Ok(to_comment_end(pieces.place, behind))
+}
+
+// In a comment, the bytes from the LF that ends it; elsewhere all.
+fn to_comment_end(place: LinePlace, bytes: &[u8]) -> &[u8]
+    ensures shorter { length result.now ≤ length bytes.now }
+    ensures end { EndsComment place bytes.now result.now }
+{
+    match place {
+        LinePlace::InComment => to_line_end(bytes),
+        LinePlace::LineStart | LinePlace::InLine => bytes,
+    }
+}
+
+// The bytes from the first LF on.
+fn to_line_end(bytes: &[u8]) -> &[u8]
+    ensures shorter { length result.now ≤ length bytes.now }
+    ensures end { IsBehindLine bytes.now result.now }
+{
+    let (line, _) = cut_line(bytes);
+    &bytes[line.len()..]
 }
 
 // The token that begins here, where none is begun and it ends in these bytes.

@@ -236,10 +236,21 @@ impl Table {
         ensures limit { IsErrOf result Stop.Limit → IsAtLimit log.new (positive self.old.group ∷ []) }
     {
         instances_have_no_model();
+        oracle.focus(&self.newest_first()?)?;
         match oracle.solve(&[self.group], &[], log)? {
             Answer::Unsat(id) => Ok(Exp::Refuted(id)),
             Answer::Sat => Ok(Exp::Model(self.points(oracle)?)),
         }
+    }
+
+    // The arbiters, those of the newest row first: what an old one has stays more likely, so that
+    // candidates change little.
+    fn newest_first(&self) -> Result<Vec<u64>, Memory> {
+        let mut variables = Vec::new(self.alloc);
+        for place in (0..self.pairs.len()).rev() {
+            variables.extend_from_slice(self.pairs.get(place))?;
+        }
+        Ok(variables)
     }
 
     // The values that a search found, at the pairs.

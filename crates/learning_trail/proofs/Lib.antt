@@ -11,6 +11,7 @@ pub mod LargerTrails
 pub mod LeadingHints
 pub mod LearnedClauses
 pub mod Lessons
+pub mod LevelStarts
 pub mod LoggedAnswers
 pub mod MinimalClauses
 pub mod ReadStatus

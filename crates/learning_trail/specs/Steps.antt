@@ -1,5 +1,5 @@
 -- The literals that were made true, newest first.
-use Rattle.std.specs.Prelude.{◌≡◌, ℕ, Bool, true, false, List, [], ◌∷◌, Option, None, Some, if◌then◌else◌, ◌++◌, All, length}
+use Rattle.std.specs.Prelude.{◌≡◌, ℕ, Bool, true, false, List, [], ◌∷◌, Option, None, Some, if◌then◌else◌, ◌++◌, All, length, slice_index_or}
 use Rattle.dq_lits.specs.Literal.{Literal, opposite}
 use Rattle.dq_lits.specs.Derivation.{holds}
 use Rattle.learning_trail.specs.declared.trails.Step.{Step}
@@ -39,6 +39,15 @@ under_level (s ∷ earlier) = if is_decision s then earlier else under_level ear
 abbrev pub level_of : List Step → List Literal
 level_of [] = []
 level_of (s ∷ earlier) = s.literal ∷ (if is_decision s then [] else level_of earlier)
+
+-- where each level begins, the newest one first
+abbrev pub starts_of : List Step → List ℕ
+starts_of [] = []
+starts_of (s ∷ earlier) = if is_decision s then length earlier ∷ starts_of earlier else starts_of earlier
+
+-- where the newest level begins; 0, where nothing was decided
+abbrev pub level_start : List Step → ℕ
+level_start steps = slice_index_or (starts_of steps) 0 0
 
 abbrev pub decision_of : List Step → Option Literal
 decision_of [] = None

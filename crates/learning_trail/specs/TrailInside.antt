@@ -3,7 +3,7 @@ use Rattle.std.specs.Prelude.{◌≡◌, ℕ, ◌-◌, ◌≤◌, slice_index_or
 use Rattle.dq_lits.specs.Literal.{variable_of}
 use Rattle.learning_trail.specs.declared.trails.Step.{Step}
 use Rattle.learning_trail.specs.declared.trails.TruthValue.{TruthValue}
-use Rattle.learning_trail.specs.Steps.{Trailed, literals_of, IsFree}
+use Rattle.learning_trail.specs.Steps.{Trailed, literals_of, starts_of, IsFree}
 use Rattle.learning_trail.specs.Table.{Tells, is_assigned}
 use Rattle.learning_trail.specs.declared.trails.Trail.TheInside.{Inside}
 
@@ -34,3 +34,5 @@ pub record IsTrail (t : Inside) : Type 0 where
   pub room : length t.values.items ≤ vec_capacity t.steps
   pub placed : ArePlaced t.places.items (reverse t.steps.items)
   pub places : length t.places.items ≡ length t.values.items
+  pub starts : reverse t.starts.items ≡ starts_of (reverse t.steps.items)
+  pub starts_room : length t.values.items ≤ vec_capacity t.starts

@@ -12,23 +12,39 @@ const SCALE: u32 = 24;
 #[derive(Drop)]
 pub struct Activities {
     // The score of each variable, and behind it that of its negation.
-    scores: Vec<u64>,
+    scores: Vec<Score>,
     // What a literal gets now.
     bonus: u64,
+    // How often the scores were scaled down.
+    scaled: u64,
 }
+
+// A score that was written when the scores had been scaled down so often. It is scaled down further
+// where it is read, so that no pass over all of them has to.
+#[derive(Clone, Copy)]
+struct Score {
+    value: u64,
+    scaled: u64,
+}
+
+const NO_SCORE: Score = Score {
+    value: 0,
+    scaled: 0,
+};
 
 impl Activities {
     pub fn new(alloc: Global) -> Activities {
         Activities {
             scores: Vec::new(alloc),
             bonus: 1 << SCALE,
+            scaled: 0,
         }
     }
 
     /// Room for the literals of one variable more.
     pub fn grow(&mut self) -> Result<(), Memory> {
-        self.scores.push(0)?;
-        self.scores.push(0)?;
+        self.scores.push(NO_SCORE)?;
+        self.scores.push(NO_SCORE)?;
         Ok(())
     }
 
@@ -36,7 +52,10 @@ impl Activities {
     pub fn bump(&mut self, lits: &[Lit]) {
         for l in lits {
             if let Some(score) = self.scores.get_mut(place_of(*l)) {
-                *score = score.saturating_add(self.bonus);
+                *score = Score {
+                    value: score.after(self.scaled).saturating_add(self.bonus),
+                    scaled: self.scaled,
+                };
             }
         }
     }
@@ -46,9 +65,7 @@ impl Activities {
         self.bonus = self.bonus.saturating_add(self.bonus / 16);
         if self.bonus > LARGE {
             self.bonus >>= SCALE;
-            for score in self.scores.iter_mut() {
-                *score >>= SCALE;
-            }
+            self.scaled = self.scaled.saturating_add(1);
         }
     }
 
@@ -57,10 +74,33 @@ impl Activities {
         self.score(l) > self.score(other)
     }
 
+    /// How active the literals of a variable are together.
+    pub fn of_variable(&self, v: u64) -> u64 {
+        let place = (v.wrapping_sub(1) as usize).wrapping_mul(2);
+        self.score_at(place)
+            .saturating_add(self.score_at(place.wrapping_add(1)))
+    }
+
     fn score(&self, l: Lit) -> u64 {
-        match self.scores.get(place_of(l)) {
-            Some(score) => *score,
+        self.score_at(place_of(l))
+    }
+
+    fn score_at(&self, place: usize) -> u64 {
+        match self.scores.get(place) {
+            Some(score) => score.after(self.scaled),
             None => 0,
+        }
+    }
+}
+
+impl Score {
+    // The score, once all were scaled down so often.
+    fn after(&self, scaled: u64) -> u64 {
+        match scaled.saturating_sub(self.scaled) {
+            0 => self.value,
+            1 => self.value >> SCALE,
+            2 => self.value >> (2 * SCALE),
+            _ => 0,
         }
     }
 }

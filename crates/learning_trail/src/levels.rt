@@ -64,6 +64,43 @@ fn marked_in_level(notes: &Notes, steps: &[Step]) -> Option<Lit>
     None
 }
 
+// A marked literal of a trail's newest level. Where it is the newest one of the clause that was
+// learned, it is found without a pass over the level, which may be long and stays.
+fn level_mark(trail: &Trail, notes: &Notes) -> Option<Lit>
+    requires { trail.now.room < length notes.now.marks }
+    ensures { MatchOption result (is_level_marked notes.now.marks trail.now.steps ≡ false)
+        (λ l. IsMarkedInLevel notes.now.marks trail.now.steps l) }
+{
+    if let Some(place) = newest_place(trail, notes.literals()) {
+        let known = marked_at(trail, notes, place);
+        if known.is_some() {
+            return known;
+        }
+    }
+    marked_in_level(notes, trail.steps())
+}
+
+/// Where the newest literal of a clause but the last one may stand, whose literals are in the order
+/// of a trail.
+pub fn newest_place(trail: &Trail, lits: &[Lit]) -> Option<usize> {
+    if lits.len() < 2 {
+        return None;
+    }
+    trail.place(lits[lits.len() - 2].var() as usize)
+}
+
+// The literal at a place, if it is marked and of the newest level.
+fn marked_at(trail: &Trail, notes: &Notes, place: usize) -> Option<Lit>
+    requires { trail.now.room < length notes.now.marks }
+    ensures { IfSome result (λ l. IsMarkedInLevel notes.now.marks trail.now.steps l) }
+{
+    if place < trail.level_start() {
+        return None;
+    }
+    let l = trail.literal_at(place)?;
+    if notes.has(l) { Some(l) } else { None }
+}
+
 /// Takes back what is left of a step's level, and then levels until one has a marked literal, which
 /// it answers, or none is left.
 pub fn jump(trail: &mut Trail, notes: &Notes, step: &Step) -> Option<Lit>
@@ -90,7 +127,7 @@ fn back_to_marked_level(trail: &mut Trail, notes: &Notes) -> Option<Lit>
     ensures level { IfSome result (λ l. IsMarkedInLevel notes.now.marks trail.new.steps l) }
 {
     'levels: loop {
-        if let Some(l) = marked_in_level(notes, trail.steps()) {
+        if let Some(l) = level_mark(trail, notes) {
             return Some(l);
         }
         if last_decision(trail.steps()).is_none() {

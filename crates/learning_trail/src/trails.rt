@@ -1,6 +1,7 @@
 ghost use Rattle.std.specs.Prelude.{◌≡◌, ◌+◌, ◌<◌, ◌≤◌, ◌++◌, [], ◌∷◌, ℕ, Some, length, reverse, vec_capacity, IfOk, OnErr, OnOk, IfSome, MatchOption, All, if◌then◌else◌};
 ghost use Rattle.dq_lits.specs.Literal.{Literal, variable_of};
 
+use crate::starts::{newest_start, put_start, take_start};
 use dq_lits::{Lit, Memory};
 use std::alloc::Global;
 use std::marker::Model;
@@ -29,6 +30,8 @@ pub struct Trail {
     // Where the literal of variable v stands, if it is true or false, at place v - 1.
     places: Vec<usize>,
     steps: Vec<Step>,
+    // Where each level begins.
+    starts: Vec<usize>,
 }
 
 impl Model for Trail {
@@ -44,7 +47,7 @@ impl Model for Trail {
 }
 
 impl Trail {
-    ghost use Rattle.learning_trail.specs.Steps.{literals_of, literal_value, IsFree, IsAt};
+    ghost use Rattle.learning_trail.specs.Steps.{literals_of, literal_value, level_start, IsFree, IsAt};
 
     pub fn new(alloc: Global) -> Trail
         ensures { result ≡ record { room = 0; steps = [] } }
@@ -53,6 +56,7 @@ impl Trail {
             values: Vec::new(alloc),
             places: Vec::new(alloc),
             steps: Vec::new(alloc),
+            starts: Vec::new(alloc),
         }
     }
 
@@ -64,6 +68,7 @@ impl Trail {
     {
         self.steps.reserve(self.values.len() + 1)?;
         self.places.reserve(1)?;
+        self.starts.reserve(self.values.len() + 1)?;
         self.values.push(TruthValue::Unassigned)?;
         put_place(&mut self.places);
         Ok(())
@@ -89,6 +94,7 @@ impl Trail {
     {
         self.values[place_of(step.literal)] = truth(!step.literal.is_neg());
         self.places[place_of(step.literal)] = self.steps.len();
+        put_start(&mut self.starts, &step, self.steps.len());
         if self.steps.push(step).is_err() {
             unreachable!();
         }
@@ -103,6 +109,7 @@ impl Trail {
     {
         let step = self.steps.pop()?;
         self.values[place_of(step.literal)] = TruthValue::Unassigned;
+        take_start(&mut self.starts, &step);
         Some(step)
     }
 
@@ -118,6 +125,13 @@ impl Trail {
         ensures { result ≡ length self.now.steps }
     {
         self.steps.len()
+    }
+
+    /// Where the newest level begins; 0, where nothing was decided.
+    pub(crate) fn level_start(&self) -> usize
+        ensures { result ≡ level_start self.now.steps }
+    {
+        newest_start(&self.starts)
     }
 
     /// The literal at a place, the oldest one at 0.

@@ -48,6 +48,14 @@ pub trait Oracle {
         ensures told { is_told self.new ≡ is_told self.old }
         ensures values { (v : ℕ) → values self.new v ≡ values self.old v };
 
+    /// Variables that the next search may decide before all others, each with the value that it had
+    /// in the last values found. Which values are found may change by it, and what is learned on
+    /// the way: nothing is promised.
+    fn focus(&mut self, variables: &[u64]) -> Result<(), Memory>
+        ensures fit { (log : ProofLog) → Fits self.old log → Fits self.new log }
+        ensures told { is_told self.new ≡ is_told self.old }
+        ensures values { (v : ℕ) → values self.new v ≡ values self.old v };
+
     /// A variable of its own, with a name that no variable has and that isn't a selector's.
     fn new_var(&mut self, name: Name, log: &mut Log) -> Result<u64, Memory>
         requires fit { Fits self.old log.old }

@@ -5,3 +5,4 @@ mod Stages
 mod Defined
 mod UniversalInputs
 mod Stops
+mod StatedRules

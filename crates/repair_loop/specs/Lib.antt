@@ -1,3 +1,4 @@
 pub mod Searching
 pub mod Stopping
 pub mod Refuting
+pub mod Stating

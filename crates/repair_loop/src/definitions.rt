@@ -1,6 +1,6 @@
 //! The definitions that the clauses force, which are asked for before the first candidates.
 
-ghost use Rattle.std.specs.Prelude.{◌≡◌, ◌<◌, ℕ, true, length, replicate, None, Some, All, OnOk, IfOk, IsErrOf, slice_get, slice_set};
+ghost use Rattle.std.specs.Prelude.{◌≡◌, ◌<◌, ℕ, true, length, replicate, None, Some, All, OnOk, IfOk, IfSome, IsErrOf, slice_get, slice_set};
 ghost use Rattle.dq_lits.specs.Formula.{Existential, IsWellFormed};
 ghost use Rattle.aig_graph.specs.Made.{Extends};
 ghost use Rattle.hint_log.specs.Growth.{Grew};
@@ -10,10 +10,11 @@ ghost use Rattle.padoa_definitions.specs.Defining.{IsFound};
 ghost use Rattle.repair_loop.specs.Searching.{IsFresh, HasInputs, AreKnown, definition_in};
 ghost use Rattle.oracle.specs.Limits.{IsAtSomeLimit};
 
+use crate::questions::Questions;
 use aig_graph::{Graph, Node};
 use definition_order::existentials_in_order;
 use dq_formula::{Formula, Rule};
-use dq_lits::{Lit, Memory};
+use dq_lits::Memory;
 use gate_definitions::Gates;
 use hint_log::{Log, Stop};
 use log_laws::laws::engines_leave_the_rest;
@@ -28,9 +29,7 @@ pub(crate) struct Definitions {
     gates: Gates,
     // By which ranks a definition may read others.
     pub(crate) ranks: Vec<usize>,
-    // Which existentials occur in a clause, in order of declaration: of others nothing is asked, as
-    // any bit does. No contract speaks of it.
-    occurs: Vec<bool>,
+    pub(crate) questions: Questions,
     // The node of each existential that has a definition, in order of declaration.
     pub(crate) nodes: Vec<Option<Node>>,
     // Bits that those without a definition are forced to have.
@@ -63,15 +62,10 @@ impl Definitions {
             padoa,
             gates,
             ranks,
-            occurs: occurring(alloc, f)?,
+            questions: Questions::none(alloc, f)?,
             nodes: no_nodes(alloc, f.existentials().len())?,
             rules: Vec::new(alloc),
         })
-    }
-
-    // Whether the existential at a place occurs in a clause.
-    pub(crate) fn occurs_at(&self, place: usize) -> bool {
-        place < self.occurs.len() && self.occurs[place]
     }
 
     // Notes what was found of the existential at a place.
@@ -121,7 +115,7 @@ impl Definitions {
         Ok(())
     }
 
-    // Asks for a definition of an existential.
+    // Asks for a definition of an existential, unless it is known to have none.
     fn find<O: Oracle>(
         &mut self,
         oracle: &mut O,
@@ -147,24 +141,27 @@ impl Definitions {
         ensures limit { IsErrOf result Stop.Limit → IsAtSomeLimit log.new }
     {
         engines_leave_the_rest();
-        if !self.occurs_at(existential.place) {
+        if !self.questions.is_open(existential.place) {
             return Ok(());
         }
         existential.f.every_formula_is_lawful();
-        let found = self.ask(oracle, graph, existential, log)?;
+        let Some(found) = self.ask(oracle, graph, existential, log)? else {
+            return Ok(());
+        };
+        self.questions.learn(existential.f, &found)?;
         self.note(existential.place, found);
         Ok(())
     }
 
     // The gate that the clauses state of an existential, else what the solver says of its
-    // definition.
+    // definition; nothing where it isn't worth asking.
     fn ask<O: Oracle>(
         &mut self,
         oracle: &mut O,
         graph: &mut Graph,
         existential: &ExistentialAt,
         log: &mut Log,
-    ) -> Result<Found, Stop>
+    ) -> Result<Option<Found>, Stop>
         requires fit { O.Fits oracle.old log.old }
         requires formula { IsWellFormed existential.now.f.now }
         requires padoa { IsPadoa existential.now.f.now self.old.padoa log.old.entries }
@@ -179,16 +176,21 @@ impl Definitions {
         ensures extends { Extends graph.old graph.new }
         ensures found { (e : Existential)
             → slice_get existential.now.f.now.existentials existential.now.place ≡ Some e
-            → IfOk result (IsFound existential.now.f.now self.old.ranks.items graph.new e) }
+            → IfOk result (λ found. IfSome found (IsFound existential.now.f.now
+            self.old.ranks.items graph.new e)) }
         ensures limit { IsErrOf result Stop.Limit → IsAtSomeLimit log.new }
     {
         let f = existential.f;
         f.every_formula_is_lawful();
         let y = f.existentials()[existential.place];
-        match self.gates.read(f, &self.ranks, y, graph)? {
-            Some(node) => Ok(Found::Defined(node)),
-            None => self.padoa.define(oracle, graph, f, &self.ranks, y, log),
+        if let Some(node) = self.gates.read(f, &self.ranks, y, graph)? {
+            return Ok(Some(Found::Defined(node)));
         }
+        if self.questions.are_in_vain() {
+            return Ok(None);
+        }
+        let found = self.padoa.define(oracle, graph, f, &self.ranks, y, log)?;
+        Ok(Some(found))
     }
 }
 
@@ -198,30 +200,7 @@ fn no_nodes(alloc: Global, n: usize) -> Result<Vec<Option<Node>>, Memory>
     Ok(vec![in alloc; None; n]?)
 }
 
-// Which existentials occur in a clause, by their places.
-fn occurring(alloc: Global, f: &Formula) -> Result<Vec<bool>, Memory> {
-    let mut occurs = vec![in alloc; false; f.existentials().len()]?;
-    for j in 0..f.clauses() {
-        mark(f, f.clause(j), &mut occurs);
-    }
-    Ok(occurs)
-}
-
-fn mark(f: &Formula, clause: &[Lit], occurs: &mut [bool]) {
-    for l in clause {
-        if let Some(place) = f.existential_place(l.var()) {
-            mark_place(place, occurs);
-        }
-    }
-}
-
-fn mark_place(place: usize, occurs: &mut [bool]) {
-    if place < occurs.len() {
-        occurs[place] = true;
-    }
-}
-
-// Asks for a definition of each existential that occurs in a clause, those that see less first.
+// Asks for a definition of each existential that may have one, those that see less first.
 pub(crate) fn find_definitions<O: Oracle>(
     alloc: Global,
     oracle: &mut O,
@@ -248,6 +227,7 @@ pub(crate) fn find_definitions<O: Oracle>(
     let gates = Gates::new(alloc, f)?;
     let mut definitions = Definitions::none(alloc, padoa, gates, f)?;
     let order = existentials_in_order(alloc, f, &definitions.ranks)?;
+    definitions.questions.set_order(&order)?;
     definitions.find_all(oracle, graph, &Order { f, places: &order }, log)?;
     Ok(definitions)
 }

@@ -1,6 +1,6 @@
 //! The rules that the clauses force, which are asked for at each new row.
 
-ghost use Rattle.std.specs.Prelude.{◌≡◌, ◌<◌, ◌≤◌, length, All, IsErrOf};
+ghost use Rattle.std.specs.Prelude.{◌≡◌, ◌<◌, ◌≤◌, length, All, IfOk, IfSome, IsErrOf};
 ghost use Rattle.dq_lits.specs.Formula.{Dqbf, IsWellFormed};
 ghost use Rattle.dq_formula.specs.Prefix.{existential_variables};
 ghost use Rattle.dq_formula.specs.Rules.{IsRule};
@@ -10,8 +10,10 @@ ghost use Rattle.repair_loop.specs.Searching.{GoesOn, LogGrew};
 ghost use Rattle.oracle.specs.Limits.{IsAtSomeLimit};
 
 use crate::definitions::{Definitions, ExistentialAt};
+use crate::samples::Sample;
+use crate::stated_rules::stated_rule;
 use circuit_cnf::laws::checkers_stay;
-use dq_formula::Formula;
+use dq_formula::{Formula, Rule};
 use dq_lits::Memory;
 use expansion::laws::engines_leave_tables;
 use expansion::{Points, Table};
@@ -19,6 +21,7 @@ use hint_log::{Log, Stop};
 use log_laws::laws::engines_leave_the_rest;
 use oracle::Oracle;
 use padoa_definitions::Forced;
+use std::alloc::Global;
 
 // A model of the instances of a table's rows.
 #[derive(Drop)]
@@ -58,18 +61,20 @@ impl Definitions {
         if model.table.rows() == 0 {
             return Ok(());
         }
+        let mut sample = newest_sample(self.questions.alloc, f, model)?;
         for place in 0..f.existentials().len() {
-            self.force(oracle, &ExistentialAt { f, place }, model, log)?;
+            self.force(oracle, &ExistentialAt { f, place }, model, &mut sample, log)?;
         }
         Ok(())
     }
 
-    // Asks the same of an existential.
+    // Asks the same of an existential, unless it isn't worth it.
     fn force<O: Oracle>(
         &mut self,
         oracle: &mut O,
         existential: &ExistentialAt,
         model: &TableModel,
+        sample: &mut Sample,
         log: &mut Log,
     ) -> Result<(), Stop>
         requires as_many { length self.old.nodes.items
@@ -96,13 +101,44 @@ impl Definitions {
         ensures grew { LogGrew log.old log.new }
         ensures limit { IsErrOf result Stop.Limit → IsAtSomeLimit log.new }
     {
-        if !self.occurs_at(existential.place) {
-            return Ok(());
-        }
         if let Some(_) = self.nodes[existential.place] {
             return Ok(());
         }
+        if !self
+            .questions
+            .is_worth_forcing(existential.f, existential.place, sample)
+        {
+            return Ok(());
+        }
+        if let Some(rule) = self.find_stated(existential, sample)? {
+            self.keep(Forced::Rule(rule))?;
+            return Ok(());
+        }
         self.force_bit(oracle, existential, model, log)
+    }
+
+    // The rule that some clause states of an existential's bit in a sample, of those that need it.
+    fn find_stated(
+        &self,
+        existential: &ExistentialAt,
+        sample: &Sample,
+    ) -> Result<Option<Rule>, Memory>
+        requires place { existential.now.place < length existential.now.f.now.existentials }
+        ensures { IfOk result (λ found. IfSome found (IsRule existential.now.f.now)) }
+    {
+        let f = existential.f;
+        f.every_formula_is_lawful();
+        let y = f.existentials()[existential.place];
+        let bit = sample.bit(existential.place);
+        for number in self.questions.occurrences.with(existential.place, bit) {
+            let at = *number as usize;
+            if sample.count(*number) < 2 && at < f.clauses() {
+                if let Some(rule) = stated_rule(self.questions.alloc, f, y, bit, at)? {
+                    return Ok(Some(rule));
+                }
+            }
+        }
+        Ok(None)
     }
 
     // Asks for a rule that gives an existential its point's bit at the newest row.
@@ -146,6 +182,7 @@ impl Definitions {
         let forced = self
             .padoa
             .force(oracle, f, y, model.table.row(newest), bit, log)?;
+        self.questions.learn_bit(existential.place, &forced);
         self.keep(forced)?;
         Ok(())
     }
@@ -166,4 +203,19 @@ impl Definitions {
             Forced::Loose { .. } => Ok(()),
         }
     }
+}
+
+// The newest row, and the points' bits there.
+fn newest_sample(alloc: Global, f: &Formula, model: &TableModel) -> Result<Sample, Memory>
+    requires some { 1 ≤ length model.now.table.now.rows }
+    requires variables { model.now.points.now.variables ≡ existential_variables f.now }
+    requires point_rows { length model.now.points.now.rows ≡ length model.now.table.now.rows }
+{
+    f.every_formula_is_lawful();
+    let newest = model.table.rows();
+    let mut values = Vec::new(alloc);
+    for y in f.existentials() {
+        values.push(model.points.bit(*y, newest))?;
+    }
+    Sample::new(alloc, f, model.table.row(newest), values)
 }

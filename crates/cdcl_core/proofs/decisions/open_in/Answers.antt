@@ -1,4 +1,4 @@
-use Rattle.std.proofs.Common.{inl, inr}
+use Rattle.std.proofs.Common.{inl, inr, Some, None}
 use Rattle.dq_lits.specs.Derivation.{holds}
 use Rattle.learning_trail.specs.Steps.{literals_of}
 use Rattle.learning_trail.proofs.HeldLiterals.{any_one}
@@ -23,9 +23,16 @@ returns-then-is_watch_true c = λ d at.
       | inr on ↦ any_one (holds (literals_of c.args.trail.now.steps)) d c.watched.result.second two.1 on
     ]
 
-pub open_literal-requires-clause-in_range : goal.open_literal-requires-clause-in_range
-open_literal-requires-clause-in_range c = live_within c.args.clauses.now.clauses c.args.trail.now.room c.args.id c.lits.result.now c.lits.ensures c.requires.in_range
+pub place_in-place-requires : goal.place_in-place-requires
+place_in-place-requires c = live_within c.args.clauses.now.clauses c.args.trail.now.room c.args.id c.lits-lits.result.now c.lits-lits.ensures c.requires.in_range
 
-pub returns : goal.returns
-returns c =
-    opening_in c.args.clauses.now.clauses (literals_of c.args.trail.now.steps) c.lits.result.now c.args.id c.open_literal.result c.lits.ensures c.open_literal.ensures
+pub open_literal_at-requires-clause-in_range : goal.open_literal_at-requires-clause-in_range
+open_literal_at-requires-clause-in_range c = live_within c.args.clauses.now.clauses c.args.trail.now.room c.args.id c.lits-lits.result.now c.lits-lits.ensures c.requires.in_range
+
+pub returns-in-Some : goal.returns-in-Some
+returns-in-Some c =
+    opening_in c.args.clauses.now.clauses (literals_of c.args.trail.now.steps) c.lits-lits.result.now c.args.id (Some c.in-Some.literal) c.lits-lits.ensures c.in-Some.ensures
+
+pub returns-in-None : goal.returns-in-None
+returns-in-None c =
+    opening_in c.args.clauses.now.clauses (literals_of c.args.trail.now.steps) c.lits-lits.result.now c.args.id None c.lits-lits.ensures c.in-None.ensures

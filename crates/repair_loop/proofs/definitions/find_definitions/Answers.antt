@@ -35,7 +35,7 @@ pub find_all-requires-clause-places : goal.find_all-requires-clause-places
 find_all-requires-clause-places g c =
     let order = c.in_ok-order.ensures in
     let each : All (λ p. p < length c.args.f.now.existentials) c.in_ok-order.order.items = λ k d below. (order.each _).0 (Contains-get_or c.in_ok-order.order.items k d below) in
-    subst (All (λ p. p < length c.args.f.now.existentials)) (sym c.deref-2.ensures.value) each
+    subst (All (λ p. p < length c.args.f.now.existentials)) (sym c.deref-3.ensures.value) each
 
 pub returns-in_err-find_all-clause-limit_same : goal.returns-in_err-find_all-clause-limit_same
 returns-in_err-find_all-clause-limit_same g c = c.find_all.ensures.limit_same ∙ (c.new.ensures.grew 0).limit
@@ -48,3 +48,9 @@ returns-in_err-gates-clause-fresh g c = still_fresh c.engines_leave_the_rest.ens
 
 pub returns-in_err-gates-clause-limit_same : goal.returns-in_err-gates-clause-limit_same
 returns-in_err-gates-clause-limit_same g c = (c.new.ensures.grew 0).limit
+
+pub returns-in_err-set_order-clause-fresh : goal.returns-in_err-set_order-clause-fresh
+returns-in_err-set_order-clause-fresh g c = still_fresh c.engines_leave_the_rest.ensures c.args.f.now c.args.log.now c.new.new.log c.new.ensures.grew c.requires.fresh
+
+pub returns-in_err-set_order-clause-limit_same : goal.returns-in_err-set_order-clause-limit_same
+returns-in_err-set_order-clause-limit_same g c = (c.new.ensures.grew 0).limit

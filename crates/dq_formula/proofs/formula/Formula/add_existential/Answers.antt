@@ -7,7 +7,7 @@ use Rattle.dq_formula.proofs.formula.Formula.add_existential.Goals as goal
 pub invariant_of-self-2 : goal.invariant_of-self-2
 invariant_of-self-2 c =
     let f = c.self.inside in
-    let us = f.universals.keys in
+    let us = f.universals in
     let undeclared = rw (← c.self.view_is) at c.requires.undeclared in
     let high = rw (← c.self.view_is) at c.requires.in_range in
     let form = rw (← c.self.view_is) at c.requires.form in
@@ -18,7 +18,7 @@ invariant_of-self-2 c =
 pub returns-clause-ok : goal.returns-clause-ok
 returns-clause-ok c =
     let f = c.self.inside in
-    let us = f.universals.keys in
+    let us = f.universals in
     let undeclared = rw (← c.self.view_is) at c.requires.undeclared in
     let new = existential-new f.vars us f.existentials f.matrix c.args.y c.args.deps undeclared c.in_ok-insert.ensures.entries in
     rw (← c.self.view_is, new) (formula_of-existential f.vars us f.existentials.entries f.matrix (c.args.y, c.args.deps))

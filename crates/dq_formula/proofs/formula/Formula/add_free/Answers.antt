@@ -8,7 +8,7 @@ use Rattle.dq_formula.proofs.formula.Formula.add_free.Goals as goal
 pub returns-clause-ok : goal.returns-clause-ok
 returns-clause-ok c =
     let f = c.self.inside in
-    let us = f.universals.keys in
+    let us = f.universals in
     let es = f.existentials.entries in
     let vs = free_variables (formula_of f.vars us es f.matrix) in
     let free : c.deref.result.now ≡ vs = c.deref.ensures.value ∙ (rw (← c.self.view_is) at c.in_ok-free.ensures) in
@@ -21,7 +21,7 @@ returns-clause-ok c =
 pub invariant_of-self-2 : goal.invariant_of-self-2
 invariant_of-self-2 c =
     let f = c.self.inside in
-    let us = f.universals.keys in
+    let us = f.universals in
     let es = f.existentials.entries in
     let vs = free_variables (formula_of f.vars us es f.matrix) in
     let free : c.deref.result.now ≡ vs = c.deref.ensures.value ∙ (rw (← c.self.view_is) at c.in_ok-free.ensures) in

@@ -7,5 +7,5 @@ use Rattle.dq_formula.proofs.formula.Formula.existential_place.Goals as goal
 pub returns : goal.returns
 returns c =
     let f = c.self.inside in
-    rw (← c.self.view_is, map-variable f.universals.keys f.existentials.entries)
+    rw (← c.self.view_is, map-variable f.universals f.existentials.entries)
     (c.get_index_of.ensures.index ∙ ap (λ p. position p (keys_of f.existentials.entries)) (flip c.args.y))

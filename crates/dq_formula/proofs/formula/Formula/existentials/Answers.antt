@@ -5,4 +5,4 @@ use Rattle.dq_formula.proofs.formula.Formula.existentials.Goals as goal
 pub returns : goal.returns
 returns c =
     let f = c.self.inside in
-    rw (← c.self.view_is, map-variable f.universals.keys f.existentials.entries) (c.as_slice.ensures ∙ c.keys.ensures.rest)
+    rw (← c.self.view_is, map-variable f.universals f.existentials.entries) (c.as_slice.ensures ∙ c.keys.ensures.rest)

@@ -7,5 +7,5 @@ use Rattle.dq_formula.proofs.formula.Formula.is_existential.Goals as goal
 pub returns : goal.returns
 returns c =
     let f = c.self.inside in
-    rw (← c.self.view_is, find-existential f.universals.keys c.args.v f.existentials.entries)
-    (c.contains_key.ensures ∙ sym (is_some-option_map (λ d. existential f.universals.keys (c.args.v, d)) (lookup (eqb c.args.v) f.existentials.entries)))
+    rw (← c.self.view_is, find-existential f.universals c.args.v f.existentials.entries)
+    (c.contains_key.ensures ∙ sym (is_some-option_map (λ d. existential f.universals (c.args.v, d)) (lookup (eqb c.args.v) f.existentials.entries)))

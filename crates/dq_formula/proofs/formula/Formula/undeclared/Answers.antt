@@ -1,6 +1,10 @@
 use Rattle.std.proofs.Common.{◌≡◌, ◌+◌, suc, [], ◌∷◌, ◌++◌, take, arith, ◌∙◌, sym, ap}
 use Rattle.std.proofs.Math.Seq.{take-suc}
+use Rattle.dq_formula.proofs.Free.{none_undeclared}
 use Rattle.dq_formula.proofs.formula.Formula.undeclared.Goals as goal
+
+pub loop-j-init : goal.loop-j-init
+loop-j-init c = rw c.new-vars.ensures (none_undeclared c.args.self.now)
 
 pub loop-j-preserved : goal.loop-j-preserved
 loop-j-preserved c =

@@ -29,7 +29,7 @@ points-requires-clause-made g c =
 
 pub returns-in_err-id-clause-grew : goal.returns-in_err-id-clause-grew
 returns-in_err-id-clause-grew g c f full =
-    searched_grew f instances c.args.self.now.group (is_silent c.from_residual.result) c.args.log.now c.solve.new.log c.in_err-id.ensures.stop
+    searched_grew f instances c.args.self.now.group (is_silent c.from_residual-in_err-id.result) c.args.log.now c.solve.new.log c.in_err-id.ensures.stop
 
 pub returns-in_err-id-clause-table : goal.returns-in_err-id-clause-table
 returns-in_err-id-clause-table g c f full = full_searched f c.args.self.now c.args.log.now c.solve.new.log c.in_err-id.ensures.stop full

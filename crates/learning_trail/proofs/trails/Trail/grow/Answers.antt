@@ -1,4 +1,5 @@
 use Rattle.std.proofs.Common.{◌≡◌, ◌++◌, ◌∷◌, [], reverse, length, sym, ◌∙◌, subst, ap, arith, length-append, List, ℕ}
+use Rattle.learning_trail.specs.Steps.{starts_of}
 use Rattle.learning_trail.specs.TrailInside.{IsKept, ArePlaced}
 use Rattle.learning_trail.specs.declared.trails.Step.{Step}
 use Rattle.learning_trail.specs.declared.trails.TruthValue.{TruthValue}
@@ -20,5 +21,7 @@ invariant_of-self-2 c =
       placed = subst (λ (items : List Step). ArePlaced c.put_place.new.places.items (reverse items)) (sym steps)
           (subst (λ (ps : List ℕ). ArePlaced ps (reverse inside.steps.items)) (sym places) (placed_grown inside.places.items (reverse inside.steps.items) c.self.invariant.placed));
       places = let n = c.self.invariant.places in omega (arith, n, ap length values, ap length places, length-append inside.values.items (Unassigned ∷ []), length-append inside.places.items (0 ∷ []));
+      starts = ap reverse c.reserve-3.ensures.items ∙ c.self.invariant.starts ∙ ap (λ (items : List Step). starts_of (reverse items)) (sym steps);
+      starts_room = omega (arith, ap length values, length-append inside.values.items (Unassigned ∷ []), c.in_ok-reserve-3.ensures.ok, c.len-2.ensures, inside.values.ok.0, inside.starts.ok.0);
       room = omega (arith, ap length values, length-append inside.values.items (Unassigned ∷ []), c.in_ok-reserve.ensures.ok, c.len.ensures, inside.values.ok.0, inside.steps.ok.0);
     }

@@ -1,6 +1,7 @@
-use Rattle.std.proofs.Common.{◌≡◌, ◌++◌, ◌∷◌, [], suc, reverse, subst, ap, ◌∙◌, arith, List}
+use Rattle.std.proofs.Common.{◌≡◌, ◌++◌, ◌∷◌, [], suc, reverse, length, subst, ap, ◌∙◌, arith, List}
 use Rattle.std.proofs.lemmas.List.{length-set}
 use Rattle.dq_lits.specs.Literal.{variable_of}
+use Rattle.learning_trail.specs.Steps.{starts_of}
 use Rattle.learning_trail.specs.TrailInside.{IsKept, ArePlaced}
 use Rattle.learning_trail.specs.declared.trails.Step.{Step}
 use Rattle.learning_trail.specs.declared.trails.TruthValue.TheVariants.{Unassigned}
@@ -18,6 +19,9 @@ invariant_of-self-2 c =
     let old : IsKept inside.values.items (step ∷ reverse c.pop.new.self.items) = subst P (ap reverse split ∙ newest c.pop.new.self.items step) c.self.invariant.kept in
     let placed : ArePlaced inside.places.items (step ∷ reverse c.pop.new.self.items) = subst (ArePlaced inside.places.items) (ap reverse split ∙ newest c.pop.new.self.items step) c.self.invariant.placed in
     record {
+      starts = c.take_start.ensures.starts (length (reverse c.pop.new.self.items)) (starts_of (reverse c.pop.new.self.items))
+          (c.self.invariant.starts ∙ ap starts_of (ap reverse split ∙ newest c.pop.new.self.items step));
+      starts_room = omega (arith, length-set inside.values.items place Unassigned, c.self.invariant.starts_room, c.take_start.ensures.capacity);
       placed = placed.1;
       places = let n = c.self.invariant.places in omega (arith, n, length-set inside.values.items place Unassigned);
       kept = kept_popped inside.values.items (reverse c.pop.new.self.items) step place at old;

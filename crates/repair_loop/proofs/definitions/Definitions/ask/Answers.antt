@@ -1,4 +1,4 @@
-use Rattle.std.proofs.Common.{refl, subst, IfOk}
+use Rattle.std.proofs.Common.{refl, subst}
 use Rattle.candidate_functions.proofs.LargerGraphs.{extends-trans}
 use Rattle.definition_order.proofs.Declared.{known_at}
 use Rattle.definition_order.specs.Definitions.{IsDefinition}
@@ -21,10 +21,13 @@ returns-in-Some-clause-found g c e at =
     let known = known_at c.args.existential.now.f.now c.every_formula_is_lawful.ensures c.existentials.result.now c.args.existential.now.place e c.existentials.ensures at in
     subst (λ ranks. IsDefinition c.args.existential.now.f.now ranks c.read.new.graph e c.in-Some.node) c.deref.ensures.value (c.in_ok-node.ensures.gate e known c.in-Some.node c.in-Some.is)
 
-pub returns-in-None-clause-found : goal.returns-in-None-clause-found
-returns-in-None-clause-found g c e at =
+pub returns-clause-found : goal.returns-clause-found
+returns-clause-found g c e at =
     let known = known_at c.args.existential.now.f.now c.every_formula_is_lawful.ensures c.existentials.result.now c.args.existential.now.place e c.existentials.ensures at in
-    subst (λ ranks. IfOk c.define.result (IsFound c.args.existential.now.f.now ranks c.define.new.graph e)) c.deref-in-None.ensures.value (c.define.ensures.found e known)
+    subst (λ ranks. IsFound c.args.existential.now.f.now ranks c.define.new.graph e c.in_ok-found.found) c.deref-2.ensures.value (c.in_ok-found.ensures.found e known)
 
-pub returns-in-None-clause-extends : goal.returns-in-None-clause-extends
-returns-in-None-clause-extends g c = extends-trans c.args.graph.now c.read.new.graph c.define.new.graph c.read.ensures.extends c.define.ensures.extends
+pub returns-in_err-found-clause-extends : goal.returns-in_err-found-clause-extends
+returns-in_err-found-clause-extends g c = extends-trans c.args.graph.now c.read.new.graph c.define.new.graph c.read.ensures.extends c.define.ensures.extends
+
+pub returns-clause-extends : goal.returns-clause-extends
+returns-clause-extends g c = extends-trans c.args.graph.now c.read.new.graph c.define.new.graph c.read.ensures.extends c.define.ensures.extends

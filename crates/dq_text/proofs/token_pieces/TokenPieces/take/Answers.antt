@@ -3,7 +3,7 @@ use Rattle.dq_text.specs.Pieces.{SummarizedToken, last_line_to_come, tokens_behi
 use Rattle.dq_text.specs.Summary.{summary_of}
 use Rattle.dq_text.specs.declared.cursors.LinePlace.TheVariants.{InLine}
 use Rattle.dq_text.proofs.PiecedTokens.{whole_token_to_come, whole_token_line}
-use Rattle.dq_text.proofs.token_pieces.TokenPieces.step.Goals as goal
+use Rattle.dq_text.proofs.token_pieces.TokenPieces.take.Goals as goal
 
 pub returns-in_ok-token-in-Some-clause-given : goal.returns-in_ok-token-in-Some-clause-given
 returns-in_ok-token-in-Some-clause-given g c = λ bytes answer h.

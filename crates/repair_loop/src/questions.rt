@@ -1,0 +1,179 @@
+//! Which existentials are worth the question for a definition, which takes time by the formula.
+
+ghost use Rattle.std.specs.Prelude.{◌<◌, length};
+
+use crate::occurrences::Occurrences;
+use crate::samples::{Sample, bits_of};
+use crate::walks::Walk;
+use dq_formula::Formula;
+use dq_lits::{Memory, Row};
+use padoa_definitions::{Forced, Found, Pair};
+use std::alloc::Global;
+
+// How often a walk goes through all existentials at most, and how many occurrences and literals it
+// looks at for each of them.
+const MOST_PASSES: usize = 6;
+
+const WORK: usize = 16;
+// After so many questions in a row that found none no definition is asked for.
+const MOST_IN_VAIN: usize = 32;
+// Whether a bit is forced isn't asked where an existential sees few universals, so that rows give it
+// all its bits soon, and no more where so many answers said that it isn't.
+const FEW_SEEN: usize = 5;
+
+const MOST_LOOSE: u8 = 8;
+
+/// What is known of which questions are worth it. No contract speaks of it: an existential that isn't
+/// asked for a definition has none.
+#[derive(Drop)]
+pub(crate) struct Questions {
+    pub alloc: Global,
+    pub occurrences: Occurrences,
+    // The existentials' places in the order in which they are asked for, and their numbers there.
+    order: Vec<usize>,
+    numbers: Vec<usize>,
+    // Which of them have no definition, by place.
+    is_free: Vec<bool>,
+    // How many questions in a row found none.
+    in_vain: usize,
+    // How many questions found that a bit isn't forced, by place.
+    loose: Vec<u8>,
+}
+
+impl Questions {
+    /// Nothing was asked yet.
+    pub(crate) fn none(alloc: Global, f: &Formula) -> Result<Questions, Memory> {
+        let count = f.existentials().len();
+        Ok(Questions {
+            alloc,
+            occurrences: Occurrences::new(alloc, f)?,
+            order: Vec::new(alloc),
+            numbers: vec![in alloc; 0usize; count]?,
+            is_free: vec![in alloc; false; count]?,
+            in_vain: 0,
+            loose: vec![in alloc; 0u8; count]?,
+        })
+    }
+
+    /// Says in which order the existentials are asked for.
+    pub(crate) fn set_order(&mut self, order: &[usize]) -> Result<(), Memory> {
+        for (number, place) in order.iter().enumerate() {
+            self.order.push(*place)?;
+            if *place < self.numbers.len() {
+                self.numbers[*place] = number;
+            }
+        }
+        Ok(())
+    }
+
+    /// Whether the existential at a place may have a definition: it occurs in a clause, and no values
+    /// are known that show that it has none.
+    pub(crate) fn is_open(&self, place: usize) -> bool {
+        self.occurrences.has(place) && place < self.is_free.len() && !self.is_free[place]
+    }
+
+    /// Whether the last questions found nothing.
+    pub(crate) fn are_in_vain(&self) -> bool {
+        self.in_vain >= MOST_IN_VAIN
+    }
+
+    /// Learns from an answer.
+    pub(crate) fn learn(&mut self, f: &Formula, found: &Found) -> Result<(), Memory> {
+        match found {
+            Found::Defined(_) => {
+                self.in_vain = 0;
+                Ok(())
+            }
+            Found::Free(pair) => {
+                self.in_vain = self.in_vain.saturating_add(1);
+                self.learn_pair(f, pair)
+            }
+        }
+    }
+
+    /// Whether it is worth asking if an existential is forced to have the bit that it has in a
+    /// sample. One that can be turned there isn't; it is turned then.
+    pub(crate) fn is_worth_forcing(&self, f: &Formula, place: usize, sample: &mut Sample) -> bool
+        requires { place < length f.now.existentials }
+    {
+        if sees_few(f, place) || place >= self.loose.len() || self.loose[place] >= MOST_LOOSE {
+            return false;
+        }
+        if sample.is_loose(&self.occurrences, place) {
+            sample.turn(&self.occurrences, place);
+            return false;
+        }
+        true
+    }
+
+    /// Learns from an answer about the bit of the existential at a place.
+    pub(crate) fn learn_bit(&mut self, place: usize, forced: &Forced) {
+        if let Forced::Loose { .. } = forced {
+            if place < self.loose.len() {
+                self.loose[place] = self.loose[place].saturating_add(1);
+            }
+        }
+    }
+
+    fn learn_pair(&mut self, f: &Formula, pair: &Pair) -> Result<(), Memory> {
+        self.walk(f, &pair.row1, &pair.values1)?;
+        self.walk(f, &pair.row2, &pair.values2)
+    }
+
+    // Marks the existentials that are turned on a walk from these values.
+    fn walk(&mut self, f: &Formula, row: &Row, values: &Row) -> Result<(), Memory> {
+        let values = bits_of(self.alloc, values)?;
+        let sample = Sample::new(self.alloc, f, row, values)?;
+        let mut walk = Walk {
+            f,
+            occurrences: &self.occurrences,
+            numbers: &self.numbers,
+            sample,
+            turned: Vec::new(self.alloc),
+            broken: Vec::new(self.alloc),
+            left: self.occurrences.count().saturating_mul(WORK),
+        };
+        for number in 0..MOST_PASSES {
+            let is_back = number % 2 == 1;
+            if !pass(&mut walk, &self.order, is_back, &mut self.is_free)? {
+                return Ok(());
+            }
+        }
+        Ok(())
+    }
+}
+
+fn sees_few(f: &Formula, place: usize) -> bool
+    requires { place < length f.now.existentials }
+{
+    f.every_formula_is_lawful();
+    f.seen(f.existentials()[place]).len() <= FEW_SEEN
+}
+
+// Goes once through the existentials, in order or from the last one on, marks those that are turned,
+// and says whether there was a new one.
+fn pass(
+    walk: &mut Walk,
+    order: &[usize],
+    is_back: bool,
+    is_free: &mut [bool],
+) -> Result<bool, Memory> {
+    let mut is_new = false;
+    for number in 0..order.len() {
+        let at = if is_back {
+            order.len() - 1 - number
+        } else {
+            number
+        };
+        let place = order[at];
+        if place < is_free.len() {
+            if is_free[place] {
+                walk.turn_alone(place);
+            } else if walk.turn(place)? {
+                is_free[place] = true;
+                is_new = true;
+            }
+        }
+    }
+    Ok(is_new)
+}

@@ -1,0 +1,140 @@
+//! Walks from values that make the matrix true to others, an existential turned at each step. One
+//! that was turned has no definition, if what was turned with it may not be read by a definition.
+
+use crate::occurrences::Occurrences;
+use crate::samples::Sample;
+use dq_formula::Formula;
+use dq_lits::{Lit, Memory};
+
+// How many others are turned with an existential at most, and in clauses of how many literals they
+// are looked for.
+const MOST_REPAIRS: usize = 8;
+
+const MOST_LITERALS: usize = 64;
+
+/// A walk. No contract speaks of it: an existential that is wrongly said to have no definition isn't
+/// asked for one.
+#[derive(Drop)]
+pub(crate) struct Walk<'f, 'o, 'n> {
+    pub f: &'f Formula,
+    pub occurrences: &'o Occurrences,
+    // The number of each existential in the order in which they are asked for.
+    pub numbers: &'n [usize],
+    pub sample: Sample,
+    // What was turned in the last step, and clauses that may be false since.
+    pub turned: Vec<usize>,
+    pub broken: Vec<u32>,
+    // How many occurrences and literals may still be looked at.
+    pub left: usize,
+}
+
+impl Walk<'_, '_, '_> {
+    /// Turns the existential at a place if it can be turned alone.
+    pub(crate) fn turn_alone(&mut self, place: usize) {
+        if self.sample.is_loose(self.occurrences, place) {
+            self.sample.turn(self.occurrences, place);
+        }
+    }
+
+    /// Turns the existential at a place, and where clauses need that, others that come after it,
+    /// which its definition may not read; or none, where that takes too many.
+    pub(crate) fn turn(&mut self, place: usize) -> Result<bool, Memory> {
+        self.turned.clear();
+        self.broken.clear();
+        self.turn_one(place)?;
+        for _ in 0..MOST_REPAIRS {
+            let Some(number) = self.next_false() else {
+                return Ok(true);
+            };
+            let Some(other) = self.best_in(number, place) else {
+                self.go_back();
+                return Ok(false);
+            };
+            self.turn_one(other)?;
+        }
+        if let None = self.next_false() {
+            return Ok(true);
+        }
+        self.go_back();
+        Ok(false)
+    }
+
+    // Turns an existential, and notes the clauses that needed its bit.
+    fn turn_one(&mut self, place: usize) -> Result<(), Memory> {
+        let numbers = self.occurrences.with(place, self.sample.bit(place));
+        self.left = self.left.saturating_sub(numbers.len());
+        for number in numbers {
+            if self.sample.count(*number) < 2 {
+                self.broken.push(*number)?;
+            }
+        }
+        self.turned.push(place)?;
+        self.sample.turn(self.occurrences, place);
+        Ok(())
+    }
+
+    // A clause that is false; the ones that aren't are dropped.
+    fn next_false(&mut self) -> Option<u32> {
+        for _ in 0..self.broken.len() {
+            match self.broken.pop() {
+                Some(number) if self.sample.count(number) == 0 => return Some(number),
+                _ => {}
+            }
+        }
+        None
+    }
+
+    // The existential of a clause, by its place, that comes after another one and whose bit the
+    // fewest clauses need.
+    fn best_in(&mut self, number: u32, place: usize) -> Option<usize> {
+        let at = number as usize;
+        if at >= self.f.clauses() || self.f.clause(at).len() > MOST_LITERALS {
+            return None;
+        }
+        let mut best: Option<(usize, usize)> = None;
+        for l in self.f.clause(at) {
+            best = self.better(best, *l, place);
+        }
+        match best {
+            Some((_, other)) => Some(other),
+            None => None,
+        }
+    }
+
+    fn better(
+        &mut self,
+        best: Option<(usize, usize)>,
+        l: Lit,
+        place: usize,
+    ) -> Option<(usize, usize)> {
+        let Some(other) = self.f.existential_place(l.var()) else {
+            return best;
+        };
+        if self.left == 0 || !self.is_after(other, place) || self.turned.contains(&other) {
+            return best;
+        }
+        let cost = self.occurrences.with(other, self.sample.bit(other)).len();
+        self.left = self.left.saturating_sub(cost.saturating_add(1));
+        let needs = self.sample.needs(self.occurrences, other);
+        match best {
+            Some((fewest, _)) if fewest <= needs => best,
+            _ => Some((needs, other)),
+        }
+    }
+
+    fn is_after(&self, other: usize, place: usize) -> bool {
+        match (self.numbers.get(other), self.numbers.get(place)) {
+            (Some(after), Some(before)) => before < after,
+            _ => false,
+        }
+    }
+
+    // Turns back what was turned in this step.
+    fn go_back(&mut self) {
+        for k in 0..self.turned.len() {
+            if let Some(place) = self.turned.get(k) {
+                self.sample.turn(self.occurrences, *place);
+            }
+        }
+    }
+}
