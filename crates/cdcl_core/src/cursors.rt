@@ -27,6 +27,11 @@ pub(crate) struct Cursors {
     cursors: Vec<Cursor>,
 }
 
+/// Whether a clause has so many literals that it is looked at from a place on.
+pub(crate) fn is_long(lits: &[Lit]) -> bool {
+    lits.len() > LONG
+}
+
 impl Cursors {
     pub(crate) fn new(alloc: Global) -> Cursors {
         Cursors {
@@ -36,7 +41,7 @@ impl Cursors {
 
     /// A place for a clause of an id larger than all up to now, if it is long.
     pub(crate) fn add(&mut self, clause: u64, lits: &[Lit]) -> Result<(), Memory> {
-        if lits.len() > LONG {
+        if is_long(lits) {
             self.cursors.push(Cursor {
                 clause,
                 watched: 0,
@@ -77,7 +82,7 @@ impl Cursors {
     }
 
     fn get(&self, clause: u64, lits: &[Lit]) -> Option<&Cursor> {
-        if lits.len() <= LONG {
+        if !is_long(lits) {
             return None;
         }
         self.cursors.get(self.place_of(clause)?)

@@ -20,7 +20,7 @@ ghost use Rattle.cdcl_core.specs.Watching.{AreShort, IsReady, AreSame};
 ghost use Rattle.cdcl_core.specs.Visits.{IsVisitable, IsLooked, IsOther, AreOthersFalse, IsVisited, IsListVisited, AreVisited, IsTrailVisited, IsProcessed};
 
 use crate::arenas::Arena;
-use crate::cursors::Cursors;
+use crate::cursors::{Cursors, is_long};
 use crate::watches::{Watches, put_back, put_elsewhere, take};
 use dq_lits::Lit;
 use learning_trail::{Status, Step, Trail, TruthValue, is_false, is_true, status_of};
@@ -276,9 +276,26 @@ fn look_at(trail: &mut Trail, lits: &[Lit], cursors: &mut Cursors, other: Lit, i
     }
 }
 
-// A literal that isn't false, beside the other watched literal; of a long clause, from where it was
-// looked at last.
+// A literal that isn't false, beside the other watched literal.
 fn other_literal(
+    trail: &Trail,
+    lits: &[Lit],
+    cursors: &mut Cursors,
+    other: Lit,
+    id: u64,
+) -> Option<Lit>
+    requires { All (λ l. variable_of l ≤ trail.now.room) lits.now }
+    ensures { MatchOption result (AreOthersFalse (literals_of trail.now.steps) lits.now other)
+        (λ k. IsOther (literals_of trail.now.steps) lits.now other k) }
+{
+    if is_long(lits) {
+        return other_in_long(trail, lits, cursors, other, id);
+    }
+    first_other(trail, lits, other)
+}
+
+// The same of a long clause, from where it was looked at last.
+fn other_in_long(
     trail: &Trail,
     lits: &[Lit],
     cursors: &mut Cursors,
