@@ -381,6 +381,47 @@ def random_sights(rng, size):
     return formula, ""
 
 
+def cycle(rng, size, is_odd=False):
+    """A colour for each position, of so many bits, of a cycle, told by two existentials, each for a position of its own: where the positions
+    are equal the colours are, and where the second follows the first they differ. True for 2^n positions, and false for one fewer."""
+    formula = Formula()
+    first, second = formula.word(size), formula.word(size)
+    colours = [[formula.existential(position)] for position in (first, second)]
+    follower, carry = [-first[0]], first[0]
+    for bit in first[1:]:
+        follower.append(formula.parity(bit, carry))
+        carry = formula.conjunction(bit, carry)
+    if is_odd:
+        last = functools.reduce(formula.conjunction, [-first[0], *first[1:]])
+        follower = [formula.conjunction(bit, -last) for bit in follower]
+    formula.equate(*colours, list(zip(first, second)))
+    formula.equate(colours[0], [-colours[1][0]], list(zip(follower, second)))
+    return formula, "FALSE" if is_odd else "TRUE"
+
+
+def multiplexer(rng, size):
+    """A box that sees copies of so many selects and of the word that they select from, against a multiplexer. True."""
+    formula = Formula()
+    selects, word = formula.word(size), formula.word(1 << size)
+    copies = formula.word(size + (1 << size))
+    box = formula.existential(copies)
+    chosen = word
+    for select in selects:
+        chosen = [formula.choice(select, chosen[k + 1], chosen[k]) for k in range(0, len(chosen), 2)]
+    formula.equate([box], chosen, list(zip(selects + word, copies)))
+    return formula, "TRUE"
+
+
+def random_threes(rng, size):
+    """So many universals, and as many existentials that see three of them each, in random clauses of three existentials and a universal,
+    2.2 for each existential."""
+    formula = Formula()
+    universals = formula.word(size)
+    existentials = [formula.existential(rng.sample(universals, 3)) for _ in universals]
+    random_clauses(rng, formula, int(2.2 * size), (existentials, 3), (universals, 1))
+    return formula, ""
+
+
 def implications(rng, size):
     """A chain of implications among existentials that see a universal of their own each. True."""
     formula = Formula()
@@ -437,6 +478,7 @@ FORMS = ("forward", "shuffled", "reversed")
 FAMILIES = {"definitions": (definitions, 4), "parities": (parities, 5), "conjunctions": (conjunctions, 5)}
 for made, start in ((adder, 2), (comparator, 2), (multiplier, 3), (parity, 4), (controller, 2)):
     FAMILIES |= {made.__name__: (made, start), f"{made.__name__}-blind": (blind(made), start)}
-FAMILIES |= {"two-levels": (two_levels, 4), "random-sights": (random_sights, 4)}
+FAMILIES |= {"two-levels": (two_levels, 4), "random-sights": (random_sights, 4), "random-threes": (random_threes, 10)}
+FAMILIES |= {"cycle": (cycle, 3), "cycle-odd": (lambda rng, size: cycle(rng, size, True), 3), "multiplexer": (multiplexer, 1)}
 FAMILIES |= {"implications": (implications, 100), "unseen": (unseen, 100), "long-clauses": (long_clauses, 50)}
 FAMILIES |= {"half-free": (half_free, 100), "one-set": (one_set, 50)}
