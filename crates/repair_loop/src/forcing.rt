@@ -61,6 +61,7 @@ impl Definitions {
         if model.table.rows() == 0 {
             return Ok(());
         }
+        self.questions.begin_round();
         let mut sample = newest_sample(self.questions.alloc, f, model)?;
         for place in 0..f.existentials().len() {
             self.force(oracle, &ExistentialAt { f, place }, model, &mut sample, log)?;

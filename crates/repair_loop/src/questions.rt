@@ -23,6 +23,10 @@ const FEW_SEEN: usize = 5;
 
 const MOST_LOOSE: u8 = 8;
 
+// So many bits are asked about in a round at most; the next round goes on with the existentials
+// behind these. What an answer forces is a clause of as many literals as the existential sees.
+const MOST_IN_A_ROUND: usize = 64;
+
 /// What is known of which questions are worth it. No contract speaks of it: an existential that isn't
 /// asked for a definition has none.
 #[derive(Drop)]
@@ -38,6 +42,11 @@ pub(crate) struct Questions {
     in_vain: usize,
     // How many questions found that a bit isn't forced, by place.
     loose: Vec<u8>,
+    // Of the existentials whose bits are worth a question: how many the round passes over first, how
+    // many it has met, and how many it may still ask about.
+    passed: usize,
+    met: usize,
+    left: usize,
 }
 
 impl Questions {
@@ -52,6 +61,9 @@ impl Questions {
             is_free: vec![in alloc; false; count]?,
             in_vain: 0,
             loose: vec![in alloc; 0u8; count]?,
+            passed: 0,
+            met: 0,
+            left: 0,
         })
     }
 
@@ -91,9 +103,38 @@ impl Questions {
         }
     }
 
-    /// Whether it is worth asking if an existential is forced to have the bit that it has in a
-    /// sample. One that can be turned there isn't; it is turned then.
-    pub(crate) fn is_worth_forcing(&self, f: &Formula, place: usize, sample: &mut Sample) -> bool
+    /// A round begins, in which bits are asked about.
+    pub(crate) fn begin_round(&mut self) {
+        self.passed = if self.left == 0 {
+            self.passed.saturating_add(MOST_IN_A_ROUND)
+        } else {
+            0
+        };
+        if self.passed >= self.met {
+            self.passed = 0;
+        }
+        self.met = 0;
+        self.left = MOST_IN_A_ROUND;
+    }
+
+    // Whether the round asks about one more bit that is worth it.
+    fn takes_one(&mut self) -> bool {
+        self.met = self.met.saturating_add(1);
+        if self.met <= self.passed || self.left == 0 {
+            return false;
+        }
+        self.left -= 1;
+        true
+    }
+
+    /// Whether the round asks if an existential is forced to have the bit that it has in a sample.
+    /// One that can be turned there isn't; it is turned then.
+    pub(crate) fn is_worth_forcing(
+        &mut self,
+        f: &Formula,
+        place: usize,
+        sample: &mut Sample,
+    ) -> bool
         requires { place < length f.now.existentials }
     {
         if sees_few(f, place) || place >= self.loose.len() || self.loose[place] >= MOST_LOOSE {
@@ -103,7 +144,7 @@ impl Questions {
             sample.turn(&self.occurrences, place);
             return false;
         }
-        true
+        self.takes_one()
     }
 
     /// Learns from an answer about the bit of the existential at a place.

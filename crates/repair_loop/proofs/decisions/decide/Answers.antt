@@ -83,3 +83,10 @@ pub returns-in_err-definitions-clause-limit : goal.returns-in_err-definitions-cl
 returns-in_err-definitions-clause-limit g c = λ is.
     let stop : c.in_err-definitions.field-0.0 ≡ Limit = search rules in
     by_lemma c.args.f.now c.find_definitions.new.log (c.in_err-definitions.ensures.limit (ap (λ e. Err e) stop))
+
+pub returns-clause-productive : goal.returns-clause-productive
+returns-clause-productive g c =
+    productive c.args.f.now c.all_rounds.new.log.entries c.all_rounds.ensures.kept (g.met.O.Oracle.searched c.all_rounds.new.oracle c.all_rounds.new.log c.all_rounds.ensures.fit)
+
+pub returns-clause-selectors : goal.returns-clause-selectors
+returns-clause-selectors g c = (g.met.O.Oracle.searched c.all_rounds.new.oracle c.all_rounds.new.log c.all_rounds.ensures.fit).kept
