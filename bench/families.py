@@ -260,6 +260,29 @@ def adder(rng, size, is_blind=False):
     return against_plain(formula, add, formula.full_adder, 2, size, places, blind), "FALSE" if is_blind else "TRUE"
 
 
+def all_boxes(rng, size, is_blind=False):
+    """The same with a box at each full adder, of words one bit longer than the size."""
+    formula, places = Formula(), range(size)
+    blind = (rng.choice(places), rng.randrange(3)) if is_blind else None
+    return against_plain(formula, add, formula.full_adder, 2, size + 1, places, blind), "FALSE" if is_blind else "TRUE"
+
+
+def block(rng, size, is_blind=False):
+    """An adder of words of twice so many bits, whose upper halves one box adds, with the carry from below, against one without. True; where
+    the box lacks an input, false."""
+    formula = Formula()
+    a, b = formula.word(2 * size), formula.word(2 * size)
+    boxes = Boxes(formula, [0], (0, rng.randrange(2 * size + 1)) if is_blind else None)
+
+    def plain(place, *inputs):
+        return formula.full_adder(*inputs)
+
+    carry = add(formula, a[:size], b[:size], plain)[-1]
+    sums = boxes.cells(None, size + 1)(0, *a[size:], *b[size:], carry)
+    formula.equate(sums, add(formula, a, b, plain)[size:], boxes.demands)
+    return formula, "FALSE" if is_blind else "TRUE"
+
+
 def comparator(rng, size, is_blind=False):
     """A comparator of words, with a box at each fourth cell, against one without boxes. True; where a box lacks an input, false, since
     words that are equal above tell what the box gives."""
@@ -387,16 +410,64 @@ def cycle(rng, size, is_odd=False):
     formula = Formula()
     first, second = formula.word(size), formula.word(size)
     colours = [[formula.existential(position)] for position in (first, second)]
-    follower, carry = [-first[0]], first[0]
-    for bit in first[1:]:
-        follower.append(formula.parity(bit, carry))
-        carry = formula.conjunction(bit, carry)
+    follower = successor(formula, first)
     if is_odd:
         last = functools.reduce(formula.conjunction, [-first[0], *first[1:]])
         follower = [formula.conjunction(bit, -last) for bit in follower]
     formula.equate(*colours, list(zip(first, second)))
     formula.equate(colours[0], [-colours[1][0]], list(zip(follower, second)))
     return formula, "FALSE" if is_odd else "TRUE"
+
+
+def successor(formula, bits):
+    """The word that is one more, and 0 behind the last one."""
+    follower, carry = [-bits[0]], bits[0]
+    for bit in bits[1:]:
+        follower.append(formula.parity(bit, carry))
+        carry = formula.conjunction(bit, carry)
+    return follower
+
+
+def region(rng, size, is_reached=False):
+    """A set of states, of so many bits and two more, told by two existentials, each for a state of its own: with a state it has the one that
+    is four more, it has state 0, and not a certain one. True where this is no multiple of four, and else false."""
+    formula = Formula()
+    first, second = formula.word(size + 2), formula.word(size + 2)
+    members = [[formula.existential(state)] for state in (first, second)]
+    formula.equate(*members, list(zip(first, second)))
+    follower = first[:2] + successor(formula, first[2:])
+    step = functools.reduce(formula.conjunction, [-formula.parity(*bits) for bits in zip(follower, second)])
+    formula.clauses.append([-step, -members[0][0], members[1][0]])
+    avoided = 4 * rng.randrange(1, 1 << size) + (0 if is_reached else rng.randrange(1, 4))
+    formula.clauses.append([*first, members[0][0]])
+    formula.clauses.append([*(-bit if avoided >> i & 1 else bit for i, bit in enumerate(first)), -members[0][0]])
+    return formula, "FALSE" if is_reached else "TRUE"
+
+
+def injection(rng, size, lacks_a_place=False):
+    """A map of words of so many bits to such words, told by two lists of existentials, each for a word of its own, that maps different words to
+    different ones. True, and false where it may not give the last word."""
+    formula = Formula()
+    words = [formula.word(size) for _ in range(2)]
+    images = [[formula.existential(word) for _ in range(size)] for word in words]
+    formula.equate(*images, list(zip(*words)))
+    differ = [[formula.parity(*bits) for bits in zip(*pair)] for pair in (words, images)]
+    formula.clauses += [[-bit, *differ[1]] for bit in differ[0]]
+    if lacks_a_place:
+        formula.clauses.append([-bit for bit in images[0]])
+    return formula, "FALSE" if lacks_a_place else "TRUE"
+
+
+def tables(rng, size):
+    """As many existentials as the size, each with a clause for every row of its random table of seven universals, of half as many and seven
+    in all. True."""
+    formula = Formula()
+    universals = formula.word(7 + size // 2)
+    for _ in range(size):
+        seen = sorted(rng.sample(universals, 7))
+        output = formula.existential(seen)
+        formula.clauses += [[*row, rng.choice((1, -1)) * output] for row in itertools.product(*((x, -x) for x in seen))]
+    return formula, "TRUE"
 
 
 def multiplexer(rng, size):
@@ -476,9 +547,12 @@ def blind(family):
 
 FORMS = ("forward", "shuffled", "reversed")
 FAMILIES = {"definitions": (definitions, 4), "parities": (parities, 5), "conjunctions": (conjunctions, 5)}
-for made, start in ((adder, 2), (comparator, 2), (multiplier, 3), (parity, 4), (controller, 2)):
-    FAMILIES |= {made.__name__: (made, start), f"{made.__name__}-blind": (blind(made), start)}
+for made, start in ((adder, 2), (all_boxes, 1), (block, 1), (comparator, 2), (multiplier, 3), (parity, 4), (controller, 2)):
+    name = made.__name__.replace("_", "-")
+    FAMILIES |= {name: (made, start), f"{name}-blind": (blind(made), start)}
 FAMILIES |= {"two-levels": (two_levels, 4), "random-sights": (random_sights, 4), "random-threes": (random_threes, 10)}
 FAMILIES |= {"cycle": (cycle, 3), "cycle-odd": (lambda rng, size: cycle(rng, size, True), 3), "multiplexer": (multiplexer, 1)}
+FAMILIES |= {"region": (region, 1), "region-reached": (lambda rng, size: region(rng, size, True), 1), "tables": (tables, 2)}
+FAMILIES |= {"injection": (injection, 1), "injection-short": (lambda rng, size: injection(rng, size, True), 1)}
 FAMILIES |= {"implications": (implications, 100), "unseen": (unseen, 100), "long-clauses": (long_clauses, 50)}
 FAMILIES |= {"half-free": (half_free, 100), "one-set": (one_set, 50)}
