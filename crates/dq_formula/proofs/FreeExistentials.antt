@@ -1,13 +1,11 @@
 -- Existentials that see nothing, declared one behind another.
-use Rattle.std.proofs.Common.{◌≡◌, ℕ, ◌+◌, ◌≤◌, ◌<◌, Bool, true, false, ◌||◌, ◌&&◌, not, List, [], ◌∷◌, ◌++◌, length, map, get_or, refl, ap, sym, ◌∙◌, subst, arith, eqb, filter, true≢false, append-nil, append_assoc}
-use Rattle.std.proofs.lemmas.Cmp.{nat_eq_equiv}
+use Rattle.std.proofs.Common.{◌≡◌, ℕ, ◌+◌, ◌≤◌, ◌<◌, Bool, true, false, ◌&&◌, not, List, [], ◌∷◌, ◌++◌, length, map, get_or, refl, ap, sym, ◌∙◌, subst, arith, eqb, filter, true≢false, append-nil, append_assoc}
 use Rattle.std.proofs.lemmas.List.{map_push, map-append}
 use Rattle.std.proofs.lemmas.List.Elements.{All-head, All-tail, All-filter, filter_passes, All-from_recursion}
 use Rattle.std.proofs.lemmas.List.Folds.{list_any-append}
-use Rattle.std.proofs.lemmas.Map.Keys.{IsDistinct-head, IsDistinct-tail, IsDistinct-push}
-use Rattle.std.specs.List.{All, IsDistinct, list_any, range_with_len}
+use Rattle.std.proofs.lemmas.Map.Keys.{IsDistinct-head, IsDistinct-tail}
+use Rattle.std.specs.List.{All, IsDistinct, range_with_len}
 use Rattle.std.specs.Map.{keys_of}
-use Rattle.indexmap.specs.IndexMap.{insert_entry, insert_all}
 use Rattle.dq_lits.specs.Literal.{Literal}
 use Rattle.dq_formula.specs.declared.dependencies.Deps.{Deps}
 use Rattle.dq_formula.specs.declared.dependencies.Deps.TheVariants.{FirstOf}
@@ -17,19 +15,7 @@ use Rattle.dq_formula.specs.Prefix.{is_declared, occurs, free_variables, unseein
 use Rattle.dq_formula.proofs.Entries.{map-variable}
 use Rattle.dq_formula.proofs.Free.{IsDistinct-range_with_len, IsDistinct-filter, All-range}
 use Rattle.dq_formula.proofs.Kept.{IsKept-existential, undeclared-keys}
-use Rattle.dq_formula.proofs.Places.{has, flip}
-
--- a key that is not there goes last
-insert_entry-last : (es : List (ℕ × Deps)) (v : ℕ) (deps : Deps) → has (keys_of es) v ≡ false → insert_entry eqb es v deps ≡ es ++ (v, deps) ∷ []
-insert_entry-last [] v deps none = refl
-insert_entry-last (entry ∷ es) v deps none =
-    let parts = neither (eqb entry.0 v) (has (keys_of es) v) none in
-    let other : eqb v entry.0 ≡ false = (λ i. flip v i entry.0) ∙ parts.0 in
-    rw other (ap (λ rest. entry ∷ rest) (insert_entry-last es v deps parts.1))
-  where
-    neither : (a b : Bool) → (a || b) ≡ false → (a ≡ false) × (b ≡ false)
-    neither true b h = absurd (true≢false h)
-    neither false b h = (refl, h)
+use Rattle.dq_formula.proofs.Places.{has}
 
 -- the variables that go in are new and distinct
 pub record AreNew (variables : ℕ) (us ks vs : List ℕ) : Type 0 where
@@ -58,25 +44,31 @@ no-declaration variables us es matrix v a b =
     ap (λ ks. has (us ++ ks) v) (map-variable us es) ∙ list_any-append (λ x. eqb x v) us (keys_of es) ∙ rw (a, b) refl
 
 -- new variables go behind the others, and the formula keeps what every formula keeps
-pub insert_all-unseeing : (variables : ℕ) (us : List ℕ) (matrix : List (List Literal)) (vs : List ℕ) (es : List (ℕ × Deps))
+pub kept-unseeing : (variables : ℕ) (us : List ℕ) (matrix : List (List Literal)) (vs : List ℕ) (es : List (ℕ × Deps))
     → IsKept variables us es matrix → AreNew variables us (keys_of es) vs
-    → (insert_all eqb es (map unseeing_entry vs) ≡ es ++ map unseeing_entry vs) × IsKept variables us (es ++ map unseeing_entry vs) matrix
-insert_all-unseeing variables us matrix [] es kept new = (sym (append-nil es), rw append-nil kept)
-insert_all-unseeing variables us matrix (v ∷ vs) es kept new =
+    → IsKept variables us (es ++ map unseeing_entry vs) matrix
+kept-unseeing variables us matrix [] es kept new = rw append-nil kept
+kept-unseeing variables us matrix (v ∷ vs) es kept new =
     let es' = es ++ unseeing_entry v ∷ [] in
     let no-universal = All-head (λ w. has us w ≡ false) v vs new.no_universals in
     let no-key = All-head (λ w. has (keys_of es) w ≡ false) v vs new.no_keys in
     let range = All-head (IsInRange variables) v vs new.in_range in
-    let keys : keys_of es' ≡ keys_of es ++ v ∷ [] = map_push (λ (e : ℕ × Deps). e.0) es (unseeing_entry v) in
-    let no-key' : list_any (eqb v) (keys_of es) ≡ false = ap (λ p. list_any p (keys_of es)) (flip v) ∙ no-key in
-    let distinct : IsDistinct eqb (keys_of es') = subst (IsDistinct eqb) (sym keys) (IsDistinct-push nat_eq_equiv (keys_of es) v kept.distinct_existentials no-key') in
     let form : IsDependencySet us (FirstOf 0) = omega arith in
     let kept' : IsKept variables us es' matrix =
-    IsKept-existential variables us es matrix v (FirstOf 0) kept range.0 range.1 (no-declaration variables us es matrix v no-universal no-key) form distinct in
-    let rest = insert_all-unseeing variables us matrix vs es' kept' (AreNew-step variables us es v (FirstOf 0) vs new) in
-    let one : insert_entry eqb es v (FirstOf 0) ≡ es' = insert_entry-last es v (FirstOf 0) no-key in
+    IsKept-existential variables us es matrix v (FirstOf 0) kept range.0 range.1 (no-declaration variables us es matrix v no-universal no-key) form in
+    let rest = kept-unseeing variables us matrix vs es' kept' (AreNew-step variables us es v (FirstOf 0) vs new) in
     let whole : es' ++ map unseeing_entry vs ≡ es ++ unseeing_entry v ∷ map unseeing_entry vs = append_assoc es (unseeing_entry v ∷ []) (map unseeing_entry vs) in
-    (ap (λ done. insert_all eqb done (map unseeing_entry vs)) one ∙ rest.0 ∙ whole, subst (λ all. IsKept variables us all matrix) whole rest.1)
+    subst (λ all. IsKept variables us all matrix) whole rest
+
+-- so the variables of old and new ones are distinct
+pub distinct-unseeing : (variables : ℕ) (us : List ℕ) (matrix : List (List Literal)) (vs : List ℕ) (es : List (ℕ × Deps))
+    → IsKept variables us (es ++ map unseeing_entry vs) matrix → IsDistinct eqb (keys_of es ++ vs)
+distinct-unseeing variables us matrix vs es kept =
+    subst (IsDistinct eqb) (map-append (λ (e : ℕ × Deps). e.0) es (map unseeing_entry vs) ∙ ap (λ ks. keys_of es ++ ks) (each vs)) kept.distinct_existentials
+  where
+    each : (ks : List ℕ) → keys_of (map unseeing_entry ks) ≡ ks
+    each [] = refl
+    each (k ∷ ks) = ap (λ rest. k ∷ rest) (each ks)
 
 -- the undeclared variables that occur are new
 pub AreNew-free : (variables : ℕ) (us : List ℕ) (es : List (ℕ × Deps)) (matrix : List (List Literal))

@@ -1,22 +1,19 @@
 -- What every formula keeps, when a variable is declared or a clause is added.
-use Rattle.std.proofs.Common.{◌≡◌, ℕ, ◌+◌, ◌≤◌, ◌≢◌, Bool, true, false, ◌||◌, List, [], ◌∷◌, ◌++◌, length, map, get_or, refl, ap, sym, ◌∙◌, subst, arith, eqb, filter, true≢false, Option, None, Some, is_some, Contains, append-nil, length-append}
+use Rattle.std.proofs.Common.{◌≡◌, ℕ, ◌+◌, ◌≤◌, ◌≢◌, Bool, true, false, ◌||◌, List, [], ◌∷◌, ◌++◌, length, map, get_or, refl, ap, sym, ◌∙◌, subst, arith, eqb, filter, true≢false, Contains, append-nil, length-append}
 use Rattle.std.proofs.lemmas.List.{take-append-le, map_push, length_push}
 use Rattle.std.proofs.lemmas.List.Elements.{Contains-get_or, All-head, All-tail, All-push, All-append, All-contains, filter-append}
 use Rattle.std.proofs.lemmas.List.Folds.{list_any-append}
 use Rattle.std.specs.List.{All, IsDistinct, list_any}
-use Rattle.std.specs.Map.{keys_of, values_of, lookup}
+use Rattle.std.specs.Map.{keys_of, values_of}
 use Rattle.dq_lits.specs.Literal.{Literal, variable_of}
-use Rattle.dq_formula.specs.declared.formula.TheConstants.{MAX_CLAUSES}
+use Rattle.dq_formula.specs.declared.formula.TheConstants.{MAX_VARIABLES, MAX_CLAUSES}
 use Rattle.dq_formula.specs.declared.dependencies.Deps.{Deps}
 use Rattle.dq_formula.specs.declared.dependencies.Deps.TheVariants.{FirstOf, Listed}
 use Rattle.dq_formula.specs.Dependencies.{dependencies, listed_universals, IsDependencySet}
 use Rattle.dq_formula.specs.Layout.{existential, formula_of, IsInRange, IsKept}
 use Rattle.number_tables.specs.Numbers.{with_number}
-use Rattle.indexmap.specs.IndexMap.{IndexMap, insert_entry}
-use Rattle.indexmap.proofs.CallerLemmas.{insert_entry-new}
 use Rattle.std.proofs.lemmas.Cmp.{nat_eq_equiv}
 use Rattle.std.proofs.lemmas.Map.Keys.{IsDistinct-push}
-use Rattle.std.proofs.lemmas.Map.Made.{is_some-lookup}
 use Rattle.dq_formula.specs.Prefix.{is_declared}
 use Rattle.dq_formula.proofs.Entries.{map-variable}
 use Rattle.dq_formula.proofs.Places.{has, flip, contains-has, has-contains, ne-false}
@@ -25,6 +22,21 @@ use Rattle.dq_formula.proofs.Search.{All-kept}
 neither : (a b : Bool) → (a || b) ≡ false → (a ≡ false) × (b ≡ false)
 neither true b h = absurd (true≢false h)
 neither false b h = (refl, h)
+
+-- a formula that declares nothing keeps it
+pub IsKept-nothing : (variables : ℕ) → variables ≤ MAX_VARIABLES → IsKept variables [] [] []
+unfolding IsDistinct
+IsKept-nothing variables few = record {
+  universals_in_range = λ k d l. absurd (omega (arith, l));
+  existentials_in_range = λ k d l. absurd (omega (arith, l));
+  distinct_universals = tt;
+  distinct_existentials = tt;
+  disjoint = λ k d l. absurd (omega (arith, l));
+  sets = λ k d l. absurd (omega (arith, l));
+  literals_in_range = λ k d l. absurd (omega (arith, l));
+  few_variables = few;
+  few_clauses = omega arith;
+}
 
 -- a variable that is not declared is no universal and no existential
 pub undeclared-parts : (us ks : List ℕ) (v : ℕ) → has (us ++ ks) v ≡ false → (has us v ≡ false) × (has ks v ≡ false)
@@ -99,22 +111,11 @@ pub formula_of-universal : (variables : ℕ) (us : List ℕ) (es : List (ℕ × 
 formula_of-universal variables us es matrix v us' kept undeclared inserted =
     rw (universal-new variables us es matrix v us' undeclared inserted, existentials-push us v es kept.sets) refl
 
--- a key that is not there goes last
-pub existential-new : {S : Type 0} (variables : ℕ) (us : List ℕ) (m : IndexMap ℕ Deps S) (matrix : List (List Literal)) (y : ℕ) (deps : Deps) {es' : List (ℕ × Deps)}
-    → is_declared (formula_of variables us m.entries matrix) y ≡ false → es' ≡ insert_entry eqb m.entries y deps → es' ≡ m.entries ++ (y, deps) ∷ []
-existential-new variables us m matrix y deps undeclared inserted =
-    let none : list_any (eqb y) (keys_of m.entries) ≡ false = ap (λ p. list_any p (keys_of m.entries)) (flip y) ∙ (undeclared-keys variables us m.entries matrix y undeclared).1 in
-    inserted ∙ insert_entry-new eqb m y deps (absent (lookup (eqb y) m.entries) (is_some-lookup (eqb y) m.entries ∙ none))
-  where
-    absent : (o : Option Deps) → is_some o ≡ false → o ≡ None
-    absent None h = refl
-    absent (Some d) h = absurd (true≢false h)
-
 -- an existential is added behind the others
 pub IsKept-existential : (variables : ℕ) (us : List ℕ) (es : List (ℕ × Deps)) (matrix : List (List Literal)) (y : ℕ) (deps : Deps)
     → IsKept variables us es matrix → 1 ≤ y → y ≤ variables → is_declared (formula_of variables us es matrix) y ≡ false
-    → IsDependencySet us deps → IsDistinct eqb (keys_of (es ++ (y, deps) ∷ [])) → IsKept variables us (es ++ (y, deps) ∷ []) matrix
-IsKept-existential variables us es matrix y deps kept low high undeclared form distinct =
+    → IsDependencySet us deps → IsKept variables us (es ++ (y, deps) ∷ []) matrix
+IsKept-existential variables us es matrix y deps kept low high undeclared form =
     let parts = undeclared-keys variables us es matrix y undeclared in
     let keys : keys_of (es ++ (y, deps) ∷ []) ≡ keys_of es ++ y ∷ [] = map_push (λ (e : ℕ × Deps). e.0) es (y, deps) in
     let values : values_of (es ++ (y, deps) ∷ []) ≡ values_of es ++ deps ∷ [] = map_push (λ (e : ℕ × Deps). e.1) es (y, deps) in
@@ -122,7 +123,7 @@ IsKept-existential variables us es matrix y deps kept low high undeclared form d
       universals_in_range = kept.universals_in_range;
       existentials_in_range = subst (All (IsInRange variables)) (sym keys) (All-push (IsInRange variables) (keys_of es) y kept.existentials_in_range (low, high));
       distinct_universals = kept.distinct_universals;
-      distinct_existentials = distinct;
+      distinct_existentials = subst (IsDistinct eqb) (sym keys) (IsDistinct-push nat_eq_equiv (keys_of es) y kept.distinct_existentials (ap (λ p. list_any p (keys_of es)) (flip y) ∙ parts.1));
       disjoint = subst (All (λ x. has us x ≡ false)) (sym keys) (All-push (λ x. has us x ≡ false) (keys_of es) y kept.disjoint parts.0);
       sets = subst (All (IsDependencySet us)) (sym values) (All-push (IsDependencySet us) (values_of es) deps kept.sets form);
       literals_in_range = kept.literals_in_range;

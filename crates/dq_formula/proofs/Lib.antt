@@ -2,6 +2,7 @@ pub mod BlockSteps
 pub mod ClauseBlocks
 pub mod Distinct
 pub mod Entries
+pub mod ExistentialColumns
 pub mod Free
 pub mod Kept
 pub mod Lawful

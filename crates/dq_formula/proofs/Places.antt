@@ -18,7 +18,7 @@ place xs x = position_or_len (λ u. eqb u x) xs
 abbrev pub has : List ℕ → ℕ → Bool
 has xs u = list_any (λ x. eqb x u) xs
 
--- the maps of indexmap test a key against the one sought, the other way round
+-- a look-up by key tests the key sought against the one there, the other way round
 pub flip : (x : ℕ) → eqb x ≡ (λ (u : ℕ). eqb u x)
 flip x = λ i u. eqb-flip x u i
 

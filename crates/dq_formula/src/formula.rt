@@ -3,20 +3,19 @@ ghost use Rattle.std.specs.List.{AllPairs, position_or_len};
 ghost use Rattle.std.specs.List.Sorted.{IsBinarySearchResult, IsSearchInRange};
 ghost use Rattle.std.specs.Ordering.{nat_cmp};
 ghost use Rattle.dq_lits.specs.Row.{bit_of};
-ghost use Rattle.indexmap.specs.IndexMap.{spare, insert_all};
 ghost use Rattle.dq_lits.specs.Formula.{is_universal, existential_of};
 ghost use Rattle.dq_lits.specs.Henkin.{restriction, same_bits};
 ghost use Rattle.dq_lits.specs.Expansion.{row_assignment};
 ghost use Rattle.dq_lits.specs.Literal.{Literal, variable_of};
 ghost use Rattle.dq_formula.specs.Dependencies.{padded, dependencies, listed_universals, IsDependencySet};
-ghost use Rattle.dq_formula.specs.Layout.{existential, unseeing_entry};
+ghost use Rattle.dq_formula.specs.Layout.{existential};
 ghost use Rattle.dq_formula.specs.Xor.{xor_clauses};
 ghost use Rattle.dq_formula.specs.Prefix.{IsLawful, AreUndeclaredIn, is_declared, existential_variables, free_variables, unseeing};
 
 use crate::dependencies::{Deps, Vars};
+use crate::existentials::Existentials;
 use crate::matrix::Matrix;
 use dq_lits::{Lit, Memory, Row};
-use indexmap::IndexMap;
 use number_tables::NumberSet;
 use std::alloc::Global;
 use std::marker::Model;
@@ -39,7 +38,7 @@ pub const MAX_CLAUSES: usize = 10_000_000;
 pub struct Formula {
     vars: u64,
     universals: NumberSet,
-    existentials: IndexMap<u64, Deps>,
+    existentials: Existentials,
     matrix: Matrix,
 }
 
@@ -50,11 +49,9 @@ impl Model for Formula {
 
     ghost use Rattle.dq_formula.specs.Layout.{formula_of, IsKept};
 
-    ghost view = { λ f.
-        formula_of f.vars f.universals f.existentials.entries f.matrix };
+    ghost view = { λ f. formula_of f.vars f.universals f.existentials f.matrix };
 
-    ghost invariant = { λ f.
-        IsKept f.vars f.universals f.existentials.entries f.matrix };
+    ghost invariant = { λ f. IsKept f.vars f.universals f.existentials f.matrix };
 }
 
 // The elements at these places.
@@ -69,17 +66,6 @@ fn picked(alloc: Global, xs: &[u64], places: &[usize]) -> Result<Vec<u64>, Memor
     Ok(vars)
 }
 
-// Puts keys without dependencies into a map that has room for them.
-fn insert_all(existentials: &mut IndexMap<u64, Deps>, keys: &[u64])
-    requires { length keys.now ≤ spare existentials.old }
-    ensures { existentials.new.entries
-        ≡ insert_all nat_eq existentials.old.entries (map unseeing_entry keys.now) }
-{
-    for key in keys {
-        existentials.insert(*key, Deps::FirstOf(0)).unwrap();
-    }
-}
-
 impl Formula {
     /// The formula over the variables 1 to `vars` that declares none of them and has no clause.
     /// It takes no memory.
@@ -91,7 +77,7 @@ impl Formula {
         Formula {
             vars,
             universals: NumberSet::new(alloc),
-            existentials: IndexMap::new(alloc),
+            existentials: Existentials::new(alloc),
             matrix: Matrix::new(alloc),
         }
     }
@@ -122,7 +108,7 @@ impl Formula {
     pub fn existentials(&self) -> &[u64]
         ensures { result.now ≡ existential_variables self.now }
     {
-        self.existentials.keys().as_slice()
+        self.existentials.variables()
     }
 
     /// Whether a variable is declared as a universal.
@@ -136,7 +122,7 @@ impl Formula {
     pub fn is_existential(&self, v: u64) -> bool
         ensures { result ≡ is_some (existential_of self.now v) }
     {
-        self.existentials.contains_key(&v)
+        self.existentials.contains(v)
     }
 
     /// Whether a variable is declared.
@@ -157,7 +143,7 @@ impl Formula {
     pub fn existential_place(&self, y: u64) -> Option<usize>
         ensures { result ≡ position (λ v. v == y) (existential_variables self.now) }
     {
-        self.existentials.get_index_of(&y)
+        self.existentials.place(y)
     }
 
     /// How many clauses there are.
@@ -183,7 +169,7 @@ impl Formula {
             dependencies self.now.universals result.now ≡ e.sees) }
         ensures form { IsDependencySet self.now.universals result.now }
     {
-        match self.existentials.get(&y) {
+        match self.existentials.set_of(y) {
             Some(deps) => deps,
             None => unreachable!(),
         }
@@ -196,10 +182,7 @@ impl Formula {
             dependencies self.now.universals result.now ≡ e.sees) }
         ensures form { IsDependencySet self.now.universals result.now }
     {
-        match self.existentials.get_index(place) {
-            Some((_, deps)) => deps,
-            None => unreachable!(),
-        }
+        self.existentials.set_at(place)
     }
 
     /// Whether an existential depends on a variable.
@@ -374,7 +357,7 @@ impl Formula {
         }) }
         ensures err { OnErr result (self.new ≡ self.old) }
     {
-        self.existentials.insert(y, deps)?;
+        self.existentials.push(y, deps)?;
         Ok(())
     }
 
@@ -423,8 +406,10 @@ impl Formula {
         ensures err { OnErr result (self.new ≡ self.old) }
     {
         let free = self.free_variables()?;
-        self.existentials.reserve(free.len())?;
-        insert_all(&mut self.existentials, &free);
+        if free.is_empty() {
+            return Ok(());
+        }
+        self.existentials.push_unseeing(self.matrix.alloc(), &free)?;
         Ok(())
     }
 

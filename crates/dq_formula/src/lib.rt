@@ -12,6 +12,7 @@ pub use sets::is_subset;
 
 mod blocks;
 mod dependencies;
+mod existentials;
 mod formula;
 mod laws;
 mod leaders;

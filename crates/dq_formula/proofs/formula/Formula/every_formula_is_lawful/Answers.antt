@@ -4,4 +4,4 @@ use Rattle.dq_formula.proofs.formula.Formula.every_formula_is_lawful.Goals as go
 pub returns : goal.returns
 returns c =
     let f = c.self.inside in
-    rw (← c.self.view_is) (lawful f.vars f.universals f.existentials.entries f.matrix c.self.invariant)
+    rw (← c.self.view_is) (lawful f.vars f.universals f.existentials f.matrix c.self.invariant)

@@ -1,8 +1,7 @@
-use Rattle.std.proofs.Common.{◌∙◌}
 use Rattle.dq_formula.proofs.Entries.{map-variable}
 use Rattle.dq_formula.proofs.formula.Formula.existentials.Goals as goal
 
 pub returns : goal.returns
 returns c =
     let f = c.self.inside in
-    rw (← c.self.view_is, map-variable f.universals f.existentials.entries) (c.as_slice.ensures ∙ c.keys.ensures.rest)
+    rw (← c.self.view_is, map-variable f.universals f.existentials) c.variables.ensures

@@ -1,19 +1,27 @@
-use Rattle.std.proofs.Common.{◌≡◌, ◌<◌, Some, slice_get, length, ap, sym, ◌∙◌, arith}
-use Rattle.std.specs.Option.{option_map}
+use Rattle.std.proofs.Common.{arith}
 use Rattle.std.proofs.lemmas.List.{length-map}
-use Rattle.std.specs.Map.Iter.{deref_pair}
-use Rattle.dq_formula.specs.Dependencies.{IsDependencySet}
+use Rattle.std.proofs.lemmas.Option.{slice_get_within, get_or_from_slice_get}
+use Rattle.std.specs.Map.{values_of}
+use Rattle.dq_formula.specs.declared.dependencies.Deps.TheVariants.{FirstOf}
 use Rattle.dq_formula.specs.Layout.{existential}
-use Rattle.dq_formula.proofs.SetLeaders.{set_at}
+use Rattle.dq_formula.proofs.ExistentialColumns.{at_place}
 use Rattle.dq_formula.proofs.formula.Formula.set_at.Goals as goal
+
+pub set_at-requires : goal.set_at-requires
+set_at-requires c =
+    let f = c.self.inside in
+    let there = rw (← c.self.view_is) at c.requires in
+    omega (arith, there, length-map f.existentials (existential f.universals))
+
+pub returns-clause-set : goal.returns-clause-set
+returns-clause-set c =
+    let f = c.self.inside in
+    rw (← c.self.view_is) (at_place f.universals f.existentials c.args.place c.set_at.result.now c.set_at.ensures)
 
 pub returns-clause-form : goal.returns-clause-form
 returns-clause-form c =
     let f = c.self.inside in
-    let entries = f.existentials.entries in
-    let at : slice_get entries c.args.place ≡ Some (c.in-Some.field-0-0.now, c.in-Some.deps.now) =
-    sym c.get_index.ensures.entry ∙ ap (option_map deref_pair) c.in-Some.is in
-    let there = rw (← c.self.view_is) at c.requires in
-    let size = length-map entries (existential f.universals) in
-    let below : c.args.place < length entries = omega (arith, there, size) in
-    rw (← c.self.view_is) (set_at (IsDependencySet f.universals) entries c.args.place (c.in-Some.field-0-0.now, c.in-Some.deps.now) at below c.self.invariant.sets)
+    let sets = values_of f.existentials in
+    let set = c.set_at.result.now in
+    let here = get_or_from_slice_get sets c.args.place set (FirstOf 0) c.set_at.ensures in
+    rw (← c.self.view_is, ← here) (c.self.invariant.sets c.args.place (FirstOf 0) (slice_get_within sets c.args.place set c.set_at.ensures))

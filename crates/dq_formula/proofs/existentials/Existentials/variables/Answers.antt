@@ -1,0 +1,9 @@
+use Rattle.std.proofs.Common.{sym, ap, ◌∙◌}
+use Rattle.std.specs.Map.{keys_of}
+use Rattle.dq_formula.proofs.ExistentialColumns.{keys}
+use Rattle.dq_formula.proofs.existentials.Existentials.variables.Goals as goal
+
+pub returns : goal.returns
+returns c =
+    let e = c.self.inside in
+    c.items.ensures ∙ (sym (ap keys_of (sym c.self.view_is) ∙ keys e.variables e.sets.items c.self.invariant))
