@@ -131,7 +131,7 @@ impl TokenPieces {
 }
 
 // Goes on to the first byte of a token, or to the end, unless a token is begun.
-#[tactic(auto, using(crate::proofs::SkippedBytes::nothing_skipped, crate::proofs::SkippedBytes::skipped_fresh))]
+#[tactic(auto, using(crate::proofs::SkippedBytes::nothing_skipped))]
 fn skip_to_token<'a>(pieces: &mut TokenPieces, bytes: &'a [u8]) -> Result<&'a [u8], Memory>
     ensures { IfOk result (λ left. Skips pieces.old pieces.new bytes.now left.now) }
 {
