@@ -152,6 +152,8 @@ impl Oracle for Scan {
       kept = (tt, fit.kept);
     } };
 
+    ghost limit = { λ s log limit fit. fit };
+
     ghost begun = { λ s log live fit. record {
       count = fit.count;
       same = fit.same;

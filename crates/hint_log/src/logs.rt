@@ -217,6 +217,14 @@ impl Log {
         self.limit
     }
 
+    /// Sets the most entries that count as steps: no fewer than there are.
+    pub fn set_limit(&mut self, limit: u64)
+        requires { steps_of self.old.entries ≤ limit }
+        ensures { self.new ≡ record self.old { limit = limit } }
+    {
+        self.limit = limit;
+    }
+
     /// What holds of every log. The call does nothing: its contract is for callers' proofs.
     pub fn every_log_is_lawful(&self)
         ensures { AreLogged self.now.entries }

@@ -133,6 +133,10 @@ pub trait Oracle {
     ghost round: { (s : Self) (log : ProofLog) (row values : List Bool) (j : ℕ) → Fits s log
         → Fits s (with_entry log (Round row values j)) };
 
+    /// Nor is how many steps the log may take.
+    ghost limit: { (s : Self) (log : ProofLog) (limit : ℕ) → Fits s log
+        → Fits s (record log { limit = limit }) };
+
     /// Nor is it when a search begins.
     ghost begun: { (s : Self) (log : ProofLog) (live : List ℕ) → Fits s log
         → Fits s (with_entry log (Begun live)) };
