@@ -105,6 +105,12 @@ clause_more es side clause lits more i l k lt at are is pushed =
     ap (map g) (take_more clause i l lt ∙ ap (λ j. take i clause ++ j ∷ []) at) ∙ map-append g (take i clause) (l ∷ []) in
     subst (λ ns. AreNamedAs es more ns) (sym taken) (subst (λ ls. AreNamedAs es ls (map g (take i clause) ++ g l ∷ [])) (sym pushed) (named_push es lits (map g (take i clause)) k (g l) are is))
 
+-- a copied literal behind copied literals
+pub copied_last : (es : List Entry) (side : ℕ) (originals lits : List Literal) (l : Literal) →
+    AreNamedAs es lits (copy_names side originals ++ named_literal (CopyOf side (variable_of l)) (is_negative l) ∷ []) → AreNamedAs es lits (copy_names side (originals ++ l ∷ []))
+copied_last es side originals lits l are =
+    subst (AreNamedAs es lits) (sym (map-append (λ k. named_literal (CopyOf side (variable_of k)) (is_negative k)) originals (l ∷ []))) are
+
 pub none_named : (side : ℕ) (vars : List ℕ) (log : ProofLog) (lits : List Literal) → lits ≡ [] → AreUncopied side vars log.entries → AreNamedSoFar side vars 0 log log lits
 none_named side vars log lits empty fresh = record {
   grew = λ f standing start names. grown_by_none (IsAddedBy f copies standing true start) log log refl;

@@ -1,12 +1,13 @@
 -- What an answer of the copies rests on: the first copy on one side, the second copy and equations on the other.
-use Rattle.std.proofs.Common.{◌≡◌, ◌⊎◌, ℕ, suc, ◌+◌, Bool, true, false, true≢false, cond, ◌&&◌, inl, inr, List, [], ◌∷◌, ◌++◌, map, Option, Some, None, IsSome, slice_get, refl, sym, ◌∙◌, ap, subst, arith}
-use Rattle.std.specs.List.{Contains, list_any}
+use Rattle.std.proofs.Common.{◌≡◌, ◌⊎◌, ℕ, suc, ◌+◌, ◌<◌, Bool, true, false, true≢false, cond, ◌&&◌, inl, inr, List, [], ◌∷◌, ◌++◌, map, length, Option, Some, None, IsSome, get_or, slice_get, refl, sym, ◌∙◌, ap, subst, arith}
+use Rattle.std.specs.List.{All, Contains, list_any}
 use Rattle.std.specs.Option.{option_and_then}
 use Rattle.std.proofs.lemmas.Bool.{or_cases, or_left, or_right, and_parts, eqb-true, eq-eqb}
+use Rattle.std.proofs.lemmas.List.Folds.{list_any-append}
+use Rattle.std.proofs.lemmas.Option.{slice_get-get_or}
 use Rattle.dq_lits.specs.Literal.{Literal, positive, negative, variable_of, is_negative, opposite, same_literal}
 use Rattle.dq_lits.specs.Derivation.{holds}
-use Rattle.dq_lits.specs.Formula.{Dqbf, Existential, declared}
-use Rattle.definition_order.specs.Order.{MayRead}
+use Rattle.dq_lits.specs.Formula.{Dqbf, declared}
 use Rattle.hint_log.specs.Conditions.{IsId, AreLogged}
 use Rattle.hint_log.specs.Deciding.{ReachesGiven}
 use Rattle.hint_log.specs.Entries.{Entry, Given, Answer, has_id, numbered, last_id, clause_of, clause_at, name_of}
@@ -28,10 +29,8 @@ use Rattle.oracle.specs.Calls.{assumed, IsMade, IsPlain}
 use Rattle.oracle.specs.Searched.{IsSearched}
 use Rattle.oracle.specs.declared.groups.Group.{Group}
 use Rattle.padoa_definitions.specs.Copies.{is_copy_of, is_link_of, group_variable, IsGroupGiven, copy_names, IsLink, IsPadoa}
-use Rattle.padoa_definitions.specs.Dividing.{IsCopyGiven, IsLinkGiven, IsSelectorLiteral, IsCopyLiteral, Divides, AreActive}
-use Rattle.padoa_definitions.specs.Seeing.{ArePlaces}
+use Rattle.padoa_definitions.specs.Dividing.{asked_of, IsRead, IsCopyGiven, IsLinkGiven, IsSelectorLiteral, IsCopyLiteral, Divides, AreActive}
 use Rattle.padoa_definitions.specs.declared.padoa.Padoa.{Padoa}
-use Rattle.padoa_definitions.proofs.CopiedVariables.{opposite_name}
 use Rattle.padoa_definitions.proofs.Reached.{IsOfCopies, IsOfAnswer, of_answer, is_given_entry, reached_given, earlier_stay, group_named, own_at}
 
 -- right clauses by their origins
@@ -56,15 +55,15 @@ copy_given es earlier f side (Copy s j) c stay test right =
       copied = subst (λ k. AreNamedAs es right.rest (copy_names k rest_is.clause)) same (named_stay earlier es stay right.rest (copy_names s rest_is.clause) rest_is.named);
     }
 
-link_given : (es earlier : List Entry) (f : Dqbf) (ranks : List ℕ) (y : Existential) (x : ℕ) (origin : Origin) (c : List Literal) → NamesStay earlier es → MayRead f ranks y x → is_link_of x origin ≡ true →
-    MatchesOrigin f earlier (Given origin c) → IsLinkGiven es f ranks y c
-link_given es earlier f ranks y x (Instance k j) c stay seen test right = cc
-link_given es earlier f ranks y x (Gate v i) c stay seen test right = cc
-link_given es earlier f ranks y x (Fault j i leaf) c stay seen test right = cc
-link_given es earlier f ranks y x (Copy s j) c stay seen test right = cc
-link_given es earlier f ranks y x (TermGate s j) c stay seen test right = cc
-link_given es earlier f ranks y x (Differ z leaf part) c stay seen test right = cc
-link_given es earlier f ranks y x (Link v i) c stay seen test right =
+link_given : (es earlier : List Entry) (f : Dqbf) (places : List ℕ) (x : ℕ) (origin : Origin) (c : List Literal) → NamesStay earlier es → IsRead f places x → is_link_of x origin ≡ true →
+    MatchesOrigin f earlier (Given origin c) → IsLinkGiven es f places c
+link_given es earlier f places x (Instance k j) c stay seen test right = cc
+link_given es earlier f places x (Gate v i) c stay seen test right = cc
+link_given es earlier f places x (Fault j i leaf) c stay seen test right = cc
+link_given es earlier f places x (Copy s j) c stay seen test right = cc
+link_given es earlier f places x (TermGate s j) c stay seen test right = cc
+link_given es earlier f places x (Differ z leaf part) c stay seen test right = cc
+link_given es earlier f places x (Link v i) c stay seen test right =
     let same : v ≡ x = eqb-true v x test in
     record {
       group = right.group;
@@ -73,7 +72,7 @@ link_given es earlier f ranks y x (Link v i) c stay seen test right =
       part = i;
       is_group = stay right.group (Selector right.group) right.is_group;
       clause_is = right.clause_is;
-      read = subst (MayRead f ranks y) (sym same) seen;
+      read = subst (IsRead f places) (sym same) seen;
       which = right.rest_is.0;
       named = named_stay earlier es stay right.rest (link_names v i) right.rest_is.1;
     }
@@ -106,13 +105,17 @@ as_positive (negative v) h = cc
 pub same_variable : (a b : ℕ) → positive a ≡ positive b → a ≡ b
 same_variable a b e = ap variable_of e
 
--- an assumption: a selector of one of the groups, or the existential's copies
-pub data IsAssumed (p : Padoa) (places : List ℕ) (one other : Literal) : Literal → Type 0 where
-  by_first : (l : Literal) → l ≡ p.first.group.selector → IsAssumed p places one other l
-  by_second : (l : Literal) → l ≡ p.second.group.selector → IsAssumed p places one other l
-  by_link : (l : Literal) (k : ℕ) (g : Group) → Contains places k → slice_get p.links.items k ≡ Some g → l ≡ g.selector → IsAssumed p places one other l
-  by_one : (l : Literal) → l ≡ one → IsAssumed p places one other l
-  by_other : (l : Literal) → l ≡ opposite other → IsAssumed p places one other l
+-- what stands at a place
+pub read_at : (f : Dqbf) (places : List ℕ) → All (λ k. k < length (declared f)) places → (k : ℕ) → Contains places k → (x : ℕ) × (slice_get (declared f) k ≡ Some x)
+read_at f places within k (i, lt, at) = (get_or (declared f) k 0, slice_get-get_or (declared f) k 0 (subst (λ n. n < length (declared f)) at (within i k lt)))
+
+-- an assumption: a selector of one of the groups, or a copy of what is asked
+pub data IsAssumed (p : Padoa) (places : List ℕ) (first second : List Literal) : Literal → Type 0 where
+  by_first : (l : Literal) → l ≡ p.first.group.selector → IsAssumed p places first second l
+  by_second : (l : Literal) → l ≡ p.second.group.selector → IsAssumed p places first second l
+  by_link : (l : Literal) (k : ℕ) (g : Group) → Contains places k → slice_get p.links.items k ≡ Some g → l ≡ g.selector → IsAssumed p places first second l
+  by_one : (l : Literal) → holds first l ≡ true → IsAssumed p places first second l
+  by_other : (l : Literal) → holds second l ≡ true → IsAssumed p places first second l
 
 pub holds_cases : (x : Literal) (xs : List Literal) (l : Literal) → holds (x ∷ xs) l ≡ true → (l ≡ x) ⊎ (holds xs l ≡ true)
 holds_cases x xs l h = elim (or_cases (same_literal l x) (holds xs l) h) [ inl same ↦ inl (same_literal-sound l x same) | inr later ↦ inr later ]
@@ -127,33 +130,52 @@ element_of (g ∷ gs) more l h = elim (holds_cases g.selector (map (λ x. x.sele
   ]
 ]
 
-pub which_assumed : (p : Padoa) (places : List ℕ) (active : List Group) (one other l : Literal) → AreActive p places active →
-    holds (assumed active (one ∷ opposite other ∷ [])) l ≡ true → IsAssumed p places one other l
-which_assumed p places active one other l are h =
-    let rest : List Literal = one ∷ opposite other ∷ [] in
+pub held_in_either : (xs ys : List Literal) (l : Literal) → holds (xs ++ ys) l ≡ true → (holds xs l ≡ true) ⊎ (holds ys l ≡ true)
+held_in_either xs ys l h = or_cases (holds xs l) (holds ys l) (sym (list_any-append (same_literal l) xs ys) ∙ h)
+
+pub which_assumed : (p : Padoa) (places : List ℕ) (active : List Group) (first second : List Literal) (l : Literal) → AreActive p places active → holds (assumed active (first ++ second)) l ≡ true →
+    IsAssumed p places first second l
+which_assumed p places active first second l are h =
+    let rest : List Literal = first ++ second in
     let spelled : holds (p.first.group.selector ∷ p.second.group.selector ∷ map (λ g. g.selector) are.links ++ rest) l ≡ true = sym (ap (λ gs. holds (assumed gs rest) l) are.active_is) ∙ h in
     elim (holds_cases p.first.group.selector (p.second.group.selector ∷ map (λ g. g.selector) are.links ++ rest) l spelled) [
-      | inl first ↦ by_first l first
+      | inl one ↦ by_first l one
       | inr behind ↦ elim (holds_cases p.second.group.selector (map (λ g. g.selector) are.links ++ rest) l behind) [
-        | inl second ↦ by_second l second
+        | inl two ↦ by_second l two
         | inr further ↦ elim (element_of are.links rest l further) [
           | inl link ↦ (let r = are.sound link.0 link.1 in by_link l r.0 link.0 r.1 r.2 link.2)
-          | inr last ↦ elim (holds_cases one (opposite other ∷ []) l last) [
-            | inl is_one ↦ by_one l is_one
-            | inr very_last ↦ elim (holds_cases (opposite other) [] l very_last) [ inl is_other ↦ by_other l is_other | inr none ↦ cc ]
-          ]
+          | inr last ↦ elim (held_in_either first second l last) [ inl in_first ↦ by_one l in_first | inr in_second ↦ by_other l in_second ]
         ]
       ]
     ]
 
-module _ (f : Dqbf) (ranks : List ℕ) (y : Existential) (p : Padoa) (places : List ℕ) (active : List Group) (one other : Literal) (es before : List Entry) (clause : List Literal) (hints : List ℕ)
+-- a literal that is named as a copy is a copy of one of the literals that were copied
+pub copy_among : (es : List Entry) (side : ℕ) (originals lits : List Literal) → AreNamedAs es lits (copy_names side originals) → (l : Literal) → holds lits l ≡ true → IsCopyLiteral es side originals l
+copy_among es side originals [] are l h = cc
+copy_among es side [] (k ∷ lits) are l h = cc
+copy_among es side (o ∷ originals) (k ∷ lits) are l h =
+    let here : name_literal es k ≡ Some (named_literal (CopyOf side (variable_of o)) (is_negative o)) = cc in
+    let later : map (name_literal es) lits ≡ map Some (copy_names side originals) = cc in
+    elim (holds_cases k lits l h) [
+      | inl same ↦ record { original = o; among = or_left (same_literal o o) (holds originals o) (same_literal-refl o); named = ap (name_literal es) same ∙ here }
+      | inr behind ↦ (
+          let r = copy_among es side originals lits later l behind in
+          record { original = r.original; among = or_right (same_literal r.original o) (holds originals r.original) r.among; named = r.named })
+    ]
+
+-- so it is no selector
+pub copy_name : (es : List Entry) (side : ℕ) (originals : List Literal) (l : Literal) (c : IsCopyLiteral es side originals l) →
+    (name_of es (variable_of l) ≡ Some (CopyOf side (variable_of c.original))) × (is_negative l ≡ is_negative c.original)
+copy_name es side originals l c = named_variable es l (CopyOf side (variable_of c.original)) (is_negative c.original) (name_of es (variable_of l)) refl c.named
+
+module _ (f : Dqbf) (v : ℕ) (conditions : List Literal) (p : Padoa) (places : List ℕ) (active : List Group) (ones others : List Literal) (es before : List Entry) (clause : List Literal) (hints : List ℕ)
     (stays : (e : Entry) (entries : List Entry) (id : ℕ) → IsId entries id → numbered has_id (e ∷ entries) id ≡ numbered has_id entries id)
     (are_ids : (entries : List Entry) (id i : ℕ) → AreLogged entries → IsId entries id → Reaches entries id i → IsId entries i)
     (es_is : es ≡ Answer clause hints ∷ before) (searched : IsSearched (Answer clause hints ∷ before)) (padoa : IsPadoa f p (Answer clause hints ∷ before))
-    (are_places : ArePlaces (declared f) (MayRead f ranks y) places) (are_active : AreActive p places active)
-    (one_is : name_literal (Answer clause hints ∷ before) one ≡ Some (named_literal (CopyOf 1 y.variable) false))
-    (other_is : name_literal (Answer clause hints ∷ before) other ≡ Some (named_literal (CopyOf 2 y.variable) false))
-    (negated : (l : Literal) → holds clause l ≡ true → holds (assumed active (one ∷ opposite other ∷ [])) (opposite l) ≡ true) where
+    (within : All (λ k. k < length (declared f)) places) (are_active : AreActive p places active)
+    (ones_are : AreNamedAs (Answer clause hints ∷ before) ones (copy_names 1 (asked_of conditions (positive v))))
+    (others_are : AreNamedAs (Answer clause hints ∷ before) others (copy_names 2 (asked_of conditions (negative v))))
+    (negated : (l : Literal) → holds clause l ≡ true → holds (assumed active (ones ++ others)) (opposite l) ≡ true) where
   abbrev all : List Entry
   all = Answer clause hints ∷ before
 
@@ -161,27 +183,20 @@ module _ (f : Dqbf) (ranks : List ℕ) (y : Existential) (p : Padoa) (places : L
   first = group_variable p.first.group
 
   abbrev a_side : List Literal
-  a_side = p.first.group.selector ∷ one ∷ []
+  a_side = p.first.group.selector ∷ ones
 
-  one_named : (name_of all (variable_of one) ≡ Some (CopyOf 1 y.variable)) × (is_negative one ≡ false)
-  one_named = named_variable all one (CopyOf 1 y.variable) false (name_of all (variable_of one)) refl one_is
+  first_copy : (l : Literal) → holds ones l ≡ true → IsCopyLiteral all 1 (asked_of conditions (positive v)) l
+  first_copy = copy_among all 1 (asked_of conditions (positive v)) ones ones_are
 
-  other_named : (name_of all (variable_of other) ≡ Some (CopyOf 2 y.variable)) × (is_negative other ≡ false)
-  other_named = named_variable all other (CopyOf 2 y.variable) false (name_of all (variable_of other)) refl other_is
+  second_copy : (l : Literal) → holds others l ≡ true → IsCopyLiteral all 2 (asked_of conditions (negative v)) l
+  second_copy = copy_among all 2 (asked_of conditions (negative v)) others others_are
 
   selector_is : (g : Group) → IsMade all g → g.selector ≡ positive (group_variable g)
   selector_is g made = as_positive g.selector made.positive
 
-  not_one : (g : ℕ) (l : Literal) → l ≡ positive g → name_of all g ≡ Some (Selector g) → l ≡ one → ⊥
-  not_one g l is named same =
-      selector_not_copy (name_of all g) g 1 y.variable named (ap (name_of all) (ap variable_of (sym is ∙ same)) ∙ one_named.0)
-
-  negative_opposite : (l : Literal) → is_negative l ≡ false → opposite l ≡ negative (variable_of l)
-  negative_opposite (positive v) h = refl
-  negative_opposite (negative v) h = cc
-
-  not_other : (g : ℕ) → positive g ≡ opposite other → ⊥
-  not_other g same = let e : positive g ≡ negative (variable_of other) = same ∙ negative_opposite other other_named.1 in cc
+  not_copy : (side : ℕ) (originals : List Literal) (g : ℕ) (l : Literal) → l ≡ positive g → name_of all g ≡ Some (Selector g) → IsCopyLiteral all side originals l → ⊥
+  not_copy side originals g l is named copy =
+      selector_not_copy (name_of all g) g side (variable_of copy.original) named (ap (name_of all) (ap variable_of (sym is)) ∙ (copy_name all side originals l copy).0)
 
   -- the group of a given clause that is reached
   module _ (origin : Origin) (c : List Literal) (is : IsOfAnswer before clause origin c) where
@@ -200,23 +215,23 @@ module _ (f : Dqbf) (ranks : List ℕ) (y : Existential) (p : Padoa) (places : L
     data IsInSome : Type 0 where
       in_first : g ≡ first → IsInSome
       in_second : g ≡ group_variable p.second.group → IsInSome
-      in_link : (k x : ℕ) (link : Group) → MayRead f ranks y x → IsLink f x link all → g ≡ group_variable link → IsInSome
+      in_link : (k x : ℕ) (link : Group) → IsRead f places x → IsLink f x link all → g ≡ group_variable link → IsInSome
 
     group_of : (h : Group) → IsMade all h → positive g ≡ h.selector → g ≡ group_variable h
     group_of h made same = same_variable g (group_variable h) (same ∙ selector_is h made)
 
-    in_some : IsAssumed p places one other (positive g) → IsInSome
+    in_some : IsAssumed p places ones others (positive g) → IsInSome
     in_some (by_first l same) = in_first (group_of p.first.group padoa.first.made same)
     in_some (by_second l same) = in_second (group_of p.second.group padoa.second.made same)
     in_some (by_link l k h among at same) =
-        let r = are_places.sound k among in
+        let r = read_at f places within k among in
         let link = padoa.links k r.0 h r.1 at in
-        in_link k r.0 h r.2 link (group_of h link.made same)
-    in_some (by_one l same) = absurd (not_one g (positive g) refl g_named same)
-    in_some (by_other l same) = absurd (not_other g same)
+        in_link k r.0 h (k, r.1, among) link (group_of h link.made same)
+    in_some (by_one l held) = absurd (not_copy 1 (asked_of conditions (positive v)) g (positive g) refl g_named (first_copy (positive g) held))
+    in_some (by_other l held) = absurd (not_copy 2 (asked_of conditions (negative v)) g (positive g) refl g_named (second_copy (positive g) held))
 
     classified : IsInSome
-    classified = in_some (which_assumed p places active one other (positive g) are_active (negated (negative g) is.kept))
+    classified = in_some (which_assumed p places active ones others (positive g) are_active (negated (negative g) is.kept))
 
     is_of_copies : IsOfCopies origin
     is_of_copies = by classified
@@ -233,12 +248,9 @@ module _ (f : Dqbf) (ranks : List ℕ) (y : Existential) (p : Padoa) (places : L
         let l = w.0 in
         let both = and_parts (holds a_side (opposite l)) (is_selector all (variable_of l)) w.2 in
         elim (holds_cases (negative g) is.grouped.rest l w.1) [
-          | inl here ↦ elim (holds_cases p.first.group.selector (one ∷ []) (opposite l) both.0) [
+          | inl here ↦ elim (holds_cases p.first.group.selector ones (opposite l) both.0) [
             | inl switch ↦ group_of p.first.group padoa.first.made (sym (ap opposite here) ∙ switch)
-            | inr last ↦ elim (holds_cases one [] (opposite l) last) [
-              | inl is_one ↦ absurd (not_one g (opposite l) (ap opposite here) g_named is_one)
-              | inr none ↦ cc
-            ]
+            | inr last ↦ absurd (not_copy 1 (asked_of conditions (positive v)) g (opposite l) (ap opposite here) g_named (first_copy (opposite l) last))
           ]
           | inr later ↦ absurd (not_plain l (is.grouped.plain l later) both.1)
         ]
@@ -256,21 +268,21 @@ module _ (f : Dqbf) (ranks : List ℕ) (y : Existential) (p : Padoa) (places : L
     on_a_first same =
         let test : Literal → Bool = λ l. holds a_side (opposite l) && is_selector all (variable_of l) in
         let switch : p.first.group.selector ≡ positive g = selector_is p.first.group padoa.first.made ∙ ap positive (sym same) in
-        let held : holds a_side (positive g) ≡ true = or_left (same_literal (positive g) p.first.group.selector) (holds (one ∷ []) (positive g)) (ap (same_literal (positive g)) switch ∙ same_literal-refl (positive g)) in
+        let held : holds a_side (positive g) ≡ true = or_left (same_literal (positive g) p.first.group.selector) (holds ones (positive g)) (ap (same_literal (positive g)) switch ∙ same_literal-refl (positive g)) in
         let here : test (negative g) ≡ true = ap (λ b. b && is_selector all g) held ∙ ap is_selector_name g_named in
         ap (list_any test) is.grouped.clause_is ∙ or_left (test (negative g)) (list_any test is.grouped.rest) here
 
     pub a_clause : list_any (λ l. holds a_side (opposite l) && is_selector all (variable_of l)) c ≡ true → IsCopyGiven all f 1 c
     a_clause h = let r = own (is_copy_of 1) first (on_a_group h) padoa.first.own in copy_given all is.earlier f 1 origin c stay r.0 r.1
 
-    pub b_clause : list_any (λ l. holds a_side (opposite l) && is_selector all (variable_of l)) c ≡ false → IsCopyGiven all f 2 c ⊎ IsLinkGiven all f ranks y c
+    pub b_clause : list_any (λ l. holds a_side (opposite l) && is_selector all (variable_of l)) c ≡ false → IsCopyGiven all f 2 c ⊎ IsLinkGiven all f places c
     b_clause h = by classified
       where
-        by : IsInSome → IsCopyGiven all f 2 c ⊎ IsLinkGiven all f ranks y c
+        by : IsInSome → IsCopyGiven all f 2 c ⊎ IsLinkGiven all f places c
         by (in_first same) = absurd (true≢false (sym (on_a_first same) ∙ h))
         by (in_second same) = let r = own (is_copy_of 2) (group_variable p.second.group) same padoa.second.own in inl (copy_given all is.earlier f 2 origin c stay r.0 r.1)
         by (in_link k x link seen is_link same) =
-            let r = own (is_link_of x) (group_variable link) same is_link.own in inr (link_given all is.earlier f ranks y x origin c stay seen r.0 r.1)
+            let r = own (is_link_of x) (group_variable link) same is_link.own in inr (link_given all is.earlier f places x origin c stay seen r.0 r.1)
 
   selector_literal : (h : Group) → IsMade all h → (l : Literal) → l ≡ h.selector → IsSelectorLiteral all l
   selector_literal h made l same = (group_variable h, same ∙ selector_is h made, made.named)
@@ -293,28 +305,28 @@ module _ (f : Dqbf) (ranks : List ℕ) (y : Existential) (p : Padoa) (places : L
         let same : clause ≡ o.clause = cc in
         ap (λ ls. holds ls (opposite l)) same ∙ o.negated
 
-    in_a : (l : Literal) → (l ≡ p.first.group.selector) ⊎ (l ≡ one) → holds a_side l ≡ true
-    in_a l (inl same) = or_left (same_literal l p.first.group.selector) (holds (one ∷ []) l) (ap (same_literal l) (sym same) ∙ same_literal-refl l)
-    in_a l (inr same) = or_right (same_literal l p.first.group.selector) (holds (one ∷ []) l) (or_left (same_literal l one) false (ap (same_literal l) (sym same) ∙ same_literal-refl l))
+    in_a : (l : Literal) → (l ≡ p.first.group.selector) ⊎ (holds ones l ≡ true) → holds a_side l ≡ true
+    in_a l (inl same) = or_left (same_literal l p.first.group.selector) (holds ones l) (ap (same_literal l) (sym same) ∙ same_literal-refl l)
+    in_a l (inr held) = or_right (same_literal l p.first.group.selector) (holds ones l) held
 
-    other_kind : (l : Literal) → holds a_side l ≡ false → IsAssumed p places one other l → IsSelectorLiteral all l ⊎ IsCopyLiteral all 2 y.variable true l
+    other_kind : (l : Literal) → holds a_side l ≡ false → IsAssumed p places ones others l → IsSelectorLiteral all l ⊎ IsCopyLiteral all 2 (asked_of conditions (negative v)) l
     other_kind l none (by_first k same) = absurd (true≢false (sym (in_a l (inl same)) ∙ none))
     other_kind l none (by_second k same) = inl (selector_literal p.second.group padoa.second.made l same)
     other_kind l none (by_link k place h among at same) =
-        let r = are_places.sound place among in inl (selector_literal h (padoa.links place r.0 h r.1 at).made l same)
-    other_kind l none (by_one k same) = absurd (true≢false (sym (in_a l (inr same)) ∙ none))
-    other_kind l none (by_other k same) = inr (ap (name_literal all) same ∙ opposite_name all other (CopyOf 2 y.variable) other_is)
+        let r = read_at f places within place among in inl (selector_literal h (padoa.links place r.0 h r.1 at).made l same)
+    other_kind l none (by_one k held) = absurd (true≢false (sym (in_a l (inr held)) ∙ none))
+    other_kind l none (by_other k held) = inr (second_copy l held)
 
-    pub divides : Divides f ranks y q
+    pub divides : Divides f places v conditions q
     divides = record {
       a_given = λ at c given on_a. let e = given_entry at c given in a_clause e.0 c (from_given at c given e) on_a;
       b_given = λ at c given on_b. let e = given_entry at c given in b_clause e.0 c (from_given at c given e) on_b;
-      assumed = λ l h. elim (holds_cases p.first.group.selector (one ∷ []) l h) [
+      assumed = λ l h. elim (holds_cases p.first.group.selector ones l h) [
         | inl switch ↦ inl (selector_literal p.first.group padoa.first.made l switch)
-        | inr last ↦ elim (holds_cases one [] l last) [ inl is_one ↦ inr (ap (name_literal all) is_one ∙ one_is) | inr none ↦ cc ]
+        | inr held ↦ inr (first_copy l held)
       ];
       others = λ l other_l. other_kind l other_l.not_a
-          (which_assumed p places active one other l are_active (ap (holds (assumed active (one ∷ opposite other ∷ []))) (sym (opposite-opposite l)) ∙ negated (opposite l) (answer_holds l other_l)));
+          (which_assumed p places active ones others l are_active (ap (holds (assumed active (ones ++ others))) (sym (opposite-opposite l)) ∙ negated (opposite l) (answer_holds l other_l)));
     }
 
   pub only_copies : (origin : Origin) (c : List Literal) → ReachesGiven before hints origin c → IsOfCopies origin

@@ -2,11 +2,10 @@
 use Rattle.std.proofs.Common.{◌≡◌, ℕ, ◌+◌, true, cond, inl, inr, List, [], ◌∷◌, Some, IsSome, get_or, refl, sym, ◌∙◌, ap, subst, arith}
 use Rattle.std.specs.List.{All}
 use Rattle.std.specs.Option.{option_and_then}
-use Rattle.std.proofs.lemmas.Bool.{eq-eqb, or_cases}
-use Rattle.std.proofs.lemmas.List.Elements.{All-head, All-tail}
+use Rattle.std.proofs.lemmas.Bool.{eq-eqb}
 use Rattle.dq_lits.specs.Derivation.{holds}
 use Rattle.dq_lits.specs.Formula.{Dqbf}
-use Rattle.dq_lits.specs.Literal.{Literal, positive, negative, variable_of, opposite, same_literal}
+use Rattle.dq_lits.specs.Literal.{Literal, positive, negative, variable_of, opposite}
 use Rattle.hint_log.specs.Conditions.{IsId, AreLogged}
 use Rattle.hint_log.specs.Deciding.{ReachesGiven}
 use Rattle.hint_log.specs.Entries.{Entry, Answer, ProofLog, has_id, numbered, last_id, clause_of, name_of}
@@ -15,7 +14,6 @@ use Rattle.hint_log.specs.Naming.{is_selector_name}
 use Rattle.hint_log.specs.Reached.{Reaches}
 use Rattle.hint_log.specs.declared.names.Name.TheVariants.{Copy as CopyOf}
 use Rattle.hint_log.specs.declared.origins.Origin.{Origin}
-use Rattle.interpolants.proofs.Truth.{same_literal-sound}
 use Rattle.log_laws.specs.Engines.{copies, IsAddedBy}
 use Rattle.log_laws.proofs.ReachedClauses.{answer_true}
 use Rattle.oracle.specs.Calls.{IsPlain, IsRefutedUnder, assumed}
@@ -26,15 +24,8 @@ use Rattle.padoa_definitions.specs.Ruling.{copied_assignment, AreFirstCopies, Sh
 use Rattle.padoa_definitions.specs.declared.padoa.Padoa.{Padoa}
 use Rattle.padoa_definitions.proofs.SearchAnswers.{answered, answer_last, padoa_answered, names_answered, silent_grew}
 use Rattle.padoa_definitions.proofs.DividedAnswers.{copy_given, of_copies, selector_not_copy, holds_cases, as_positive, same_variable}
-use Rattle.padoa_definitions.proofs.LinkedInterpolants.{copy_given_true}
+use Rattle.padoa_definitions.proofs.LinkedInterpolants.{copy_given_true, held_of_all}
 use Rattle.padoa_definitions.proofs.Reached.{LinesAreImplied, of_answer, earlier_stay, group_named, own_at, undecided_answer}
-
-pub held_of_all : (P : Literal → Type 0) (xs : List Literal) → All P xs → (l : Literal) → holds xs l ≡ true → P l
-held_of_all P [] all l h = cc
-held_of_all P (x ∷ xs) all l h = elim (or_cases (same_literal l x) (holds xs l) h) [
-  | inl same ↦ subst P (sym (same_literal-sound l x same)) (All-head P x xs all)
-  | inr later ↦ held_of_all P xs (All-tail P x xs all) l later
-]
 
 pub first_plain : (es : List Entry) (lits : List Literal) → AreFirstCopies es lits → All (IsPlain es) lits
 first_plain es lits are i d lt =

@@ -5,12 +5,11 @@ use Rattle.std.specs.Option.{option_and_then}
 use Rattle.std.proofs.lemmas.Bool.{cases_Bool, eqb-true, eq-eqb, ne_eqb, or_cases}
 use Rattle.std.proofs.lemmas.List.Folds.{list_any_at}
 use Rattle.std.proofs.lemmas.List.{length-map}
-use Rattle.std.proofs.lemmas.List.Elements.{All-head, All-tail, Contains-append_cases}
+use Rattle.std.proofs.lemmas.List.Elements.{All-head, All-tail, All-cons, All-nil, All-push, Contains-append_cases}
 use Rattle.std.proofs.lemmas.Option.{slice_get-get_or, slice_get_within}
-use Rattle.dq_lits.specs.Literal.{Assignment, Literal, positive, negative, variable_of, is_negative, opposite, literal_true, clause_true}
+use Rattle.dq_lits.specs.Literal.{Assignment, Literal, positive, negative, variable_of, is_negative, literal_true, clause_true}
 use Rattle.dq_lits.specs.Derivation.{MakesTrue}
-use Rattle.dq_lits.specs.Formula.{Dqbf, Existential, IsWellFormed, declared, is_universal}
-use Rattle.definition_order.specs.Order.{MayRead}
+use Rattle.dq_lits.specs.Formula.{Dqbf, IsWellFormed, declared, is_universal}
 use Rattle.dq_lits.specs.Expansion.{row_assignment}
 use Rattle.dq_lits.specs.Henkin.{MatrixHolds}
 use Rattle.dq_lits.specs.Row.{assignment_of}
@@ -25,9 +24,9 @@ use Rattle.log_laws.proofs.Found.{named_variable}
 use Rattle.oracle.specs.Calls.{IsMade, assumed}
 use Rattle.oracle.specs.declared.groups.Group.{Group}
 use Rattle.padoa_definitions.specs.Copies.{group_variable, AreCopiesOf, copies_of, copy_names, IsMatrixCopy, IsLink, IsPadoa}
-use Rattle.padoa_definitions.specs.Defining.{IsSample, IsFreePair}
-use Rattle.padoa_definitions.specs.Dividing.{values_at, IsPairOf, ModelsCopies}
-use Rattle.padoa_definitions.specs.Seeing.{ArePlaces}
+use Rattle.padoa_definitions.specs.Defining.{IsSample}
+use Rattle.padoa_definitions.specs.Dividing.{IsQuestion, asked_of, IsAsked, IsRead, values_at, IsPairOf, ModelsCopies, IsPairAt}
+use Rattle.padoa_definitions.specs.declared.asking.Asked.{Asked}
 use Rattle.padoa_definitions.specs.declared.copies.MatrixCopy.{MatrixCopy}
 use Rattle.padoa_definitions.specs.declared.defining.Pair.{Pair}
 use Rattle.padoa_definitions.specs.declared.padoa.Padoa.{Padoa}
@@ -120,6 +119,26 @@ module _ (f : Dqbf) (es : List Entry) (values : Assignment) (formula : IsWellFor
       ]
     ]
 
+    copied_literal_true : (l k : Literal) → Contains (declared f) (variable_of l) → name_literal es k ≡ Some (named_literal (CopyOf side (variable_of l)) (is_negative l)) →
+        literal_true values k ≡ literal_true m l
+    copied_literal_true l k among is =
+        let named = named_variable es k (CopyOf side (variable_of l)) (is_negative l) (name_of es (variable_of k)) refl is in
+        literal_signed values k ∙ ap (λ b. signed b (values (variable_of k))) named.1 ∙ ap (signed (is_negative l)) (sym (copied_value (variable_of l) (variable_of k) among named.0))
+        ∙ sym (literal_signed m l)
+
+    -- what was copied is true where its copies are
+    pub originals_true : (ls ks : List Literal) → All (λ l. Contains (declared f) (variable_of l)) ls → AreNamedAs es ks (copy_names side ls) → All (λ l. literal_true values l ≡ true) ks →
+        All (λ l. literal_true m l ≡ true) ls
+    originals_true [] ks bound are on = All-nil (λ l. literal_true m l ≡ true)
+    originals_true (l ∷ ls) [] bound are on = cc
+    originals_true (l ∷ ls) (k ∷ ks) bound are on =
+        let here : name_literal es k ≡ Some (named_literal (CopyOf side (variable_of l)) (is_negative l)) = cc in
+        let later : map (name_literal es) ks ≡ map Some (copy_names side ls) = cc in
+        let P : Literal → Type 0 = λ j. Contains (declared f) (variable_of j) in
+        let Q : Literal → Type 0 = λ j. literal_true values j ≡ true in
+        All-cons (λ j. literal_true m j ≡ true) l ls (sym (copied_literal_true l k (All-head P l ls bound) here) ∙ All-head Q k ks on)
+        (originals_true ls ks (All-tail P l ls bound) later (All-tail Q k ks on))
+
     copied_clause_true : (ls ks : List Literal) → All (λ l. Contains (declared f) (variable_of l)) ls → AreNamedAs es ks (copy_names side ls) → clause_true values ks ≡ clause_true m ls
     copied_clause_true [] [] bound are = refl
     copied_clause_true [] (k ∷ ks) bound are = cc
@@ -127,12 +146,8 @@ module _ (f : Dqbf) (es : List Entry) (values : Assignment) (formula : IsWellFor
     copied_clause_true (l ∷ ls) (k ∷ ks) bound are =
         let here : name_literal es k ≡ Some (named_literal (CopyOf side (variable_of l)) (is_negative l)) = cc in
         let later : map (name_literal es) ks ≡ map Some (copy_names side ls) = cc in
-        let named = named_variable es k (CopyOf side (variable_of l)) (is_negative l) (name_of es (variable_of k)) refl here in
         let P : Literal → Type 0 = λ j. Contains (declared f) (variable_of j) in
-        let same : literal_true values k ≡ literal_true m l =
-        literal_signed values k ∙ ap (λ b. signed b (values (variable_of k))) named.1
-        ∙ ap (signed (is_negative l)) (sym (copied_value (variable_of l) (variable_of k) (All-head P l ls bound) named.0)) ∙ sym (literal_signed m l) in
-        ap (λ b. b || clause_true values ks) same ∙ ap (λ b. literal_true m l || b) (copied_clause_true ls ks (All-tail P l ls bound) later)
+        ap (λ b. b || clause_true values ks) (copied_literal_true l k (All-head P l ls bound) here) ∙ ap (λ b. literal_true m l || b) (copied_clause_true ls ks (All-tail P l ls bound) later)
 
     pub matrix_holds : MatrixHolds f m
     matrix_holds j d lt =
@@ -186,14 +201,6 @@ module _ (f : Dqbf) (es : List Entry) (values : Assignment) (formula : IsWellFor
       both false true d u = cc
       both false false d u = refl
 
-opposite_true : (values : Assignment) (l : Literal) → is_negative l ≡ false → literal_true values (opposite l) ≡ true → values (variable_of l) ≡ false
-opposite_true values (positive v) plain h = turned (values v) h
-  where
-    turned : (b : Bool) → not b ≡ true → b ≡ false
-    turned false h = refl
-    turned true h = cc
-opposite_true values (negative v) plain h = cc
-
 pub positive_true : (values : Assignment) (l : Literal) → is_negative l ≡ false → literal_true values l ≡ true → values (variable_of l) ≡ true
 positive_true values (positive v) plain h = h
 positive_true values (negative v) plain h = cc
@@ -221,71 +228,85 @@ literal_at [] k lt = absurd (omega (arith, lt))
 literal_at (l ∷ ls) zero lt = (l, refl)
 literal_at (l ∷ ls) (suc k) lt = literal_at ls k (omega (arith, lt))
 
-pub free_pair : (f : Dqbf) (ranks : List ℕ) (y : Existential) (p : Padoa) (places : List ℕ) (one other : Literal) (es : List Entry) (values : Assignment) (pair : Pair) → IsWellFormed f →
-    ((v w : ℕ) (name : Name) → name_of es v ≡ Some name → name_of es w ≡ Some name → v ≡ w) → IsPadoa f p es → ArePlaces (declared f) (MayRead f ranks y) places →
-    Contains (declared f) y.variable →
-    name_literal es one ≡ Some (named_literal (CopyOf 1 y.variable) false) → name_literal es other ≡ Some (named_literal (CopyOf 2 y.variable) false) →
-    ModelsCopies p places one other values es → IsPairOf p values pair → IsFreePair f ranks y pair
-free_pair f ranks y p places one other es values pair formula unique padoa are_places y_declared one_is other_is models are = record {
-  first = sample f es values formula unique live 1 p.first padoa.first pair.row1 pair.values1 are.row1 are.values1 first_on;
-  second = sample f es values formula unique live 2 p.second padoa.second pair.row2 pair.values2 are.row2 are.values2 second_on;
-  agree = agree_at;
-  is_true = value1 y.variable (variable_of one) y_declared one_named.0 ∙ positive_true values one one_named.1 (All-head (λ l. literal_true values l ≡ true) one (opposite other ∷ []) links.1);
-  is_false = value2 y.variable (variable_of other) y_declared other_named.0
-      ∙ opposite_true values other other_named.1 (All-head (λ l. literal_true values l ≡ true) (opposite other) [] (All-tail (λ l. literal_true values l ≡ true) one (opposite other ∷ []) links.1));
-}
-  where
-    live : MakesTrue values (clause_at es)
-    live = models.model.clauses
+pub all_parts : (P : Literal → Type 0) (xs ys : List Literal) → All P (xs ++ ys) → All P xs × All P ys
+all_parts P [] ys all = (All-nil P, all)
+all_parts P (x ∷ xs) ys all = let rest = all_parts P xs ys (All-tail P x (xs ++ ys) all) in (All-cons P x xs (All-head P x (xs ++ ys) all) rest.0, rest.1)
 
-    all : All (λ l. literal_true values l ≡ true) (p.first.group.selector ∷ p.second.group.selector ∷ map (λ g. g.selector) models.are_active.links ++ one ∷ opposite other ∷ [])
-    all = subst (λ gs. All (λ l. literal_true values l ≡ true) (assumed gs (one ∷ opposite other ∷ []))) models.are_active.active_is models.model.assumptions_true
+-- the pair that a search found
+module _ (f : Dqbf) (places : List ℕ) (v : ℕ) (conditions : List Literal) (p : Padoa) (asked : Asked) (es : List Entry) (values : Assignment) (pair : Pair) (formula : IsWellFormed f)
+    (unique : (v w : ℕ) (name : Name) → name_of es v ≡ Some name → name_of es w ≡ Some name → v ≡ w) (padoa : IsPadoa f p es) (posed : IsQuestion f places v conditions)
+    (asked_there : IsAsked es v conditions asked) (models : ModelsCopies p places (asked.first.items ++ asked.second.items) values es) (are : IsPairOf p values pair) where
+  abbrev both : List Literal
+  both = asked.first.items ++ asked.second.items
 
-    behind : All (λ l. literal_true values l ≡ true) (p.second.group.selector ∷ map (λ g. g.selector) models.are_active.links ++ one ∷ opposite other ∷ [])
-    behind = All-tail (λ l. literal_true values l ≡ true) p.first.group.selector (p.second.group.selector ∷ map (λ g. g.selector) models.are_active.links ++ one ∷ opposite other ∷ []) all
+  abbrev switches : List Literal
+  switches = map (λ g. g.selector) models.are_active.links
 
-    links : ((g : Group) → Contains models.are_active.links g → literal_true values g.selector ≡ true) × All (λ l. literal_true values l ≡ true) (one ∷ opposite other ∷ [])
-    links = all_there (λ l. literal_true values l ≡ true) models.are_active.links (one ∷ opposite other ∷ []) (All-tail (λ l. literal_true values l ≡ true) p.second.group.selector (map (λ g. g.selector) models.are_active.links ++ one ∷ opposite other ∷ []) behind)
+  abbrev m1 : Assignment
+  m1 = round_assignment f pair.row1 pair.values1
 
-    switch_on : (g : Group) → IsMade es g → literal_true values g.selector ≡ true → values (group_variable g) ≡ true
-    switch_on g made h = positive_true values g.selector made.positive h
+  abbrev m2 : Assignment
+  m2 = round_assignment f pair.row2 pair.values2
 
-    first_on : values (group_variable p.first.group) ≡ true
-    first_on = switch_on p.first.group padoa.first.made (All-head (λ l. literal_true values l ≡ true) p.first.group.selector (p.second.group.selector ∷ map (λ g. g.selector) models.are_active.links ++ one ∷ opposite other ∷ []) all)
+  live : MakesTrue values (clause_at es)
+  live = models.model.clauses
 
-    second_on : values (group_variable p.second.group) ≡ true
-    second_on = switch_on p.second.group padoa.second.made (All-head (λ l. literal_true values l ≡ true) p.second.group.selector (map (λ g. g.selector) models.are_active.links ++ one ∷ opposite other ∷ []) behind)
+  all : All (λ l. literal_true values l ≡ true) (p.first.group.selector ∷ p.second.group.selector ∷ switches ++ both)
+  all = subst (λ gs. All (λ l. literal_true values l ≡ true) (assumed gs both)) models.are_active.active_is models.model.assumptions_true
 
-    value1 : (v w : ℕ) → Contains (declared f) v → name_of es w ≡ Some (CopyOf 1 v) → round_assignment f pair.row1 pair.values1 v ≡ values w
-    value1 = copied_value f es values formula unique live 1 p.first padoa.first pair.row1 pair.values1 are.row1 are.values1 first_on
+  behind : All (λ l. literal_true values l ≡ true) (p.second.group.selector ∷ switches ++ both)
+  behind = All-tail (λ l. literal_true values l ≡ true) p.first.group.selector (p.second.group.selector ∷ switches ++ both) all
 
-    value2 : (v w : ℕ) → Contains (declared f) v → name_of es w ≡ Some (CopyOf 2 v) → round_assignment f pair.row2 pair.values2 v ≡ values w
-    value2 = copied_value f es values formula unique live 2 p.second padoa.second pair.row2 pair.values2 are.row2 are.values2 second_on
+  links : ((g : Group) → Contains models.are_active.links g → literal_true values g.selector ≡ true) × All (λ l. literal_true values l ≡ true) both
+  links = all_there (λ l. literal_true values l ≡ true) models.are_active.links both (All-tail (λ l. literal_true values l ≡ true) p.second.group.selector (switches ++ both) behind)
 
-    one_named : (name_of es (variable_of one) ≡ Some (CopyOf 1 y.variable)) × (is_negative one ≡ false)
-    one_named = named_variable es one (CopyOf 1 y.variable) false (name_of es (variable_of one)) refl one_is
+  in_both : All (λ l. literal_true values l ≡ true) asked.first.items × All (λ l. literal_true values l ≡ true) asked.second.items
+  in_both = all_parts (λ l. literal_true values l ≡ true) asked.first.items asked.second.items links.1
 
-    other_named : (name_of es (variable_of other) ≡ Some (CopyOf 2 y.variable)) × (is_negative other ≡ false)
-    other_named = named_variable es other (CopyOf 2 y.variable) false (name_of es (variable_of other)) refl other_is
+  switch_on : (g : Group) → IsMade es g → literal_true values g.selector ≡ true → values (group_variable g) ≡ true
+  switch_on g made h = positive_true values g.selector made.positive h
 
-    -- the copy at a place has a name
-    copy_named : (side : ℕ) (lits : List Literal) → AreCopiesOf es side (declared f) lits → (k x : ℕ) → slice_get (declared f) k ≡ Some x → (w : ℕ) × (name_of es w ≡ Some (CopyOf side x))
-    copy_named side lits named k x at =
-        let lt = slice_get_within (declared f) k x at in
-        let long = copies_long es side (declared f) lits named in
-        let l = literal_at lits k (omega (arith, lt, long)) in
-        let is = copy_at es side (declared f) lits k x l.0 named at l.1 in
-        (variable_of l.0, (named_variable es l.0 (CopyOf side x) false (name_of es (variable_of l.0)) refl is).0)
+  first_on : values (group_variable p.first.group) ≡ true
+  first_on = switch_on p.first.group padoa.first.made (All-head (λ l. literal_true values l ≡ true) p.first.group.selector (p.second.group.selector ∷ switches ++ both) all)
 
-    agree_at : (x : ℕ) → MayRead f ranks y x → round_assignment f pair.row1 pair.values1 x ≡ round_assignment f pair.row2 pair.values2 x
-    agree_at x among =
-        let place = are_places.complete x among in
-        let lt = slice_get_within (declared f) place.0 x place.1 in
-        let long = padoa.as_many in
-        let g = group_at p.links.items place.0 (omega (arith, lt, long)) in
-        let link = padoa.links place.0 x g.0 place.1 g.1 in
-        let on = switch_on g.0 link.made (links.0 g.0 (models.are_active.complete place.0 g.0 place.2 g.1)) in
-        let a = copy_named 1 (copies_of p.first) (copies_declared f 1 p.first es padoa.first.universals padoa.first.existentials) place.0 x place.1 in
-        let b = copy_named 2 (copies_of p.second) (copies_declared f 2 p.second es padoa.second.universals padoa.second.existentials) place.0 x place.1 in
-        let x_declared = element_at (declared f) place.0 x place.1 in
-        value1 x a.0 x_declared a.1 ∙ equal_there f es values formula unique live x g.0 link on a.0 b.0 a.1 b.1 ∙ sym (value2 x b.0 x_declared b.1)
+  second_on : values (group_variable p.second.group) ≡ true
+  second_on = switch_on p.second.group padoa.second.made (All-head (λ l. literal_true values l ≡ true) p.second.group.selector (switches ++ both) behind)
+
+  value1 : (x w : ℕ) → Contains (declared f) x → name_of es w ≡ Some (CopyOf 1 x) → m1 x ≡ values w
+  value1 = copied_value f es values formula unique live 1 p.first padoa.first pair.row1 pair.values1 are.row1 are.values1 first_on
+
+  value2 : (x w : ℕ) → Contains (declared f) x → name_of es w ≡ Some (CopyOf 2 x) → m2 x ≡ values w
+  value2 = copied_value f es values formula unique live 2 p.second padoa.second pair.row2 pair.values2 are.row2 are.values2 second_on
+
+  all_declared : (l : Literal) → Contains (declared f) (variable_of l) → All (λ k. Contains (declared f) (variable_of k)) (asked_of conditions l)
+  all_declared l there = All-push (λ k. Contains (declared f) (variable_of k)) conditions l posed.are_declared there
+
+  -- the copy at a place has a name
+  copy_named : (side : ℕ) (lits : List Literal) → AreCopiesOf es side (declared f) lits → (k x : ℕ) → slice_get (declared f) k ≡ Some x → (w : ℕ) × (name_of es w ≡ Some (CopyOf side x))
+  copy_named side lits named k x at =
+      let lt = slice_get_within (declared f) k x at in
+      let long = copies_long es side (declared f) lits named in
+      let l = literal_at lits k (omega (arith, lt, long)) in
+      let is = copy_at es side (declared f) lits k x l.0 named at l.1 in
+      (variable_of l.0, (named_variable es l.0 (CopyOf side x) false (name_of es (variable_of l.0)) refl is).0)
+
+  agree_at : (x : ℕ) → IsRead f places x → m1 x ≡ m2 x
+  agree_at x place =
+      let lt = slice_get_within (declared f) place.0 x place.1 in
+      let long = padoa.as_many in
+      let g = group_at p.links.items place.0 (omega (arith, lt, long)) in
+      let link = padoa.links place.0 x g.0 place.1 g.1 in
+      let on = switch_on g.0 link.made (links.0 g.0 (models.are_active.complete place.0 g.0 place.2 g.1)) in
+      let a = copy_named 1 (copies_of p.first) (copies_declared f 1 p.first es padoa.first.universals padoa.first.existentials) place.0 x place.1 in
+      let b = copy_named 2 (copies_of p.second) (copies_declared f 2 p.second es padoa.second.universals padoa.second.existentials) place.0 x place.1 in
+      let x_declared = element_at (declared f) place.0 x place.1 in
+      value1 x a.0 x_declared a.1 ∙ equal_there f es values formula unique live x g.0 link on a.0 b.0 a.1 b.1 ∙ sym (value2 x b.0 x_declared b.1)
+
+  pub apart_pair : IsPairAt f places v conditions pair
+  apart_pair = record {
+    first = sample f es values formula unique live 1 p.first padoa.first pair.row1 pair.values1 are.row1 are.values1 first_on;
+    second = sample f es values formula unique live 2 p.second padoa.second pair.row2 pair.values2 are.row2 are.values2 second_on;
+    agree = agree_at;
+    first_true = originals_true f es values formula unique live 1 p.first padoa.first pair.row1 pair.values1 are.row1 are.values1 first_on (asked_of conditions (positive v)) asked.first.items (all_declared (positive v) posed.is_declared) asked_there.first in_both.0;
+    second_true = originals_true f es values formula unique live 2 p.second padoa.second pair.row2 pair.values2 are.row2 are.values2 second_on (asked_of conditions (negative v)) asked.second.items (all_declared (negative v) posed.is_declared) asked_there.second in_both.1;
+  }

@@ -19,3 +19,5 @@ pub mod ShownRules
 pub mod LooseSamples
 pub mod ForcedBits
 pub mod SharedCopies
+pub mod ApartLiterals
+pub mod GivenAnswers

@@ -1,25 +1,26 @@
 -- From an interpolant between two linked copies to a definition.
-use Rattle.std.proofs.Common.{◌≡◌, ◌⊎◌, ℕ, Bool, true, false, not, cond, ◌||◌, inl, inr, List, [], ◌∷◌, map, Some, get_or, refl, sym, ◌∙◌, ap, subst}
-use Rattle.std.specs.List.{list_any}
-use Rattle.std.proofs.lemmas.Bool.{cases_Bool, or_right, not-true}
-use Rattle.std.proofs.lemmas.List.Elements.{All-map, All-contains, Contains-get_or}
-use Rattle.dq_lits.specs.Literal.{Assignment, Literal, positive, negative, variable_of, is_negative, literal_true, clause_true}
-use Rattle.dq_lits.specs.Formula.{Existential, Dqbf}
+use Rattle.std.proofs.Common.{◌≡◌, ◌⊎◌, ℕ, Bool, true, false, not, cond, ◌||◌, inl, inr, List, [], ◌∷◌, map, Some, refl, sym, ◌∙◌, ap, subst}
+use Rattle.std.specs.List.{All, Contains, list_any}
+use Rattle.std.proofs.lemmas.Bool.{cases_Bool, or_cases, or_right, not-true}
+use Rattle.std.proofs.lemmas.List.Elements.{All-head, All-tail, All-push, All-contains}
+use Rattle.dq_lits.specs.Derivation.{holds}
+use Rattle.dq_lits.specs.Literal.{Assignment, Literal, positive, negative, variable_of, is_negative, same_literal, literal_true, clause_true}
+use Rattle.dq_lits.specs.Formula.{Dqbf}
 use Rattle.dq_lits.specs.Henkin.{MatrixHolds}
 use Rattle.hint_log.specs.Entries.{Entry, name_of}
 use Rattle.hint_log.specs.Naming.{NamedLiteral, named_literal, name_literal, AreNamedAs}
 use Rattle.hint_log.specs.Origins.{link_names}
 use Rattle.hint_log.specs.declared.names.Name.TheVariants.{Copy as CopyOf}
-use Rattle.definition_order.specs.Definitions.{IsDefinition, input_variable}
-use Rattle.definition_order.specs.Order.{MayRead}
-use Rattle.aig_graph.specs.Graph.{AigGraph, node_value, node_support}
+use Rattle.definition_order.specs.Definitions.{input_variable}
+use Rattle.aig_graph.specs.Graph.{AigGraph, node_value}
 use Rattle.aig_graph.specs.declared.nodes.Node.{Node}
 use Rattle.interpolants.specs.Interpolant.{Partition, SideHolds, Agrees, is_on_a, IsInterpolant}
+use Rattle.interpolants.proofs.Truth.{same_literal-sound}
 use Rattle.log_laws.proofs.Found.{named_variable}
 use Rattle.padoa_definitions.specs.Copies.{copy_names}
 use Rattle.padoa_definitions.specs.Defining.{DefinitionsAreForced}
 use Rattle.padoa_definitions.specs.Ruling.{copy_value, value_by, copied_assignment}
-use Rattle.padoa_definitions.specs.Dividing.{IsCopyGiven, IsLinkGiven, IsSelectorLiteral, Divides, AreSharedCopies}
+use Rattle.padoa_definitions.specs.Dividing.{asked_of, IsCopyGiven, IsLinkGiven, IsSelectorLiteral, IsCopyLiteral, Divides, AreSharedCopies, IsDefinitionAt}
 
 abbrev pub signed : Bool → Bool → Bool
 signed negated b = cond negated (not b) b
@@ -74,56 +75,72 @@ link_true : (m : Assignment) (x i : ℕ) → (i ≡ 1) ⊎ (i ≡ 2) → list_an
 link_true m x i (inl one) = ap (λ k. list_any (named_true m) (link_names x k)) one ∙ either (m x)
 link_true m x i (inr two) = ap (λ k. list_any (named_true m) (link_names x k)) two ∙ either_back (m x)
 
-link_given_true : (entries : List Entry) (f : Dqbf) (ranks : List ℕ) (y : Existential) (m : Assignment) (clause : List Literal) → IsLinkGiven entries f ranks y clause → clause_true (copied_assignment entries m) clause ≡ true
-link_given_true entries f ranks y m clause given =
+link_given_true : (entries : List Entry) (f : Dqbf) (places : List ℕ) (m : Assignment) (clause : List Literal) → IsLinkGiven entries f places clause → clause_true (copied_assignment entries m) clause ≡ true
+link_given_true entries f places m clause given =
     let p = copied_assignment entries m in
     ap (clause_true p) given.clause_is
     ∙ or_right (literal_true p (negative given.group)) (clause_true p given.rest)
     (named_clause entries m given.rest (link_names given.variable given.part) given.named ∙ link_true m given.variable given.part given.which)
 
-module _ (q : Partition) (f : Dqbf) (ranks : List ℕ) (graph : AigGraph) (y : Existential) (divides : Divides f ranks y q) (shared : AreSharedCopies f ranks y q.entries graph q.shared) where
+-- a literal that is true in a list of true ones
+pub held_of_all : (P : Literal → Type 0) (xs : List Literal) → All P xs → (l : Literal) → holds xs l ≡ true → P l
+held_of_all P [] all l h = cc
+held_of_all P (x ∷ xs) all l h = elim (or_cases (same_literal l x) (holds xs l) h) [
+  | inl same ↦ subst P (sym (same_literal-sound l x same)) (All-head P x xs all)
+  | inr later ↦ held_of_all P xs (All-tail P x xs all) l later
+]
+
+module _ (q : Partition) (f : Dqbf) (places : List ℕ) (v : ℕ) (conditions : List Literal) (graph : AigGraph) (divides : Divides f places v conditions q)
+    (shared : AreSharedCopies f places q.entries graph q.shared) where
   side_true : (m : Assignment) (side : Bool) → MatrixHolds f m → SideHolds q side (copied_assignment q.entries m)
   side_true m side holds_there at clause given on_side =
       elim (cases_Bool (is_on_a q clause)) [
         | inl on_a ↦ copy_given_true q.entries f 1 m clause holds_there (divides.a_given at clause given on_a)
         | inr on_b ↦ elim (divides.b_given at clause given on_b) [
           | inl copy ↦ copy_given_true q.entries f 2 m clause holds_there copy
-          | inr link ↦ link_given_true q.entries f ranks y m clause link
+          | inr link ↦ link_given_true q.entries f places m clause link
         ]
       ]
 
   shared_agree : (m : Assignment) → Agrees q.shared graph (λ i. m (input_variable f i)) (copied_assignment q.entries m)
-  shared_agree m v n is =
-      let s = shared.are v n is in
+  shared_agree m w n is =
+      let s = shared.are w n is in
       s.value (λ i. m (input_variable f i)) ∙ sym (ap (value_by m) s.named)
 
   selector_true : (m : Assignment) (l : Literal) → IsSelectorLiteral q.entries l → literal_true (copied_assignment q.entries m) l ≡ true
   selector_true m l (g, is, named) = ap (literal_true (copied_assignment q.entries m)) is ∙ ap (value_by m) named
 
-  pub interpolant_defines : (node : Node) → IsInterpolant q graph node → IsDefinition f ranks graph y node
+  -- a copy of a literal that is true is true
+  copy_true : (m : Assignment) (side : ℕ) (originals : List Literal) → All (λ l. literal_true m l ≡ true) originals → (l : Literal) → IsCopyLiteral q.entries side originals l →
+      literal_true (copied_assignment q.entries m) l ≡ true
+  copy_true m side originals all l copy =
+      let k = copy.original in
+      named_is q.entries m l (named_literal (CopyOf side (variable_of k)) (is_negative k)) copy.named ∙ sym (literal_signed m k) ∙ held_of_all (λ o. literal_true m o ≡ true) originals all k copy.among
+
+  pub interpolant_defines : (node : Node) → IsInterpolant q graph node → IsDefinitionAt f places v conditions graph node
   interpolant_defines node is = record {
     is_node = is.is_node;
-    reads = All-map (MayRead f ranks y) (input_variable f) (node_support graph node) (λ k d lt.
-        let i = get_or (node_support graph node) k d in
-        let s = is.reads i (Contains-get_or (node_support graph node) k d lt) in
+    reads = λ i among.
+        let s = is.reads i among in
         let t = shared.are s.variable s.node s.node_is in
-        subst (λ j. MayRead f ranks y (input_variable f j)) (sym (t.support i s.reads)) t.read);
-    defines = λ m holds_there.
+        subst (Contains places) (sym (t.support i s.reads)) t.read;
+    defines = λ m holds_there meets.
         let p = copied_assignment q.entries m in
         let agrees = shared_agree m in
         let inputs : ℕ → Bool = λ i. m (input_variable f i) in
-        elim (cases_Bool (m y.variable)) [
+        let is_true_there = λ (l : Literal). literal_true m l ≡ true in
+        elim (cases_Bool (m v)) [
           | inl is_true ↦
               is_true ∙ sym (is.follows inputs p agrees (side_true m true holds_there) (λ l h.
               elim (divides.assumed l h) [
                 | inl selector ↦ selector_true m l selector
-                | inr copy ↦ named_is q.entries m l (named_literal (CopyOf 1 y.variable) false) copy ∙ is_true
+                | inr copy ↦ copy_true m 1 (asked_of conditions (positive v)) (All-push is_true_there conditions (positive v) meets is_true) l copy
               ]))
           | inr is_false ↦
               is_false ∙ sym (not-true (node_value graph inputs node) (is_not (node_value graph inputs node) (is.contradicts inputs p agrees (side_true m false holds_there) (λ l h.
               elim (divides.others l h) [
                 | inl selector ↦ selector_true m l selector
-                | inr copy ↦ named_is q.entries m l (named_literal (CopyOf 2 y.variable) true) copy ∙ ap not is_false
+                | inr copy ↦ copy_true m 2 (asked_of conditions (negative v)) (All-push is_true_there conditions (negative v) meets (ap not is_false)) l copy
               ]))))
         ];
   }

@@ -19,8 +19,7 @@ use Rattle.padoa_definitions.specs.Forcing.{IsLoose}
 use Rattle.padoa_definitions.specs.declared.padoa.Padoa.{Padoa}
 use Rattle.padoa_definitions.proofs.AskedLiterals.{AreAsked, not_not}
 use Rattle.padoa_definitions.proofs.FreePairs.{positive_true, assigned, sample, copied_value}
-use Rattle.padoa_definitions.proofs.LinkedInterpolants.{signed, literal_signed}
-use Rattle.padoa_definitions.proofs.FirstCopySearch.{held_of_all}
+use Rattle.padoa_definitions.proofs.LinkedInterpolants.{signed, literal_signed, held_of_all}
 
 same_map : (m n : Assignment) (xs : List ℕ) → ((x : ℕ) → Contains xs x → m x ≡ n x) → map m xs ≡ map n xs
 same_map m n [] each = refl

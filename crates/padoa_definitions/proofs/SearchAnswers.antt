@@ -1,31 +1,28 @@
 -- What a search leaves and shows.
-use Rattle.std.proofs.Common.{◌≡◌, ◌≢◌, ℕ, zero, suc, ◌+◌, ◌<◌, Bool, true, false, List, [], ◌∷◌, map, length, get_or, Some, IsSome, slice_get, refl, sym, ◌∙◌, ap, subst, arith}
+use Rattle.std.proofs.Common.{◌≡◌, ◌≢◌, ℕ, zero, suc, ◌+◌, ◌<◌, Bool, true, false, List, [], ◌∷◌, ◌++◌, map, length, get_or, Some, IsSome, slice_get, refl, sym, ◌∙◌, ap, subst, arith}
 use Rattle.std.specs.List.{All, Contains}
-use Rattle.std.proofs.lemmas.List.{get_or_default}
 use Rattle.std.proofs.lemmas.List.Elements.{All-cons, All-nil, Contains-get_or, Contains-append_right}
 use Rattle.std.proofs.lemmas.Option.{slice_get_within, slice_get-get_or}
-use Rattle.dq_lits.specs.Literal.{Literal, variable_of, opposite}
+use Rattle.dq_lits.specs.Literal.{Literal, positive, negative, variable_of}
 use Rattle.dq_lits.specs.Formula.{Dqbf, Existential, existential_of, declared}
-use Rattle.definition_order.specs.Order.{MayRead}
 use Rattle.hint_log.specs.Conditions.{IsId, AreLogged}
 use Rattle.hint_log.specs.Entries.{Entry, Named, Given, Learned, Answer, Round, Begun, ProofLog, has_id, numbered, last_id, name_of}
 use Rattle.hint_log.specs.Deciding.{DecidesNothing}
 use Rattle.hint_log.specs.Growth.{Grew}
-use Rattle.hint_log.specs.Naming.{named_literal, name_literal}
+use Rattle.hint_log.specs.Naming.{named_literal, name_literal, AreNamedAs}
 use Rattle.hint_log.specs.Reached.{Reaches}
-use Rattle.hint_log.specs.declared.names.Name.{Name}
 use Rattle.hint_log.specs.declared.names.Name.TheVariants.{Copy as CopyOf}
 use Rattle.log_laws.specs.Engines.{copies, IsAddedBy}
 use Rattle.log_laws.proofs.Found.{named_variable}
-use Rattle.log_laws.proofs.Kept.{NamesStay, literal_stays, each_of_weaker}
+use Rattle.log_laws.proofs.Kept.{NamesStay, named_stay, each_of_weaker}
 use Rattle.oracle.specs.Calls.{IsMade, IsLearnedEntry, IsRefutedUnder, assumed}
 use Rattle.oracle.specs.Searched.{IsSearched}
 use Rattle.oracle.specs.declared.groups.Group.{Group}
 use Rattle.oracle.specs.declared.oracles.Answer.{Answer as AnswerOf}
 use Rattle.oracle.specs.declared.oracles.Answer.TheVariants.{Sat, Unsat}
-use Rattle.padoa_definitions.specs.Copies.{groups_of, AreCopiesOf, IsPadoa}
-use Rattle.padoa_definitions.specs.Dividing.{AreActive, ShowsDefinition}
-use Rattle.padoa_definitions.specs.Seeing.{ArePlaces}
+use Rattle.padoa_definitions.specs.Copies.{groups_of, AreCopiesOf, IsPadoa, copy_names}
+use Rattle.padoa_definitions.specs.Dividing.{asked_of, IsAsked, AreActive, ShowsDefinition}
+use Rattle.padoa_definitions.specs.declared.asking.Asked.{Asked}
 use Rattle.padoa_definitions.specs.declared.padoa.Padoa.{Padoa}
 use Rattle.padoa_definitions.proofs.KeptCopies.{Keeps, IsNamed, keeps_by_engine, keeps_entry, padoa_stays}
 use Rattle.padoa_definitions.proofs.StandingCopies.{groups_named}
@@ -71,17 +68,8 @@ padoa_learned f p old new grew padoa = padoa_stays f (IsNamed old.entries) old.e
 all_plain : (xs : List ℕ) → All (λ x. Unit {0}) xs
 all_plain xs i d lt = tt
 
-pub places_within : (f : Dqbf) (ranks : List ℕ) (p : Padoa) (es : List Entry) (y : ℕ) (places : List ℕ) → IsPadoa f p es → IsSome (existential_of f y) →
-    ((e : Existential) → existential_of f y ≡ Some e → ArePlaces (declared f) (MayRead f ranks e) places) → All (λ k. k < length p.links.items) places
-places_within f ranks p es y places padoa is are =
-    some_existential f y (All (λ k. k < length p.links.items) places) is (λ e found k d lt.
-    let r = (are e found).sound (get_or places k d) (k, lt, get_same places k d lt) in
-    let within = slice_get_within (declared f) (get_or places k d) r.0 r.1 in
-    let many = padoa.as_many in
-    omega (arith, within, many))
-  where
-    get_same : (xs : List ℕ) (k d : ℕ) → k < length xs → get_or xs k (get_or xs k d) ≡ get_or xs k d
-    get_same xs k d lt = get_or_default xs k (get_or xs k d) d lt
+pub places_below : (places : List ℕ) (n m : ℕ) → n ≡ m → All (λ k. k < m) places → All (λ k. k < n) places
+places_below places n m same within = subst (λ b. All (λ k. k < b) places) (sym same) within
 
 pub active_made : (f : Dqbf) (p : Padoa) (es : List Entry) (places : List ℕ) (active : List Group) → IsPadoa f p es → AreActive p places active → All (IsMade es) active
 active_made f p es places active padoa are =
@@ -134,59 +122,53 @@ module _ (f : Dqbf) (p : Padoa) (assumptions : List Literal) (old new : ProofLog
 module _ (implied : LinesAreImplied)
     (stays : (e : Entry) (entries : List Entry) (id : ℕ) → IsId entries id → numbered has_id (e ∷ entries) id ≡ numbered has_id entries id)
     (are_ids : (entries : List Entry) (id i : ℕ) → AreLogged entries → IsId entries id → Reaches entries id i → IsId entries i)
-    (f : Dqbf) (ranks : List ℕ) (p : Padoa) (v : ℕ) (places : List ℕ) (active : List Group) (one other : Literal) (old new : ProofLog) (id : ℕ)
-    (padoa : IsPadoa f p old.entries) (is : IsSome (existential_of f v)) (are : (e : Existential) → existential_of f v ≡ Some e → ArePlaces (declared f) (MayRead f ranks e) places)
-    (are_active : AreActive p places active)
-    (one_is : name_literal old.entries one ≡ Some (named_literal (CopyOf 1 v) false)) (other_is : name_literal old.entries other ≡ Some (named_literal (CopyOf 2 v) false))
-    (searched : IsSearched new.entries) (r : IsRefutedUnder old new (assumed active (one ∷ opposite other ∷ [])) id) where
+    (f : Dqbf) (places : List ℕ) (v : ℕ) (conditions : List Literal) (p : Padoa) (active : List Group) (asked : Asked) (old new : ProofLog) (id : ℕ)
+    (padoa : IsPadoa f p old.entries) (within : All (λ k. k < length (declared f)) places) (are_active : AreActive p places active) (are : IsAsked old.entries v conditions asked)
+    (searched : IsSearched new.entries) (r : IsRefutedUnder old new (assumed active (asked.first.items ++ asked.second.items)) id) where
   abbrev under : List Literal
-  under = assumed active (one ∷ opposite other ∷ [])
+  under = assumed active (asked.first.items ++ asked.second.items)
 
-  named_there : (l : Literal) (n : Name) → name_literal old.entries l ≡ Some (named_literal n false) → name_literal (Answer r.clause r.hints ∷ r.before.entries) l ≡ Some (named_literal n false)
-  named_there l n named =
-      literal_stays old.entries (Answer r.clause r.hints ∷ r.before.entries) (names_answered f p under old new id padoa r) l (named_literal n false) named
+  abbrev all : List Entry
+  all = Answer r.clause r.hints ∷ r.before.entries
 
-  searched_there : IsSearched (Answer r.clause r.hints ∷ r.before.entries)
+  searched_there : IsSearched all
   searched_there = subst IsSearched (answered f p under old new id padoa r) searched
 
-  variable_is : (e : Existential) → existential_of f v ≡ Some e → e.variable ≡ v
-  variable_is e found = (find_sound v f.existentials e found).1
+  first_there : AreNamedAs all asked.first.items (copy_names 1 (asked_of conditions (positive v)))
+  first_there = named_stay old.entries all (names_answered f p under old new id padoa r) asked.first.items (copy_names 1 (asked_of conditions (positive v))) are.first
 
-  pub shows : (e : Existential) → existential_of f v ≡ Some e → ShowsDefinition f ranks e p one new.entries id
-  shows e found =
-      let v_is = variable_is e found in
-      let all = Answer r.clause r.hints ∷ r.before.entries in
-      subst (λ es. ShowsDefinition f ranks e p one es id) (sym (answered f p under old new id padoa r)) (subst (ShowsDefinition f ranks e p one all) (sym (answer_last f p under old new id padoa r)) (record {
+  second_there : AreNamedAs all asked.second.items (copy_names 2 (asked_of conditions (negative v)))
+  second_there = named_stay old.entries all (names_answered f p under old new id padoa r) asked.second.items (copy_names 2 (asked_of conditions (negative v))) are.second
+
+  pub shows : ShowsDefinition f places v conditions p asked.first.items new.entries id
+  shows =
+      subst (λ es. ShowsDefinition f places v conditions p asked.first.items es id) (sym (answered f p under old new id padoa r))
+      (subst (ShowsDefinition f places v conditions p asked.first.items all) (sym (answer_last f p under old new id padoa r)) (record {
         is_id = record { from_one = omega arith; last = omega arith };
         derived = searched_there.derived;
-        divides = divides f ranks e p places active one other all r.before.entries r.clause r.hints stays are_ids refl searched_there (padoa_answered f p under old new id padoa r) (are e found) are_active
-            (named_there one (CopyOf 1 e.variable) (one_is ∙ ap (λ x. Some (named_literal (CopyOf 1 x) false)) (sym v_is)))
-            (named_there other (CopyOf 2 e.variable) (other_is ∙ ap (λ x. Some (named_literal (CopyOf 2 x) false)) (sym v_is))) r.negated;
+        divides = divides f v conditions p places active asked.first.items asked.second.items all r.before.entries r.clause r.hints stays are_ids refl searched_there
+            (padoa_answered f p under old new id padoa r) within are_active first_there second_there r.negated;
       }))
 
   pub refuted_grew : (group : ℕ) → Grew (IsAddedBy f copies group true old.entries) old new
-  refuted_grew = silent_grew f p under old new id padoa r undecided
-    where
-      undecided : DecidesNothing f r.before.entries (Answer r.clause r.hints)
-      undecided = some_existential f v (DecidesNothing f r.before.entries (Answer r.clause r.hints)) is (λ e found.
-          let v_is = variable_is e found in
-          undecided_answer implied f r.before.entries r.clause r.hints searched_there
-          (only_copies f ranks e p places active one other (Answer r.clause r.hints ∷ r.before.entries) r.before.entries r.clause r.hints stays are_ids refl searched_there
-          (padoa_answered f p under old new id padoa r) (are e found) are_active
-          (named_there one (CopyOf 1 e.variable) (one_is ∙ ap (λ x. Some (named_literal (CopyOf 1 x) false)) (sym v_is)))
-          (named_there other (CopyOf 2 e.variable) (other_is ∙ ap (λ x. Some (named_literal (CopyOf 2 x) false)) (sym v_is))) r.negated))
+  refuted_grew =
+      silent_grew f p under old new id padoa r
+      (undecided_answer implied f r.before.entries r.clause r.hints searched_there
+      (only_copies f v conditions p places active asked.first.items asked.second.items all r.before.entries r.clause r.hints stays are_ids refl searched_there
+      (padoa_answered f p under old new id padoa r) within are_active first_there second_there r.negated))
+
+-- the assumptions, as they were put together
+pub two_joined : (xs ys first second lits joined : List Literal) → xs ≡ first → ys ≡ second → lits ≡ xs ++ ys → joined ≡ lits → joined ≡ first ++ second
+two_joined xs ys first second lits joined xs_are ys_are are same = same ∙ are ∙ ap (λ zs. zs ++ ys) xs_are ∙ ap (λ zs. first ++ zs) ys_are
+
+pub refuted_under : (old new : ProofLog) (gs active : List Group) (joined lits : List Literal) (id : ℕ) → gs ≡ active → joined ≡ lits → IsRefutedUnder old new (assumed gs joined) id →
+    IsRefutedUnder old new (assumed active lits) id
+refuted_under old new gs active joined lits id gs_are all_are r =
+    subst (λ hs. IsRefutedUnder old new (assumed hs lits) id) gs_are (subst (λ ls. IsRefutedUnder old new (assumed gs ls) id) all_are r)
 
 pub on_answer : {P : Type 0} (a : AnswerOf) → (a ≡ Sat → P) → ((id : ℕ) → a ≡ Unsat id → P) → P
 on_answer Sat sat unsat = sat refl
 on_answer (Unsat id) sat unsat = unsat id refl
-
-pub places_below : (f : Dqbf) (ranks : List ℕ) (y n : ℕ) (places : List ℕ) → n ≡ length (declared f) → IsSome (existential_of f y) →
-    ((e : Existential) → existential_of f y ≡ Some e → ArePlaces (declared f) (MayRead f ranks e) places) → All (λ k. k < n) places
-places_below f ranks y n places same is are =
-    some_existential f y (All (λ k. k < n) places) is (λ e found k d lt.
-    let r = (are e found).sound (get_or places k d) (k, lt, get_or_default places k (get_or places k d) d lt) in
-    let within = slice_get_within (declared f) (get_or places k d) r.0 r.1 in
-    omega (arith, within, same))
 
 pub mapped_existential : (ys : List Existential) (e : Existential) → Contains ys e → Contains (map (λ z. z.variable) ys) e.variable
 mapped_existential [] e (k, lt, at) = absurd (omega (arith, lt))

@@ -1,12 +1,11 @@
 -- The shared variables with their nodes: first copies and inputs.
-use Rattle.std.proofs.Common.{◌≡◌, ℕ, zero, suc, ◌==◌, Bool, true, false, cond, List, [], ◌∷◌, map, length, get_or, slice_get, Some, IsSome, refl, sym, ◌∙◌, ap, subst, arith}
-use Rattle.std.specs.List.{Contains}
+use Rattle.std.proofs.Common.{◌≡◌, ℕ, zero, suc, ◌<◌, ◌==◌, Bool, true, false, cond, List, [], ◌∷◌, map, length, get_or, slice_get, Some, IsSome, refl, sym, ◌∙◌, ap, subst, arith}
+use Rattle.std.specs.List.{All, Contains}
 use Rattle.std.proofs.lemmas.Bool.{eqb-true, eq-eqb}
 use Rattle.std.proofs.lemmas.Option.{slice_get-get_or, slice_get_within, get_or_from_slice_get}
 use Rattle.dq_lits.specs.Literal.{positive, variable_of}
-use Rattle.dq_lits.specs.Formula.{Dqbf, Existential, declared}
+use Rattle.dq_lits.specs.Formula.{Dqbf, declared}
 use Rattle.definition_order.specs.Definitions.{input_variable}
-use Rattle.definition_order.specs.Order.{MayRead}
 use Rattle.hint_log.specs.Entries.{Entry, name_of}
 use Rattle.hint_log.specs.declared.names.Name.{Name}
 use Rattle.hint_log.specs.declared.names.Name.TheVariants.{Copy as CopyOf}
@@ -17,10 +16,10 @@ use Rattle.interpolants.specs.Interpolant.{node_of, AreNodes}
 use Rattle.log_laws.proofs.Found.{named_variable}
 use Rattle.padoa_definitions.specs.Copies.{AreCopiesOf, copies_of}
 use Rattle.padoa_definitions.specs.Dividing.{AreSharedCopies, shared_pairs}
-use Rattle.padoa_definitions.specs.Seeing.{ArePlaces}
 use Rattle.padoa_definitions.specs.declared.padoa.Padoa.{Padoa}
 use Rattle.padoa_definitions.proofs.CopiedVariables.{copy_at}
 use Rattle.padoa_definitions.proofs.DeclaredPlaces.{copies_long}
+use Rattle.padoa_definitions.proofs.DividedAnswers.{read_at}
 
 -- the nodes of variables that are selected by places
 module _ (g : ℕ → ℕ × Node) where
@@ -46,7 +45,7 @@ module _ (g : ℕ → ℕ × Node) where
           cc
       by later false e (suc i, lt, at) = later k (i, omega (arith, lt), at)
 
-module _ (f : Dqbf) (ranks : List ℕ) (y : Existential) (p : Padoa) (places : List ℕ) (es : List Entry) (are_places : ArePlaces (declared f) (MayRead f ranks y) places)
+module _ (f : Dqbf) (p : Padoa) (places : List ℕ) (es : List Entry) (within : All (λ k. k < length (declared f)) places)
     (copies : AreCopiesOf es 1 (declared f) (copies_of p.first)) where
   abbrev pick : ℕ → ℕ × Node
   pick k = (variable_of (get_or (copies_of p.first) k (positive 0)), Input k false)
@@ -60,24 +59,23 @@ module _ (f : Dqbf) (ranks : List ℕ) (y : Existential) (p : Padoa) (places : L
       (named_variable es (get_or lits k (positive 0)) (CopyOf 1 x) false (name_of es (pick k).0) refl is).0
 
   pub shared_copies : (graph : AigGraph) → ((v w : ℕ) (name : Name) → name_of es v ≡ Some name → name_of es w ≡ Some name → v ≡ w) →
-      AreSharedCopies f ranks y es graph (shared_pairs p places)
+      AreSharedCopies f places es graph (shared_pairs p places)
   shared_copies graph unique = record {
     are = λ v n is.
         let r = selected_sound pick places v n is in
         let k = r.0 in
-        let x = are_places.sound k r.1 in
+        let x = read_at f places within k r.1 in
         let x_is : input_variable f k ≡ x.0 = get_or_from_slice_get (declared f) k x.0 0 x.1 in
         record {
           place = k;
           named = ap (name_of es) r.2 ∙ copy_there k x.0 x.1 ∙ ap (λ z. Some (CopyOf 1 z)) (sym x_is);
           value = λ inputs. ap (node_value graph inputs) (sym r.3);
           support = λ i has. only k i (subst (λ m. Contains (node_support graph m) i) (sym r.3) has);
-          read = subst (MayRead f ranks y) (sym x_is) x.2;
+          read = r.1;
         };
     all = λ v x named seen.
-        let r = are_places.complete x seen in
-        let same = unique (pick r.0).0 v (CopyOf 1 x) (copy_there r.0 x r.1) named in
-        subst (λ w. IsSome (node_of (map pick places) w)) same (selected_complete pick places r.0 r.2);
+        let same = unique (pick seen.0).0 v (CopyOf 1 x) (copy_there seen.0 x seen.1) named in
+        subst (λ w. IsSome (node_of (map pick places) w)) same (selected_complete pick places seen.0 seen.2);
   }
     where
       only : (k i : ℕ) → Contains (k ∷ []) i → i ≡ k
@@ -87,6 +85,6 @@ module _ (f : Dqbf) (ranks : List ℕ) (y : Existential) (p : Padoa) (places : L
   pub shared_nodes : (graph : AigGraph) → graph.inputs ≡ length (declared f) → AreNodes (shared_pairs p places) graph
   shared_nodes graph inputs v n is =
       let r = selected_sound pick places v n is in
-      let x = are_places.sound r.0 r.1 in
+      let x = read_at f places within r.0 r.1 in
       let lt = slice_get_within (declared f) r.0 x.0 x.1 in
       subst (IsNode graph) r.3 (omega (arith, lt, inputs))

@@ -1,12 +1,11 @@
--- What the two sides have in common: the first copies of what the existential sees.
+-- What the two sides have in common: the first copies of what stands at the places.
 use Rattle.std.proofs.Common.{◌≡◌, ◌⊎◌, ℕ, ◌==◌, Bool, true, false, true≢false, ◌&&◌, inl, inr, List, [], ◌∷◌, map, Option, Some, refl, sym, ◌∙◌, ap, subst}
 use Rattle.std.specs.List.{All, list_any}
 use Rattle.std.proofs.lemmas.Bool.{cases_Bool, or_cases, or_left, and_parts, eqb-true}
 use Rattle.std.proofs.lemmas.List.Elements.{All-head, All-tail, All-cons, All-nil}
 use Rattle.dq_lits.specs.Literal.{Literal, positive, negative, variable_of, opposite, same_literal}
 use Rattle.dq_lits.specs.Derivation.{holds}
-use Rattle.dq_lits.specs.Formula.{Existential, Dqbf}
-use Rattle.definition_order.specs.Order.{MayRead}
+use Rattle.dq_lits.specs.Formula.{Dqbf}
 use Rattle.hint_log.specs.Entries.{Entry, name_of}
 use Rattle.hint_log.specs.Naming.{NamedLiteral, named_literal, name_literal, AreNamedAs, is_selector, is_selector_name}
 use Rattle.hint_log.specs.Origins.{link_names}
@@ -17,7 +16,8 @@ use Rattle.interpolants.specs.Interpolant.{Partition, is_on_a, stands_on, IsOfA,
 use Rattle.interpolants.proofs.Truth.{same_literal-sound, any_witness, stands_there}
 use Rattle.log_laws.proofs.Found.{named_variable}
 use Rattle.padoa_definitions.specs.Copies.{copy_names}
-use Rattle.padoa_definitions.specs.Dividing.{Divides, AreSharedCopies}
+use Rattle.padoa_definitions.specs.Dividing.{asked_of, IsRead, Divides, AreSharedCopies}
+use Rattle.padoa_definitions.proofs.DividedAnswers.{copy_name}
 
 -- a variable of named literals
 named_all : (es : List Entry) (P : Name → Type 0) (ks : List Literal) (ns : List NamedLiteral) → AreNamedAs es ks ns → All (λ n. P n.name) ns → (v : ℕ) → stands_on ks v ≡ true →
@@ -59,10 +59,10 @@ abbrev IsA : Partition → ℕ → Type 0
 IsA q v = ((name_of q.entries v ≡ Some (Selector v)) × (holds q.a_side (positive v) ≡ true)) ⊎ ((m : Name) × (name_of q.entries v ≡ Some m) × IsCopy 1 m)
 
 -- those of the B side
-abbrev IsB : Partition → Dqbf → List ℕ → Existential → ℕ → Type 0
-IsB q f ranks y v =
+abbrev IsB : Partition → Dqbf → List ℕ → ℕ → Type 0
+IsB q f places v =
     ((name_of q.entries v ≡ Some (Selector v)) × (holds q.a_side (positive v) ≡ false))
-    ⊎ (((m : Name) × (name_of q.entries v ≡ Some m) × IsCopy 2 m) ⊎ ((x : ℕ) × (name_of q.entries v ≡ Some (CopyOf 1 x)) × MayRead f ranks y x))
+    ⊎ (((m : Name) × (name_of q.entries v ≡ Some m) × IsCopy 2 m) ⊎ ((x : ℕ) × (name_of q.entries v ≡ Some (CopyOf 1 x)) × IsRead f places x))
 
 selector_copy : (n : Option Name) (g side x : ℕ) → n ≡ Some (Selector g) → n ≡ Some (CopyOf side x) → ⊥
 selector_copy n g side x a b = let e : Some (Selector g) ≡ Some (CopyOf side x) = sym a ∙ b in cc
@@ -73,7 +73,7 @@ copy_sides n x z a b = let e : Some (CopyOf 1 x) ≡ Some (CopyOf 2 z) = sym a �
 no_selector : (n : Option Name) (m : Name) → n ≡ Some m → IsCopy 1 m → is_selector_name n ≡ true → ⊥
 no_selector n m is copy h = true≢false (sym h ∙ ap is_selector_name (is ∙ ap Some copy.1))
 
-module _ (q : Partition) (f : Dqbf) (ranks : List ℕ) (y : Existential) (divides : Divides f ranks y q) where
+module _ (q : Partition) (f : Dqbf) (places : List ℕ) (y : ℕ) (conditions : List Literal) (divides : Divides f places y conditions q) where
   abbrev test : Literal → Bool
   test l = holds q.a_side (opposite l) && is_selector q.entries (variable_of l)
 
@@ -86,8 +86,8 @@ module _ (q : Partition) (f : Dqbf) (ranks : List ℕ) (y : Existential) (divide
             let same : selector.0 ≡ v = sym (ap variable_of selector.1) ∙ at in
             inl (subst (λ n. (name_of q.entries n ≡ Some (Selector n)) × (holds q.a_side (positive n) ≡ true)) same (selector.2, ap (holds q.a_side) (sym selector.1) ∙ w.1)))
         | inr copy ↦ (
-            let named = named_variable q.entries w.0 (CopyOf 1 y.variable) false (name_of q.entries (variable_of w.0)) refl copy in
-            inr (CopyOf 1 y.variable, ap (name_of q.entries) (sym at) ∙ named.0, (y.variable, refl)))
+            let named = copy_name q.entries 1 (asked_of conditions (positive y)) w.0 copy in
+            inr (CopyOf 1 (variable_of copy.original), ap (name_of q.entries) (sym at) ∙ named.0, (variable_of copy.original, refl)))
       ]
   a_kind v (inr side) =
       let copy = divides.a_given side.at side.clause side.given side.on_side in
@@ -115,19 +115,19 @@ module _ (q : Partition) (f : Dqbf) (ranks : List ℕ) (y : Existential) (divide
             absurd (true≢false (sym (ap (list_any test) is ∙ or_left (test (negative group)) (list_any test rest) here) ∙ on_b)))
       ]
 
-  b_group : (v group : ℕ) (rest clause : List Literal) → clause ≡ negative group ∷ rest → name_of q.entries group ≡ Some (Selector group) → is_on_a q clause ≡ false → group ≡ v → IsB q f ranks y v
+  b_group : (v group : ℕ) (rest clause : List Literal) → clause ≡ negative group ∷ rest → name_of q.entries group ≡ Some (Selector group) → is_on_a q clause ≡ false → group ≡ v → IsB q f places v
   b_group v group rest clause is named on_b same =
       inl (subst (λ n. (name_of q.entries n ≡ Some (Selector n)) × (holds q.a_side (positive n) ≡ false)) same (named, group_of_b group rest clause is named on_b))
 
-  b_kind : (v : ℕ) → IsOfB q v → IsB q f ranks y v
+  b_kind : (v : ℕ) → IsOfB q v → IsB q f places v
   b_kind v (inl (l, other, at)) =
       elim (divides.others l other) [
         | inl selector ↦ (
             let same : selector.0 ≡ v = sym (ap variable_of selector.1) ∙ at in
             inl (subst (λ n. (name_of q.entries n ≡ Some (Selector n)) × (holds q.a_side (positive n) ≡ false)) same (selector.2, ap (holds q.a_side) (sym selector.1) ∙ other.not_a)))
         | inr copy ↦ (
-            let named = named_variable q.entries l (CopyOf 2 y.variable) true (name_of q.entries (variable_of l)) refl copy in
-            inr (inl (CopyOf 2 y.variable, ap (name_of q.entries) (sym at) ∙ named.0, (y.variable, refl))))
+            let named = copy_name q.entries 2 (asked_of conditions (negative y)) l copy in
+            inr (inl (CopyOf 2 (variable_of copy.original), ap (name_of q.entries) (sym at) ∙ named.0, (variable_of copy.original, refl))))
       ]
   b_kind v (inr side) =
       elim (divides.b_given side.at side.clause side.given side.on_side) [
@@ -146,7 +146,7 @@ module _ (q : Partition) (f : Dqbf) (ranks : List ℕ) (y : Existential) (divide
         ]
       ]
 
-  pub copies_share : (graph : AigGraph) → AreSharedCopies f ranks y q.entries graph q.shared → SharesAll q
+  pub copies_share : (graph : AigGraph) → AreSharedCopies f places q.entries graph q.shared → SharesAll q
   copies_share graph shared v of_a of_b =
       let name = name_of q.entries v in
       elim (a_kind v of_a) [

@@ -1,28 +1,58 @@
--- What an answer rests on that shows a definition, for private contracts: clauses of the first copy
--- on one side, and of the second copy and of equations on the other.
-use Rattle.std.specs.Prelude.{◌≡◌, ◌⊎◌, ℕ, Bool, true, false, List, [], ◌∷◌, map, Some, IsSome, slice_get, slice_index_or}
-use Rattle.std.specs.List.{Contains}
-use Rattle.dq_lits.specs.Literal.{Assignment, Literal, positive, negative, variable_of, opposite}
-use Rattle.dq_lits.specs.Derivation.{holds}
-use Rattle.dq_lits.specs.Formula.{Dqbf, Existential}
-use Rattle.definition_order.specs.Order.{MayRead}
+-- What is asked of two copies at once, and what an answer rests on that shows a definition, for
+-- private contracts: clauses of the first copy on one side, and of the second copy and of equations
+-- on the other.
+use Rattle.std.specs.Prelude.{◌≡◌, ◌≢◌, ◌⊎◌, ◌<◌, ℕ, Bool, true, false, List, [], ◌∷◌, ◌++◌, map, length, Some, IsSome, slice_get, slice_index_or}
+use Rattle.std.specs.List.{All, Contains}
+use Rattle.dq_lits.specs.Literal.{Assignment, Literal, positive, negative, variable_of, is_negative, literal_true}
+use Rattle.dq_lits.specs.Derivation.{holds, is_tautology}
+use Rattle.dq_lits.specs.Formula.{Dqbf, declared}
+use Rattle.dq_lits.specs.Henkin.{MatrixHolds}
 use Rattle.definition_order.specs.Definitions.{input_variable}
 use Rattle.hint_log.specs.Conditions.{IsId}
 use Rattle.hint_log.specs.Entries.{Entry, clause_at, name_of}
 use Rattle.hint_log.specs.Growth.{Each}
-use Rattle.hint_log.specs.Naming.{named_literal, name_literal, AreNamedAs}
+use Rattle.hint_log.specs.Naming.{named_literal, name_literal, AreNamedAs, round_assignment}
 use Rattle.hint_log.specs.Origins.{link_names}
 use Rattle.hint_log.specs.ProductiveLog.{IsDerivedByHints}
 use Rattle.hint_log.specs.declared.names.Name.TheVariants.{Selector, Copy as CopyOf}
-use Rattle.aig_graph.specs.Graph.{AigGraph, node_value, node_support}
+use Rattle.aig_graph.specs.Graph.{AigGraph, IsNode, node_value, node_support}
 use Rattle.aig_graph.specs.declared.nodes.Node.{Node}
 use Rattle.aig_graph.specs.declared.nodes.Node.TheVariants.{Input}
 use Rattle.interpolants.specs.Interpolant.{Partition, partition, node_of, is_on_a, IsReachedGiven, IsOther}
 use Rattle.oracle.specs.Calls.{IsModelUnder, assumed}
 use Rattle.oracle.specs.declared.groups.Group.{Group}
 use Rattle.padoa_definitions.specs.Copies.{copies_of, copy_names}
+use Rattle.padoa_definitions.specs.Defining.{IsSample}
 use Rattle.padoa_definitions.specs.declared.defining.Pair.{Pair}
+use Rattle.padoa_definitions.specs.declared.guessing.Guess.{Guess}
+use Rattle.padoa_definitions.specs.declared.guessing.Guess.TheVariants.{Node as NodeFound, Pair as PairFound}
 use Rattle.padoa_definitions.specs.declared.padoa.Padoa.{Padoa}
+use Rattle.padoa_definitions.specs.declared.asking.Asked.{Asked}
+
+-- what may be asked of a variable, where the copies agree at these places: conditions that agree
+-- with one another and say nothing of it
+pub record IsQuestion (f : Dqbf) (places : List ℕ) (v : ℕ) (conditions : List Literal) : Type 0 where
+  pub places_within : All (λ k. k < length (declared f)) places
+  pub is_declared : Contains (declared f) v
+  pub are_declared : All (λ l. Contains (declared f) (variable_of l)) conditions
+  pub consistent : is_tautology conditions ≡ false
+  pub others : All (λ l. variable_of l ≢ v) conditions
+
+-- the conditions, and a literal of the variable
+abbrev pub asked_of : List Literal → Literal → List Literal
+asked_of conditions l = conditions ++ l ∷ []
+
+-- the copies of what is asked: the conditions in both, the variable true in the first and false in
+-- the second
+pub record IsAsked (entries : List Entry) (v : ℕ) (conditions : List Literal)
+    (asked : Asked) : Type 0 where
+  pub first : AreNamedAs entries asked.first.items (copy_names 1 (asked_of conditions (positive v)))
+  pub second : AreNamedAs entries asked.second.items
+      (copy_names 2 (asked_of conditions (negative v)))
+
+-- a variable that stands at one of the places
+abbrev pub IsRead : Dqbf → List ℕ → ℕ → Type 0
+IsRead f places x = (k : ℕ) × (slice_get (declared f) k ≡ Some x) × Contains places k
 
 -- a clause of the matrix on one side's copies, in a group
 pub record IsCopyGiven (entries : List Entry) (f : Dqbf) (side : ℕ)
@@ -35,9 +65,9 @@ pub record IsCopyGiven (entries : List Entry) (f : Dqbf) (side : ℕ)
   pub original_is : Contains f.matrix original
   pub copied : AreNamedAs entries rest (copy_names side original)
 
--- one half of an equation between the two copies of a variable that the definition may read, in a
--- group
-pub record IsLinkGiven (entries : List Entry) (f : Dqbf) (ranks : List ℕ) (y : Existential)
+-- one half of an equation between the two copies of a variable that stands at one of the places, in
+-- a group
+pub record IsLinkGiven (entries : List Entry) (f : Dqbf) (places : List ℕ)
     (clause : List Literal) : Type 0 where
   pub group : ℕ
   pub rest : List Literal
@@ -45,53 +75,62 @@ pub record IsLinkGiven (entries : List Entry) (f : Dqbf) (ranks : List ℕ) (y :
   pub part : ℕ
   pub is_group : name_of entries group ≡ Some (Selector group)
   pub clause_is : clause ≡ negative group ∷ rest
-  pub read : MayRead f ranks y variable
+  pub read : IsRead f places variable
   pub which : (part ≡ 1) ⊎ (part ≡ 2)
   pub named : AreNamedAs entries rest (link_names variable part)
 
 abbrev pub IsSelectorLiteral : List Entry → Literal → Type 0
 IsSelectorLiteral entries l = (g : ℕ) × (l ≡ positive g) × (name_of entries g ≡ Some (Selector g))
 
--- a copy of a variable, with this sign
-abbrev pub IsCopyLiteral : List Entry → ℕ → ℕ → Bool → Literal → Type 0
-IsCopyLiteral entries side v negated l =
-    name_literal entries l ≡ Some (named_literal (CopyOf side v) negated)
+-- a copy of one of these literals
+pub record IsCopyLiteral (entries : List Entry) (side : ℕ) (literals : List Literal)
+    (l : Literal) : Type 0 where
+  pub original : Literal
+  pub among : holds literals original ≡ true
+  pub named : name_literal entries l
+      ≡ Some (named_literal (CopyOf side (variable_of original)) (is_negative original))
 
--- the existential is true in the first copy, and false in the second
-pub record Divides (f : Dqbf) (ranks : List ℕ) (y : Existential) (q : Partition) : Type 0 where
+-- the variable is true in the first copy and false in the second, and the conditions are true in
+-- both
+pub record Divides (f : Dqbf) (places : List ℕ) (v : ℕ) (conditions : List Literal)
+    (q : Partition) : Type 0 where
   pub a_given : (at : ℕ) (clause : List Literal) → IsReachedGiven q at clause
       → is_on_a q clause ≡ true → IsCopyGiven q.entries f 1 clause
   pub b_given : (at : ℕ) (clause : List Literal) → IsReachedGiven q at clause
       → is_on_a q clause ≡ false
-      → IsCopyGiven q.entries f 2 clause ⊎ IsLinkGiven q.entries f ranks y clause
+      → IsCopyGiven q.entries f 2 clause ⊎ IsLinkGiven q.entries f places clause
   pub assumed : (l : Literal) → holds q.a_side l ≡ true
-      → IsSelectorLiteral q.entries l ⊎ IsCopyLiteral q.entries 1 y.variable false l
+      → IsSelectorLiteral q.entries l
+      ⊎ IsCopyLiteral q.entries 1 (asked_of conditions (positive v)) l
   pub others : (l : Literal) → IsOther q l
-      → IsSelectorLiteral q.entries l ⊎ IsCopyLiteral q.entries 2 y.variable true l
+      → IsSelectorLiteral q.entries l
+      ⊎ IsCopyLiteral q.entries 2 (asked_of conditions (negative v)) l
 
--- a shared variable is the first copy of one that the definition may read, and its node that input
-pub record IsSharedCopy (f : Dqbf) (ranks : List ℕ) (y : Existential) (entries : List Entry)
-    (graph : AigGraph) (v : ℕ) (n : Node) : Type 0 where
+-- a shared variable is the first copy of one that stands at one of the places, and its node that
+-- input
+pub record IsSharedCopy (f : Dqbf) (places : List ℕ) (entries : List Entry) (graph : AigGraph)
+    (v : ℕ) (n : Node) : Type 0 where
   pub place : ℕ
   pub named : name_of entries v ≡ Some (CopyOf 1 (input_variable f place))
   pub value : (inputs : ℕ → Bool) → node_value graph inputs n ≡ inputs place
   pub support : (i : ℕ) → Contains (node_support graph n) i → i ≡ place
-  pub read : MayRead f ranks y (input_variable f place)
+  pub read : Contains places place
 
-pub record AreSharedCopies (f : Dqbf) (ranks : List ℕ) (y : Existential) (entries : List Entry)
-    (graph : AigGraph) (shared : List (ℕ × Node)) : Type 0 where
+pub record AreSharedCopies (f : Dqbf) (places : List ℕ) (entries : List Entry) (graph : AigGraph)
+    (shared : List (ℕ × Node)) : Type 0 where
   pub are : (v : ℕ) (n : Node) → node_of shared v ≡ Some n
-      → IsSharedCopy f ranks y entries graph v n
-  pub all : (v x : ℕ) → name_of entries v ≡ Some (CopyOf 1 x) → MayRead f ranks y x
+      → IsSharedCopy f places entries graph v n
+  pub all : (v x : ℕ) → name_of entries v ≡ Some (CopyOf 1 x) → IsRead f places x
       → IsSome (node_of shared v)
 
--- the answer shows that the existential has a definition
-pub record ShowsDefinition (f : Dqbf) (ranks : List ℕ) (y : Existential) (p : Padoa)
-    (one : Literal) (entries : List Entry) (id : ℕ) : Type 0 where
+-- the answer shows that the variable has a definition under the conditions
+pub record ShowsDefinition (f : Dqbf) (places : List ℕ) (v : ℕ) (conditions : List Literal)
+    (p : Padoa) (first : List Literal) (entries : List Entry) (id : ℕ) : Type 0 where
   pub is_id : IsId entries id
   pub derived : Each IsDerivedByHints entries
   pub divides : (shared : List (ℕ × Node))
-      → Divides f ranks y (partition entries id (p.first.group.selector ∷ one ∷ []) shared)
+      → Divides f places v conditions
+      (partition entries id (p.first.group.selector ∷ first) shared)
 
 -- the groups that are to be active: both copies, and the equations at some places
 pub record AreActive (p : Padoa) (places : List ℕ) (active : List Group) : Type 0 where
@@ -113,16 +152,43 @@ pub record IsPairOf (p : Padoa) (values : Assignment) (pair : Pair) : Type 0 whe
   pub row2 : pair.row2 ≡ values_at values p.second.universals.items
   pub values2 : pair.values2 ≡ values_at values p.second.existentials.items
 
--- the values make the copies true, and the equations at some places, one copy of the existential
--- and the negation of the other
-pub record ModelsCopies (p : Padoa) (places : List ℕ) (one other : Literal) (values : Assignment)
+-- the values make the copies true, and the equations at some places, and these literals
+pub record ModelsCopies (p : Padoa) (places : List ℕ) (asked : List Literal) (values : Assignment)
     (entries : List Entry) : Type 0 where
   pub active : List Group
   pub are_active : AreActive p places active
-  pub model : IsModelUnder values (clause_at entries) (assumed active (one ∷ opposite other ∷ []))
+  pub model : IsModelUnder values (clause_at entries) (assumed active asked)
 
 -- the first copies of the variables at these places, with their inputs
 abbrev pub shared_pairs : Padoa → List ℕ → List (ℕ × Node)
 shared_pairs p places =
     map (λ k. (variable_of (slice_index_or (copies_of p.first) k (positive 0)), Input k false))
     places
+
+-- the node reads inputs at the places alone, and wherever the matrix and the conditions are true,
+-- the variable has its value
+pub record IsDefinitionAt (f : Dqbf) (places : List ℕ) (v : ℕ) (conditions : List Literal)
+    (graph : AigGraph) (node : Node) : Type 0 where
+  pub is_node : IsNode graph node
+  pub reads : (i : ℕ) → Contains (node_support graph node) i → Contains places i
+  pub defines : (m : Assignment) → MatrixHolds f m → All (λ l. literal_true m l ≡ true) conditions
+      → m v ≡ node_value graph (λ i. m (input_variable f i)) node
+
+-- two samples that agree at the places, in which the conditions are true, and the variable is true
+-- and false
+pub record IsPairAt (f : Dqbf) (places : List ℕ) (v : ℕ) (conditions : List Literal)
+    (pair : Pair) : Type 0 where
+  pub first : IsSample f pair.row1 pair.values1
+  pub second : IsSample f pair.row2 pair.values2
+  pub agree : (x : ℕ) → IsRead f places x
+      → round_assignment f pair.row1 pair.values1 x ≡ round_assignment f pair.row2 pair.values2 x
+  pub first_true : All (λ l. literal_true (round_assignment f pair.row1 pair.values1) l ≡ true)
+      (asked_of conditions (positive v))
+  pub second_true : All (λ l. literal_true (round_assignment f pair.row2 pair.values2) l ≡ true)
+      (asked_of conditions (negative v))
+
+-- what is found for the question is right
+abbrev pub IsAnswerAt : Dqbf → List ℕ → ℕ → List Literal → AigGraph → Guess → Type 0
+IsAnswerAt f places v conditions graph (NodeFound node) =
+    IsDefinitionAt f places v conditions graph node
+IsAnswerAt f places v conditions graph (PairFound pair) = IsPairAt f places v conditions pair

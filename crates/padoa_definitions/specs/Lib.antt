@@ -1,5 +1,6 @@
 pub mod Copies
 pub mod Defining
+pub mod Guessing
 pub mod Standing
 pub mod Growing
 pub mod Dividing

@@ -7,15 +7,15 @@ ghost use Rattle.oracle.specs.Limits.{IsAtSomeLimit};
 ghost use Rattle.padoa_definitions.specs.Copies.{IsPadoa};
 ghost use Rattle.padoa_definitions.specs.Defining.{IsFound};
 
-use crate::copies::{Twins, copied_variable};
+use crate::asking::Question;
+use crate::guessing::Guess;
 use crate::padoa::Padoa;
 use crate::seeing::shared_places;
 use aig_graph::{Graph, Node};
 use dq_formula::Formula;
 use dq_lits::Row;
-use hint_log::laws::names_are_unique;
 use hint_log::{Log, Stop};
-use oracle::{Answer, Oracle};
+use oracle::Oracle;
 
 /// Two rows, each with values of the existentials, that make the matrix true: what a definition of
 /// the existential may read is the same in both, and it is true in the first and false in the
@@ -35,16 +35,6 @@ pub enum Found {
     Defined(Node),
     /// It has none.
     Free(Pair),
-}
-
-/// Whether an existential is defined by what its definition may read: the declared variables at
-/// these places, universals first.
-#[derive(Drop)]
-pub(crate) struct Question<'f, 'r, 'p> {
-    pub f: &'f Formula,
-    pub ranks: &'r [usize],
-    pub twins: Twins,
-    pub places: &'p [usize],
 }
 
 impl Padoa {
@@ -75,29 +65,16 @@ impl Padoa {
             → IfOk result (IsFound f.now ranks.now graph.new e) }
         ensures limit { IsErrOf result Stop.Limit → IsAtSomeLimit log.new }
     {
-        names_are_unique();
         let places = shared_places(self.alloc, f, ranks, y)?;
-        let one = copied_variable(&self.first, f, y);
-        let other = copied_variable(&self.second, f, y);
         let question = Question {
             f,
-            ranks,
-            twins: Twins {
-                variable: y,
-                first: one,
-                second: other,
-            },
             places: &places,
+            y,
+            conditions: &[],
         };
-        match self.search(oracle, &question, log)? {
-            Answer::Unsat(id) => {
-                let node = self.definition(graph, &question, id, log)?;
-                Ok(Found::Defined(node))
-            }
-            Answer::Sat => {
-                let pair = self.pair(oracle)?;
-                Ok(Found::Free(pair))
-            }
+        match self.ask(oracle, graph, &question, log)? {
+            Guess::Node(node) => Ok(Found::Defined(node)),
+            Guess::Pair(pair) => Ok(Found::Free(pair)),
         }
     }
 }

@@ -5,19 +5,23 @@
 //! the copies of each variable, each in a group of its own. An existential is defined where the
 //! copies can't be true together while what its definition may read agrees and it is true in one
 //! copy alone: then an interpolant of the answer is its definition. Else the values that were found
-//! show that it isn't. The first copy alone shows whether it is forced to have a bit where it sees
-//! what it sees at a row.
+//! show that it isn't. The same question may be asked under conditions, which both copies then have
+//! to meet, and with what the existential sees alone. The first copy alone shows whether it is
+//! forced to have a bit where it sees what it sees at a row.
 #![tactic(auto)]
 
 pub use copies::MatrixCopy;
 pub use defining::{Found, Pair};
 pub use forcing::Forced;
+pub use guessing::Guess;
 pub use padoa::Padoa;
 
+mod asking;
 mod copies;
 mod defining;
 mod forcing;
 mod giving;
+mod guessing;
 pub mod laws;
 mod links;
 mod padoa;

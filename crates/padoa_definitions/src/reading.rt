@@ -1,17 +1,15 @@
 //! What a search found: a definition, or values of both copies.
 
-ghost use Rattle.std.specs.Prelude.{◌≡◌, ◌<◌, ◌+◌, true, All, length, IfOk, IsSome, Some};
+ghost use Rattle.std.specs.Prelude.{◌≡◌, ◌<◌, ◌+◌, true, All, length, IfOk};
 ghost use Rattle.dq_lits.specs.Literal.{variable_of};
-ghost use Rattle.dq_lits.specs.Formula.{Existential, declared, existential_of};
 ghost use Rattle.aig_graph.specs.Made.{Extends};
-ghost use Rattle.definition_order.specs.Definitions.{IsDefinition};
-ghost use Rattle.definition_order.specs.Order.{MayRead};
-ghost use Rattle.padoa_definitions.specs.Copies.{AreTwins, IsPadoa, copies_of};
-ghost use Rattle.padoa_definitions.specs.Seeing.{ArePlaces};
-ghost use Rattle.padoa_definitions.specs.Dividing.{ShowsDefinition, IsPairOf, shared_pairs, values_at};
+ghost use Rattle.padoa_definitions.specs.Copies.{IsPadoa, copies_of};
+ghost use Rattle.padoa_definitions.specs.Dividing.{IsAsked, IsQuestion, IsDefinitionAt, ShowsDefinition, IsPairOf, shared_pairs, values_at};
 
-use crate::defining::{Pair, Question};
+use crate::asking::{Asked, Question};
+use crate::defining::Pair;
 use crate::padoa::Padoa;
+use crate::searching::joined;
 use aig_graph::{Graph, Node};
 use dq_lits::{Lit, Memory, Row};
 use hint_log::Log;
@@ -26,40 +24,28 @@ impl Padoa {
         &self,
         graph: &mut Graph,
         question: &Question,
+        asked: &Asked,
         id: u64,
         log: &Log,
     ) -> Result<Node, Memory>
         requires padoa { IsPadoa question.now.f.now self.now log.now.entries }
-        requires existential { IsSome (existential_of question.now.f.now
-            question.now.twins.variable) }
-        requires places { (e : Existential)
-            → existential_of question.now.f.now question.now.twins.variable ≡ Some e
-            → ArePlaces (declared question.now.f.now)
-            (MayRead question.now.f.now question.now.ranks.now e) question.now.places.now }
-        requires twins { AreTwins log.now.entries question.now.twins }
-        requires shown { (e : Existential)
-            → existential_of question.now.f.now question.now.twins.variable ≡ Some e
-            → ShowsDefinition question.now.f.now question.now.ranks.now e
-            self.now question.now.twins.first
-            log.now.entries id }
+        requires posed { IsQuestion question.now.f.now question.now.places.now question.now.y
+            question.now.conditions.now }
+        requires copied { IsAsked log.now.entries question.now.y question.now.conditions.now
+            asked.now }
+        requires shown { ShowsDefinition question.now.f.now question.now.places.now question.now.y
+            question.now.conditions.now self.now asked.now.first.items log.now.entries id }
         requires inputs { graph.old.inputs ≡ length question.now.f.now.universals
             + length question.now.f.now.existentials }
         ensures extends { Extends graph.old graph.new }
-        ensures defined { (e : Existential)
-            → existential_of question.now.f.now question.now.twins.variable ≡ Some e
-            → IfOk result (IsDefinition question.now.f.now question.now.ranks.now graph.new e) }
+        ensures defined { IfOk result (IsDefinitionAt question.now.f.now question.now.places.now
+            question.now.y question.now.conditions.now graph.new) }
     {
         names_are_unique();
         log.every_log_is_lawful();
         let shared = self.shared(graph, question.places)?;
-        let node = from_log(
-            self.alloc,
-            log,
-            id,
-            &[self.first.group.selector, question.twins.first],
-            &shared,
-            graph,
-        )?;
+        let a_side = joined(self.alloc, &[self.first.group.selector], &asked.first)?;
+        let node = from_log(self.alloc, log, id, &a_side, &shared, graph)?;
         Ok(node)
     }
 

@@ -1,20 +1,37 @@
-use Rattle.std.proofs.Common.{◌≡◌, ◌∷◌, [], ◌∙◌, Ok, ap, sym, subst, rules, Err}
+use Rattle.std.proofs.Common.{◌≡◌, ◌++◌, ◌∙◌, Ok, Err, ap, sym, subst, rules}
 use Rattle.hint_log.specs.declared.stops.Stop.TheVariants.{Limit}
 use Rattle.oracle.proofs.SomeLimits.{some_limit}
 use Rattle.std.specs.List.{All}
-use Rattle.dq_lits.specs.Literal.{opposite}
-use Rattle.oracle.specs.Calls.{IsMade, IsRefutedUnder, assumed}
+use Rattle.dq_lits.specs.Derivation.{is_tautology}
+use Rattle.oracle.specs.Calls.{IsMade, IsPlain, assumed}
 use Rattle.oracle.specs.declared.oracles.Answer.TheVariants.{Unsat}
-use Rattle.padoa_definitions.proofs.SearchAnswers.{places_within, active_made, padoa_learned, learned_grew, padoa_refuted, refuted_grew, shows, on_answer}
+use Rattle.padoa_definitions.proofs.ApartLiterals.{asked_plain, both_apart}
+use Rattle.padoa_definitions.proofs.SearchAnswers.{places_below, active_made, padoa_learned, learned_grew, padoa_refuted, refuted_grew, shows, on_answer, two_joined, refuted_under}
 use Rattle.padoa_definitions.proofs.padoa.Padoa.search.Goals as goal
 
 pub active-requires : goal.active-requires
-active-requires g c = places_within c.args.question.now.f.now c.args.question.now.ranks.now c.args.self.now c.args.log.now.entries c.args.question.now.twins.variable c.args.question.now.places.now c.requires.padoa c.requires.existential c.requires.places
+active-requires g c = places_below c.args.question.now.places.now _ _ c.requires.padoa.as_many c.requires.posed.places_within
 
 pub solve-requires-clause-made : goal.solve-requires-clause-made
 solve-requires-clause-made g c =
-    subst (All (IsMade c.args.log.now.entries)) (sym c.deref.ensures.value)
+    subst (All (IsMade c.args.log.now.entries)) (sym c.deref-3.ensures.value)
     (active_made c.args.question.now.f.now c.args.self.now c.args.log.now.entries c.args.question.now.places.now c.in_ok-active.active.items c.requires.padoa c.in_ok-active.ensures)
+
+pub solve-requires-clause-plain : goal.solve-requires-clause-plain
+solve-requires-clause-plain g c =
+    let question = c.args.question.now in
+    let asked = c.args.asked.now in
+    let both = two_joined c.deref.result.now c.deref-2.result.now asked.first.items asked.second.items c.in_ok-assume.assume.items c.deref-4.result.now c.deref.ensures.value c.deref-2.ensures.value
+    c.in_ok-assume.ensures c.deref-4.ensures.value in
+    subst (All (IsPlain c.args.log.now.entries)) (sym both) (asked_plain c.args.log.now.entries question.y question.conditions.now asked c.requires.copied)
+
+pub solve-requires-clause-apart : goal.solve-requires-clause-apart
+solve-requires-clause-apart g c =
+    let question = c.args.question.now in
+    let asked = c.args.asked.now in
+    let both = two_joined c.deref.result.now c.deref-2.result.now asked.first.items asked.second.items c.in_ok-assume.assume.items c.deref-4.result.now c.deref.ensures.value c.deref-2.ensures.value
+    c.in_ok-assume.ensures c.deref-4.ensures.value in
+    ap is_tautology both ∙ both_apart c.args.log.now.entries question.y question.conditions.now asked c.requires.copied c.requires.posed.consistent c.requires.posed.others
 
 pub returns-in_err-answer-clause-padoa : goal.returns-in_err-answer-clause-padoa
 returns-in_err-answer-clause-padoa g c = padoa_learned c.args.question.now.f.now c.args.self.now c.args.log.now c.solve.new.log c.in_err-answer.ensures.stop c.requires.padoa
@@ -24,30 +41,46 @@ returns-in_err-answer-clause-grew g c = learned_grew c.args.question.now.f.now c
 
 pub returns-clause-padoa : goal.returns-clause-padoa
 returns-clause-padoa g c =
+    let f = c.args.question.now.f.now in
+    let p = c.args.self.now in
+    let old = c.args.log.now in
+    let new = c.solve.new.log in
     on_answer c.in_ok-answer.answer
-    (λ e. padoa_learned c.args.question.now.f.now c.args.self.now c.args.log.now c.solve.new.log (c.solve.ensures.sat (c.in_ok-answer.was ∙ ap Ok e)).0 c.requires.padoa)
-    (λ id e. padoa_refuted c.args.question.now.f.now c.args.self.now (assumed c.in_ok-active.active.items (c.args.question.now.twins.first ∷ opposite c.args.question.now.twins.second ∷ [])) c.args.log.now c.solve.new.log id c.requires.padoa
-    (subst (λ gs. IsRefutedUnder c.args.log.now c.solve.new.log (assumed gs (c.args.question.now.twins.first ∷ opposite c.args.question.now.twins.second ∷ [])) id) c.deref.ensures.value
-    (subst (λ l. IsRefutedUnder c.args.log.now c.solve.new.log (assumed c.deref.result.now (c.args.question.now.twins.first ∷ l ∷ [])) id) c.not.ensures (c.solve.ensures.unsat id (c.in_ok-answer.was ∙ ap Ok e)))))
+    (λ e. padoa_learned f p old new (c.solve.ensures.sat (c.in_ok-answer.was ∙ ap Ok e)).0 c.requires.padoa)
+    (λ id e. padoa_refuted f p (assumed c.deref-3.result.now c.deref-4.result.now) old new id c.requires.padoa (c.solve.ensures.unsat id (c.in_ok-answer.was ∙ ap Ok e)))
 
 pub returns-clause-grew : goal.returns-clause-grew
 returns-clause-grew g c group =
+    let question = c.args.question.now in
+    let asked = c.args.asked.now in
+    let p = c.args.self.now in
+    let old = c.args.log.now in
+    let new = c.solve.new.log in
+    let active = c.in_ok-active.active.items in
+    let both = two_joined c.deref.result.now c.deref-2.result.now asked.first.items asked.second.items c.in_ok-assume.assume.items c.deref-4.result.now c.deref.ensures.value c.deref-2.ensures.value
+    c.in_ok-assume.ensures c.deref-4.ensures.value in
     on_answer c.in_ok-answer.answer
-    (λ e. learned_grew c.args.question.now.f.now c.args.log.now c.solve.new.log (c.solve.ensures.sat (c.in_ok-answer.was ∙ ap Ok e)).0 group)
-    (λ id e. refuted_grew c.derived_line_is_implied.ensures c.ids_stay.ensures c.reached_are_ids.ensures c.args.question.now.f.now c.args.question.now.ranks.now c.args.self.now c.args.question.now.twins.variable c.args.question.now.places.now c.in_ok-active.active.items c.args.question.now.twins.first
-    c.args.question.now.twins.second c.args.log.now c.solve.new.log id c.requires.padoa c.requires.existential c.requires.places c.in_ok-active.ensures c.requires.twins.0 c.requires.twins.1
-    (g.met.O.Oracle.searched c.solve.new.self c.solve.new.log c.solve.ensures.fit)
-    (subst (λ gs. IsRefutedUnder c.args.log.now c.solve.new.log (assumed gs (c.args.question.now.twins.first ∷ opposite c.args.question.now.twins.second ∷ [])) id) c.deref.ensures.value
-    (subst (λ l. IsRefutedUnder c.args.log.now c.solve.new.log (assumed c.deref.result.now (c.args.question.now.twins.first ∷ l ∷ [])) id) c.not.ensures (c.solve.ensures.unsat id (c.in_ok-answer.was ∙ ap Ok e)))) group)
+    (λ e. learned_grew question.f.now old new (c.solve.ensures.sat (c.in_ok-answer.was ∙ ap Ok e)).0 group)
+    (λ id e. refuted_grew c.derived_line_is_implied.ensures c.ids_stay.ensures c.reached_are_ids.ensures question.f.now question.places.now question.y question.conditions.now p active asked old new id
+    c.requires.padoa c.requires.posed.places_within c.in_ok-active.ensures c.requires.copied (g.met.O.Oracle.searched c.solve.new.self new c.solve.ensures.fit)
+    (refuted_under old new c.deref-3.result.now active c.deref-4.result.now (asked.first.items ++ asked.second.items) id c.deref-3.ensures.value both
+    (c.solve.ensures.unsat id (c.in_ok-answer.was ∙ ap Ok e))) group)
 
 pub returns-clause-unsat : goal.returns-clause-unsat
-returns-clause-unsat g c = λ id y found is.
+returns-clause-unsat g c = λ id is.
     let e : c.in_ok-answer.answer ≡ Unsat id = cc in
-    shows c.derived_line_is_implied.ensures c.ids_stay.ensures c.reached_are_ids.ensures c.args.question.now.f.now c.args.question.now.ranks.now c.args.self.now c.args.question.now.twins.variable c.args.question.now.places.now c.in_ok-active.active.items c.args.question.now.twins.first
-    c.args.question.now.twins.second c.args.log.now c.solve.new.log id c.requires.padoa c.requires.existential c.requires.places c.in_ok-active.ensures c.requires.twins.0 c.requires.twins.1
-    (g.met.O.Oracle.searched c.solve.new.self c.solve.new.log c.solve.ensures.fit)
-    (subst (λ gs. IsRefutedUnder c.args.log.now c.solve.new.log (assumed gs (c.args.question.now.twins.first ∷ opposite c.args.question.now.twins.second ∷ [])) id) c.deref.ensures.value
-    (subst (λ l. IsRefutedUnder c.args.log.now c.solve.new.log (assumed c.deref.result.now (c.args.question.now.twins.first ∷ l ∷ [])) id) c.not.ensures (c.solve.ensures.unsat id (c.in_ok-answer.was ∙ ap Ok e)))) y found
+    let question = c.args.question.now in
+    let asked = c.args.asked.now in
+    let p = c.args.self.now in
+    let old = c.args.log.now in
+    let new = c.solve.new.log in
+    let active = c.in_ok-active.active.items in
+    let both = two_joined c.deref.result.now c.deref-2.result.now asked.first.items asked.second.items c.in_ok-assume.assume.items c.deref-4.result.now c.deref.ensures.value c.deref-2.ensures.value
+    c.in_ok-assume.ensures c.deref-4.ensures.value in
+    shows c.derived_line_is_implied.ensures c.ids_stay.ensures c.reached_are_ids.ensures question.f.now question.places.now question.y question.conditions.now p active asked old new id
+    c.requires.padoa c.requires.posed.places_within c.in_ok-active.ensures c.requires.copied (g.met.O.Oracle.searched c.solve.new.self new c.solve.ensures.fit)
+    (refuted_under old new c.deref-3.result.now active c.deref-4.result.now (asked.first.items ++ asked.second.items) id c.deref-3.ensures.value both
+    (c.solve.ensures.unsat id (c.in_ok-answer.was ∙ ap Ok e)))
 
 pub returns-in_err-answer-clause-limit : goal.returns-in_err-answer-clause-limit
 returns-in_err-answer-clause-limit g c = λ is.
