@@ -66,10 +66,10 @@ module _ (f : Dqbf) (graph : AigGraph) (inputs : graph.inputs ≡ length f.unive
   signed_is m (positive v) = refl
   signed_is m (negative v) = refl
 
-  literal_value : (m : Assignment) (l : Literal) → Contains (declared f) (variable_of l) → node_value graph (values m) (literal_node f l) ≡ literal_true m l
+  pub literal_value : (m : Assignment) (l : Literal) → Contains (declared f) (variable_of l) → node_value graph (values m) (literal_node f l) ≡ literal_true m l
   literal_value m l among = ap (λ v. with_sign (is_negative l) (m v)) (is_there (variable_of l) among) ∙ signed_is m l
 
-  literal_reads : (ranks : List ℕ) (e : Existential) (l : Literal) → Contains (declared f) (variable_of l) → MayRead f ranks e (variable_of l) → (i : ℕ) → Contains (node_support graph (literal_node f l)) i
+  pub literal_reads : (ranks : List ℕ) (e : Existential) (l : Literal) → Contains (declared f) (variable_of l) → MayRead f ranks e (variable_of l) → (i : ℕ) → Contains (node_support graph (literal_node f l)) i
       → MayRead f ranks e (input_variable f i)
   literal_reads ranks e l among may i reads = subst (MayRead f ranks e) (sym (is_there (variable_of l) among) ∙ ap (input_variable f) (the_one reads)) may
     where

@@ -3,3 +3,4 @@ mod ImpliedLiterals
 mod GateNodes
 mod DeclaredPlaces
 mod Readable
+mod BranchNodes

@@ -1,2 +1,3 @@
 pub mod Stating
+pub mod Branches
 pub mod Finding

@@ -1,8 +1,9 @@
 //! Definitions of existentials that the clauses state: the gates of a circuit that was written in
 //! clauses.
 //!
-//! Nothing is asked of a solver: a gate is read off the clauses on its output. Gates of other forms
-//! are not found, which costs time alone.
+//! Nothing is asked of a solver: a gate is read off the clauses on its output. Most are of one of a
+//! few forms; any other function of few inputs is found as a table, whose rows the clauses decide.
+//! What isn't found costs time alone.
 #![tactic(auto)]
 
 ghost use Rattle.std.specs.Prelude.{◌≡◌, ◌<◌, ◌+◌, length, IfOk, IsSome, Some};
@@ -16,19 +17,24 @@ use dq_formula::Formula;
 use dq_lits::Memory;
 use forms::find_gate;
 use index::Index;
-use outputs::Output;
+use outputs::{Output, output_at};
 use ranks::Placing;
 use std::alloc::Global;
+use tree_nodes::table_node;
 use wires::Wires;
 
 mod choices;
 mod clauses;
 mod conjunctions;
+mod coverage;
 mod forms;
 mod index;
 mod literals;
 mod outputs;
 mod ranks;
+mod tables;
+mod tree_nodes;
+mod trees;
 mod wires;
 
 /// The clauses of a formula, in which gates are looked for.
@@ -51,36 +57,32 @@ impl Gates {
     /// A rank for each existential, by place in order of declaration, such that gates can be read:
     /// behind a gate's inputs its output, as far as the clauses don't go round in a circle. No
     /// contract says so, since definitions are right by any ranks. Time and memory follow the
-    /// literals in clauses and the dependency sets, but for sorting; the only error is want of
+    /// literals in clauses and the dependency sets, but for sorting, and for tables, which are
+    /// looked for anew where the clauses decide twice as many rows; the only error is want of
     /// memory.
     pub fn ranks(&self, f: &Formula) -> Result<Vec<usize>, Memory> {
         let mut wires = Wires::new(self.alloc, f.set_leaders(self.alloc)?)?;
         for place in 0..f.existentials().len() {
             self.put_wires(f, place, &mut wires)?;
         }
-        Placing::new(self.alloc, wires)?.ranks(self.alloc)
+        Placing::new(self.alloc, f, &self.index, wires)?.ranks()
     }
 
     // Puts the gates whose output stands at a place.
     fn put_wires(&self, f: &Formula, place: usize, wires: &mut Wires) -> Result<(), Memory>
         requires { place < length f.now.existentials }
     {
-        f.every_formula_is_lawful();
-        let y = f.existentials()[place];
-        let output = Output {
-            f,
-            ranks: &[],
-            y,
-            numbers: self.index.on(f, y),
-        };
+        let output = output_at(f, &[], &self.index, place);
         wires.put_all(&output, place)
     }
 
     /// A definition of an existential that the clauses state, over what such a definition may read
     /// by these ranks: a conjunction or a disjunction of literals, one literal, a constant, a
-    /// choice between two literals by a third, or an exclusive or of two. None is found where the
-    /// clauses state no such gate. Time follows the clauses on the existential. The only error is
-    /// want of memory; a refused call leaves the graph as it was, but for gates that were made.
+    /// choice between two literals by a third, an exclusive or of two; else a table of at most ten
+    /// inputs, each of whose rows is decided by a clause that has no other variables. None is found
+    /// where the clauses state no such gate. Time follows the literals of the clauses on the
+    /// existential, but for maps. The only error is want of memory; a refused call leaves the graph
+    /// as it was, but for gates that were made.
     pub fn read(
         &self,
         f: &Formula,
@@ -107,7 +109,7 @@ impl Gates {
                 let node = gate.node(self.alloc, &output, graph)?;
                 Ok(Some(node))
             }
-            None => Ok(None),
+            None => table_node(self.alloc, &output, graph),
         }
     }
 }

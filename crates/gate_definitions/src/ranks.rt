@@ -1,57 +1,78 @@
 //! Ranks by which the gates that the clauses state can be read: behind a gate's inputs its output.
 
-use crate::index::add_up;
+use crate::coverage::Coverage;
+use crate::index::{Index, add_up};
+use crate::outputs::output_at;
+use crate::trees::find_tree;
 use crate::wires::{Wired, Wires};
+use dq_formula::Formula;
 use dq_lits::Memory;
 use std::alloc::Global;
 
 /// The existentials that are placed one after another, by their places in order of declaration.
 #[derive(Drop)]
-pub(crate) struct Placing {
+pub(crate) struct Placing<'f> {
+    alloc: Global,
+    f: &'f Formula,
+    index: &'f Index,
     gates: Vec<Wired>,
     // The inputs that tie with their gates' outputs, in order, each with the gate; and where those
     // of each existential end.
     uses: Vec<(usize, usize)>,
     ends: Vec<usize>,
     is_fixed: Vec<bool>,
+    coverage: Coverage,
     is_placed: Vec<bool>,
     order: Vec<usize>,
+    // Of each existential that is placed, its number in that order; the greatest number of others.
+    ranks: Vec<usize>,
     // All before it are placed or fixed, and all before the other one are placed.
     next: usize,
     next_fixed: usize,
 }
 
-impl Placing {
-    pub(crate) fn new(alloc: Global, wires: Wires) -> Result<Placing, Memory> {
+impl<'f> Placing<'f> {
+    pub(crate) fn new(
+        alloc: Global,
+        f: &'f Formula,
+        index: &'f Index,
+        wires: Wires,
+    ) -> Result<Placing<'f>, Memory> {
         let count = wires.is_fixed.len();
         let mut uses = wires.uses;
         uses.sort_unstable();
         let mut ends = counts(alloc, &uses, count)?;
         add_up(&mut ends);
         Ok(Placing {
+            alloc,
+            f,
+            index,
             gates: wires.gates,
             uses,
             ends,
             is_fixed: wires.is_fixed,
+            coverage: Coverage::new(alloc, f, wires.leaders)?,
             is_placed: vec![in alloc; false; count]?,
             order: Vec::new(alloc),
+            ranks: vec![in alloc; usize::MAX; count]?,
             next: 0,
             next_fixed: 0,
         })
     }
 
-    /// Places all existentials: the output of a gate as soon as all its inputs are placed, and
-    /// where no gate has that, the first one by declaration that isn't fixed, else the first one.
-    /// The rank of each is its number in that order.
-    pub(crate) fn ranks(mut self, alloc: Global) -> Result<Vec<usize>, Memory> {
+    /// Places all existentials: the output of a gate as soon as all its inputs are placed, or it has
+    /// a table over what is placed, and where no gate has that, the first one by declaration that
+    /// isn't fixed, else the first one. The rank of each is its number in that order.
+    pub(crate) fn ranks(mut self) -> Result<Vec<usize>, Memory> {
         self.place_ready()?;
+        self.place_tables()?;
         for at in 0..self.is_placed.len() {
             if at >= self.order.len() {
                 self.place_next()?;
             }
             self.release(at)?;
         }
-        numbers(alloc, &self.order)
+        Ok(self.ranks)
     }
 
     // Places the outputs of gates all of whose inputs come before them whichever way ties go.
@@ -103,6 +124,9 @@ impl Placing {
 
     fn place(&mut self, place: usize) -> Result<(), Memory> {
         if place < self.is_placed.len() && !self.is_placed[place] {
+            if place < self.ranks.len() {
+                self.ranks[place] = self.order.len();
+            }
             self.order.push(place)?;
             self.is_placed[place] = true;
         }
@@ -114,10 +138,54 @@ impl Placing {
         let Some(place) = self.order.get(at) else {
             return Ok(());
         };
-        let (start, end) = self.range(*place);
+        let place = *place;
+        let (start, end) = self.range(place);
         for number in start..end {
             self.count_down(number)?;
         }
+        self.close_all(place)
+    }
+
+    // Places the existentials whose tables are whole with one that was placed.
+    fn close_all(&mut self, place: usize) -> Result<(), Memory> {
+        let f = self.f;
+        if place >= f.existentials().len() {
+            return Ok(());
+        }
+        let index = self.index;
+        for number in index.on(f, f.existentials()[place]) {
+            let left = self
+                .coverage
+                .close(f, *number as usize, place, &self.is_placed);
+            if let Some(left) = left {
+                self.place_table(left)?;
+            }
+        }
+        Ok(())
+    }
+
+    // Places the existentials that have a table over what comes before them whichever way ties go.
+    fn place_tables(&mut self) -> Result<(), Memory> {
+        for place in 0..self.is_placed.len() {
+            self.place_table(place)?;
+        }
+        Ok(())
+    }
+
+    // Places an existential if it has a table over those that are placed.
+    fn place_table(&mut self, place: usize) -> Result<(), Memory> {
+        if place >= self.ranks.len() || place >= self.f.existentials().len() {
+            return Ok(());
+        }
+        if self.is_placed.get(place) != Some(&false) || !self.coverage.is_due(place) {
+            return Ok(());
+        }
+        self.ranks[place] = self.order.len();
+        let output = output_at(self.f, &self.ranks, self.index, place);
+        if find_tree(self.alloc, &output)?.is_some() {
+            return self.place(place);
+        }
+        self.ranks[place] = usize::MAX;
         Ok(())
     }
 
@@ -150,17 +218,6 @@ impl Placing {
             None => self.uses.len(),
         }
     }
-}
-
-// For each existential, by place, its number in an order.
-fn numbers(alloc: Global, order: &[usize]) -> Result<Vec<usize>, Memory> {
-    let mut numbers = vec![in alloc; 0usize; order.len()]?;
-    for (number, place) in order.iter().enumerate() {
-        if *place < numbers.len() {
-            numbers[*place] = number;
-        }
-    }
-    Ok(numbers)
 }
 
 // How many gates use each existential.

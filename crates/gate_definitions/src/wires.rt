@@ -26,7 +26,7 @@ pub(crate) struct Wired {
 pub(crate) struct Wires {
     alloc: Global,
     // For each existential, by place, that of one with the same dependency set: these tie.
-    leaders: Vec<usize>,
+    pub(crate) leaders: Vec<usize>,
     pub(crate) gates: Vec<Wired>,
     // The inputs that tie with their gate's output, by place, each with the gate.
     pub(crate) uses: Vec<(usize, usize)>,

@@ -1,0 +1,169 @@
+//! How many rows of an existential's table are decided by its clauses, as far as their other
+//! variables come before it.
+//!
+//! No contract speaks of these numbers: they tell when it is worth while to look for a table.
+
+ghost use Rattle.std.specs.Prelude.{◌<◌, length};
+
+use crate::tables::{MOST_ROWS, rows_of};
+use dq_formula::Formula;
+use dq_lits::{Lit, Memory};
+use std::alloc::Global;
+
+// A clause can only decide a bit of those of its existentials that see most, which tie: the leader
+// of their dependency set, and how many of them aren't placed yet.
+#[derive(Clone, Copy)]
+struct Ties {
+    leader: usize,
+    count: usize,
+}
+
+/// For each existential, by place, the rows that are decided, each counted for each clause that
+/// decides it, and at how many a table is looked for next.
+#[derive(Drop)]
+pub(crate) struct Coverage {
+    // For each existential, by place, that of one with the same dependency set.
+    leaders: Vec<usize>,
+    ties: Vec<Ties>,
+    rows: Vec<usize>,
+    goals: Vec<usize>,
+}
+
+impl Coverage {
+    /// Before any existential is placed.
+    pub(crate) fn new(alloc: Global, f: &Formula, leaders: Vec<usize>) -> Result<Coverage, Memory> {
+        let count = leaders.len();
+        let ties = all_ties(alloc, f, &leaders, &sights(alloc, f)?)?;
+        let mut coverage = Coverage {
+            leaders,
+            ties,
+            rows: vec![in alloc; 0usize; count]?,
+            goals: vec![in alloc; MOST_ROWS; count]?,
+        };
+        for number in 0..f.clauses() {
+            coverage.count_last(f, number, &[]);
+        }
+        Ok(coverage)
+    }
+
+    /// Notes that an existential of a clause was placed, and answers the one that is left, if all
+    /// others are placed: the rows that the clause decides are counted for it.
+    pub(crate) fn close(
+        &mut self,
+        f: &Formula,
+        number: usize,
+        place: usize,
+        is_placed: &[bool],
+    ) -> Option<usize> {
+        if number >= self.ties.len() {
+            return None;
+        }
+        let mut ties = self.ties[number];
+        if self.leaders.get(place) != Some(&ties.leader) || ties.count == 0 {
+            return None;
+        }
+        ties.count = ties.count - 1;
+        self.ties[number] = ties;
+        self.count_last(f, number, is_placed)
+    }
+
+    /// Whether a table is worth looking for; it then isn't until twice as many rows are decided.
+    pub(crate) fn is_due(&mut self, place: usize) -> bool {
+        if place >= self.rows.len() || place >= self.goals.len() {
+            return false;
+        }
+        let rows = self.rows[place];
+        if rows < self.goals[place] {
+            return false;
+        }
+        self.goals[place] = rows.saturating_mul(2);
+        true
+    }
+
+    // Counts the rows that a clause decides of its last existential that isn't placed.
+    fn count_last(&mut self, f: &Formula, number: usize, is_placed: &[bool]) -> Option<usize> {
+        let ties = *self.ties.get(number)?;
+        if ties.count != 1 || number >= f.clauses() {
+            return None;
+        }
+        let clause = f.clause(number);
+        let place = self.last(f, clause, ties.leader, is_placed)?;
+        let rows = self.rows.get_mut(place)?;
+        *rows = rows.saturating_add(rows_of(clause.len().saturating_sub(1)));
+        Some(place)
+    }
+
+    fn last(
+        &self,
+        f: &Formula,
+        clause: &[Lit],
+        leader: usize,
+        is_placed: &[bool],
+    ) -> Option<usize> {
+        for l in clause {
+            if let Some(place) = f.existential_place(l.var()) {
+                let is_open = is_placed.get(place) != Some(&true);
+                if is_open && self.leaders.get(place) == Some(&leader) {
+                    return Some(place);
+                }
+            }
+        }
+        None
+    }
+}
+
+// How many universals each existential sees, by its place.
+fn sights(alloc: Global, f: &Formula) -> Result<Vec<usize>, Memory> {
+    let mut sights = Vec::new(alloc);
+    for place in 0..f.existentials().len() {
+        sights.push(sight(f, place))?;
+    }
+    Ok(sights)
+}
+
+fn sight(f: &Formula, place: usize) -> usize
+    requires { place < length f.now.existentials }
+{
+    f.every_formula_is_lawful();
+    f.seen(f.existentials()[place]).len()
+}
+
+fn all_ties(
+    alloc: Global,
+    f: &Formula,
+    leaders: &[usize],
+    sights: &[usize],
+) -> Result<Vec<Ties>, Memory> {
+    let mut ties = Vec::new(alloc);
+    for number in 0..f.clauses() {
+        ties.push(ties_of(f, f.clause(number), leaders, sights))?;
+    }
+    Ok(ties)
+}
+
+fn ties_of(f: &Formula, clause: &[Lit], leaders: &[usize], sights: &[usize]) -> Ties {
+    let mut most = 0usize;
+    let mut ties = Ties {
+        leader: 0,
+        count: 0,
+    };
+    for l in clause {
+        if let Some(place) = f.existential_place(l.var()) {
+            let (leader, sight) = (number_at(leaders, place), number_at(sights, place));
+            if ties.count == 0 || sight > most {
+                most = sight;
+                ties = Ties { leader, count: 1 };
+            } else if leader == ties.leader {
+                ties.count = ties.count.saturating_add(1);
+            }
+        }
+    }
+    ties
+}
+
+fn number_at(numbers: &[usize], place: usize) -> usize {
+    match numbers.get(place) {
+        Some(number) => *number,
+        None => 0,
+    }
+}
