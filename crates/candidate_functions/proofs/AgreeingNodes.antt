@@ -23,8 +23,8 @@ use Rattle.aig_graph.proofs.Supported.{node_same}
 use Rattle.aig_graph.specs.declared.nodes.Node.{Node}
 use Rattle.expansion.specs.Table.{PointBits, ArePoints}
 use Rattle.candidate_functions.specs.Candidates.{SeesRow, AgreesAtPairs, FollowsRules}
-use Rattle.candidate_functions.specs.Pairs.{agrees, universal_places, has_bit, at_pair, IsPair, HasPair, ArePairs, IsReadByPair, IsPatched, IsByRules, IsCandidate}
-use Rattle.candidate_functions.specs.Differing.{HasOwnPoint, AreDiffering}
+use Rattle.candidate_functions.specs.Pairs.{agrees, universal_places, has_bit, at_pair, IsPair, IsReadByPair, IsPatched, IsByRules, IsCandidate}
+use Rattle.candidate_functions.specs.Differing.{HasOwnPoint, HasPairOf, IsCovered}
 use Rattle.candidate_functions.specs.declared.cubes.Pair.{Pair}
 use Rattle.candidate_functions.proofs.RowCubes.{mapped_from}
 use Rattle.candidate_functions.proofs.DeclaredPlaces.{is_found, all_from_contains, all_mapped, one_mapped}
@@ -125,8 +125,8 @@ pub record AtExistential (f : Dqbf) (rows : List (List Bool)) (points : PointBit
   pub same : (j k : ℕ) (r s : List Bool) → slice_get rows j ≡ Some r → slice_get rows k ≡ Some s → restriction y (row_assignment f r) ≡ restriction y (row_assignment f s)
       → points (j + 1) y.variable ≡ points (k + 1) y.variable
 
-module _ (f : Dqbf) (rows : List (List Bool)) (points : PointBits) (y : Existential) (g : AigGraph) (pairs : List Pair) (t : AtExistential f rows points y)
-    (are : ArePairs rows g (universal_places f y.sees) (length rows) pairs) (some : List Pair) (among_pairs : (p : Pair) → Contains some p → Contains pairs p) (m : Assignment) where
+module _ (f : Dqbf) (rows : List (List Bool)) (points : PointBits) (y : Existential) (g : AigGraph) (t : AtExistential f rows points y)
+    (pairs : List Pair) (each : All (IsPair rows g (universal_places f y.sees)) pairs) (m : Assignment) where
   abbrev inputs : ℕ → Bool
   inputs i = m (slice_index f.universals i)
 
@@ -137,7 +137,7 @@ module _ (f : Dqbf) (rows : List (List Bool)) (points : PointBits) (y : Existent
   row_length k row at = ap length (sym (get_or_from_slice_get rows k row row at)) ∙ t.whole k row (slice_get_within rows k row at)
 
   pair_of : (q : Pair) → Contains pairs q → IsPair rows g (universal_places f y.sees) q
-  pair_of q among = All-contains (IsPair rows g (universal_places f y.sees)) pairs q are.each among
+  pair_of q among = All-contains (IsPair rows g (universal_places f y.sees)) pairs q each among
 
   -- a pair whose cube is true is one of a row that the existential sees
   seen_by : (q : Pair) (among : Contains pairs q) → node_value g inputs q.cube ≡ true → SeesRow f y (pair_of q among).row m
@@ -152,91 +152,94 @@ module _ (f : Dqbf) (rows : List (List Bool)) (points : PointBits) (y : Existent
       ap (λ r. points r y.variable) p.round ∙ t.same p.place k p.row row p.at at (sym (seen_by q among holds) ∙ sees)
 
   module _ (k : ℕ) (row : List Bool) (at : slice_get rows k ≡ Some row) (sees : SeesRow f y row m) where
-    has : HasPair rows (universal_places f y.sees) pairs row
-    has = are.complete k row (slice_get_within rows k row at) at
-
-    own_holds : node_value g inputs has.pair.cube ≡ true
-    own_holds =
-        let p = pair_of has.pair has.among in
-        let one : p.place ≡ has.place = (let a = p.round in let b = has.round in omega arith) in
-        let is : Some p.row ≡ Some has.first = sym p.at ∙ ap (slice_get rows) one ∙ has.at in
-        let row_is : p.row ≡ has.first = cc in
-        let alike = agreeing f has.first (row_length has.place has.first has.at) (bit_of row) (row_assignment f row) (λ x among. assignment_of-place f.universals row x (row_length k row at)) y.sees t.among has.same in
-        p.cube.value inputs ∙ ap (λ r. agrees (universal_places f y.sees) r inputs) row_is
-        ∙ agreed f has.first (row_length has.place has.first has.at) inputs m input_at y.sees t.among (sees ∙ alike)
-
-    own_bit : points has.pair.round y.variable ≡ points (k + 1) y.variable
-    own_bit = bit_by has.pair has.among k row at sees own_holds
-
-    bit_there : Contains some has.pair → (b : Bool) → points (k + 1) y.variable ≡ b → at_pair g (has_bit b points y.variable) some inputs ≡ true
-    bit_there own b is =
-        one_passes (λ q. has_bit b points y.variable q.round && node_value g inputs q.cube) some has.pair own
-        (both (has_bit b points y.variable has.pair.round) (node_value g inputs has.pair.cube) (same_to b (points has.pair.round y.variable) (own_bit ∙ is)) own_holds)
-
-    bit_absent : (b : Bool) → points (k + 1) y.variable ≡ b → at_pair g (has_bit (not b) points y.variable) some inputs ≡ false
+    bit_absent : (b : Bool) → points (k + 1) y.variable ≡ b → at_pair g (has_bit (not b) points y.variable) pairs inputs ≡ false
     bit_absent b is =
-        none_pass (λ q. has_bit (not b) points y.variable q.round && node_value g inputs q.cube) some (λ q among.
+        none_pass (λ q. has_bit (not b) points y.variable q.round && node_value g inputs q.cube) pairs (λ q among.
         and_none (has_bit (not b) points y.variable q.round) (node_value g inputs q.cube) (λ holds.
-        ap (same_bit (not b)) (bit_by q (among_pairs q among) k row at sees holds ∙ is) ∙ other_bit b))
+        ap (same_bit (not b)) (bit_by q among k row at sees holds ∙ is) ∙ other_bit b))
 
-    -- at a pair whose own row has the point, a node that reads what is seen has it
-    own_value : IsLawful f → (node : Node) → All (Contains y.sees) (node_output f g node).support → HasOwnPoint rows points y.variable g node has.pair
-        → node_value g inputs node ≡ points (k + 1) y.variable
-    own_value lawful node reads right =
-        let p = pair_of has.pair has.among in
-        let seen = seen_by has.pair has.among own_holds in
-        let at_round : slice_get rows (has.pair.round - 1) ≡ Some p.row = subst (λ j. slice_get rows j ≡ Some p.row) (let r = p.round in omega arith) p.at in
-        sym (node_same (bit_of p.row) inputs g node (all_from_contains (λ j. bit_of p.row j ≡ inputs j) (node_support g node) (λ j read.
-        let x = slice_index f.universals j in
-        let own = one_mapped (Contains y.sees) (slice_index f.universals) (node_support g node) j reads read in
-        let among = All-contains (Contains f.universals) y.sees x t.among own in
-        let below : j < length f.universals = elim (cases_lt j (length f.universals)) [
-          | inl b ↦ b
-          | inr past ↦ absurd (none_at_zero f lawful x (get_or_past f.universals j 0 (omega (arith, past))) (inl among))
-        ] in
-        let there : place f.universals x ≡ j = place-get_or f.universals j 0 (distinct_universals f lawful.prefix) below in
-        sym (ap (bit_of p.row) there) ∙ assignment_of-place f.universals p.row x (row_length p.place p.row p.at) ∙ sym (same_bits_seen m (row_assignment f p.row) y.sees x seen own))))
-        ∙ right p.row at_round ∙ own_bit
+    module _ (other : Node) (covered : IsCovered rows points g (universal_places f y.sees) y.variable other pairs row) where
+      first_length : length covered.first ≡ length f.universals
+      first_length = row_length covered.place covered.first covered.at
 
-  nothing_there : All (λ row. SeesRow f y row m → ⊥) rows → (b : Bool) → at_pair g (has_bit b points y.variable) some inputs ≡ false
+      first_seen : SeesRow f y covered.first m
+      first_seen = sees ∙ agreeing f covered.first first_length (bit_of row) (row_assignment f row) (λ x among. assignment_of-place f.universals row x (row_length k row at)) y.sees t.among covered.same
+
+      first_bit : points (covered.place + 1) y.variable ≡ points (k + 1) y.variable
+      first_bit = t.same covered.place k covered.first row covered.at at (sym first_seen ∙ sees)
+
+      pair_holds : (h : HasPairOf pairs (covered.place + 1)) → node_value g inputs h.pair.cube ≡ true
+      pair_holds h =
+          let p = pair_of h.pair h.among in
+          let one : p.place ≡ covered.place = (let a = p.round in let b = h.is in omega arith) in
+          let is : Some p.row ≡ Some covered.first = sym p.at ∙ ap (slice_get rows) one ∙ covered.at in
+          let row_is : p.row ≡ covered.first = cc in
+          p.cube.value inputs ∙ ap (λ r. agrees (universal_places f y.sees) r inputs) row_is
+          ∙ agreed f covered.first first_length inputs m input_at y.sees t.among first_seen
+
+      bit_there : HasPairOf pairs (covered.place + 1) → (b : Bool) → points (k + 1) y.variable ≡ b → at_pair g (has_bit b points y.variable) pairs inputs ≡ true
+      bit_there h b is =
+          one_passes (λ q. has_bit b points y.variable q.round && node_value g inputs q.cube) pairs h.pair h.among
+          (both (has_bit b points y.variable h.pair.round) (node_value g inputs h.pair.cube)
+          (same_to b (points h.pair.round y.variable) (ap (λ r. points r y.variable) h.is ∙ first_bit ∙ is)) (pair_holds h))
+
+      -- where the first row has the point, a node that reads what is seen has it
+      own_value : IsLawful f → All (Contains y.sees) (node_output f g other).support → HasOwnPoint rows points g y.variable other (covered.place + 1)
+          → node_value g inputs other ≡ points (k + 1) y.variable
+      own_value lawful reads right =
+          let at_round : slice_get rows ((covered.place + 1) - 1) ≡ Some covered.first = subst (λ j. slice_get rows j ≡ Some covered.first) (omega arith) covered.at in
+          sym (node_same (bit_of covered.first) inputs g other (all_from_contains (λ j. bit_of covered.first j ≡ inputs j) (node_support g other) (λ j read.
+          let x = slice_index f.universals j in
+          let own = one_mapped (Contains y.sees) (slice_index f.universals) (node_support g other) j reads read in
+          let among = All-contains (Contains f.universals) y.sees x t.among own in
+          let below : j < length f.universals = elim (cases_lt j (length f.universals)) [
+            | inl b ↦ b
+            | inr past ↦ absurd (none_at_zero f lawful x (get_or_past f.universals j 0 (omega (arith, past))) (inl among))
+          ] in
+          let there : place f.universals x ≡ j = place-get_or f.universals j 0 (distinct_universals f lawful.prefix) below in
+          sym (ap (bit_of covered.first) there) ∙ assignment_of-place f.universals covered.first x first_length
+          ∙ sym (same_bits_seen m (row_assignment f covered.first) y.sees x first_seen own))))
+          ∙ right covered.first at_round ∙ first_bit
+
+  nothing_there : All (λ row. SeesRow f y row m → ⊥) rows → (b : Bool) → at_pair g (has_bit b points y.variable) pairs inputs ≡ false
   nothing_there away b =
-      none_pass (λ q. has_bit b points y.variable q.round && node_value g inputs q.cube) some (λ q own.
+      none_pass (λ q. has_bit b points y.variable q.round && node_value g inputs q.cube) pairs (λ q among.
       and_none (has_bit b points y.variable q.round) (node_value g inputs q.cube) (λ holds.
-      let among = among_pairs q own in
       let p = pair_of q among in
       absurd (subst (λ r. SeesRow f y r m → ⊥) (get_or_from_slice_get rows p.place p.row p.row p.at) (away p.place p.row (slice_get_within rows p.place p.row p.at)) (seen_by q among holds))))
 
-module _ (f : Dqbf) (rows : List (List Bool)) (points : PointBits) (rules : List Rule) (y : Existential) (old new : AigGraph) (pairs some : List Pair) (other node : Node)
-    (lawful : IsLawful f) (t : AtExistential f rows points y) (are : ArePairs rows old (universal_places f y.sees) (length rows) pairs) (by : IsByRules f old rules y other)
-    (differ : AreDiffering rows points y.variable old other pairs some) (is : IsPatched old new points y.variable some other node) where
+module _ (f : Dqbf) (rows : List (List Bool)) (points : PointBits) (rules : List Rule) (y : Existential) (old new : AigGraph) (pairs : List Pair) (other node : Node)
+    (lawful : IsLawful f) (t : AtExistential f rows points y) (each : All (IsPair rows old (universal_places f y.sees)) pairs) (by : IsByRules f old rules y other)
+    (covered : (k : ℕ) (row : List Bool) → slice_get rows k ≡ Some row → IsCovered rows points old (universal_places f y.sees) y.variable other pairs row)
+    (is : IsPatched old new points y.variable pairs other node) where
   at_pairs : AgreesAtPairs f rows points y (node_output f new node)
   at_pairs k row m at sees =
       let i : ℕ → Bool = λ p. m (slice_index f.universals p) in
       let b = points (k + 1) y.variable in
-      let pair = has f rows points y old pairs t are some differ.among m k row at sees in
-      let ones = at_pair old (has_bit true points y.variable) some i in
-      let zeros = at_pair old (has_bit false points y.variable) some i in
-      is.value i ∙ (elim (differ.others pair.pair pair.among) [
-        | inl own ↦ patched_one b (node_value old i other) ones zeros
-            (bit_there f rows points y old pairs t are some differ.among m k row at sees own true)
-            (bit_absent f rows points y old pairs t are some differ.among m k row at sees false)
-            (bit_there f rows points y old pairs t are some differ.among m k row at sees own false)
+      let here = covered k row at in
+      let ones = at_pair old (has_bit true points y.variable) pairs i in
+      let zeros = at_pair old (has_bit false points y.variable) pairs i in
+      is.value i ∙ (elim here.state [
+        | inl pair ↦ patched_one b (node_value old i other) ones zeros
+            (bit_there f rows points y old t pairs each m k row at sees other here pair true)
+            (bit_absent f rows points y old t pairs each m k row at sees false)
+            (bit_there f rows points y old t pairs each m k row at sees other here pair false)
         | inr right ↦ patched_right b (node_value old i other) ones zeros
-            (own_value f rows points y old pairs t are some differ.among m k row at sees lawful other by.reads right)
-            (bit_absent f rows points y old pairs t are some differ.among m k row at sees true)
-            (bit_absent f rows points y old pairs t are some differ.among m k row at sees false)
+            (own_value f rows points y old t pairs each m k row at sees other here lawful by.reads right)
+            (bit_absent f rows points y old t pairs each m k row at sees true)
+            (bit_absent f rows points y old t pairs each m k row at sees false)
       ])
 
   follows : FollowsRules f rows rules y (node_output f new node)
   follows m bit away first =
       let i : ℕ → Bool = λ p. m (slice_index f.universals p) in
-      is.value i ∙ patched_none (node_value old i other) (at_pair old (has_bit true points y.variable) some i) (at_pair old (has_bit false points y.variable) some i)
-      (nothing_there f rows points y old pairs t are some differ.among m away true) (nothing_there f rows points y old pairs t are some differ.among m away false)
+      is.value i ∙ patched_none (node_value old i other) (at_pair old (has_bit true points y.variable) pairs i) (at_pair old (has_bit false points y.variable) pairs i)
+      (nothing_there f rows points y old t pairs each m away true) (nothing_there f rows points y old t pairs each m away false)
       ∙ by.value m bit first
 
-  read_by_pair : (i : ℕ) → IsReadByPair old some i → Contains y.sees (slice_index f.universals i)
+  read_by_pair : (i : ℕ) → IsReadByPair old pairs i → Contains y.sees (slice_index f.universals i)
   read_by_pair i r =
-      let p = All-contains (IsPair rows old (universal_places f y.sees)) pairs r.pair are.each (differ.among r.pair r.among) in
+      let p = All-contains (IsPair rows old (universal_places f y.sees)) pairs r.pair each r.among in
       let from = mapped_from (place f.universals) y.sees i (p.cube.reads i r.reads) in
       let x = from.0 in
       let among = All-contains (Contains f.universals) y.sees x t.among from.1 in

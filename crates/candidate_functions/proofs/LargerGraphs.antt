@@ -1,5 +1,5 @@
 -- What stays as a graph grows.
-use Rattle.std.proofs.Common.{ℕ, Bool, List, Option, map, length, refl, sym, ◌∙◌, subst, slice_index, get_or}
+use Rattle.std.proofs.Common.{ℕ, Bool, List, Option, map, refl, sym, ◌∙◌, subst, slice_index, get_or}
 use Rattle.std.specs.List.{All, Contains}
 use Rattle.std.proofs.lemmas.List.Elements.{All-weaker}
 use Rattle.dq_lits.specs.Formula.{Existential, Dqbf}
@@ -12,7 +12,7 @@ use Rattle.aig_graph.specs.Outputs.{node_output}
 use Rattle.aig_graph.specs.declared.nodes.Node.{Node}
 use Rattle.expansion.specs.Table.{PointBits}
 use Rattle.candidate_functions.specs.Candidates.{AreDefinitions}
-use Rattle.candidate_functions.specs.Pairs.{IsRowCube, IsPair, ArePairs, universal_places, IsClass, IsByRules, IsCandidate, IsFirstOutput}
+use Rattle.candidate_functions.specs.Pairs.{IsRowCube, IsPair, universal_places, IsPlacedClass, IsClass, IsByRules, IsCandidate, IsFirstOutput}
 use Rattle.candidate_functions.specs.declared.classes.Class.{Class}
 use Rattle.candidate_functions.specs.declared.cubes.Pair.{Pair}
 
@@ -49,14 +49,18 @@ module _ (old new : AigGraph) (h : Extends old new) where
     cube = cube_stays places pair.row p.cube pair.cube;
   }
 
-  pub pairs_stay : (rows : List (List Bool)) (places : List ℕ) (count : ℕ) (pairs : List Pair) → ArePairs rows old places count pairs → ArePairs rows new places count pairs
-  pairs_stay rows places count pairs are = record {
-    each = All-weaker (IsPair rows old places) (IsPair rows new places) (pair_stays rows places) pairs are.each;
-    complete = are.complete;
+  pub pairs_stay : (rows : List (List Bool)) (places : List ℕ) (pairs : List Pair) → All (IsPair rows old places) pairs → All (IsPair rows new places) pairs
+  pairs_stay rows places pairs each = All-weaker (IsPair rows old places) (IsPair rows new places) (pair_stays rows places) pairs each
+
+  pub placed_stays : (rows : List (List Bool)) (places : List ℕ) (c : Class) → IsPlacedClass rows old places c → IsPlacedClass rows new places c
+  placed_stays rows places c is = record {
+    rounds = is.rounds;
+    one_each = is.one_each;
+    cubes = λ i n row at there. cube_stays places row n (is.cubes i n row at there);
   }
 
   pub class_stays : (f : Dqbf) (rows : List (List Bool)) (c : Class) → IsClass f rows old c → IsClass f rows new c
-  class_stays f rows c is y known = pairs_stay rows (universal_places f y.sees) (length rows) c.pairs.items (is y known)
+  class_stays f rows c is y known = placed_stays rows (universal_places f y.sees) c (is y known)
 
   pub support_stays : (f : Dqbf) (n : Node) → IsNode old n → (P : ℕ → Type 0) → All P (node_output f old n).support → All P (node_output f new n).support
   support_stays f n is P all = subst (λ s. All P (map (slice_index f.universals) s)) (sym (h.supports n is)) all

@@ -11,4 +11,7 @@ pub mod DefinedPoints
 pub mod AllOutputs
 pub mod SettledDefinitions
 pub mod TreeNodes
-pub mod DifferingPairs
+pub mod WrittenRows
+pub mod KnownPoints
+pub mod PairRounds
+pub mod PatchedPairs

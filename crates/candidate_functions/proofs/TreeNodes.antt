@@ -1,16 +1,16 @@
 -- Nodes over what an existential sees.
-use Rattle.std.proofs.Common.{◌≡◌, ℕ, suc, ◌+◌, ◌-◌, ◌<◌, ◌≤◌, Bool, false, List, [], ◌∷◌, ◌++◌, length, get_or, set, slice_get, slice_index, None, Some, sym, ◌∙◌, ap, subst, inl, inr, arith}
+use Rattle.std.proofs.Common.{◌≡◌, ℕ, ◌+◌, ◌-◌, ◌<◌, ◌≤◌, Bool, false, List, [], ◌∷◌, ◌++◌, length, get_or, set, slice_get, slice_index, None, Some, IfSome, sym, ◌∙◌, ap, subst, inl, inr, arith}
 use Rattle.std.specs.List.{All, Contains}
 use Rattle.std.proofs.lemmas.Bool.{cases_lt}
-use Rattle.std.proofs.lemmas.List.{get_or_past, length-set, length_push, get_or_push}
+use Rattle.std.proofs.lemmas.List.{get_or_past, get_or-map, length-map, length-set, length_push, get_or_push}
 use Rattle.std.proofs.Math.ListN.{get_or-append}
 use Rattle.std.proofs.lemmas.List.Elements.{All-set, All-contains}
 use Rattle.std.proofs.lemmas.Option.{slice_get_within}
 use Rattle.dq_lits.specs.Formula.{Existential, Dqbf, existential_of}
 use Rattle.dq_formula.specs.Prefix.{IsLawful}
 use Rattle.dq_formula.proofs.Places.{place}
-use Rattle.dq_formula.proofs.Sorted.{get_or-place}
-use Rattle.aig_graph.specs.Graph.{AigGraph, IsNode, node_support}
+use Rattle.dq_formula.proofs.Sorted.{get_or-place, place-below}
+use Rattle.aig_graph.specs.Graph.{AigGraph, node_support}
 use Rattle.aig_graph.specs.Made.{Extends, IsChosen}
 use Rattle.aig_graph.specs.declared.nodes.Node.{Node}
 use Rattle.aig_graph.specs.declared.nodes.Node.TheVariants.{Constant, Input}
@@ -41,6 +41,14 @@ at_over g places nodes are k = elim (cases_lt k (length nodes)) [
   | inl below ↦ are k (Constant false) below
   | inr not_below ↦ subst (IsOver g places) (sym (get_or_past nodes k (Constant false) (omega (arith, not_below)))) (constant_over g places false)
 ]
+
+-- where a universal that is seen stands
+pub place_among : (f : Dqbf) (seen : List ℕ) (x p : ℕ) → Contains seen x → p ≡ place f.universals x → Contains (universal_places f seen) p
+place_among f seen x p (k, below, at) is =
+    (k, rw (length-map seen (place f.universals)) below, get_or-map (place f.universals) seen k x p below ∙ ap (place f.universals) at ∙ sym is)
+
+pub place_within : (f : Dqbf) (seen : List ℕ) (x p : ℕ) → All (Contains f.universals) seen → Contains seen x → p ≡ place f.universals x → p < length f.universals
+place_within f seen x p all among is = subst (λ q. q < length f.universals) (sym is) (place-below f.universals x (is_found f.universals x (All-contains (Contains f.universals) seen x all among)))
 
 pub chosen_over : (old new : AigGraph) (places : List ℕ) (p : ℕ) (t e n : Node) → Contains places p → IsOver old places t → IsOver old places e
     → IsChosen old new (Input p false) t e n → IsOver new places n
@@ -74,6 +82,9 @@ tree_more old mid new places at nodes n some far grown is = record {
 
 none_is : {X : Type 0} (x : X) → None ≡ Some x → ⊥
 none_is x e = cc
+
+pub seen_told : (f : Dqbf) (v : ℕ) (seen : List ℕ) → IfSome (existential_of f v) (λ e. seen ≡ e.sees) → (e : Existential) → existential_of f v ≡ Some e → seen ≡ e.sees
+seen_told f v seen told e found = subst (λ o. IfSome o (λ z. seen ≡ z.sees)) found told
 
 -- without rules nothing is said of its values
 pub unruled : (f : Dqbf) → IsLawful f → (v : ℕ) (y : Existential) → existential_of f v ≡ Some y → (g : AigGraph) (places : List ℕ) → places ≡ universal_places f y.sees

@@ -1,5 +1,5 @@
 -- Words of private contracts: the pairs of existentials with one dependency set, as nodes.
-use Rattle.std.specs.Prelude.{◌≡◌, ℕ, ◌+◌, ◌<◌, ◌≤◌, ◌==◌, ◌⊎◌, Bool, true, false, not, ◌&&◌, ◌||◌, List, length, map, Option, None, Some, slice_get, slice_index_or}
+use Rattle.std.specs.Prelude.{◌≡◌, ℕ, ◌+◌, ◌<◌, ◌≤◌, ◌-◌, ◌==◌, ◌⊎◌, Bool, true, false, not, ◌&&◌, ◌||◌, List, length, map, Option, None, Some, slice_get, slice_index, slice_index_or}
 use Rattle.std.specs.List.{All, Contains, list_all, list_any, position_or_len}
 use Rattle.std.specs.Option.{option_map}
 use Rattle.dq_lits.specs.Formula.{Existential, Dqbf, existential_of}
@@ -45,23 +45,22 @@ pub record IsPair (rows : List (List Bool)) (graph : AigGraph) (places : List �
   pub at : slice_get rows place ≡ Some row
   pub cube : IsRowCube graph places row pair.cube
 
--- one of the pairs is that of the row
-pub record HasPair (rows : List (List Bool)) (places : List ℕ) (pairs : List Pair)
+-- one of the rounds has a row with the same bits
+pub record HasRound (rows : List (List Bool)) (places : List ℕ) (rounds : List ℕ)
     (row : List Bool) : Type 0 where
-  pub pair : Pair
-  pub among : Contains pairs pair
-  pub place : ℕ
+  pub round : ℕ
+  pub among : Contains rounds round
+  pub from_one : 1 ≤ round
   pub first : List Bool
-  pub round : pair.round ≡ place + 1
-  pub at : slice_get rows place ≡ Some first
+  pub at : slice_get rows (round - 1) ≡ Some first
   pub same : agrees places first (bit_of row) ≡ true
 
--- the pairs of the first rows
-pub record ArePairs (rows : List (List Bool)) (graph : AigGraph) (places : List ℕ) (count : ℕ)
-    (pairs : List Pair) : Type 0 where
-  pub each : All (IsPair rows graph places) pairs
+-- the rounds of the pairs of the first rows
+pub record ArePairRounds (rows : List (List Bool)) (places : List ℕ) (count : ℕ)
+    (rounds : List ℕ) : Type 0 where
+  pub each : All (λ r. (1 ≤ r) × (r ≤ length rows)) rounds
   pub complete : (k : ℕ) (row : List Bool) → k < count → slice_get rows k ≡ Some row
-      → HasPair rows places pairs row
+      → HasRound rows places rounds row
 
 abbrev pub AreRounds : ℕ → List Pair → Type 0
 AreRounds count pairs = All (λ p. (1 ≤ p.round) × (p.round ≤ count)) pairs
@@ -69,11 +68,6 @@ AreRounds count pairs = All (λ p. (1 ≤ p.round) × (p.round ≤ count)) pairs
 -- where universals stand among all of them
 abbrev pub universal_places : Dqbf → List ℕ → List ℕ
 universal_places f xs = map (λ x. position_or_len (λ u. u == x) f.universals) xs
-
--- the pairs of all rows, where these universals are seen
-abbrev pub AreSeenPairs : Dqbf → List (List Bool) → AigGraph → List ℕ → List Pair → Type 0
-AreSeenPairs f rows graph sees pairs =
-    ArePairs rows graph (universal_places f sees) (length rows) pairs
 
 -- a pair's cube reads it
 pub record IsReadByPair (graph : AigGraph) (pairs : List Pair) (i : ℕ) : Type 0 where
@@ -180,19 +174,31 @@ pub record HasClassLike (f : Dqbf) (classes : List Class) (place y : ℕ) : Type
   pub at : slice_get classes place ≡ Some class
   pub alike : set_of f class.y ≡ set_of f y
 
--- each class has the pairs of its existential's dependency set
+-- the rounds of all pairs of a class whose existentials see the inputs at these places, and cubes of
+-- some of them
+pub record IsPlacedClass (rows : List (List Bool)) (graph : AigGraph) (places : List ℕ)
+    (class : Class) : Type 0 where
+  pub rounds : ArePairRounds rows places (length rows) class.rounds.items
+  pub one_each : length class.cubes.items ≡ length class.rounds.items
+  pub cubes : (i : ℕ) (cube : Node) (row : List Bool)
+      → slice_get class.cubes.items i ≡ Some (Some cube)
+      → slice_get rows (slice_index class.rounds.items i - 1) ≡ Some row
+      → IsRowCube graph places row cube
+
+-- each class is that of its existential's dependency set
 abbrev pub IsClass : Dqbf → List (List Bool) → AigGraph → Class → Type 0
 IsClass f rows graph class =
     (y : Existential) → existential_of f class.y ≡ Some y
-    → AreSeenPairs f rows graph y.sees class.pairs.items
+    → IsPlacedClass rows graph (universal_places f y.sees) class
 
--- at this place there are the pairs of an existential's dependency set
+-- at this place there is the class of an existential's dependency set
 pub record HasClass (f : Dqbf) (rows : List (List Bool)) (graph : AigGraph) (classes : List Class)
     (place y : ℕ) : Type 0 where
   pub class : Class
   pub at : slice_get classes place ≡ Some class
-  pub are_pairs : (e : Existential) → existential_of f y ≡ Some e
-      → AreSeenPairs f rows graph e.sees class.pairs.items
+  pub is_class : (e : Existential) → existential_of f y ≡ Some e
+      → IsPlacedClass rows graph (universal_places f e.sees) class
+  pub alike : set_of f class.y ≡ set_of f y
 
 -- what stands at the places of the first existentials
 pub record AreFirstOutputs (f : Dqbf) (rows : List (List Bool)) (points : PointBits)

@@ -51,8 +51,9 @@ impl Outputs {
 ///
 /// The graph has an input for each universal, and behind these one for each existential, for
 /// definitions to read. The points are those of a model of all instances under the table's rows.
-/// Work and memory follow the pairs, which existentials with one dependency set share, and the
-/// gates. A refused call leaves gates that were made.
+/// Work and memory follow the points and the gates. Beside that an existential costs what it sees only
+/// where its bit at some row has to be put in: existentials with one dependency set share their
+/// pairs, and a pair's cube is made once. A refused call leaves gates that were made.
 pub fn build(
     alloc: Global,
     f: &Formula,

@@ -1,24 +1,25 @@
 //! Existentials with one dependency set have one list of pairs.
 
-ghost use Rattle.std.specs.Prelude.{◌≡◌, ◌≤◌, true, [], length, All, IsSome, IfOk, OnOk, Some};
+ghost use Rattle.std.specs.Prelude.{◌≡◌, true, [], length, replicate, All, IsSome, IfOk, OnOk, Some, None};
 ghost use Rattle.dq_lits.specs.Formula.{Existential, existential_of};
-ghost use Rattle.aig_graph.specs.Made.{Extends};
-ghost use Rattle.candidate_functions.specs.Pairs.{set_of, AreSeenPairs, IsClass, HasClass, HasClassLike};
+ghost use Rattle.aig_graph.specs.Graph.{AigGraph};
+ghost use Rattle.candidate_functions.specs.Pairs.{set_of, universal_places, ArePairRounds, IsClass, HasClass, HasClassLike};
 
-use crate::cubes::{Pair, all_pairs};
-use crate::differing::Work;
-use aig_graph::Graph;
+use crate::rounds::pair_rounds;
+use aig_graph::Node;
 use dq_formula::Formula;
 use dq_lits::Memory;
 use expansion::Table;
 use std::alloc::Global;
 use std::collections::BTreeMap;
 
-// The pairs of a dependency set, with the first existential that has it.
+// The pairs of a dependency set, by their rounds, with the first existential that has it; and the
+// cubes of those at which a candidate was patched.
 #[derive(Drop)]
 pub(crate) struct Class {
     pub y: u64,
-    pub pairs: Vec<Pair>,
+    pub rounds: Vec<u64>,
+    pub cubes: Vec<Option<Node>>,
 }
 
 // The classes so far, and what is known of where each dependency set has its class.
@@ -27,7 +28,6 @@ pub(crate) struct Classes {
     pub alloc: Global,
     pub classes: Vec<Class>,
     pub known: KnownSets,
-    pub work: Work,
 }
 
 // For each existential, by place, one with the same dependency set, and for such a one the place of
@@ -66,58 +66,59 @@ pub(crate) fn no_classes(alloc: Global, f: &Formula) -> Result<Classes, Memory>
             leaders,
             places: BTreeMap::new(alloc),
         },
-        work: Work::new(),
     })
 }
 
 impl Classes {
     // The place of the class of an existential's dependency set. It is made where the set wasn't
     // met yet.
-    pub(crate) fn class_of(
-        &mut self,
-        f: &Formula,
-        table: &Table,
-        y: u64,
-        graph: &mut Graph,
-    ) -> Result<usize, Memory>
+    pub(crate) fn class_of(&mut self, f: &Formula, table: &Table, y: u64) -> Result<usize, Memory>
         requires declared { IsSome (existential_of f.now y) }
-        requires inputs { length f.now.universals ≤ graph.old.inputs }
         requires whole { All (λ row. length row ≡ length f.now.universals) table.now.rows }
-        requires classes { All (IsClass f.now table.now.rows graph.old) self.old.classes.items }
-        ensures extends { Extends graph.old graph.new }
-        ensures classes { OnOk result
-            (All (IsClass f.now table.now.rows graph.new) self.new.classes.items) }
-        ensures place { IfOk result
-            (λ place. HasClass f.now table.now.rows graph.new self.new.classes.items place y) }
+        ensures classes { (graph : AigGraph)
+            → All (IsClass f.now table.now.rows graph) self.old.classes.items
+            → OnOk result (All (IsClass f.now table.now.rows graph) self.new.classes.items) }
+        ensures place { (graph : AigGraph)
+            → All (IsClass f.now table.now.rows graph) self.old.classes.items → IfOk result
+            (λ place. HasClass f.now table.now.rows graph self.new.classes.items place y) }
     {
         let next = self.classes.len();
         let first = self.known.first_with(f, y, next)?;
         if is_class_of(f, &self.classes, first, y) {
             return Ok(first);
         }
-        let pairs = seen_pairs(self.alloc, f, table, y, graph)?;
-        self.classes.push(Class { y, pairs })?;
+        self.classes.push(new_class(self.alloc, f, table, y)?)?;
         Ok(next)
     }
 }
 
-fn seen_pairs(
-    alloc: Global,
-    f: &Formula,
-    table: &Table,
-    y: u64,
-    graph: &mut Graph,
-) -> Result<Vec<Pair>, Memory>
+fn new_class(alloc: Global, f: &Formula, table: &Table, y: u64) -> Result<Class, Memory>
     requires declared { IsSome (existential_of f.now y) }
-    requires inputs { length f.now.universals ≤ graph.old.inputs }
     requires whole { All (λ row. length row ≡ length f.now.universals) table.now.rows }
-    ensures extends { Extends graph.old graph.new }
-    ensures pairs { (e : Existential) → existential_of f.now y ≡ Some e
-        → IfOk result (λ pairs. AreSeenPairs f.now table.now.rows graph.new e.sees pairs.items) }
+    ensures class { (graph : AigGraph) → IfOk result (IsClass f.now table.now.rows graph) }
+    ensures own { IfOk result (λ class. class.y ≡ y) }
+{
+    let rounds = seen_rounds(alloc, f, table, y)?;
+    let cubes = no_cubes(alloc, rounds.len())?;
+    Ok(Class { y, rounds, cubes })
+}
+
+fn seen_rounds(alloc: Global, f: &Formula, table: &Table, y: u64) -> Result<Vec<u64>, Memory>
+    requires declared { IsSome (existential_of f.now y) }
+    requires whole { All (λ row. length row ≡ length f.now.universals) table.now.rows }
+    ensures { (e : Existential) → existential_of f.now y ≡ Some e
+        → IfOk result (λ rounds. ArePairRounds table.now.rows (universal_places f.now e.sees)
+        (length table.now.rows) rounds.items) }
 {
     f.every_formula_is_lawful();
     let places = f.seen_places(alloc, y)?;
-    all_pairs(alloc, table, &places, graph)
+    pair_rounds(alloc, table, &places)
+}
+
+fn no_cubes(alloc: Global, n: usize) -> Result<Vec<Option<Node>>, Memory>
+    ensures { IfOk result (λ cubes. cubes.items ≡ replicate n None) }
+{
+    Ok(vec![in alloc; None; n]?)
 }
 
 // Whether there is a class at this place, and it is that of the existential's dependency set.

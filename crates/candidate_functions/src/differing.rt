@@ -1,107 +1,83 @@
-//! At which pairs a node has another bit than the points: they alone are patched, so that a circuit
+//! Where nodes have other bits than the points: there alone they are patched, so that a circuit
 //! doesn't grow where a guess was right.
 
-ghost use Rattle.std.specs.Prelude.{◌≡◌, ◌≤◌, ℕ, true, false, length, All, Contains, IfOk};
+ghost use Rattle.std.specs.Prelude.{◌≡◌, ◌≤◌, ◌<◌, ◌+◌, ℕ, length, map, All, Contains, IfOk, IsTrue};
 ghost use Rattle.dq_lits.specs.Row.{bit_of};
-ghost use Rattle.aig_graph.specs.Graph.{IsNode};
+ghost use Rattle.aig_graph.specs.Graph.{IsNode, size_of, node_value};
 ghost use Rattle.expansion.specs.Table.{point_bits};
-ghost use Rattle.candidate_functions.specs.Pairs.{AreRounds};
-ghost use Rattle.candidate_functions.specs.Differing.{HasOwnPoint, AreDiffering};
+ghost use Rattle.candidate_functions.specs.Differing.{AreValues, HasBitAt, HasKnownPoint};
 
-use crate::cubes::Pair;
 use crate::outputs::Known;
 use aig_graph::{Graph, Node};
-use dq_lits::{Memory, Row};
+use dq_lits::{Memory, Row, RowList};
+use expansion::Table;
 use std::alloc::Global;
 
-// The most gates that are gone over for all existentials together: where more is to be done, pairs
-// are patched without a look, since rows times existentials times gates have no bound.
+// The most gates that are gone over: rows times gates have no bound. At rows behind these, nodes are
+// patched without a look.
 const MOST_WORK: usize = 1 << 23;
 
-// How many gates may still be gone over: a policy that no contract speaks of.
+// A node for each existential, and their bits at the first rows of the table.
 #[derive(Drop)]
-pub(crate) struct Work {
-    left: usize,
+pub(crate) struct Others<'a> {
+    pub nodes: &'a [Node],
+    pub values: &'a RowList,
 }
 
-impl Work {
-    pub(crate) fn new() -> Work {
-        Work { left: MOST_WORK }
-    }
-
-    // Takes the work of a node's values, by its place in the graph, at so many pairs, where as much
-    // is left.
-    pub(crate) fn takes(&mut self, pairs: usize, place: Option<usize>) -> bool {
-        let work = pairs.saturating_mul(place.unwrap_or(0));
-        if work > self.left {
-            return false;
-        }
-        self.left -= work;
-        true
-    }
+// One of the existentials, by its place, with its node.
+#[derive(Drop)]
+pub(crate) struct Own<'a> {
+    pub place: usize,
+    pub y: u64,
+    pub node: Node,
+    pub values: &'a RowList,
 }
 
-// The pairs that are to be patched: those at which a node has another bit than the points, or all
-// of them.
-pub(crate) fn pairs_to_patch(
+// The bits of nodes at the first rows of a table.
+pub(crate) fn values_at_rows(
     alloc: Global,
-    compares: bool,
-    known: &Known,
-    y: u64,
-    pairs: &[Pair],
-    node: Node,
+    table: &Table,
+    nodes: &[Node],
     graph: &Graph,
-) -> Result<Vec<Pair>, Memory>
-    requires rounds { AreRounds (length known.now.table.now.rows) pairs.now }
-    requires whole { All (λ row. length row ≡ length known.now.f.now.universals)
-        known.now.table.now.rows }
-    requires as_many { length known.now.points.now.rows ≡ length known.now.table.now.rows }
-    requires existential { Contains known.now.points.now.variables y }
-    requires inputs { length known.now.f.now.universals ≤ graph.now.inputs }
-    requires node { IsNode graph.now node }
-    requires cubes { All (λ p. IsNode graph.now p.cube) pairs.now }
-    ensures rounds { IfOk result (λ some. AreRounds (length known.now.table.now.rows) some.items) }
-    ensures cubes { IfOk result (λ some. All (λ p. IsNode graph.now p.cube) some.items) }
-    ensures differing { IfOk result (λ some. AreDiffering known.now.table.now.rows
-        (point_bits known.now.points.now) y graph.now node pairs.now some.items) }
-{
-    if compares {
-        differing_pairs(alloc, known, y, pairs, node, graph)
-    } else {
-        Ok(Vec::from_slice(alloc, pairs)?)
-    }
-}
-
-// Those of some pairs at whose own rows a node doesn't have the existential's point.
-fn differing_pairs(
-    alloc: Global,
-    known: &Known,
-    y: u64,
-    pairs: &[Pair],
-    node: Node,
-    graph: &Graph,
-) -> Result<Vec<Pair>, Memory>
-    requires rounds { AreRounds (length known.now.table.now.rows) pairs.now }
-    requires whole { All (λ row. length row ≡ length known.now.f.now.universals)
-        known.now.table.now.rows }
-    requires as_many { length known.now.points.now.rows ≡ length known.now.table.now.rows }
-    requires existential { Contains known.now.points.now.variables y }
-    requires inputs { length known.now.f.now.universals ≤ graph.now.inputs }
-    requires node { IsNode graph.now node }
-    ensures { IfOk result (λ differing. AreDiffering known.now.table.now.rows
-        (point_bits known.now.points.now) y graph.now node pairs.now differing.items) }
+) -> Result<RowList, Memory>
+    requires short { All (λ row. length row ≤ graph.now.inputs) table.now.rows }
+    requires nodes { All (IsNode graph.now) nodes.now }
+    ensures { IfOk result (AreValues table.now.rows graph.now nodes.now) }
 {
     let mut buf = Row::new(alloc, graph.len())?;
-    let mut differing = Vec::new(alloc);
-    for pair in pairs {
-        let row = known.table.row(pair.round);
-        let inputs = inputs_of(alloc, graph, row)?;
-        let value = graph.value(node, &inputs, &mut buf);
-        if value != known.points.bit(y, pair.round) {
-            differing.push(*pair)?;
-        }
+    let mut values = RowList::new(alloc);
+    for k in 0..rows_to_see(table, graph) {
+        values.push(values_at(alloc, nodes, table.row(k + 1), graph, &mut buf)?)?;
     }
-    Ok(differing)
+    Ok(values)
+}
+
+// How many rows there is work for.
+fn rows_to_see(table: &Table, graph: &Graph) -> u64
+    ensures { result ≤ length table.now.rows }
+{
+    let most = MOST_WORK / graph.len().max(1);
+    table.rows().min(most as u64)
+}
+
+fn values_at(
+    alloc: Global,
+    nodes: &[Node],
+    row: &Row,
+    graph: &Graph,
+    buf: &mut Row,
+) -> Result<Row, Memory>
+    requires short { length row.now ≤ graph.now.inputs }
+    requires nodes { All (IsNode graph.now) nodes.now }
+    requires a_place_a_node { length buf.old ≡ size_of graph.now }
+    ensures values { IfOk result
+        (λ values. values ≡ map (node_value graph.now (bit_of row.now)) nodes.now) }
+    ensures same_length { length buf.new ≡ length buf.old }
+{
+    let inputs = inputs_of(alloc, graph, row)?;
+    let mut values = Row::new(alloc, nodes.len())?;
+    graph.values(nodes, &inputs, buf, &mut values);
+    Ok(values)
 }
 
 // A bit for each input of a graph: the row's, and false for those behind it.
@@ -115,4 +91,42 @@ fn inputs_of(alloc: Global, graph: &Graph, row: &Row) -> Result<Row, Memory>
         inputs.set(place, row.get(place));
     }
     Ok(inputs)
+}
+
+// Whether an existential's node is known to have its point at each row.
+pub(crate) fn has_all_points(known: &Known, own: &Own) -> bool
+    requires as_many { length known.now.points.now.rows ≡ length known.now.table.now.rows }
+    requires existential { Contains known.now.points.now.variables own.now.y }
+    ensures { IsTrue result → (k : ℕ) → k < length known.now.table.now.rows
+        → HasKnownPoint own.now.values.now (point_bits known.now.points.now) own.now.y own.now.place
+        (k + 1) }
+{
+    for k in 0..known.table.rows() {
+        if !has_point(known, own, k + 1) {
+            return false;
+        }
+    }
+    true
+}
+
+// The same at the row of a round.
+pub(crate) fn has_point(known: &Known, own: &Own, round: u64) -> bool
+    requires from_one { 1 ≤ round }
+    requires last { round ≤ length known.now.points.now.rows }
+    requires existential { Contains known.now.points.now.variables own.now.y }
+    ensures { IsTrue result
+        → HasKnownPoint own.now.values.now (point_bits known.now.points.now) own.now.y own.now.place
+        round }
+{
+    let point = known.points.bit(own.y, round);
+    match own.values.items().get(round as usize - 1) {
+        Some(row) => has_bit_at(row, own.place, point),
+        None => false,
+    }
+}
+
+fn has_bit_at(row: &Row, place: usize, bit: bool) -> bool
+    ensures { IsTrue result → HasBitAt row.now place bit }
+{
+    place < row.len() && row.get(place) == bit
 }

@@ -2,6 +2,7 @@
 
 ghost use Rattle.std.specs.Prelude.{◌≡◌, ◌≤◌, length, Contains};
 
+use dq_formula::Formula;
 use dq_lits::{Memory, Row};
 use expansion::{Points, Table};
 use std::alloc::Global;
@@ -13,12 +14,13 @@ const MOST_TESTS: usize = 64;
 // Scores are sums of quotients, which this factor keeps apart.
 const SCALE: u64 = 1024;
 
-// Rows, each with a bit, and the places that are seen there.
+// Rows, each with a bit, and the universals that are seen there.
 #[derive(Drop)]
 pub(crate) struct Examples<'a> {
+    pub f: &'a Formula,
     pub table: &'a Table,
     pub bits: &'a [bool],
-    pub places: &'a [usize],
+    pub seen: &'a [u64],
 }
 
 // The bits of an existential in the rounds of a table.
@@ -53,12 +55,13 @@ impl Examples<'_> {
         &self,
         alloc: Global,
         some: &[usize],
-        seen: usize,
+        tested: usize,
         bit: bool,
     ) -> Result<Vec<usize>, Memory> {
+        let place = self.place(tested);
         let mut found = Vec::new(alloc);
         for number in some {
-            if self.sees(*number, seen) == bit {
+            if self.is_one(*number, place) == bit {
                 found.push(*number)?;
             }
         }
@@ -82,13 +85,14 @@ impl Examples<'_> {
         let mut best = None;
         let mut least = u64::MAX;
         let mut tests = 0usize;
-        for seen in 0..self.places.len() {
-            if tests < MOST_TESTS && self.sees(*one, seen) != self.sees(*other, seen) {
+        for tested in 0..self.seen.len() {
+            let place = self.place(tested);
+            if tests < MOST_TESTS && self.is_one(*one, place) != self.is_one(*other, place) {
                 tests += 1;
-                let score = self.score(some, seen);
+                let score = self.score(some, place);
                 if score < least {
                     least = score;
-                    best = Some(seen);
+                    best = Some(tested);
                 }
             }
         }
@@ -98,10 +102,10 @@ impl Examples<'_> {
     // How mixed the bits of examples are at both branches of a test: of each the product of the ones
     // and the zeros, over how many there are (the Gini impurity, L. Breiman et al., "Classification
     // and regression trees", 1984).
-    fn score(&self, some: &[usize], seen: usize) -> u64 {
+    fn score(&self, some: &[usize], place: usize) -> u64 {
         let mut counts = Counts::none();
         for number in some {
-            counts.add(self.sees(*number, seen), self.bit(*number));
+            counts.add(self.is_one(*number, place), self.bit(*number));
         }
         counts.score()
     }
@@ -113,12 +117,18 @@ impl Examples<'_> {
         }
     }
 
-    // Whether a universal is true in an example.
-    fn sees(&self, number: usize, seen: usize) -> bool {
-        match self.places.get(seen) {
-            Some(place) => bit_at(self.table, number, *place),
-            None => false,
+    // Where a universal stands in the rows, by its place among those that are seen; behind all
+    // where there is none.
+    fn place(&self, tested: usize) -> usize {
+        match self.seen.get(tested) {
+            Some(x) => self.f.place_of(*x),
+            None => self.f.universals().len(),
         }
+    }
+
+    // Whether the universal at a place is true in an example.
+    fn is_one(&self, number: usize, place: usize) -> bool {
+        bit_at(self.table, number, place)
     }
 }
 

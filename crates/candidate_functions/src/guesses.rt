@@ -103,13 +103,13 @@ fn learned(
         → IfOk result (IsByRules known.now.f.now graph.new [] e) }
 {
     known.f.every_formula_is_lawful();
-    let places = known.f.seen_places(alloc, y)?;
     let bits = bits_of(alloc, known.table, known.points, y)?;
     let examples = Examples {
+        f: known.f,
         table: known.table,
         bits: &bits,
-        places: &places,
+        seen: known.f.seen(y),
     };
     tree.learn(alloc, &examples)?;
-    tree.node(alloc, &places, graph)
+    tree.node(alloc, known.f, known.f.seen(y), graph)
 }

@@ -15,5 +15,7 @@ mod guesses;
 pub mod laws;
 mod outputs;
 mod patches;
+mod patching;
+mod rounds;
 mod rules;
 mod trees;

@@ -5,12 +5,14 @@
 //! are put over it. Tests stay from call to call, and a tree grows only where points disagree, so
 //! that candidates change little from round to round.
 
-ghost use Rattle.std.specs.Prelude.{◌≡◌, ◌<◌, false, replicate, slice_index_or, All, IfOk};
+ghost use Rattle.std.specs.Prelude.{◌≡◌, ◌≤◌, false, length, replicate, slice_index_or, All, Contains, IfOk};
 ghost use Rattle.aig_graph.specs.Made.{Extends};
+ghost use Rattle.candidate_functions.specs.Pairs.{universal_places};
 ghost use Rattle.candidate_functions.specs.Trees.{IsOver};
 
 use crate::examples::Examples;
 use aig_graph::{Graph, Node};
+use dq_formula::Formula;
 use dq_lits::Memory;
 use std::alloc::Global;
 
@@ -19,7 +21,11 @@ use std::alloc::Global;
 #[derive(Clone, Copy)]
 enum Branch {
     Leaf(bool),
-    Test { seen: usize, yes: usize, no: usize },
+    Test {
+        tested: usize,
+        yes: usize,
+        no: usize,
+    },
 }
 
 // A decision tree; its root stands first. Without branches it is false.
@@ -75,9 +81,9 @@ impl Tree {
         }
         match self.branches.get(part.at) {
             None => Ok(()),
-            Some(Branch::Test { seen, yes, no }) => {
-                let ones = examples.with(alloc, &part.examples, *seen, true)?;
-                let zeros = examples.with(alloc, &part.examples, *seen, false)?;
+            Some(Branch::Test { tested, yes, no }) => {
+                let ones = examples.with(alloc, &part.examples, *tested, true)?;
+                let zeros = examples.with(alloc, &part.examples, *tested, false)?;
                 let (yes, no) = (*yes, *no);
                 parts.push(Part {
                     at: yes,
@@ -105,12 +111,12 @@ impl Tree {
                 self.put(part.at, Branch::Leaf(examples.first_bit(&part.examples)));
                 Ok(())
             }
-            Some(seen) => {
+            Some(tested) => {
                 let yes = self.branches.len();
                 self.branches.push(Branch::Leaf(false))?;
                 let no = self.branches.len();
                 self.branches.push(Branch::Leaf(false))?;
-                self.put(part.at, Branch::Test { seen, yes, no });
+                self.put(part.at, Branch::Test { tested, yes, no });
                 parts.push(part)?;
                 Ok(())
             }
@@ -123,22 +129,24 @@ impl Tree {
         }
     }
 
-    /// The tree as a node, over the inputs at the places that the existential sees.
+    /// The tree as a node, over the universals that the existential sees.
     pub(crate) fn node(
         &self,
         alloc: Global,
-        places: &[usize],
+        f: &Formula,
+        seen: &[u64],
         graph: &mut Graph,
     ) -> Result<Node, Memory>
-        requires places { All (λ p. p < graph.old.inputs) places.now }
+        requires inputs { length f.now.universals ≤ graph.old.inputs }
+        requires seen { All (Contains f.now.universals) seen.now }
         ensures extends { Extends graph.old graph.new }
-        ensures node { IfOk result (IsOver graph.new places.now) }
+        ensures node { IfOk result (IsOver graph.new (universal_places f.now seen.now)) }
     {
         let mut nodes = no_nodes(alloc, self.branches.len())?;
         let mut at = nodes.len();
         while at > 0 {
             at -= 1;
-            nodes[at] = self.branch_node(at, places, &nodes, graph)?;
+            nodes[at] = self.branch_node(at, f, seen, &nodes, graph)?;
         }
         Ok(node_at(&nodes, 0))
     }
@@ -147,19 +155,21 @@ impl Tree {
     fn branch_node(
         &self,
         at: usize,
-        places: &[usize],
+        f: &Formula,
+        seen: &[u64],
         nodes: &[Node],
         graph: &mut Graph,
     ) -> Result<Node, Memory>
-        requires places { All (λ p. p < graph.old.inputs) places.now }
-        requires nodes { All (IsOver graph.old places.now) nodes.now }
+        requires inputs { length f.now.universals ≤ graph.old.inputs }
+        requires seen { All (Contains f.now.universals) seen.now }
+        requires nodes { All (IsOver graph.old (universal_places f.now seen.now)) nodes.now }
         ensures extends { Extends graph.old graph.new }
-        ensures node { IfOk result (IsOver graph.new places.now) }
+        ensures node { IfOk result (IsOver graph.new (universal_places f.now seen.now)) }
     {
         match self.branches.get(at) {
-            Some(Branch::Test { seen, yes, no }) => match places.get(*seen) {
-                Some(place) => {
-                    let input = graph.input(*place);
+            Some(Branch::Test { tested, yes, no }) => match seen.get(*tested) {
+                Some(x) => {
+                    let input = graph.input(f.place_of(*x));
                     graph.mux(input, node_at(nodes, *yes), node_at(nodes, *no))
                 }
                 None => Ok(Node::constant(false)),

@@ -1,4 +1,4 @@
-use Rattle.candidate_functions.proofs.DifferingPairs.{WrittenSoFar}
+use Rattle.candidate_functions.proofs.WrittenRows.{WrittenSoFar}
 use Rattle.candidate_functions.proofs.differing.inputs_of.Given as goal
 
 abbrev pub invariant-loop-place : goal.invariant-loop-place
