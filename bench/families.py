@@ -458,6 +458,27 @@ def injection(rng, size, lacks_a_place=False):
     return formula, "FALSE" if lacks_a_place else "TRUE"
 
 
+def lookups(rng, size):
+    """As many gates as the size, each with a clause for every row of its random table of four signals, over eight universals; each sees
+    all of these. True."""
+    return gates_by_rows(rng, size, 4, lambda row: rng.choice((1, -1)))
+
+
+def triple_parities(rng, size):
+    """The same of exclusive ors of three signals. True."""
+    return gates_by_rows(rng, size, 3, lambda row: 1 if sum(signal < 0 for signal in row) % 2 else -1)
+
+
+def gates_by_rows(rng, size, inputs, sign):
+    formula = Formula()
+    signals = formula.word(8)
+    for _ in range(size):
+        chosen, output = rng.sample(signals, inputs), formula.existential()
+        formula.clauses += [[*row, sign(row) * output] for row in itertools.product(*((x, -x) for x in chosen))]
+        signals.append(output)
+    return formula, "TRUE"
+
+
 def tables(rng, size):
     """As many existentials as the size, each with a clause for every row of its random table of seven universals, of half as many and seven
     in all. True."""
@@ -554,5 +575,6 @@ FAMILIES |= {"two-levels": (two_levels, 4), "random-sights": (random_sights, 4),
 FAMILIES |= {"cycle": (cycle, 3), "cycle-odd": (lambda rng, size: cycle(rng, size, True), 3), "multiplexer": (multiplexer, 1)}
 FAMILIES |= {"region": (region, 1), "region-reached": (lambda rng, size: region(rng, size, True), 1), "tables": (tables, 2)}
 FAMILIES |= {"injection": (injection, 1), "injection-short": (lambda rng, size: injection(rng, size, True), 1)}
+FAMILIES |= {"lookups": (lookups, 5), "triple-parities": (triple_parities, 5)}
 FAMILIES |= {"implications": (implications, 100), "unseen": (unseen, 100), "long-clauses": (long_clauses, 50)}
 FAMILIES |= {"half-free": (half_free, 100), "one-set": (one_set, 50)}

@@ -18,15 +18,19 @@ struct Ties {
     count: usize,
 }
 
+// How often a table is looked for though fewer than twice as many rows are decided as before.
+const MOST_TRIES: usize = 4;
+
 /// For each existential, by place, the rows that are decided, each counted for each clause that
-/// decides it, and at how many a table is looked for next.
+/// decides it, how many they were when a table was looked for last, and the tries that are left.
 #[derive(Drop)]
 pub(crate) struct Coverage {
     // For each existential, by place, that of one with the same dependency set.
     leaders: Vec<usize>,
     ties: Vec<Ties>,
     rows: Vec<usize>,
-    goals: Vec<usize>,
+    tried: Vec<usize>,
+    tries: Vec<usize>,
 }
 
 impl Coverage {
@@ -38,7 +42,8 @@ impl Coverage {
             leaders,
             ties,
             rows: vec![in alloc; 0usize; count]?,
-            goals: vec![in alloc; MOST_ROWS; count]?,
+            tried: vec![in alloc; 0usize; count]?,
+            tries: vec![in alloc; MOST_TRIES; count]?,
         };
         for number in 0..f.clauses() {
             coverage.count_last(f, number, &[]);
@@ -67,16 +72,32 @@ impl Coverage {
         self.count_last(f, number, is_placed)
     }
 
-    /// Whether a table is worth looking for; it then isn't until twice as many rows are decided.
+    /// Whether a table is worth looking for: as many rows are decided as there are, and twice as
+    /// many as when it was looked for before.
     pub(crate) fn is_due(&mut self, place: usize) -> bool {
-        if place >= self.rows.len() || place >= self.goals.len() {
+        if place >= self.rows.len() || place >= self.tried.len() {
             return false;
         }
         let rows = self.rows[place];
-        if rows < self.goals[place] {
+        if rows < MOST_ROWS || rows < self.tried[place].saturating_mul(2) {
             return false;
         }
-        self.goals[place] = rows.saturating_mul(2);
+        self.tried[place] = rows;
+        true
+    }
+
+    /// Whether a table may be worth looking for once nothing else is left to do, since more rows
+    /// are decided than when it was looked for before; that is so only a few times.
+    pub(crate) fn is_late(&mut self, place: usize) -> bool {
+        if place >= self.rows.len() || place >= self.tried.len() || place >= self.tries.len() {
+            return false;
+        }
+        let rows = self.rows[place];
+        if rows < MOST_ROWS || rows <= self.tried[place] || self.tries[place] == 0 {
+            return false;
+        }
+        self.tried[place] = rows;
+        self.tries[place] = self.tries[place] - 1;
         true
     }
 

@@ -26,6 +26,8 @@ pub(crate) struct Placing<'f> {
     order: Vec<usize>,
     // Of each existential that is placed, its number in that order; the greatest number of others.
     ranks: Vec<usize>,
+    // Existentials that may have a table since more of their clauses' variables are placed.
+    late: Vec<usize>,
     // All before it are placed or fixed, and all before the other one are placed.
     next: usize,
     next_fixed: usize,
@@ -55,6 +57,7 @@ impl<'f> Placing<'f> {
             is_placed: vec![in alloc; false; count]?,
             order: Vec::new(alloc),
             ranks: vec![in alloc; usize::MAX; count]?,
+            late: Vec::new(alloc),
             next: 0,
             next_fixed: 0,
         })
@@ -67,6 +70,9 @@ impl<'f> Placing<'f> {
         self.place_ready()?;
         self.place_tables()?;
         for at in 0..self.is_placed.len() {
+            if at >= self.order.len() {
+                self.place_late()?;
+            }
             if at >= self.order.len() {
                 self.place_next()?;
             }
@@ -158,7 +164,7 @@ impl<'f> Placing<'f> {
                 .coverage
                 .close(f, *number as usize, place, &self.is_placed);
             if let Some(left) = left {
-                self.place_table(left)?;
+                self.place_due(left)?;
             }
         }
         Ok(())
@@ -167,7 +173,31 @@ impl<'f> Placing<'f> {
     // Places the existentials that have a table over what comes before them whichever way ties go.
     fn place_tables(&mut self) -> Result<(), Memory> {
         for place in 0..self.is_placed.len() {
-            self.place_table(place)?;
+            self.place_due(place)?;
+        }
+        Ok(())
+    }
+
+    // Places an existential if many more rows of it are decided now, and it has a table.
+    fn place_due(&mut self, place: usize) -> Result<(), Memory> {
+        if self.is_placed.get(place) != Some(&false) {
+            return Ok(());
+        }
+        if self.coverage.is_due(place) {
+            return self.place_table(place);
+        }
+        self.late.push(place)?;
+        Ok(())
+    }
+
+    // Places the existentials that have a table by now.
+    fn place_late(&mut self) -> Result<(), Memory> {
+        for _ in 0..self.late.len() {
+            if let Some(place) = self.late.pop() {
+                if self.is_placed.get(place) == Some(&false) && self.coverage.is_late(place) {
+                    self.place_table(place)?;
+                }
+            }
         }
         Ok(())
     }
@@ -175,9 +205,6 @@ impl<'f> Placing<'f> {
     // Places an existential if it has a table over those that are placed.
     fn place_table(&mut self, place: usize) -> Result<(), Memory> {
         if place >= self.ranks.len() || place >= self.f.existentials().len() {
-            return Ok(());
-        }
-        if self.is_placed.get(place) != Some(&false) || !self.coverage.is_due(place) {
             return Ok(());
         }
         self.ranks[place] = self.order.len();
