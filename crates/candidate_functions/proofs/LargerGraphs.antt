@@ -11,7 +11,7 @@ use Rattle.definition_order.specs.Order.{MayRead}
 use Rattle.aig_graph.specs.Outputs.{node_output}
 use Rattle.aig_graph.specs.declared.nodes.Node.{Node}
 use Rattle.expansion.specs.Table.{PointBits}
-use Rattle.candidate_functions.specs.Candidates.{AreDefinitions}
+use Rattle.candidate_functions.specs.Candidates.{AreDefinitions, IsGuess, AreGuesses}
 use Rattle.candidate_functions.specs.Pairs.{IsRowCube, IsPair, universal_places, IsPlacedClass, IsClass, IsByRules, IsCandidate, IsFirstOutput}
 use Rattle.candidate_functions.specs.declared.classes.Class.{Class}
 use Rattle.candidate_functions.specs.declared.cubes.Pair.{Pair}
@@ -97,6 +97,15 @@ module _ (old new : AigGraph) (h : Extends old new) where
 
   pub classes_stay : (f : Dqbf) (rows : List (List Bool)) (cs : List Class) → All (IsClass f rows old) cs → All (IsClass f rows new) cs
   classes_stay f rows cs all = All-weaker (IsClass f rows old) (IsClass f rows new) (class_stays f rows) cs all
+
+  pub guess_stays : (f : Dqbf) (y : Existential) (n : Node) → IsGuess f old y n → IsGuess f new y n
+  guess_stays f y n is = record {
+    is_node = h.nodes n is.is_node;
+    reads = support_stays f n is.is_node (Contains y.sees) is.reads;
+  }
+
+  pub guesses_stay : (f : Dqbf) (guesses : List (Option Node)) → AreGuesses f old guesses → AreGuesses f new guesses
+  guesses_stay f guesses are k d lt node is = guess_stays f (get_or f.existentials k d) node (are k d lt node is)
 
   pub definitions_stay : (f : Dqbf) (ranks : List ℕ) (definitions : List (Option Node)) → AreDefinitions f ranks old definitions → AreDefinitions f ranks new definitions
   definitions_stay f ranks definitions are k d lt node is = definition_stays f ranks (get_or f.existentials k d) node (are k d lt node is)

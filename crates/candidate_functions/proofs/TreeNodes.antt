@@ -1,5 +1,5 @@
 -- Nodes over what an existential sees.
-use Rattle.std.proofs.Common.{◌≡◌, ℕ, ◌+◌, ◌-◌, ◌<◌, ◌≤◌, Bool, false, List, [], ◌∷◌, ◌++◌, length, get_or, set, slice_get, slice_index, None, Some, IfSome, sym, ◌∙◌, ap, subst, inl, inr, arith}
+use Rattle.std.proofs.Common.{◌≡◌, ℕ, ◌+◌, ◌-◌, ◌<◌, ◌≤◌, Bool, false, List, [], ◌∷◌, ◌++◌, length, get_or, set, slice_get, slice_index, Option, None, Some, IfSome, sym, ◌∙◌, ap, subst, inl, inr, arith}
 use Rattle.std.specs.List.{All, Contains}
 use Rattle.std.proofs.lemmas.Bool.{cases_lt}
 use Rattle.std.proofs.lemmas.List.{get_or_past, get_or-map, length-map, length-set, length_push, get_or_push}
@@ -14,7 +14,8 @@ use Rattle.aig_graph.specs.Graph.{AigGraph, node_support}
 use Rattle.aig_graph.specs.Made.{Extends, IsChosen}
 use Rattle.aig_graph.specs.declared.nodes.Node.{Node}
 use Rattle.aig_graph.specs.declared.nodes.Node.TheVariants.{Constant, Input}
-use Rattle.definition_order.proofs.Declared.{sees_universals}
+use Rattle.definition_order.proofs.Declared.{contained_at, existential_at, sees_universals}
+use Rattle.candidate_functions.specs.Candidates.{definition_of, IsGuess, AreGuesses}
 use Rattle.candidate_functions.specs.Pairs.{universal_places, IsByRules, AreByRules}
 use Rattle.candidate_functions.specs.Trees.{IsOver}
 use Rattle.candidate_functions.proofs.RowCubes.{only_one, mapped_from}
@@ -99,6 +100,18 @@ unruled f lawful v y found g places are n is = record {
       let there : get_or f.universals i 0 ≡ x = ap (λ q. get_or f.universals q 0) (sym from.2) ∙ get_or-place f.universals x 0 (is_found f.universals x among) in
       subst (Contains y.sees) (sym there) from.1);
 }
+
+-- a guess that is given at a place
+pub guess_there : (f : Dqbf) → IsLawful f → (g : AigGraph) (guesses : List (Option Node)) (p : ℕ) (y : Existential) (n : Node) → AreGuesses f g guesses → slice_get f.existentials p ≡ Some y
+    → get_or guesses p None ≡ Some n → IsByRules f g [] y n
+guess_there f lawful g guesses p y n are at is = record {
+  is_node = guess.is_node;
+  value = λ m bit first. absurd (none_is bit first);
+  reads = guess.reads;
+} where
+  guess : IsGuess f g y n
+  guess = All-contains (λ z. (m : Node) → definition_of f guesses z ≡ Some m → IsGuess f g z m) f.existentials y are (contained_at f.existentials p y at) n
+      (ap (λ k. get_or guesses k None) (existential_at f lawful.prefix p y at) ∙ is)
 
 -- a constant reads nothing
 pub unruled_constant : (f : Dqbf) (g : AigGraph) (y : Existential) (b : Bool) → IsByRules f g [] y (Constant b)

@@ -1,7 +1,7 @@
 -- Candidates: functions for the existentials that agree with a model of the expansion at the pairs
 -- of its rows.
 use Rattle.std.specs.Prelude.{◌≡◌, ℕ, ◌+◌, ◌==◌, Bool, List, slice_get, slice_index_or, Option, None, Some}
-use Rattle.std.specs.List.{All, position_or_len}
+use Rattle.std.specs.List.{All, Contains, position_or_len}
 use Rattle.dq_lits.specs.Literal.{Assignment}
 use Rattle.dq_lits.specs.Formula.{Existential, Dqbf}
 use Rattle.dq_lits.specs.Henkin.{restriction}
@@ -10,8 +10,8 @@ use Rattle.dq_lits.specs.Skolem.{OutputFunction}
 use Rattle.dq_formula.specs.Rules.{first_bit}
 use Rattle.dq_formula.specs.declared.rules.Rule.{Rule}
 use Rattle.aig_graph.specs.declared.nodes.Node.{Node}
-use Rattle.aig_graph.specs.Graph.{AigGraph}
-use Rattle.aig_graph.specs.Outputs.{outputs_of}
+use Rattle.aig_graph.specs.Graph.{AigGraph, IsNode}
+use Rattle.aig_graph.specs.Outputs.{node_output, outputs_of}
 use Rattle.definition_order.specs.Definitions.{IsDefinition, defining_output}
 use Rattle.expansion.specs.Table.{PointBits}
 
@@ -25,6 +25,17 @@ abbrev pub AreDefinitions : Dqbf → List ℕ → AigGraph → List (Option Node
 AreDefinitions f ranks graph definitions =
     All (λ y. (node : Node) → definition_of f definitions y ≡ Some node
     → IsDefinition f ranks graph y node) f.existentials
+
+-- a node that reads what the existential sees alone
+pub record IsGuess (f : Dqbf) (graph : AigGraph) (y : Existential) (node : Node) : Type 0 where
+  pub is_node : IsNode graph node
+  pub reads : All (Contains y.sees) (node_output f graph node).support
+
+-- guesses are handed in as definitions are
+abbrev pub AreGuesses : Dqbf → AigGraph → List (Option Node) → Type 0
+AreGuesses f graph guesses =
+    All (λ y. (node : Node) → definition_of f guesses y ≡ Some node → IsGuess f graph y node)
+    f.existentials
 
 -- the existential sees the bits that the row gives it
 abbrev pub SeesRow : Dqbf → Existential → List Bool → Assignment → Type 0

@@ -5,7 +5,7 @@ ghost use Rattle.aig_graph.specs.Graph.{IsNode};
 ghost use Rattle.aig_graph.specs.Made.{Extends};
 ghost use Rattle.aig_graph.specs.Outputs.{outputs_of, ReadDeclared};
 ghost use Rattle.expansion.specs.Table.{ArePoints, point_bits};
-ghost use Rattle.candidate_functions.specs.Candidates.{AreDefinitions, AgreeAtPairs, FollowRules, AreDefined};
+ghost use Rattle.candidate_functions.specs.Candidates.{AreDefinitions, AreGuesses, AgreeAtPairs, FollowRules, AreDefined};
 
 use crate::definitions::put_definitions;
 use crate::guesses::Trees;
@@ -45,9 +45,10 @@ impl Outputs {
 /// Candidates for the existentials' functions, which read what they may, universals alone. One that
 /// has a definition gets it, with the outputs of the existentials that it reads put in; any other
 /// has its point's bit at each pair of the table, and elsewhere the bit of its first rule whose
-/// cube is true; where there is none, what its tree says, of which no contract speaks. The trees
-/// first grow by the points. Definitions are in the order of the existentials; those that are
-/// missing are none. The ranks are those by which they may read what they read.
+/// cube is true; where there is none, the value of its guess, or without a guess what its tree says:
+/// no contract speaks of either. The trees of those without a guess first grow by the points.
+/// Definitions and guesses are in the order of the existentials; those that are missing are none.
+/// The ranks are those by which definitions may read what they read.
 ///
 /// The graph has an input for each universal, and behind these one for each existential, for
 /// definitions to read. The points are those of a model of all instances under the table's rows.
@@ -63,6 +64,7 @@ pub fn build(
     rules: &[Rule],
     ranks: &[usize],
     definitions: &[Option<Node>],
+    guesses: &[Option<Node>],
     graph: &mut Graph,
 ) -> Result<Outputs, Memory>
     requires inputs { graph.old.inputs ≡ length f.now.universals + length f.now.existentials }
@@ -72,6 +74,7 @@ pub fn build(
     requires points { ArePoints f.now table.now.rows (point_bits points.now) }
     requires rules { All (IsRule f.now) rules.now }
     requires definitions { AreDefinitions f.now ranks.now graph.old definitions.now }
+    requires guesses { AreGuesses f.now graph.old guesses.now }
     ensures extends { Extends graph.old graph.new }
     ensures one_each { IfOk result (λ nodes. length nodes ≡ length f.now.existentials) }
     ensures nodes { IfOk result (λ nodes. All (IsNode graph.new) nodes) }
@@ -92,6 +95,7 @@ pub fn build(
         table,
         points,
         definitions,
+        guesses,
     };
     let others = by_rules(alloc, &known, trees, rules, graph)?;
     let mut nodes = first_outputs(alloc, &known, &others, graph)?;

@@ -66,18 +66,18 @@ fn put_definition(
         (IsPutAt graph.old graph.new (slice_index_or definitions.now place None) place
         nodes.old.items nodes.new.items) }
 {
-    if let Some(definition) = definition_at(definitions, place) {
+    if let Some(definition) = given_at(definitions, place) {
         nodes[place] = graph.put_in(definition, nodes)?;
     }
     Ok(())
 }
 
-// The definition at a place, if any.
-pub(crate) fn definition_at(definitions: &[Option<Node>], place: usize) -> Option<Node>
-    ensures { result ≡ slice_index_or definitions.now place None }
+// The node that is given at a place, if any.
+pub(crate) fn given_at(nodes: &[Option<Node>], place: usize) -> Option<Node>
+    ensures { result ≡ slice_index_or nodes.now place None }
 {
-    if place < definitions.len() {
-        definitions[place]
+    if place < nodes.len() {
+        nodes[place]
     } else {
         None
     }

@@ -1,12 +1,14 @@
-//! What candidates are where neither a pair nor a rule says their bit: each existential's tree.
+//! What candidates are where neither a pair nor a rule says their bit: each existential's guess, or
+//! where none is given its tree.
 
 ghost use Rattle.std.specs.Prelude.{◌≡◌, ◌≤◌, ◌<◌, [], length, IfOk, Some, IsSome, slice_get};
 ghost use Rattle.dq_lits.specs.Formula.{Existential, existential_of};
 ghost use Rattle.dq_formula.specs.Prefix.{existential_variables};
 ghost use Rattle.aig_graph.specs.Made.{Extends};
+ghost use Rattle.candidate_functions.specs.Candidates.{AreGuesses};
 ghost use Rattle.candidate_functions.specs.Pairs.{IsByRules, AreByRules};
 
-use crate::definitions::definition_at;
+use crate::definitions::given_at;
 use crate::examples::{Examples, bits_of};
 use crate::outputs::Known;
 use crate::trees::Tree;
@@ -32,12 +34,13 @@ impl Trees {
         }
     }
 
-    // For each existential without a definition the node of its tree, which grows first; any node
-    // for another one.
+    // For each existential without a definition its guess, or where there is none the node of its
+    // tree, which grows first; any node for another one.
     pub(crate) fn nodes(&mut self, known: &Known, graph: &mut Graph) -> Result<Vec<Node>, Memory>
         requires inputs { length known.now.f.now.universals ≤ graph.old.inputs }
         requires variables { known.now.points.now.variables ≡ existential_variables known.now.f.now }
         requires as_many { length known.now.points.now.rows ≡ length known.now.table.now.rows }
+        requires guesses { AreGuesses known.now.f.now graph.old known.now.guesses.now }
         ensures extends { Extends graph.old graph.new }
         ensures nodes { IfOk result
             (λ nodes. AreByRules known.now.f.now graph.new [] nodes.items) }
@@ -65,15 +68,17 @@ impl Trees {
         requires inputs { length known.now.f.now.universals ≤ graph.old.inputs }
         requires variables { known.now.points.now.variables ≡ existential_variables known.now.f.now }
         requires as_many { length known.now.points.now.rows ≡ length known.now.table.now.rows }
+        requires guesses { AreGuesses known.now.f.now graph.old known.now.guesses.now }
         ensures extends { Extends graph.old graph.new }
         ensures node { (y : Existential) → slice_get known.now.f.now.existentials place ≡ Some y
             → IfOk result (IsByRules known.now.f.now graph.new [] y) }
     {
         known.f.every_formula_is_lawful();
-        match (
-            definition_at(known.definitions, place),
-            self.trees.get_mut(place),
-        ) {
+        if given_at(known.definitions, place).is_some() {
+            return Ok(Node::constant(false));
+        }
+        match (given_at(known.guesses, place), self.trees.get_mut(place)) {
+            (Some(guess), _) => Ok(guess),
             (None, Some(tree)) => learned(
                 self.alloc,
                 known,
@@ -81,7 +86,7 @@ impl Trees {
                 tree,
                 graph,
             ),
-            _ => Ok(Node::constant(false)),
+            (None, None) => Ok(Node::constant(false)),
         }
     }
 }

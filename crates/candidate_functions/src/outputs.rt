@@ -11,7 +11,7 @@ ghost use Rattle.candidate_functions.specs.Differing.{AreValues, IsKnownRightly}
 ghost use Rattle.candidate_functions.specs.Pairs.{IsClass, IsByRules, AreByRules, IsCandidate, IsFirstOutput, AreFirstOutputs, HasClass};
 
 use crate::classes::{Classes, no_classes};
-use crate::definitions::definition_at;
+use crate::definitions::given_at;
 use crate::differing::{Others, Own, has_all_points, values_at_rows};
 use crate::patches::patched;
 use aig_graph::{Graph, Node};
@@ -21,13 +21,14 @@ use expansion::{Points, Table};
 use std::alloc::Global;
 
 /// What the outputs are to agree with: the definitions that there are, and the points of a model of
-/// the formula's instances under a table's rows.
+/// the formula's instances under a table's rows; and the guesses that there are.
 #[derive(Drop)]
 pub(crate) struct Known<'a> {
     pub f: &'a Formula,
     pub table: &'a Table,
     pub points: &'a Points,
     pub definitions: &'a [Option<Node>],
+    pub guesses: &'a [Option<Node>],
 }
 
 // The outputs of the existentials without a definition, each at its existential's place; the other
@@ -132,7 +133,7 @@ impl Classes {
             (slice_index_or known.now.definitions.now place None)) }
     {
         known.f.every_formula_is_lawful();
-        match definition_at(known.definitions, place) {
+        match given_at(known.definitions, place) {
             Some(_) => Ok(Node::constant(false)),
             None => {
                 let own = Own {

@@ -7,6 +7,7 @@ ghost use Rattle.dq_formula.specs.Rules.{IsRule};
 ghost use Rattle.dq_formula.specs.declared.rules.Rule.{Rule as RuleState};
 ghost use Rattle.aig_graph.specs.Graph.{IsNode};
 ghost use Rattle.aig_graph.specs.Made.{Extends};
+ghost use Rattle.candidate_functions.specs.Candidates.{AreGuesses};
 ghost use Rattle.candidate_functions.specs.Pairs.{input_literal, IsCubeNode, AreByRules};
 
 use crate::guesses::Trees;
@@ -17,7 +18,7 @@ use dq_lits::{Lit, Memory};
 use std::alloc::Global;
 
 // For each existential a node with the bit of its first rule whose cube is true; where there is
-// none, it is what the existential's tree says.
+// none, it is what the existential's guess or tree says.
 pub(crate) fn by_rules(
     alloc: Global,
     known: &Known,
@@ -29,6 +30,7 @@ pub(crate) fn by_rules(
     requires variables { known.now.points.now.variables ≡ existential_variables known.now.f.now }
     requires as_many { length known.now.points.now.rows ≡ length known.now.table.now.rows }
     requires rules { All (IsRule known.now.f.now) rules.now }
+    requires guesses { AreGuesses known.now.f.now graph.old known.now.guesses.now }
     ensures extends { Extends graph.old graph.new }
     ensures nodes { IfOk result
         (λ nodes. AreByRules known.now.f.now graph.new rules.now nodes.items) }

@@ -185,6 +185,7 @@ fn show_model(
         &[],
         &[],
         &[],
+        &[],
         &mut graph,
     )?;
     let candidates = Candidates {

@@ -1,6 +1,11 @@
 -- What is kept while definitions are asked for: the log has nothing of the other engines, and the list of definitions grows.
-use Rattle.std.proofs.Common.{◌≡◌, ◌≢◌, ℕ, zero, suc, ◌<◌, ◌==◌, true, List, [], length, get_or, slice_get, replicate, set, Bool, Option, None, Some, IsSome, refl, sym, ◌∙◌, ap, subst, inl, inr, arith, get_or-set_same, get_or-set_other, length-set}
+use Rattle.std.proofs.Common.{◌≡◌, ◌≢◌, ℕ, zero, suc, ◌<◌, ◌==◌, true, List, [], ◌++◌, length, get_or, slice_get, replicate, set, Bool, Option, None, Some, IsSome, refl, sym, ◌∙◌, ap, subst, inl, inr, arith, Result, Ok, Err, get_or-set_same, get_or-set_other, length-set}
 use Rattle.std.specs.List.{All, Contains}
+use Rattle.std.specs.Option.{IfSome}
+use Rattle.std.specs.Result.{IfOk}
+use Rattle.dq_lits.specs.declared.memory.Memory.{Memory}
+use Rattle.dq_lits.specs.Literal.{Literal}
+use Rattle.hint_log.specs.declared.stops.Stop.{Stop}
 use Rattle.std.proofs.lemmas.Bool.{false≢true, cases_Bool, eqb-true, eq-eqb}
 use Rattle.std.proofs.lemmas.List.{get_or-map, length-map, length-replicate}
 use Rattle.std.proofs.lemmas.List.Elements.{All-nil}
@@ -8,7 +13,7 @@ use Rattle.std.proofs.lemmas.Option.{slice_get_within, slice_get-get_or}
 use Rattle.dq_lits.specs.Formula.{Existential, Dqbf, existential_of, HasLawfulPrefix}
 use Rattle.dq_formula.specs.Prefix.{IsLawful, existential_variables}
 use Rattle.hint_log.specs.Entries.{Entry, ProofLog}
-use Rattle.hint_log.specs.Growth.{Grew}
+use Rattle.hint_log.specs.Growth.{EachOf, Grew}
 use Rattle.hint_log.specs.Naming.{rows_of}
 use Rattle.hint_log.specs.ProductiveLog.{fault_groups}
 use Rattle.log_laws.specs.Engines.{Engine, circuits, instances, copies, HasNone, IsAddedBy, EnginesLeaveRest}
@@ -18,12 +23,15 @@ use Rattle.definition_order.specs.Definitions.{IsDefinition}
 use Rattle.dq_formula.specs.Rules.{IsRule}
 use Rattle.dq_formula.specs.declared.rules.Rule.{Rule}
 use Rattle.aig_graph.specs.Graph.{AigGraph}
-use Rattle.candidate_functions.specs.Candidates.{AreDefinitions, definition_of}
+use Rattle.candidate_functions.specs.Candidates.{IsGuess, AreGuesses, definition_of}
 use Rattle.definition_order.proofs.Declared.{existential_at, variable}
-use Rattle.candidate_functions.proofs.LargerGraphs.{definitions_stay}
+use Rattle.candidate_functions.proofs.LargerGraphs.{definitions_stay, guesses_stay}
 use Rattle.padoa_definitions.specs.Defining.{IsFound}
 use Rattle.padoa_definitions.specs.declared.defining.Found.{Found}
 use Rattle.padoa_definitions.specs.declared.defining.Found.TheVariants.{Defined, Free}
+use Rattle.padoa_definitions.specs.Guessing.{IsGuess as IsRightGuess}
+use Rattle.padoa_definitions.specs.declared.guessing.Guess.{Guess}
+use Rattle.padoa_definitions.specs.declared.guessing.Guess.TheVariants.{Node as NodeFound}
 use Rattle.padoa_definitions.specs.Forcing.{IsForced}
 use Rattle.padoa_definitions.specs.declared.forcing.Forced.{Forced}
 use Rattle.padoa_definitions.specs.declared.forcing.Forced.TheVariants.{Rule as ByRule, Loose}
@@ -66,48 +74,72 @@ none_at (suc n) zero = refl
 none_at (suc n) (suc k) = none_at n k
 
 -- nothing is known yet
-pub nothing_known : (f : Dqbf) (ranks : List ℕ) (graph : AigGraph) (definitions : List (Option Node)) (rules : List Rule) → definitions ≡ replicate (length f.existentials) None → rules ≡ []
-    → AreKnown f ranks graph definitions rules
-nothing_known f ranks graph definitions rules none empty = record {
+pub nothing_known : (f : Dqbf) (ranks : List ℕ) (graph : AigGraph) (definitions : List (Option Node)) (rules : List Rule) (guesses : List (Option Node))
+    → definitions ≡ replicate (length f.existentials) None → rules ≡ [] → guesses ≡ [] → AreKnown f ranks graph definitions rules guesses
+nothing_known f ranks graph definitions rules guesses none empty no_guess = record {
   one_each = ap length none ∙ length-replicate (length f.existentials) None;
   defined = λ k d below node is. (let no = ap (λ ds. definition_of f ds (get_or f.existentials k d)) none ∙ none_at (length f.existentials) _ in let e : Some node ≡ None = sym is ∙ no in cc);
   forced = subst (All (IsRule f)) (sym empty) (All-nil (IsRule f));
+  guessed = subst (AreGuesses f graph) (sym no_guess) (λ k d below node is. cc);
 }
 
+-- nodes of existentials that each have some property, and one more at a place
+pub put_stays : (f : Dqbf) → HasLawfulPrefix f → (P : Existential → Node → Type 0) (p : ℕ) (y : Existential) (before : List (Option Node)) (next : Option Node)
+    → length before ≡ length f.existentials → slice_get f.existentials p ≡ Some y → ((node : Node) → next ≡ Some node → P y node)
+    → All (λ z. (node : Node) → definition_of f before z ≡ Some node → P z node) f.existentials
+    → All (λ z. (node : Node) → definition_of f (set before p next) z ≡ Some node → P z node) f.existentials
+put_stays f lawful P p y before next one_each at here are k d below node is =
+    let within = slice_get_within f.existentials p y at in
+    let inside : p < length before = omega (arith, one_each, within) in
+    let z = get_or f.existentials k d in
+    let at_k : slice_get f.existentials k ≡ Some z = slice_get-get_or f.existentials k d below in
+    let place = existential_at f lawful k z at_k in
+    let there : get_or (set before p next) k None ≡ Some node = sym (ap (λ q. get_or (set before p next) q None) place) ∙ is in
+    elim (cases_Bool (p == k)) [
+      | inl e ↦ (
+          let same : p ≡ k = eqb-true p k e in
+          let own : y ≡ z = let e : Some y ≡ Some z = sym at ∙ ap (slice_get f.existentials) same ∙ at_k in cc in
+          let last : get_or (set before p next) k None ≡ next = ap (λ q. get_or (set before p next) q None) (sym same) ∙ get_or-set_same before p next None inside in
+          subst (λ e. P e node) own (here node (sym last ∙ there)))
+      | inr e ↦ (
+          let other : k ≢ p = λ is. false≢true (sym e ∙ eq-eqb p k (sym is)) in
+          are k d below node (ap (λ q. get_or before q None) place ∙ sym (get_or-set_other before p k next None other) ∙ there))
+    ]
+
 -- what is known of the existential at a place
-pub known_at : (f : Dqbf) (ranks : List ℕ) → HasLawfulPrefix f → (graph : AigGraph) (p : ℕ) (y : Existential) (before : List (Option Node)) (next : Option Node) (rules : List Rule)
-    → slice_get f.existentials p ≡ Some y → ((node : Node) → next ≡ Some node → IsDefinition f ranks graph y node) → AreKnown f ranks graph before rules
-    → AreKnown f ranks graph (set before p next) rules
-known_at f ranks lawful graph p y before next rules at here known = record {
+pub known_at : (f : Dqbf) (ranks : List ℕ) → HasLawfulPrefix f → (graph : AigGraph) (p : ℕ) (y : Existential) (before : List (Option Node)) (next : Option Node) (rules : List Rule) (guesses : List (Option Node))
+    → slice_get f.existentials p ≡ Some y → ((node : Node) → next ≡ Some node → IsDefinition f ranks graph y node) → AreKnown f ranks graph before rules guesses
+    → AreKnown f ranks graph (set before p next) rules guesses
+known_at f ranks lawful graph p y before next rules guesses at here known = record {
   one_each = length-set before p next ∙ known.one_each;
-  defined = defined;
+  defined = put_stays f lawful (IsDefinition f ranks graph) p y before next known.one_each at here known.defined;
   forced = known.forced;
-} where
-  inside : p < length before
-  inside = let e = known.one_each in let within = slice_get_within f.existentials p y at in omega (arith, e, within)
+  guessed = known.guessed;
+}
 
-  defined : AreDefinitions f ranks graph (set before p next)
-  defined k d below node is =
-      let z = get_or f.existentials k d in
-      let at_k : slice_get f.existentials k ≡ Some z = slice_get-get_or f.existentials k d below in
-      let place = existential_at f lawful k z at_k in
-      let there : get_or (set before p next) k None ≡ Some node = sym (ap (λ q. get_or (set before p next) q None) place) ∙ is in
-      elim (cases_Bool (p == k)) [
-        | inl e ↦ (
-            let same : p ≡ k = eqb-true p k e in
-            let own : y ≡ z = let e : Some y ≡ Some z = sym at ∙ ap (slice_get f.existentials) same ∙ at_k in cc in
-            let last : get_or (set before p next) k None ≡ next = ap (λ q. get_or (set before p next) q None) (sym same) ∙ get_or-set_same before p next None inside in
-            subst (λ e. IsDefinition f ranks graph e node) own (here node (sym last ∙ there)))
-        | inr e ↦ (
-            let other : k ≢ p = λ is. false≢true (sym e ∙ eq-eqb p k (sym is)) in
-            known.defined k d below node (ap (λ q. get_or before q None) place ∙ sym (get_or-set_other before p k next None other) ∙ there))
-      ]
+-- nothing is guessed yet
+pub nothing_guessed : (f : Dqbf) (graph : AigGraph) (guesses : List (Option Node)) → guesses ≡ replicate (length f.existentials) None → AreGuesses f graph guesses
+nothing_guessed f graph guesses none k d below node is =
+    let no = ap (λ ds. definition_of f ds (get_or f.existentials k d)) none ∙ none_at (length f.existentials) _ in
+    let e : Some node ≡ None = sym is ∙ no in
+    cc
 
-pub known_stays : (f : Dqbf) (ranks : List ℕ) (old new : AigGraph) (definitions : List (Option Node)) (rules : List Rule) → Extends old new → AreKnown f ranks old definitions rules → AreKnown f ranks new definitions rules
-known_stays f ranks old new definitions rules extends known = record {
+-- a log that was limited while it grew
+pub grew_within : (P : List Entry → Entry → Type 0) (old mid new : ProofLog) → mid.entries ≡ old.entries → Grew P mid new → Grew P old (record new { limit = old.limit })
+grew_within P old mid new same grew = record {
+  more = grew.more;
+  grown = grew.grown ∙ ap (λ es. grew.more ++ es) same;
+  each = subst (EachOf P grew.more) same grew.each;
+  limit = refl;
+}
+
+pub known_stays : (f : Dqbf) (ranks : List ℕ) (old new : AigGraph) (definitions : List (Option Node)) (rules : List Rule) (guesses : List (Option Node)) → Extends old new
+    → AreKnown f ranks old definitions rules guesses → AreKnown f ranks new definitions rules guesses
+known_stays f ranks old new definitions rules guesses extends known = record {
   one_each = known.one_each;
   defined = definitions_stay old new extends f ranks definitions known.defined;
   forced = known.forced;
+  guessed = guesses_stay old new extends f guesses known.guessed;
 }
 
 -- the existential that a variable of the list of all names
@@ -141,3 +173,27 @@ some_existential (Some y) is = (y, refl)
 pub forced_rule : (f : Dqbf) (y : Existential) (row : List Bool) (bit : Bool) (forced : Forced) → IsForced f y row bit forced → (rule : Rule) → forced ≡ ByRule rule → IsRule f rule
 forced_rule f y row bit (ByRule own) is rule same = subst (IsRule f) (let e : own ≡ rule = cc in e) is.is_rule
 forced_rule f y row bit (Loose other values) is rule same = cc
+
+-- what was guessed is a node over what the existential sees
+pub guess_at : (f : Dqbf) (graph : AigGraph) (y : Existential) (o : Option Node) → IfSome o (IsGuess f graph y) → (node : Node) → o ≡ Some node → IsGuess f graph y node
+guess_at f graph y None is node same = cc
+guess_at f graph y (Some own) is node same = subst (IsGuess f graph y) (let e : own ≡ node = cc in e) is
+
+pub with_guesses : (f : Dqbf) (ranks : List ℕ) (graph : AigGraph) (definitions : List (Option Node)) (rules : List Rule) (before after : List (Option Node))
+    → AreKnown f ranks graph definitions rules before → AreGuesses f graph after → AreKnown f ranks graph definitions rules after
+with_guesses f ranks graph definitions rules before after known guessed = record {
+  one_each = known.one_each;
+  defined = known.defined;
+  forced = known.forced;
+  guessed = guessed;
+}
+
+-- what was found is a guess, where it is a node
+pub found_guess : (f : Dqbf) (graph : AigGraph) (y : Existential) (conditions : List Literal) (found : Result Guess Stop) (result : Result (Option Node) Memory)
+    → ((node : Node) → result ≡ Ok (Some node) → found ≡ Ok (NodeFound node)) → IfOk found (IsRightGuess f graph y conditions)
+    → IfOk result (λ guess. IfSome guess (IsGuess f graph y))
+found_guess f graph y conditions found (Ok (Some node)) same right =
+    let is = subst (λ r. IfOk r (IsRightGuess f graph y conditions)) (same node refl) right in
+    record { is_node = is.is_node; reads = is.reads }
+found_guess f graph y conditions found (Ok None) same right = tt
+found_guess f graph y conditions found (Err e) same right = tt

@@ -3,6 +3,7 @@ mod UniversalClauses
 mod Extends
 mod Stages
 mod Defined
+mod ConsistentConditions
 mod UniversalInputs
 mod Stops
 mod StatedRules

@@ -2,3 +2,4 @@ pub mod Searching
 pub mod Stopping
 pub mod Refuting
 pub mod Stating
+pub mod Guessing

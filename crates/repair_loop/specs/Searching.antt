@@ -16,7 +16,7 @@ use Rattle.circuit_cnf.specs.declared.checkers.Checker.{Checker}
 use Rattle.circuit_cnf.specs.Checking.{IsChecker, group_of}
 use Rattle.circuit_cnf.specs.Shown.{IsShownBy}
 use Rattle.expansion.specs.Table.{TableState, IsTable, IsFullTable, PointBits, ArePoints, IsRefutedBy}
-use Rattle.candidate_functions.specs.Candidates.{AreDefinitions, AgreeAtPairs}
+use Rattle.candidate_functions.specs.Candidates.{AreDefinitions, AreGuesses, AgreeAtPairs}
 use Rattle.log_laws.specs.Engines.{circuits, instances, HasNone}
 use Rattle.dq_formula.specs.Rules.{IsRule}
 use Rattle.dq_formula.specs.declared.rules.Rule.{Rule}
@@ -48,10 +48,12 @@ definition_in (Free pair) = None
 
 -- what is known of the existentials' functions, where definitions read by these ranks
 pub record AreKnown (f : Dqbf) (ranks : List ℕ) (graph : AigGraph)
-    (definitions : List (Option Node)) (rules : List Rule) : Type 0 where
+    (definitions : List (Option Node)) (rules : List Rule)
+    (guesses : List (Option Node)) : Type 0 where
   pub one_each : length definitions ≡ length f.existentials
   pub defined : AreDefinitions f ranks graph definitions
   pub forced : All (IsRule f) rules
+  pub guessed : AreGuesses f graph guesses
 
 -- an input for each universal and each existential
 abbrev pub HasInputs : Dqbf → AigGraph → Type 0

@@ -41,7 +41,8 @@ impl Engines {
         requires search { IsSearch f.now graph.old self.old.table self.old.checker
             self.old.definitions.padoa log.old.entries }
         requires known { AreKnown f.now self.old.definitions.ranks.items graph.old
-            self.old.definitions.nodes.items self.old.definitions.rules.items }
+            self.old.definitions.nodes.items self.old.definitions.rules.items
+            self.old.definitions.guesses.items }
         ensures fit { O.Fits oracle.new log.new }
         ensures extends { Extends graph.old graph.new }
         ensures padoa { self.new.definitions.padoa ≡ self.old.definitions.padoa }
@@ -54,7 +55,8 @@ impl Engines {
             log.new.entries }
         ensures known { (outputs : _) → result ≡ Ok (Found.Candidates outputs)
             → AreKnown f.now self.new.definitions.ranks.items graph.new
-            self.new.definitions.nodes.items self.new.definitions.rules.items }
+            self.new.definitions.nodes.items self.new.definitions.rules.items
+            self.new.definitions.guesses.items }
         ensures candidates { (outputs : _) → result ≡ Ok (Found.Candidates outputs)
             → AreBuilt f.now graph.new self.new.table.rows outputs }
         ensures undecided { OnErr result (IsUndecided f.now log.new.entries) }
@@ -80,6 +82,7 @@ impl Engines {
                     &self.definitions.rules,
                     &self.definitions.ranks,
                     &self.definitions.nodes,
+                    &self.definitions.guesses,
                     graph,
                 )?;
                 Ok(Found::Candidates(outputs))

@@ -101,7 +101,8 @@ impl Engines {
         requires search { IsSearch f.now graph.old self.old.table self.old.checker
             self.old.definitions.padoa log.old.entries }
         requires known { AreKnown f.now self.old.definitions.ranks.items graph.old
-            self.old.definitions.nodes.items self.old.definitions.rules.items }
+            self.old.definitions.nodes.items self.old.definitions.rules.items
+            self.old.definitions.guesses.items }
         ensures fit { O.Fits oracle.new log.new }
         ensures inputs { graph.new.inputs ≡ graph.old.inputs }
         ensures kept { IsKept f.now log.new.entries }

@@ -34,6 +34,8 @@ pub(crate) struct Definitions {
     pub(crate) nodes: Vec<Option<Node>>,
     // Bits that those without a definition are forced to have.
     pub(crate) rules: Vec<Rule>,
+    // Nodes that those without a definition equal under conditions, in order of declaration.
+    pub(crate) guesses: Vec<Option<Node>>,
 }
 
 // An existential of a formula, by its place in order of declaration.
@@ -55,7 +57,8 @@ impl Definitions {
     fn none(alloc: Global, padoa: Padoa, gates: Gates, f: &Formula) -> Result<Definitions, Memory>
         ensures padoa { IfOk result (λ d. d.padoa ≡ padoa) }
         ensures known { (graph : _)
-            → IfOk result (λ d. AreKnown f.now d.ranks.items graph d.nodes.items d.rules.items) }
+            → IfOk result (λ d. AreKnown f.now d.ranks.items graph d.nodes.items d.rules.items
+            d.guesses.items) }
     {
         let ranks = gates.ranks(f)?;
         Ok(Definitions {
@@ -65,6 +68,7 @@ impl Definitions {
             questions: Questions::none(alloc, f)?,
             nodes: no_nodes(alloc, f.existentials().len())?,
             rules: Vec::new(alloc),
+            guesses: Vec::new(alloc),
         })
     }
 
@@ -74,6 +78,7 @@ impl Definitions {
         ensures padoa { self.new.padoa ≡ self.old.padoa }
         ensures rules { self.new.rules.items ≡ self.old.rules.items }
         ensures ranks { self.new.ranks.items ≡ self.old.ranks.items }
+        ensures guesses { self.new.guesses.items ≡ self.old.guesses.items }
         ensures nodes { self.new.nodes.items
             ≡ slice_set self.old.nodes.items place (definition_in found) }
     {
@@ -97,7 +102,7 @@ impl Definitions {
         requires padoa { IsPadoa order.now.f.now self.old.padoa log.old.entries }
         requires inputs { HasInputs order.now.f.now graph.old }
         requires known { AreKnown order.now.f.now self.old.ranks.items graph.old
-            self.old.nodes.items self.old.rules.items }
+            self.old.nodes.items self.old.rules.items self.old.guesses.items }
         requires places { All (λ p. p < length order.now.f.now.existentials) order.now.places.now }
         ensures fit { O.Fits oracle.new log.new }
         ensures fresh { IsFresh order.now.f.now log.new.entries }
@@ -105,7 +110,7 @@ impl Definitions {
         ensures extends { Extends graph.old graph.new }
         ensures padoa { OnOk result (IsPadoa order.now.f.now self.new.padoa log.new.entries) }
         ensures known { OnOk result (AreKnown order.now.f.now self.new.ranks.items graph.new
-            self.new.nodes.items self.new.rules.items) }
+            self.new.nodes.items self.new.rules.items self.new.guesses.items) }
         ensures limit { IsErrOf result Stop.Limit → IsAtSomeLimit log.new }
     {
         let f = order.f;
@@ -129,7 +134,7 @@ impl Definitions {
         requires padoa { IsPadoa existential.now.f.now self.old.padoa log.old.entries }
         requires inputs { HasInputs existential.now.f.now graph.old }
         requires known { AreKnown existential.now.f.now self.old.ranks.items graph.old
-            self.old.nodes.items self.old.rules.items }
+            self.old.nodes.items self.old.rules.items self.old.guesses.items }
         requires place { existential.now.place < length existential.now.f.now.existentials }
         ensures fit { O.Fits oracle.new log.new }
         ensures fresh { IsFresh existential.now.f.now log.new.entries }
@@ -137,7 +142,7 @@ impl Definitions {
         ensures extends { Extends graph.old graph.new }
         ensures padoa { OnOk result (IsPadoa existential.now.f.now self.new.padoa log.new.entries) }
         ensures known { OnOk result (AreKnown existential.now.f.now self.new.ranks.items graph.new
-            self.new.nodes.items self.new.rules.items) }
+            self.new.nodes.items self.new.rules.items self.new.guesses.items) }
         ensures limit { IsErrOf result Stop.Limit → IsAtSomeLimit log.new }
     {
         engines_leave_the_rest();
@@ -194,13 +199,14 @@ impl Definitions {
     }
 }
 
-fn no_nodes(alloc: Global, n: usize) -> Result<Vec<Option<Node>>, Memory>
+pub(crate) fn no_nodes(alloc: Global, n: usize) -> Result<Vec<Option<Node>>, Memory>
     ensures { IfOk result (λ nodes. nodes.items ≡ replicate n None) }
 {
     Ok(vec![in alloc; None; n]?)
 }
 
-// Asks for a definition of each existential that may have one, those that see less first.
+// Asks for a definition of each existential that may have one, those that see less first, and then
+// for guesses of the others.
 pub(crate) fn find_definitions<O: Oracle>(
     alloc: Global,
     oracle: &mut O,
@@ -219,7 +225,7 @@ pub(crate) fn find_definitions<O: Oracle>(
     ensures extends { Extends graph.old graph.new }
     ensures padoa { IfOk result (λ d. IsPadoa f.now d.padoa log.new.entries) }
     ensures known { IfOk result (λ d. AreKnown f.now d.ranks.items graph.new d.nodes.items
-        d.rules.items) }
+        d.rules.items d.guesses.items) }
     ensures limit { IsErrOf result Stop.Limit → IsAtSomeLimit log.new }
 {
     engines_leave_the_rest();
@@ -229,5 +235,6 @@ pub(crate) fn find_definitions<O: Oracle>(
     let order = existentials_in_order(alloc, f, &definitions.ranks)?;
     definitions.questions.set_order(&order)?;
     definitions.find_all(oracle, graph, &Order { f, places: &order }, log)?;
+    definitions.guess_all(oracle, graph, f, log)?;
     Ok(definitions)
 }

@@ -52,6 +52,7 @@ impl Definitions {
         ensures same { self.new.padoa ≡ self.old.padoa }
         ensures nodes { self.new.nodes.items ≡ self.old.nodes.items }
         ensures ranks { self.new.ranks.items ≡ self.old.ranks.items }
+        ensures guesses { self.new.guesses.items ≡ self.old.guesses.items }
         ensures rules { All (IsRule f.now) self.new.rules.items }
         ensures goes_on { GoesOn f.now model.now.table.now self.old.padoa log.old.entries
             log.new.entries }
@@ -93,6 +94,7 @@ impl Definitions {
         requires point_rows { length model.now.points.now.rows ≡ length model.now.table.now.rows }
         ensures nodes { self.new.nodes.items ≡ self.old.nodes.items }
         ensures ranks { self.new.ranks.items ≡ self.old.ranks.items }
+        ensures guesses { self.new.guesses.items ≡ self.old.guesses.items }
         ensures fit { O.Fits oracle.new log.new }
         ensures padoa { IsPadoa existential.now.f.now self.new.padoa log.new.entries }
         ensures same { self.new.padoa ≡ self.old.padoa }
@@ -163,6 +165,7 @@ impl Definitions {
         requires point_rows { length model.now.points.now.rows ≡ length model.now.table.now.rows }
         ensures nodes { self.new.nodes.items ≡ self.old.nodes.items }
         ensures ranks { self.new.ranks.items ≡ self.old.ranks.items }
+        ensures guesses { self.new.guesses.items ≡ self.old.guesses.items }
         ensures fit { O.Fits oracle.new log.new }
         ensures padoa { IsPadoa existential.now.f.now self.new.padoa log.new.entries }
         ensures same { self.new.padoa ≡ self.old.padoa }
@@ -193,6 +196,7 @@ impl Definitions {
         ensures padoa { self.new.padoa ≡ self.old.padoa }
         ensures nodes { self.new.nodes.items ≡ self.old.nodes.items }
         ensures ranks { self.new.ranks.items ≡ self.old.ranks.items }
+        ensures guesses { self.new.guesses.items ≡ self.old.guesses.items }
         ensures rules { (f : Dqbf) → ((r : RuleState) → forced ≡ Forced.Rule r → IsRule f r)
             → All (IsRule f) self.old.rules.items → All (IsRule f) self.new.rules.items }
     {

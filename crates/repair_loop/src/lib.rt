@@ -6,13 +6,17 @@
 pub use decisions::{Verdict, decide};
 
 mod candidates;
+mod conditions;
 mod decisions;
 mod definitions;
 mod forcing;
+mod guessing;
 mod judging;
+mod known_inputs;
 mod occurrences;
 mod questions;
 mod samples;
 mod stated_rules;
+mod suspects;
 mod universal_clauses;
 mod walks;

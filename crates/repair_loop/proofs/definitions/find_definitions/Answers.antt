@@ -1,6 +1,7 @@
 use Rattle.std.proofs.Common.{◌∙◌, ◌<◌, ap, sym, subst, arith, length}
 use Rattle.std.specs.List.{All}
 use Rattle.std.proofs.lemmas.List.Elements.{Contains-get_or}
+use Rattle.candidate_functions.proofs.LargerGraphs.{extends-trans}
 use Rattle.repair_loop.proofs.Defined.{still_fresh}
 use Rattle.repair_loop.proofs.definitions.find_definitions.Goals as goal
 
@@ -41,7 +42,10 @@ pub returns-in_err-find_all-clause-limit_same : goal.returns-in_err-find_all-cla
 returns-in_err-find_all-clause-limit_same g c = c.find_all.ensures.limit_same ∙ (c.new.ensures.grew 0).limit
 
 pub returns-clause-limit_same : goal.returns-clause-limit_same
-returns-clause-limit_same g c = c.find_all.ensures.limit_same ∙ (c.new.ensures.grew 0).limit
+returns-clause-limit_same g c = c.guess_all.ensures.limit_same ∙ c.find_all.ensures.limit_same ∙ (c.new.ensures.grew 0).limit
+
+pub returns-in_err-guess_all-clause-limit_same : goal.returns-in_err-guess_all-clause-limit_same
+returns-in_err-guess_all-clause-limit_same g c = c.guess_all.ensures.limit_same ∙ c.find_all.ensures.limit_same ∙ (c.new.ensures.grew 0).limit
 
 pub returns-in_err-gates-clause-fresh : goal.returns-in_err-gates-clause-fresh
 returns-in_err-gates-clause-fresh g c = still_fresh c.engines_leave_the_rest.ensures c.args.f.now c.args.log.now c.new.new.log c.new.ensures.grew c.requires.fresh
@@ -54,3 +58,9 @@ returns-in_err-set_order-clause-fresh g c = still_fresh c.engines_leave_the_rest
 
 pub returns-in_err-set_order-clause-limit_same : goal.returns-in_err-set_order-clause-limit_same
 returns-in_err-set_order-clause-limit_same g c = (c.new.ensures.grew 0).limit
+
+pub returns-in_err-guess_all-clause-extends : goal.returns-in_err-guess_all-clause-extends
+returns-in_err-guess_all-clause-extends g c = extends-trans c.args.graph.now c.find_all.new.graph c.guess_all.new.graph c.find_all.ensures.extends c.guess_all.ensures.extends
+
+pub returns-clause-extends : goal.returns-clause-extends
+returns-clause-extends g c = extends-trans c.args.graph.now c.find_all.new.graph c.guess_all.new.graph c.find_all.ensures.extends c.guess_all.ensures.extends

@@ -12,7 +12,7 @@ undefined_output-requires-clause-declared c = declared_at c.args.known.now.f.now
 pub returns-in-Some-clause-output : goal.returns-in-Some-clause-output
 returns-in-Some-clause-output c = λ rules y at by. record {
   is_node = subst (IsNode c.args.graph.now) (sym c.constant.ensures) tt;
-  undefined = λ none. let e : None ≡ Some c.in-Some.field-0 = sym none ∙ sym c.definition_at.ensures ∙ c.in-Some.is in cc;
+  undefined = λ none. let e : None ≡ Some c.in-Some.field-0 = sym none ∙ sym c.given_at.ensures ∙ c.in-Some.is in cc;
 }
 
 pub returns-in-None-clause-output : goal.returns-in-None-clause-output

@@ -1,7 +1,7 @@
 use Rattle.std.proofs.Common.{◌≡◌, ◌+◌, ap, length, sym, ◌∙◌, subst, arith}
 use Rattle.std.proofs.lemmas.List.{length-map}
 use Rattle.dq_lits.specs.Formula.{Existential}
-use Rattle.candidate_functions.proofs.LargerGraphs.{extends-trans}
+use Rattle.candidate_functions.proofs.LargerGraphs.{extends-trans, guesses_stay}
 use Rattle.candidate_functions.proofs.TreeNodes.{NodesSoFar, node_more, all_nodes}
 use Rattle.candidate_functions.proofs.guesses.Trees.nodes.Goals as goal
 
@@ -23,3 +23,7 @@ returns-clause-nodes c =
     let long = ap length c.existentials-place-end.ensures ∙ length-map f.existentials (λ (y : Existential). y.variable) in
     let all : c.loop-place.place ≡ length f.existentials = omega (arith, long) in
     all_nodes f c.args.graph.now c.loop-place.graph c.loop-place.place c.loop-place.nodes.items all c.loop-place.invariant
+
+pub node_at-requires-clause-guesses : goal.node_at-requires-clause-guesses
+node_at-requires-clause-guesses c =
+    guesses_stay c.args.graph.now c.loop-place.graph c.loop-place.invariant.grown c.args.known.now.f.now c.args.known.now.guesses.now c.requires.guesses

@@ -59,7 +59,7 @@ loop-outputs-preserved g c =
       search = after_row c.engines_leave_the_rest.ensures c.checkers_stay.ensures c.engines_leave_copies.ensures c.args.f.now c.find_candidates.new.graph c.judge.new.self.table c.add_row.new.self
           c.judge.new.self.checker c.judge.new.self.definitions.padoa c.in-Fail.row c.judge.new.log c.add_row.new.log (c.judge.ensures.fail c.in-Fail.row was) (c.add_row.ensures.grew c.judge.new.log.entries)
           c.in_ok-add_row-in-Fail.ensures.table c.add_row.ensures.group found.inputs;
-      known = subst (λ (d : Definitions). AreKnown c.args.f.now d.ranks.items c.find_candidates.new.graph d.nodes.items d.rules.items) (sym c.judge.ensures.definitions)
+      known = subst (λ (d : Definitions). AreKnown c.args.f.now d.ranks.items c.find_candidates.new.graph d.nodes.items d.rules.items d.guesses.items) (sym c.judge.ensures.definitions)
           (c.find_candidates.ensures.known c.in-Candidates.outputs (c.in_ok-outputs.was ∙ ap Ok c.in-Candidates.is));
       inputs = c.find_candidates.ensures.extends.inputs ∙ c.loop-outputs.invariant.inputs;
       limit = (c.add_row.ensures.grew c.judge.new.log.entries).limit ∙ c.judge.ensures.grew.limit ∙ c.find_candidates.ensures.grew.limit ∙ c.loop-outputs.invariant.limit;

@@ -2,7 +2,7 @@ use Rattle.std.proofs.Common.{◌≡◌, ◌∙◌, sym, ap, subst, length, Ok, 
 use Rattle.hint_log.specs.declared.stops.Stop.TheVariants.{Limit}
 use Rattle.oracle.proofs.SomeLimits.{some_limit}
 use Rattle.dq_lits.specs.Expansion.{IsExpansionUnsatisfiable}
-use Rattle.candidate_functions.specs.Candidates.{AreDefinitions}
+use Rattle.candidate_functions.specs.Candidates.{AreDefinitions, AreGuesses}
 use Rattle.log_laws.specs.Engines.{instances}
 use Rattle.expansion.specs.Silence.{is_silent}
 use Rattle.expansion.specs.Table.{TableState, point_bits, ArePoints}
@@ -87,12 +87,17 @@ build-requires-clause-definitions g c =
 
 pub returns-in_ok-outputs-in-Model-clause-known : goal.returns-in_ok-outputs-in-Model-clause-known
 returns-in_ok-outputs-in-Model-clause-known g c outputs e =
-    known_stays c.args.f.now c.force_all.new.self.ranks.items c.args.graph.now c.build.new.graph c.force_all.new.self.nodes.items c.force_all.new.self.rules.items c.build.ensures.extends (record {
+    known_stays c.args.f.now c.force_all.new.self.ranks.items c.args.graph.now c.build.new.graph c.force_all.new.self.nodes.items c.force_all.new.self.rules.items c.force_all.new.self.guesses.items c.build.ensures.extends (record {
       one_each = ap length c.force_all.ensures.nodes ∙ c.requires.known.one_each;
       defined = subst (λ rs. AreDefinitions c.args.f.now rs c.args.graph.now c.force_all.new.self.nodes.items) (sym c.force_all.ensures.ranks)
           (subst (AreDefinitions c.args.f.now c.args.self.now.definitions.ranks.items c.args.graph.now) (sym c.force_all.ensures.nodes) c.requires.known.defined);
       forced = c.force_all.ensures.rules;
+      guessed = subst (AreGuesses c.args.f.now c.args.graph.now) (sym c.force_all.ensures.guesses) c.requires.known.guessed;
     })
+
+pub build-requires-clause-guesses : goal.build-requires-clause-guesses
+build-requires-clause-guesses g c =
+    subst (AreGuesses c.args.f.now c.args.graph.now) (sym c.force_all.ensures.guesses ∙ sym c.deref-in-Model-3.ensures.value) c.requires.known.guessed
 
 pub returns-in-Refuted-clause-grew : goal.returns-in-Refuted-clause-grew
 returns-in-Refuted-clause-grew g c = log_grew _ c.args.log.now c.solve.new.log (c.solve.ensures.grew c.args.f.now c.requires.search.table)

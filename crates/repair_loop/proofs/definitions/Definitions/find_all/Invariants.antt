@@ -11,5 +11,5 @@ invariant-loop-place g l = record {
   padoa : IsPadoa l.order.f.now l.self.padoa l.log.entries;
   limit : l.log.limit ≡ l.fn.log.limit;
   extends : Extends l.fn.graph l.graph;
-  known : AreKnown l.order.f.now l.self.ranks.items l.graph l.self.nodes.items l.self.rules.items;
+  known : AreKnown l.order.f.now l.self.ranks.items l.graph l.self.nodes.items l.self.rules.items l.self.guesses.items;
 }

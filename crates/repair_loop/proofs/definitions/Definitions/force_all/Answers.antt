@@ -17,6 +17,7 @@ loop-place-preserved g c =
       same = c.force.ensures.same ∙ inv.same;
       nodes = c.force.ensures.nodes ∙ inv.nodes;
       ranks = c.force.ensures.ranks ∙ inv.ranks;
+      guesses = c.force.ensures.guesses ∙ inv.guesses;
       rules = c.force.ensures.rules;
       goes_on = λ graph checker s.
           (subst (λ p. GoesOn c.args.f.now c.args.model.now.table.now p c.loop-place.log.entries c.force.new.log.entries) inv.same c.force.ensures.goes_on) graph checker (inv.goes_on graph checker s);

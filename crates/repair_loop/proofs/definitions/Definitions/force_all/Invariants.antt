@@ -12,6 +12,7 @@ invariant-loop-place g l = record {
   same : l.self.padoa ≡ l.fn.self.padoa;
   nodes : l.self.nodes.items ≡ l.fn.self.nodes.items;
   ranks : l.self.ranks.items ≡ l.fn.self.ranks.items;
+  guesses : l.self.guesses.items ≡ l.fn.self.guesses.items;
   rules : All (IsRule l.f) l.self.rules.items;
   goes_on : GoesOn l.f l.model.table.now l.fn.self.padoa l.fn.log.entries l.log.entries;
   grew : LogGrew l.fn.log l.log;

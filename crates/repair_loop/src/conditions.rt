@@ -1,0 +1,175 @@
+//! Conditions under which a definition is worth a question.
+//!
+//! Where a circuit with boxes is compared with its specification, the clauses that no definition
+//! makes true say that outputs are equal wherever the boxes' inputs are as they should be: they
+//! share the literals that say that they aren't. Under the negations of these a box's output is
+//! often defined, and what defines it there serves everywhere.
+
+ghost use Rattle.std.specs.Prelude.{◌<◌, length};
+
+use crate::suspects::Defined;
+use dq_lits::{Lit, Memory};
+use std::alloc::Global;
+
+// How many clauses share a literal at least that is a condition.
+const FEWEST: u32 = 2;
+
+// How many sets of conditions are tried, and how many conditions one of them has at most.
+const MOST_SETS: usize = 4;
+
+const MOST_CONDITIONS: usize = 32;
+
+// After so many existentials in a row for which no guess was found none is asked for.
+const MOST_IN_VAIN: usize = 32;
+
+/// Sets of conditions, and how many existentials in a row none of them gave a guess of. No contract
+/// speaks of them.
+#[derive(Drop)]
+pub(crate) struct Conditions {
+    sets: Vec<Vec<Lit>>,
+    in_vain: usize,
+}
+
+impl Conditions {
+    /// The conditions that a formula's clauses give.
+    pub(crate) fn new(alloc: Global, defined: &Defined) -> Result<Conditions, Memory> {
+        Ok(Conditions {
+            sets: condition_sets(alloc, defined)?,
+            in_vain: 0,
+        })
+    }
+
+    /// The sets that are worth a question.
+    pub(crate) fn sets(&self) -> &[Vec<Lit>] {
+        if self.in_vain >= MOST_IN_VAIN {
+            &[]
+        } else {
+            &self.sets
+        }
+    }
+
+    /// Learns whether they gave a guess.
+    pub(crate) fn learn(&mut self, is_guessed: bool) {
+        self.in_vain = if is_guessed {
+            0
+        } else {
+            self.in_vain.saturating_add(1)
+        };
+    }
+}
+
+// How many clauses have each literal on an existential, by place and sign.
+#[derive(Drop)]
+struct Counts {
+    counts: Vec<u32>,
+}
+
+impl Counts {
+    fn new(alloc: Global, defined: &Defined, suspects: &[usize]) -> Result<Counts, Memory> {
+        let places = defined.nodes.len().saturating_mul(2);
+        let mut counts = Counts {
+            counts: vec![in alloc; 0u32; places]?,
+        };
+        for number in suspects {
+            if *number < defined.f.clauses() {
+                counts.add_all(defined, defined.f.clause(*number));
+            }
+        }
+        Ok(counts)
+    }
+
+    fn add_all(&mut self, defined: &Defined, clause: &[Lit]) {
+        for l in clause {
+            if let Some(slot) = slot(defined, *l) {
+                if slot < self.counts.len() {
+                    self.counts[slot] = self.counts[slot].saturating_add(1);
+                }
+            }
+        }
+    }
+
+    // Whether a literal is on a defined existential and shared.
+    fn is_shared(&self, defined: &Defined, l: Lit) -> bool {
+        if let None = defined.node_of(l.var()) {
+            return false;
+        }
+        match slot(defined, l) {
+            Some(slot) => match self.counts.get(slot) {
+                Some(count) => *count >= FEWEST,
+                None => false,
+            },
+            None => false,
+        }
+    }
+}
+
+fn slot(defined: &Defined, l: Lit) -> Option<usize> {
+    match defined.f.existential_place(l.var()) {
+        Some(place) => {
+            let first = place.saturating_mul(2);
+            Some(if l.is_neg() {
+                first.saturating_add(1)
+            } else {
+                first
+            })
+        }
+        None => None,
+    }
+}
+
+// Some sets of conditions, each the negations of the literals on defined existentials that a
+// clause which no definition makes true shares with another one; those of the last clauses first.
+// Time follows the literals.
+fn condition_sets(alloc: Global, defined: &Defined) -> Result<Vec<Vec<Lit>>, Memory> {
+    let suspects = defined.suspects(alloc)?;
+    let counts = Counts::new(alloc, defined, &suspects)?;
+    let mut sets = Vec::new(alloc);
+    for k in 0..suspects.len() {
+        let number = suspects[suspects.len() - 1 - k];
+        if sets.len() >= MOST_SETS {
+            return Ok(sets);
+        }
+        if number < defined.f.clauses() {
+            let set = shared_literals(alloc, defined, &counts, defined.f.clause(number))?;
+            put_new(&mut sets, set)?;
+        }
+    }
+    Ok(sets)
+}
+
+// The negations of the shared literals of a clause; none where they are too many.
+fn shared_literals(
+    alloc: Global,
+    defined: &Defined,
+    counts: &Counts,
+    clause: &[Lit],
+) -> Result<Vec<Lit>, Memory> {
+    let mut set = Vec::new(alloc);
+    for l in clause {
+        if counts.is_shared(defined, *l) {
+            if set.len() >= MOST_CONDITIONS {
+                set.clear();
+                return Ok(set);
+            }
+            set.push(l.not())?;
+        }
+    }
+    Ok(set)
+}
+
+// Adds a set that isn't empty and isn't there.
+fn put_new(sets: &mut Vec<Vec<Lit>>, set: Vec<Lit>) -> Result<(), Memory> {
+    if !set.is_empty() && !has_set(sets, &set) {
+        sets.push(set)?;
+    }
+    Ok(())
+}
+
+fn has_set(sets: &[Vec<Lit>], set: &[Lit]) -> bool {
+    for other in sets {
+        if other.as_slice() == set {
+            return true;
+        }
+    }
+    false
+}

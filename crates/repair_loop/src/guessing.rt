@@ -1,0 +1,275 @@
+//! Guesses: nodes that existentials without a definition equal under conditions. They are asked for
+//! before the first candidates, and candidates take them where neither a row nor a rule says a bit.
+
+ghost use Rattle.std.specs.Prelude.{◌≡◌, ◌≤◌, ◌<◌, ℕ, true, length, replicate, None, Some, IfOk, IfSome, Ok, OnOk, slice_get};
+ghost use Rattle.dq_lits.specs.Derivation.{holds};
+ghost use Rattle.dq_lits.specs.Formula.{Existential, IsWellFormed};
+ghost use Rattle.dq_lits.specs.Literal.{opposite, same_literal};
+ghost use Rattle.aig_graph.specs.Made.{Extends};
+ghost use Rattle.hint_log.specs.Entries.{steps_of};
+ghost use Rattle.hint_log.specs.Growth.{Grew};
+ghost use Rattle.log_laws.specs.Engines.{copies, IsAddedBy};
+ghost use Rattle.padoa_definitions.specs.Copies.{IsPadoa};
+ghost use Rattle.candidate_functions.specs.Candidates.{IsGuess, AreGuesses};
+ghost use Rattle.repair_loop.specs.Searching.{IsFresh, HasInputs, AreKnown};
+ghost use Rattle.repair_loop.specs.Guessing.{AreConditions};
+
+use crate::conditions::Conditions;
+use crate::definitions::{Definitions, ExistentialAt, no_nodes};
+use crate::suspects::Defined;
+use aig_graph::{Graph, Node};
+use dq_formula::Formula;
+use dq_lits::{Lit, Memory};
+use hint_log::{Log, Stop};
+use log_laws::laws::engines_leave_the_rest;
+use oracle::Oracle;
+use padoa_definitions::Guess;
+use std::alloc::Global;
+
+// How many clauses are learned for a question at most.
+const MOST_STEPS: u64 = 1000;
+
+impl Definitions {
+    // Asks for guesses of the existentials without a definition, and keeps them.
+    pub(crate) fn guess_all<O: Oracle>(
+        &mut self,
+        oracle: &mut O,
+        graph: &mut Graph,
+        f: &Formula,
+        log: &mut Log,
+    ) -> Result<(), Memory>
+        requires fit { O.Fits oracle.old log.old }
+        requires formula { IsWellFormed f.now }
+        requires fresh { IsFresh f.now log.old.entries }
+        requires padoa { IsPadoa f.now self.old.padoa log.old.entries }
+        requires inputs { HasInputs f.now graph.old }
+        requires known { AreKnown f.now self.old.ranks.items graph.old self.old.nodes.items
+            self.old.rules.items self.old.guesses.items }
+        ensures fit { O.Fits oracle.new log.new }
+        ensures fresh { IsFresh f.now log.new.entries }
+        ensures limit_same { log.new.limit ≡ log.old.limit }
+        ensures extends { Extends graph.old graph.new }
+        ensures padoa { IsPadoa f.now self.new.padoa log.new.entries }
+        ensures known { OnOk result (AreKnown f.now self.new.ranks.items graph.new
+            self.new.nodes.items self.new.rules.items self.new.guesses.items) }
+    {
+        self.guesses = self.find_guesses(oracle, graph, f, log)?;
+        Ok(())
+    }
+
+    fn find_guesses<O: Oracle>(
+        &mut self,
+        oracle: &mut O,
+        graph: &mut Graph,
+        f: &Formula,
+        log: &mut Log,
+    ) -> Result<Vec<Option<Node>>, Memory>
+        requires fit { O.Fits oracle.old log.old }
+        requires formula { IsWellFormed f.now }
+        requires fresh { IsFresh f.now log.old.entries }
+        requires padoa { IsPadoa f.now self.old.padoa log.old.entries }
+        requires inputs { HasInputs f.now graph.old }
+        ensures fit { O.Fits oracle.new log.new }
+        ensures fresh { IsFresh f.now log.new.entries }
+        ensures limit_same { log.new.limit ≡ log.old.limit }
+        ensures extends { Extends graph.old graph.new }
+        ensures same { self.new ≡ self.old }
+        ensures padoa { IsPadoa f.now self.new.padoa log.new.entries }
+        ensures guesses { IfOk result (λ guesses. AreGuesses f.now graph.new guesses.items) }
+    {
+        f.every_formula_is_lawful();
+        engines_leave_the_rest();
+        let mut conditions = self.conditions(f, graph)?;
+        let mut guesses = no_nodes(self.questions.alloc, f.existentials().len())?;
+        for place in 0..f.existentials().len() {
+            let existential = ExistentialAt { f, place };
+            guesses[place] = self.guess(oracle, graph, &existential, &mut conditions, log)?;
+        }
+        Ok(guesses)
+    }
+
+    // The conditions that are tried.
+    fn conditions(&self, f: &Formula, graph: &Graph) -> Result<Conditions, Memory> {
+        let defined = Defined {
+            f,
+            graph,
+            nodes: &self.nodes,
+        };
+        Conditions::new(self.questions.alloc, &defined)
+    }
+
+    // A guess of an existential, if it has no definition.
+    fn guess<O: Oracle>(
+        &mut self,
+        oracle: &mut O,
+        graph: &mut Graph,
+        existential: &ExistentialAt,
+        conditions: &mut Conditions,
+        log: &mut Log,
+    ) -> Result<Option<Node>, Memory>
+        requires fit { O.Fits oracle.old log.old }
+        requires formula { IsWellFormed existential.now.f.now }
+        requires fresh { IsFresh existential.now.f.now log.old.entries }
+        requires padoa { IsPadoa existential.now.f.now self.old.padoa log.old.entries }
+        requires inputs { HasInputs existential.now.f.now graph.old }
+        requires place { existential.now.place < length existential.now.f.now.existentials }
+        ensures fit { O.Fits oracle.new log.new }
+        ensures fresh { IsFresh existential.now.f.now log.new.entries }
+        ensures limit_same { log.new.limit ≡ log.old.limit }
+        ensures extends { Extends graph.old graph.new }
+        ensures same { self.new ≡ self.old }
+        ensures padoa { IsPadoa existential.now.f.now self.new.padoa log.new.entries }
+        ensures guess { (e : Existential)
+            → slice_get existential.now.f.now.existentials existential.now.place ≡ Some e
+            → IfOk result (λ guess. IfSome guess (IsGuess existential.now.f.now graph.new e)) }
+    {
+        if !self.is_undefined(existential.place) {
+            return Ok(None);
+        }
+        let guess = self.first_guess(oracle, graph, existential, conditions.sets(), log)?;
+        conditions.learn(guess.is_some());
+        Ok(guess)
+    }
+
+    // Whether the existential at a place has no definition.
+    fn is_undefined(&self, place: usize) -> bool {
+        match self.nodes.get(place) {
+            Some(node) => node.is_none(),
+            None => false,
+        }
+    }
+
+    // A guess of an existential under the first of the conditions that give one.
+    fn first_guess<O: Oracle>(
+        &mut self,
+        oracle: &mut O,
+        graph: &mut Graph,
+        existential: &ExistentialAt,
+        sets: &[Vec<Lit>],
+        log: &mut Log,
+    ) -> Result<Option<Node>, Memory>
+        requires fit { O.Fits oracle.old log.old }
+        requires formula { IsWellFormed existential.now.f.now }
+        requires fresh { IsFresh existential.now.f.now log.old.entries }
+        requires padoa { IsPadoa existential.now.f.now self.old.padoa log.old.entries }
+        requires inputs { HasInputs existential.now.f.now graph.old }
+        requires place { existential.now.place < length existential.now.f.now.existentials }
+        ensures fit { O.Fits oracle.new log.new }
+        ensures fresh { IsFresh existential.now.f.now log.new.entries }
+        ensures limit_same { log.new.limit ≡ log.old.limit }
+        ensures extends { Extends graph.old graph.new }
+        ensures same { self.new ≡ self.old }
+        ensures padoa { IsPadoa existential.now.f.now self.new.padoa log.new.entries }
+        ensures guess { (e : Existential)
+            → slice_get existential.now.f.now.existentials existential.now.place ≡ Some e
+            → IfOk result (λ guess. IfSome guess (IsGuess existential.now.f.now graph.new e)) }
+    {
+        engines_leave_the_rest();
+        for conditions in sets {
+            let guess = self.guess_under(oracle, graph, existential, conditions, log)?;
+            if let Some(node) = guess {
+                return Ok(Some(node));
+            }
+        }
+        Ok(None)
+    }
+
+    // A guess of an existential under conditions, if so many steps suffice.
+    fn guess_under<O: Oracle>(
+        &mut self,
+        oracle: &mut O,
+        graph: &mut Graph,
+        existential: &ExistentialAt,
+        conditions: &[Lit],
+        log: &mut Log,
+    ) -> Result<Option<Node>, Memory>
+        requires fit { O.Fits oracle.old log.old }
+        requires formula { IsWellFormed existential.now.f.now }
+        requires padoa { IsPadoa existential.now.f.now self.old.padoa log.old.entries }
+        requires inputs { HasInputs existential.now.f.now graph.old }
+        requires place { existential.now.place < length existential.now.f.now.existentials }
+        ensures fit { O.Fits oracle.new log.new }
+        ensures same { self.new ≡ self.old }
+        ensures padoa { IsPadoa existential.now.f.now self.new.padoa log.new.entries }
+        ensures grew { (group : ℕ)
+            → Grew (IsAddedBy existential.now.f.now copies group true log.old.entries)
+            log.old log.new }
+        ensures extends { Extends graph.old graph.new }
+        ensures guess { (e : Existential)
+            → slice_get existential.now.f.now.existentials existential.now.place ≡ Some e
+            → IfOk result (λ guess. IfSome guess (IsGuess existential.now.f.now graph.new e)) }
+    {
+        let f = existential.f;
+        f.every_formula_is_lawful();
+        let y = f.existentials()[existential.place];
+        let conditions = lawful_conditions(self.questions.alloc, f, y, conditions)?;
+        let whole = log.limit();
+        let most = most_steps(log);
+        log.set_limit(most);
+        let found = self.padoa.guess(oracle, graph, f, y, &conditions, log);
+        let _ = log.steps();
+        log.set_limit(whole);
+        guessed(found)
+    }
+}
+
+// How many steps a log may have behind a question.
+fn most_steps(log: &Log) -> u64
+    ensures steps { steps_of log.now.entries ≤ result }
+    ensures limit { result ≤ log.now.limit }
+{
+    log.limit().min(log.steps().saturating_add(MOST_STEPS))
+}
+
+// The node that was found.
+fn guessed(found: Result<Guess, Stop>) -> Result<Option<Node>, Memory>
+    ensures { (node : _) → result ≡ Ok (Some node) → found ≡ Ok (Guess.Node node) }
+{
+    match found {
+        Ok(Guess::Node(node)) => Ok(Some(node)),
+        Ok(Guess::Pair(_)) => Ok(None),
+        Err(Stop::Limit) => Ok(None),
+        Err(Stop::Memory) => Err(Memory),
+    }
+}
+
+// Those of some literals on declared variables, but for one, that contradict none before them.
+fn lawful_conditions(alloc: Global, f: &Formula, y: u64, some: &[Lit]) -> Result<Vec<Lit>, Memory>
+    ensures { IfOk result (λ lits. AreConditions f.now y lits.items) }
+{
+    let mut lawful = Vec::new(alloc);
+    for l in some {
+        put_lawful(&mut lawful, f, y, *l)?;
+    }
+    Ok(lawful)
+}
+
+fn put_lawful(lawful: &mut Vec<Lit>, f: &Formula, y: u64, l: Lit) -> Result<(), Memory>
+    requires { AreConditions f.now y lawful.old.items }
+    ensures { OnOk result (AreConditions f.now y lawful.new.items) }
+{
+    if !f.is_declared(l.var()) {
+        return Ok(());
+    }
+    if l.var() == y {
+        return Ok(());
+    }
+    if contradicts(lawful, l) {
+        return Ok(());
+    }
+    lawful.push(l)?;
+    Ok(())
+}
+
+// Whether the negation of a literal is there.
+fn contradicts(lits: &[Lit], l: Lit) -> bool
+    ensures { result ≡ holds lits.now (opposite l) }
+{
+    lits.iter().any(|k| is_negation(*k, l))
+}
+
+fn is_negation(k: Lit, l: Lit) -> bool
+    ensures { result ≡ same_literal (opposite l) k }
+{
+    l.not() == k
+}
