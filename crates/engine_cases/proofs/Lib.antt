@@ -1,2 +1,3 @@
+mod DeclaredVariables
 mod Rounds
 mod UniversalInputs

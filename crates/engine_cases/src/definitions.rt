@@ -50,7 +50,8 @@ fn run_by<O: Oracle + Drop>(
     defining.define_each(alloc, f, existentials, printed)
 }
 
-fn begin<O: Oracle + Drop>(
+/// The copies for a formula.
+pub fn begin<O: Oracle + Drop>(
     alloc: Global,
     mut oracle: O,
     mut log: Log,
@@ -75,11 +76,11 @@ fn begin<O: Oracle + Drop>(
 /// The copies of the matrix with the solver that is asked of them, its log, and the graph that
 /// definitions stand in.
 #[derive(Drop)]
-struct Defining<O> {
-    oracle: O,
-    log: Log,
-    graph: Graph,
-    padoa: Padoa,
+pub struct Defining<O> {
+    pub oracle: O,
+    pub log: Log,
+    pub graph: Graph,
+    pub padoa: Padoa,
 }
 
 impl<O: Oracle> Defining<O> {
@@ -125,7 +126,9 @@ impl<O: Oracle> Defining<O> {
     }
 }
 
-fn show_definition(
+/// Writes a definition's values under all rows of the universals and the existentials, and which of
+/// them it reads.
+pub fn show_definition(
     alloc: Global,
     f: &Formula,
     graph: &Graph,
@@ -137,7 +140,8 @@ fn show_definition(
     show_node(alloc, &variables(alloc, f)?, graph, node, printed)
 }
 
-fn push_word(word: &str, printed: &mut String) -> Result<()> {
+/// Writes a word.
+pub fn push_word(word: &str, printed: &mut String) -> Result<()> {
     printed.push_str(word)?;
     Ok(())
 }

@@ -52,9 +52,9 @@ pub fn show_rows(
 
 /// A row, and bits of the existentials there.
 #[derive(Drop)]
-struct Point<'a> {
-    row: &'a Row,
-    bits: &'a Row,
+pub struct Point<'a> {
+    pub row: &'a Row,
+    pub bits: &'a Row,
 }
 
 fn show_row(
@@ -126,8 +126,8 @@ fn bits_of(alloc: Global, f: &Formula, points: &Points, k: u64) -> Result<Row>
     Ok(bits)
 }
 
-// Whether every clause is true at a point.
-fn holds(f: &Formula, point: &Point) -> bool
+/// Whether every clause is true at a point.
+pub fn holds(f: &Formula, point: &Point) -> bool
     requires row { length point.now.row.now ≡ length f.now.universals }
     requires bits { length point.now.bits.now ≡ length f.now.existentials }
 {
@@ -151,7 +151,8 @@ fn is_clause_true(f: &Formula, point: &Point, clause: &[Lit]) -> bool
     false
 }
 
-fn is_true(f: &Formula, point: &Point, l: Lit) -> bool
+/// Whether a literal is true at a point.
+pub fn is_true(f: &Formula, point: &Point, l: Lit) -> bool
     requires row { length point.now.row.now ≡ length f.now.universals }
     requires bits { length point.now.bits.now ≡ length f.now.existentials }
 {

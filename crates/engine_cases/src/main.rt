@@ -5,6 +5,7 @@
 #![tactic(auto)]
 
 mod circuits;
+mod conditions;
 mod decisions;
 mod definitions;
 mod evaluation;
@@ -13,6 +14,7 @@ mod exports;
 mod expressions;
 mod forcing;
 mod gates;
+mod guesses;
 mod reports;
 mod rows;
 mod runs;

@@ -11,17 +11,20 @@
 //! took, too. `refute` does the same, exports the refutation, and prints what the checker says of
 //! its text; `certificate` prints that text, too. `define NAME : Y Y ..` asks for definitions of
 //! existentials, and prints the definition's values under all rows of the universals and the
-//! existentials, or that there is none. `force NAME : Y BIT ROW` asks whether an existential is
+//! existentials, or that there is none. `guess NAME : LIMIT Y LITERAL .. ; LIMIT Y LITERAL ..` sets
+//! the log's limit to so many steps, asks for a definition of an existential where literals are
+//! true, and prints it as `define` does, or that two samples were found that show that there is
+//! none, or that the limit was reached. `force NAME : Y BIT ROW` asks whether an existential is
 //! forced to have a bit at a row, and prints the rule, or a row with values of the existentials at
 //! which it has the other bit. `gates NAME : Y Y ..` looks for gates that the clauses state, and
-//! prints their values as `define` does. `values NAME : OUTPUTS` prints the outputs' values under all rows, and
-//! which universals they read. Lines that begin with `#` are comments.
+//! prints their values as `define` does. `values NAME : OUTPUTS` prints the outputs' values under
+//! all rows, and which universals they read. Lines that begin with `#` are comments.
 
 ghost use Rattle.dq_lits.specs.Formula.{IsWellFormed};
 
 use crate::reports::Detail;
 use crate::runs::Aim;
-use crate::{circuits, definitions, expansions, expressions, forcing, gates, runs};
+use crate::{circuits, definitions, expansions, expressions, forcing, gates, guesses, runs};
 use anyhow::{Result, anyhow};
 use dq_formula::Formula;
 use dqdimacs_reader::read;
@@ -56,6 +59,7 @@ pub fn take_line(alloc: Global, formula: &mut String, line: &str) -> Result<Opti
             Kind::Run(Aim::Refutation(Detail::Bits)),
         ),
         "define" => run(alloc, formula, rest, Kind::Definitions),
+        "guess" => run(alloc, formula, rest, Kind::Guesses),
         "force" => run(alloc, formula, rest, Kind::Forcing),
         "gates" => run(alloc, formula, rest, Kind::Gates),
         "values" => run(alloc, formula, rest, Kind::Values),
@@ -70,6 +74,7 @@ enum Kind {
     Rows(Detail),
     Run(Aim),
     Definitions,
+    Guesses,
     Forcing,
     Gates,
     Values,
@@ -120,6 +125,7 @@ fn run_engine(
         Kind::Rows(detail) => expansions::run(alloc, f, steps, detail, printed),
         Kind::Run(aim) => runs::run(alloc, f, steps, aim, printed),
         Kind::Definitions => definitions::run(alloc, f, steps, printed),
+        Kind::Guesses => guesses::run(alloc, f, steps, printed),
         Kind::Forcing => forcing::run(alloc, f, steps, printed),
         Kind::Gates => gates::run(alloc, f, steps, printed),
         Kind::Values => expressions::run(alloc, f, steps, printed),
