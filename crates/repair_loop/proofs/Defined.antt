@@ -1,9 +1,8 @@
 -- What is kept while definitions are asked for: the log has nothing of the other engines, and the list of definitions grows.
-use Rattle.std.proofs.Common.{◌≡◌, ◌≢◌, ℕ, zero, suc, ◌<◌, ◌==◌, true, List, [], ◌++◌, length, get_or, slice_get, replicate, set, Bool, Option, None, Some, IsSome, refl, sym, ◌∙◌, ap, subst, inl, inr, arith, Result, Ok, Err, get_or-set_same, get_or-set_other, length-set}
+use Rattle.std.proofs.Common.{◌≡◌, ◌≢◌, ℕ, zero, suc, ◌<◌, ◌==◌, true, List, [], ◌++◌, length, get_or, slice_get, replicate, set, Bool, Option, None, Some, IsSome, refl, sym, ◌∙◌, ap, subst, inl, inr, arith, Result, Ok, get_or-set_same, get_or-set_other, length-set}
 use Rattle.std.specs.List.{All, Contains}
 use Rattle.std.specs.Option.{IfSome}
 use Rattle.std.specs.Result.{IfOk}
-use Rattle.dq_lits.specs.declared.memory.Memory.{Memory}
 use Rattle.dq_lits.specs.Literal.{Literal}
 use Rattle.hint_log.specs.declared.stops.Stop.{Stop}
 use Rattle.std.proofs.lemmas.Bool.{false≢true, cases_Bool, eqb-true, eq-eqb}
@@ -189,11 +188,10 @@ with_guesses f ranks graph definitions rules before after known guessed = record
 }
 
 -- what was found is a guess, where it is a node
-pub found_guess : (f : Dqbf) (graph : AigGraph) (y : Existential) (conditions : List Literal) (found : Result Guess Stop) (result : Result (Option Node) Memory)
-    → ((node : Node) → result ≡ Ok (Some node) → found ≡ Ok (NodeFound node)) → IfOk found (IsRightGuess f graph y conditions)
-    → IfOk result (λ guess. IfSome guess (IsGuess f graph y))
-found_guess f graph y conditions found (Ok (Some node)) same right =
+pub found_guess : (f : Dqbf) (graph : AigGraph) (y : Existential) (conditions : List Literal) (found : Result Guess Stop) (guess : Option Node)
+    → ((node : Node) → guess ≡ Some node → found ≡ Ok (NodeFound node)) → IfOk found (IsRightGuess f graph y conditions)
+    → IfSome guess (IsGuess f graph y)
+found_guess f graph y conditions found None same right = tt
+found_guess f graph y conditions found (Some node) same right =
     let is = subst (λ r. IfOk r (IsRightGuess f graph y conditions)) (same node refl) right in
     record { is_node = is.is_node; reads = is.reads }
-found_guess f graph y conditions found (Ok None) same right = tt
-found_guess f graph y conditions found (Err e) same right = tt

@@ -1,7 +1,7 @@
 //! Guesses: nodes that existentials without a definition equal under conditions. They are asked for
 //! before the first candidates, and candidates take them where neither a row nor a rule says a bit.
 
-ghost use Rattle.std.specs.Prelude.{◌≡◌, ◌≤◌, ◌<◌, ℕ, true, length, replicate, None, Some, IfOk, IfSome, Ok, OnOk, slice_get};
+ghost use Rattle.std.specs.Prelude.{◌≡◌, ◌≤◌, ◌<◌, ℕ, true, length, replicate, None, Some, IfOk, IfSome, IsErrOf, Ok, OnOk, slice_get};
 ghost use Rattle.dq_lits.specs.Derivation.{holds};
 ghost use Rattle.dq_lits.specs.Formula.{Existential, IsWellFormed};
 ghost use Rattle.dq_lits.specs.Literal.{opposite, same_literal};
@@ -9,6 +9,7 @@ ghost use Rattle.aig_graph.specs.Made.{Extends};
 ghost use Rattle.hint_log.specs.Entries.{steps_of};
 ghost use Rattle.hint_log.specs.Growth.{Grew};
 ghost use Rattle.log_laws.specs.Engines.{copies, IsAddedBy};
+ghost use Rattle.oracle.specs.Limits.{IsAtSomeLimit};
 ghost use Rattle.padoa_definitions.specs.Copies.{IsPadoa};
 ghost use Rattle.candidate_functions.specs.Candidates.{IsGuess, AreGuesses};
 ghost use Rattle.repair_loop.specs.Searching.{IsFresh, HasInputs, AreKnown};
@@ -37,7 +38,7 @@ impl Definitions {
         graph: &mut Graph,
         f: &Formula,
         log: &mut Log,
-    ) -> Result<(), Memory>
+    ) -> Result<(), Stop>
         requires fit { O.Fits oracle.old log.old }
         requires formula { IsWellFormed f.now }
         requires fresh { IsFresh f.now log.old.entries }
@@ -52,6 +53,7 @@ impl Definitions {
         ensures padoa { IsPadoa f.now self.new.padoa log.new.entries }
         ensures known { OnOk result (AreKnown f.now self.new.ranks.items graph.new
             self.new.nodes.items self.new.rules.items self.new.guesses.items) }
+        ensures limit { IsErrOf result Stop.Limit → IsAtSomeLimit log.new }
     {
         self.guesses = self.find_guesses(oracle, graph, f, log)?;
         Ok(())
@@ -63,7 +65,7 @@ impl Definitions {
         graph: &mut Graph,
         f: &Formula,
         log: &mut Log,
-    ) -> Result<Vec<Option<Node>>, Memory>
+    ) -> Result<Vec<Option<Node>>, Stop>
         requires fit { O.Fits oracle.old log.old }
         requires formula { IsWellFormed f.now }
         requires fresh { IsFresh f.now log.old.entries }
@@ -76,6 +78,7 @@ impl Definitions {
         ensures same { self.new ≡ self.old }
         ensures padoa { IsPadoa f.now self.new.padoa log.new.entries }
         ensures guesses { IfOk result (λ guesses. AreGuesses f.now graph.new guesses.items) }
+        ensures limit { IsErrOf result Stop.Limit → IsAtSomeLimit log.new }
     {
         f.every_formula_is_lawful();
         engines_leave_the_rest();
@@ -106,7 +109,7 @@ impl Definitions {
         existential: &ExistentialAt,
         conditions: &mut Conditions,
         log: &mut Log,
-    ) -> Result<Option<Node>, Memory>
+    ) -> Result<Option<Node>, Stop>
         requires fit { O.Fits oracle.old log.old }
         requires formula { IsWellFormed existential.now.f.now }
         requires fresh { IsFresh existential.now.f.now log.old.entries }
@@ -122,6 +125,7 @@ impl Definitions {
         ensures guess { (e : Existential)
             → slice_get existential.now.f.now.existentials existential.now.place ≡ Some e
             → IfOk result (λ guess. IfSome guess (IsGuess existential.now.f.now graph.new e)) }
+        ensures limit { IsErrOf result Stop.Limit → IsAtSomeLimit log.new }
     {
         if !self.is_undefined(existential.place) {
             return Ok(None);
@@ -147,7 +151,7 @@ impl Definitions {
         existential: &ExistentialAt,
         sets: &[Vec<Lit>],
         log: &mut Log,
-    ) -> Result<Option<Node>, Memory>
+    ) -> Result<Option<Node>, Stop>
         requires fit { O.Fits oracle.old log.old }
         requires formula { IsWellFormed existential.now.f.now }
         requires fresh { IsFresh existential.now.f.now log.old.entries }
@@ -163,6 +167,7 @@ impl Definitions {
         ensures guess { (e : Existential)
             → slice_get existential.now.f.now.existentials existential.now.place ≡ Some e
             → IfOk result (λ guess. IfSome guess (IsGuess existential.now.f.now graph.new e)) }
+        ensures limit { IsErrOf result Stop.Limit → IsAtSomeLimit log.new }
     {
         engines_leave_the_rest();
         for conditions in sets {
@@ -174,7 +179,8 @@ impl Definitions {
         Ok(None)
     }
 
-    // A guess of an existential under conditions, if so many steps suffice.
+    // A guess of an existential under conditions, if so many steps suffice. Where all that are left
+    // don't, it stops.
     fn guess_under<O: Oracle>(
         &mut self,
         oracle: &mut O,
@@ -182,7 +188,7 @@ impl Definitions {
         existential: &ExistentialAt,
         conditions: &[Lit],
         log: &mut Log,
-    ) -> Result<Option<Node>, Memory>
+    ) -> Result<Option<Node>, Stop>
         requires fit { O.Fits oracle.old log.old }
         requires formula { IsWellFormed existential.now.f.now }
         requires padoa { IsPadoa existential.now.f.now self.old.padoa log.old.entries }
@@ -198,6 +204,7 @@ impl Definitions {
         ensures guess { (e : Existential)
             → slice_get existential.now.f.now.existentials existential.now.place ≡ Some e
             → IfOk result (λ guess. IfSome guess (IsGuess existential.now.f.now graph.new e)) }
+        ensures limit { IsErrOf result Stop.Limit → IsAtSomeLimit log.new }
     {
         let f = existential.f;
         f.every_formula_is_lawful();
@@ -209,7 +216,8 @@ impl Definitions {
         let found = self.padoa.guess(oracle, graph, f, y, &conditions, log);
         let _ = log.steps();
         log.set_limit(whole);
-        guessed(found)
+        let guess = guessed(found, most == whole)?;
+        Ok(guess)
     }
 }
 
@@ -221,15 +229,16 @@ fn most_steps(log: &Log) -> u64
     log.limit().min(log.steps().saturating_add(MOST_STEPS))
 }
 
-// The node that was found.
-fn guessed(found: Result<Guess, Stop>) -> Result<Option<Node>, Memory>
-    ensures { (node : _) → result ≡ Ok (Some node) → found ≡ Ok (Guess.Node node) }
+// The node that was found, or none where there is none or the question's own limit cut it off.
+fn guessed(found: Result<Guess, Stop>, is_whole: bool) -> Result<Option<Node>, Stop>
+    ensures node { (node : _) → result ≡ Ok (Some node) → found ≡ Ok (Guess.Node node) }
+    ensures limit { IsErrOf result Stop.Limit → (is_whole ≡ true) × IsErrOf found Stop.Limit }
 {
     match found {
         Ok(Guess::Node(node)) => Ok(Some(node)),
         Ok(Guess::Pair(_)) => Ok(None),
-        Err(Stop::Limit) => Ok(None),
-        Err(Stop::Memory) => Err(Memory),
+        Err(Stop::Memory) => Err(Stop::Memory),
+        Err(Stop::Limit) => { if is_whole { Err(Stop::Limit) } else { Ok(None) } }
     }
 }
 
