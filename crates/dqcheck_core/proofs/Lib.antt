@@ -1,7 +1,3 @@
-pub mod Certificates
-pub mod CircuitAnswers
-pub mod Judgements
-pub mod Places
-mod ReadFormulas
 pub mod Runs
-pub mod Soundness
+pub mod ToldFiles
+pub mod FormerClauses

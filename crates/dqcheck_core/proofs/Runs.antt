@@ -1,25 +1,30 @@
--- From what a run's parts answer to what the run says.
-use Rattle.std.proofs.Common.{◌≡◌, ◌⊎◌, inl, inr, ℕ, ◌+◌, ◌<◌, ◌≤◌, List, length, Option, Some, Result, Ok, Err, refl, sym, ap, ◌∙◌, subst, arith}
+-- From what a run's parts answer to what is due, and why.
+use Rattle.std.proofs.Common.{◌≡◌, ◌≢◌, ◌⊎◌, inl, inr, ℕ, ◌+◌, ◌<◌, ◌≤◌, List, length, Option, None, Some, Result, Ok, Err, refl, sym, ap, ◌∙◌, subst, arith, codes}
 use Rattle.std.specs.Prelude.{IfOk}
-use Rattle.std.specs.Io.KnownBytes.{append_known}
 use Rattle.std.proofs.Math.Nat.{lt_of_not-le}
 use Rattle.dq_io.specs.Causes.{next_count, Rose}
 use Rattle.dq_io.specs.Files.{Holding, Untold, Absent, Holds}
 use Rattle.dq_io.specs.State.{FilesState}
-use Rattle.dq_lits.specs.Formula.{Dqbf, IsWellFormed}
-use Rattle.dq_lits.specs.Henkin.{IsTrueFormula, IsFalseFormula}
+use Rattle.dq_lits.specs.Formula.{Dqbf}
 use Rattle.dq_lits.specs.declared.memory.Memory.{Memory}
-use Rattle.dqdimacs_reader.specs.Grammar.{SpellsFormula}
-use Rattle.dqdimacs_reader.specs.Machine.{TextFault, reading}
-use Rattle.dqcheck_words.specs.Command.{Command, command_of}
-use Rattle.dqcheck_core.specs.Judgement.{IsJudgement, HoldsSkolemCircuit}
-use Rattle.dqcheck_core.specs.Outputs.{IsOutput, IsOutputDue, IsDueBehind, IsOutputBehind}
-use Rattle.dqcheck_core.specs.Report.{Report, usage, source_fault, long_formula, long_certificate, refused_formula, judged, line, answer_text, answer_status}
-use Rattle.dqcheck_core.specs.Running.{max_formula, max_certificate, IsTextOf, IsLong, IsFaultOf, IsFormulaOf, IsAnswerTo, IsUnreadable, PickedOnce, PickedTwice, IsDueFor, IsDue, AreTold, IsAnswered, IsProvedTrue, IsProvedFalse, IsAcceptance}
-use Rattle.dqcheck_core.specs.Statuses.{code}
-use Rattle.dqcheck_core.specs.declared.answers.Answer.{Answer}
-use Rattle.dqcheck_core.specs.declared.answers.Answer.TheVariants.{Refused, UndeclaredRead, BadRow, Unproved, UnderivedStep, NoEmptyClause, ValidTrue, ValidFalse}
-use Rattle.dqcheck_core.specs.declared.reports.Output.{Output}
+use Rattle.dq_runs.specs.Ending.{IsWritten, IsCutOff, IsUnwritten, IsEnd, Ends, HasCauses}
+use Rattle.dq_runs.specs.FileTexts.{IsLong, IsTextOf, IsShortText, IsUnreadable, IsTooLong, PickedOnce, PickedTwice}
+use Rattle.dq_runs.specs.FormulaFiles.{max_formula, IsFormulaOf, IsNoFormula, IsFormulaRead, IsUnreadableStop}
+use Rattle.dq_runs.specs.declared.formulas.FormulaStop.{FormulaStop}
+use Rattle.dq_runs.specs.declared.formulas.FormulaStop.TheVariants.{Said}
+use Rattle.dq_runs.specs.Printed.{Printed, printed, unreadable_line, long_line}
+use Rattle.dq_runs.specs.Sinks.{SinkState}
+use Rattle.dq_runs.specs.declared.formulas.NoFormula.{NoFormula}
+use Rattle.dq_runs.specs.declared.formulas.NoFormula.TheVariants.{Unreadable, TooLong, Refused as RefusedFormula}
+use Rattle.dq_runs.specs.declared.outputs.Output.{Output}
+use Rattle.cert_judge.specs.declared.answers.Answer.{Answer}
+use Rattle.cert_judge.specs.declared.answers.Answer.TheVariants.{Refused, UndeclaredRead, BadRow, Unproved, UnderivedStep, NoEmptyClause, ValidTrue, ValidFalse}
+use Rattle.dqcheck_words.specs.Command.{Command}
+use Rattle.dqcheck_core.specs.Outputs.{IsReported, IsDueBehind, IsReportedBehind}
+use Rattle.dqcheck_core.specs.Report.{Report, no_formula, unreadable_certificate, long_certificate, judged, printed_report, answer_status}
+use Rattle.dqcheck_core.specs.Running.{max_certificate, IsAnswerTo, IsDueFor, IsDue}
+
+-- ---- one file behind another
 
 rose_earlier : (before mid now : ℕ) → before ≤ mid → Rose mid now → Rose before now
 rose_earlier before mid now later rose = omega arith
@@ -35,12 +40,13 @@ pub is_short : (limit given count : ℕ) → given ≡ count → (limit < given 
 is_short limit given count same not_long =
     let h : count < limit + 1 = lt_of_not-le {n = limit + 1} {m = count} (λ more. not_long (omega (arith, more, same))) in omega (arith, h)
 
--- one file was picked, between these states
+-- the formula's file was picked, between these states
 pub record Picks (before now : FilesState) : Type 0 where
   pub held : now.held ≡ before.held
   pub reliable : now.reliable ≡ before.reliable
   pub picked : PickedOnce before now
   pub later : before.faults ≤ now.faults
+  pub unfaulted : now.faults ≡ before.faults
 
 unreadable_behind : (before mid now : FilesState) (name : List ℕ) → Picks before mid → IsUnreadable mid now name → IsUnreadable before now name
 unreadable_behind before mid now name picks u = record {
@@ -51,146 +57,186 @@ unreadable_behind before mid now name picks u = record {
 twice : (before mid now : FilesState) → Picks before mid → PickedOnce mid now → PickedTwice before now
 twice before mid now picks once = once ∙ ap next_count picks.picked
 
-due_behind : (before mid now : FilesState) (c : Command) (f : Dqbf) → Picks before mid → IsFormulaOf (before.held c.formula) f
-    → (report : Report) → IsDueBehind mid now c.certificate f report → IsDueFor before now c report
-due_behind before mid now c f picks one usage due = due
-due_behind before mid now c f picks one source_fault due =
-    inr (f, one, unreadable_behind before mid now c.certificate picks due.0, twice before mid now picks due.1)
-due_behind before mid now c f picks one long_formula due = absurd due
-due_behind before mid now c f picks one (refused_formula fault) due = absurd due
-due_behind before mid now c f picks one long_certificate (long, given, once) =
-    (f, one, subst (λ held. IsLong max_certificate (held c.certificate)) picks.held long, given, twice before mid now picks once)
-due_behind before mid now c f picks one (judged g answer) (same, other, once) =
-    let told : IsAnswerTo f (before.held c.certificate) answer = subst (λ held. IsAnswerTo f (held c.certificate) answer) picks.held other in
-    (subst (λ h. IsFormulaOf (before.held c.formula) h) (sym same) one, subst (λ h. IsAnswerTo h (before.held c.certificate) answer) (sym same) told, twice before mid now picks once)
+due_behind : (before mid now : FilesState) (c : Command) (f : Dqbf) (p : Printed) → Picks before mid → IsFormulaOf (before.held c.formula) f
+    → PickedOnce mid now → IsDueBehind mid now c.certificate f p → IsDue before now (Some c) p
+due_behind before mid now c f p picks one once (inl (unreadable, same)) =
+    (unreadable_certificate, (f, one, unreadable_behind before mid now c.certificate picks unreadable, twice before mid now picks once), same)
+due_behind before mid now c f p picks one once (inr (inl (long, same))) =
+    (long_certificate, (f, one, record { long = subst (λ held. IsLong max_certificate (held c.certificate)) picks.held long.long; given = long.given }, twice before mid now picks once), same)
+due_behind before mid now c f p picks one once (inr (inr (answer, told, same))) =
+    (judged f answer, (one, subst (λ held. IsAnswerTo f (held c.certificate) answer) picks.held told, twice before mid now picks once), same)
 
-pub output_behind : (before mid now : FilesState) (c : Command) (f : Dqbf) (r : Result Output Memory) → Picks before mid → IsFormulaOf (before.held c.formula) f
-    → IfOk r (IsOutputBehind mid now c.certificate f) → IfOk r (IsOutputDue before now (Some c))
-output_behind before mid now c f (Ok output) picks one o = record {
-  report = o.report;
-  due = due_behind before mid now c f picks one o.report o.due;
-  is = o.is;
+pub reported_behind : (before mid now : FilesState) (c : Command) (f : Dqbf) (r : Result Output Memory) → Picks before mid → IsFormulaOf (before.held c.formula) f
+    → IfOk r (IsReportedBehind mid now c.certificate f) → IfOk r (IsReported before now (Some c))
+reported_behind before mid now c f (Ok output) picks one o = record {
+  due = due_behind before mid now c f (printed output) picks one o.picked o.due;
+  long = o.long;
+  unfaulted = λ other. o.unfaulted other ∙ picks.unfaulted;
 }
-output_behind before mid now c f (Err _) picks one o = tt
+reported_behind before mid now c f (Err _) picks one o = tt
+
+-- ---- the parts
+
+status_of : (output : Output) (p : Printed) → printed output ≡ p → output.status ≡ p.status
+status_of output p same = ap (λ (q : Printed). q.status) same
+
+-- the certificate can't be read
+pub unreadable_reported : (before now : FilesState) (name : List ℕ) (f : Dqbf) (r : Result Output Memory) → IsUnreadable before now name → PickedOnce before now
+    → IfOk r (λ output. printed output ≡ unreadable_line) → IfOk r (IsReportedBehind before now name f)
+unreadable_reported before now name f (Ok output) unreadable once same = record {
+  due = inl (unreadable, same);
+  picked = once;
+  long = λ six. let three = status_of output unreadable_line same in absurd (omega (arith, six, three));
+  unfaulted = λ other. absurd (other (status_of output unreadable_line same));
+}
+unreadable_reported before now name f (Err _) unreadable once same = tt
+
+pub long_reported : (before now : FilesState) (name : List ℕ) (f : Dqbf) (r : Result Output Memory) → IsTooLong max_certificate before now name → PickedOnce before now
+    → now.faults ≡ before.faults → IfOk r (λ output. printed output ≡ long_line (codes "certificate")) → IfOk r (IsReportedBehind before now name f)
+long_reported before now name f (Ok output) long once unfaulted same = record {
+  due = inr (inl (long, same));
+  picked = once;
+  long = λ _. let given = long.given in omega (arith, given);
+  unfaulted = λ _. unfaulted;
+}
+long_reported before now name f (Err _) long once unfaulted same = tt
+
+-- an answer's status is 0, or over those that all commands share
+status_apart : (answer : Answer) → (answer_status answer ≡ 0) ⊎ (6 < answer_status answer)
+status_apart (Refused l name) = inr (omega arith)
+status_apart (UndeclaredRead y x) = inr (omega arith)
+status_apart (BadRow k) = inr (omega arith)
+status_apart (Unproved n) = inr (omega arith)
+status_apart (UnderivedStep id) = inr (omega arith)
+status_apart NoEmptyClause = inr (omega arith)
+status_apart ValidTrue = inl refl
+status_apart ValidFalse = inl refl
+
+not_long : (answer : Answer) → answer_status answer ≡ 6 → ⊥
+not_long answer same = elim (status_apart answer) [ inl zero ↦ omega (arith, same, zero) | inr high ↦ omega (arith, same, high) ]
 
 -- the certificate was judged
-pub judged_behind : (before now : FilesState) (name : List ℕ) (f : Dqbf) (answer : Answer) (r : Result Output Memory) → IsAnswerTo f (before.held name) answer
-    → PickedOnce before now → IfOk r (IsOutput (judged f answer)) → IfOk r (IsOutputBehind before now name f)
-judged_behind before now name f answer (Ok output) told once is = record {
-  report = judged f answer;
-  due = (refl, told, once);
-  is = is;
+pub judged_reported : (before now : FilesState) (name : List ℕ) (f : Dqbf) (answer : Answer) (r : Result Output Memory) → IsAnswerTo f (before.held name) answer
+    → PickedOnce before now → now.faults ≡ before.faults → IfOk r (λ output. printed output ≡ printed_report (judged f answer)) → IfOk r (IsReportedBehind before now name f)
+judged_reported before now name f answer (Ok output) told once unfaulted same = record {
+  due = inr (inr (answer, told, same));
+  picked = once;
+  long = λ six. absurd (not_long answer (sym (status_of output (printed_report (judged f answer)) same) ∙ six));
+  unfaulted = λ _. unfaulted;
 }
-judged_behind before now name f answer (Err _) told once is = tt
+judged_reported before now name f answer (Err _) told once unfaulted same = tt
 
-fault_counted : (files files_now : FilesState) (c : Command) → IsDueFor files files_now c source_fault → Rose files.faults files_now.faults
-fault_counted files files_now c (inl (unreadable, once)) = unreadable.counted
-fault_counted files files_now c (inr (f, one, unreadable, picked)) = unreadable.counted
+-- the formula's file gives none
+pub said_reported : (before now : FilesState) (c : Command) (said : NoFormula) (r : Result Output Memory) → IsNoFormula before now c.formula said → PickedOnce before now
+    → (said ≢ Unreadable → now.faults ≡ before.faults) → IfOk r (λ output. printed output ≡ printed_report (no_formula said)) → IfOk r (IsReported before now (Some c))
+said_reported before now c Unreadable (Ok output) is once unfaulted same = record {
+  due = (no_formula Unreadable, (is, once), same);
+  long = λ six. let three = status_of output (printed_report (no_formula Unreadable)) same in absurd (omega (arith, six, three));
+  unfaulted = λ other. absurd (other (status_of output (printed_report (no_formula Unreadable)) same));
+}
+said_reported before now c TooLong (Ok output) is once unfaulted same = record {
+  due = (no_formula TooLong, (is, once), same);
+  long = λ _. is.given;
+  unfaulted = λ _. unfaulted (λ other. cc);
+}
+said_reported before now c (RefusedFormula line name) (Ok output) is once unfaulted same = record {
+  due = (no_formula (RefusedFormula line name), (is, once), same);
+  long = λ six. let two = status_of output (printed_report (no_formula (RefusedFormula line name))) same in absurd (omega (arith, six, two));
+  unfaulted = λ _. unfaulted (λ other. cc);
+}
+said_reported before now c said (Err _) is once unfaulted same = tt
 
--- what the law of the formulas' grammar gives
-pub record FormulaLaw : Type 0 where
-  pub exact : (text : List ℕ) (f : Dqbf) → SpellsFormula text f → reading text ≡ Ok f
-  pub unique : (text : List ℕ) (f g : Dqbf) → SpellsFormula text f → SpellsFormula text g → f ≡ g
+-- ---- the run
 
-held_text : (holding : Holding) (bytes text : List ℕ) → holding ≡ Holds bytes → IsTextOf holding text → text ≡ bytes
-held_text holding bytes text is has = subst (λ h. IsTextOf h text) is has
+pub ends : (before now : FilesState) (asked : Option Command) (sink sink_now : SinkState) (r : Result Output Memory) (status : ℕ)
+    → IfOk r (IsReported before now asked) → IsEnd r sink sink_now status → Ends (IsDue before now asked) sink sink_now status
+ends before now asked sink sink_now (Ok output) status o end = inr (record { printed = printed output; is_due = o.due; delivered = end })
+ends before now asked sink sink_now (Err _) status o end = inl end
 
-held_long : (limit : ℕ) (holding : Holding) (bytes : List ℕ) → holding ≡ Holds bytes → IsLong limit holding → limit < length bytes
-held_long limit holding bytes is long = subst (λ h. IsLong limit h) is long
+-- which statuses a report has
+record Reasons (before now : FilesState) (asked : Option Command) (status : ℕ) : Type 0 where
+  pub words : status ≡ 1 → asked ≡ None
+  pub source : status ≡ 3 → Rose before.faults now.faults
+  pub delivered : status ≢ 4
+  pub made : status ≢ 5
 
-no_fault : FormulaLaw → (formula : List ℕ) (f : Dqbf) (holding : Holding) (fault : TextFault) → holding ≡ Holds formula → SpellsFormula formula f → IsFaultOf holding fault → ⊥
-no_fault law formula f holding fault is spelled refused =
-    let same : refused.text ≡ formula = held_text holding formula refused.text is refused.read.is in
-    let both : Err fault ≡ Ok f = sym refused.is_first ∙ ap reading same ∙ law.exact formula f spelled in
-    cc
+-- that no cause is due for
+apart_reasons : (before now : FilesState) (c : Command) (status : ℕ) → (status ≡ 0) ⊎ (6 < status) → Reasons before now (Some c) status
+apart_reasons before now c status (inl zero) = record {
+  words = λ h. absurd (omega (arith, h, zero));
+  source = λ h. absurd (omega (arith, h, zero));
+  delivered = λ h. omega (arith, h, zero);
+  made = λ h. omega (arith, h, zero);
+}
+apart_reasons before now c status (inr high) = record {
+  words = λ h. absurd (omega (arith, h, high));
+  source = λ h. absurd (omega (arith, h, high));
+  delivered = λ h. omega (arith, h, high);
+  made = λ h. omega (arith, h, high);
+}
 
-judged_is : FormulaLaw → (formula certificate : List ℕ) (f g : Dqbf) (answer : Answer) (first second : Holding) → first ≡ Holds formula → second ≡ Holds certificate
-    → SpellsFormula formula f → IsFormulaOf first g → IsAnswerTo g second answer → (g ≡ f) × IsJudgement f certificate answer
-judged_is law formula certificate f g answer first second is_first is_second spelled one other =
-    let same_formula = held_text first formula one.text is_first one.read.is in
-    let same_certificate = held_text second certificate other.text is_second other.read.is in
-    let same : g ≡ f = law.unique formula g f (subst (λ text. SpellsFormula text g) same_formula one.spelled) spelled in
-    (same, subst (λ h. IsJudgement h certificate answer) same (subst (λ text. IsJudgement g text answer) same_certificate other.judged))
+report_reasons : (before now : FilesState) (c : Command) (report : Report) → IsDueFor before now c report → Reasons before now (Some c) ((printed_report report).status)
+report_reasons before now c (no_formula Unreadable) due = record { words = λ h. absurd (omega (arith, h)); source = λ _. due.0.counted; delivered = λ h. omega (arith, h); made = λ h. omega (arith, h) }
+report_reasons before now c (no_formula TooLong) due = record { words = λ h. absurd (omega (arith, h)); source = λ h. absurd (omega (arith, h)); delivered = λ h. omega (arith, h); made = λ h. omega (arith, h) }
+report_reasons before now c (no_formula (RefusedFormula l name)) due = record { words = λ h. absurd (omega (arith, h)); source = λ h. absurd (omega (arith, h)); delivered = λ h. omega (arith, h); made = λ h. omega (arith, h) }
+report_reasons before now c unreadable_certificate (f, one, unreadable, picked) = record { words = λ h. absurd (omega (arith, h)); source = λ _. unreadable.counted; delivered = λ h. omega (arith, h); made = λ h. omega (arith, h) }
+report_reasons before now c long_certificate due = record { words = λ h. absurd (omega (arith, h)); source = λ h. absurd (omega (arith, h)); delivered = λ h. omega (arith, h); made = λ h. omega (arith, h) }
+report_reasons before now c (judged f answer) due = apart_reasons before now c (answer_status answer) (status_apart answer)
 
-answered_by : FormulaLaw → (files files_now : FilesState) (c : Command) (formula certificate : List ℕ) (f : Dqbf) (before now : Option (List ℕ)) (output : Output)
-    → files.held c.formula ≡ Holds formula → files.held c.certificate ≡ Holds certificate
-    → length formula ≤ max_formula → length certificate ≤ max_certificate → SpellsFormula formula f → (Rose files.faults files_now.faults → ⊥)
-    → now ≡ append_known before output.text.items
-    → (report : Report) → IsDueFor files files_now c report → IsOutput report output → IsAnswered f certificate before now (code output.status)
-answered_by law files files_now c formula certificate f before now output is_first is_second short_formula short_certificate spelled sound written usage due is = absurd due
-answered_by law files files_now c formula certificate f before now output is_first is_second short_formula short_certificate spelled sound written source_fault due is = absurd (sound (fault_counted files files_now c due))
-answered_by law files files_now c formula certificate f before now output is_first is_second short_formula short_certificate spelled sound written long_formula due is =
-    let long = held_long max_formula (files.held c.formula) formula is_first due.0 in absurd (omega (arith, long, short_formula))
-answered_by law files files_now c formula certificate f before now output is_first is_second short_formula short_certificate spelled sound written long_certificate due is =
-    let long = held_long max_certificate (files.held c.certificate) certificate is_second due.2 in absurd (omega (arith, long, short_certificate))
-answered_by law files files_now c formula certificate f before now output is_first is_second short_formula short_certificate spelled sound written (refused_formula fault) due is =
-    absurd (no_fault law formula f (files.held c.formula) fault is_first spelled due.0)
-answered_by law files files_now c formula certificate f before now output is_first is_second short_formula short_certificate spelled sound written (judged g answer) due is =
-    let (same, judgement) = judged_is law formula certificate f g answer (files.held c.formula) (files.held c.certificate) is_first is_second spelled due.0 due.1 in
+reasons : (before now : FilesState) (asked : Option Command) (p : Printed) → IsDue before now asked p → Reasons before now asked p.status
+reasons before now None p (same, picks) =
+    let one : p.status ≡ 1 = ap (λ (q : Printed). q.status) same in
+    record { words = λ _. refl; source = λ h. absurd (omega (arith, h, one)); delivered = λ h. omega (arith, h, one); made = λ h. omega (arith, h, one) }
+reasons before now (Some c) p (report, due, same) =
+    subst (λ (q : Printed). Reasons before now (Some c) q.status) (sym same) (report_reasons before now c report due)
+
+pub causes : (before now : FilesState) (asked : Option Command) (sink sink_now : SinkState) (r : Result Output Memory) (status : ℕ) → now.held ≡ before.held
+    → IfOk r (IsReported before now asked) → IsEnd r sink sink_now status → HasCauses asked before now sink sink_now status
+causes before now asked sink sink_now (Ok output) status held o (inl w) =
+    let why = reasons before now asked (printed output) o.due in
     record {
-      answer = answer;
-      is = judgement;
-      ends_with = is.status;
-      written = written ∙ ap (append_known before) (is.text ∙ ap (λ h. line (answer_text h answer)) same);
+      words = λ h. why.words (sym w.ends_with ∙ h);
+      source = λ h. why.source (sym w.ends_with ∙ h);
+      sink_fault = λ h. absurd (why.delivered (sym w.ends_with ∙ h));
+      long = λ h. o.long (sym w.ends_with ∙ h);
+      unfaulted_files = λ three four five. o.unfaulted (λ h. three (w.ends_with ∙ h));
+      unfaulted_sink = λ _. w.unfaulted;
+      held = held;
+    }
+causes before now asked sink sink_now (Ok output) status held o (inr cut) =
+    let four = cut.ends_with in
+    record {
+      words = λ h. absurd (omega (arith, h, four));
+      source = λ h. absurd (omega (arith, h, four));
+      sink_fault = λ _. cut.counted;
+      long = λ h. absurd (omega (arith, h, four));
+      unfaulted_files = λ three other five. absurd (other four);
+      unfaulted_sink = λ other. absurd (other four);
+      held = held;
+    }
+causes before now asked sink sink_now (Err _) status held o unwritten =
+    let five = unwritten.ends_with in
+    record {
+      words = λ h. absurd (omega (arith, h, five));
+      source = λ h. absurd (omega (arith, h, five));
+      sink_fault = λ h. absurd (omega (arith, h, five));
+      long = λ h. absurd (omega (arith, h, five));
+      unfaulted_files = λ three four other. absurd (other five);
+      unfaulted_sink = λ _. ap (λ (s : SinkState). s.faults) unwritten.same;
+      held = held;
     }
 
-pub answered : FormulaLaw → (files files_now : FilesState) (words : List (List ℕ)) (before now : Option (List ℕ)) (output : Output)
-    → IsOutputDue files files_now (command_of words) output → now ≡ append_known before output.text.items
-    → (formula certificate : List ℕ) (f : Dqbf) → AreTold files.held words formula certificate
-    → length formula ≤ max_formula → length certificate ≤ max_certificate → SpellsFormula formula f → (Rose files.faults files_now.faults → ⊥)
-    → IsAnswered f certificate before now (code output.status)
-answered law files files_now words before now output o written formula certificate f told short_formula short_certificate spelled sound =
-    answered_by law files files_now told.command formula certificate f before now output told.formula_held told.certificate_held
-    short_formula short_certificate spelled sound written o.report
-    (subst (λ command. IsDue files files_now command o.report) told.is o.due) o.is
+-- what was read where the formula's file gives none
+pub said_read : (before now : FilesState) (name : List ℕ) (r : Result Dqbf FormulaStop) (stop : FormulaStop) (said : NoFormula) → r ≡ Err stop → stop ≡ Said said
+    → IsFormulaRead before now name r → IsNoFormula before now name said × PickedOnce before now
+said_read before now name r stop said is kind read = subst (IsFormulaRead before now name) (is ∙ ap Err kind) read
 
--- what the laws of acceptance give
-pub record AcceptanceLaw : Type 0 where
-  pub circuit : (f : Dqbf) (text : List ℕ) → IsWellFormed f → IsJudgement f text ValidTrue → HoldsSkolemCircuit f text
-  pub is_true : (f : Dqbf) (text : List ℕ) → IsWellFormed f → IsJudgement f text ValidTrue → IsTrueFormula f
-  pub is_false : (f : Dqbf) (text : List ℕ) → IsWellFormed f → IsJudgement f text ValidFalse → IsFalseFormula f
+unreadable_said : (said : NoFormula) → said ≢ Unreadable → IsUnreadableStop (Err (Said said)) → ⊥
+unreadable_said Unreadable other is = other refl
+unreadable_said TooLong other is = is
+unreadable_said (RefusedFormula line name) other is = is
 
-verdict_of : AcceptanceLaw → (g : Dqbf) (certificate : List ℕ) (before now : Option (List ℕ)) (answer : Answer) → IsWellFormed g
-    → IsJudgement g certificate answer → answer_status answer ≡ 0 → now ≡ append_known before (line (answer_text g answer))
-    → IsProvedTrue g certificate before now ⊎ IsProvedFalse g certificate before now
-verdict_of law g certificate before now (Refused l name) formed judgement status written = absurd (omega (arith, status))
-verdict_of law g certificate before now (UndeclaredRead y x) formed judgement status written = absurd (omega (arith, status))
-verdict_of law g certificate before now (BadRow k) formed judgement status written = absurd (omega (arith, status))
-verdict_of law g certificate before now (Unproved n) formed judgement status written = absurd (omega (arith, status))
-verdict_of law g certificate before now (UnderivedStep id) formed judgement status written = absurd (omega (arith, status))
-verdict_of law g certificate before now NoEmptyClause formed judgement status written = absurd (omega (arith, status))
-verdict_of law g certificate before now ValidTrue formed judgement status written =
-    inl (record { accepted = judgement; circuit = law.circuit g certificate formed judgement; is_true = law.is_true g certificate formed judgement; written = written })
-verdict_of law g certificate before now ValidFalse formed judgement status written =
-    inr (record { accepted = judgement; is_false = law.is_false g certificate formed judgement; written = written })
-
-accepted_by : AcceptanceLaw → (files files_now : FilesState) (c : Command) (formula certificate : List ℕ) (before now : Option (List ℕ)) (output : Output)
-    → files.held c.formula ≡ Holds formula → files.held c.certificate ≡ Holds certificate
-    → now ≡ append_known before output.text.items → code output.status ≡ 0
-    → (report : Report) → IsDueFor files files_now c report → IsOutput report output → IsAcceptance formula certificate before now
-accepted_by law files files_now c formula certificate before now output is_first is_second written accepted usage due is = absurd due
-accepted_by law files files_now c formula certificate before now output is_first is_second written accepted source_fault due is =
-    let other = is.status in absurd (omega (arith, other, accepted))
-accepted_by law files files_now c formula certificate before now output is_first is_second written accepted long_formula due is =
-    let other = is.status in absurd (omega (arith, other, accepted))
-accepted_by law files files_now c formula certificate before now output is_first is_second written accepted long_certificate due is =
-    let other = is.status in absurd (omega (arith, other, accepted))
-accepted_by law files files_now c formula certificate before now output is_first is_second written accepted (refused_formula fault) due is =
-    let other = is.status in absurd (omega (arith, other, accepted))
-accepted_by law files files_now c formula certificate before now output is_first is_second written accepted (judged g answer) (one, other, picked) is =
-    let same_formula = held_text (files.held c.formula) formula one.text is_first one.read.is in
-    let same_certificate = held_text (files.held c.certificate) certificate other.text is_second other.read.is in
-    record {
-      f = g;
-      spelled = subst (λ text. SpellsFormula text g) same_formula one.spelled;
-      well_formed = one.well_formed;
-      verdict = verdict_of law g certificate before now answer one.well_formed (subst (λ text. IsJudgement g text answer) same_certificate other.judged)
-          (sym is.status ∙ accepted) (written ∙ ap (append_known before) is.text);
-    }
-
-pub accepted : AcceptanceLaw → (files files_now : FilesState) (words : List (List ℕ)) (before now : Option (List ℕ)) (output : Output)
-    → IsOutputDue files files_now (command_of words) output → now ≡ append_known before output.text.items
-    → (formula certificate : List ℕ) → AreTold files.held words formula certificate → code output.status ≡ 0 → IsAcceptance formula certificate before now
-accepted law files files_now words before now output o written formula certificate told success =
-    accepted_by law files files_now told.command formula certificate before now output told.formula_held told.certificate_held written success o.report
-    (subst (λ command. IsDue files files_now command o.report) told.is o.due) o.is
+-- a file that is said to be other than unreadable counted no fault
+pub not_unreadable : (r : Result Dqbf FormulaStop) (stop : FormulaStop) (said : NoFormula) → r ≡ Err stop → stop ≡ Said said → said ≢ Unreadable
+    → IsUnreadableStop r → ⊥
+not_unreadable r stop said is kind other unreadable = unreadable_said said other (subst IsUnreadableStop (is ∙ ap Err kind) unreadable)

@@ -6,8 +6,8 @@ use Rattle.cert_text.specs.declared.faults.CertFault.{CertFault}
 use Rattle.cert_text.specs.declared.faults.CertFault.TheVariants.{BadHeader as NoHeader, BadLine as NoLine, RowIncomplete, IdOrder, UnknownHint, TooBig as TooLarge, Truncated as TooShort, BadVariable, WrongVerdict}
 use Rattle.skolem_checker.specs.declared.mapping.MapName.{MapName}
 use Rattle.skolem_checker.specs.declared.mapping.MapName.TheVariants.{InputCount, OutputCount, SymbolMissing, SymbolNumber, SymbolTwice}
-use Rattle.dqcheck_core.specs.declared.answers.CertificateFault.{CertificateFault}
-use Rattle.dqcheck_core.specs.declared.answers.CertificateFault.TheVariants.{Text, Circuit, Mapping}
+use Rattle.cert_judge.specs.declared.answers.CertificateFault.{CertificateFault}
+use Rattle.cert_judge.specs.declared.answers.CertificateFault.TheVariants.{Text, Circuit, Mapping}
 
 abbrev pub circuit_fault_name : AagFault → List ℕ
 circuit_fault_name BadHeader = codes "BadHeader"

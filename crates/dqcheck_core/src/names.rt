@@ -1,36 +1,12 @@
-//! The names of faults, as they are written.
+//! The names of a certificate's faults, as they are written.
 
 ghost use Rattle.std.specs.Prelude.{◌≡◌};
 ghost use Rattle.dqcheck_core.specs.CertificateNames.{circuit_fault_name, text_fault_name, mapping_fault_name, certificate_fault_name};
-ghost use Rattle.dqcheck_core.specs.Report.{formula_fault_name};
 
-use crate::answers::CertificateFault;
 use aiger_text::AagFault;
+use cert_judge::CertificateFault;
 use cert_text::CertFault;
-use dqdimacs_reader::FormulaFault;
 use skolem_checker::MapName;
-
-pub fn formula_fault_name(fault: FormulaFault) -> &'static str
-    ensures { result.now ≡ formula_fault_name fault }
-{
-    match fault {
-        FormulaFault::NoHeader => "NoHeader",
-        FormulaFault::BadNumber => "BadNumber",
-        FormulaFault::TooBig => "TooBig",
-        FormulaFault::VarRange => "VarRange",
-        FormulaFault::DeclaredTwice => "DeclaredTwice",
-        FormulaFault::NotUniversal => "NotUniversal",
-        FormulaFault::EmptyD => "EmptyD",
-        FormulaFault::PrefixLate => "PrefixLate",
-        FormulaFault::HeaderTwice => "HeaderTwice",
-        FormulaFault::TooFewClauses => "TooFewClauses",
-        FormulaFault::TooManyClauses => "TooManyClauses",
-        FormulaFault::MissingZero => "MissingZero",
-        FormulaFault::Limit => "Limit",
-        FormulaFault::XorRepeat => "XorRepeat",
-        FormulaFault::XorSize => "XorSize",
-    }
-}
 
 fn circuit_fault_name(fault: AagFault) -> &'static str
     ensures { result.now ≡ circuit_fault_name fault }

@@ -1,90 +1,26 @@
-//! What a run writes, and the status that it ends with.
+//! What a run writes of a certificate that was judged.
 
 ghost use Rattle.std.specs.Prelude.{◌≡◌, ◌++◌, codes, IfOk, OnOk};
-ghost use Rattle.dqcheck_core.specs.Report.{usage, source_fault, long_formula, long_certificate, refused_formula, judged, line, fault_text, row_text, answer_text, answer_status};
-ghost use Rattle.dqcheck_core.specs.Outputs.{IsOutput};
+ghost use Rattle.dq_runs.specs.Printed.{line, printed};
+ghost use Rattle.dqcheck_core.specs.Report.{judged, row_text, answer_text, answer_status, printed_report};
 ghost use Rattle.dqcheck_core.specs.Statuses.{code};
 
-use crate::answers::Answer;
-use crate::names::{certificate_fault_name, formula_fault_name};
+use crate::names::certificate_fault_name;
 use crate::statuses::Status;
+use cert_judge::Answer;
 use dq_formula::Formula;
 use dq_lits::Memory;
+use dq_runs::Output;
 use dq_text::push_natural;
-use dqdimacs_reader::FormulaFault;
 use std::alloc::Global;
 
-/// A text to be written, and the status to end with.
-#[derive(Drop)]
-pub struct Output {
-    pub status: Status,
-    pub text: Vec<u8>,
-}
-
-/// The words aren't the program's.
-pub fn usage_output(alloc: Global) -> Result<Output, Memory>
-    ensures { IfOk result (IsOutput usage) }
-{
-    let text = format!(in alloc; "usage: dqcheck FORMULA CERT\n")?;
-    Ok(Output {
-        status: Status::Usage,
-        text: text.into_bytes(),
-    })
-}
-
-/// A file can't be read.
-pub fn source_fault_output(alloc: Global) -> Result<Output, Memory>
-    ensures { IfOk result (IsOutput source_fault) }
-{
-    let text = format!(in alloc; "source fault\n")?;
-    Ok(Output {
-        status: Status::SourceFault,
-        text: text.into_bytes(),
-    })
-}
-
-/// The formula's file is too long.
-pub fn long_formula_output(alloc: Global) -> Result<Output, Memory>
-    ensures { IfOk result (IsOutput long_formula) }
-{
-    let text = format!(in alloc; "too long formula\n")?;
-    Ok(Output {
-        status: Status::TooLong,
-        text: text.into_bytes(),
-    })
-}
-
-/// The certificate's file is too long.
-pub fn long_certificate_output(alloc: Global) -> Result<Output, Memory>
-    ensures { IfOk result (IsOutput long_certificate) }
-{
-    let text = format!(in alloc; "too long certificate\n")?;
-    Ok(Output {
-        status: Status::TooLong,
-        text: text.into_bytes(),
-    })
-}
-
-/// The formula's text has a fault.
-pub fn refused_output(alloc: Global, line: u64, name: FormulaFault) -> Result<Output, Memory>
-    ensures { IfOk result (IsOutput (refused_formula (record { line = line; name = name }))) }
-{
-    let text = fault_line(alloc, "refused", line, formula_fault_name(name))?;
-    Ok(Output {
-        status: Status::RefusedFormula,
-        text,
-    })
-}
-
-/// The certificate was judged.
+/// The line on a certificate that was judged.
 pub fn judged_output(alloc: Global, f: &Formula, answer: Answer) -> Result<Output, Memory>
-    ensures { IfOk result (IsOutput (judged f.now answer)) }
+    ensures { IfOk result (λ output. printed output ≡ printed_report (judged f.now answer)) }
 {
     let text = answer_line(alloc, f, answer)?;
-    Ok(Output {
-        status: answer_status(answer),
-        text,
-    })
+    let status = answer_status(answer).code();
+    Ok(Output { status, text })
 }
 
 fn answer_status(answer: Answer) -> Status
@@ -107,7 +43,8 @@ fn answer_line(alloc: Global, f: &Formula, answer: Answer) -> Result<Vec<u8>, Me
 {
     let text = match answer {
         Answer::Refused { line, name } => {
-            return fault_line(alloc, "certificate", line, certificate_fault_name(name));
+            let name = certificate_fault_name(name);
+            format!(in alloc; "certificate {line} {name}\n")?
         }
         Answer::BadRow { number } => return row_line(alloc, f, number),
         Answer::UndeclaredRead {
@@ -120,14 +57,6 @@ fn answer_line(alloc: Global, f: &Formula, answer: Answer) -> Result<Vec<u8>, Me
         Answer::ValidTrue => format!(in alloc; "VALID TRUE\n")?,
         Answer::ValidFalse => format!(in alloc; "VALID FALSE\n")?,
     };
-    Ok(text.into_bytes())
-}
-
-// A word, the number of a line, and the name of its fault.
-fn fault_line(alloc: Global, word: &str, number: u64, name: &str) -> Result<Vec<u8>, Memory>
-    ensures { IfOk result (λ bytes. bytes.items ≡ line (fault_text word.now number name.now)) }
-{
-    let text = format!(in alloc; "{word} {number} {name}\n")?;
     Ok(text.into_bytes())
 }
 

@@ -1,26 +1,22 @@
 //! A whole run: the words, both files, the judgement, and what is written.
 
-ghost use Rattle.std.specs.Prelude.{◌≡◌, ◌≢◌, ◌≤◌, ◌<◌, ℕ, List, length, map, string_bytes, Option, Some, None, IfOk};
-ghost use Rattle.dq_io.specs.Causes.{Rose};
+ghost use Rattle.std.specs.Prelude.{◌≡◌, ℕ, map, string_bytes, Some, IfOk};
 ghost use Rattle.dq_io.specs.State.{state_of};
-ghost use Rattle.dq_lits.specs.Formula.{Dqbf, IsWellFormed};
-ghost use Rattle.dqdimacs_reader.specs.Grammar.{SpellsFormula};
-ghost use Rattle.dqcheck_words.specs.Command.{Command, command_of};
-ghost use Rattle.dqcheck_core.specs.Running.{max_formula, max_certificate, Ends, AreTold, IsAcceptance, IsAnswered};
-ghost use Rattle.dqcheck_core.specs.Outputs.{IsOutputDue, IsOutputBehind};
-ghost use Rattle.dqcheck_core.specs.Statuses.{code};
+ghost use Rattle.dq_lits.specs.Formula.{IsWellFormed};
+ghost use Rattle.dq_runs.specs.Ending.{Ends, HasCauses};
+ghost use Rattle.dq_runs.specs.Sinks.{sink_of};
+ghost use Rattle.dqcheck_words.specs.Command.{command_of};
+ghost use Rattle.dqcheck_core.specs.Outputs.{IsReported, IsReportedBehind};
+ghost use Rattle.dqcheck_core.specs.Running.{IsDue};
+ghost use Rattle.dqcheck_core.specs.Told.{JudgesTold};
 
-use crate::formulas::{FormulaStop, read_formula};
-use crate::judging::judge;
-use crate::laws::{acceptance_is_sound, one_judgement};
-use crate::reports::{
-    Output, judged_output, long_certificate_output, long_formula_output, refused_output,
-    source_fault_output, usage_output,
-};
-use crate::statuses::Status;
+use crate::reports::judged_output;
+use cert_judge::judge;
+use cert_judge::laws::{acceptance_is_sound, one_judgement};
 use dq_formula::Formula;
-use dq_io::{Files, ReadStop, Sink, read_all, write_all};
+use dq_io::{Files, ReadStop, Sink, read_all};
 use dq_lits::Memory;
+use dq_runs::{FormulaStop, Output, deliver, outputs, read_formula};
 use dqcheck_words::{FileNames, file_names};
 use dqdimacs_reader::laws::formula_or_first_fault;
 use std::alloc::Global;
@@ -42,82 +38,56 @@ pub fn dqcheck_run<F: Files, K: Sink>(
     out: &mut K,
 ) -> u8
     // What is written is the line that is due, and the status is that line's.
-    ensures ends { Ends (state_of F.Files files.old) (state_of F.Files files.new)
-        (map string_bytes words.now)
-        (K.taken out.old) (K.taken out.new) result }
+    ensures ends { Ends
+        (IsDue (state_of F.Files files.old) (state_of F.Files files.new)
+        (command_of (map string_bytes words.now)))
+        (sink_of K.Sink out.old) (sink_of K.Sink out.new) result }
 
     // Over files that are told: what is accepted is right, and where nothing failed, the
     // certificate is judged.
-    ensures accepted { (formula certificate : List ℕ)
-        → AreTold (F.held files.old) (map string_bytes words.now) formula certificate
-        → result ≡ 0 → IsAcceptance formula certificate (K.taken out.old) (K.taken out.new) }
-    ensures answered { (formula certificate : List ℕ) (f : Dqbf)
-        → AreTold (F.held files.old) (map string_bytes words.now) formula certificate
-        → length formula ≤ max_formula → length certificate ≤ max_certificate
-        → SpellsFormula formula f
-        → ¬ Rose (F.faults files.old) (F.faults files.new)
-        → ¬ Rose (K.faults out.old) (K.faults out.new) → result ≢ 5
-        → IsAnswered f certificate (K.taken out.old) (K.taken out.new) result }
+    ensures told { JudgesTold (state_of F.Files files.old) (state_of F.Files files.new)
+        (command_of (map string_bytes words.now))
+        (sink_of K.Sink out.old) (sink_of K.Sink out.new) result }
 
-    // Each refusal has its cause, over all files and sinks.
-    ensures words { result ≡ 1 → command_of (map string_bytes words.now) ≡ None }
-    ensures source { result ≡ 3 → Rose (F.faults files.old) (F.faults files.new) }
-    ensures sink { result ≡ 4 → Rose (K.faults out.old) (K.faults out.new) }
-    ensures long { result ≡ 6 → max_formula < F.given files.new }
-
-    // No fault is passed over: where one was counted, its status comes, or a later cause's.
-    ensures unfaulted_files { result ≢ 3 → result ≢ 4 → result ≢ 5
-        → F.faults files.new ≡ F.faults files.old }
-    ensures unfaulted_sink { result ≢ 4 → K.faults out.new ≡ K.faults out.old }
-    ensures held { F.held files.new ≡ F.held files.old }
+    // Each refusal has its cause, and no fault is passed over, over all files and sinks.
+    ensures causes { HasCauses (command_of (map string_bytes words.now))
+        (state_of F.Files files.old) (state_of F.Files files.new)
+        (sink_of K.Sink out.old) (sink_of K.Sink out.new) result }
 {
     one_judgement();
     acceptance_is_sound();
     formula_or_first_fault();
-    let Ok(output) = report(alloc, words, files) else {
-        return Status::WantOfMemory.code();
-    };
-    match write_all(out, &output.text) {
-        Ok(()) => output.status.code(),
-        Err(_) => Status::SinkFault.code(),
-    }
+    let output = report(alloc, words, files);
+    deliver(out, output)
 }
 
 // What is to be written.
 fn report<F: Files>(alloc: Global, words: &[String], files: &mut F) -> Result<Output, Memory>
-    ensures due { IfOk result (IsOutputDue (state_of F.Files files.old) (state_of F.Files files.new)
+    ensures reported { IfOk result
+        (IsReported (state_of F.Files files.old) (state_of F.Files files.new)
         (command_of (map string_bytes words.now))) }
-    ensures long { IfOk result (λ output. code output.status ≡ 6
-        → max_formula < F.given files.new) }
-    ensures unfaulted { IfOk result (λ output. code output.status ≢ 3
-        → F.faults files.new ≡ F.faults files.old) }
     ensures held { F.held files.new ≡ F.held files.old }
 {
     match file_names(alloc, words)? {
-        None => usage_output(alloc),
+        None => outputs::usage(alloc, "dqcheck FORMULA CERT"),
         Some(names) => report_files(alloc, names, files),
     }
 }
 
 // What is to be written where the words name two files.
 fn report_files<F: Files>(alloc: Global, names: FileNames, files: &mut F) -> Result<Output, Memory>
-    ensures due { IfOk result (IsOutputDue (state_of F.Files files.old) (state_of F.Files files.new)
+    ensures reported { IfOk result
+        (IsReported (state_of F.Files files.old) (state_of F.Files files.new)
         (Some (record {
           formula = names.entry.formula.now;
           certificate = names.entry.certificate.now;
         }))) }
-    ensures long { IfOk result (λ output. code output.status ≡ 6
-        → max_formula < F.given files.new) }
-    ensures unfaulted { IfOk result (λ output. code output.status ≢ 3
-        → F.faults files.new ≡ F.faults files.old) }
     ensures held { F.held files.new ≡ F.held files.old }
 {
     match read_formula(alloc, files, names.formula) {
         Ok(formula) => report_certificate(alloc, &formula, names, files),
         Err(FormulaStop::Memory) => Err(Memory),
-        Err(FormulaStop::Fault) => source_fault_output(alloc),
-        Err(FormulaStop::TooLong) => long_formula_output(alloc),
-        Err(FormulaStop::Refused { line, name }) => refused_output(alloc, line, name),
+        Err(FormulaStop::Said(said)) => said.output(alloc),
     }
 }
 
@@ -129,20 +99,16 @@ fn report_certificate<F: Files>(
     files: &mut F,
 ) -> Result<Output, Memory>
     requires { IsWellFormed formula.now }
-    ensures due { IfOk result
-        (IsOutputBehind (state_of F.Files files.old) (state_of F.Files files.new)
+    ensures reported { IfOk result
+        (IsReportedBehind (state_of F.Files files.old) (state_of F.Files files.new)
         names.entry.certificate.now formula.now) }
-    ensures long { IfOk result (λ output. code output.status ≡ 6
-        → max_certificate < F.given files.new) }
-    ensures unfaulted { IfOk result (λ output. code output.status ≢ 3
-        → F.faults files.new ≡ F.faults files.old) }
     ensures held { F.held files.new ≡ F.held files.old }
 {
     let text = match read_all(alloc, files, names.certificate, MAX_CERTIFICATE) {
         Ok(text) => text,
         Err(ReadStop::Memory) => return Err(Memory),
-        Err(ReadStop::Fault) => return source_fault_output(alloc),
-        Err(ReadStop::TooLong) => return long_certificate_output(alloc),
+        Err(ReadStop::Fault) => return outputs::unreadable(alloc),
+        Err(ReadStop::TooLong) => return outputs::too_long(alloc, "certificate"),
     };
     let answer = judge(alloc, formula, text)?;
     judged_output(alloc, formula, answer)

@@ -5,7 +5,8 @@
 #![tactic(auto)]
 
 use dq_io::{RealFiles, RealSink, command_words};
-use dqcheck_core::{Status, dqcheck_run};
+use dq_runs::Failure;
+use dqcheck_core::dqcheck_run;
 use std::io;
 use std::process::ExitCode;
 
@@ -16,7 +17,7 @@ pub fn run(rt: &HostRuntime) -> ExitCode {
     let mut out = RealSink::new(rt);
     let status = match command_words(rt) {
         Ok(words) => dqcheck_run(rt.alloc(), &words, &mut files, &mut out),
-        Err(error) if error.kind() == io::ErrorKind::OutOfMemory => Status::WantOfMemory.code(),
+        Err(error) if error.kind() == io::ErrorKind::OutOfMemory => Failure::WantOfMemory.code(),
         Err(_) => dqcheck_run(rt.alloc(), &[], &mut files, &mut out),
     };
     ExitCode::from(status)

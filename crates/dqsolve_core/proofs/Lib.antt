@@ -1,5 +1,3 @@
-pub mod AcceptedTexts
-pub mod Beginnings
-pub mod Counts
 pub mod Runs
-pub mod DueOutputs
+pub mod ToldFiles
+pub mod FormerClauses

@@ -1,171 +1,239 @@
--- From what a run's parts answer to what the run says.
-use Rattle.std.proofs.Common.{◌≡◌, ◌⊎◌, inl, inr, ℕ, ◌<◌, ◌≤◌, Bool, true, List, [], length, Option, Some, Result, Ok, Err, refl, sym, ap, ◌∙◌, subst, arith}
+-- From what a run's parts answer to what is due, and why.
+use Rattle.std.proofs.Common.{◌≡◌, ◌≢◌, ◌⊎◌, inl, inr, ℕ, ◌<◌, ◌≤◌, Bool, List, [], length, Option, None, Some, Result, Ok, Err, refl, sym, ap, ◌∙◌, subst, arith}
 use Rattle.std.specs.Prelude.{IfOk, option_map}
-use Rattle.std.specs.Io.KnownBytes.{append_known}
 use Rattle.dq_io.specs.Causes.{Rose}
-use Rattle.dq_io.specs.Files.{Holding, Holds}
 use Rattle.dq_io.specs.State.{FilesState}
 use Rattle.dq_lits.specs.Formula.{Dqbf}
 use Rattle.dq_lits.specs.declared.memory.Memory.{Memory}
-use Rattle.hint_log.specs.Entries.{ProofLog}
-use Rattle.dqdimacs_reader.specs.Grammar.{SpellsFormula}
-use Rattle.dqdimacs_reader.specs.Machine.{TextFault, reading}
-use Rattle.dqcheck_core.specs.Report.{line}
-use Rattle.dqcheck_core.specs.Running.{max_formula, IsTextOf, IsLong, IsFaultOf, IsFormulaOf, PickedOnce}
+use Rattle.hint_log.specs.Entries.{ProofLog, steps_of}
 use Rattle.hint_log.specs.ProductiveLog.{IsProductiveLog}
 use Rattle.planted_formulas.specs.Planted.{planted_formula}
-use Rattle.dqsolve_words.specs.Command.{Search, Planting, Command, solve, demo, command_of, default_steps}
+use Rattle.dq_runs.specs.Ending.{IsWritten, IsCutOff, IsUnwritten, IsEnd, Ends, HasCauses}
+use Rattle.dq_runs.specs.FileTexts.{PickedOnce}
+use Rattle.dq_runs.specs.FormulaFiles.{max_formula, IsFormulaOf, IsNoFormula, IsFormulaRead, IsUnreadableStop}
+use Rattle.dq_runs.specs.declared.formulas.FormulaStop.{FormulaStop}
+use Rattle.dq_runs.specs.declared.formulas.FormulaStop.TheVariants.{Said}
+use Rattle.dq_runs.specs.Printed.{Printed, printed}
+use Rattle.dq_runs.specs.Sinks.{SinkState}
+use Rattle.dq_runs.specs.declared.formulas.NoFormula.{NoFormula}
+use Rattle.dq_runs.specs.declared.formulas.NoFormula.TheVariants.{Unreadable, TooLong, Refused}
+use Rattle.dq_runs.specs.declared.outputs.Output.{Output}
+use Rattle.dq_verdicts.specs.Outputs.{IsVerdictOutput}
+use Rattle.dq_verdicts.specs.Shown.{IsVerdict}
+use Rattle.dq_verdicts.specs.Verdicts.{Verdict, is_true, is_false, is_unknown, verdict_status, printed_verdict}
+use Rattle.dq_verdicts.specs.declared.demonstrations.Demonstration.{Demonstration}
+use Rattle.dq_verdicts.specs.declared.demonstrations.Demonstration.TheVariants.{Valid, Large, CutOff}
+use Rattle.dqsolve_words.specs.Command.{Search, Planting, Command, solve, demo, default_steps}
 use Rattle.dqsolve_words.specs.Words.{search_of, planting_of, command_said}
 use Rattle.dqsolve_words.specs.declared.names.SolveWords.{SolveWords}
 use Rattle.dqsolve_words.specs.declared.names.DemoWords.{DemoWords}
 use Rattle.dqsolve_words.specs.declared.names.CommandWords.{CommandWords}
 use Rattle.dqsolve_words.specs.declared.names.CommandWords.TheVariants.{Solve, Demo}
-use Rattle.dqsolve_core.specs.Outputs.{IsOutput, IsOutputDue, IsVerdictOutput, IsDemoOutput}
-use Rattle.dqsolve_core.specs.Report.{Report, Verdict, usage, source_fault, long_formula, refused_formula, solved, demonstrated, demo_text, verdict_status, verdict_text, is_verdict_status}
-use Rattle.dqsolve_core.specs.Running.{IsDueFor, IsDueForDemo, IsDue, IsTold, IsSolved, IsSolution, IsRunLog, IsDemonstratedRun}
-use Rattle.dqsolve_core.specs.Shown.{IsVerdict}
-use Rattle.dqsolve_core.specs.Statuses.{code}
-use Rattle.dqsolve_core.specs.declared.reports.Output.{Output}
+use Rattle.dqsolve_core.specs.Outputs.{IsReported, IsDemoOutput}
+use Rattle.dqsolve_core.specs.Report.{SearchReport, no_formula, solved, printed_search, printed_demo, demonstration_status}
+use Rattle.dqsolve_core.specs.Running.{IsDueFor, IsDemoDue, IsDue, IsRunLog, IsOwnLog, IsDemonstration, SeeksVerdict, steps_asked}
 
--- what the law of the formulas' grammar gives
-pub record FormulaLaw : Type 0 where
-  pub exact : (text : List ℕ) (f : Dqbf) → SpellsFormula text f → reading text ≡ Ok f
-  pub unique : (text : List ℕ) (f g : Dqbf) → SpellsFormula text f → SpellsFormula text g → f ≡ g
-
-held_text : (holding : Holding) (bytes text : List ℕ) → holding ≡ Holds bytes → IsTextOf holding text → text ≡ bytes
-held_text holding bytes text is has = subst (λ h. IsTextOf h text) is has
-
--- a formula that was read of a told file is spelled there
-read_spells : (holding : Holding) (bytes : List ℕ) (f : Dqbf) → holding ≡ Holds bytes → IsFormulaOf holding f → SpellsFormula bytes f
-read_spells holding bytes f is one = subst (λ text. SpellsFormula text f) (held_text holding bytes one.text is one.read.is) one.spelled
-
--- ---- a verdict's output
-
-pub verdict_due : (before now : FilesState) (log : ProofLog) (c : Search) (f : Dqbf) (r : Result Output Memory) → IsFormulaOf (before.held c.file) f
-    → PickedOnce before now → log.limit ≡ c.steps → IfOk r (IsVerdictOutput f log c.bare) → IfOk r (IsOutputDue before now log (Some (solve c)))
-verdict_due before now log c f (Ok output) one picked limit v = record {
-  report = solved c.bare f v.verdict;
-  due = (refl, one, limit, v.is, picked);
-  is = record { status = v.status; text = v.text };
-}
-verdict_due before now log c f (Err _) one picked limit v = tt
-
--- ---- what a told file gives
-
-solved_as : (f : Dqbf) (log : ProofLog) (c : Search) (bare : Bool) (before now : Option (List ℕ)) (output : Output) (v : Verdict) → bare ≡ c.bare → log.limit ≡ c.steps
-    → IsVerdict f f log bare v → code output.status ≡ verdict_status v → now ≡ append_known before (verdict_text bare f v) → IsSolved f log c before now (code output.status)
-solved_as f log c bare before now output v same limit shown status written = record {
-  verdict = v;
-  limit = limit;
-  is = subst (λ b. IsVerdict f f log b v) same shown;
-  ends_with = status;
-  written = written ∙ ap (λ b. append_known before (verdict_text b f v)) same;
-}
-
-solution_by : (files files_now : FilesState) (log : ProofLog) (c : Search) (formula : List ℕ) (before now : Option (List ℕ)) (output : Output)
-    → files.held c.file ≡ Holds formula → now ≡ append_known before output.text.items → is_verdict_status (code output.status) ≡ true
-    → (report : Report) → IsDueFor files files_now log c report → IsOutput report output → IsSolution formula log c before now (code output.status)
-solution_by files files_now log c formula before now output told written verdict usage due is = absurd due
-solution_by files files_now log c formula before now output told written verdict source_fault due is =
-    let other : is_verdict_status 3 ≡ true = subst (λ s. is_verdict_status s ≡ true) is.status verdict in cc
-solution_by files files_now log c formula before now output told written verdict long_formula due is =
-    let other : is_verdict_status 6 ≡ true = subst (λ s. is_verdict_status s ≡ true) is.status verdict in cc
-solution_by files files_now log c formula before now output told written verdict (refused_formula fault) due is =
-    let other : is_verdict_status 2 ≡ true = subst (λ s. is_verdict_status s ≡ true) is.status verdict in cc
-solution_by files files_now log c formula before now output told written verdict (solved bare f v) (same, one, limit, shown, picked) is = record {
-  f = f;
-  spelled = read_spells (files.held c.file) formula f told one;
-  well_formed = one.well_formed;
-  solved = solved_as f log c bare before now output v same limit shown is.status (written ∙ ap (append_known before) is.text);
-}
-solution_by files files_now log c formula before now output told written verdict (demonstrated _ _ _) due is = absurd due
-
-pub solution : (files files_now : FilesState) (words : List (List ℕ)) (log : ProofLog) (before now : Option (List ℕ)) (output : Output)
-    → IsOutputDue files files_now log (command_of words) output → now ≡ append_known before output.text.items
-    → (formula : List ℕ) (told : IsTold files.held words formula) → is_verdict_status (code output.status) ≡ true
-    → IsSolution formula log told.command before now (code output.status)
-solution files files_now words log before now output o written formula told verdict =
-    solution_by files files_now log told.command formula before now output told.formula_held written verdict o.report
-    (subst (λ command. IsDue files files_now log command o.report) told.is o.due) o.is
-
-no_fault : FormulaLaw → (formula : List ℕ) (f : Dqbf) (holding : Holding) (fault : TextFault) → holding ≡ Holds formula → SpellsFormula formula f → IsFaultOf holding fault → ⊥
-no_fault law formula f holding fault is spelled refused =
-    let same : refused.text ≡ formula = held_text holding formula refused.text is refused.read.is in
-    let both : Err fault ≡ Ok f = sym refused.is_first ∙ ap reading same ∙ law.exact formula f spelled in
-    cc
-
-held_long : (limit : ℕ) (holding : Holding) (bytes : List ℕ) → holding ≡ Holds bytes → IsLong limit holding → limit < length bytes
-held_long limit holding bytes is long = subst (λ h. IsLong limit h) is long
-
-solved_by : FormulaLaw → (files files_now : FilesState) (log : ProofLog) (c : Search) (formula : List ℕ) (f : Dqbf) (before now : Option (List ℕ)) (output : Output)
-    → files.held c.file ≡ Holds formula → length formula ≤ max_formula → SpellsFormula formula f → (Rose files.faults files_now.faults → ⊥)
-    → now ≡ append_known before output.text.items
-    → (report : Report) → IsDueFor files files_now log c report → IsOutput report output → IsSolved f log c before now (code output.status)
-solved_by law files files_now log c formula f before now output told short spelled sound written usage due is = absurd due
-solved_by law files files_now log c formula f before now output told short spelled sound written source_fault (unreadable, picked) is = absurd (sound unreadable.counted)
-solved_by law files files_now log c formula f before now output told short spelled sound written long_formula due is =
-    let long = held_long max_formula (files.held c.file) formula told due.0 in absurd (omega (arith, long, short))
-solved_by law files files_now log c formula f before now output told short spelled sound written (refused_formula fault) due is =
-    absurd (no_fault law formula f (files.held c.file) fault told spelled due.0)
-solved_by law files files_now log c formula f before now output told short spelled sound written (solved bare g v) (same, one, limit, shown, picked) is =
-    let same_formula : g ≡ f = law.unique formula g f (read_spells (files.held c.file) formula g told one) spelled in
-    subst (λ h. IsSolved h log c before now (code output.status)) same_formula
-    (solved_as g log c bare before now output v same limit shown is.status (written ∙ ap (append_known before) is.text))
-solved_by law files files_now log c formula f before now output told short spelled sound written (demonstrated _ _ _) due is = absurd due
-
-pub solved_told : FormulaLaw → (files files_now : FilesState) (words : List (List ℕ)) (log : ProofLog) (before now : Option (List ℕ)) (output : Output)
-    → IsOutputDue files files_now log (command_of words) output → now ≡ append_known before output.text.items
-    → (formula : List ℕ) (f : Dqbf) (told : IsTold files.held words formula) → length formula ≤ max_formula → SpellsFormula formula f
-    → (Rose files.faults files_now.faults → ⊥) → IsSolved f log told.command before now (code output.status)
-solved_told law files files_now words log before now output o written formula f told short spelled sound =
-    solved_by law files files_now log told.command formula f before now output told.formula_held short spelled sound written o.report
-    (subst (λ command. IsDue files files_now log command o.report) told.is o.due) o.is
+status_of : (output : Output) (p : Printed) → printed output ≡ p → output.status ≡ p.status
+status_of output p same = ap (λ (q : Printed). q.status) same
 
 -- ---- what the words ask for
 
-pub solve_asked : (words : List (List ℕ)) (answer : Option CommandWords) (w : CommandWords) (asked : SolveWords) → option_map command_said answer ≡ command_of words
-    → answer ≡ Some w → w ≡ Solve asked → command_of words ≡ Some (solve (search_of asked))
-solve_asked words answer w asked said is kind = sym said ∙ ap (option_map command_said) (is ∙ ap Some kind)
+pub solve_asked : (asked : Option Command) (answer : Option CommandWords) (w : CommandWords) (s : SolveWords) → option_map command_said answer ≡ asked
+    → answer ≡ Some w → w ≡ Solve s → asked ≡ Some (solve (search_of s))
+solve_asked asked answer w s said is kind = sym said ∙ ap (option_map command_said) (is ∙ ap Some kind)
 
-pub demo_asked : (words : List (List ℕ)) (answer : Option CommandWords) (w : CommandWords) (asked : DemoWords) → option_map command_said answer ≡ command_of words
-    → answer ≡ Some w → w ≡ Demo asked → command_of words ≡ Some (demo (planting_of asked))
-demo_asked words answer w asked said is kind = sym said ∙ ap (option_map command_said) (is ∙ ap Some kind)
+pub demo_asked : (asked : Option Command) (answer : Option CommandWords) (w : CommandWords) (s : DemoWords) → option_map command_said answer ≡ asked
+    → answer ≡ Some w → w ≡ Demo s → asked ≡ Some (demo (planting_of s))
+demo_asked asked answer w s said is kind = sym said ∙ ap (option_map command_said) (is ∙ ap Some kind)
 
--- ---- planted formulas
+-- ---- the parts
 
-pub demo_due : (files : FilesState) (log : ProofLog) (p : Planting) (r : Result Output Memory) → log.limit ≡ default_steps → IfOk r (IsDemoOutput p log)
-    → IfOk r (IsOutputDue files files log (Some (demo p)))
-demo_due files log p (Ok output) limit d = record {
-  report = demonstrated p d.clauses d.shown;
-  due = (refl, limit, d.is, refl);
-  is = record { status = d.status; text = d.text };
+not_long : (verdict : Verdict) → verdict_status verdict ≡ 6 → ⊥
+not_long (is_true _ _) same = omega (arith, same)
+not_long (is_false _) same = omega (arith, same)
+not_long (is_unknown _ _) same = omega (arith, same)
+
+-- a verdict
+pub verdict_reported : (before now : FilesState) (log : ProofLog) (c : Search) (f : Dqbf) (r : Result Output Memory) → IsFormulaOf (before.held c.file) f
+    → PickedOnce before now → now.faults ≡ before.faults → log.limit ≡ c.steps → IfOk r (IsVerdictOutput f log c.bare) → IfOk r (IsReported before now (Some (solve c)) log)
+verdict_reported before now log c f (Ok output) one picked unfaulted limit v = record {
+  due = (solved f v.verdict, (one, limit, v.is, picked), v.is_printed);
+  long = λ six. absurd (not_long v.verdict (sym (status_of output (printed_verdict c.bare f v.verdict) v.is_printed) ∙ six));
+  unfaulted = λ _. unfaulted;
 }
-demo_due files log p (Err _) limit d = tt
+verdict_reported before now log c f (Err _) one picked unfaulted limit v = tt
+
+-- the formula's file gives none
+pub said_reported : (before now : FilesState) (log : ProofLog) (c : Search) (said : NoFormula) (r : Result Output Memory) → IsNoFormula before now c.file said → PickedOnce before now
+    → (said ≢ Unreadable → now.faults ≡ before.faults) → IfOk r (λ output. printed output ≡ printed_search c (no_formula said)) → IfOk r (IsReported before now (Some (solve c)) log)
+said_reported before now log c Unreadable (Ok output) is once unfaulted same = record {
+  due = (no_formula Unreadable, (is, once), same);
+  long = λ six. let three = status_of output (printed_search c (no_formula Unreadable)) same in absurd (omega (arith, six, three));
+  unfaulted = λ other. absurd (other (status_of output (printed_search c (no_formula Unreadable)) same));
+}
+said_reported before now log c TooLong (Ok output) is once unfaulted same = record {
+  due = (no_formula TooLong, (is, once), same);
+  long = λ _. is.given;
+  unfaulted = λ _. unfaulted (λ other. cc);
+}
+said_reported before now log c (Refused line name) (Ok output) is once unfaulted same = record {
+  due = (no_formula (Refused line name), (is, once), same);
+  long = λ six. let two = status_of output (printed_search c (no_formula (Refused line name))) same in absurd (omega (arith, six, two));
+  unfaulted = λ _. unfaulted (λ other. cc);
+}
+said_reported before now log c said (Err _) is once unfaulted same = tt
+
+-- a planted formula's line
+demo_not_long : (shown : Demonstration) → demonstration_status shown ≡ 6 → ⊥
+demo_not_long Valid same = omega (arith, same)
+demo_not_long Large same = omega (arith, same)
+demo_not_long CutOff same = omega (arith, same)
+
+pub demo_reported : (files : FilesState) (log : ProofLog) (p : Planting) (r : Result Output Memory) → log.limit ≡ default_steps → IfOk r (IsDemoOutput p log)
+    → IfOk r (IsReported files files (Some (demo p)) log)
+demo_reported files log p (Ok output) limit d = record {
+  due = (record { clauses = d.clauses; shown = d.shown; limit = limit; is = d.is; is_printed = d.is_printed }, refl);
+  long = λ six. absurd (demo_not_long d.shown (sym (status_of output (printed_demo p d.clauses d.shown) d.is_printed) ∙ six));
+  unfaulted = λ _. refl;
+}
+demo_reported files log p (Err _) limit d = tt
 
 pub demo_log : (files : FilesState) (log : ProofLog) (p : Planting) → log.limit ≡ default_steps
     → (log.entries ≡ []) ⊎ IsProductiveLog (planted_formula p.seed p.size) log.entries → IsRunLog files (Some (demo p)) log
 demo_log files log p limit (inl none) = inl none
 demo_log files log p limit (inr productive) =
-    inr (record { asked = demo p; is = refl; limit = limit; f = planted_formula p.seed p.size; formula = refl; productive = productive })
+    inr (record { command = demo p; is = refl; limit = limit; f = planted_formula p.seed p.size; formula = refl; productive = productive })
 
-demonstrated_by : (files files_now : FilesState) (log : ProofLog) (p : Planting) (before now : Option (List ℕ)) (output : Output) → now ≡ append_known before output.text.items
-    → (report : Report) → IsDueForDemo files files_now log p report → IsOutput report output → IsDemonstratedRun p log before now (code output.status)
-demonstrated_by files files_now log p before now output written usage due is = absurd due
-demonstrated_by files files_now log p before now output written source_fault due is = absurd due
-demonstrated_by files files_now log p before now output written long_formula due is = absurd due
-demonstrated_by files files_now log p before now output written (refused_formula _) due is = absurd due
-demonstrated_by files files_now log p before now output written (solved _ _ _) due is = absurd due
-demonstrated_by files files_now log p before now output written (demonstrated q clauses shown) (same, limit, of_log, picked) is = record {
-  clauses = clauses;
-  shown = shown;
-  limit = limit;
-  is = of_log;
-  ends_with = is.status;
-  written = written ∙ ap (append_known before) is.text ∙ ap (λ r. append_known before (line (demo_text r clauses shown))) same;
+-- ---- the run
+
+pub ends : (before now : FilesState) (asked : Option Command) (log : ProofLog) (sink sink_now : SinkState) (r : Result Output Memory) (status : ℕ)
+    → IfOk r (IsReported before now asked log) → IsEnd r sink sink_now status → Ends (IsDue before now log asked) sink sink_now status
+ends before now asked log sink sink_now (Ok output) status o end = inr (record { printed = printed output; is_due = o.due; delivered = end })
+ends before now asked log sink sink_now (Err _) status o end = inl end
+
+-- which statuses a report has
+record Reasons (before now : FilesState) (asked : Option Command) (status : ℕ) : Type 0 where
+  pub words : status ≡ 1 → asked ≡ None
+  pub source : status ≡ 3 → Rose before.faults now.faults
+  pub delivered : status ≢ 4
+
+verdict_reasons : (before now : FilesState) (c : Command) (verdict : Verdict) → Reasons before now (Some c) (verdict_status verdict)
+verdict_reasons before now c (is_true _ _) = record { words = λ h. absurd (omega (arith, h)); source = λ h. absurd (omega (arith, h)); delivered = λ h. omega (arith, h) }
+verdict_reasons before now c (is_false _) = record { words = λ h. absurd (omega (arith, h)); source = λ h. absurd (omega (arith, h)); delivered = λ h. omega (arith, h) }
+verdict_reasons before now c (is_unknown _ _) = record { words = λ h. absurd (omega (arith, h)); source = λ h. absurd (omega (arith, h)); delivered = λ h. omega (arith, h) }
+
+demo_reasons : (before now : FilesState) (c : Command) (shown : Demonstration) → Reasons before now (Some c) (demonstration_status shown)
+demo_reasons before now c Valid = record { words = λ h. absurd (omega (arith, h)); source = λ h. absurd (omega (arith, h)); delivered = λ h. omega (arith, h) }
+demo_reasons before now c Large = record { words = λ h. absurd (omega (arith, h)); source = λ h. absurd (omega (arith, h)); delivered = λ h. omega (arith, h) }
+demo_reasons before now c CutOff = record { words = λ h. absurd (omega (arith, h)); source = λ h. absurd (omega (arith, h)); delivered = λ h. omega (arith, h) }
+
+search_reasons : (before now : FilesState) (log : ProofLog) (c : Search) (report : SearchReport) → IsDueFor before now log c report
+    → Reasons before now (Some (solve c)) ((printed_search c report).status)
+search_reasons before now log c (no_formula Unreadable) due = record { words = λ h. absurd (omega (arith, h)); source = λ _. due.0.counted; delivered = λ h. omega (arith, h) }
+search_reasons before now log c (no_formula TooLong) due = record { words = λ h. absurd (omega (arith, h)); source = λ h. absurd (omega (arith, h)); delivered = λ h. omega (arith, h) }
+search_reasons before now log c (no_formula (Refused l name)) due = record { words = λ h. absurd (omega (arith, h)); source = λ h. absurd (omega (arith, h)); delivered = λ h. omega (arith, h) }
+search_reasons before now log c (solved f verdict) due = verdict_reasons before now (solve c) verdict
+
+reasons : (before now : FilesState) (asked : Option Command) (log : ProofLog) (p : Printed) → IsDue before now log asked p → Reasons before now asked p.status
+reasons before now None log p (same, picks) =
+    let one : p.status ≡ 1 = ap (λ (q : Printed). q.status) same in
+    record { words = λ _. refl; source = λ h. absurd (omega (arith, h, one)); delivered = λ h. omega (arith, h, one) }
+reasons before now (Some (solve c)) log p (report, due, same) =
+    subst (λ (q : Printed). Reasons before now (Some (solve c)) q.status) (sym same) (search_reasons before now log c report due)
+reasons before now (Some (demo d)) log p (due, picks) =
+    subst (λ (q : Printed). Reasons before now (Some (demo d)) q.status) (sym due.is_printed) (demo_reasons before now (demo d) due.shown)
+
+pub causes : (before now : FilesState) (asked : Option Command) (log : ProofLog) (sink sink_now : SinkState) (r : Result Output Memory) (status : ℕ) → now.held ≡ before.held
+    → IfOk r (IsReported before now asked log) → IsEnd r sink sink_now status → HasCauses asked before now sink sink_now status
+causes before now asked log sink sink_now (Ok output) status held o (inl w) =
+    let why = reasons before now asked log (printed output) o.due in
+    record {
+      words = λ h. why.words (sym w.ends_with ∙ h);
+      source = λ h. why.source (sym w.ends_with ∙ h);
+      sink_fault = λ h. absurd (why.delivered (sym w.ends_with ∙ h));
+      long = λ h. o.long (sym w.ends_with ∙ h);
+      unfaulted_files = λ three four five. o.unfaulted (λ h. three (w.ends_with ∙ h));
+      unfaulted_sink = λ _. w.unfaulted;
+      held = held;
+    }
+causes before now asked log sink sink_now (Ok output) status held o (inr cut) =
+    let four = cut.ends_with in
+    record {
+      words = λ h. absurd (omega (arith, h, four));
+      source = λ h. absurd (omega (arith, h, four));
+      sink_fault = λ _. cut.counted;
+      long = λ h. absurd (omega (arith, h, four));
+      unfaulted_files = λ three other five. absurd (other four);
+      unfaulted_sink = λ other. absurd (other four);
+      held = held;
+    }
+causes before now asked log sink sink_now (Err _) status held o unwritten =
+    let five = unwritten.ends_with in
+    record {
+      words = λ h. absurd (omega (arith, h, five));
+      source = λ h. absurd (omega (arith, h, five));
+      sink_fault = λ h. absurd (omega (arith, h, five));
+      long = λ h. absurd (omega (arith, h, five));
+      unfaulted_files = λ three four other. absurd (other five);
+      unfaulted_sink = λ _. ap (λ (s : SinkState). s.faults) unwritten.same;
+      held = held;
+    }
+
+-- ---- where no verdict was found
+
+verdict_steps : (f : Dqbf) (log : ProofLog) (bare : Bool) (verdict : Verdict) → IsVerdict f f log bare verdict → verdict_status verdict ≡ 0 → steps_of log.entries ≡ log.limit
+verdict_steps f log bare (is_true _ _) v zero = absurd (omega (arith, zero))
+verdict_steps f log bare (is_false _) v zero = absurd (omega (arith, zero))
+verdict_steps f log bare (is_unknown _ _) v zero = v.shown.limit
+
+demo_steps : (p : Planting) (log : ProofLog) (clauses : ℕ) (shown : Demonstration) → IsDemonstration p log clauses shown → demonstration_status shown ≡ 0 → steps_of log.entries ≡ log.limit
+demo_steps p log clauses Valid d zero = absurd (omega (arith, zero))
+demo_steps p log clauses Large d zero = absurd (omega (arith, zero))
+demo_steps p log clauses CutOff d zero = d.is.limit
+
+search_steps : (before now : FilesState) (log : ProofLog) (c : Search) (report : SearchReport) → IsDueFor before now log c report → (printed_search c report).status ≡ 0
+    → steps_of log.entries ≡ log.limit
+search_steps before now log c (no_formula Unreadable) due zero = absurd (omega (arith, zero))
+search_steps before now log c (no_formula TooLong) due zero = absurd (omega (arith, zero))
+search_steps before now log c (no_formula (Refused l name)) due zero = absurd (omega (arith, zero))
+search_steps before now log c (solved f verdict) due zero = verdict_steps f log c.bare verdict due.2.0 zero
+
+all_steps : (before now : FilesState) (c : Command) (log : ProofLog) (p : Printed) → IsDue before now log (Some c) p → p.status ≡ 0 → steps_of log.entries ≡ log.limit
+all_steps before now (solve c) log p (report, due, same) zero = search_steps before now log c report due (sym (ap (λ (q : Printed). q.status) same) ∙ zero)
+all_steps before now (demo d) log p (due, picks) zero = demo_steps d log due.clauses due.shown due.is (sym (ap (λ (q : Printed). q.status) due.is_printed) ∙ zero)
+
+pub own_log : (before now : FilesState) (asked : Option Command) (log : ProofLog) (sink sink_now : SinkState) (r : Result Output Memory) (status : ℕ)
+    → IfOk r (IsReported before now asked log) → IfOk r (λ _. (c : Command) → asked ≡ Some c → log.limit ≡ steps_asked c) → IsRunLog before asked log
+    → IsEnd r sink sink_now status → IsOwnLog before asked log status
+own_log before now asked log sink sink_now (Ok output) status o limit work (inl w) = record {
+  work = work;
+  limit = λ c is _. limit c is;
+  unknown = λ c is seeks zero. all_steps before now c log (printed output) (subst (λ command. IsDue before now log command (printed output)) is o.due) (sym w.ends_with ∙ zero);
 }
+own_log before now asked log sink sink_now (Ok output) status o limit work (inr cut) =
+    let four = cut.ends_with in record {
+      work = work;
+      limit = λ c is _. limit c is;
+      unknown = λ c is seeks zero. absurd (omega (arith, zero, four));
+    }
+own_log before now asked log sink sink_now (Err _) status o limit work unwritten =
+    let five = unwritten.ends_with in record {
+      work = work;
+      limit = λ c is made. absurd (made five);
+      unknown = λ c is seeks zero. absurd (omega (arith, zero, five));
+    }
 
-pub demonstrated_told : (files files_now : FilesState) (words : List (List ℕ)) (log : ProofLog) (before now : Option (List ℕ)) (output : Output)
-    → IsOutputDue files files_now log (command_of words) output → now ≡ append_known before output.text.items → (p : Planting) → command_of words ≡ Some (demo p)
-    → IsDemonstratedRun p log before now (code output.status)
-demonstrated_told files files_now words log before now output o written p asked =
-    demonstrated_by files files_now log p before now output written o.report (subst (λ command. IsDue files files_now log command o.report) asked o.due) o.is
+-- what was read where the formula's file gives none
+pub said_read : (before now : FilesState) (name : List ℕ) (r : Result Dqbf FormulaStop) (stop : FormulaStop) (said : NoFormula) → r ≡ Err stop → stop ≡ Said said
+    → IsFormulaRead before now name r → IsNoFormula before now name said × PickedOnce before now
+said_read before now name r stop said is kind read = subst (IsFormulaRead before now name) (is ∙ ap Err kind) read
+
+unreadable_said : (said : NoFormula) → said ≢ Unreadable → IsUnreadableStop (Err (Said said)) → ⊥
+unreadable_said Unreadable other is = other refl
+unreadable_said TooLong other is = is
+unreadable_said (Refused line name) other is = is
+
+-- a file that is said to be other than unreadable counted no fault
+pub not_unreadable : (r : Result Dqbf FormulaStop) (stop : FormulaStop) (said : NoFormula) → r ≡ Err stop → stop ≡ Said said → said ≢ Unreadable
+    → IsUnreadableStop r → ⊥
+not_unreadable r stop said is kind other unreadable = unreadable_said said other (subst IsUnreadableStop (is ∙ ap Err kind) unreadable)

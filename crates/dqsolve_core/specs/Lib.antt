@@ -1,6 +1,4 @@
-pub mod Accepted
 pub mod Outputs
 pub mod Report
 pub mod Running
-pub mod Shown
-pub mod Statuses
+pub mod Told

@@ -1,16 +1,11 @@
 //! The solver: whether a formula is true or false, with a certificate.
 //!
 //! `dqsolve_run` is a whole run of the program `dqsolve`: its contract says what is written and
-//! with which status it ends. The laws in `laws` say that the checker accepts what is written.
+//! with which status it ends. What is written with a verdict the checker accepts, by the laws of
+//! `dq_verdicts`.
 #![tactic(auto)]
 
-pub use demonstrations::Demonstration;
 pub use run::dqsolve_run;
-pub use statuses::Status;
 
-mod demonstrations;
-pub mod laws;
-mod reports;
+mod demos;
 mod run;
-mod statuses;
-mod verdicts;

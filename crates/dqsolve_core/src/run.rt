@@ -1,31 +1,23 @@
 //! A whole run: the words, the file, the search, and what is written.
 
-ghost use Rattle.std.specs.Prelude.{◌≡◌, ◌≢◌, ◌≤◌, ◌<◌, ◌⊎◌, ℕ, true, List, [], length, map, string_bytes, Option, Some, None, IfOk};
-ghost use Rattle.dq_io.specs.Causes.{Rose};
+ghost use Rattle.std.specs.Prelude.{◌≡◌, ◌≤◌, ◌⊎◌, [], map, string_bytes, Some, IfOk};
 ghost use Rattle.dq_io.specs.State.{state_of};
-ghost use Rattle.dq_lits.specs.Formula.{Dqbf};
-ghost use Rattle.hint_log.specs.Entries.{steps_of};
-ghost use Rattle.dqdimacs_reader.specs.Grammar.{SpellsFormula};
-ghost use Rattle.dqcheck_core.specs.Running.{max_formula};
 ghost use Rattle.cert_text.specs.Header.{max_count};
-ghost use Rattle.dqsolve_words.specs.Command.{Command, Planting, solve, demo, command_of, most_seed, least_size, most_size, default_steps};
-ghost use Rattle.dqsolve_words.specs.Words.{search_of, planting_of};
 ghost use Rattle.hint_log.specs.ProductiveLog.{IsProductiveLog};
 ghost use Rattle.planted_formulas.specs.Planted.{planted_formula};
-ghost use Rattle.dqsolve_core.specs.Outputs.{IsOutputDue, IsDemoOutput};
-ghost use Rattle.dqsolve_core.specs.Report.{is_verdict_status};
-ghost use Rattle.dqsolve_core.specs.Running.{Ends, IsRunLog, IsTold, IsSolved, IsSolution, IsDemonstratedRun, steps_asked};
-ghost use Rattle.dqsolve_core.specs.Statuses.{code};
+ghost use Rattle.dq_runs.specs.Ending.{Ends, HasCauses};
+ghost use Rattle.dq_runs.specs.Sinks.{sink_of};
+ghost use Rattle.dqsolve_words.specs.Command.{Command, solve, command_of, most_seed, least_size, most_size, default_steps};
+ghost use Rattle.dqsolve_words.specs.Words.{search_of, planting_of};
+ghost use Rattle.dqsolve_core.specs.Outputs.{IsReported, IsDemoOutput};
+ghost use Rattle.dqsolve_core.specs.Running.{IsDue, IsRunLog, IsOwnLog, steps_asked};
+ghost use Rattle.dqsolve_core.specs.Told.{SolvesTold};
 
-use crate::demonstrations::demonstrate;
-use crate::reports::{
-    Output, long_formula_output, refused_output, source_fault_output, usage_output,
-};
-use crate::statuses::Status;
-use crate::verdicts::solve;
-use dq_io::{Files, Sink, write_all};
+use crate::demos::demo_output;
+use dq_io::{Files, Sink};
 use dq_lits::Memory;
-use dqcheck_core::{FormulaStop, read_formula};
+use dq_runs::{FormulaStop, Output, deliver, outputs, read_formula};
+use dq_verdicts::solve;
 use dqdimacs_reader::laws::formula_or_first_fault;
 use dqsolve_words::laws::numbers_are_in_range;
 use dqsolve_words::{CommandWords, DemoWords, SolveWords, command_words};
@@ -35,6 +27,9 @@ use std::alloc::Global;
 
 /// The most steps of a search on a planted formula.
 const DEFAULT_STEPS: u64 = 1_000_000;
+
+/// The commands, as the usage line has them.
+const COMMANDS: &str = "dqsolve solve [--steps N] [--bare] FILE / dqsolve demo SEED SIZE";
 
 /// Decides the formula in a file, and writes the verdict with a certificate; or decides a planted
 /// formula, judges the certificate, and writes a line on it.
@@ -51,55 +46,30 @@ pub fn dqsolve_run<F: Files, K: Sink>(
     out: &mut K,
     log: &mut Log,
 ) -> u8
-    // What is written is the text that is due, and the status is that text's. The log is the run's
-    // own.
-    ensures ends { Ends (state_of F.Files files.old) (state_of F.Files files.new)
-        (map string_bytes words.now) log.new
-        (K.taken out.old) (K.taken out.new) result }
-    ensures log { IsRunLog (state_of F.Files files.old) (command_of (map string_bytes words.now))
-        log.new }
-    ensures limit { (c : Command) → command_of (map string_bytes words.now) ≡ Some c → result ≢ 5
-        → log.new.limit ≡ steps_asked c }
+    // What is written is the text that is due, and the status is that text's.
+    ensures ends { Ends
+        (IsDue (state_of F.Files files.old) (state_of F.Files files.new) log.new
+        (command_of (map string_bytes words.now)))
+        (sink_of K.Sink out.old) (sink_of K.Sink out.new) result }
 
-    // Over a file that is told: a verdict is right, and where nothing failed, there is one.
-    ensures right { (formula : List ℕ)
-        (told : IsTold (F.held files.old) (map string_bytes words.now) formula)
-        → is_verdict_status result ≡ true
-        → IsSolution formula log.new told.command (K.taken out.old) (K.taken out.new) result }
-    ensures solved { (formula : List ℕ) (f : Dqbf)
-        (told : IsTold (F.held files.old) (map string_bytes words.now) formula)
-        → length formula ≤ max_formula → SpellsFormula formula f
-        → ¬ Rose (F.faults files.old) (F.faults files.new)
-        → ¬ Rose (K.faults out.old) (K.faults out.new) → result ≢ 5
-        → IsSolved f log.new told.command (K.taken out.old) (K.taken out.new) result }
+    // The log is the run's own.
+    ensures log { IsOwnLog (state_of F.Files files.old) (command_of (map string_bytes words.now))
+        log.new result }
 
-    // A planted formula is searched and its certificate judged, and where the sink doesn't fail,
-    // the line is written.
-    ensures demonstrated { (p : Planting) → command_of (map string_bytes words.now) ≡ Some (demo p)
-        → ¬ Rose (K.faults out.old) (K.faults out.new) → result ≢ 5
-        → IsDemonstratedRun p log.new (K.taken out.old) (K.taken out.new) result }
+    // Over a file that is told, a verdict is right, and where nothing failed, there is one. A
+    // planted formula is searched, and its certificate judged.
+    ensures told { SolvesTold (state_of F.Files files.old) (state_of F.Files files.new)
+        (command_of (map string_bytes words.now)) log.new
+        (sink_of K.Sink out.old) (sink_of K.Sink out.new) result }
 
-    // Each answer has its cause, over all files and sinks.
-    ensures unknown { result ≡ 0 → steps_of log.new.entries ≡ log.new.limit }
-    ensures words { result ≡ 1 → command_of (map string_bytes words.now) ≡ None }
-    ensures source { result ≡ 3 → Rose (F.faults files.old) (F.faults files.new) }
-    ensures sink { result ≡ 4 → Rose (K.faults out.old) (K.faults out.new) }
-    ensures long { result ≡ 6 → max_formula < F.given files.new }
-
-    // No fault is passed over: where one was counted, its status comes, or a later cause's.
-    ensures unfaulted_files { result ≢ 3 → result ≢ 4 → result ≢ 5
-        → F.faults files.new ≡ F.faults files.old }
-    ensures unfaulted_sink { result ≢ 4 → K.faults out.new ≡ K.faults out.old }
-    ensures held { F.held files.new ≡ F.held files.old }
+    // Each refusal has its cause, and no fault is passed over, over all files and sinks.
+    ensures causes { HasCauses (command_of (map string_bytes words.now))
+        (state_of F.Files files.old) (state_of F.Files files.new)
+        (sink_of K.Sink out.old) (sink_of K.Sink out.new) result }
 {
     formula_or_first_fault();
-    let Ok(output) = report(alloc, words, files, log) else {
-        return Status::WantOfMemory.code();
-    };
-    match write_all(out, &output.text) {
-        Ok(()) => output.status.code(),
-        Err(_) => Status::SinkFault.code(),
-    }
+    let output = report(alloc, words, files, log);
+    deliver(out, output)
 }
 
 // What is to be written.
@@ -109,23 +79,19 @@ fn report<F: Files>(
     files: &mut F,
     log: &mut Log,
 ) -> Result<Output, Memory>
-    ensures due { IfOk result
-        (IsOutputDue (state_of F.Files files.old) (state_of F.Files files.new) log.new
-        (command_of (map string_bytes words.now))) }
+    ensures reported { IfOk result
+        (IsReported (state_of F.Files files.old) (state_of F.Files files.new)
+        (command_of (map string_bytes words.now)) log.new) }
     ensures log { IsRunLog (state_of F.Files files.old) (command_of (map string_bytes words.now))
         log.new }
     ensures limit { IfOk result (λ _. (c : Command)
         → command_of (map string_bytes words.now) ≡ Some c → log.new.limit ≡ steps_asked c) }
-    ensures long { IfOk result (λ output. code output.status ≡ 6
-        → max_formula < F.given files.new) }
-    ensures unfaulted { IfOk result (λ output. code output.status ≢ 3
-        → F.faults files.new ≡ F.faults files.old) }
     ensures held { F.held files.new ≡ F.held files.old }
 {
     numbers_are_in_range();
     log.rewind(0);
     match command_words(alloc, words)? {
-        None => usage_output(alloc),
+        None => outputs::usage(alloc, COMMANDS),
         Some(CommandWords::Solve(asked)) => report_file(alloc, asked, files, log),
         Some(CommandWords::Demo(asked)) => report_demo(alloc, asked, log),
     }
@@ -143,7 +109,7 @@ fn report_demo(alloc: Global, asked: DemoWords, log: &mut Log) -> Result<Output,
 {
     log.rewind(DEFAULT_STEPS);
     let f = planted_formula(alloc, asked.seed, asked.size)?;
-    demonstrate(alloc, asked, &f, log)
+    demo_output(alloc, asked, &f, log)
 }
 
 // What is to be written where the words name a file.
@@ -154,24 +120,18 @@ fn report_file<F: Files>(
     log: &mut Log,
 ) -> Result<Output, Memory>
     requires steps { asked.steps ≤ max_count }
-    ensures due { IfOk result
-        (IsOutputDue (state_of F.Files files.old) (state_of F.Files files.new) log.new
-        (Some (solve (search_of asked.entry)))) }
+    ensures reported { IfOk result
+        (IsReported (state_of F.Files files.old) (state_of F.Files files.new)
+        (Some (solve (search_of asked.entry))) log.new) }
     ensures log { IsRunLog (state_of F.Files files.old)
         (Some (solve (search_of asked.entry))) log.new }
     ensures limit { log.new.limit ≡ asked.entry.steps }
-    ensures long { IfOk result (λ output. code output.status ≡ 6
-        → max_formula < F.given files.new) }
-    ensures unfaulted { IfOk result (λ output. code output.status ≢ 3
-        → F.faults files.new ≡ F.faults files.old) }
     ensures held { F.held files.new ≡ F.held files.old }
 {
     log.rewind(asked.steps);
     match read_formula(alloc, files, asked.file) {
         Ok(formula) => solve(alloc, &formula, asked.bare, log),
         Err(FormulaStop::Memory) => Err(Memory),
-        Err(FormulaStop::Fault) => source_fault_output(alloc),
-        Err(FormulaStop::TooLong) => long_formula_output(alloc),
-        Err(FormulaStop::Refused { line, name }) => refused_output(alloc, line, name),
+        Err(FormulaStop::Said(said)) => said.output(alloc),
     }
 }

@@ -5,7 +5,8 @@
 #![tactic(auto)]
 
 use dq_io::{RealFiles, RealSink, command_words};
-use dqsolve_core::{Status, dqsolve_run};
+use dq_runs::Failure;
+use dqsolve_core::dqsolve_run;
 use hint_log::Log;
 use std::io;
 use std::process::ExitCode;
@@ -18,7 +19,7 @@ pub fn run(rt: &HostRuntime) -> ExitCode {
     let mut log = Log::new(rt.alloc(), 0);
     let status = match command_words(rt) {
         Ok(words) => dqsolve_run(rt.alloc(), &words, &mut files, &mut out, &mut log),
-        Err(error) if error.kind() == io::ErrorKind::OutOfMemory => Status::WantOfMemory.code(),
+        Err(error) if error.kind() == io::ErrorKind::OutOfMemory => Failure::WantOfMemory.code(),
         Err(_) => dqsolve_run(rt.alloc(), &[], &mut files, &mut out, &mut log),
     };
     ExitCode::from(status)

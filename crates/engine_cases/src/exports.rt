@@ -13,7 +13,7 @@ use cert_export::laws::productive_answers_can_be_exported;
 use cert_export::{clause_numbers, export_false};
 use cert_text::write_dqr;
 use dq_formula::Formula;
-use dqcheck_core::{Answer, judge};
+use cert_judge::{Answer, judge};
 use hint_log::Log;
 use oracle::Oracle;
 use repair_loop::{Verdict, decide};

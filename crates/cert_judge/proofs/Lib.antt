@@ -1,0 +1,5 @@
+pub mod Certificates
+pub mod CircuitAnswers
+pub mod Judgements
+pub mod Places
+pub mod Soundness

@@ -1,0 +1,21 @@
+use Rattle.cert_judge.proofs.Soundness.{accepted_circuit, accepted_is_true, accepted_is_false}
+use Rattle.cert_judge.proofs.laws.acceptance_is_sound.Goals as goal
+
+pub returns-clause-is_true : goal.returns-clause-is_true
+returns-clause-is_true c =
+    accepted_is_true (record {
+      skolem = c.tested_circuit_is_skolem.ensures;
+      is_true = c.skolem_circuit_shows_true.ensures;
+      proved = c.proved_circuit_is_skolem.ensures;
+    })
+
+pub returns-clause-is_false : goal.returns-clause-is_false
+returns-clause-is_false c = accepted_is_false c.refutation_shows_false.ensures
+
+pub returns-clause-circuit : goal.returns-clause-circuit
+returns-clause-circuit c =
+    accepted_circuit (record {
+      skolem = c.tested_circuit_is_skolem.ensures;
+      is_true = c.skolem_circuit_shows_true.ensures;
+      proved = c.proved_circuit_is_skolem.ensures;
+    })

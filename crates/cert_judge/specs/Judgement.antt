@@ -1,0 +1,166 @@
+-- What is to be said of a certificate: the first of its faults, or that it proves the formula true
+-- or false.
+use Rattle.std.specs.Prelude.{◌≡◌, ℕ, ◌+◌, ◌-◌, ◌<◌, ◌≤◌, ◌==◌, ◌⊎◌, Bool, false, List, [], ◌∷◌, length, take, drop, Option, None, Some, Result, Ok, Err, codes, if◌then◌else◌}
+use Rattle.std.specs.List.{filter, position}
+use Rattle.std.specs.Str.{bytes_eq}
+use Rattle.dq_lits.specs.Derivation.{ProofFault, underived, unfinished}
+use Rattle.dq_lits.specs.Formula.{Dqbf}
+use Rattle.circuit_plain.specs.Netlist.{Netlist}
+use Rattle.dq_text.specs.Line.{line_tokens}
+use Rattle.aiger_text.specs.FirstFault.{IsFirstFault}
+use Rattle.aiger_text.specs.Grammar.{SpellsCircuit}
+use Rattle.aiger_text.specs.Scan.{LineFault}
+use Rattle.aiger_text.specs.declared.files.AagFile.{AagFile}
+use Rattle.cert_text.specs.CircuitProof.{circuit_proof_of}
+use Rattle.cert_text.specs.Kind.{certificate_kind}
+use Rattle.cert_text.specs.Scan.{refutation_of}
+use Rattle.cert_text.specs.declared.circuit_proofs.Dqp.{Dqp}
+use Rattle.cert_text.specs.declared.faults.CertRefusal.{CertRefusal}
+use Rattle.cert_text.specs.declared.kinds.Kind.{Kind}
+use Rattle.cert_text.specs.declared.kinds.Kind.TheVariants.{Circuit as CircuitText, Refutation}
+use Rattle.cert_text.specs.declared.refutations.Dqr.{Dqr}
+use Rattle.proof_checker.specs.CircuitProof.{circuit_proof_fault}
+use Rattle.refutation_checker.specs.Refutation.{refutation_fault}
+use Rattle.skolem_checker.specs.Checks.{Candidate, candidate_of, IsReadsAnswer, IsRowsAnswer}
+use Rattle.skolem_checker.specs.SkolemCircuit.{MappedCircuit, ReadsUniversal, IsSkolemCircuit}
+use Rattle.skolem_checker.specs.declared.mapping.MapError.{MapError}
+use Rattle.skolem_checker.specs.declared.mapping.MapPlace.{MapPlace}
+use Rattle.skolem_checker.specs.declared.mapping.MapPlace.TheVariants.{Whole, Input, Output}
+use Rattle.cert_judge.specs.declared.answers.Answer.{Answer}
+use Rattle.cert_judge.specs.declared.answers.Answer.TheVariants.{Refused, UndeclaredRead, BadRow, Unproved, UnderivedStep, NoEmptyClause, ValidTrue, ValidFalse}
+use Rattle.cert_judge.specs.declared.answers.CertificateFault.TheVariants.{Text, Circuit, Mapping}
+
+abbrev pub begins_with : List ℕ → List (List ℕ) → Bool
+begins_with word [] = false
+begins_with word (token ∷ _) = bytes_eq token word
+
+-- the bytes before the first LF
+abbrev pub first_line : List ℕ → List ℕ
+first_line bytes = until (position (λ byte. byte == 10) bytes) bytes
+  where
+    until : Option ℕ → List ℕ → List ℕ
+    until None bytes = bytes
+    until (Some end) bytes = take end bytes
+
+abbrev pub line_ends : List ℕ → ℕ
+line_ends bytes = length (filter (λ byte. byte == 10) bytes)
+
+-- the number of the first line of a comment, which ends a text of so many line ends whose first
+-- line has the number h
+abbrev pub comment_line : ℕ → ℕ → List ℕ → ℕ
+comment_line h ends comment = h + (ends - line_ends comment)
+
+-- a comment is a proof where its first line begins one
+abbrev pub begins_proof : List ℕ → Bool
+begins_proof comment = begins_with (codes "dqp") (line_tokens (first_line comment))
+
+abbrev pub as_proof : Result Dqp CertRefusal → Result (Option Dqp) CertRefusal
+as_proof (Ok d) = Ok (Some d)
+as_proof (Err refusal) = Err refusal
+
+-- the proof in a circuit's comment, if it begins one, or the first fault of that proof's text
+abbrev pub proof_in : Dqbf → ℕ → ℕ → Netlist → Option (List ℕ) → Result (Option Dqp) CertRefusal
+proof_in f h ends net None = Ok None
+proof_in f h ends net (Some comment) =
+    if begins_proof comment
+    then as_proof (circuit_proof_of f net comment (comment_line h ends comment)) else Ok None
+
+-- the line of a fault of the mapping: the header is line h, then follow the inputs' lines and then
+-- the outputs'
+abbrev pub mapping_line : ℕ → Netlist → MapPlace → ℕ
+mapping_line h net Whole = h
+mapping_line h net (Input place) = h + 1 + place
+mapping_line h net (Output place) = h + 1 + length net.inputs + place
+
+-- rows are tried one by one for at most so many universals
+abbrev pub max_row_universals : ℕ
+max_row_universals = 20
+
+-- the verdict where a derivation has no fault, and else the fault
+abbrev pub answer_of_derivation : Answer → Option ProofFault → Answer
+answer_of_derivation verdict None = verdict
+answer_of_derivation verdict (Some (underived id)) = UnderivedStep id
+answer_of_derivation verdict (Some unfinished) = NoEmptyClause
+
+-- first the number of universals, then the rows
+abbrev pub IsTestedByRows : Dqbf → MappedCircuit → Answer → Type 0
+IsTestedByRows f c (Unproved n) = (max_row_universals < n) × (n ≡ length f.universals)
+IsTestedByRows f c (BadRow k) =
+    (length f.universals ≤ max_row_universals) × IsRowsAnswer f c (Err k)
+IsTestedByRows f c ValidTrue = (length f.universals ≤ max_row_universals) × IsRowsAnswer f c (Ok tt)
+IsTestedByRows f c _ = ⊥
+
+-- by its proof, or by its rows where it has none
+abbrev pub IsTestedBy : Option Dqp → Candidate → Answer → Type 0
+IsTestedBy (Some d) c answer =
+    answer ≡ answer_of_derivation ValidTrue (circuit_proof_fault c d.steps)
+IsTestedBy None c answer = IsTestedByRows c.formula c.circuit answer
+
+-- an output reads a universal that its existential may not see
+pub record HasUndeclaredRead (c : Candidate) (answer : Answer) : Type 0 where
+  pub existential : ℕ
+  pub universal : ℕ
+  pub first : IsReadsAnswer (ReadsUniversal c.circuit) c.formula (Err (existential, universal))
+  pub is : answer ≡ UndeclaredRead existential universal
+
+pub record PassesReads (proof : Option Dqp) (c : Candidate) (answer : Answer) : Type 0 where
+  pub reads : IsReadsAnswer (ReadsUniversal c.circuit) c.formula (Ok tt)
+  pub tested : IsTestedBy proof c answer
+
+-- what the tests of a mapped circuit say: first its reads, then its proof or its rows
+abbrev pub IsTested : Option Dqp → Candidate → Answer → Type 0
+IsTested proof c answer = HasUndeclaredRead c answer ⊎ PassesReads proof c answer
+
+abbrev pub BehindMapping : ℕ → Netlist → Option Dqp → Result Candidate MapError → Answer → Type 0
+BehindMapping h net proof (Err fault) answer =
+    answer ≡ Refused (mapping_line h net fault.at) (Mapping fault.name)
+BehindMapping h net proof (Ok c) answer = IsTested proof c answer
+
+abbrev pub BehindProof : ℕ → Netlist → Result (Option Dqp) CertRefusal → Result Candidate MapError
+    → Answer → Type 0
+BehindProof h net (Err refusal) mapped answer = answer ≡ Refused refusal.line (Text refusal.name)
+BehindProof h net (Ok proof) mapped answer = BehindMapping h net proof mapped answer
+
+-- the text of a proof in the comment comes first, then the mapping, then the tests
+abbrev pub IsCircuitJudgement : Dqbf → ℕ → List ℕ → AagFile → Answer → Type 0
+IsCircuitJudgement f h text file answer =
+    BehindProof h file.circuit (proof_in f h (line_ends text) file.circuit file.comment)
+    (candidate_of f file.circuit file.symbols) answer
+
+-- the text, whose first line has the number h, isn't a circuit file
+pub record IsCircuitRefusal (h : ℕ) (text : List ℕ) (answer : Answer) : Type 0 where
+  pub fault : LineFault
+  pub is_first : IsFirstFault text h fault
+  pub is : answer ≡ Refused fault.line (Circuit fault.name)
+
+-- the text spells a circuit file
+pub record IsCircuitAnswer (f : Dqbf) (h : ℕ) (text : List ℕ) (answer : Answer) : Type 0 where
+  pub file : AagFile
+  pub spelled : SpellsCircuit text file
+  pub is : IsCircuitJudgement f h text file answer
+
+-- the first fault of a refutation's text, and then of its derivation
+abbrev pub answer_of_refutation : Dqbf → Result Dqr CertRefusal → Answer
+answer_of_refutation f (Ok d) = answer_of_derivation ValidFalse (refutation_fault f d)
+answer_of_refutation f (Err refusal) = Refused refusal.line (Text refusal.name)
+
+-- by the kind of the certificate, and where its header line begins
+abbrev pub IsJudgementOf : Dqbf → List ℕ → Result Kind CertRefusal → Answer → Type 0
+IsJudgementOf f text (Ok (CircuitText at h)) answer =
+    IsCircuitRefusal h (drop at text) answer ⊎ IsCircuitAnswer f h (drop at text) answer
+IsJudgementOf f text (Ok (Refutation at h)) answer =
+    answer ≡ answer_of_refutation f (refutation_of f (drop at text) h)
+IsJudgementOf f text (Err refusal) answer = answer ≡ Refused refusal.line (Text refusal.name)
+
+abbrev pub IsJudgement : Dqbf → List ℕ → Answer → Type 0
+IsJudgement f text answer = IsJudgementOf f text (certificate_kind text) answer
+
+-- the text is a circuit's by its first lines, and spells behind these one that is made of Skolem
+-- functions
+pub record HoldsSkolemCircuit (f : Dqbf) (text : List ℕ) : Type 0 where
+  pub at : ℕ
+  pub header_line : ℕ
+  pub kind : certificate_kind text ≡ Ok (CircuitText at header_line)
+  pub file : AagFile
+  pub spelled : SpellsCircuit (drop at text) file
+  pub skolem : IsSkolemCircuit f file.circuit file.symbols

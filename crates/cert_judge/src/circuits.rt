@@ -1,0 +1,309 @@
+//! Judging a circuit: its text, the text of its proof, its mapping, its reads, and then its proof
+//! or its rows.
+
+ghost use Rattle.std.specs.Prelude.{◌≡◌, ◌==◌, ◌+◌, ◌<◌, ◌≤◌, ◌^◌, ◌⊎◌, length, drop, Option, IfOk, IfSome};
+ghost use Rattle.std.specs.List.{position};
+ghost use Rattle.dq_lits.specs.Formula.{IsWellFormed};
+ghost use Rattle.dq_text.specs.Line.{line_tokens};
+ghost use Rattle.cert_text.specs.Lines.{IsReading};
+ghost use Rattle.cert_text.specs.ProofGrammar.{IsDqpOf};
+ghost use Rattle.proof_checker.specs.CircuitProof.{circuit_proof_fault};
+ghost use Rattle.skolem_checker.specs.Checks.{candidate_of};
+ghost use Rattle.skolem_checker.specs.Mapping.{IsAtPlace};
+ghost use Rattle.skolem_checker.specs.SkolemCircuit.{IsComplete};
+ghost use Rattle.cert_judge.specs.Judgement.{begins_with, first_line, begins_proof, line_ends, comment_line, proof_in, mapping_line, answer_of_derivation, IsTestedByRows, IsTestedBy, IsTested, BehindMapping, BehindProof, IsCircuitRefusal, IsCircuitAnswer};
+ghost use Rattle.cert_judge.specs.Places.{HasFewLines, AnswersStop};
+ghost use Rattle.cert_judge.specs.declared.answers.Answer.TheVariants.{ValidTrue};
+
+use crate::answers::{Answer, CertificateFault, refused};
+use aiger_text::{AagFile, AagStop};
+use cert_text::{CertStop, Dqp, read_dqp};
+use circuit_plain::Circuit;
+use dq_formula::Formula;
+use dq_lits::Memory;
+use dq_text::LineTokens;
+use proof_checker::{ProofFault, by_proof};
+use skolem_checker::laws::mapping_faults_have_places;
+use skolem_checker::{Bench, BenchStop, MapPlace};
+use std::alloc::Global;
+
+/// The most universals of which all rows are tried.
+const MAX_ROW_UNIVERSALS: usize = 20;
+
+// How many bytes are counted at a time: their count fits a byte, so that many are counted side by
+// side.
+const BLOCK: usize = 240;
+
+/// Judges a circuit, whose header line begins at a place of the text and has the number `first`.
+pub fn judge_circuit(
+    alloc: Global,
+    f: &Formula,
+    first: u64,
+    text: Vec<u8>,
+    at: usize,
+) -> Result<Answer, Memory>
+    requires well_formed { IsWellFormed f.now }
+    requires fits { first + length text.items < 2 ^ 62 }
+    requires inside { at ≤ length text.items }
+    ensures { IfOk result
+        (λ answer. IsCircuitRefusal first (drop at text.items) answer
+        ⊎ IsCircuitAnswer f.now first (drop at text.items) answer) }
+{
+    let bytes = bytes_from(&text, at);
+    let ends = line_ends(bytes);
+    let read = aiger_text::read(alloc, bytes, first);
+    drop(text);
+    match read {
+        Ok(read) => judge_file(alloc, f, first, ends, read.file),
+        Err(stop) => stopped(stop),
+    }
+}
+
+// The answer where the reading of a circuit file stopped.
+fn stopped(stop: AagStop) -> Result<Answer, Memory>
+    ensures { IfOk result (AnswersStop stop) }
+{
+    match stop {
+        AagStop::Refused { line, name } => Ok(refused(line, CertificateFault::Circuit(name))),
+        AagStop::Memory => Err(Memory),
+    }
+}
+
+fn bytes_from(text: &[u8], at: usize) -> &[u8]
+    requires { at ≤ length text.now }
+    ensures { result.now ≡ drop at text.now }
+{
+    &text[at..]
+}
+
+// Whether the text's first token is this word.
+fn begins_with(text: &[u8], word: &[u8]) -> bool
+    ensures { result ≡ begins_with word.now (line_tokens text.now) }
+{
+    match LineTokens::new(text).next() {
+        Some(token) => token == word,
+        None => false,
+    }
+}
+
+fn first_line_end(bytes: &[u8]) -> Option<usize>
+    ensures { result ≡ position (λ byte. byte == 10) bytes.now }
+{
+    bytes.iter().position(|byte| *byte == b'\n')
+}
+
+fn first_line(bytes: &[u8]) -> &[u8]
+    ensures { result.now ≡ first_line bytes.now }
+{
+    match first_line_end(bytes) {
+        Some(end) => &bytes[..end],
+        None => bytes,
+    }
+}
+
+fn begins_proof(comment: &[u8]) -> bool
+    ensures { result ≡ begins_proof comment.now }
+{
+    begins_with(first_line(comment), b"dqp")
+}
+
+fn line_ends(bytes: &[u8]) -> usize
+    ensures is { result ≡ line_ends bytes.now }
+    ensures bound { result ≤ length bytes.now }
+{
+    let mut count = 0;
+    let mut rest = bytes;
+    while rest.len() > BLOCK {
+        let (block, behind) = rest.split_at(BLOCK);
+        count += usize::from(block_ends(block));
+        rest = behind;
+    }
+    count + usize::from(block_ends(rest))
+}
+
+// The same of a block.
+fn block_ends(block: &[u8]) -> u8
+    requires { length block.now ≤ 240 }
+    ensures is { result ≡ line_ends block.now }
+    ensures bound { result ≤ length block.now }
+{
+    let mut count = 0;
+    for byte in block {
+        count += u8::from(*byte == b'\n');
+    }
+    count
+}
+
+// The number of the first line of a comment, which ends a text of so many line ends.
+fn comment_line(first: u64, ends: usize, comment: &[u8]) -> u64
+    requires { first + ends < 2 ^ 62 }
+    ensures is { result ≡ comment_line first ends comment.now }
+    ensures small { result < 2 ^ 62 }
+{
+    first + ends.saturating_sub(line_ends(comment)) as u64
+}
+
+// The proof in the circuit's comment, if it begins one. The comment ends a text of so many line
+// ends.
+fn read_proof(
+    alloc: Global,
+    f: &Formula,
+    first: u64,
+    ends: usize,
+    file: &AagFile,
+) -> Result<Option<Dqp>, CertStop>
+    requires { first + ends < 2 ^ 62 }
+    ensures reading { IsReading (proof_in f.now first ends file.now.circuit file.now.comment)
+        result }
+    ensures allowed { IfOk result (λ proof. IfSome proof (IsDqpOf f.now file.now.circuit)) }
+{
+    let Some(comment) = &file.comment else {
+        return Ok(None);
+    };
+    let comment = comment.items();
+    if !begins_proof(comment) {
+        return Ok(None);
+    }
+    let line = comment_line(first, ends, comment);
+    Ok(Some(read_dqp(alloc, comment, line, f, &file.circuit)?))
+}
+
+// The line of an input or an output, or of the header.
+fn mapping_line(header: u64, circuit: &Circuit, at: MapPlace) -> u64
+    requires fits { header < 2 ^ 62 }
+    requires there { IsAtPlace circuit.now at }
+    requires few { HasFewLines circuit.now }
+    ensures { result ≡ mapping_line header circuit.now at }
+{
+    match at {
+        MapPlace::Whole => header,
+        MapPlace::Input(place) => header + 1 + place as u64,
+        MapPlace::Output(place) => header + 1 + circuit.inputs().len() as u64 + place as u64,
+    }
+}
+
+// Judges a circuit file that was read from a text of so many line ends. Its comment is let go once
+// the proof was read.
+fn judge_file(
+    alloc: Global,
+    f: &Formula,
+    first: u64,
+    ends: usize,
+    mut file: AagFile,
+) -> Result<Answer, Memory>
+    requires well_formed { IsWellFormed f.now }
+    requires fits { first + ends < 2 ^ 62 }
+    requires complete { IsComplete file.circuit }
+    requires few { HasFewLines file.circuit }
+    ensures { IfOk result
+        (BehindProof first file.circuit (proof_in f.now first ends file.circuit file.comment)
+        (candidate_of f.now file.circuit file.symbols)) }
+{
+    let read = read_proof(alloc, f, first, ends, &file);
+    file.comment = None;
+    match read {
+        Ok(proof) => judge_mapped(alloc, f, first, &file, &proof),
+        Err(CertStop::Refused(refusal)) => {
+            Ok(refused(refusal.line, CertificateFault::Text(refusal.name)))
+        }
+        Err(CertStop::Memory) => Err(Memory),
+    }
+}
+
+// Judges a circuit file whose proof, if it has one, was read.
+fn judge_mapped(
+    alloc: Global,
+    f: &Formula,
+    first: u64,
+    file: &AagFile,
+    proof: &Option<Dqp>,
+) -> Result<Answer, Memory>
+    requires well_formed { IsWellFormed f.now }
+    requires fits { first < 2 ^ 62 }
+    requires complete { IsComplete file.now.circuit }
+    requires few { HasFewLines file.now.circuit }
+    requires lawful { IfSome proof.now (IsDqpOf f.now file.now.circuit) }
+    ensures { IfOk result
+        (BehindMapping first file.now.circuit proof.now
+        (candidate_of f.now file.now.circuit file.now.symbols)) }
+{
+    match Bench::new(alloc, f, file) {
+        Ok(mut bench) => judge_reads(alloc, f, &mut bench, proof),
+        Err(BenchStop::Map(fault)) => {
+            mapping_faults_have_places();
+            let line = mapping_line(first, &file.circuit, fault.at);
+            Ok(refused(line, CertificateFault::Mapping(fault.name)))
+        }
+        Err(BenchStop::Memory) => Err(Memory),
+    }
+}
+
+// Judges a mapped circuit: what it reads, and then its values.
+fn judge_reads(
+    alloc: Global,
+    f: &Formula,
+    bench: &mut Bench,
+    proof: &Option<Dqp>,
+) -> Result<Answer, Memory>
+    requires formula { bench.old.formula ≡ f.now }
+    requires few { HasFewLines bench.old.circuit.netlist }
+    requires lawful { IfSome proof.now (IsDqpOf bench.old.formula bench.old.circuit.netlist) }
+    ensures { IfOk result (IsTested proof.now bench.old) }
+{
+    match bench.reads_ok() {
+        Ok(()) => judge_values(alloc, f, bench, proof),
+        Err((existential, universal)) => Ok(Answer::UndeclaredRead {
+            existential,
+            universal,
+        }),
+    }
+}
+
+// Judges the values of a circuit that reads declared universals alone, by its proof or by rows.
+fn judge_values(
+    alloc: Global,
+    f: &Formula,
+    bench: &mut Bench,
+    proof: &Option<Dqp>,
+) -> Result<Answer, Memory>
+    requires formula { bench.old.formula ≡ f.now }
+    requires few { HasFewLines bench.old.circuit.netlist }
+    requires lawful { IfSome proof.now (IsDqpOf bench.old.formula bench.old.circuit.netlist) }
+    ensures { IfOk result (IsTestedBy proof.now bench.old) }
+{
+    match proof {
+        Some(proof) => judge_proof(alloc, bench, proof),
+        None => Ok(judge_rows(f, bench)),
+    }
+}
+
+// Judges the proof that a circuit has.
+fn judge_proof(alloc: Global, bench: &Bench, proof: &Dqp) -> Result<Answer, Memory>
+    requires few { HasFewLines bench.now.circuit.netlist }
+    requires lawful { IsDqpOf bench.now.formula bench.now.circuit.netlist proof.now }
+    ensures { IfOk result
+        (λ answer. answer
+        ≡ answer_of_derivation ValidTrue (circuit_proof_fault bench.now proof.now.steps)) }
+{
+    match by_proof(alloc, bench, proof) {
+        Ok(()) => Ok(Answer::ValidTrue),
+        Err(ProofFault::Step(id)) => Ok(Answer::UnderivedStep { id }),
+        Err(ProofFault::NoEmptyClause) => Ok(Answer::NoEmptyClause),
+        Err(ProofFault::Memory) => Err(Memory),
+    }
+}
+
+// Tries the rows of a circuit that has no proof.
+fn judge_rows(f: &Formula, bench: &mut Bench) -> Answer
+    requires { bench.old.formula ≡ f.now }
+    ensures { IsTestedByRows bench.old.formula bench.old.circuit result }
+{
+    let universals = f.universals().len();
+    if universals > MAX_ROW_UNIVERSALS {
+        return Answer::Unproved { universals };
+    }
+    match bench.by_all_rows() {
+        Ok(()) => Answer::ValidTrue,
+        Err(number) => Answer::BadRow { number },
+    }
+}

@@ -1,0 +1,37 @@
+//! What the definitions of this crate give. A law is the contract of a function without parameters:
+//! who calls it may use what it ensures.
+
+ghost use Rattle.std.specs.Prelude.{◌≡◌, ℕ, List};
+ghost use Rattle.dq_lits.specs.Formula.{Dqbf, IsWellFormed};
+ghost use Rattle.dq_lits.specs.Henkin.{IsTrueFormula, IsFalseFormula};
+ghost use Rattle.cert_judge.specs.Judgement.{IsJudgement, HoldsSkolemCircuit};
+ghost use Rattle.cert_judge.specs.declared.answers.Answer.{Answer};
+ghost use Rattle.cert_judge.specs.declared.answers.Answer.TheVariants.{ValidTrue, ValidFalse};
+
+use aiger_text::laws::circuit_or_first_fault;
+use proof_checker::laws::proved_circuit_is_skolem;
+use refutation_checker::laws::refutation_shows_false;
+use skolem_checker::laws::{skolem_circuit_shows_true, tested_circuit_is_skolem};
+
+/// Only one thing is to be said of a certificate.
+pub fn one_judgement()
+    ensures { (f : Dqbf) (text : List ℕ) (a b : Answer) → IsJudgement f text a
+        → IsJudgement f text b → a ≡ b }
+{
+    circuit_or_first_fault();
+}
+
+/// An accepted certificate proves the verdict that is said of it.
+pub fn acceptance_is_sound()
+    ensures is_true { (f : Dqbf) (text : List ℕ) → IsWellFormed f → IsJudgement f text ValidTrue
+        → IsTrueFormula f }
+    ensures circuit { (f : Dqbf) (text : List ℕ) → IsWellFormed f → IsJudgement f text ValidTrue
+        → HoldsSkolemCircuit f text }
+    ensures is_false { (f : Dqbf) (text : List ℕ) → IsWellFormed f → IsJudgement f text ValidFalse
+        → IsFalseFormula f }
+{
+    refutation_shows_false();
+    proved_circuit_is_skolem();
+    tested_circuit_is_skolem();
+    skolem_circuit_shows_true();
+}

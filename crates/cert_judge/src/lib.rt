@@ -1,0 +1,14 @@
+//! The judgement of a certificate: whether it proves a formula true or false, and what is wrong with
+//! it first where it doesn't.
+//!
+//! `judge` judges a text for a formula that was read. The laws in `laws` say that only one thing is
+//! to be said of a certificate, and that what is accepted is right.
+#![tactic(auto)]
+
+pub use answers::{Answer, CertificateFault};
+pub use judging::judge;
+
+mod answers;
+mod circuits;
+mod judging;
+pub mod laws;

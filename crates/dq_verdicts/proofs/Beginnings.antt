@@ -1,0 +1,111 @@
+-- How the texts begin that are written, and what kind the checker takes them for.
+use Rattle.std.proofs.Common.{◌≡◌, ◌⊎◌, inl, inr, ◌∙◌, ◌+◌, ◌-◌, ◌==◌, ℕ, suc, Bool, cond, true, false, refl, sym, ap, subst, arith, List, [], ◌∷◌, ◌++◌, length, take, Option, Some, None, Result, Ok, codes}
+use Rattle.std.specs.Prelude.{nat_lt}
+use Rattle.std.specs.List.{position, position_or_len}
+use Rattle.std.proofs.lemmas.List.{length-append}
+use Rattle.dq_text.specs.Line.{TextLine, extend_line, line_tokens, lines_from}
+use Rattle.cert_text.specs.Kind.{certificate_kind, kind_of_lines, kind_at, kind_behind, agreeing, stated_verdict}
+use Rattle.cert_text.specs.declared.faults.CertRefusal.{CertRefusal}
+use Rattle.cert_text.specs.declared.kinds.Kind.{Kind}
+use Rattle.cert_text.specs.declared.kinds.Kind.TheVariants.{Circuit, Refutation}
+use Rattle.cert_text.specs.declared.kinds.Verdict.TheVariants.{True, False}
+use Rattle.cert_judge.specs.Judgement.{begins_with, begins_proof}
+use Rattle.dq_runs.specs.Printed.{line}
+
+-- where the header line stands behind the line with a verdict of so many bytes, or without one
+abbrev pub header_at : Bool → ℕ → ℕ
+header_at bare bytes = cond bare 0 bytes
+
+abbrev pub header_number : Bool → ℕ
+header_number bare = cond bare 1 2
+
+less : (bytes k n : ℕ) → bytes ≡ k + n → bytes - n ≡ k
+less bytes k n whole = omega (arith, whole)
+
+-- ---- circuits
+
+circuit_verdict : (rest : List (List ℕ)) → stated_verdict (codes "aag" ∷ rest) ≡ None
+circuit_verdict [] = refl
+circuit_verdict (_ ∷ []) = refl
+circuit_verdict (_ ∷ _ ∷ _) = refl
+
+abbrev circuit_lines : ℕ → List TextLine → List TextLine
+circuit_lines n lines = extend_line 97 n (extend_line 97 n (extend_line 103 n (extend_line 32 n lines)))
+
+circuit_header : (at n : ℕ) (lines : List TextLine) → kind_at at (circuit_lines n lines) ≡ Ok (Circuit at n)
+circuit_header at n [] = refl
+circuit_header at n (l ∷ ls) = refl
+
+abbrev kind_of_first : ℕ → List TextLine → Result Kind CertRefusal
+kind_of_first bytes lines = kind_of_lines bytes lines
+
+circuit_alone : (bytes : ℕ) (lines : List TextLine) → kind_of_first bytes (circuit_lines 1 lines) ≡ Ok (Circuit 0 1)
+circuit_alone bytes [] = refl
+circuit_alone bytes (l ∷ ls) =
+    ap (kind_behind bytes (record { text = 97 ∷ 97 ∷ 103 ∷ 32 ∷ l.text; number = 1; behind = l.behind }) ls) (circuit_verdict (line_tokens (32 ∷ l.text)))
+
+circuit_behind : (bytes : ℕ) (text : List ℕ) (lines : List TextLine) → bytes ≡ 7 + length text → agreeing True (kind_at (bytes - length text) (circuit_lines 2 lines)) ≡ Ok (Circuit 7 2)
+circuit_behind bytes text lines whole =
+    ap (λ at. agreeing True (kind_at at (circuit_lines 2 lines))) (less bytes 7 (length text) whole) ∙ ap (agreeing True) (circuit_header 7 2 lines)
+
+pub circuit_kind : (bare : Bool) (rest : List ℕ) → certificate_kind ((cond bare [] (line (codes "s TRUE"))) ++ (codes "aag " ++ rest)) ≡ Ok (Circuit (header_at bare 7) (header_number bare))
+circuit_kind true rest = circuit_alone (length (codes "aag " ++ rest)) (lines_from 1 rest)
+circuit_kind false rest = circuit_behind (length (line (codes "s TRUE") ++ (codes "aag " ++ rest))) (codes "aag " ++ rest) (lines_from 2 rest)
+    (length-append (line (codes "s TRUE")) (codes "aag " ++ rest))
+
+-- ---- refutations
+
+refutation_verdict : (rest : List (List ℕ)) → stated_verdict (codes "p" ∷ rest) ≡ None
+refutation_verdict [] = refl
+refutation_verdict (_ ∷ []) = refl
+refutation_verdict (_ ∷ _ ∷ _) = refl
+
+abbrev refutation_lines : ℕ → List TextLine → List TextLine
+refutation_lines n lines = extend_line 112 n (extend_line 32 n lines)
+
+refutation_header : (at n : ℕ) (lines : List TextLine) → kind_at at (refutation_lines n lines) ≡ Ok (Refutation at n)
+refutation_header at n [] = refl
+refutation_header at n (l ∷ ls) = refl
+
+refutation_alone : (bytes : ℕ) (lines : List TextLine) → kind_of_first bytes (refutation_lines 1 lines) ≡ Ok (Refutation 0 1)
+refutation_alone bytes [] = refl
+refutation_alone bytes (l ∷ ls) =
+    ap (kind_behind bytes (record { text = 112 ∷ 32 ∷ l.text; number = 1; behind = l.behind }) ls) (refutation_verdict (line_tokens (32 ∷ l.text)))
+
+refutation_behind : (bytes : ℕ) (text : List ℕ) (lines : List TextLine) → bytes ≡ 8 + length text → agreeing False (kind_at (bytes - length text) (refutation_lines 2 lines)) ≡ Ok (Refutation 8 2)
+refutation_behind bytes text lines whole =
+    ap (λ at. agreeing False (kind_at at (refutation_lines 2 lines))) (less bytes 8 (length text) whole) ∙ ap (agreeing False) (refutation_header 8 2 lines)
+
+pub refutation_kind : (bare : Bool) (rest : List ℕ) → certificate_kind ((cond bare [] (line (codes "s FALSE"))) ++ (codes "p " ++ rest)) ≡ Ok (Refutation (header_at bare 8) (header_number bare))
+refutation_kind true rest = refutation_alone (length (codes "p " ++ rest)) (lines_from 1 rest)
+refutation_kind false rest = refutation_behind (length (line (codes "s FALSE") ++ (codes "p " ++ rest))) (codes "p " ++ rest) (lines_from 2 rest)
+    (length-append (line (codes "s FALSE")) (codes "p " ++ rest))
+
+-- ---- proofs in comments
+
+abbrev is_feed : ℕ → Bool
+is_feed byte = byte == 10
+
+abbrev cut_at : Option ℕ → List ℕ → List ℕ
+cut_at None bytes = bytes
+cut_at (Some end) bytes = take end bytes
+
+-- a line that is cut behind its first four bytes
+abbrev IsLaterCut : Option ℕ → Type 0
+IsLaterCut o = (o ≡ None) ⊎ ((end : ℕ) × (o ≡ Some (suc (suc (suc (suc end))))))
+
+begins_cut : (rest : List ℕ) (o : Option ℕ) → IsLaterCut o → begins_with (codes "dqp") (line_tokens (cut_at o (codes "dqp " ++ rest))) ≡ true
+begins_cut rest o (inl none) = subst (λ c. begins_with (codes "dqp") (line_tokens (cut_at c (codes "dqp " ++ rest))) ≡ true) (sym none) refl
+begins_cut rest o (inr (end, some)) = subst (λ c. begins_with (codes "dqp") (line_tokens (cut_at c (codes "dqp " ++ rest))) ≡ true) (sym some) refl
+
+later_cut : (found : Bool) (place end : ℕ) → place ≡ suc (suc (suc (suc end))) → IsLaterCut (cond found (Some place) None)
+later_cut true place end is = inr (end, ap Some is)
+later_cut false place end is = inl refl
+
+four_behind : (end : ℕ) → 1 + (1 + (1 + (1 + end))) ≡ suc (suc (suc (suc end)))
+four_behind end = omega arith
+
+pub proof_begins : (rest : List ℕ) → begins_proof (codes "dqp " ++ rest) ≡ true
+proof_begins rest = begins_cut rest (position is_feed (codes "dqp " ++ rest))
+    (later_cut (nat_lt (position_or_len is_feed (codes "dqp " ++ rest)) (length (codes "dqp " ++ rest))) (position_or_len is_feed (codes "dqp " ++ rest))
+    (position_or_len is_feed rest) (four_behind (position_or_len is_feed rest)))

@@ -1,0 +1,49 @@
+-- What small logs give is within the formats' limits.
+use Rattle.std.proofs.Common.{◌+◌, ◌≤◌, ℕ, Bool, cond, true, false, arith, List, [], ◌∷◌, map, length, eqb-true}
+use Rattle.std.proofs.lemmas.Bool.Decides.{Decides-eqb}
+use Rattle.std.proofs.lemmas.List.{length-append}
+use Rattle.std.proofs.lemmas.List.Elements.{All-contains}
+use Rattle.std.proofs.lemmas.Map.Made.{IsDistinct-from_AllPairs}
+use Rattle.std.proofs.lemmas.Map.Steps.{length-le_from_distinct_below}
+use Rattle.std.proofs.lemmas.Map.Views.{Contains-from_any}
+use Rattle.dq_lits.specs.Formula.{Dqbf, Existential, HasLawfulPrefix, declared}
+use Rattle.hint_log.specs.Entries.{Entry, count}
+use Rattle.cert_export.specs.ExportedCircuit.{is_gate_name}
+use Rattle.cert_export.specs.Lines.{is_lemma}
+use Rattle.dq_verdicts.specs.Accepted.{SmallLogsAreWithinLimits}
+
+one_more : (few all : ℕ) (b : Bool) → few ≤ all → cond b (few + 1) few ≤ all + 1
+one_more few all true less = omega (arith, less)
+one_more few all false less = omega (arith, less)
+
+-- some of the entries are no more than all
+pub count_few : (test : Entry → Bool) (entries : List Entry) → count test entries ≤ length entries
+count_few test [] = omega arith
+count_few test (e ∷ earlier) =
+    let more = one_more (count test earlier) (length earlier) (test e) (count_few test earlier) in
+    omega (arith, more)
+
+-- what is declared once and in range is no more than there are numbers
+declared_few : (f : Dqbf) → HasLawfulPrefix f → length (declared f) ≤ f.variables + 1
+declared_few f prefix =
+    length-le_from_distinct_below (declared f) (f.variables + 1) (IsDistinct-from_AllPairs Decides-eqb (declared f) prefix.declared_once)
+    (λ q found.
+    let (from, to) = All-contains (λ v. (1 ≤ v) × (v ≤ f.variables)) (declared f) q prefix.in_range (Contains-from_any (λ x y same. eqb-true x y same) q (declared f) found) in
+    omega (arith, to))
+
+universals_few : (f : Dqbf) → HasLawfulPrefix f → length f.universals ≤ f.variables + 1
+universals_few f prefix =
+    let all = declared_few f prefix in
+    let both = length-append f.universals (map (λ (y : Existential). y.variable) f.existentials) in
+    omega (arith, all, both)
+
+pub small_within : SmallLogsAreWithinLimits
+small_within f entries file proof lawful gates numbers lines small =
+    let few_gates = count_few is_gate_name entries in
+    let few_lines = count_few is_lemma entries in
+    let few = universals_few f lawful.prefix in
+    let variables = lawful.few_variables in
+    record {
+      variables = omega (arith, gates, numbers, few_gates, few, variables, small);
+      steps = omega (arith, lines, few_lines, small);
+    }

@@ -1,0 +1,4 @@
+pub mod AcceptedTexts
+pub mod Beginnings
+pub mod Counts
+pub mod ShownVerdicts

@@ -1,0 +1,121 @@
+-- From what the search and the exports answer to a verdict's output.
+use Rattle.std.proofs.Common.{◌≡◌, ◌∙◌, ◌+◌, ◌-◌, ◌≤◌, ℕ, Bool, sym, ap, subst, arith, List, length, None, Result, Ok, Err}
+use Rattle.std.specs.List.{range_with_len}
+use Rattle.dq_lits.specs.Expansion.{IsExpansionUnsatisfiable}
+use Rattle.dq_lits.specs.Formula.{Dqbf}
+use Rattle.dq_lits.specs.Henkin.{IsTrueFormula, IsFalseFormula}
+use Rattle.dq_formula.specs.Prefix.{IsLawful}
+use Rattle.aig_graph.specs.declared.nodes.Node.{Node}
+use Rattle.aig_graph.specs.Graph.{AigGraph}
+use Rattle.circuit_cnf.specs.Shown.{ShownOutputsDecide}
+use Rattle.hint_log.specs.Deciding.{IsUndecided}
+use Rattle.hint_log.specs.Entries.{Entry, ProofLog, count, rounds_of, steps_of}
+use Rattle.hint_log.specs.Naming.{rows_of}
+use Rattle.hint_log.specs.ProductiveLog.{IsProductiveLog}
+use Rattle.hint_log.specs.Reached.{AreReached}
+use Rattle.hint_log.specs.declared.stops.Stop.{Stop}
+use Rattle.aiger_text.specs.declared.files.AagFile.{AagFile}
+use Rattle.cert_text.specs.Grammar.{IsDqrOf}
+use Rattle.cert_text.specs.Header.{max_count}
+use Rattle.cert_text.specs.ProofGrammar.{IsDqpOf}
+use Rattle.cert_text.specs.declared.circuit_proofs.Dqp.{Dqp}
+use Rattle.cert_text.specs.declared.refutations.Dqr.{Dqr}
+use Rattle.cert_export.specs.Exportable.{AreExportedSteps}
+use Rattle.cert_export.specs.ExportedCircuit.{IsDecidedTrue, IsNumberedFile, IsWritable, is_gate_name}
+use Rattle.cert_export.specs.Lines.{is_lemma}
+use Rattle.cert_export.specs.Parts.{IsExportedCircuit}
+use Rattle.proof_checker.specs.ProvedCircuit.{IsProvedCircuit}
+use Rattle.refutation_checker.specs.Refutation.{refutation_fault}
+use Rattle.repair_loop.specs.Searching.{IsShownTrue as IsFoundTrue, IsShownFalse as IsFoundFalse}
+use Rattle.repair_loop.specs.Stopping.{IsStoppedAtLimit}
+use Rattle.dq_verdicts.specs.Accepted.{ProvedCircuitsAreAccepted, RefutationsAreAccepted, SmallLogsAreWithinLimits}
+use Rattle.dq_verdicts.specs.Outputs.{IsVerdictOutput}
+use Rattle.dq_verdicts.specs.Verdicts.{Verdict, is_unknown, verdict_text, verdict_status, printed_verdict}
+use Rattle.dq_verdicts.specs.Shown.{IsShownTrue, IsShownFalse, few_entries}
+use Rattle.dq_verdicts.specs.declared.verdicts.Decision.{Decision}
+use Rattle.dq_verdicts.specs.declared.verdicts.Decision.TheVariants.{Shown, Refuted}
+use Rattle.dq_runs.specs.Printed.{Printed, printed}
+use Rattle.dq_runs.specs.declared.outputs.Output.{Output}
+use Rattle.dq_verdicts.proofs.Counts.{count_few}
+
+abbrev decided_id : Result Decision Stop → ℕ
+decided_id (Ok (Shown id)) = id
+decided_id (Ok (Refuted id)) = id
+decided_id (Err _) = 0
+
+pub same_shown : (id other : ℕ) → ◌≡◌ {A = Result Decision Stop} (Ok (Shown id)) (Ok (Shown other)) → id ≡ other
+same_shown id other same = ap decided_id same
+
+pub same_refuted : (id other : ℕ) → ◌≡◌ {A = Result Decision Stop} (Ok (Refuted id)) (Ok (Refuted other)) → id ≡ other
+same_refuted id other same = ap decided_id same
+
+-- the loop's last answer decides that the formula is true
+pub decided : ShownOutputsDecide → (f : Dqbf) (graph : AigGraph) (nodes : List Node) (log : ProofLog) (id : ℕ) → IsFoundTrue f graph nodes log id → IsDecidedTrue f log.entries id
+decided law f graph nodes log id s = record {
+  clause = s.shown.clause;
+  hints = s.shown.hints;
+  earlier = s.shown.earlier;
+  answered = s.shown.answered;
+  last = s.shown.last;
+  decides = law f graph nodes s.shown.earlier s.shown.clause s.shown.hints s.shown.shows s.functions.reads_declared;
+}
+
+-- what the export of a circuit gives
+pub record IsWrittenCircuit (f : Dqbf) (entries : List Entry) (id : ℕ) (file : AagFile) (proof : Dqp) : Type 0 where
+  pub proved : IsProvedCircuit f file proof
+  pub gates : length file.circuit.gates ≤ count is_gate_name entries
+  pub numbers : IsNumberedFile f file
+  pub few : length proof.steps ≤ count is_lemma entries
+  pub spelled : IsWritable file
+  pub allowed : length proof.steps ≤ max_count → IsDqpOf f file.circuit proof
+  pub exported : (ids : List ℕ) × IsExportedCircuit f entries id ids file proof
+
+pub shown_true : ProvedCircuitsAreAccepted → SmallLogsAreWithinLimits → (f : Dqbf) (log : ProofLog) (id : ℕ) (bare : Bool) (file : AagFile) (proof : Dqp)
+    → IsLawful f → IsTrueFormula f → IsDecidedTrue f log.entries id → IsWrittenCircuit f log.entries id file proof → IsShownTrue f f log bare file proof
+shown_true accepted within f log id bare file proof lawful is_so decided e = record {
+  true_formula = is_so;
+  circuit = e.proved;
+  answered = (id, decided);
+  exported = λ _. record { id = id; decided = decided; ids = e.exported.0; exported = e.exported.1; circuit = e.proved; numbers = e.numbers };
+  accepted = accepted f file proof bare e.proved e.spelled e.allowed;
+  within = λ _. within f log.entries file proof lawful e.gates e.numbers.max_var e.few;
+}
+
+-- what the export of a refutation gives
+pub record IsWrittenRefutation (f : Dqbf) (entries : List Entry) (id : ℕ) (d : Dqr) : Type 0 where
+  pub rows : d.rows ≡ rows_of entries
+  pub accepted : refutation_fault f d ≡ None
+  pub few : length d.steps ≤ count is_lemma entries
+  pub spelled : length d.steps ≤ max_count → IsDqrOf f d
+  pub lines : (ids : List ℕ) × AreReached entries id ids × AreExportedSteps f (range_with_len 1 (length f.matrix)) entries ids d.steps
+
+few_lines : (entries : List Entry) (steps : ℕ) → steps ≤ count is_lemma entries → length entries ≤ few_entries → steps ≤ max_count
+few_lines entries steps few small = let all = count_few is_lemma entries in omega (arith, few, small, all)
+
+pub shown_false : RefutationsAreAccepted → (f : Dqbf) (log : ProofLog) (id : ℕ) (bare : Bool) (d : Dqr)
+    → IsLawful f → IsFalseFormula f → IsFoundFalse f log id → IsWrittenRefutation f log.entries id d → IsShownFalse f f log bare d
+shown_false accepted f log id bare d lawful is_so found e = record {
+  false_formula = is_so;
+  unsatisfiable = subst (IsExpansionUnsatisfiable f) (sym e.rows) found.unsatisfiable;
+  refutes = e.accepted;
+  exported = λ _. record { id = id; refuted = found.shown; ids = e.lines.0; reached = e.lines.1; lines = e.lines.2; rows = e.rows };
+  accepted = λ few. accepted f d bare lawful (e.spelled few) e.accepted;
+  within = λ _. few_lines log.entries (length d.steps) e.few;
+}
+
+-- a verdict's status with a text
+pub written : Verdict → List ℕ → Printed
+written verdict text = record { status = verdict_status verdict; text = text }
+
+-- where the limit came first
+pub unknown : (f : Dqbf) (log : ProofLog) (bare : Bool) (rounds steps : ℕ) (output : Output) → IsProductiveLog f log.entries → IsUndecided f log.entries
+    → IsStoppedAtLimit f log → rounds_of log.entries ≤ steps_of log.entries → rounds ≡ rounds_of log.entries → steps ≡ steps_of log.entries
+    → output.status ≡ 0 → output.text.items ≡ verdict_text bare f (is_unknown rounds (steps - rounds)) → IsVerdictOutput f log bare output
+unknown f log bare rounds steps output productive undecided stopped fewer rounds_are steps_are status text = record {
+  verdict = is_unknown rounds (steps - rounds);
+  is = record {
+    productive = productive;
+    shown = record { limit = stopped.reached; next = stopped.next; undecided = undecided; rounds_are = rounds_are; steps_are = omega (arith, fewer, rounds_are, steps_are) };
+  };
+  is_printed = ap (λ s. record { status = s; text = output.text.items }) status ∙ ap (written (is_unknown rounds (steps - rounds))) text;
+}

@@ -1,0 +1,5 @@
+use Rattle.dq_verdicts.proofs.AcceptedTexts.{refutations_accepted}
+use Rattle.dq_verdicts.proofs.laws.refutations_are_accepted.Goals as goal
+
+pub returns : goal.returns
+returns c = refutations_accepted c.canonical_text_spells.ensures.reads_back

@@ -1,0 +1,29 @@
+use Rattle.std.proofs.Common.{◌∙◌, ◌++◌, refl, sym, subst, ap, cond, [], codes}
+use Rattle.cert_export.specs.Exportable.{AreExportedSteps}
+use Rattle.cert_export.specs.Exported.{CanExportFalse}
+use Rattle.dq_runs.specs.Printed.{line}
+use Rattle.dq_verdicts.specs.Verdicts.{is_false}
+use Rattle.dq_verdicts.proofs.ShownVerdicts.{shown_false, written}
+use Rattle.dq_verdicts.proofs.verdicts.false_output.Goals as goal
+
+pub export_false-requires-clause-refuted : goal.export_false-requires-clause-refuted
+export_false-requires-clause-refuted c =
+    let f = c.args.f.now in
+    let entries = c.args.log.now.entries in
+    subst (λ live. CanExportFalse f live entries c.args.id) (sym (c.deref.ensures.value ∙ c.in_ok-numbers.ensures))
+    ((c.productive_answers_can_be_exported.ensures f entries c.args.id c.every_log_is_lawful.ensures c.requires.productive).1 c.requires.refuted.shown)
+
+pub returns : goal.returns
+returns c =
+    let exported = c.in_ok-refutation.ensures in
+    record {
+      verdict = is_false c.in_ok-refutation.refutation;
+      is = record {
+        productive = c.requires.productive;
+        shown = shown_false c.refutations_are_accepted.ensures c.args.f.now c.args.log.now c.args.id c.args.bare c.in_ok-refutation.refutation c.every_formula_is_lawful.ensures
+            (c.refutation_shows_false.ensures c.args.f.now c.in_ok-refutation.refutation c.requires.formula exported.accepted) c.requires.refuted
+            (record { rows = exported.rows; accepted = exported.accepted; few = exported.few; spelled = exported.spelled; lines = (exported.lines.0, exported.lines.1, subst (λ live. AreExportedSteps c.args.f.now live c.args.log.now.entries exported.lines.0 c.in_ok-refutation.refutation.steps) (c.deref.ensures.value ∙ c.in_ok-numbers.ensures) exported.lines.2) });
+      };
+      is_printed = ap (written (is_false c.in_ok-refutation.refutation))
+          (c.in_ok-text.ensures ∙ ap (λ evidence. cond c.args.bare [] (line (codes "s FALSE")) ++ evidence) c.in_ok-evidence.ensures.canonical);
+    }

@@ -1,0 +1,5 @@
+pub mod Accepted
+pub mod Outputs
+pub mod Shown
+pub mod Statuses
+pub mod Verdicts

@@ -1,0 +1,130 @@
+-- What is shown by what is written with a verdict, and by the search's log.
+use Rattle.std.specs.Prelude.{◌≡◌, ℕ, ◌+◌, ◌<◌, ◌≤◌, Bool, false, List, length, None}
+use Rattle.std.specs.List.{range_with_len}
+use Rattle.dq_lits.specs.Expansion.{IsExpansionUnsatisfiable}
+use Rattle.dq_lits.specs.Formula.{Dqbf}
+use Rattle.dq_lits.specs.Henkin.{IsTrueFormula, IsFalseFormula}
+use Rattle.hint_log.specs.Deciding.{IsUndecided}
+use Rattle.hint_log.specs.Entries.{ProofLog, rounds_of, steps_of}
+use Rattle.hint_log.specs.Naming.{rows_of}
+use Rattle.hint_log.specs.ProductiveLog.{IsProductiveLog}
+use Rattle.hint_log.specs.Reached.{AreReached}
+use Rattle.aiger_text.specs.declared.files.AagFile.{AagFile}
+use Rattle.cert_text.specs.Header.{max_count}
+use Rattle.cert_text.specs.declared.circuit_proofs.Dqp.{Dqp}
+use Rattle.cert_text.specs.declared.refutations.Dqr.{Dqr}
+use Rattle.expansion.specs.Table.{IsRefutedBy}
+use Rattle.cert_export.specs.Exportable.{AreExportedSteps}
+use Rattle.cert_export.specs.ExportedCircuit.{IsDecidedTrue, IsNumberedFile}
+use Rattle.cert_export.specs.Parts.{IsExportedCircuit}
+use Rattle.proof_checker.specs.ProvedCircuit.{IsProvedCircuit}
+use Rattle.refutation_checker.specs.Refutation.{refutation_fault}
+use Rattle.repair_loop.specs.Stopping.{HasNextStep}
+use Rattle.cert_judge.specs.Judgement.{IsJudgement}
+use Rattle.cert_judge.specs.declared.answers.Answer.TheVariants.{ValidTrue, ValidFalse}
+use Rattle.dq_verdicts.specs.declared.demonstrations.Demonstration.{Demonstration}
+use Rattle.dq_verdicts.specs.declared.demonstrations.Demonstration.TheVariants.{Valid, Large, CutOff}
+use Rattle.dq_verdicts.specs.Verdicts.{Verdict, is_true, is_false, is_unknown, verdict_text}
+
+-- with at most so many entries in the log, what is written is within the formats' limits
+abbrev pub few_entries : ℕ
+few_entries = 400000000
+
+-- the numbers of a circuit and its proof are within the formats' limits; the others are no greater
+-- than these
+pub record IsWithinLimits (file : AagFile) (proof : Dqp) : Type 0 where
+  pub variables : file.circuit.max_var ≤ max_count
+  pub steps : length proof.steps ≤ max_count
+
+-- An answer of the log decides that the formula which was searched is true, and the circuit with its
+-- proof is what is exported of it.
+pub record IsExportedOf (searched : Dqbf) (log : ProofLog) (file : AagFile)
+    (proof : Dqp) : Type 0 where
+  pub id : ℕ
+  pub decided : IsDecidedTrue searched log.entries id
+  pub ids : List ℕ
+  pub exported : IsExportedCircuit searched log.entries id ids file proof
+  pub circuit : IsProvedCircuit searched file proof
+  pub numbers : IsNumberedFile searched file
+
+-- The circuit has Skolem functions, its proof shows it, and the checker accepts what is written
+-- where it is within the formats' limits. The formula that is decided may be another than the one
+-- that was searched; where it is the same, what is written is exported of the log.
+pub record IsShownTrue (decided searched : Dqbf) (log : ProofLog) (bare : Bool) (file : AagFile)
+    (proof : Dqp) : Type 0 where
+  pub true_formula : IsTrueFormula decided
+  pub circuit : IsProvedCircuit decided file proof
+  pub answered : (id : ℕ) × IsDecidedTrue searched log.entries id
+  pub exported : decided ≡ searched → IsExportedOf searched log file proof
+  pub accepted : IsWithinLimits file proof
+      → IsJudgement decided (verdict_text bare decided (is_true file proof)) ValidTrue
+  pub within : decided ≡ searched → length log.entries ≤ few_entries → IsWithinLimits file proof
+
+-- An answer of the log rests on instances of the searched formula alone, and the refutation is what
+-- is exported of it, under the rounds' rows.
+pub record IsRefutationOf (searched : Dqbf) (log : ProofLog) (d : Dqr) : Type 0 where
+  pub id : ℕ
+  pub refuted : IsRefutedBy log.entries id
+  pub ids : List ℕ
+  pub reached : AreReached log.entries id ids
+  pub lines : AreExportedSteps searched (range_with_len 1 (length searched.matrix)) log.entries
+      ids d.steps
+  pub rows : d.rows ≡ rows_of log.entries
+
+-- The instances under the refutation's rows have no model, the refutation shows it, and the checker
+-- accepts what is written where it is within the formats' limits.
+pub record IsShownFalse (decided searched : Dqbf) (log : ProofLog) (bare : Bool)
+    (d : Dqr) : Type 0 where
+  pub false_formula : IsFalseFormula decided
+  pub unsatisfiable : IsExpansionUnsatisfiable decided d.rows
+  pub refutes : refutation_fault decided d ≡ None
+  pub exported : decided ≡ searched → IsRefutationOf searched log d
+  pub accepted : length d.steps ≤ max_count
+      → IsJudgement decided (verdict_text bare decided (is_false d)) ValidFalse
+  pub within : decided ≡ searched → length log.entries ≤ few_entries → length d.steps ≤ max_count
+
+-- all steps were done, each productive, the next one is in hand, and no answer decides the formula
+pub record IsLimitReached (f : Dqbf) (log : ProofLog) (rounds learned : ℕ) : Type 0 where
+  pub limit : steps_of log.entries ≡ log.limit
+  pub next : HasNextStep f log.entries
+  pub undecided : IsUndecided f log.entries
+  pub rounds_are : rounds ≡ rounds_of log.entries
+  pub steps_are : rounds + learned ≡ steps_of log.entries
+
+abbrev pub IsShown : Dqbf → Dqbf → ProofLog → Bool → Verdict → Type 0
+IsShown decided searched log bare (is_true file proof) =
+    IsShownTrue decided searched log bare file proof
+IsShown decided searched log bare (is_false d) = IsShownFalse decided searched log bare d
+IsShown decided searched log bare (is_unknown rounds learned) =
+    IsLimitReached searched log rounds learned
+
+-- a verdict on a formula, which a log of productive work on the formula that was searched shows
+pub record IsVerdict (decided searched : Dqbf) (log : ProofLog) (bare : Bool)
+    (verdict : Verdict) : Type 0 where
+  pub productive : IsProductiveLog searched log.entries
+  pub shown : IsShown decided searched log bare verdict
+
+-- the checker accepts the text
+pub record IsDemonstratedValid (f : Dqbf) (log : ProofLog) : Type 0 where
+  pub file : AagFile
+  pub proof : Dqp
+  pub exported : IsExportedOf f log file proof
+  pub accepted : IsJudgement f (verdict_text false f (is_true file proof)) ValidTrue
+
+-- the log is long, and circuit and proof are beyond the formats' limits
+pub record IsDemonstratedLarge (f : Dqbf) (log : ProofLog) : Type 0 where
+  pub file : AagFile
+  pub proof : Dqp
+  pub exported : IsExportedOf f log file proof
+  pub many : few_entries < length log.entries
+  pub beyond : IsWithinLimits file proof → ⊥
+
+pub record IsCutOff (f : Dqbf) (log : ProofLog) : Type 0 where
+  pub limit : steps_of log.entries ≡ log.limit
+  pub next : HasNextStep f log.entries
+  pub undecided : IsUndecided f log.entries
+
+abbrev pub IsDemonstrated : Dqbf → ProofLog → Demonstration → Type 0
+IsDemonstrated f log Valid = IsDemonstratedValid f log
+IsDemonstrated f log Large = IsDemonstratedLarge f log
+IsDemonstrated f log CutOff = IsCutOff f log

@@ -1,7 +1,0 @@
-use Rattle.std.proofs.Common.{sym, subst}
-use Rattle.dq_lits.specs.Henkin.{IsTrueFormula}
-use Rattle.dqsolve_core.proofs.demonstrations.demonstrate.Goals as goal
-
-pub shown_of-requires-clause-is_true : goal.shown_of-requires-clause-is_true
-shown_of-requires-clause-is_true c =
-    subst IsTrueFormula (sym c.requires.planted) (c.planted_formulas_are_true.ensures c.args.asked.seed c.args.asked.size c.requires.some)

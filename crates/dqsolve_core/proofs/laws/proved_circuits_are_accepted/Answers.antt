@@ -1,5 +1,0 @@
-use Rattle.dqsolve_core.proofs.AcceptedTexts.{circuits_accepted}
-use Rattle.dqsolve_core.proofs.laws.proved_circuits_are_accepted.Goals as goal
-
-pub returns : goal.returns
-returns c = circuits_accepted c.canonical_text_spells.ensures.spells c.canonical_proof_spells.ensures.reads_back

@@ -1,0 +1,98 @@
+#!/usr/bin/env python3
+"""Writes the lists of crates in README.md and docs/ARCHITECTURE.md, or tells where they differ.
+
+The crates and what they stand on come from crates.txt, whose comments `# HEAD: what it is` part it
+into layers; what a crate does is the first paragraph of its lib.rt or main.rt. The lists stand
+between the lines `<!-- crates -->` and `<!-- end of crates -->`.
+
+Usage, from the repository's root:  tools/crates.py [--check]
+"""
+import pathlib
+import sys
+import textwrap
+
+ROOT = pathlib.Path(__file__).resolve().parent.parent
+BEGIN, END = "<!-- crates -->\n", "<!-- end of crates -->\n"
+WIDTH = 118
+
+
+def layers():
+    """The layers of crates.txt: a head, what it is, and its crates with what each stands on."""
+    found = []
+    for line in (ROOT / "crates.txt").read_text().splitlines():
+        if line.startswith("# ") and ": " in line and line[2].isupper() and not line.startswith("# NAME"):
+            head, text = line[2:].split(": ", 1)
+            found.append((head, text, []))
+        elif line and not line.startswith("#"):
+            name, below = line.split(":", 1)
+            found[-1][2].append((name, below.split()))
+    return found
+
+
+def does(name):
+    """What a crate does: the first paragraph of its root file."""
+    source = ROOT / "crates" / name / "src"
+    root = source / "lib.rt" if (source / "lib.rt").exists() else source / "main.rt"
+    words = []
+    for line in root.read_text().splitlines():
+        if not line.startswith("//! "):
+            break
+        words += line[4:].split()
+    return " ".join(words)
+
+
+def depths(crates):
+    """How many crates of the repository stand below each one in its longest chain."""
+    below, depth = dict(crates), {}
+
+    def depth_of(name):
+        if name not in depth:
+            depth[name] = 1 + max((depth_of(it) for it in below[name] if it in below), default=-1)
+        return depth[name]
+
+    return {name: depth_of(name) for name in below}
+
+
+def readme():
+    """A row for each layer."""
+    rows = [f"| {head} | {text} | {', '.join(name for name, _ in crates)} |" for head, text, crates in layers()]
+    return "\n".join(["| | | |", "|---|---|---|", *rows]) + "\n"
+
+
+def architecture():
+    """Each layer's crates, with what each does and stands on, and how long the chain below it is."""
+    all_crates = [crate for _, _, crates in layers() for crate in crates]
+    depth, ours, lines = depths(all_crates), dict(all_crates), []
+    for head, text, crates in layers():
+        lines += ["", f"{head}: {text}", ""]
+        for name, below in crates:
+            over = ", ".join(it for it in below if it in ours) or "nothing here"
+            kit = ", ".join(it for it in below if it not in ours)
+            stands = f"Over {over}" + (f"; of the kit {kit}" if kit else "") + "."
+            said = f"{does(name)} {stands}"
+            first = f"    {depth[name]:2} {name:22}"
+            lines += textwrap.wrap(said, WIDTH, initial_indent=first, subsequent_indent=" " * len(first), break_on_hyphens=False)
+    return "\n".join(lines[1:]) + "\n"
+
+
+def main():
+    check, differ = sys.argv[1:] == ["--check"], False
+    if sys.argv[1:] not in ([], ["--check"]):
+        sys.exit(__doc__)
+    for name, text in (("README.md", readme()), ("docs/ARCHITECTURE.md", architecture())):
+        path = ROOT / name
+        old = path.read_text()
+        if BEGIN not in old or END not in old:
+            sys.exit(f"crates.py: {name} has no place for its list of crates")
+        front, rest = old.split(BEGIN, 1)
+        new = front + BEGIN + "\n" + text + "\n" + END + rest.split(END, 1)[1]
+        if new != old:
+            differ = True
+            print(f"crates.py: {name} {'differs' if check else 'is written anew'}")
+            if not check:
+                path.write_text(new)
+    sys.exit(1 if check and differ else 0)
+
+
+if __name__ == "__main__":
+    main()
