@@ -54,7 +54,7 @@ impl Triple {
 // clause reads it, as it does a half: no contract speaks of what is in these maps.
 pub(crate) type Thirds = BTreeMap<((u64, bool), (u64, bool)), u32>;
 
-type Halves = BTreeMap<(u64, bool), Half>;
+pub(crate) type Halves = BTreeMap<(u64, bool), Half>;
 
 /// The choice that the clauses on an output say it to be.
 pub(crate) fn find_choice(alloc: Global, output: &Output) -> Result<Option<Choice>, Memory>
@@ -62,10 +62,17 @@ pub(crate) fn find_choice(alloc: Global, output: &Output) -> Result<Option<Choic
         → IfOk result (λ found. IfSome found (IsChoice output.now.f.now output.now.ranks.now e)) }
 {
     let thirds = thirds_of(alloc, output, Lit::neg(output.y))?;
+    first_choice(alloc, output, &thirds)
+}
+
+fn first_choice(alloc: Global, output: &Output, thirds: &Thirds) -> Result<Option<Choice>, Memory>
+    ensures { (e : Existential) → existential_of output.now.f.now output.now.y ≡ Some e
+        → IfOk result (λ found. IfSome found (IsChoice output.now.f.now output.now.ranks.now e)) }
+{
     let mut halves = BTreeMap::new(alloc);
     for number in output.numbers {
         if let Some(triple) = triple_at(output.f, *number, Lit::pos(output.y)) {
-            let found = choice_by(output, &triple, &thirds, &mut halves)?;
+            let found = choice_by(output, &triple, thirds, &mut halves)?;
             if found.is_some() {
                 return Ok(found);
             }

@@ -34,21 +34,37 @@ pub(crate) struct Coverage {
 }
 
 impl Coverage {
-    /// Before any existential is placed.
-    pub(crate) fn new(alloc: Global, f: &Formula, leaders: Vec<usize>) -> Result<Coverage, Memory> {
-        let count = leaders.len();
-        let ties = all_ties(alloc, f, &leaders, &sights(alloc, f)?)?;
-        let mut coverage = Coverage {
+    /// No row is counted yet; existentials of the same leader have the same dependency set.
+    pub(crate) fn none(alloc: Global, leaders: Vec<usize>) -> Coverage {
+        Coverage {
             leaders,
-            ties,
-            rows: vec![in alloc; 0usize; count]?,
-            tried: vec![in alloc; 0usize; count]?,
-            tries: vec![in alloc; MOST_TRIES; count]?,
-        };
-        for number in 0..f.clauses() {
-            coverage.count_last(f, number, &[]);
+            ties: Vec::new(alloc),
+            rows: Vec::new(alloc),
+            tried: Vec::new(alloc),
+            tries: Vec::new(alloc),
         }
-        Ok(coverage)
+    }
+
+    /// Counts the rows that are decided before any existential is placed.
+    pub(crate) fn count_all(&mut self, alloc: Global, f: &Formula) -> Result<(), Memory> {
+        let count = self.leaders.len();
+        self.rows.resize(count, 0)?;
+        self.tried.resize(count, 0)?;
+        self.tries.resize(count, MOST_TRIES)?;
+        self.put_ties(alloc, f)?;
+        for number in 0..f.clauses() {
+            self.count_last(f, number, &[]);
+        }
+        Ok(())
+    }
+
+    fn put_ties(&mut self, alloc: Global, f: &Formula) -> Result<(), Memory> {
+        let sights = sights(alloc, f)?;
+        for number in 0..f.clauses() {
+            let ties = ties_of(f, f.clause(number), &self.leaders, &sights);
+            self.ties.push(ties)?;
+        }
+        Ok(())
     }
 
     /// Notes that an existential of a clause was placed, and answers the one that is left, if all
@@ -147,19 +163,6 @@ fn sight(f: &Formula, place: usize) -> usize
 {
     f.every_formula_is_lawful();
     f.seen(f.existentials()[place]).len()
-}
-
-fn all_ties(
-    alloc: Global,
-    f: &Formula,
-    leaders: &[usize],
-    sights: &[usize],
-) -> Result<Vec<Ties>, Memory> {
-    let mut ties = Vec::new(alloc);
-    for number in 0..f.clauses() {
-        ties.push(ties_of(f, f.clause(number), leaders, sights))?;
-    }
-    Ok(ties)
 }
 
 fn ties_of(f: &Formula, clause: &[Lit], leaders: &[usize], sights: &[usize]) -> Ties {

@@ -61,11 +61,23 @@ impl Gates {
     /// looked for anew where the clauses decide twice as many rows; the only error is want of
     /// memory.
     pub fn ranks(&self, f: &Formula) -> Result<Vec<usize>, Memory> {
+        let mut placing = Placing::new(self.alloc, f, &self.index, self.wires(f)?);
+        placing.place_all()?;
+        Ok(placing.ranks)
+    }
+
+    // The gates that the clauses may state.
+    fn wires(&self, f: &Formula) -> Result<Wires, Memory> {
         let mut wires = Wires::new(self.alloc, f.set_leaders(self.alloc)?)?;
+        self.put_each(f, &mut wires)?;
+        Ok(wires)
+    }
+
+    fn put_each(&self, f: &Formula, wires: &mut Wires) -> Result<(), Memory> {
         for place in 0..f.existentials().len() {
-            self.put_wires(f, place, &mut wires)?;
+            self.put_wires(f, place, wires)?;
         }
-        Placing::new(self.alloc, f, &self.index, wires)?.ranks()
+        Ok(())
     }
 
     // Puts the gates whose output stands at a place.

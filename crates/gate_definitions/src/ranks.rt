@@ -25,7 +25,7 @@ pub(crate) struct Placing<'f> {
     is_placed: Vec<bool>,
     order: Vec<usize>,
     // Of each existential that is placed, its number in that order; the greatest number of others.
-    ranks: Vec<usize>,
+    pub(crate) ranks: Vec<usize>,
     // Existentials that may have a table since more of their clauses' variables are placed.
     late: Vec<usize>,
     // All before it are placed or fixed, and all before the other one are placed.
@@ -34,39 +34,36 @@ pub(crate) struct Placing<'f> {
 }
 
 impl<'f> Placing<'f> {
+    /// None is placed yet.
     pub(crate) fn new(
         alloc: Global,
         f: &'f Formula,
         index: &'f Index,
         wires: Wires,
-    ) -> Result<Placing<'f>, Memory> {
-        let count = wires.is_fixed.len();
-        let mut uses = wires.uses;
-        uses.sort_unstable();
-        let mut ends = counts(alloc, &uses, count)?;
-        add_up(&mut ends);
-        Ok(Placing {
+    ) -> Placing<'f> {
+        Placing {
             alloc,
             f,
             index,
             gates: wires.gates,
-            uses,
-            ends,
+            uses: wires.uses,
+            ends: Vec::new(alloc),
             is_fixed: wires.is_fixed,
-            coverage: Coverage::new(alloc, f, wires.leaders)?,
-            is_placed: vec![in alloc; false; count]?,
+            coverage: Coverage::none(alloc, wires.leaders),
+            is_placed: Vec::new(alloc),
             order: Vec::new(alloc),
-            ranks: vec![in alloc; usize::MAX; count]?,
+            ranks: Vec::new(alloc),
             late: Vec::new(alloc),
             next: 0,
             next_fixed: 0,
-        })
+        }
     }
 
     /// Places all existentials: the output of a gate as soon as all its inputs are placed, or it has
     /// a table over what is placed, and where no gate has that, the first one by declaration that
     /// isn't fixed, else the first one. The rank of each is its number in that order.
-    pub(crate) fn ranks(mut self) -> Result<Vec<usize>, Memory> {
+    pub(crate) fn place_all(&mut self) -> Result<(), Memory> {
+        self.prepare()?;
         self.place_ready()?;
         self.place_tables()?;
         for at in 0..self.is_placed.len() {
@@ -78,7 +75,18 @@ impl<'f> Placing<'f> {
             }
             self.release(at)?;
         }
-        Ok(self.ranks)
+        Ok(())
+    }
+
+    fn prepare(&mut self) -> Result<(), Memory> {
+        let count = self.is_fixed.len();
+        self.uses.sort_unstable();
+        self.ends.resize(count, 0)?;
+        count_all(&self.uses, &mut self.ends);
+        add_up(&mut self.ends);
+        self.is_placed.resize(count, false)?;
+        self.ranks.resize(count, usize::MAX)?;
+        self.coverage.count_all(self.alloc, self.f)
     }
 
     // Places the outputs of gates all of whose inputs come before them whichever way ties go.
@@ -247,13 +255,11 @@ impl<'f> Placing<'f> {
     }
 }
 
-// How many gates use each existential.
-fn counts(alloc: Global, uses: &[(usize, usize)], count: usize) -> Result<Vec<usize>, Memory> {
-    let mut counts = vec![in alloc; 0usize; count]?;
+// Counts how many gates use each existential.
+fn count_all(uses: &[(usize, usize)], counts: &mut [usize]) {
     for (input, _) in uses {
         if *input < counts.len() {
             counts[*input] = counts[*input].saturating_add(1);
         }
     }
-    Ok(counts)
 }

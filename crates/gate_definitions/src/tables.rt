@@ -47,11 +47,45 @@ type Candidates = BTreeMap<u64, Candidate>;
 impl Table {
     /// The table over the variables of most weight, the heaviest first.
     pub(crate) fn new(alloc: Global, output: &Output) -> Result<Table, Memory> {
-        let mut candidates = candidates_of(alloc, output)?;
+        let mut table = Table {
+            inputs: Vec::new(alloc),
+            lines: Vec::new(alloc),
+        };
+        table.choose_inputs(alloc, output)?;
+        table.take_lines(output)?;
+        Ok(table)
+    }
+
+    // Takes the heaviest variables as inputs.
+    fn choose_inputs(&mut self, alloc: Global, output: &Output) -> Result<(), Memory> {
+        let mut candidates = BTreeMap::new(alloc);
+        note_each(output, &mut candidates)?;
         weigh_all(output, &mut candidates);
-        let inputs = heaviest(alloc, &candidates)?;
-        let lines = lines_over(alloc, output, &inputs)?;
-        Ok(Table { inputs, lines })
+        self.choose_among(alloc, &candidates)
+    }
+
+    fn choose_among(&mut self, alloc: Global, candidates: &Candidates) -> Result<(), Memory> {
+        let mut order = Vec::new(alloc);
+        put_weights(candidates, &mut order)?;
+        order.sort_unstable();
+        for (_, v) in order.iter().take(MOST_INPUTS) {
+            if let Some(candidate) = candidates.get(v) {
+                self.inputs.push(candidate.positive)?;
+            }
+        }
+        Ok(())
+    }
+
+    // Takes the clauses over the inputs.
+    fn take_lines(&mut self, output: &Output) -> Result<(), Memory> {
+        for number in output.numbers {
+            if let Some(clause) = short_clause(output.f, *number) {
+                if let Some(line) = line_over(output, *number, clause, &self.inputs) {
+                    self.lines.push(line)?;
+                }
+            }
+        }
+        Ok(())
     }
 
     /// Whether the lines decide as many rows as there are, were each row decided by one line.
@@ -96,15 +130,14 @@ fn short_clause(f: &Formula, number: u32) -> Option<&[Lit]> {
     }
 }
 
-// Each variable beside the output in a short clause, without weight.
-fn candidates_of(alloc: Global, output: &Output) -> Result<Candidates, Memory> {
-    let mut candidates = BTreeMap::new(alloc);
+// Notes each variable beside the output in a short clause, without weight.
+fn note_each(output: &Output, candidates: &mut Candidates) -> Result<(), Memory> {
     for number in output.numbers {
         if let Some(clause) = short_clause(output.f, *number) {
-            note_all(output, clause, &mut candidates)?;
+            note_all(output, clause, candidates)?;
         }
     }
-    Ok(candidates)
+    Ok(())
 }
 
 fn note_all(output: &Output, clause: &[Lit], candidates: &mut Candidates) -> Result<(), Memory> {
@@ -151,33 +184,14 @@ fn weigh(clause: &[Lit], candidates: &mut Candidates) {
     }
 }
 
-fn heaviest(alloc: Global, candidates: &Candidates) -> Result<Vec<Lit>, Memory> {
-    let mut order = Vec::new(alloc);
+// The variables that have some weight, each behind what sorts the heaviest first.
+fn put_weights(candidates: &Candidates, order: &mut Vec<(usize, u64)>) -> Result<(), Memory> {
     for (v, candidate) in candidates {
         if candidate.weight > 0 {
             order.push((usize::MAX - candidate.weight, *v))?;
         }
     }
-    order.sort_unstable();
-    let mut inputs = Vec::new(alloc);
-    for (_, v) in order.iter().take(MOST_INPUTS) {
-        if let Some(candidate) = candidates.get(v) {
-            inputs.push(candidate.positive)?;
-        }
-    }
-    Ok(inputs)
-}
-
-fn lines_over(alloc: Global, output: &Output, inputs: &[Lit]) -> Result<Vec<Line>, Memory> {
-    let mut lines = Vec::new(alloc);
-    for number in output.numbers {
-        if let Some(clause) = short_clause(output.f, *number) {
-            if let Some(line) = line_over(output, *number, clause, inputs) {
-                lines.push(line)?;
-            }
-        }
-    }
-    Ok(lines)
+    Ok(())
 }
 
 fn line_over(output: &Output, number: u32, clause: &[Lit], inputs: &[Lit]) -> Option<Line> {

@@ -66,22 +66,29 @@ fn grow(alloc: Global, table: &Table) -> Result<Option<Vec<Branch>>, Memory> {
         parts: Vec::new(alloc),
         looks: table.lines.len().saturating_mul(MOST_LOOKS),
     };
-    let lines = table.lines.to_vec(alloc)?;
-    growth.put(0, lines)?;
-    for _ in 0..u64::MAX {
-        match growth.parts.pop() {
-            None => return Ok(Some(growth.branches)),
-            Some(part) => {
-                if !growth.visit(&part)? {
-                    return Ok(None);
-                }
-            }
-        }
+    if growth.is_whole()? {
+        Ok(Some(growth.branches))
+    } else {
+        Ok(None)
     }
-    Ok(None)
 }
 
 impl<'t> Growth<'t> {
+    // Makes all branches, if the lines decide each row.
+    fn is_whole(&mut self) -> Result<bool, Memory> {
+        let lines = self.table.lines.to_vec(self.alloc)?;
+        self.put(0, lines)?;
+        for _ in 0..u64::MAX {
+            let Some(part) = self.parts.pop() else {
+                return Ok(true);
+            };
+            if !self.visit(&part)? {
+                return Ok(false);
+            }
+        }
+        Ok(false)
+    }
+
     // A branch that is made later.
     fn put(&mut self, tested: u64, lines: Vec<Line>) -> Result<usize, Memory> {
         let at = self.branches.len();
@@ -112,11 +119,15 @@ impl<'t> Growth<'t> {
             return Ok(Branch::Leaf(0));
         };
         let input = *input;
-        let ones = lines_where(self.alloc, &part.lines, place, true)?;
-        let zeros = lines_where(self.alloc, &part.lines, place, false)?;
-        let yes = self.put(part.tested | bit(place), ones)?;
-        let no = self.put(part.tested | bit(place), zeros)?;
+        let yes = self.put_where(part, place, true)?;
+        let no = self.put_where(part, place, false)?;
         Ok(Branch::Test(Test { input, yes, no }))
+    }
+
+    // The branch for a value of an input, made later.
+    fn put_where(&mut self, part: &Part, place: usize, value: bool) -> Result<usize, Memory> {
+        let lines = lines_where(self.alloc, &part.lines, place, value)?;
+        self.put(part.tested | bit(place), lines)
     }
 }
 

@@ -1,8 +1,8 @@
 //! Gates that the clauses may state, whichever way ties among existentials go.
 
-use crate::choices::{Half, half_by, thirds_of, triple_at};
+use crate::choices::{Half, Halves, Thirds, Triple, half_by, thirds_of, triple_at};
 use crate::clauses::clause_at;
-use crate::conjunctions::{consequences, has_shorts};
+use crate::conjunctions::{Consequences, consequences, has_shorts};
 use crate::literals::key;
 use crate::outputs::Output;
 use definition_order::may_read;
@@ -55,10 +55,21 @@ impl Wires {
 
     fn put_conjunctions(&mut self, output: &Output, place: usize, l: Lit) -> Result<(), Memory> {
         let shorts = consequences(self.alloc, output, l)?;
+        self.put_long(output, place, l, &shorts)
+    }
+
+    // Puts those of the first clauses that serve as the long one.
+    fn put_long(
+        &mut self,
+        output: &Output,
+        place: usize,
+        l: Lit,
+        shorts: &Consequences,
+    ) -> Result<(), Memory> {
         let mut found = 0usize;
         for number in output.numbers {
             if let Some(clause) = clause_at(output.f, *number) {
-                if found < MOST_CONJUNCTIONS && has_shorts(clause, l, &shorts) {
+                if found < MOST_CONJUNCTIONS && has_shorts(clause, l, shorts) {
                     found = found + 1;
                     self.put(output, place, clause, clause.len() > 2)?;
                 }
@@ -69,15 +80,30 @@ impl Wires {
 
     fn put_choices(&mut self, output: &Output, place: usize) -> Result<(), Memory> {
         let thirds = thirds_of(self.alloc, output, Lit::neg(output.y))?;
+        self.put_halves(output, place, &thirds)
+    }
+
+    fn put_halves(&mut self, output: &Output, place: usize, thirds: &Thirds) -> Result<(), Memory> {
         let mut halves = BTreeMap::new(self.alloc);
         for number in output.numbers {
             if let Some(triple) = triple_at(output.f, *number, Lit::pos(output.y)) {
-                self.put_choice(output, place, half_by(&triple, &thirds), &mut halves)?;
-                let turned = half_by(&triple.turned(), &thirds);
-                self.put_choice(output, place, turned, &mut halves)?;
+                self.put_both(output, place, &triple, thirds, &mut halves)?;
             }
         }
         Ok(())
+    }
+
+    // Puts the choices by a clause of three, its other literals in one order and the other.
+    fn put_both(
+        &mut self,
+        output: &Output,
+        place: usize,
+        triple: &Triple,
+        thirds: &Thirds,
+        halves: &mut Halves,
+    ) -> Result<(), Memory> {
+        self.put_choice(output, place, half_by(triple, thirds), halves)?;
+        self.put_choice(output, place, half_by(&triple.turned(), thirds), halves)
     }
 
     // Puts the choice of this half and the one for the opposite condition, if that was met.
@@ -86,7 +112,7 @@ impl Wires {
         output: &Output,
         place: usize,
         half: Option<Half>,
-        halves: &mut BTreeMap<(u64, bool), Half>,
+        halves: &mut Halves,
     ) -> Result<(), Memory> {
         let Some(half) = half else {
             return Ok(());

@@ -1,5 +1,5 @@
 -- What is kept while definitions are asked for: the log has nothing of the other engines, and the list of definitions grows.
-use Rattle.std.proofs.Common.{◌≡◌, ◌≢◌, ℕ, zero, suc, ◌<◌, ◌==◌, true, List, [], ◌++◌, length, get_or, slice_get, replicate, set, Bool, Option, None, Some, IsSome, refl, sym, ◌∙◌, ap, subst, inl, inr, arith, Result, Ok, get_or-set_same, get_or-set_other, length-set}
+use Rattle.std.proofs.Common.{◌≡◌, ◌≢◌, ℕ, zero, suc, ◌<◌, ◌==◌, true, List, [], ◌++◌, length, get_or, slice_get, replicate, set, Bool, Option, None, Some, IsSome, refl, sym, ◌∙◌, ap, subst, inl, inr, arith, Result, Ok, Err, get_or-set_same, get_or-set_other, length-set}
 use Rattle.std.specs.List.{All, Contains}
 use Rattle.std.specs.Option.{IfSome}
 use Rattle.std.specs.Result.{IfOk}
@@ -195,3 +195,18 @@ found_guess f graph y conditions found None same right = tt
 found_guess f graph y conditions found (Some node) same right =
     let is = subst (λ r. IfOk r (IsRightGuess f graph y conditions)) (same node refl) right in
     record { is_node = is.is_node; reads = is.reads }
+
+pub found_within : (f : Dqbf) (graph : AigGraph) (y : Existential) (conditions : List Literal) (found : Result Guess Stop) (result : Result (Option Node) Stop)
+    → ((node : Node) → result ≡ Ok (Some node) → found ≡ Ok (NodeFound node)) → IfOk found (IsRightGuess f graph y conditions)
+    → IfOk result (λ guess. IfSome guess (IsGuess f graph y))
+found_within f graph y conditions found (Err e) same right = tt
+found_within f graph y conditions found (Ok guess) same right = found_guess f graph y conditions found guess (λ node is. same node (ap (λ o. Ok o) is)) right
+
+-- what is known where one more is guessed
+pub guess_known : (f : Dqbf) (ranks : List ℕ) → HasLawfulPrefix f → (old new : AigGraph) (p : ℕ) (y : Existential) (definitions : List (Option Node)) (rules : List Rule) (guesses : List (Option Node))
+    (next : Option Node) → Extends old new → length guesses ≡ length f.existentials → slice_get f.existentials p ≡ Some y → IfSome next (IsGuess f new y)
+    → AreKnown f ranks old definitions rules guesses → AreKnown f ranks new definitions rules (set guesses p next)
+guess_known f ranks lawful old new p y definitions rules guesses next extends many at here known =
+    let still = known_stays f ranks old new definitions rules guesses extends known in
+    with_guesses f ranks new definitions rules guesses (set guesses p next) still
+    (put_stays f lawful (IsGuess f new) p y guesses next many at (guess_at f new y next here) still.guessed)

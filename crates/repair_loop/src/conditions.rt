@@ -5,8 +5,6 @@
 //! share the literals that say that they aren't. Under the negations of these a box's output is
 //! often defined, and what defines it there serves everywhere.
 
-ghost use Rattle.std.specs.Prelude.{◌<◌, length};
-
 use crate::suspects::Defined;
 use dq_lits::{Lit, Memory};
 use std::alloc::Global;
@@ -33,10 +31,12 @@ pub(crate) struct Conditions {
 impl Conditions {
     /// The conditions that a formula's clauses give.
     pub(crate) fn new(alloc: Global, defined: &Defined) -> Result<Conditions, Memory> {
-        Ok(Conditions {
-            sets: condition_sets(alloc, defined)?,
+        let mut conditions = Conditions {
+            sets: Vec::new(alloc),
             in_vain: 0,
-        })
+        };
+        conditions.put_all(alloc, defined)?;
+        Ok(conditions)
     }
 
     /// The sets that are worth a question.
@@ -55,6 +55,50 @@ impl Conditions {
         } else {
             self.in_vain.saturating_add(1)
         };
+    }
+
+    // Puts some sets, each the negations of the literals on defined existentials that a clause which
+    // no definition makes true shares with another one; those of the last clauses first. Time follows
+    // the literals.
+    fn put_all(&mut self, alloc: Global, defined: &Defined) -> Result<(), Memory> {
+        let suspects = defined.suspects(alloc)?;
+        self.put_of(alloc, defined, &suspects)
+    }
+
+    fn put_of(
+        &mut self,
+        alloc: Global,
+        defined: &Defined,
+        suspects: &[usize],
+    ) -> Result<(), Memory> {
+        let counts = Counts::new(alloc, defined, suspects)?;
+        self.put_each(alloc, defined, suspects, &counts)
+    }
+
+    fn put_each(
+        &mut self,
+        alloc: Global,
+        defined: &Defined,
+        suspects: &[usize],
+        counts: &Counts,
+    ) -> Result<(), Memory> {
+        for number in suspects.iter().rev() {
+            if self.sets.len() >= MOST_SETS {
+                return Ok(());
+            }
+            if *number < defined.f.clauses() {
+                self.put(shared_literals(alloc, defined, counts, defined.f.clause(*number))?)?;
+            }
+        }
+        Ok(())
+    }
+
+    // Puts a set that isn't empty and isn't there.
+    fn put(&mut self, set: Vec<Lit>) -> Result<(), Memory> {
+        if !set.is_empty() && !has_set(&self.sets, &set) {
+            self.sets.push(set)?;
+        }
+        Ok(())
     }
 }
 
@@ -117,26 +161,6 @@ fn slot(defined: &Defined, l: Lit) -> Option<usize> {
     }
 }
 
-// Some sets of conditions, each the negations of the literals on defined existentials that a
-// clause which no definition makes true shares with another one; those of the last clauses first.
-// Time follows the literals.
-fn condition_sets(alloc: Global, defined: &Defined) -> Result<Vec<Vec<Lit>>, Memory> {
-    let suspects = defined.suspects(alloc)?;
-    let counts = Counts::new(alloc, defined, &suspects)?;
-    let mut sets = Vec::new(alloc);
-    for k in 0..suspects.len() {
-        let number = suspects[suspects.len() - 1 - k];
-        if sets.len() >= MOST_SETS {
-            return Ok(sets);
-        }
-        if number < defined.f.clauses() {
-            let set = shared_literals(alloc, defined, &counts, defined.f.clause(number))?;
-            put_new(&mut sets, set)?;
-        }
-    }
-    Ok(sets)
-}
-
 // The negations of the shared literals of a clause; none where they are too many.
 fn shared_literals(
     alloc: Global,
@@ -155,14 +179,6 @@ fn shared_literals(
         }
     }
     Ok(set)
-}
-
-// Adds a set that isn't empty and isn't there.
-fn put_new(sets: &mut Vec<Vec<Lit>>, set: Vec<Lit>) -> Result<(), Memory> {
-    if !set.is_empty() && !has_set(sets, &set) {
-        sets.push(set)?;
-    }
-    Ok(())
 }
 
 fn has_set(sets: &[Vec<Lit>], set: &[Lit]) -> bool {

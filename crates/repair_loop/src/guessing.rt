@@ -1,9 +1,9 @@
 //! Guesses: nodes that existentials without a definition equal under conditions. They are asked for
 //! before the first candidates, and candidates take them where neither a row nor a rule says a bit.
 
-ghost use Rattle.std.specs.Prelude.{◌≡◌, ◌≤◌, ◌<◌, ℕ, true, length, replicate, None, Some, IfOk, IfSome, IsErrOf, Ok, OnOk, slice_get};
+ghost use Rattle.std.specs.Prelude.{◌≡◌, ◌≤◌, ◌<◌, ℕ, true, length, None, Some, IfOk, IfSome, IsErrOf, IsSome, Ok, OnOk, slice_get};
 ghost use Rattle.dq_lits.specs.Derivation.{holds};
-ghost use Rattle.dq_lits.specs.Formula.{Existential, IsWellFormed};
+ghost use Rattle.dq_lits.specs.Formula.{Existential, IsWellFormed, existential_of};
 ghost use Rattle.dq_lits.specs.Literal.{opposite, same_literal};
 ghost use Rattle.aig_graph.specs.Made.{Extends};
 ghost use Rattle.hint_log.specs.Entries.{steps_of};
@@ -11,7 +11,7 @@ ghost use Rattle.hint_log.specs.Growth.{Grew};
 ghost use Rattle.log_laws.specs.Engines.{copies, IsAddedBy};
 ghost use Rattle.oracle.specs.Limits.{IsAtSomeLimit};
 ghost use Rattle.padoa_definitions.specs.Copies.{IsPadoa};
-ghost use Rattle.candidate_functions.specs.Candidates.{IsGuess, AreGuesses};
+ghost use Rattle.candidate_functions.specs.Candidates.{IsGuess};
 ghost use Rattle.repair_loop.specs.Searching.{IsFresh, HasInputs, AreKnown};
 ghost use Rattle.repair_loop.specs.Guessing.{AreConditions};
 
@@ -55,40 +55,42 @@ impl Definitions {
             self.new.nodes.items self.new.rules.items self.new.guesses.items) }
         ensures limit { IsErrOf result Stop.Limit → IsAtSomeLimit log.new }
     {
-        self.guesses = self.find_guesses(oracle, graph, f, log)?;
-        Ok(())
+        self.guesses = no_nodes(self.questions.alloc, f.existentials().len())?;
+        let mut conditions = self.conditions(f, graph)?;
+        self.guess_each(oracle, graph, f, &mut conditions, log)
     }
 
-    fn find_guesses<O: Oracle>(
+    fn guess_each<O: Oracle>(
         &mut self,
         oracle: &mut O,
         graph: &mut Graph,
         f: &Formula,
+        conditions: &mut Conditions,
         log: &mut Log,
-    ) -> Result<Vec<Option<Node>>, Stop>
+    ) -> Result<(), Stop>
         requires fit { O.Fits oracle.old log.old }
         requires formula { IsWellFormed f.now }
         requires fresh { IsFresh f.now log.old.entries }
         requires padoa { IsPadoa f.now self.old.padoa log.old.entries }
         requires inputs { HasInputs f.now graph.old }
+        requires known { AreKnown f.now self.old.ranks.items graph.old self.old.nodes.items
+            self.old.rules.items self.old.guesses.items }
+        requires many { length self.old.guesses.items ≡ length f.now.existentials }
         ensures fit { O.Fits oracle.new log.new }
         ensures fresh { IsFresh f.now log.new.entries }
         ensures limit_same { log.new.limit ≡ log.old.limit }
         ensures extends { Extends graph.old graph.new }
-        ensures same { self.new ≡ self.old }
         ensures padoa { IsPadoa f.now self.new.padoa log.new.entries }
-        ensures guesses { IfOk result (λ guesses. AreGuesses f.now graph.new guesses.items) }
+        ensures known { OnOk result (AreKnown f.now self.new.ranks.items graph.new
+            self.new.nodes.items self.new.rules.items self.new.guesses.items) }
         ensures limit { IsErrOf result Stop.Limit → IsAtSomeLimit log.new }
     {
         f.every_formula_is_lawful();
-        engines_leave_the_rest();
-        let mut conditions = self.conditions(f, graph)?;
-        let mut guesses = no_nodes(self.questions.alloc, f.existentials().len())?;
         for place in 0..f.existentials().len() {
             let existential = ExistentialAt { f, place };
-            guesses[place] = self.guess(oracle, graph, &existential, &mut conditions, log)?;
+            self.guesses[place] = self.guess(oracle, graph, &existential, conditions, log)?;
         }
-        Ok(guesses)
+        Ok(())
     }
 
     // The conditions that are tried.
@@ -210,14 +212,41 @@ impl Definitions {
         f.every_formula_is_lawful();
         let y = f.existentials()[existential.place];
         let conditions = lawful_conditions(self.questions.alloc, f, y, conditions)?;
+        self.guess_within(oracle, graph, f, y, &conditions, log)
+    }
+
+    fn guess_within<O: Oracle>(
+        &mut self,
+        oracle: &mut O,
+        graph: &mut Graph,
+        f: &Formula,
+        y: u64,
+        conditions: &[Lit],
+        log: &mut Log,
+    ) -> Result<Option<Node>, Stop>
+        requires fit { O.Fits oracle.old log.old }
+        requires formula { IsWellFormed f.now }
+        requires padoa { IsPadoa f.now self.old.padoa log.old.entries }
+        requires inputs { HasInputs f.now graph.old }
+        requires existential { IsSome (existential_of f.now y) }
+        requires conditions { AreConditions f.now y conditions.now }
+        ensures fit { O.Fits oracle.new log.new }
+        ensures same { self.new ≡ self.old }
+        ensures padoa { IsPadoa f.now self.new.padoa log.new.entries }
+        ensures grew { (group : ℕ) → Grew (IsAddedBy f.now copies group true log.old.entries)
+            log.old log.new }
+        ensures extends { Extends graph.old graph.new }
+        ensures guess { (e : Existential) → existential_of f.now y ≡ Some e
+            → IfOk result (λ guess. IfSome guess (IsGuess f.now graph.new e)) }
+        ensures limit { IsErrOf result Stop.Limit → IsAtSomeLimit log.new }
+    {
         let whole = log.limit();
         let most = most_steps(log);
         log.set_limit(most);
-        let found = self.padoa.guess(oracle, graph, f, y, &conditions, log);
+        let found = self.padoa.guess(oracle, graph, f, y, conditions, log);
         let _ = log.steps();
         log.set_limit(whole);
-        let guess = guessed(found, most == whole)?;
-        Ok(guess)
+        guessed(found, most == whole)
     }
 }
 

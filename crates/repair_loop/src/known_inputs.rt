@@ -1,7 +1,5 @@
 //! What a node's value is where some inputs of its graph are known.
 
-ghost use Rattle.std.specs.Prelude.{◌≤◌};
-
 use aig_graph::{Graph, Look, Node};
 use dq_lits::Memory;
 use std::alloc::Global;

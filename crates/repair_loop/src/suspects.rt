@@ -1,8 +1,6 @@
 //! Clauses that no definition makes true by itself: what the existentials without a definition have
 //! to see to.
 
-ghost use Rattle.std.specs.Prelude.{◌<◌, length};
-
 use crate::known_inputs::KnownInputs;
 use aig_graph::{Graph, Node};
 use dq_formula::Formula;
@@ -33,9 +31,13 @@ impl Defined<'_, '_, '_> {
     /// literals. No contract speaks of what is found.
     pub(crate) fn suspects(&self, alloc: Global) -> Result<Vec<usize>, Memory> {
         let mut known = KnownInputs::new(alloc, self.graph)?;
+        self.suspects_by(alloc, &mut known)
+    }
+
+    fn suspects_by(&self, alloc: Global, known: &mut KnownInputs) -> Result<Vec<usize>, Memory> {
         let mut suspects = Vec::new(alloc);
         for number in 0..self.f.clauses() {
-            if !self.makes_true(self.f.clause(number), &mut known) {
+            if !self.makes_true(self.f.clause(number), known) {
                 suspects.push(number)?;
             }
         }

@@ -1,9 +1,8 @@
 use Rattle.std.proofs.Common.{◌≡◌, length}
 use Rattle.aig_graph.specs.Made.{Extends}
-use Rattle.candidate_functions.specs.Candidates.{AreGuesses}
 use Rattle.padoa_definitions.specs.Copies.{IsPadoa}
-use Rattle.repair_loop.specs.Searching.{IsFresh}
-use Rattle.repair_loop.proofs.definitions.Definitions.find_guesses.Given as goal
+use Rattle.repair_loop.specs.Searching.{IsFresh, AreKnown}
+use Rattle.repair_loop.proofs.definitions.Definitions.guess_each.Given as goal
 
 abbrev pub invariant-loop-place : goal.invariant-loop-place
 invariant-loop-place g l = record {
@@ -12,7 +11,6 @@ invariant-loop-place g l = record {
   padoa : IsPadoa l.f l.self.padoa l.log.entries;
   limit : l.log.limit ≡ l.fn.log.limit;
   extends : Extends l.fn.graph l.graph;
-  same : l.self ≡ l.fn.self;
-  one_each : length l.guesses.items ≡ length l.f.existentials;
-  guesses : AreGuesses l.f l.graph l.guesses.items;
+  known : AreKnown l.f l.self.ranks.items l.graph l.self.nodes.items l.self.rules.items l.self.guesses.items;
+  many : length l.self.guesses.items ≡ length l.f.existentials;
 }
