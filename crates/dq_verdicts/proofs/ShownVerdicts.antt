@@ -104,8 +104,13 @@ shown_false accepted f log id bare d lawful is_so found e = record {
 }
 
 -- a verdict's status with a text
-pub written : Verdict → List ℕ → Printed
+abbrev pub written : Verdict → List ℕ → Printed
 written verdict text = record { status = verdict_status verdict; text = text }
+
+-- an output of a verdict's status with a text
+pub printed_as : (verdict : Verdict) (status : ℕ) (text said : List ℕ) → status ≡ verdict_status verdict → text ≡ said
+    → ◌≡◌ {A = Printed} (record { status = status; text = text }) (record { status = verdict_status verdict; text = said })
+printed_as verdict status text said same is = ap (λ s. record { status = s; text = text }) same ∙ ap (written verdict) is
 
 -- where the limit came first
 pub unknown : (f : Dqbf) (log : ProofLog) (bare : Bool) (rounds steps : ℕ) (output : Output) → IsProductiveLog f log.entries → IsUndecided f log.entries

@@ -1,6 +1,6 @@
 -- The clauses that `dqcheck_run` had before its reports and its ending were shared with other commands, from those that it has. Kept for
 -- that change alone.
-use Rattle.std.proofs.Common.{◌≡◌, ◌⊎◌, inl, inr, ℕ, ◌<◌, List, ◌++◌, Option, None, Some, refl, sym, ap, ◌∙◌, subst, codes}
+use Rattle.std.proofs.Common.{◌≡◌, ◌⊎◌, inl, inr, ℕ, ◌<◌, List, Option, None, Some, refl, sym, ap, ◌∙◌, subst, codes}
 use Rattle.std.specs.Io.KnownBytes.{append_known}
 use Rattle.dq_io.specs.Sinks.{TakesPart}
 use Rattle.dq_io.specs.State.{FilesState}

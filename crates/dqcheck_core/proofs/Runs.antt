@@ -1,5 +1,5 @@
 -- From what a run's parts answer to what is due, and why.
-use Rattle.std.proofs.Common.{◌≡◌, ◌≢◌, ◌⊎◌, inl, inr, ℕ, ◌+◌, ◌<◌, ◌≤◌, List, length, Option, None, Some, Result, Ok, Err, refl, sym, ap, ◌∙◌, subst, arith, codes}
+use Rattle.std.proofs.Common.{◌≡◌, ◌≢◌, ◌⊎◌, inl, inr, ℕ, ◌+◌, ◌<◌, ◌≤◌, List, Option, None, Some, Result, Ok, Err, refl, sym, ap, ◌∙◌, subst, arith, codes}
 use Rattle.std.specs.Prelude.{IfOk}
 use Rattle.std.proofs.Math.Nat.{lt_of_not-le}
 use Rattle.dq_io.specs.Causes.{next_count, Rose}
@@ -7,9 +7,9 @@ use Rattle.dq_io.specs.Files.{Holding, Untold, Absent, Holds}
 use Rattle.dq_io.specs.State.{FilesState}
 use Rattle.dq_lits.specs.Formula.{Dqbf}
 use Rattle.dq_lits.specs.declared.memory.Memory.{Memory}
-use Rattle.dq_runs.specs.Ending.{IsWritten, IsCutOff, IsUnwritten, IsEnd, Ends, HasCauses}
-use Rattle.dq_runs.specs.FileTexts.{IsLong, IsTextOf, IsShortText, IsUnreadable, IsTooLong, PickedOnce, PickedTwice}
-use Rattle.dq_runs.specs.FormulaFiles.{max_formula, IsFormulaOf, IsNoFormula, IsFormulaRead, IsUnreadableStop}
+use Rattle.dq_runs.specs.Ending.{IsEnd, Ends, HasCauses}
+use Rattle.dq_runs.specs.FileTexts.{IsLong, IsTextOf, IsUnreadable, IsTooLong, PickedOnce, PickedTwice}
+use Rattle.dq_runs.specs.FormulaFiles.{IsFormulaOf, IsNoFormula, IsFormulaRead, IsUnreadableStop}
 use Rattle.dq_runs.specs.declared.formulas.FormulaStop.{FormulaStop}
 use Rattle.dq_runs.specs.declared.formulas.FormulaStop.TheVariants.{Said}
 use Rattle.dq_runs.specs.Printed.{Printed, printed, unreadable_line, long_line}

@@ -1,5 +1,5 @@
 -- From what is due to what is shown over files that are told.
-use Rattle.std.proofs.Common.{◌≡◌, ◌≢◌, ◌⊎◌, inl, inr, ℕ, ◌<◌, ◌≤◌, List, length, Option, Some, Result, Ok, Err, sym, ap, ◌∙◌, subst, arith}
+use Rattle.std.proofs.Common.{◌≡◌, ◌⊎◌, inl, inr, ℕ, ◌<◌, ◌≤◌, List, length, Option, Result, Ok, Err, sym, ap, ◌∙◌, subst, arith}
 use Rattle.std.specs.Prelude.{IfOk}
 use Rattle.std.specs.Io.KnownBytes.{append_known}
 use Rattle.dq_io.specs.Causes.{Rose}
@@ -10,10 +10,10 @@ use Rattle.dq_lits.specs.Henkin.{IsTrueFormula, IsFalseFormula}
 use Rattle.dq_lits.specs.declared.memory.Memory.{Memory}
 use Rattle.dqdimacs_reader.specs.Grammar.{SpellsFormula}
 use Rattle.dqdimacs_reader.specs.Machine.{TextFault, reading}
-use Rattle.dq_runs.specs.Ending.{IsWritten, IsCutOff, IsEnd}
+use Rattle.dq_runs.specs.Ending.{IsWritten, IsEnd}
 use Rattle.dq_runs.specs.FileTexts.{IsTextOf, IsLong}
 use Rattle.dq_runs.specs.FormulaFiles.{max_formula, IsFaultOf, IsFormulaOf}
-use Rattle.dq_runs.specs.Printed.{Printed, printed, line}
+use Rattle.dq_runs.specs.Printed.{printed, line}
 use Rattle.dq_runs.specs.Sinks.{SinkState}
 use Rattle.dq_runs.specs.declared.formulas.NoFormula.TheVariants.{Unreadable, TooLong, Refused as RefusedFormula}
 use Rattle.dq_runs.specs.declared.outputs.Output.{Output}

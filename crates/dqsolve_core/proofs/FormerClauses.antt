@@ -93,7 +93,8 @@ report_was before now log c (no_formula Unreadable) due = record { report = sour
 report_was before now log c (no_formula TooLong) (long, once) = record { report = long_formula; due = (long.long, long.given, once); status = refl; text = refl }
 report_was before now log c (no_formula (Refused l name)) due =
     record { report = refused_formula (record { line = l; name = name }); due = due; status = refl; text = refl }
-report_was before now log c (solved f verdict) due = record { report = former_solved c.bare f verdict; due = (refl, due); status = refl; text = refl }
+report_was before now log c (solved f verdict) (one, limit, shown, once) =
+    record { report = former_solved c.bare f verdict; due = (refl, one, limit, shown, once); status = refl; text = refl }
 
 was : (before now : FilesState) (asked : Option Command) (log : ProofLog) (p : Printed) → IsDue before now log asked p → Was before now asked log p
 was before now None log p (same, picks) =

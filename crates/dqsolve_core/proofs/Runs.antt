@@ -196,7 +196,7 @@ search_steps : (before now : FilesState) (log : ProofLog) (c : Search) (report :
 search_steps before now log c (no_formula Unreadable) due zero = absurd (omega (arith, zero))
 search_steps before now log c (no_formula TooLong) due zero = absurd (omega (arith, zero))
 search_steps before now log c (no_formula (Refused l name)) due zero = absurd (omega (arith, zero))
-search_steps before now log c (solved f verdict) due zero = verdict_steps f log c.bare verdict due.2.0 zero
+search_steps before now log c (solved f verdict) due zero = verdict_steps f log c.bare verdict due.2 zero
 
 all_steps : (before now : FilesState) (c : Command) (log : ProofLog) (p : Printed) → IsDue before now log (Some c) p → p.status ≡ 0 → steps_of log.entries ≡ log.limit
 all_steps before now (solve c) log p (report, due, same) zero = search_steps before now log c report due (sym (ap (λ (q : Printed). q.status) same) ∙ zero)

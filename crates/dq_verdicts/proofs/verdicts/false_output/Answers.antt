@@ -2,8 +2,8 @@ use Rattle.std.proofs.Common.{◌∙◌, ◌++◌, refl, sym, subst, ap, cond, [
 use Rattle.cert_export.specs.Exportable.{AreExportedSteps}
 use Rattle.cert_export.specs.Exported.{CanExportFalse}
 use Rattle.dq_runs.specs.Printed.{line}
-use Rattle.dq_verdicts.specs.Verdicts.{is_false}
-use Rattle.dq_verdicts.proofs.ShownVerdicts.{shown_false, written}
+use Rattle.dq_verdicts.specs.Verdicts.{is_false, verdict_text}
+use Rattle.dq_verdicts.proofs.ShownVerdicts.{shown_false, printed_as}
 use Rattle.dq_verdicts.proofs.verdicts.false_output.Goals as goal
 
 pub export_false-requires-clause-refuted : goal.export_false-requires-clause-refuted
@@ -24,6 +24,7 @@ returns c =
             (c.refutation_shows_false.ensures c.args.f.now c.in_ok-refutation.refutation c.requires.formula exported.accepted) c.requires.refuted
             (record { rows = exported.rows; accepted = exported.accepted; few = exported.few; spelled = exported.spelled; lines = (exported.lines.0, exported.lines.1, subst (λ live. AreExportedSteps c.args.f.now live c.args.log.now.entries exported.lines.0 c.in_ok-refutation.refutation.steps) (c.deref.ensures.value ∙ c.in_ok-numbers.ensures) exported.lines.2) });
       };
-      is_printed = ap (written (is_false c.in_ok-refutation.refutation))
+      is_printed = printed_as (is_false c.in_ok-refutation.refutation) c.code.result c.in_ok-text.text.items
+          (verdict_text c.args.bare c.args.f.now (is_false c.in_ok-refutation.refutation)) c.code.ensures
           (c.in_ok-text.ensures ∙ ap (λ evidence. cond c.args.bare [] (line (codes "s FALSE")) ++ evidence) c.in_ok-evidence.ensures.canonical);
     }

@@ -1,6 +1,5 @@
-use Rattle.std.proofs.Common.{ap}
-use Rattle.dq_verdicts.proofs.ShownVerdicts.{written}
-use Rattle.dq_verdicts.specs.Verdicts.{is_true}
+use Rattle.dq_verdicts.proofs.ShownVerdicts.{printed_as}
+use Rattle.dq_verdicts.specs.Verdicts.{is_true, verdict_text}
 use Rattle.dq_verdicts.proofs.verdicts.true_output.Goals as goal
 
 pub returns : goal.returns
@@ -9,5 +8,6 @@ returns c =
     record {
       verdict = is_true shown.file shown.proof;
       is = record { productive = c.requires.productive; shown = shown.shown };
-      is_printed = ap (written (is_true shown.file shown.proof)) shown.is;
+      is_printed = printed_as (is_true shown.file shown.proof) c.code.result c.in_ok-text.text.items
+          (verdict_text c.args.bare c.args.f.now (is_true shown.file shown.proof)) c.code.ensures shown.is;
     }

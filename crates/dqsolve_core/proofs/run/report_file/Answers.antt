@@ -33,7 +33,7 @@ returns-in-Err-Said-clause-reported g c =
     let stop = c.in-Err-Said.field-0 in
     let said = c.in-Err-Said.said in
     let read = said_read before now c.args.asked.file.now c.read_formula.result stop said c.in-Err-Said.is c.in-Err-Said.field-0-is c.read_formula.ensures.read in
-    said_reported before now c.rewind.new.log
+    said_reported before now c.rewind.new.self
     (record { steps = c.args.asked.steps; bare = c.args.asked.bare; file = c.args.asked.file.now }) said c.output.result read.0 read.1
     (λ other. c.read_formula.ensures.unfaulted (not_unreadable c.read_formula.result stop said c.in-Err-Said.is c.in-Err-Said.field-0-is other))
     c.output.ensures
