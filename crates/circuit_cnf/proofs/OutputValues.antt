@@ -1,9 +1,12 @@
 -- The outputs' values at a row.
-use Rattle.std.proofs.Common.{◌≡◌, ℕ, zero, suc, ◌+◌, ◌≤◌, ◌<◌, ◌==◌, Bool, true, false, not, cond, ◌&&◌, List, [], ◌∷◌, map, length, get_or, slice_index, position, Some, None, refl, sym, ◌∙◌, ap, subst, arith, nat_lt}
+use Rattle.std.proofs.Common.{◌≡◌, ℕ, zero, suc, ◌+◌, ◌≤◌, ◌<◌, ◌==◌, Bool, true, false, not, cond, ◌&&◌, List, [], ◌∷◌, map, length, get_or, slice_index, position, slice_get, Some, None, refl, sym, ◌∙◌, ap, subst, arith, nat_lt}
 use Rattle.std.specs.List.{position_or_len}
-use Rattle.std.proofs.lemmas.Bool.{eq-eqb, ne_eqb, leb-true, ltb-false}
+use Rattle.std.proofs.lemmas.Bool.{false≢true, eq-eqb, ne_eqb, leb-true, ltb-false}
 use Rattle.std.proofs.lemmas.List.{ext_get_or, get_or-map, length-append, get_or_append_left, get_or-append-add}
+use Rattle.std.proofs.lemmas.Option.{slice_get_within, slice_get-get_or}
 use Rattle.dq_lits.specs.Formula.{Dqbf, Existential, HasLawfulPrefix, declared}
+use Rattle.dq_lits.specs.Literal.{Literal, clause_true}
+use Rattle.hint_log.specs.Naming.{round_assignment}
 use Rattle.dq_lits.specs.Expansion.{row_assignment}
 use Rattle.dq_lits.specs.Row.{bit_of}
 use Rattle.aig_graph.specs.declared.nodes.Node.{Node}
@@ -167,6 +170,19 @@ failure_is f graph nodes row values j lawful count long are false_there = record
   clause_is = false_there.1;
   is_false = false_there.2;
 }
+
+-- where every clause is true there is no failure
+pub no_failure : (f : Dqbf) (graph : AigGraph) (nodes : List Node) (row values : List Bool) → HasLawfulPrefix f → length nodes ≡ length f.existentials → length row ≡ length f.universals →
+    values ≡ map (node_value graph (bit_of row)) nodes → ((k : ℕ) → k < length f.matrix → clause_true (round_assignment f row values) (get_or f.matrix k []) ≡ true) →
+    (other : List Bool) (j : ℕ) → IsFailure f (outputs_of f graph nodes) row other j → ⊥
+no_failure f graph nodes row values lawful count long are all other zero failure = let e = failure.clause_is in cc
+no_failure f graph nodes row values lawful count long are all other (suc i) failure =
+    let nothing : List Literal = [] in
+    let within = slice_get_within f.matrix i failure.clause failure.clause_is in
+    let here : Some (get_or f.matrix i nothing) ≡ Some failure.clause = sym (slice_get-get_or f.matrix i nothing within) ∙ failure.clause_is in
+    let clause : get_or f.matrix i nothing ≡ failure.clause = cc in
+    let same : other ≡ values = failure.values_are ∙ sym (are ∙ output_values f graph nodes row lawful count long) in
+    false≢true (sym failure.is_false ∙ ap (λ vs. clause_true (round_assignment f row vs) failure.clause) same ∙ ap (clause_true (round_assignment f row values)) (sym clause) ∙ all i within)
 
 pub failures_refute_rows : FailuresRefuteRows
 failures_refute_rows f output entries row values j failure untried = record {

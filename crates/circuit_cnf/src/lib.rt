@@ -3,12 +3,15 @@
 #![tactic(auto)]
 
 pub use checkers::Checker;
+pub use trying::{Failure, failure_at};
 pub use turns::Turn;
 
 mod checkers;
+mod circuits;
 mod failures;
 mod faults;
 mod gates;
 pub mod laws;
 mod leaves;
+mod trying;
 mod turns;

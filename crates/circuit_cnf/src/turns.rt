@@ -18,6 +18,7 @@ ghost use Rattle.circuit_cnf.specs.Shown.{HoldEverywhere, IsShownSince};
 ghost use Rattle.circuit_cnf.specs.Turning.{AreLeavesOf, IsHeldBy, AreFailing, is_silent_search};
 
 use crate::checkers::Checker;
+use crate::circuits::Circuit;
 use crate::failures::false_clause;
 use crate::faults::Faults;
 use crate::laws::shown_outputs_hold;
@@ -37,16 +38,6 @@ pub enum Turn {
     /// They don't: a row, the outputs' values there, and the number, from 1 on, of a clause that is
     /// false with them.
     Fails { row: Row, values: Row, j: u64 },
-}
-
-/// A circuit of a graph for a formula: a node for each existential, in order.
-#[derive(Drop)]
-struct Circuit<'g, 'f, 'o> {
-    graph: &'g Graph,
-    f: &'f Formula,
-    outputs: &'o [Node],
-    ghost an_input_a_universal: { length f.now.universals ≤ graph.now.inputs },
-    ghost a_node_an_existential: { length outputs.now ≡ length f.now.existentials },
 }
 
 impl Checker {
@@ -196,40 +187,12 @@ impl Checker {
             (outputs_of circuit.now.f.now circuit.now.graph.now circuit.now.outputs.now)) }
     {
         let row = input_row(self.alloc, oracle, &self.inputs)?;
-        let values = self.output_values(circuit, &row)?;
+        let values = circuit.values_at(self.alloc, &row)?;
         match false_clause(circuit.f, &row, &values) {
             Some(j) => Ok(Turn::Fails { row, values, j }),
             None => unreachable!(),
         }
     }
-
-    // The outputs' values at a row of the universals.
-    fn output_values(&self, circuit: &Circuit, row: &Row) -> Result<Row, Memory>
-        requires room { length row.now ≤ circuit.now.graph.now.inputs }
-        requires nodes { All (IsNode circuit.now.graph.now) circuit.now.outputs.now }
-        ensures { IfOk result (λ values. values
-            ≡ map (node_value circuit.now.graph.now (bit_of row.now)) circuit.now.outputs.now) }
-    {
-        let graph = circuit.graph;
-        let inputs = lengthened(self.alloc, row, graph.inputs())?;
-        let mut buf = Row::new(self.alloc, graph.len())?;
-        let mut values = Row::new(self.alloc, circuit.outputs.len())?;
-        graph.values(circuit.outputs, &inputs, &mut buf, &mut values);
-        Ok(values)
-    }
-}
-
-// A row of so many bits that begins with these, and is false behind them.
-fn lengthened(alloc: Global, row: &Row, n: usize) -> Result<Row, Memory>
-    requires { length row.now ≤ n }
-    ensures length { IfOk result (λ longer. length longer ≡ n) }
-    ensures bits { IfOk result (λ longer. (i : ℕ) → bit_of longer i ≡ bit_of row.now i) }
-{
-    let mut longer = Row::new(alloc, n)?;
-    for place in 0..row.len() {
-        longer.set(place, row.get(place));
-    }
-    Ok(longer)
 }
 
 // The values that a search found of the inputs.

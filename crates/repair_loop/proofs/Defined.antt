@@ -34,6 +34,8 @@ use Rattle.padoa_definitions.specs.declared.guessing.Guess.TheVariants.{Node as 
 use Rattle.padoa_definitions.specs.Forcing.{IsForced}
 use Rattle.padoa_definitions.specs.declared.forcing.Forced.{Forced}
 use Rattle.padoa_definitions.specs.declared.forcing.Forced.TheVariants.{Rule as ByRule, Loose}
+use Rattle.repair_loop.specs.declared.definitions.Definitions.{Definitions}
+use Rattle.repair_loop.specs.Guessing.{LeavesKnown}
 use Rattle.repair_loop.specs.Searching.{IsFresh, AreKnown, definition_in}
 use Rattle.repair_loop.proofs.Stages.{still_kept, still_undecided, none_stays, no_entries_kept, no_entries_undecided, no_element}
 
@@ -187,20 +189,37 @@ with_guesses f ranks graph definitions rules before after known guessed = record
   guessed = guessed;
 }
 
--- what was found is a guess, where it is a node
-pub found_guess : (f : Dqbf) (graph : AigGraph) (y : Existential) (conditions : List Literal) (found : Result Guess Stop) (guess : Option Node)
-    → ((node : Node) → guess ≡ Some node → found ≡ Ok (NodeFound node)) → IfOk found (IsRightGuess f graph y conditions)
-    → IfSome guess (IsGuess f graph y)
-found_guess f graph y conditions found None same right = tt
-found_guess f graph y conditions found (Some node) same right =
-    let is = subst (λ r. IfOk r (IsRightGuess f graph y conditions)) (same node refl) right in
-    record { is_node = is.is_node; reads = is.reads }
+-- a call that asks for guesses leaves what is known
+pub left-refl : (d : Definitions) → LeavesKnown d d
+left-refl d = record { padoa = refl; ranks = refl; nodes = refl; rules = refl; guesses = refl }
 
-pub found_within : (f : Dqbf) (graph : AigGraph) (y : Existential) (conditions : List Literal) (found : Result Guess Stop) (result : Result (Option Node) Stop)
-    → ((node : Node) → result ≡ Ok (Some node) → found ≡ Ok (NodeFound node)) → IfOk found (IsRightGuess f graph y conditions)
+pub left-trans : (d e g : Definitions) → LeavesKnown d e → LeavesKnown e g → LeavesKnown d g
+left-trans d e g one other = record {
+  padoa = other.padoa ∙ one.padoa;
+  ranks = other.ranks ∙ one.ranks;
+  nodes = other.nodes ∙ one.nodes;
+  rules = other.rules ∙ one.rules;
+  guesses = other.guesses ∙ one.guesses;
+}
+
+pub left_known : (f : Dqbf) (graph : AigGraph) (d e : Definitions) → LeavesKnown d e → AreKnown f d.ranks.items graph d.nodes.items d.rules.items d.guesses.items
+    → AreKnown f e.ranks.items graph e.nodes.items e.rules.items e.guesses.items
+left_known f graph d e left known =
+    subst (λ rs. AreKnown f rs graph e.nodes.items e.rules.items e.guesses.items) (sym left.ranks)
+    (subst (λ ns. AreKnown f d.ranks.items graph ns e.rules.items e.guesses.items) (sym left.nodes)
+    (subst (λ rs. AreKnown f d.ranks.items graph d.nodes.items rs e.guesses.items) (sym left.rules)
+    (subst (AreKnown f d.ranks.items graph d.nodes.items d.rules.items) (sym left.guesses) known)))
+
+-- what was found is a guess, where it is a node
+pub found_guess : (f : Dqbf) (graph : AigGraph) (y : Existential) (conditions : List Literal) (node : Node) → IsRightGuess f graph y conditions (NodeFound node) → IsGuess f graph y node
+found_guess f graph y conditions node is = record { is_node = is.is_node; reads = is.reads }
+
+pub found_within : (f : Dqbf) (graph : AigGraph) (y : Existential) (found result : Result (Option Node) Stop)
+    → ((node : Node) → result ≡ Ok (Some node) → found ≡ Ok (Some node)) → IfOk found (λ guess. IfSome guess (IsGuess f graph y))
     → IfOk result (λ guess. IfSome guess (IsGuess f graph y))
-found_within f graph y conditions found (Err e) same right = tt
-found_within f graph y conditions found (Ok guess) same right = found_guess f graph y conditions found guess (λ node is. same node (ap (λ o. Ok o) is)) right
+found_within f graph y found (Err e) same right = tt
+found_within f graph y found (Ok None) same right = tt
+found_within f graph y found (Ok (Some node)) same right = subst (λ r. IfOk r (λ guess. IfSome guess (IsGuess f graph y))) (same node refl) right
 
 -- what is known where one more is guessed
 pub guess_known : (f : Dqbf) (ranks : List ℕ) → HasLawfulPrefix f → (old new : AigGraph) (p : ℕ) (y : Existential) (definitions : List (Option Node)) (rules : List Rule) (guesses : List (Option Node))

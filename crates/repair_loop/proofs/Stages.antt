@@ -103,6 +103,18 @@ after_build f graph more t c p entries same s = record {
   faults = s.faults;
 }
 
+-- candidates that were found to fail without the solver
+pub failed_at_once : (f : Dqbf) (graph : AigGraph) (t : TableState) (c : Checker) (p : Padoa) (entries : List Entry) → IsSearch f graph t c p entries → AreRefuted f t c p entries
+failed_at_once f graph t c p entries s = record {
+  kept = s.kept;
+  undecided = s.undecided;
+  table = s.table;
+  checked = s.checked;
+  copied = s.copied;
+  apart = s.apart;
+  faults = let few = s.faults in omega (arith, few);
+}
+
 apart_as : (t u : TableState) (c d : Checker) (p : Padoa) → u.group ≡ t.group → group_of d ≡ group_of c → AreApart t c p → AreApart u d p
 apart_as t u c d p tables checkers a = record {
   tables = λ e. a.tables (sym tables ∙ e ∙ checkers);

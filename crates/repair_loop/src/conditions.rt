@@ -6,46 +6,64 @@
 //! often defined, and what defines it there serves everywhere.
 
 use crate::suspects::Defined;
-use dq_lits::{Lit, Memory};
+use dq_lits::{Lit, Memory, Row};
+use padoa_definitions::Pair;
 use std::alloc::Global;
 
 // How many clauses share a literal at least that is a condition.
 const FEWEST: u32 = 2;
 
 // How many sets of conditions are tried, and how many conditions one of them has at most.
-const MOST_SETS: usize = 4;
+pub(crate) const MOST_SETS: usize = 4;
 
 const MOST_CONDITIONS: usize = 32;
 
 // After so many existentials in a row for which no guess was found none is asked for.
 const MOST_IN_VAIN: usize = 32;
 
-/// Sets of conditions, and how many existentials in a row none of them gave a guess of. No contract
-/// speaks of them.
+/// Sets of conditions, and what was learned from asking for definitions under them. No contract
+/// speaks of it.
 #[derive(Drop)]
 pub(crate) struct Conditions {
     sets: Vec<Vec<Lit>>,
+    // For how many existentials in a row none of them gave a guess.
     in_vain: usize,
+    // Two rows that an existential can't tell apart, at which it has to have different bits: they
+    // refute the formula.
+    rows: Vec<Row>,
 }
 
 impl Conditions {
-    /// The conditions that a formula's clauses give.
-    pub(crate) fn new(alloc: Global, defined: &Defined) -> Result<Conditions, Memory> {
-        let mut conditions = Conditions {
+    /// No conditions yet.
+    pub(crate) fn none(alloc: Global) -> Conditions {
+        Conditions {
             sets: Vec::new(alloc),
             in_vain: 0,
-        };
-        conditions.put_all(alloc, defined)?;
-        Ok(conditions)
+            rows: Vec::new(alloc),
+        }
     }
 
-    /// The sets that are worth a question.
-    pub(crate) fn sets(&self) -> &[Vec<Lit>] {
-        if self.in_vain >= MOST_IN_VAIN {
-            &[]
-        } else {
-            &self.sets
+    /// The set of a number, if there is one and it is worth a question.
+    pub(crate) fn set(&self, number: usize) -> Option<&[Lit]> {
+        if self.in_vain >= MOST_IN_VAIN || !self.rows.is_empty() {
+            return None;
         }
+        match self.sets.get(number) {
+            Some(set) => Some(set),
+            None => None,
+        }
+    }
+
+    /// Rows that refute the formula, if some were found.
+    pub(crate) fn rows(&self) -> &[Row] {
+        &self.rows
+    }
+
+    /// Learns two rows that refute the formula.
+    pub(crate) fn keep(&mut self, pair: &Pair) -> Result<(), Memory> {
+        self.rows.push(pair.row1.copy()?)?;
+        self.rows.push(pair.row2.copy()?)?;
+        Ok(())
     }
 
     /// Learns whether they gave a guess.
@@ -57,10 +75,10 @@ impl Conditions {
         };
     }
 
-    // Puts some sets, each the negations of the literals on defined existentials that a clause which
-    // no definition makes true shares with another one; those of the last clauses first. Time follows
-    // the literals.
-    fn put_all(&mut self, alloc: Global, defined: &Defined) -> Result<(), Memory> {
+    /// Puts some sets, each the negations of the literals on defined existentials that a clause which
+    /// no definition makes true shares with another one; those of the last clauses first. Time follows
+    /// the literals.
+    pub(crate) fn put_all(&mut self, alloc: Global, defined: &Defined) -> Result<(), Memory> {
         let suspects = defined.suspects(alloc)?;
         self.put_of(alloc, defined, &suspects)
     }

@@ -2,30 +2,24 @@
 //! before the first candidates, and candidates take them where neither a row nor a rule says a bit.
 
 ghost use Rattle.std.specs.Prelude.{◌≡◌, ◌≤◌, ◌<◌, ℕ, true, length, None, Some, IfOk, IfSome, IsErrOf, IsSome, Ok, OnOk, slice_get};
-ghost use Rattle.dq_lits.specs.Derivation.{holds};
 ghost use Rattle.dq_lits.specs.Formula.{Existential, IsWellFormed, existential_of};
-ghost use Rattle.dq_lits.specs.Literal.{opposite, same_literal};
 ghost use Rattle.aig_graph.specs.Made.{Extends};
 ghost use Rattle.hint_log.specs.Entries.{steps_of};
-ghost use Rattle.hint_log.specs.Growth.{Grew};
-ghost use Rattle.log_laws.specs.Engines.{copies, IsAddedBy};
 ghost use Rattle.oracle.specs.Limits.{IsAtSomeLimit};
 ghost use Rattle.padoa_definitions.specs.Copies.{IsPadoa};
 ghost use Rattle.candidate_functions.specs.Candidates.{IsGuess};
 ghost use Rattle.repair_loop.specs.Searching.{IsFresh, HasInputs, AreKnown};
-ghost use Rattle.repair_loop.specs.Guessing.{AreConditions};
+ghost use Rattle.repair_loop.specs.Guessing.{AreConditions, LeavesKnown};
 
-use crate::conditions::Conditions;
+use crate::conditions::MOST_SETS;
 use crate::definitions::{Definitions, ExistentialAt, no_nodes};
+use crate::lawful_conditions::lawful_conditions;
 use crate::suspects::Defined;
 use aig_graph::{Graph, Node};
 use dq_formula::Formula;
 use dq_lits::{Lit, Memory};
 use hint_log::{Log, Stop};
-use log_laws::laws::engines_leave_the_rest;
 use oracle::Oracle;
-use padoa_definitions::Guess;
-use std::alloc::Global;
 
 // How many clauses are learned for a question at most.
 const MOST_STEPS: u64 = 1000;
@@ -56,8 +50,22 @@ impl Definitions {
         ensures limit { IsErrOf result Stop.Limit → IsAtSomeLimit log.new }
     {
         self.guesses = no_nodes(self.questions.alloc, f.existentials().len())?;
-        let mut conditions = self.conditions(f, graph)?;
-        self.guess_each(oracle, graph, f, &mut conditions, log)
+        self.find_conditions(f, graph)?;
+        self.guess_each(oracle, graph, f, log)
+    }
+
+    // The conditions that are tried.
+    fn find_conditions(&mut self, f: &Formula, graph: &Graph) -> Result<(), Memory>
+        ensures left { LeavesKnown self.old self.new }
+    {
+        let defined = Defined {
+            f,
+            graph,
+            nodes: &self.nodes,
+        };
+        self.questions
+            .conditions
+            .put_all(self.questions.alloc, &defined)
     }
 
     fn guess_each<O: Oracle>(
@@ -65,7 +73,6 @@ impl Definitions {
         oracle: &mut O,
         graph: &mut Graph,
         f: &Formula,
-        conditions: &mut Conditions,
         log: &mut Log,
     ) -> Result<(), Stop>
         requires fit { O.Fits oracle.old log.old }
@@ -88,19 +95,9 @@ impl Definitions {
         f.every_formula_is_lawful();
         for place in 0..f.existentials().len() {
             let existential = ExistentialAt { f, place };
-            self.guesses[place] = self.guess(oracle, graph, &existential, conditions, log)?;
+            self.guesses[place] = self.guess(oracle, graph, &existential, log)?;
         }
         Ok(())
-    }
-
-    // The conditions that are tried.
-    fn conditions(&self, f: &Formula, graph: &Graph) -> Result<Conditions, Memory> {
-        let defined = Defined {
-            f,
-            graph,
-            nodes: &self.nodes,
-        };
-        Conditions::new(self.questions.alloc, &defined)
     }
 
     // A guess of an existential, if it has no definition.
@@ -109,7 +106,6 @@ impl Definitions {
         oracle: &mut O,
         graph: &mut Graph,
         existential: &ExistentialAt,
-        conditions: &mut Conditions,
         log: &mut Log,
     ) -> Result<Option<Node>, Stop>
         requires fit { O.Fits oracle.old log.old }
@@ -122,7 +118,7 @@ impl Definitions {
         ensures fresh { IsFresh existential.now.f.now log.new.entries }
         ensures limit_same { log.new.limit ≡ log.old.limit }
         ensures extends { Extends graph.old graph.new }
-        ensures same { self.new ≡ self.old }
+        ensures left { LeavesKnown self.old self.new }
         ensures padoa { IsPadoa existential.now.f.now self.new.padoa log.new.entries }
         ensures guess { (e : Existential)
             → slice_get existential.now.f.now.existentials existential.now.place ≡ Some e
@@ -132,8 +128,8 @@ impl Definitions {
         if !self.is_undefined(existential.place) {
             return Ok(None);
         }
-        let guess = self.first_guess(oracle, graph, existential, conditions.sets(), log)?;
-        conditions.learn(guess.is_some());
+        let guess = self.first_guess(oracle, graph, existential, log)?;
+        self.questions.conditions.learn(guess.is_some());
         Ok(guess)
     }
 
@@ -151,7 +147,6 @@ impl Definitions {
         oracle: &mut O,
         graph: &mut Graph,
         existential: &ExistentialAt,
-        sets: &[Vec<Lit>],
         log: &mut Log,
     ) -> Result<Option<Node>, Stop>
         requires fit { O.Fits oracle.old log.old }
@@ -164,16 +159,15 @@ impl Definitions {
         ensures fresh { IsFresh existential.now.f.now log.new.entries }
         ensures limit_same { log.new.limit ≡ log.old.limit }
         ensures extends { Extends graph.old graph.new }
-        ensures same { self.new ≡ self.old }
+        ensures left { LeavesKnown self.old self.new }
         ensures padoa { IsPadoa existential.now.f.now self.new.padoa log.new.entries }
         ensures guess { (e : Existential)
             → slice_get existential.now.f.now.existentials existential.now.place ≡ Some e
             → IfOk result (λ guess. IfSome guess (IsGuess existential.now.f.now graph.new e)) }
         ensures limit { IsErrOf result Stop.Limit → IsAtSomeLimit log.new }
     {
-        engines_leave_the_rest();
-        for conditions in sets {
-            let guess = self.guess_under(oracle, graph, existential, conditions, log)?;
+        for number in 0..MOST_SETS {
+            let guess = self.guess_under(oracle, graph, existential, number, log)?;
             if let Some(node) = guess {
                 return Ok(Some(node));
             }
@@ -181,28 +175,27 @@ impl Definitions {
         Ok(None)
     }
 
-    // A guess of an existential under conditions, if so many steps suffice. Where all that are left
-    // don't, it stops.
+    // A guess of an existential under the conditions of a number, if there are any.
     fn guess_under<O: Oracle>(
         &mut self,
         oracle: &mut O,
         graph: &mut Graph,
         existential: &ExistentialAt,
-        conditions: &[Lit],
+        number: usize,
         log: &mut Log,
     ) -> Result<Option<Node>, Stop>
         requires fit { O.Fits oracle.old log.old }
         requires formula { IsWellFormed existential.now.f.now }
+        requires fresh { IsFresh existential.now.f.now log.old.entries }
         requires padoa { IsPadoa existential.now.f.now self.old.padoa log.old.entries }
         requires inputs { HasInputs existential.now.f.now graph.old }
         requires place { existential.now.place < length existential.now.f.now.existentials }
         ensures fit { O.Fits oracle.new log.new }
-        ensures same { self.new ≡ self.old }
-        ensures padoa { IsPadoa existential.now.f.now self.new.padoa log.new.entries }
-        ensures grew { (group : ℕ)
-            → Grew (IsAddedBy existential.now.f.now copies group true log.old.entries)
-            log.old log.new }
+        ensures fresh { IsFresh existential.now.f.now log.new.entries }
+        ensures limit_same { log.new.limit ≡ log.old.limit }
         ensures extends { Extends graph.old graph.new }
+        ensures left { LeavesKnown self.old self.new }
+        ensures padoa { IsPadoa existential.now.f.now self.new.padoa log.new.entries }
         ensures guess { (e : Existential)
             → slice_get existential.now.f.now.existentials existential.now.place ≡ Some e
             → IfOk result (λ guess. IfSome guess (IsGuess existential.now.f.now graph.new e)) }
@@ -211,10 +204,15 @@ impl Definitions {
         let f = existential.f;
         f.every_formula_is_lawful();
         let y = f.existentials()[existential.place];
-        let conditions = lawful_conditions(self.questions.alloc, f, y, conditions)?;
+        let Some(set) = self.questions.conditions.set(number) else {
+            return Ok(None);
+        };
+        let conditions = lawful_conditions(self.questions.alloc, f, y, set)?;
         self.guess_within(oracle, graph, f, y, &conditions, log)
     }
 
+    // A guess of an existential under conditions, if so many steps suffice. Where all that are left
+    // don't, it stops.
     fn guess_within<O: Oracle>(
         &mut self,
         oracle: &mut O,
@@ -226,16 +224,17 @@ impl Definitions {
     ) -> Result<Option<Node>, Stop>
         requires fit { O.Fits oracle.old log.old }
         requires formula { IsWellFormed f.now }
+        requires fresh { IsFresh f.now log.old.entries }
         requires padoa { IsPadoa f.now self.old.padoa log.old.entries }
         requires inputs { HasInputs f.now graph.old }
         requires existential { IsSome (existential_of f.now y) }
         requires conditions { AreConditions f.now y conditions.now }
         ensures fit { O.Fits oracle.new log.new }
-        ensures same { self.new ≡ self.old }
-        ensures padoa { IsPadoa f.now self.new.padoa log.new.entries }
-        ensures grew { (group : ℕ) → Grew (IsAddedBy f.now copies group true log.old.entries)
-            log.old log.new }
+        ensures fresh { IsFresh f.now log.new.entries }
+        ensures limit_same { log.new.limit ≡ log.old.limit }
         ensures extends { Extends graph.old graph.new }
+        ensures left { LeavesKnown self.old self.new }
+        ensures padoa { IsPadoa f.now self.new.padoa log.new.entries }
         ensures guess { (e : Existential) → existential_of f.now y ≡ Some e
             → IfOk result (λ guess. IfSome guess (IsGuess f.now graph.new e)) }
         ensures limit { IsErrOf result Stop.Limit → IsAtSomeLimit log.new }
@@ -243,10 +242,10 @@ impl Definitions {
         let whole = log.limit();
         let most = most_steps(log);
         log.set_limit(most);
-        let found = self.padoa.guess(oracle, graph, f, y, conditions, log);
+        let found = self.guess_or_learn(oracle, graph, f, y, conditions, log);
         let _ = log.steps();
         log.set_limit(whole);
-        guessed(found, most == whole)
+        within(found, most == whole)
     }
 }
 
@@ -258,56 +257,14 @@ fn most_steps(log: &Log) -> u64
     log.limit().min(log.steps().saturating_add(MOST_STEPS))
 }
 
-// The node that was found, or none where there is none or the question's own limit cut it off.
-fn guessed(found: Result<Guess, Stop>, is_whole: bool) -> Result<Option<Node>, Stop>
-    ensures node { (node : _) → result ≡ Ok (Some node) → found ≡ Ok (Guess.Node node) }
+// What was found, or none where the question's own limit cut it off.
+fn within(found: Result<Option<Node>, Stop>, is_whole: bool) -> Result<Option<Node>, Stop>
+    ensures node { (node : _) → result ≡ Ok (Some node) → found ≡ Ok (Some node) }
     ensures limit { IsErrOf result Stop.Limit → (is_whole ≡ true) × IsErrOf found Stop.Limit }
 {
     match found {
-        Ok(Guess::Node(node)) => Ok(Some(node)),
-        Ok(Guess::Pair(_)) => Ok(None),
+        Ok(node) => Ok(node),
         Err(Stop::Memory) => Err(Stop::Memory),
         Err(Stop::Limit) => { if is_whole { Err(Stop::Limit) } else { Ok(None) } }
     }
-}
-
-// Those of some literals on declared variables, but for one, that contradict none before them.
-fn lawful_conditions(alloc: Global, f: &Formula, y: u64, some: &[Lit]) -> Result<Vec<Lit>, Memory>
-    ensures { IfOk result (λ lits. AreConditions f.now y lits.items) }
-{
-    let mut lawful = Vec::new(alloc);
-    for l in some {
-        put_lawful(&mut lawful, f, y, *l)?;
-    }
-    Ok(lawful)
-}
-
-fn put_lawful(lawful: &mut Vec<Lit>, f: &Formula, y: u64, l: Lit) -> Result<(), Memory>
-    requires { AreConditions f.now y lawful.old.items }
-    ensures { OnOk result (AreConditions f.now y lawful.new.items) }
-{
-    if !f.is_declared(l.var()) {
-        return Ok(());
-    }
-    if l.var() == y {
-        return Ok(());
-    }
-    if contradicts(lawful, l) {
-        return Ok(());
-    }
-    lawful.push(l)?;
-    Ok(())
-}
-
-// Whether the negation of a literal is there.
-fn contradicts(lits: &[Lit], l: Lit) -> bool
-    ensures { result ≡ holds lits.now (opposite l) }
-{
-    lits.iter().any(|k| is_negation(*k, l))
-}
-
-fn is_negation(k: Lit, l: Lit) -> bool
-    ensures { result ≡ same_literal (opposite l) k }
-{
-    l.not() == k
 }

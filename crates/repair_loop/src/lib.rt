@@ -6,6 +6,7 @@
 pub use decisions::{Verdict, decide};
 
 mod candidates;
+mod clashes;
 mod conditions;
 mod decisions;
 mod definitions;
@@ -13,6 +14,7 @@ mod forcing;
 mod guessing;
 mod judging;
 mod known_inputs;
+mod lawful_conditions;
 mod occurrences;
 mod questions;
 mod samples;

@@ -2,6 +2,7 @@
 
 ghost use Rattle.std.specs.Prelude.{◌<◌, length};
 
+use crate::conditions::Conditions;
 use crate::occurrences::Occurrences;
 use crate::samples::{Sample, bits_of};
 use crate::walks::Walk;
@@ -33,6 +34,7 @@ const MOST_IN_A_ROUND: usize = 64;
 pub(crate) struct Questions {
     pub alloc: Global,
     pub occurrences: Occurrences,
+    pub conditions: Conditions,
     // The existentials' places in the order in which they are asked for, and their numbers there.
     order: Vec<usize>,
     numbers: Vec<usize>,
@@ -56,6 +58,7 @@ impl Questions {
         Ok(Questions {
             alloc,
             occurrences: Occurrences::new(alloc, f)?,
+            conditions: Conditions::none(alloc),
             order: Vec::new(alloc),
             numbers: vec![in alloc; 0usize; count]?,
             is_free: vec![in alloc; false; count]?,

@@ -1,10 +1,8 @@
-use Rattle.std.proofs.Common.{◌≡◌, ◌∙◌, ◌<◌, length, set, refl, sym, ap, subst, arith, length-set}
+use Rattle.std.proofs.Common.{◌≡◌, ◌∙◌, ◌<◌, length, set, refl, sym, ap, arith, length-set}
 use Rattle.std.proofs.lemmas.List.{length-map}
 use Rattle.candidate_functions.proofs.LargerGraphs.{extends-refl, extends-trans}
 use Rattle.dq_formula.specs.Prefix.{existential_variables}
-use Rattle.repair_loop.specs.declared.definitions.Definitions.{Definitions}
-use Rattle.repair_loop.specs.Searching.{AreKnown}
-use Rattle.repair_loop.proofs.Defined.{existential_there, guess_known}
+use Rattle.repair_loop.proofs.Defined.{existential_there, guess_known, left_known}
 use Rattle.repair_loop.proofs.definitions.Definitions.guess_each.Goals as goal
 
 pub guess-requires-clause-inputs : goal.guess-requires-clause-inputs
@@ -26,23 +24,24 @@ loop-place-preserved g c =
     let inv = c.loop-place.invariant in
     let f = c.args.f.now in
     let place = c.loop-place.place in
-    let d = c.loop-place.self in
+    let d = c.guess.new.self in
+    let left = c.guess.ensures.left in
     let lawful = c.every_formula_is_lawful.ensures in
     let many : length c.existentials-place-end.result.now ≡ length f.existentials = ap length c.existentials-place-end.ensures ∙ length-map f.existentials (λ y. y.variable) in
     let inside : place < length f.existentials = omega (arith, c.loop-place-test.true, many) in
     let here = existential_there f lawful (existential_variables f) refl place inside in
     let graph = c.guess.new.graph in
     let guess = c.in_ok-self.field-0 in
-    let known = guess_known f d.ranks.items lawful.prefix c.loop-place.graph graph place here.0 d.nodes.items d.rules.items d.guesses.items guess c.guess.ensures.extends inv.many here.1
-    (c.in_ok-self.ensures.guess here.0 here.1) inv.known in
+    let as_many = ap length left.guesses ∙ inv.many in
     record {
       fit = c.guess.ensures.fit;
       fresh = c.guess.ensures.fresh;
       padoa = c.guess.ensures.padoa;
       limit = c.guess.ensures.limit_same ∙ inv.limit;
       extends = extends-trans c.args.graph.now c.loop-place.graph graph inv.extends c.guess.ensures.extends;
-      known = subst (λ (e : Definitions). AreKnown f e.ranks.items graph e.nodes.items e.rules.items (set e.guesses.items place guess)) (sym c.guess.ensures.same) known;
-      many = subst (λ (e : Definitions). length (set e.guesses.items place guess) ≡ length f.existentials) (sym c.guess.ensures.same) (length-set d.guesses.items place guess ∙ inv.many);
+      known = guess_known f d.ranks.items lawful.prefix c.loop-place.graph graph place here.0 d.nodes.items d.rules.items d.guesses.items guess c.guess.ensures.extends as_many here.1
+          (c.in_ok-self.ensures.guess here.0 here.1) (left_known f c.loop-place.graph c.loop-place.self d left inv.known);
+      many = length-set d.guesses.items place guess ∙ as_many;
     }
 
 pub returns-in_err-self-clause-extends : goal.returns-in_err-self-clause-extends

@@ -11,7 +11,7 @@ use Rattle.repair_loop.specs.Stopping.{IsStoppedAtLimit}
 use Rattle.repair_loop.proofs.Stops.{by_lemma, by_round}
 use Rattle.repair_loop.proofs.Stages.{outputs_supported, after_turn, after_round, log_grew, log_same, log_then, round_grew, round_counts, steps_left}
 use Rattle.repair_loop.proofs.UniversalInputs.{outputs_read_universals}
-use Rattle.repair_loop.proofs.decisions.Engines.judge.Goals as goal
+use Rattle.repair_loop.proofs.decisions.Engines.judge_by_solver.Goals as goal
 
 pub returns-in_err-id-clause-grew : goal.returns-in_err-id-clause-grew
 returns-in_err-id-clause-grew g c = log_grew _ c.args.log.now c.turn.new.log c.turn.ensures.grew

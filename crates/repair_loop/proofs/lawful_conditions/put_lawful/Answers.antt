@@ -4,7 +4,7 @@ use Rattle.dq_lits.specs.Literal.{variable_of, opposite}
 use Rattle.dq_formula.specs.Prefix.{is_declared}
 use Rattle.repair_loop.specs.Guessing.{AreConditions}
 use Rattle.repair_loop.proofs.ConsistentConditions.{one_more}
-use Rattle.repair_loop.proofs.guessing.put_lawful.Goals as goal
+use Rattle.repair_loop.proofs.lawful_conditions.put_lawful.Goals as goal
 
 pub returns : goal.returns
 returns c =
