@@ -10,14 +10,11 @@
 pub use checks::check;
 pub use faults::RefFault;
 
-mod alike;
-mod blocks;
+mod bindings;
 mod checks;
 mod faults;
-mod first_rows;
-mod instances;
-mod known_blocks;
+mod judging;
+mod known_bases;
 pub mod laws;
-mod lines;
-mod pair_tables;
-mod parts;
+mod pair_names;
+mod row_trees;
