@@ -33,7 +33,7 @@ is_existential (Universal _) = false
 is_existential (Existential _ _) = true
 is_existential Free = false
 
--- bindings are as declared, and those of existentials differ; a set has at most `count` existentials
+-- bindings are as declared, and those of existentials differ; a set has at most `count` of them
 pub record AreBindings (f : Dqbf) (sets : List DependencySet) (bindings : List Binding) (count : ℕ)
     : Type 0 where
   pub each : (v : ℕ) → IsBinding f sets v (binding_at bindings v)

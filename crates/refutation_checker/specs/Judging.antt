@@ -31,8 +31,9 @@ on_pair x row l = on_variable (pair_of x.formula x.rows row (variable_of l)) l
 abbrev pub pair_part : Frame → List Bool → List Literal → List Literal
 pair_part x row clause = map (on_pair x row) (existential_part x.formula clause)
 
--- whether a clause has one more universal literal that is true, and else what it adds to the names
-abbrev pub IsRead : Frame → Names → List Bool → Literal → List Literal → List Literal → Bool → Type 0
+-- whether a literal is a universal one that is true, and else what it adds to the names
+abbrev pub IsRead : Frame → Names → List Bool → Literal → List Literal → List Literal → Bool
+    → Type 0
 IsRead x n row l old new true = universal_literal_true x.formula row l ≡ true
 IsRead x n row l old new false =
     (universal_literal_true x.formula row l ≡ false)
@@ -46,7 +47,8 @@ clause_under x at =
 
 -- a clause under a row, on names
 abbrev pub IsClause : Frame → Names → Option (List Literal) → List Literal → Bool → Type 0
-IsClause x n clause named true = (literals : List Literal) × ((clause ≡ Some literals) × AreNamed x n literals named)
+IsClause x n clause named true =
+    (literals : List Literal) × ((clause ≡ Some literals) × AreNamed x n literals named)
 IsClause x n clause named false = clause ≡ None
 
 -- lines on names
@@ -72,8 +74,10 @@ abbrev pub AreBehind : Frame → List (ℕ × List Literal) → Type 0
 AreBehind x lines =
     AllByRecursion (λ line. instance_at x.formula x.rows line.0 ≡ None) lines
 
--- Hints: those that are left, whichever names are given later.
-abbrev pub HintsLeft : Frame → Names → List (ℕ × List Literal) → List Literal → List ℕ → LineState → ℕ → Type 0
+-- judged by the hints that are left, the line is derived as by all of them, whichever names are
+-- given later
+abbrev pub HintsLeft : Frame → Names → List (ℕ × List Literal) → List Literal → List ℕ → LineState
+    → ℕ → Type 0
 HintsLeft x n lines literals hints line i = (m : Names) → Extends x n m
     → is_derived_by line (map (named_clause x m lines) (drop i hints))
     ≡ derive_line (renamed (new_number x m) literals) (map (named_clause x m lines) hints)
@@ -90,7 +94,8 @@ pub record IsHeld (x : Frame) (n : Names) (lines : List (ℕ × List Literal)) (
   pub going : p.fault ≡ None
 
 -- what a line that was judged leaves
-abbrev pub IsJudged : Frame → Names → List (ℕ × List Literal) → ℕ → List Literal → ProofState → Bool → Type 0
+abbrev pub IsJudged : Frame → Names → List (ℕ × List Literal) → ℕ → List Literal → ProofState
+    → Bool → Type 0
 IsJudged x n lines id literals p true =
     IsHeld x n (lines ++ (id, normal_literals x literals) ∷ []) p × (p.finished ≡ is_empty literals)
 IsJudged x n lines id literals p false = p.fault ≡ Some id

@@ -18,8 +18,8 @@ pub record Frame : Type 0 where
   pub sets : List DependencySet
   pub bindings : List Binding
 
--- the names that pairs have by now: for each dependency set, those of the first existential's pairs,
--- by the bits of the rows; others follow, in order of declaration
+-- the names that pairs have by now: for each dependency set, by the bits of the rows, those of its
+-- first existential's pairs; the others follow, in order of declaration
 pub record Names : Type 0 where
   pub trees : List (List Node)
   -- names that are given later lie from here on

@@ -107,10 +107,22 @@ impl Bindings {
             (AreBindings f.now self.new.sets.items self.new.of.items (place + 1)) }
         ensures same { self.new.of.items ≡ self.old.of.items }
     {
-        f.every_formula_is_lawful();
-        if let Some(Binding::Existential { set, .. }) = self.of.get(leader as usize) {
-            return Ok(*set as usize);
+        match self.get(leader) {
+            Binding::Existential { set, .. } => Ok(set as usize),
+            Binding::Universal { .. } | Binding::Free => self.add_set(f, place),
         }
+    }
+
+    // A set that no existential has yet, that of the existential at a place.
+    fn add_set(&mut self, f: &Formula, place: usize) -> Result<usize, Memory>
+        requires place { place < length f.now.existentials }
+        requires bindings { AreBindings f.now self.old.sets.items self.old.of.items place }
+        ensures set { IfOk result (IsSetFor f.now self.new.sets.items place) }
+        ensures bindings { OnOk result
+            (AreBindings f.now self.new.sets.items self.new.of.items (place + 1)) }
+        ensures same { self.new.of.items ≡ self.old.of.items }
+    {
+        f.every_formula_is_lawful();
         let set = self.sets.len();
         self.sets.push(DependencySet {
             leader: f.existentials()[place],

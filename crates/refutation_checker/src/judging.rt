@@ -242,7 +242,8 @@ impl Judging {
             → AreBehind (frame e.now) lines
             → Extends (frame e.now) (names_in self.new.names) m
             → (clauses : Hinted) → is_derived_by self.new.proving.line clauses
-            ≡ is_derived_by self.old.proving.line (named_clause (frame e.now) m lines id ∷ clauses)) }
+            ≡ is_derived_by self.old.proving.line
+            (named_clause (frame e.now) m lines id ∷ clauses)) }
     {
         let Some(at) = instance_places(e, id) else {
             self.proving.hint_line(id)?;
