@@ -15,9 +15,9 @@ ghost use Rattle.std.specs.List.{filter};
 
 use crate::bases::{Base, FewLiterals};
 use crate::derivation::{assume_false, line_fault};
+use crate::faults::ProofFault;
 use crate::progress::{Progress, propagate};
 use crate::statuses::{Status, status_among};
-use crate::steps::ProofFault;
 use crate::stores::Store;
 use crate::trails::Trail;
 use dq_lits::{Lit, Memory};
