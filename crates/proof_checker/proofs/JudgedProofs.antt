@@ -11,10 +11,9 @@ use Rattle.cert_text.specs.Grammar.{AreSteps, HasSmallNumbers}
 use Rattle.cert_text.specs.Header.{max_count as max_lines}
 use Rattle.cert_text.specs.NegatedMatrix.{negated_clauses, without_constants}
 use Rattle.cert_text.proofs.NegatedClauses.{clauses_counted}
-use Rattle.rup_core.specs.Growth.{AreNumbered}
 use Rattle.skolem_checker.specs.Checks.{Candidate}
 use Rattle.proof_checker.specs.CircuitProof.{circuit_literal, negated_candidate}
-use Rattle.proof_checker.specs.Lines.{AreProofLines}
+use Rattle.proof_checker.specs.Lines.{AreNumbered, AreProofLines}
 
 -- no clause of the negated matrix has the id of a line or a later one
 pub none_behind : (c : Candidate) (first id : ℕ) → first ≡ first_proof_id c.formula c.circuit.netlist → first ≤ id → negated_candidate c id ≡ None
@@ -22,6 +21,9 @@ none_behind c first zero is le = absurd (omega (arith, le, is))
 none_behind c first (suc i) is le =
     let counted = clauses_counted c.formula c.circuit.netlist (circuit_literal c.circuit) in
     ap (option_and_then without_constants) (slice_get_past (negated_clauses c.formula c.circuit.netlist (circuit_literal c.circuit)) i (omega (arith, counted, is, le)))
+
+pub first_from_one : (c : Candidate) (first : ℕ) → first ≡ first_proof_id c.formula c.circuit.netlist → 1 ≤ first
+first_from_one c first is = omega (arith, is)
 
 -- the lines have their ids
 some_step : (s t : ProofStep) → Some s ≡ Some t → t.id ≡ s.id

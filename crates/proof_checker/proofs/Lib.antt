@@ -1,3 +1,4 @@
+pub mod DerivedLines
 pub mod NegatedClauses
 pub mod WitnessAssignments
 pub mod RefutedNegations

@@ -1,20 +1,21 @@
 //! Judging a circuit's proof.
 
-ghost use Rattle.std.specs.Prelude.{◌≡◌, ◌≤◌, IfOk};
+ghost use Rattle.std.specs.Prelude.{◌≡◌, ◌≤◌, ℕ, [], None, false, IfOk, OnOk};
+ghost use Rattle.dq_lits.specs.Derivation.{proof_fault};
 ghost use Rattle.aiger_text.specs.Lines.{max_count};
 ghost use Rattle.cert_text.specs.ProofGrammar.{IsDqpOf};
 ghost use Rattle.rup_core.specs.ProofVerdict.{proof_fault_in};
+ghost use Rattle.rup_core.specs.Runs.{fault_so_far};
 ghost use Rattle.proof_checker.specs.Answer.{IsAnswer};
 ghost use Rattle.proof_checker.specs.CircuitProof.{circuit_proof_fault};
-ghost use Rattle.proof_checker.specs.Lines.{AreProofLines};
+ghost use Rattle.proof_checker.specs.Lines.{AreNumbered, AreProofLines};
 
 use crate::faults::ProofFault;
 use crate::negated::NegatedMatrix;
 use cert_text::{Dqp, StepList};
 use dq_lits::Memory;
-use rup_core::ProofFault as LineFault;
+use rup_core::{Base, ProofFault as LineFault, Proving};
 use skolem_checker::Bench;
-use sparse_proofs::first_fault;
 use std::alloc::Global;
 
 /// Whether a proof shows that a circuit makes every clause true: every line is derived, in order,
@@ -46,7 +47,8 @@ fn answer(fault: Option<LineFault>) -> Result<(), ProofFault>
     }
 }
 
-// The first fault of a proof whose lines have the ids from `first` on.
+// The first fault of a proof whose lines have the ids from `first` on. There is a mark for a
+// variable a line; the variables beyond take memory while a line assigns them.
 fn lines_fault(
     alloc: Global,
     bench: &Bench,
@@ -60,5 +62,31 @@ fn lines_fault(
     bench.circuit().every_circuit_is_a_netlist();
     let _ = bench.formula().clauses();
     let matrix = NegatedMatrix::new(alloc, bench)?;
-    first_fault(alloc, &matrix, first, steps)
+    let mut proving = Proving::new(alloc, steps.len())?;
+    judge_all(&matrix, first, steps, &mut proving)?;
+    Ok(proving.fault())
+}
+
+// Judges lines up to the first that isn't derived.
+fn judge_all<B: Base>(
+    base: &B,
+    first: u64,
+    steps: &StepList,
+    proving: &mut Proving,
+) -> Result<(), Memory>
+    requires from_one { 1 ≤ first }
+    requires numbered { AreNumbered first steps.now }
+    requires none { (proving.old.lines ≡ []) × (proving.old.fault ≡ None)
+        × (proving.old.finished ≡ false) }
+    ensures { OnOk result (fault_so_far proving.new.fault proving.new.finished
+        ≡ proof_fault (B.clauses base.now) steps.now) }
+{
+    for k in 0..steps.len() {
+        let step = steps.get(k);
+        proving.line(base, step.id, step.lits, step.hints)?;
+        if proving.underived().is_some() {
+            return Ok(());
+        }
+    }
+    Ok(())
 }

@@ -6,7 +6,7 @@ use Rattle.std.proofs.lemmas.Nat.{div-mul-add}
 use Rattle.std.proofs.lemmas.Option.{slice_get-get_or}
 use Rattle.dq_lits.specs.Expansion.{instance_at, instance_clause}
 use Rattle.dq_lits.specs.Formula.{Dqbf}
-use Rattle.refutation_checker.specs.Labels.{row_of}
+use Rattle.refutation_checker.specs.Rows.{row_of}
 use Rattle.refutation_checker.proofs.JudgedRefutations.{no_row}
 
 -- the clause at j under row k, both from 0

@@ -10,16 +10,16 @@ use Rattle.std.proofs.lemmas.List.Sums.{prefix_len_passes, prefix_len_stops}
 use Rattle.dq_lits.specs.Expansion.{agree_on, row_assignment, pair_number}
 use Rattle.dq_lits.specs.Formula.{Existential, Dqbf, existential_of}
 use Rattle.dq_lits.specs.Henkin.{restriction, same_bit, same_bits}
-use Rattle.refutation_checker.specs.Labels.{row_of}
+use Rattle.refutation_checker.specs.Rows.{row_of}
 use Rattle.refutation_checker.specs.Refutation.{normal_of, normal_number}
 
 -- the number's row and existential
-row_is : (k v w : ℕ) → 1 ≤ w → w ≤ v → (k * v + w - 1) / v ≡ k
+pub row_is : (k v w : ℕ) → 1 ≤ w → w ≤ v → (k * v + w - 1) / v ≡ k
 row_is k v w low high =
     let place : k * v + w - 1 ≡ k * v + (w - 1) = omega arith in
     ap (λ n. n / v) place ∙ div-mul-add k v (w - 1) (omega arith)
 
-variable_is : (k v w : ℕ) → 1 ≤ w → w ≤ v → (k * v + w - 1) % v + 1 ≡ w
+pub variable_is : (k v w : ℕ) → 1 ≤ w → w ≤ v → (k * v + w - 1) % v + 1 ≡ w
 variable_is k v w low high =
     let place : k * v + w - 1 ≡ k * v + (w - 1) = omega arith in
     let below : w - 1 < v = omega arith in
@@ -48,7 +48,7 @@ same_bit-itself : (a : Bool) → same_bit a a ≡ true
 same_bit-itself true = refl
 same_bit-itself false = refl
 
-same_bits-equal : (xs ys : List Bool) → same_bits xs ys ≡ true → xs ≡ ys
+pub same_bits-equal : (xs ys : List Bool) → same_bits xs ys ≡ true → xs ≡ ys
 same_bits-equal [] [] h = refl
 same_bits-equal [] (_ ∷ _) h = cc
 same_bits-equal (_ ∷ _) [] h = cc
@@ -56,7 +56,7 @@ same_bits-equal (x ∷ xs) (y ∷ ys) h =
     let both = and_parts (same_bit x y) (same_bits xs ys) h in
     ap (λ b. b ∷ xs) (same_bit-equal x y both.0) ∙ ap (λ bs. y ∷ bs) (same_bits-equal xs ys both.1)
 
-same_bits-itself : (xs : List Bool) → same_bits xs xs ≡ true
+pub same_bits-itself : (xs : List Bool) → same_bits xs xs ≡ true
 same_bits-itself [] = refl
 same_bits-itself (x ∷ xs) = rw (same_bit-itself x) (same_bits-itself xs)
 

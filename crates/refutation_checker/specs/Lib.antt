@@ -1,9 +1,10 @@
 pub mod Refutation
 pub mod Answer
 pub mod Pairs
-pub mod KnownBlocks
-pub mod PairTable
-pub mod Labels
-pub mod FirstRows
-pub mod Lines
-pub mod Alike
+pub mod Rows
+pub mod RowTrees
+pub mod Bindings
+pub mod Namings
+pub mod KnownBases
+pub mod PairNames
+pub mod Judging

@@ -1,5 +1,5 @@
 -- Pairs of a row and an existential, by the existential's variable and the row.
-use Rattle.std.specs.Prelude.{ℕ, ◌+◌, ◌*◌, ◌/◌, ◌%◌, Bool, List, map, take, drop, length, Option, None, Some, is_some, IsSome}
+use Rattle.std.specs.Prelude.{ℕ, ◌+◌, ◌*◌, ◌/◌, Bool, List, Option, None, Some, is_some}
 use Rattle.std.specs.List.{filter, position_or_len}
 use Rattle.dq_lits.specs.Expansion.{agree_on}
 use Rattle.dq_lits.specs.Formula.{Existential, Dqbf, existential_of}
@@ -20,16 +20,6 @@ pair_of f rows row v = first_row f rows v row * f.variables + v
 -- how many blocks of 16 so many rows stand in; the last may have fewer
 abbrev pub blocks : ℕ → ℕ
 blocks rows = rows / 16 + 1
-
--- the number y * blocks + b of an existential y and the block at b
-abbrev pub IsBlock : Dqbf → ℕ → ℕ → Type 0
-IsBlock f rows number = IsSome (existential_of f (number / blocks rows))
-
--- the first rows that agree with each row of such a block
-abbrev pub block_firsts : Dqbf → List (List Bool) → ℕ → List ℕ
-block_firsts f rows number =
-    map (first_row f rows (number / blocks (length rows)))
-    (take 16 (drop (number % blocks (length rows) * 16) rows))
 
 -- the existential literals of a clause
 abbrev pub existential_part : Dqbf → List Literal → List Literal

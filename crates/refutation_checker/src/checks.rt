@@ -1,31 +1,26 @@
-ghost use Rattle.std.specs.Prelude.{◌≡◌, ◌≤◌, length, map, IfOk};
+ghost use Rattle.std.specs.Prelude.{◌≡◌, ◌≤◌, length, map, IfOk, OnOk, [], None, false};
 ghost use Rattle.dq_lits.specs.Derivation.{proof_fault};
 ghost use Rattle.dq_lits.specs.Expansion.{instance_at};
 ghost use Rattle.dq_lits.specs.Formula.{IsWellFormed};
 ghost use Rattle.cert_text.specs.Grammar.{AreSteps, IsDqrOf};
-ghost use Rattle.cert_text.specs.Header.{max_count};
 ghost use Rattle.cert_text.specs.Pairs.{is_pair_number};
 ghost use Rattle.cert_text.specs.Scan.{first_id};
 ghost use Rattle.rup_core.specs.ProofVerdict.{proof_fault_in};
+ghost use Rattle.rup_core.specs.Judging.{no_line};
+ghost use Rattle.rup_core.specs.Runs.{fault_so_far};
 ghost use Rattle.refutation_checker.specs.Answer.{IsAnswer};
-ghost use Rattle.refutation_checker.specs.Lines.{line_clauses, normal_steps};
-ghost use Rattle.refutation_checker.specs.Pairs.{existential_part};
-ghost use Rattle.refutation_checker.specs.Refutation.{refutation_fault};
+ghost use Rattle.refutation_checker.specs.PairNames.{frame, names_in, IsFrame, AreNames};
+ghost use Rattle.refutation_checker.specs.Refutation.{normal_step, refutation_fault};
 
-use crate::blocks::learn_steps;
+use crate::bindings::Bindings;
 use crate::faults::RefFault;
-use crate::instances::Instances;
-use crate::lines::{Lines, line_clauses};
-use crate::pair_tables::PairTable;
-use crate::parts::existential_parts;
+use crate::judging::Judging;
+use crate::pair_names::Expansion;
 use cert_text::{Dqr, StepList};
 use dq_formula::Formula;
-use dq_lits::{Clause, Lit, Memory};
-use flat_lists::FlatLists;
-use rup_core::{Marks, ProofFault, first_fault_any};
+use dq_lits::Memory;
+use rup_core::ProofFault;
 use std::alloc::Global;
-
-const MARKS_PER_LINE: usize = 32;
 
 /// Whether a refutation shows that a formula is false: every line is derived, in order, from the
 /// instances of the clauses under the rows and from the lines before it, and the last line is the
@@ -37,24 +32,15 @@ pub fn check(alloc: Global, f: &Formula, d: &Dqr) -> Result<(), RefFault>
     requires lawful { IsDqrOf f.now d.now }
     ensures { IsAnswer (refutation_fault f.now d.now) result }
 {
-    let parts = existential_parts(alloc, f)?;
-    let steps = &d.steps;
-    let mut table = PairTable::new(alloc, f, d.rows.items())?;
-    learn_steps(alloc, &mut table, &parts, steps)?;
-    let clauses = line_clauses(alloc, &table, steps)?;
-    let mut marks = Marks::new(alloc, near_pairs(&table, steps.len()))?;
-    let fault = lines_fault(&mut marks, &table, &parts, steps, &clauses)?;
+    f.every_formula_is_lawful();
+    let bindings = Bindings::new(alloc, f)?;
+    let e = Expansion {
+        formula: f,
+        rows: d.rows.items(),
+        bindings: &bindings,
+    };
+    let fault = lines_fault(alloc, &e, &d.steps)?;
     answer(fault)
-}
-
-// How many pairs have a mark at hand: all of them where the lines are not too few, so that memory
-// follows the lines.
-fn near_pairs(table: &PairTable, lines: usize) -> usize {
-    let pairs = table
-        .rows()
-        .len()
-        .saturating_mul(table.formula().vars() as usize);
-    pairs.min(lines.saturating_mul(MARKS_PER_LINE))
 }
 
 fn answer(fault: Option<ProofFault>) -> Result<(), RefFault>
@@ -67,30 +53,38 @@ fn answer(fault: Option<ProofFault>) -> Result<(), RefFault>
     }
 }
 
-// The first fault of some lines, on their pairs.
-fn lines_fault(
-    marks: &mut Marks,
-    table: &PairTable,
-    parts: &[Clause],
-    steps: &StepList,
-    clauses: &FlatLists<Lit>,
-) -> Result<Option<ProofFault>, Memory>
-    requires parts { parts.now ≡ map (existential_part table.now.formula) table.now.formula.matrix }
-    requires clauses { clauses.now ≡ line_clauses table.now steps.now }
-    requires few { length steps.now ≤ max_count }
-    requires numbered { AreSteps (is_pair_number table.now.formula (length table.now.rows))
-        (first_id table.now.formula (length table.now.rows)) steps.now }
-    ensures { IfOk result
-        (λ fault. proof_fault_in fault
-        ≡ proof_fault (instance_at table.now.formula table.now.rows)
-        (normal_steps table.now steps.now)) }
+// The first fault of some lines.
+fn lines_fault(alloc: Global, e: &Expansion, steps: &StepList) -> Result<Option<ProofFault>, Memory>
+    requires frame { IsFrame (frame e.now) }
+    requires numbered { AreSteps (is_pair_number (frame e.now).formula (length (frame e.now).rows))
+        (first_id (frame e.now).formula (length (frame e.now).rows)) steps.now }
+    ensures { IfOk result (λ fault. proof_fault_in fault
+        ≡ proof_fault (instance_at (frame e.now).formula (frame e.now).rows)
+        (map (normal_step (frame e.now).formula (frame e.now).rows) steps.now)) }
 {
-    let first = table.first_line();
-    let instances = Instances { table, parts };
-    let lines = Lines {
-        table,
-        steps,
-        clauses,
-    };
-    first_fault_any(marks, &instances, first, &lines)
+    let mut judging = Judging::new(alloc, e)?;
+    judge_all(e, steps, &mut judging)?;
+    Ok(judging.proving.fault())
+}
+
+// Judges lines up to the first that isn't derived.
+fn judge_all(e: &Expansion, steps: &StepList, judging: &mut Judging) -> Result<(), Memory>
+    requires frame { IsFrame (frame e.now) }
+    requires numbered { AreSteps (is_pair_number (frame e.now).formula (length (frame e.now).rows))
+        (first_id (frame e.now).formula (length (frame e.now).rows)) steps.now }
+    requires names { AreNames (frame e.now) judging.old.names }
+    requires none { (judging.old.proving.lines ≡ []) × (judging.old.proving.fault ≡ None)
+        × (judging.old.proving.finished ≡ false) }
+    ensures { OnOk result (fault_so_far judging.new.proving.fault judging.new.proving.finished
+        ≡ proof_fault (instance_at (frame e.now).formula (frame e.now).rows)
+        (map (normal_step (frame e.now).formula (frame e.now).rows) steps.now)) }
+{
+    for k in 0..steps.len() {
+        let step = steps.get(k);
+        judging.judge(e, step.id, step.lits, step.hints)?;
+        if judging.proving.underived().is_some() {
+            return Ok(());
+        }
+    }
+    Ok(())
 }

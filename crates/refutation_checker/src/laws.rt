@@ -6,7 +6,7 @@ ghost use Rattle.dq_lits.specs.Expansion.{agree_on, pair_number, instance_at, in
 ghost use Rattle.dq_lits.specs.Formula.{Existential, Dqbf, existential_of, IsWellFormed};
 ghost use Rattle.dq_lits.specs.Henkin.{IsFalseFormula};
 ghost use Rattle.cert_text.specs.declared.refutations.Dqr.{Dqr};
-ghost use Rattle.refutation_checker.specs.Labels.{row_of};
+ghost use Rattle.refutation_checker.specs.Rows.{row_of};
 ghost use Rattle.refutation_checker.specs.Refutation.{normal_number, refutation_fault};
 
 use dq_lits::laws::{derivation_refutes_expansion, expansion_lifts};

@@ -3,21 +3,18 @@
 //!
 //! The clauses of the formula are taken under each row of the universals (universal expansion), and
 //! each line has to be derived from these instances and the lines before it by hinted unit
-//! propagation. Neither the instances nor the pairs of rows and existentials are laid out:
-//! instances are read from the formula on demand, and a line marks the pairs that it assigns.
+//! propagation. Neither the instances nor the pairs of rows and existentials are laid out: an
+//! instance is made when a line hints it, and a pair gets its number when it first occurs.
 #![tactic(auto)]
 
 pub use checks::check;
 pub use faults::RefFault;
 
-mod alike;
-mod blocks;
+mod bindings;
 mod checks;
 mod faults;
-mod first_rows;
-mod instances;
-mod known_blocks;
+mod judging;
+mod known_bases;
 pub mod laws;
-mod lines;
-mod pair_tables;
-mod parts;
+mod pair_names;
+mod row_trees;

@@ -46,6 +46,15 @@ refute_from Faulty trues clauses = false
 abbrev pub is_derived_by : LineState → Hinted → Bool
 is_derived_by line clauses = refute_from line.progress line.trues clauses
 
+abbrev pub is_faulty_so_far : Progress → Bool
+is_faulty_so_far Going = false
+is_faulty_so_far Refuted = false
+is_faulty_so_far Faulty = true
+
+-- whichever clauses are hinted next, the line isn't derived
+abbrev pub is_faulty : LineState → Bool
+is_faulty line = is_faulty_so_far line.progress
+
 -- by the next clause's status
 abbrev pub refute_next : Progress → Status → List Literal → Hinted → Bool
 refute_next Going status trues clauses =

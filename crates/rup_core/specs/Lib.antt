@@ -1,6 +1,5 @@
 pub mod Assigned
 pub mod Extension
-pub mod Growth
 pub mod HintStep
 pub mod Items
 pub mod Judging

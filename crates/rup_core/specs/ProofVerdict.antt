@@ -1,8 +1,8 @@
--- What an answer of `first_fault` says.
+-- What is said of a proof's fault.
 use Rattle.std.specs.Prelude.{Option, None, Some}
 use Rattle.dq_lits.specs.Derivation.{underived, unfinished, ProofFault as Fault}
-use Rattle.rup_core.specs.declared.steps.ProofFault.{ProofFault}
-use Rattle.rup_core.specs.declared.steps.ProofFault.TheVariants.{Underived, Unfinished}
+use Rattle.rup_core.specs.declared.faults.ProofFault.{ProofFault}
+use Rattle.rup_core.specs.declared.faults.ProofFault.TheVariants.{Underived, Unfinished}
 
 abbrev pub proof_fault_in : Option ProofFault → Option Fault
 proof_fault_in None = None

@@ -12,19 +12,19 @@
 
 pub use bases::{Base, FewLiterals};
 pub use derivation::{Derived, derive, derive_any};
+pub use faults::ProofFault;
 pub use marks::Marks;
 pub use proving::Proving;
-pub use steps::{ProofFault, Steps, first_fault, first_fault_any};
 pub use stores::Store;
 
 mod bases;
 mod derivation;
+mod faults;
 pub mod laws;
 mod marks;
 mod pages;
 mod progress;
 mod proving;
 mod statuses;
-mod steps;
 mod stores;
 mod trails;

@@ -5,7 +5,7 @@ ghost use Rattle.dq_lits.specs.Literal.{Literal};
 ghost use Rattle.dq_lits.specs.Derivation.{LiveClauses};
 ghost use Rattle.rup_core.specs.Extension.{seen, UnitIsFree, UnitStandsWithin};
 ghost use Rattle.rup_core.specs.Range.{StandsWithin};
-ghost use Rattle.rup_core.specs.Judging.{Hinted, derive_line, is_derived_by, no_line, refute_from, refute_next};
+ghost use Rattle.rup_core.specs.Judging.{Hinted, derive_line, is_derived_by, is_faulty, no_line, refute_from, refute_next};
 ghost use Rattle.rup_core.specs.Lines.{clause_of_id};
 ghost use Rattle.rup_core.specs.Items.{is_among, derived, gone};
 ghost use Rattle.rup_core.specs.ProofVerdict.{proof_fault_in};
@@ -15,9 +15,9 @@ ghost use Rattle.std.specs.List.{filter};
 
 use crate::bases::{Base, FewLiterals};
 use crate::derivation::{assume_false, line_fault};
+use crate::faults::ProofFault;
 use crate::progress::{Progress, propagate};
 use crate::statuses::{Status, status_among};
-use crate::steps::ProofFault;
 use crate::stores::Store;
 use crate::trails::Trail;
 use dq_lits::{Lit, Memory};
@@ -208,6 +208,13 @@ impl Proving {
         };
         self.progress = advance(&mut self.trail, self.progress, status)?;
         Ok(())
+    }
+
+    /// Whether no further hint can make the line a derived one.
+    pub fn is_faulty(&self) -> bool
+        ensures { result ≡ is_faulty self.now.line }
+    {
+        matches!(self.progress, Progress::Faulty)
     }
 
     /// Ends the line with its id, which lies behind those of the lines before it; `lits` are its

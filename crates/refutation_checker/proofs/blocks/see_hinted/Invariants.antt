@@ -1,5 +1,0 @@
-use Rattle.refutation_checker.specs.PairTable.{AreBlocks}
-use Rattle.refutation_checker.proofs.blocks.see_hinted.Given as goal
-
-abbrev pub invariant-loop-i : goal.invariant-loop-i
-invariant-loop-i l = AreBlocks l.table l.seen.numbers

@@ -1,0 +1,20 @@
+use Rattle.std.proofs.Common.{◌≡◌, Bool, List, get_or}
+use Rattle.std.proofs.lemmas.List.{get_or_default}
+use Rattle.dq_lits.specs.Literal.{variable_of}
+use Rattle.refutation_checker.specs.PairNames.{frame}
+use Rattle.refutation_checker.proofs.ReadClauses.{universal_read, universal_within}
+use Rattle.refutation_checker.proofs.judging.is_true_at.Goals as goal
+
+pub get-requires : goal.get-requires
+get-requires c =
+    let x = frame c.args.e.now in
+    let r = get_or x.rows c.args.k c.index-e-k.result in
+    universal_within x c.args.k c.args.place (variable_of c.args.l) r c.requires.frame c.requires.row c.requires.bound
+    (get_or_default x.rows c.args.k c.index-e-k.result r c.requires.row)
+
+pub returns : goal.returns
+returns c =
+    let x = frame c.args.e.now in
+    let r = get_or x.rows c.args.k c.index-e-k.result in
+    universal_read x c.args.k c.args.place c.args.l r c.get.result c.is_neg.result c.requires.frame c.requires.row c.requires.bound
+    (get_or_default x.rows c.args.k c.index-e-k.result r c.requires.row) c.get.ensures c.is_neg.ensures
