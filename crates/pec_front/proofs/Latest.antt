@@ -12,7 +12,7 @@ use Rattle.pec_front.specs.Boxes.{BlackBox, StandInOrder}
 use Rattle.pec_front.specs.Latest.{IsLatest, LatestShowsOrder}
 
 -- what is reached is no later
-later : (net : Netlist) (boxes : List BlackBox) (latest : ℕ → ℕ) → IsLatest net boxes latest → {v x : ℕ}
+pub later : (net : Netlist) (boxes : List BlackBox) (latest : ℕ → ℕ) → IsLatest net boxes latest → {v x : ℕ}
     → Reaches net v x → latest x ≤ latest v
 later net boxes latest is {v} itself = omega arith
 later net boxes latest is (left g inside r) =

@@ -7,12 +7,17 @@ mod Encoded
 mod Filled
 mod Fitting
 mod Latest
+mod LawfulDesigns
 mod Numbers
 mod Once
 mod OneBoxDesign
 mod Outputs
+mod RaisedLevels
+mod ReadBoxes
+mod ReadLines
 mod Reading
 mod Rows
 mod Truths
 mod Values
+mod Variables
 mod WellFormed

@@ -7,8 +7,8 @@ use Rattle.circuit_plain.specs.Ground.{IsGrounded}
 use Rattle.circuit_plain.specs.Reach.{Reaches}
 use Rattle.circuit_plain.specs.Value.{IsValuation}
 
--- a box, by circuit literals as in AIGER: what it reads, and the inputs of the implementation that it
--- drives
+-- a box, by circuit literals as in AIGER: what it reads, and the inputs of the implementation that
+-- it drives
 pub record BlackBox : Type 0 where
   pub ins : List ℕ
   pub outs : List ℕ
@@ -34,8 +34,8 @@ AreFilled boxes functions m =
     All (λ box. All (λ out. m (literal_variable out) ≡ functions out (bits_read m box)) box.outs)
     boxes
 
--- Whatever the inputs are: where both circuits' gates have their values and the boxes are filled with
--- these functions, each pair of outputs agrees.
+-- Whatever the inputs are: where both circuits' gates have their values and the boxes are filled
+-- with these functions, each pair of outputs agrees.
 abbrev pub BoxesFit : PartialDesign → BoxFunctions → Type 0
 BoxesFit d functions =
     (bits ms mi : ℕ → Bool) → IsValuation d.specification bits ms
@@ -99,3 +99,10 @@ AllDriven d =
     (i : ℕ) → inputs_of d ≤ i → i < length d.implementation.inputs
     → list_any (λ box. list_any (λ o. o == 2 * slice_index d.implementation.inputs i) box.outs)
     d.boxes ≡ true
+
+-- all that is asked of a design
+pub record IsLawfulDesign (d : PartialDesign) : Type 0 where
+  pub is_design : IsDesign d
+  pub acyclic : IsAcyclic d
+  pub boxes : AreBoxes d
+  pub all_driven : AllDriven d

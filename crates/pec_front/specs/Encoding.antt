@@ -1,6 +1,6 @@
--- The formula of a partial design: it is true exactly where some functions fit (K. Gitina, S. Reimer,
--- M. Sauer, R. Wimmer, C. Scholl, B. Becker, "Equivalence checking of partial designs using dependency
--- quantified Boolean formulae", ICCD 2013).
+-- The formula of a partial design: it is true exactly where some functions fit (K. Gitina, S.
+-- Reimer, M. Sauer, R. Wimmer, C. Scholl, B. Becker, "Equivalence checking of partial designs using
+-- dependency quantified Boolean formulae", ICCD 2013).
 use Rattle.std.specs.Prelude.{ℕ, zero, suc, ◌+◌, ◌-◌, ◌*◌, ◌%◌, ◌==◌, nat_lt, List, [], ◌∷◌, ◌++◌, map, length, slice_index, if◌then◌else◌}
 use Rattle.std.specs.List.{list_any, filter_map, flat_map, position_or_len, range_with_len}
 use Rattle.std.specs.Option.{option_map}

@@ -15,8 +15,8 @@ pub record ReachesBox (net : Netlist) (boxes : List BlackBox) (v place : ℕ) : 
   pub drives : Contains (slice_index_or boxes box default).outs out
   pub reaches : Reaches net v (literal_variable out)
 
--- by variable, one more than the greatest place of a box of which it reaches what it drives; one pass
--- over the gates in their order computes it
+-- by variable, one more than the greatest place of a box of which it reaches what it drives; one
+-- pass over the gates in their order computes it
 pub record IsLatest (net : Netlist) (boxes : List BlackBox) (latest : ℕ → ℕ) : Type 0 where
   pub gates : All
       (λ g. (latest (left_variable g) ≤ latest g.variable)

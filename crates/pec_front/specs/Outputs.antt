@@ -3,6 +3,9 @@ use Rattle.std.specs.Prelude.{ℕ, ◌*◌, ◌==◌, Bool, false, List, slice_i
 use Rattle.std.specs.List.{position_or_len}
 use Rattle.dq_lits.specs.Formula.{Existential}
 use Rattle.dq_lits.specs.Skolem.{OutputFunction, AreSkolemFunctions}
+use Rattle.aiger_text.specs.Symbol.{SymbolTable}
+use Rattle.circuit_plain.specs.Netlist.{Netlist, IsNetlist}
+use Rattle.skolem_checker.specs.SkolemCircuit.{IsComplete, IsSkolemCircuit, AreOutputsOf}
 use Rattle.pec_front.specs.Boxes.{PartialDesign, BoxFunctions, BoxesFit, IsDesign, IsAcyclic, AreBoxes, AllDriven}
 use Rattle.pec_front.specs.Encoding.{design_formula, driven_existential}
 
@@ -26,3 +29,13 @@ OutputsAreBoxes =
     (d : PartialDesign) (output : Existential → OutputFunction) → IsDesign d → IsAcyclic d
     → AreBoxes d → AllDriven d → AreSkolemFunctions (design_formula d) output
     → BoxesFit d (output_functions d output)
+
+-- where a circuit certifies the formula, its outputs for driven inputs are functions that fit
+abbrev pub CertifiedBoxesFit : Type 0
+CertifiedBoxesFit =
+    (d : PartialDesign) (net : Netlist) (symbols : SymbolTable) → IsDesign d → IsAcyclic d
+    → AreBoxes d → AllDriven d → IsNetlist net → IsComplete net
+    → (h : IsSkolemCircuit (design_formula d) net symbols)
+    → (output : Existential → OutputFunction)
+    × AreOutputsOf (design_formula d) (record { netlist = net; mapping = h.mapping }) output
+    × BoxesFit d (output_functions d output)

@@ -23,8 +23,8 @@ OutputsAgree d ms mi =
     → literal_bit ms (slice_index d.specification.outputs o)
     ≡ literal_bit mi (slice_index d.implementation.outputs o)
 
--- whatever the functions, and whatever the bits of the inputs that both circuits have, there are bits
--- for the further inputs under which both circuits have valuations, and the boxes are filled
+-- whatever the functions, and whatever the bits of the inputs that both circuits have, there are
+-- bits for the further inputs under which both circuits have valuations, and the boxes are filled
 abbrev pub BoxesExtendEveryRow : Type 0
 BoxesExtendEveryRow =
     (d : PartialDesign) (functions : BoxFunctions) (row : ℕ → Bool) → IsDesign d → IsAcyclic d

@@ -3,12 +3,13 @@ ghost use Rattle.pec_front.specs.Rows.{BoxesExtendEveryRow, FitsByRows};
 ghost use Rattle.pec_front.specs.Latest.{LatestShowsOrder};
 ghost use Rattle.pec_front.specs.Choices.{ChoicesFillBoxes, ChosenBoxesFit};
 ghost use Rattle.pec_front.specs.Laws.{FittingBoxesChoose, DesignFormulasAreWellFormed, EncodingIsFaithful};
-ghost use Rattle.pec_front.specs.Outputs.{OutputsAreBoxes};
+ghost use Rattle.pec_front.specs.Outputs.{OutputsAreBoxes, CertifiedBoxesFit};
 
 use circuit_plain::laws::{
     grounded_have_values, valuations_agree, values_are_unique, values_follow_reach,
 };
 use dq_lits::laws::{choices_extend_every_row, functions_are_choices};
+use skolem_checker::laws::outputs_are_skolem_functions;
 
 /// Where a choice solves the formula, and its functions fill the boxes, the outputs agree.
 pub fn choices_fill_boxes()
@@ -77,6 +78,16 @@ pub fn outputs_are_boxes()
     functions_are_choices();
     chosen_boxes_fit();
     design_formulas_are_well_formed();
+}
+
+/// The outputs of a circuit that certifies a design's formula are, at the driven inputs, functions
+/// that fit.
+pub fn certified_boxes_fit()
+    ensures { CertifiedBoxesFit }
+{
+    design_formulas_are_well_formed();
+    outputs_are_skolem_functions();
+    outputs_are_boxes();
 }
 
 /// Boxes stand in order exactly where the latest box that each reads from stands before it.
