@@ -1,0 +1,89 @@
+-- From the formula's clauses back to those over circuit literals.
+use Rattle.std.proofs.Common.{◌≡◌, ◌≢◌, ℕ, ◌==◌, Bool, true, false, not, cond, inl, inr, List, [], ◌∷◌, ◌++◌, map, Option, Some, None, refl, sym, ◌∙◌, ap}
+use Rattle.std.specs.List.{All, AllByRecursion, list_any, filter, filter_map, flat_map, cons_option}
+use Rattle.std.specs.Option.{option_map}
+use Rattle.std.proofs.lemmas.Bool.{true≢false, eqb-true, eq-eqb, or_cases, or_parts, or_left, or_right}
+use Rattle.std.proofs.lemmas.List.Elements.{All-head, All-tail}
+use Rattle.dq_lits.specs.Literal.{Assignment, Literal, literal_true, clause_true}
+use Rattle.circuit_plain.specs.Netlist.{literal_bit}
+use Rattle.cert_text.specs.NegatedMatrix.{as_literal, without_constants}
+use Rattle.dqdimacs_reader.specs.Building.{distinct}
+use Rattle.pec_front.proofs.Distinct.{distinct-truth}
+use Rattle.pec_front.proofs.Clauses.{with_constant, raw_true, plain-literal}
+
+constant-true : (m : Assignment) (clause : List ℕ) → list_any (λ l. l == 1) clause ≡ true → raw_true m clause ≡ true
+constant-true m [] h = h
+constant-true m (l ∷ ls) h = elim (or_cases (l == 1) (list_any (λ k. k == 1) ls) h) [
+  | inl here ↦
+      let one : literal_bit (with_constant m) 1 ≡ true = refl in
+      or_left (literal_bit (with_constant m) l) (raw_true m ls)
+      (ap (literal_bit (with_constant m)) (eqb-true l 1 here) ∙ one)
+  | inr later ↦ or_right (literal_bit (with_constant m) l) (raw_true m ls) (constant-true m ls later)
+]
+
+unequal : (a b : ℕ) → (a == b) ≡ false → a ≢ b
+unequal a b h same = true≢false (sym (eq-eqb a b same) ∙ h)
+
+kept-step : (m : Assignment) (b : Bool) (l : ℕ) (ls : List ℕ) (rest : List ℕ) → (l == 0) ≡ b → l ≢ 1
+    → (clause_true m (map as_literal rest) ≡ true → raw_true m ls ≡ true) →
+    clause_true m (map as_literal (cond (not b) (l ∷ rest) rest)) ≡ true → raw_true m (l ∷ ls) ≡ true
+kept-step m true l ls rest zero' one later h = or_right (literal_bit (with_constant m) l) (raw_true m ls) (later h)
+kept-step m false l ls rest nonzero one later h =
+    elim (or_cases (literal_true m (as_literal l)) (clause_true m (map as_literal rest)) h) [
+      | inl here ↦ or_left (literal_bit (with_constant m) l) (raw_true m ls)
+          (sym (plain-literal m l (unequal l 0 nonzero) one) ∙ here)
+      | inr further ↦ or_right (literal_bit (with_constant m) l) (raw_true m ls) (later further)
+    ]
+
+kept-true : (m : Assignment) (clause : List ℕ) → list_any (λ l. l == 1) clause ≡ false →
+    clause_true m (map as_literal (filter (λ l. not (l == 0)) clause)) ≡ true → raw_true m clause ≡ true
+kept-true m [] none h = h
+kept-true m (l ∷ ls) none h =
+    let parts = or_parts (l == 1) (list_any (λ k. k == 1) ls) none in
+    kept-step m (l == 0) l ls (filter (λ k. not (k == 0)) ls) refl (unequal l 1 parts.0) (kept-true m ls parts.1) h
+
+abbrev MayHold : Assignment → Option (List Literal) → Type 0
+MayHold m None = Unit {0}
+MayHold m (Some clause) = clause_true m clause ≡ true
+
+raw-from : (m : Assignment) (clause : List ℕ) → MayHold m (option_map distinct (without_constants clause))
+    → raw_true m clause ≡ true
+raw-from m clause h = by (list_any (λ l. l == 1) clause) refl h
+  where
+    kept : List Literal
+    kept = map as_literal (filter (λ l. not (l == 0)) clause)
+
+    by : (b : Bool) → list_any (λ l. l == 1) clause ≡ b → MayHold m (option_map distinct (cond b None (Some kept)))
+        → raw_true m clause ≡ true
+    by true e g = constant-true m clause e
+    by false e g = kept-true m clause e (sym (distinct-truth m kept) ∙ g)
+
+may-step : (m : Assignment) (o : Option (List Literal)) (rest : List (List Literal))
+    → All (λ c. clause_true m c ≡ true) (cons_option o rest) → MayHold m o × All (λ c. clause_true m c ≡ true) rest
+may-step m None rest all = (tt, all)
+may-step m (Some c) rest all =
+    (All-head (λ k. clause_true m k ≡ true) c rest all, All-tail (λ k. clause_true m k ≡ true) c rest all)
+
+-- each clause holds as it was
+pub all-raw : (m : Assignment) (clauses : List (List ℕ)) → All (λ c. clause_true m c ≡ true)
+    (filter_map (λ clause. option_map distinct (without_constants clause)) clauses) →
+    AllByRecursion (λ c. raw_true m c ≡ true) clauses
+all-raw m [] all = tt
+all-raw m (c ∷ cs) all =
+    let h = λ (clause : List ℕ). option_map distinct (without_constants clause) in
+    let two = may-step m (h c) (filter_map h cs) all in
+    (raw-from m c two.0, all-raw m cs two.1)
+
+pub left-part : {X : Type 0} (P : X → Type 0) (xs ys : List X) → AllByRecursion P (xs ++ ys) → AllByRecursion P xs
+left-part P [] ys all = tt
+left-part P (x ∷ xs) ys all = (all.0, left-part P xs ys all.1)
+
+pub right-part : {X : Type 0} (P : X → Type 0) (xs ys : List X) → AllByRecursion P (xs ++ ys) → AllByRecursion P ys
+right-part P [] ys all = all
+right-part P (x ∷ xs) ys all = right-part P xs ys all.1
+
+pub each-part : {X Y : Type 0} (P : Y → Type 0) (f : X → List Y) (xs : List X) → AllByRecursion P (flat_map f xs)
+    → AllByRecursion (λ x. AllByRecursion P (f x)) xs
+each-part P f [] all = tt
+each-part P f (x ∷ xs) all =
+    (left-part P (f x) (flat_map f xs) all, each-part P f xs (right-part P (f x) (flat_map f xs) all))

@@ -1,0 +1,482 @@
+-- The pass over the gates that gives each variable its level.
+use Rattle.std.proofs.Common.{◌≡◌, ◌≢◌, ℕ, zero, suc, ◌+◌, ◌<◌, ◌≤◌, ◌==◌, nat_lt, max, Bool, true, false, cond, ◌⊎◌, inl, inr, List, length, get_or, take, replicate, set, Option, None, Some, refl, sym, ◌∙◌, ap, subst, arith}
+use Rattle.std.specs.List.{All, Contains, list_any}
+use Rattle.std.specs.Option.{MatchOption}
+use Rattle.std.proofs.Math.Nat.{le-max_left, le-max_right, max-le}
+use Rattle.std.proofs.lemmas.Bool.{true≢false, eqb-true, eq-eqb, ne_eqb, cond-true, cond-false, lt-ltb, ltb-true, cases_lt}
+use Rattle.std.proofs.lemmas.List.{get_or_default, get_or-replicate, get_or-set_same, get_or-set_other, get_or-take, get_or-map, length-take-le, length-map}
+use Rattle.std.proofs.lemmas.List.Elements.{All-contains, Contains-append_left, Contains-append_right}
+use Rattle.std.proofs.lemmas.List.Quantifiers.{position-Some}
+use Rattle.circuit_plain.specs.Netlist.{Netlist, IsNetlist, gate_at, gate_variables, literal_variable, left_variable, right_variable, variable_of_gate}
+use Rattle.circuit_plain.specs.Order.{IsOrder, IsSettled}
+use Rattle.circuit_plain.specs.Reach.{Reaches, itself, left, right}
+use Rattle.circuit_plain.specs.declared.circuits.Gate.{Gate}
+use Rattle.circuit_plain.proofs.NetlistLaws.{input_apart}
+use Rattle.number_tables.specs.Numbers.{has_number, place_of}
+use Rattle.pec_front.specs.BoxLine.{variables_of}
+use Rattle.pec_front.specs.Boxes.{BlackBox, StandInOrder}
+use Rattle.pec_front.specs.Latest.{ReachesBox, IsLatest, LatestShowsOrder}
+use Rattle.pec_front.specs.Reading.{IsFirstOutOfOrder}
+use Rattle.pec_front.specs.Steps.{DriveInputs, level_at, IsLevelSet, IsMarked, AreMarked, IsRaised, IsBelow, IsAbove, IsFirstAbove}
+use Rattle.pec_front.proofs.Latest.{later}
+use Rattle.pec_front.proofs.Values.{contained, contained_at, any-contained}
+
+abbrev pub no-gate : Gate
+no-gate = record { variable = 0; left = 0; right = 0 }
+
+-- one place of the levels is written
+pub level-set : (variables levels : List ℕ) (variable level place : ℕ)
+    → place_of variables variable ≡ Some place → length levels ≡ length variables → (v : ℕ)
+    → level_at (set levels place level) (place_of variables v)
+    ≡ cond (v == variable) level (level_at levels (place_of variables v))
+level-set variables levels variable level place found sized v = by (v == variable) refl
+  where
+    at : (place < length variables) × ((get_or variables place 0 == variable) ≡ true)
+    at = let s = position-Some (λ x. x == variable) variables place 0 found in (s.0, s.1)
+
+    inside : place < length levels
+    inside = let low = at.0 in omega (arith, low, sized)
+
+    other : (o : Option ℕ) → place_of variables v ≡ o → v ≢ variable
+        → level_at (set levels place level) o ≡ level_at levels o
+    other None e apart = refl
+    other (Some q) e apart =
+        let here = position-Some (λ x. x == v) variables q 0 e in
+        get_or-set_other levels place q level 0
+        (λ same. apart (sym (eqb-true (get_or variables q 0) v here.1)
+        ∙ ap (λ k. get_or variables k 0) same ∙ eqb-true (get_or variables place 0) variable at.1))
+
+    by : (b : Bool) → (v == variable) ≡ b → level_at (set levels place level) (place_of variables v)
+        ≡ cond b level (level_at levels (place_of variables v))
+    by true e =
+        let same : v ≡ variable = eqb-true v variable e in
+        ap (level_at (set levels place level)) (ap (place_of variables) same ∙ found)
+        ∙ get_or-set_same levels place level 0 inside
+    by false e =
+        other (place_of variables v) refl (λ same. true≢false (sym (eq-eqb v variable same) ∙ e))
+
+pub no-level : (n : ℕ) (o : Option ℕ) → level_at (replicate n 0) o ≡ 0
+no-level n None = refl
+no-level n (Some p) =
+    elim (cases_lt p n) [
+      | inl below ↦ get_or-replicate n p 0 0 below
+      | inr past ↦ zero-past n p
+    ]
+  where
+    zero-past : (m k : ℕ) → get_or (replicate m zero) k zero ≡ zero
+    zero-past zero k = refl
+    zero-past (suc m) zero = refl
+    zero-past (suc m) (suc k) = zero-past m k
+
+-- the first literals, so many, have marked their variables
+pub record MarkedFirst (old new : ℕ → ℕ) (outs : List ℕ) (count level : ℕ) : Type 0 where
+  pub marked : (j : ℕ) → j < count → new (literal_variable (get_or outs j 0)) ≡ level
+  pub others : (v : ℕ) → (new v ≡ old v)
+      ⊎ ((new v ≡ level) × ((out : ℕ) × Contains outs out × (literal_variable out ≡ v)))
+
+pub marked-none : (old : ℕ → ℕ) (outs : List ℕ) (level : ℕ) → MarkedFirst old old outs 0 level
+marked-none old outs level = record {
+  marked = λ j below. absurd (omega (arith, below));
+  others = λ v. inl refl;
+}
+
+pub marked-more : (old now new : ℕ → ℕ) (outs : List ℕ) (k level : ℕ) → k < length outs
+    → MarkedFirst old now outs k level → IsLevelSet now new (literal_variable (get_or outs k 0)) level
+    → MarkedFirst old new outs (k + 1) level
+marked-more old now new outs k level inside before written = record { marked = marks; others = stay }
+  where
+    x : ℕ
+    x = literal_variable (get_or outs k 0)
+
+    marks : (j : ℕ) → j < k + 1 → new (literal_variable (get_or outs j 0)) ≡ level
+    marks j below = written v ∙ by (v == x) refl
+      where
+        v : ℕ
+        v = literal_variable (get_or outs j 0)
+
+        by : (b : Bool) → (v == x) ≡ b → cond b level (now v) ≡ level
+        by true e = refl
+        by false e =
+            elim (cases_lt j k) [
+              | inl early ↦ before.marked j early
+              | inr late ↦
+                  let same : j ≡ k = omega (arith, late, below) in
+                  absurd (true≢false
+                  (sym (eq-eqb v x (ap (λ n. literal_variable (get_or outs n 0)) same)) ∙ e))
+            ]
+
+    stay : (v : ℕ) → (new v ≡ old v)
+        ⊎ ((new v ≡ level) × ((out : ℕ) × Contains outs out × (literal_variable out ≡ v)))
+    stay v = by (v == x) refl
+      where
+        kept : new v ≡ now v → (new v ≡ old v)
+            ⊎ ((new v ≡ level) × ((out : ℕ) × Contains outs out × (literal_variable out ≡ v)))
+        kept e = elim (before.others v) [
+          | inl same ↦ inl (e ∙ same)
+          | inr m ↦ inr (e ∙ m.0, m.1)
+        ]
+
+        by : (b : Bool) → (v == x) ≡ b → (new v ≡ old v)
+            ⊎ ((new v ≡ level) × ((out : ℕ) × Contains outs out × (literal_variable out ≡ v)))
+        by true e =
+            inr (
+              written v ∙ cond-true (v == x) level (now v) e,
+              (get_or outs k 0, contained_at outs k 0 inside, sym (eqb-true v x e)),
+            )
+        by false e = kept (written v ∙ cond-false (v == x) level (now v) e)
+
+pub marked-all : (old new : ℕ → ℕ) (outs : List ℕ) (count level : ℕ) → length outs ≤ count
+    → MarkedFirst old new outs count level → IsMarked old new outs level
+marked-all old new outs count level many all = record {
+  marked = λ j d below.
+      ap (λ (out : ℕ). new (literal_variable out)) (get_or_default outs j d 0 below)
+      ∙ all.marked j (omega (arith, below, many));
+  others = all.others;
+}
+
+pub boxes-none : (net : Netlist) (boxes : List BlackBox) (levels : ℕ → ℕ) → ((v : ℕ) → levels v ≡ 0)
+    → AreMarked net boxes 0 levels
+boxes-none net boxes levels zeros = record {
+  outs = λ j d below. absurd (omega (arith, below));
+  bounded = λ v. let e = zeros v in omega (arith, e);
+  reached = λ v place below. let e = zeros v in absurd (omega (arith, e, below));
+}
+
+pub boxes-more : (net : Netlist) (boxes : List BlackBox) (i : ℕ) (box : BlackBox) (old new : ℕ → ℕ)
+    → i < length boxes → get_or boxes i box ≡ box → AreMarked net boxes i old
+    → IsMarked old new box.outs (i + 1) → AreMarked net boxes (i + 1) new
+boxes-more net boxes i box old new inside at before marked =
+    record { outs = outs; bounded = bounded; reached = reached }
+  where
+    outs : (j : ℕ) (d : BlackBox) → j < i + 1
+        → All (λ out. j < new (literal_variable out)) (get_or boxes j d).outs
+    outs j d below k e under =
+        let out = get_or (get_or boxes j d).outs k e in
+        let v = literal_variable out in
+        elim (cases_lt j i) [
+          | inl early ↦
+              let high = before.outs j d early k e under in
+              elim (marked.others v) [
+                | inl same ↦ omega (arith, high, same)
+                | inr m ↦ (let level = m.0 in omega (arith, level, early))
+              ]
+          | inr late ↦
+              let same : j ≡ i = omega (arith, late, below) in
+              let is : get_or boxes j d ≡ box =
+              ap (λ n. get_or boxes n d) same ∙ get_or_default boxes i d box inside ∙ at in
+              let level = marked.marked k e
+              (subst (λ (b : BlackBox). k < length b.outs) is under) in
+              let there : new v ≡ i + 1 =
+              ap (λ (b : BlackBox). new (literal_variable (get_or b.outs k e))) is ∙ level in
+              omega (arith, there, same)
+        ]
+
+    bounded : (v : ℕ) → new v ≤ i + 1
+    bounded v =
+        let low = before.bounded v in
+        elim (marked.others v) [
+          | inl same ↦ omega (arith, same, low)
+          | inr m ↦ (let level = m.0 in omega (arith, level))
+        ]
+
+    reached : (v place : ℕ) → place < new v → ReachesBox net boxes v place
+    reached v place less =
+        elim (marked.others v) [
+          | inl same ↦ before.reached v place (omega (arith, same, less))
+          | inr m ↦ record {
+            box = i;
+            in_range = inside;
+            behind = (let level = m.0 in omega (arith, level, less));
+            out = m.1.0;
+            default = box;
+            drives = subst (λ (b : BlackBox). Contains b.outs m.1.0) (sym at) m.1.1;
+            reaches = subst (λ x. Reaches net v x) (sym m.1.2) itself;
+          }
+        ]
+
+-- the first gates of an order, so many, are no lower than what they read
+pub record RaisedFirst (net : Netlist) (boxes : List BlackBox) (order : List ℕ) (count : ℕ)
+    (levels : ℕ → ℕ) : Type 0 where
+  pub gates : (j : ℕ) → j < count
+      → (levels (left_variable (gate_at net (get_or order j 0)))
+      ≤ levels (gate_at net (get_or order j 0)).variable)
+      × (levels (right_variable (gate_at net (get_or order j 0)))
+      ≤ levels (gate_at net (get_or order j 0)).variable)
+  pub outs : (j : ℕ) (default : BlackBox) → j < length boxes
+      → All (λ out. j < levels (literal_variable out)) (get_or boxes j default).outs
+  pub reached : (v place : ℕ) → place < levels v → ReachesBox net boxes v place
+
+pub raised-none : (net : Netlist) (boxes : List BlackBox) (order : List ℕ) (levels : ℕ → ℕ)
+    → AreMarked net boxes (length boxes) levels → RaisedFirst net boxes order 0 levels
+raised-none net boxes order levels marked = record {
+  gates = λ j below. absurd (omega (arith, below));
+  outs = marked.outs;
+  reached = marked.reached;
+}
+
+module _ (net : Netlist) (kept : IsNetlist net) (order : List ℕ) (ordered : IsOrder net order) where
+  pub place-below : (k : ℕ) → k < length order → get_or order k 0 < length net.gates
+  place-below k below = ordered.in_range k 0 below
+
+  gate-inside : (k : ℕ) → k < length order → Contains net.gates (gate_at net (get_or order k 0))
+  gate-inside k below = contained_at net.gates (get_or order k 0) no-gate (place-below k below)
+
+  -- gates at two places have two variables
+  two-places : (p q : ℕ) → p < length net.gates → q < length net.gates → p ≢ q
+      → (gate_at net p).variable ≢ (gate_at net q).variable
+  two-places p q p_in q_in apart same =
+      elim (cases_lt p q) [
+        | inl less ↦ kept.gates_once p q no-gate less q_in same
+        | inr more ↦ kept.gates_once q p no-gate (let m : q ≢ p = (λ e. apart (sym e)) in omega (arith, more, m)) p_in
+            (sym same)
+      ]
+
+  earlier-gate : (i k : ℕ) → i < k → k < length order
+      → (gate_at net (get_or order i 0)).variable ≢ (gate_at net (get_or order k 0)).variable
+  earlier-gate i k less below =
+      two-places (get_or order i 0) (get_or order k 0) (place-below i (omega (arith, less, below)))
+      (place-below k below) (ordered.each_once i k 0 less below)
+
+  -- what is settled before a gate is not its variable
+  fresh : (j k : ℕ) (v : ℕ) → j ≤ k → k < length order → IsSettled net (take j order) v
+      → v ≢ (gate_at net (get_or order k 0)).variable
+  fresh j k v low below (inl z) same =
+      let fits = (kept.gates_fit (get_or order k 0) no-gate (place-below k below)).variable.0 in
+      omega (arith, fits, z, same)
+  fresh j k v low below (inr (inl among)) same =
+      input_apart net kept v (gate_at net (get_or order k 0)) among (gate-inside k below) same
+  fresh j k v low below (inr (inr (i, inside, is))) same =
+      let f : ℕ → ℕ = λ p. variable_of_gate (gate_at net p) in
+      let long = length-map (take j order) f in
+      let short = length-take-le j order (omega (arith, low, below)) in
+      let early : i < j = omega (arith, inside, long, short) in
+      earlier-gate i k (omega (arith, early, low)) below
+      (ap f (sym (get_or-take j order i 0 early))
+      ∙ sym (get_or-map f (take j order) i 0 v (omega (arith, inside, long))) ∙ is ∙ same)
+
+  -- what isn't the gate's variable stays
+  stays : (k : ℕ) (old new : ℕ → ℕ) → IsRaised net (get_or order k 0) old new → (v : ℕ)
+      → v ≢ (gate_at net (get_or order k 0)).variable → new v ≡ old v
+  stays k old new raised v apart =
+      let g = gate_at net (get_or order k 0) in
+      raised v ∙ cond-false (v == g.variable) (max (old (left_variable g)) (old (right_variable g))) (old v)
+      (ne_eqb v g.variable apart)
+
+  pub raised-more : (boxes : List BlackBox) → DriveInputs net boxes → (k : ℕ) → k < length order
+      → (old new : ℕ → ℕ) → RaisedFirst net boxes order k old → IsRaised net (get_or order k 0) old new
+      → RaisedFirst net boxes order (k + 1) new
+  raised-more boxes drive k below old new before raised =
+      record { gates = gates; outs = outs; reached = reached }
+    where
+      g : Gate
+      g = gate_at net (get_or order k 0)
+
+      top : ℕ
+      top = max (old (left_variable g)) (old (right_variable g))
+
+      here : new g.variable ≡ top
+      here = raised g.variable ∙ cond-true (g.variable == g.variable) top (old g.variable)
+          (eq-eqb g.variable g.variable refl)
+
+      left-stays : (j : ℕ) → j ≤ k → new (left_variable (gate_at net (get_or order j 0)))
+          ≡ old (left_variable (gate_at net (get_or order j 0)))
+      left-stays j low =
+          stays k old new raised (left_variable (gate_at net (get_or order j 0)))
+          (fresh j k _ low below (ordered.follows j (omega (arith, low, below))).0)
+
+      right-stays : (j : ℕ) → j ≤ k → new (right_variable (gate_at net (get_or order j 0)))
+          ≡ old (right_variable (gate_at net (get_or order j 0)))
+      right-stays j low =
+          stays k old new raised (right_variable (gate_at net (get_or order j 0)))
+          (fresh j k _ low below (ordered.follows j (omega (arith, low, below))).1)
+
+      gates : (j : ℕ) → j < k + 1
+          → (new (left_variable (gate_at net (get_or order j 0))) ≤ new (gate_at net (get_or order j 0)).variable)
+          × (new (right_variable (gate_at net (get_or order j 0))) ≤ new (gate_at net (get_or order j 0)).variable)
+      gates j under =
+          elim (cases_lt j k) [
+            | inl early ↦
+                let own = stays k old new raised (gate_at net (get_or order j 0)).variable
+                (earlier-gate j k early below) in
+                let a = left-stays j (omega (arith, early)) in
+                let b = right-stays j (omega (arith, early)) in
+                let two = before.gates j early in
+                ((let t = two.0 in omega (arith, own, a, t)), (let t = two.1 in omega (arith, own, b, t)))
+            | inr late ↦
+                let same : j ≡ k = omega (arith, late, under) in
+                subst (λ (n : ℕ).
+                (new (left_variable (gate_at net (get_or order n 0))) ≤ new
+                (gate_at net (get_or order n 0)).variable)
+                × (new (right_variable (gate_at net (get_or order n 0))) ≤ new
+                (gate_at net (get_or order n 0)).variable)) (sym same) (
+                  (let a = left-stays k (omega arith) in let m =
+                      le-max_left (old (left_variable g)) (old (right_variable g)) in omega (arith, a, m, here)),
+                  (let b = right-stays k (omega arith) in let m =
+                      le-max_right (old (left_variable g)) (old (right_variable g)) in omega (arith, b, m, here)),
+                )
+          ]
+
+      outs : (j : ℕ) (d : BlackBox) → j < length boxes → All (λ out. j < new (literal_variable out))
+          (get_or boxes j d).outs
+      outs j d inside n e under =
+          let v = literal_variable (get_or (get_or boxes j d).outs n e) in
+          let among : Contains net.inputs v = drive j d inside n e under in
+          let same = stays k old new raised v (λ is. input_apart net kept v g among (gate-inside k below) is) in
+          let high = before.outs j d inside n e under in
+          omega (arith, same, high)
+
+      lifted : (v place : ℕ) → v ≡ g.variable → (place < old (left_variable g)) ⊎ (place < old (right_variable g))
+          → ReachesBox net boxes v place
+      lifted v place is (inl less) =
+          let r = before.reached (left_variable g) place less in
+          record {
+            box = r.box;
+            in_range = r.in_range;
+            behind = r.behind;
+            out = r.out;
+            default = r.default;
+            drives = r.drives;
+            reaches = subst (λ (n : ℕ). Reaches net n (literal_variable r.out)) (sym is)
+                (left g (gate-inside k below) r.reaches);
+          }
+      lifted v place is (inr less) =
+          let r = before.reached (right_variable g) place less in
+          record {
+            box = r.box;
+            in_range = r.in_range;
+            behind = r.behind;
+            out = r.out;
+            default = r.default;
+            drives = r.drives;
+            reaches = subst (λ (n : ℕ). Reaches net n (literal_variable r.out)) (sym is)
+                (right g (gate-inside k below) r.reaches);
+          }
+
+      below-one : (a b place : ℕ) → place < max a b → (place < a) ⊎ (place < b)
+      below-one a b place less =
+          elim (cases_lt place a) [
+            | inl low ↦ inl low
+            | inr high ↦
+                elim (cases_lt place b) [
+                  | inl low ↦ inr low
+                  | inr more ↦ (let m = max-le {a = a} {b = b} {k = place} high more in absurd (omega (arith, m, less)))
+                ]
+          ]
+
+      reached : (v place : ℕ) → place < new v → ReachesBox net boxes v place
+      reached v place less = by (v == g.variable) refl
+        where
+          by : (b : Bool) → (v == g.variable) ≡ b → ReachesBox net boxes v place
+          by true e =
+              let is : v ≡ g.variable = eqb-true v g.variable e in
+              let at : new v ≡ top = ap new is ∙ here in
+              lifted v place is
+              (below-one (old (left_variable g)) (old (right_variable g)) place (omega (arith, at, less)))
+          by false e =
+              let same = stays k old new raised v (λ is. true≢false (sym (eq-eqb v g.variable is) ∙ e)) in
+              before.reached v place (omega (arith, same, less))
+
+  pub all-raised : (boxes : List BlackBox) (levels : ℕ → ℕ) (count : ℕ) → length order ≤ count
+      → RaisedFirst net boxes order count levels → IsLatest net boxes levels
+  all-raised boxes levels count many all = record {
+    gates = λ p d below.
+        let found = ordered.whole p below in
+        let at : get_or order found.0 0 ≡ p = get_or_default order found.0 0 p found.1 ∙ found.2 in
+        let under : found.0 < length order = found.1 in
+        let two = all.gates found.0 (omega (arith, under, many)) in
+        let g = get_or net.gates p d in
+        let is : gate_at net (get_or order found.0 0) ≡ g =
+        ap (gate_at net) at ∙ sym (get_or_default net.gates p d no-gate below) in
+        subst (λ (h : Gate). (levels (left_variable h) ≤ levels h.variable)
+        × (levels (right_variable h) ≤ levels h.variable)) is two;
+    outs = all.outs;
+    reached = all.reached;
+  }
+
+-- each variable of an order's gate has a place
+pub gate-known : (net : Netlist) (p : ℕ) → p < length net.gates
+    → has_number (variables_of net) (gate_at net p).variable ≡ true
+gate-known net p below =
+    let v = (gate_at net p).variable in
+    let long = length-map net.gates variable_of_gate in
+    let inside : Contains (gate_variables net) v = (
+      p,
+      omega (arith, below, long),
+      get_or-map variable_of_gate net.gates p (gate_at net p) v below
+          ∙ ap variable_of_gate (get_or_default net.gates p (gate_at net p) no-gate below),
+    ) in
+    let there = Contains-append_right net.inputs (gate_variables net) v inside in
+    any-contained (λ n. n == v) (variables_of net) there.0 v there.1 there.2 (eq-eqb v v refl)
+
+pub input-known : (net : Netlist) (v : ℕ) → Contains net.inputs v → has_number (variables_of net) v ≡ true
+input-known net v among =
+    let there = Contains-append_left net.inputs (gate_variables net) v among in
+    any-contained (λ n. n == v) (variables_of net) there.0 v there.1 there.2 (eq-eqb v v refl)
+
+-- no literal of a list is above a place
+pub none-above : (levels : ℕ → ℕ) (ls : List ℕ) (place : ℕ)
+    → list_any (λ l. nat_lt place (levels (literal_variable l))) ls ≡ false
+    → All (λ l. levels (literal_variable l) ≤ place) ls
+none-above levels ls place none k d below =
+    elim (cases_lt place (levels (literal_variable (get_or ls k d)))) [
+      | inr fine ↦ fine
+      | inl high ↦ absurd (true≢false
+          (sym (any-contained (λ l. nat_lt place (levels (literal_variable l))) ls k (get_or ls k d) below
+          (get_or_default ls k (get_or ls k d) d below)
+          (lt-ltb place (levels (literal_variable (get_or ls k d))) high)) ∙ none))
+    ]
+
+-- one box more reads nothing above its place
+pub below-more : (levels : ℕ → ℕ) (boxes : List BlackBox) (i : ℕ) (box : BlackBox) (ls : List ℕ) → i < length boxes
+    → box ≡ get_or boxes i box → ls ≡ box.ins → ((j : ℕ) → j < i → IsBelow levels boxes j)
+    → list_any (λ l. nat_lt i (levels (literal_variable l))) ls ≡ false
+    → (j : ℕ) → j < i + 1 → IsBelow levels boxes j
+below-more levels boxes i box ls inside at is before none j below d under =
+    elim (cases_lt j i) [
+      | inl early ↦ before j early d under
+      | inr late ↦
+          let same : j ≡ i = omega (arith, late, below) in
+          let here : get_or boxes j d ≡ box =
+          ap (λ n. get_or boxes n d) same ∙ get_or_default boxes i d box inside ∙ sym at in
+          subst (λ n. All (λ l. levels (literal_variable l) ≤ n) (get_or boxes j d).ins) (sym same)
+          (subst (λ xs. All (λ l. levels (literal_variable l) ≤ i) xs)
+          (is ∙ ap (λ (b : BlackBox). b.ins) (sym here)) (none-above levels ls i none))
+    ]
+
+-- a box that reads something above its place
+pub found-above : (levels : ℕ → ℕ) (boxes : List BlackBox) (i : ℕ) (box : BlackBox) (ls : List ℕ) → i < length boxes
+    → box ≡ get_or boxes i box → ls ≡ box.ins
+    → list_any (λ l. nat_lt i (levels (literal_variable l))) ls ≡ true → IsAbove levels boxes i
+found-above levels boxes i box ls inside at is some =
+    let r = contained (λ l. nat_lt i (levels (literal_variable l))) ls some in
+    record {
+      in_range = inside;
+      signal = r.0;
+      default = box;
+      reads = subst (λ xs. Contains xs r.0) (is ∙ ap (λ (b : BlackBox). b.ins) at) r.1;
+      above = ltb-true i (levels (literal_variable r.0)) r.2;
+    }
+
+-- what the pass and the search for the first box that is above its place show
+pub order-shown : LatestShowsOrder → (net : Netlist) (boxes : List BlackBox) (levels : ℕ → ℕ) (found : Option ℕ)
+    → IsLatest net boxes levels → IsFirstAbove levels boxes found
+    → MatchOption found (StandInOrder net boxes) (IsFirstOutOfOrder net boxes)
+order-shown shows net boxes levels None latest above = (shows net boxes levels latest).1 (λ i d below. above i d below)
+order-shown shows net boxes levels (Some place) latest above = record {
+  is = record {
+    in_range = above.0.in_range;
+    signal = above.0.signal;
+    default = above.0.default;
+    reads = above.0.reads;
+    reaches = latest.reached (literal_variable above.0.signal) place above.0.above;
+  };
+  first = λ k low o.
+      let r = o.reaches in
+      let high = All-contains (λ out. r.box < levels (literal_variable out)) (get_or boxes r.box r.default).outs r.out
+      (latest.outs r.box r.default r.in_range) r.drives in
+      let up = later net boxes levels latest r.reaches in
+      let at = All-contains (λ l. levels (literal_variable l) ≤ k) (get_or boxes k o.default).ins o.signal
+      (above.1 k low o.default o.in_range) o.reads in
+      let behind = r.behind in
+      omega (arith, high, up, at, behind);
+}

@@ -1,0 +1,10 @@
+pub mod BoxLine
+pub mod Boxes
+pub mod Choices
+pub mod Encoding
+pub mod Latest
+pub mod Laws
+pub mod Outputs
+pub mod Reading
+pub mod Rows
+pub mod Steps
