@@ -1,3 +1,5 @@
+//! How a gate is made: folded where a side settles it, else shared with an equal one.
+
 ghost use Rattle.std.specs.Prelude.{◌≡◌, ◌&&◌, ◌||◌, All, OnErr, IfOk, IfSome};
 ghost use Rattle.aig_graph.specs.Graph.{IsNode};
 ghost use Rattle.aig_graph.specs.Joining.{AreInner};

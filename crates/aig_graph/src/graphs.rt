@@ -1,3 +1,5 @@
+//! A graph of inputs and hashed and-gates, as one value.
+
 ghost use Rattle.std.specs.Prelude.{◌≡◌, false, ◌<◌, ◌≤◌, ◌^◌, ◌+◌, [], ◌∷◌, ℕ, length, OnOk, OnErr, IfOk, IfSome, Some};
 ghost use Rattle.aig_graph.specs.Graph.{IsGraph, IsNode, AreSides, IsLook, place_of, size_of, gate_at, gate_count};
 ghost use Rattle.aig_graph.specs.Joining.{AreInner};

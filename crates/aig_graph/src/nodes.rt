@@ -1,3 +1,5 @@
+//! Nodes of a graph: constants, inputs and gates, each negated or not.
+
 ghost use Rattle.std.specs.Prelude.{◌≡◌, not, ℕ, Bool, false, MatchOption, IsTrue, if◌then◌else◌};
 ghost use Rattle.aig_graph.specs.Graph.{AigGraph, IsNode, node_value, node_support, place_of, with_sign};
 ghost use Rattle.aig_graph.specs.Made.{sides_of};

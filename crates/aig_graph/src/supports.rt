@@ -1,3 +1,5 @@
+//! Which inputs a node reads.
+
 ghost use Rattle.std.specs.Prelude.{◌≡◌, ◌+◌, ◌<◌, ◌↔◌, ◌⊎◌, ℕ, true, false, Some, length, Contains, All};
 ghost use Rattle.dq_lits.specs.Row.{bit_of};
 ghost use Rattle.aig_graph.specs.Graph.{IsNode, size_of, place_of, node_support};

@@ -1,3 +1,5 @@
+//! The value of nodes under a row of the inputs.
+
 ghost use Rattle.std.specs.Prelude.{◌≡◌, ◌+◌, ◌<◌, ◌≤◌, ◌&&◌, ℕ, All, length, map};
 ghost use Rattle.dq_lits.specs.Row.{bit_of};
 ghost use Rattle.aig_graph.specs.Graph.{IsNode, size_of, with_sign, value_by, gate_value, node_value};

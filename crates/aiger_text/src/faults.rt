@@ -1,3 +1,5 @@
+//! What can be wrong with a circuit's text.
+
 ghost use Rattle.std.specs.Prelude.{◌≡◌};
 ghost use Rattle.aiger_text.specs.declared.faults.AagStop.TheVariants.{Memory as OutOfMemory};
 ghost use Rattle.aiger_text.specs.declared.faults.LineStop.TheVariants.{Fault, Memory as LineOutOfMemory};

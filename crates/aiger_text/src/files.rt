@@ -1,3 +1,5 @@
+//! A circuit file as a value: netlist, symbols, comment.
+
 ghost use Rattle.std.specs.Prelude.{◌≡◌, IfOk};
 
 use crate::symbols::Symbols;

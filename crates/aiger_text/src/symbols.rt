@@ -1,3 +1,5 @@
+//! The symbol table: names of inputs and outputs by their places.
+
 ghost use Rattle.std.specs.Prelude.{◌≡◌, ◌++◌, ◌∷◌, [], None, OnOk, OnErr};
 ghost use Rattle.std.specs.Option.{option_copied};
 ghost use Rattle.aiger_text.specs.Symbol.{name_at};

@@ -1,3 +1,5 @@
+//! Candidates for all existentials of a formula.
+
 ghost use Rattle.std.specs.Prelude.{◌≡◌, ◌+◌, length, All, IfOk};
 ghost use Rattle.dq_formula.specs.Prefix.{existential_variables};
 ghost use Rattle.dq_formula.specs.Rules.{IsRule};

@@ -1,3 +1,5 @@
+//! What a search works on.
+
 use crate::clauses::ClauseStore;
 use learning_trail::{Activities, Notes, Restarts, Trail};
 use std::alloc::Global;

@@ -1,3 +1,5 @@
+//! The solver as a value, and its calls as an oracle.
+
 ghost use Rattle.std.specs.Prelude.{◌≡◌, ◌≤◌, ◌<◌, ◌-◌, ◌^◌, false};
 
 use crate::calls::{find, grow, keep_given};

@@ -1,3 +1,5 @@
+//! A circuit's proof as a value.
+
 use crate::steps::StepList;
 
 /// A circuit's proof (`dqp`): a derivation from the negated matrix, the clauses which say that some

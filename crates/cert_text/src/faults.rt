@@ -1,3 +1,5 @@
+//! What can be wrong with a certificate's text.
+
 ghost use Rattle.std.specs.Prelude.{◌≡◌};
 ghost use Rattle.cert_text.specs.declared.faults.CertStop.TheVariants.{Refused, Memory as OutOfMemory};
 ghost use Rattle.cert_text.specs.declared.faults.LineStop.TheVariants.{Fault, Memory as LineOutOfMemory};

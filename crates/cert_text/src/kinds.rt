@@ -1,3 +1,5 @@
+//! Which kind of certificate a text is, by its first lines.
+
 /// What a certificate shows, and where its header line begins.
 #[derive(Clone, Copy, PartialEq, Eq)]
 pub enum Kind {

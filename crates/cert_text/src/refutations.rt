@@ -1,3 +1,5 @@
+//! An expansion refutation as a value.
+
 use crate::steps::StepList;
 use dq_lits::RowList;
 

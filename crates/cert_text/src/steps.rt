@@ -1,3 +1,5 @@
+//! The steps of a proof, end to end in memory.
+
 ghost use Rattle.std.specs.Prelude.{◌≡◌, ◌<◌, ◌^◌, [], ◌∷◌, ◌++◌, length, Some, OnOk, OnErr};
 ghost use Rattle.std.specs.List.{slice_get};
 ghost use Rattle.cert_text.specs.Steps.{step_seen};

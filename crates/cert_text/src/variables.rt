@@ -1,3 +1,5 @@
+//! The variables that a proof's literals may stand on.
+
 ghost use Rattle.std.specs.Prelude.{◌≡◌, ◌≤◌, IsTrue, nat_abs};
 ghost use Rattle.dq_lits.specs.Literal.{dimacs_literal, variable_of};
 ghost use Rattle.cert_text.specs.Variables.{is_variable};

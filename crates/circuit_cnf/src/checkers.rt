@@ -1,3 +1,5 @@
+//! What the check of circuits gave to the oracle once.
+
 ghost use Rattle.std.specs.Prelude.{◌≡◌, ℕ, true, IfOk, None};
 ghost use Rattle.hint_log.specs.Growth.{Grew};
 ghost use Rattle.log_laws.specs.Engines.{circuits, IsAddedBy, HasNone};

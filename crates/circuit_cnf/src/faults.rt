@@ -1,3 +1,5 @@
+//! The clauses of a group of faults: some clause of the matrix is false under the circuit's leaves.
+
 ghost use Rattle.std.specs.Prelude.{◌≡◌, ◌≤◌, ◌<◌, ◌+◌, ◌∷◌, ◌⊎◌, ℕ, true, false, List, length, slice_index_or, [], IfOk, OnOk, OnErr, Some, Contains};
 ghost use Rattle.dq_lits.specs.Formula.{Dqbf};
 ghost use Rattle.std.specs.Option.{option_map};

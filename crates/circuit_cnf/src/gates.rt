@@ -1,3 +1,5 @@
+//! A circuit's gates as clauses, each given once (Tseitin's encoding).
+
 ghost use Rattle.std.specs.Prelude.{◌≡◌, ◌≤◌, ◌<◌, ◌+◌, ◌^◌, ℕ, length, OnOk, OnErr, IfOk, Some, None};
 ghost use Rattle.dq_lits.specs.Literal.{variable_of};
 ghost use Rattle.hint_log.specs.declared.names.Name.TheVariants.{And};

@@ -1,3 +1,5 @@
+//! The literals that stand for nodes of a circuit.
+
 ghost use Rattle.std.specs.Prelude.{◌≡◌, ◌≤◌, ◌<◌, ◌+◌, false, true, length, map, All, OnOk, IfOk, None};
 ghost use Rattle.dq_lits.specs.Literal.{variable_of};
 ghost use Rattle.dq_lits.specs.Row.{bit_of};

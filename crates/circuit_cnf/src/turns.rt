@@ -1,3 +1,5 @@
+//! One check of a circuit: its gates and faults, and a search for a row that makes a clause false.
+
 ghost use Rattle.std.specs.Prelude.{◌≡◌, ◌≤◌, ◌<◌, ◌+◌, ℕ, Bool, true, false, List, length, map, Contains, All, OnOk, IfOk, IsErrOf, Ok, Some, None, [], ◌∷◌};
 ghost use Rattle.dq_lits.specs.Formula.{IsWellFormed, declared};
 ghost use Rattle.dq_lits.specs.Literal.{positive, variable_of};

@@ -1,3 +1,5 @@
+//! A netlist as a value.
+
 ghost use Rattle.std.specs.Prelude.{◌≡◌, ◌==◌, ◌<◌, ◌%◌, ◌/◌, ◌*◌, ◌^◌, [], ◌∷◌, ◌++◌, length, IsTrue, ◌↔◌, OnOk, OnErr};
 ghost use Rattle.std.specs.List.{list_any};
 ghost use Rattle.circuit_plain.specs.declared.circuits.Gate.{Gate};

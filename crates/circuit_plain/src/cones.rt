@@ -1,3 +1,5 @@
+//! What an output reads, for one output or many at once.
+
 ghost use Rattle.std.specs.Prelude.{◌≡◌, ◌+◌, ◌<◌, ◌↔◌, ℕ, true, false, length, replicate, slice_index, slice_set, bit_or, IsTrue};
 ghost use Rattle.dq_lits.specs.Row.{bit_of};
 ghost use Rattle.circuit_plain.specs.Steps.{MarksReach, IsSpread};

@@ -1,3 +1,5 @@
+//! A topological order of a netlist's gates.
+
 ghost use Rattle.std.specs.Prelude.{◌≡◌, ℕ, Option, None, Some, Result, Err, IfOk};
 ghost use Rattle.circuit_plain.specs.Ground.{IsFirstUngrounded};
 ghost use Rattle.circuit_plain.specs.Order.{IsOrder};

@@ -1,3 +1,5 @@
+//! How gates are ordered: as they stand where that serves, else depth first.
+
 ghost use Rattle.std.specs.Prelude.{◌≡◌, ◌+◌, ◌<◌, ◌&&◌, All, length, IfOk, OnOk};
 ghost use Rattle.std.specs.Bool.{OnTrue, OnFalse};
 ghost use Rattle.circuit_plain.specs.Netlist.{literal_variable};

@@ -1,3 +1,5 @@
+//! The values of a netlist's variables under a row of its inputs.
+
 ghost use Rattle.std.specs.Prelude.{◌≡◌, ◌+◌, ◌<◌, ◌⊎◌, ◌&&◌, ℕ, Bool, false, [], length};
 ghost use Rattle.dq_lits.specs.Row.{bit_of};
 ghost use Rattle.circuit_plain.specs.Steps.{GivesValues};

@@ -1,3 +1,5 @@
+//! A walk over gates, depth first and without recursion.
+
 ghost use Rattle.std.specs.Prelude.{◌≡◌, ◌+◌, ◌*◌, ◌<◌, ◌≤◌, All, count_by, length, not, IfOk, OnOk};
 ghost use Rattle.circuit_plain.specs.Steps.{task_place};
 

@@ -1,3 +1,5 @@
+//! Dependency sets: the first so many universals, or a list.
+
 ghost use Rattle.std.specs.Prelude.{◌≡◌};
 
 use std::marker::Model;

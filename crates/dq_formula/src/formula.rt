@@ -1,3 +1,5 @@
+//! A DQBF as a value, made a piece at a time.
+
 ghost use Rattle.std.specs.Prelude.{◌≡◌, ◌≢◌, ◌+◌, ◌-◌, ◌==◌, ◌≤◌, ◌<◌, false, true, not, ◌&&◌, Some, None, [], ◌∷◌, ◌++◌, List, length, map, is_some, slice_get, slice_index, slice_index_or, filter, All, Contains, nat_eq, IsTrue, IsSome, IfSome, IfOk, OnOk, OnErr, position, ◌↔◌};
 ghost use Rattle.std.specs.List.{AllPairs, position_or_len};
 ghost use Rattle.std.specs.List.Sorted.{IsBinarySearchResult, IsSearchInRange};

@@ -1,3 +1,5 @@
+//! What the clauses of an XOR line say.
+
 ghost use Rattle.dq_formula.specs.Xor.{XorIsItsClauses};
 
 /// Under every assignment the clauses of an XOR line are all true exactly where an odd number of its

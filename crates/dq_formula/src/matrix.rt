@@ -1,3 +1,5 @@
+//! The matrix: clauses in blocks of memory that don't move.
+
 ghost use Rattle.std.specs.Prelude.{◌≡◌, ◌≤◌, ◌<◌, ◌+◌, ◌∷◌, ◌++◌, [], length, slice_index_or, OnOk, OnErr};
 ghost use Rattle.dq_formula.specs.Xor.{xor_clauses};
 

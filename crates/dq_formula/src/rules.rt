@@ -1,3 +1,5 @@
+//! Rules: a bit that an existential is forced to where a cube is true.
+
 use dq_lits::Clause;
 
 /// What an existential is forced to: this bit, wherever the cube is true. The cube is a list of

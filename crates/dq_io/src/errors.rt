@@ -1,3 +1,5 @@
+//! Why a call of a file or a sink, or a reading or writing over many, failed.
+
 ghost use Rattle.std.specs.Prelude.{◌≡◌};
 ghost use Rattle.dq_io.specs.declared.errors.ReadStop.TheVariants.{Memory, Fault};
 

@@ -1,3 +1,5 @@
+//! Calls that are counted, of which some are to fail.
+
 ghost use Rattle.std.specs.Prelude.{◌≡◌, ◌≤◌, IfOk};
 ghost use Rattle.dq_io.specs.Failures.{fails_next, called, faulted};
 

@@ -1,3 +1,5 @@
+//! The trait of files that are read by name.
+
 ghost use Rattle.std.specs.Prelude.{◌≡◌, ℕ, ◌+◌, ◌<◌, ◌≤◌, Bool, true, List, length, take, drop, Option, IfSome, IfOk, OnOk, OnErr, IsOk, IsErr};
 ghost use Rattle.std.specs.Io.KnownBytes.{prepend_known, IsAtEnd};
 ghost use Rattle.dq_io.specs.Causes.{HasCause, next_count};

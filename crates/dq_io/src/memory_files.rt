@@ -1,3 +1,5 @@
+//! Files in memory, for tests.
+
 ghost use Rattle.std.specs.Prelude.{◌≡◌, ◌+◌, ◌≤◌, ◌<◌, ◌||◌, not, min, is_err, IfOk, OnOk, OnErr, [], ◌∷◌, ◌++◌, ℕ, length, take, drop, Some};
 ghost use Rattle.dq_io.specs.Causes.{HasCause, next_count};
 ghost use Rattle.dq_io.specs.Store.{held_in, is_held, bytes_of};

@@ -1,3 +1,5 @@
+//! A sink in memory, for tests.
+
 ghost use Rattle.std.specs.Prelude.{◌≡◌, ◌≤◌, ◌<◌, ◌++◌, [], true, min, length, take, Some, IsErr, IfOk, OnErr};
 ghost use Rattle.dq_io.specs.Causes.{HasCause};
 ghost use Rattle.dq_io.specs.Failures.{fails_next, called, faulted};

@@ -1,3 +1,5 @@
+//! Files and a sink in memory that never fail.
+
 ghost use Rattle.std.specs.Prelude.{◌≡◌, ◌+◌, ◌<◌, [], ◌∷◌, ◌++◌, min, length, take, drop, true, OnOk, OnErr, IsOk, IfOk, Ok, Some, None};
 ghost use Rattle.dq_io.specs.Causes.{next_count};
 ghost use Rattle.dq_io.specs.Files.{Holds};

@@ -1,3 +1,5 @@
+//! The system's files and its standard output: the trusted edge.
+
 // The trusted edge: files and the output of the system that the program runs on. It tells nothing
 // of what they hold, and counts every error.
 ghost use Rattle.std.specs.Prelude.{◌≡◌, ◌+◌, ◌<◌, ◌≤◌, ℕ, true, false, length, IfOk, OnOk, OnErr, Ok, None};

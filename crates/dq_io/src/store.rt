@@ -1,3 +1,5 @@
+//! Files in memory by their names, of which one may be open.
+
 ghost use Rattle.std.specs.Prelude.{◌≡◌, ◌+◌, ◌^◌, ◌<◌, min, [], ◌∷◌, ◌++◌, length, take, drop, position, bytes_eq, IfOk, OnOk, OnErr};
 ghost use Rattle.dq_io.specs.Causes.{next_count};
 ghost use Rattle.dq_io.specs.Store.{held_in, is_held, bytes_of};

@@ -1,3 +1,5 @@
+//! A text, written whole.
+
 ghost use Rattle.std.specs.Prelude.{◌≡◌, OnOk, OnErr};
 ghost use Rattle.std.specs.Io.KnownBytes.{append_known};
 ghost use Rattle.dq_io.specs.Causes.{HasCause};

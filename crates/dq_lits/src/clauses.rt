@@ -1,3 +1,5 @@
+//! Clauses.
+
 ghost use Rattle.std.specs.Prelude.{◌≡◌, ◌<◌, [], ◌∷◌, ◌++◌, length, IfOk, OnOk, OnErr, All};
 ghost use Rattle.dq_lits.specs.Literal.{variable_of, clause_true};
 ghost use Rattle.dq_lits.specs.Row.{bit_of};

@@ -1,3 +1,5 @@
+//! Lists of ids and of rows.
+
 ghost use Rattle.std.specs.Prelude.{◌≡◌, [], ◌∷◌, ◌++◌, IfOk, OnOk, OnErr};
 
 use crate::memory::Memory;

@@ -1,3 +1,5 @@
+//! Literals.
+
 ghost use Rattle.std.specs.Prelude.{◌≡◌, ◌<◌, ◌≤◌, ◌^◌};
 ghost use Rattle.dq_lits.specs.Literal.{positive, negative, variable_of, is_negative, opposite, same_literal};
 ghost use Rattle.std.proofs.Common.{rules};

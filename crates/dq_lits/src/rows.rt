@@ -1,3 +1,5 @@
+//! Rows of bits, 64 to a word.
+
 ghost use Rattle.std.specs.Prelude.{◌≡◌, ◌≢◌, ◌==◌, ◌<◌, ℕ, false, length, replicate, IfOk, slice_set};
 ghost use Rattle.std.specs.Int.{bit_at};
 ghost use Rattle.dq_lits.specs.Row.{bit_of};

@@ -1,3 +1,5 @@
+//! What a byte is to lines and tokens.
+
 ghost use Rattle.std.specs.Prelude.{◌≡◌};
 ghost use Rattle.dq_text.specs.Bytes.{kind_of};
 

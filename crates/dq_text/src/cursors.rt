@@ -1,3 +1,5 @@
+//! Where a text is read, by line and place.
+
 ghost use Rattle.std.specs.Prelude.{◌≡◌, ◌+◌, ◌^◌, ◌<◌, ◌∷◌, ◌≢◌, [], length, true};
 ghost use Rattle.std.specs.List.{position, position_or_len};
 ghost use Rattle.dq_text.specs.Bytes.{kind_of};

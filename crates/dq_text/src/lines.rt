@@ -1,3 +1,5 @@
+//! The lines of a text.
+
 ghost use Rattle.std.specs.Prelude.{◌≡◌, ◌+◌, ◌^◌, ◌<◌, ◌∷◌, [], length, map, MatchOption, IfNone, IfSome};
 ghost use Rattle.dq_text.specs.Line.{lines_from, IsFirstLine, line_tokens};
 ghost use Rattle.dq_text.specs.Number.{number_of};

@@ -1,3 +1,5 @@
+//! Decimal numbers, read and written.
+
 ghost use Rattle.std.specs.Prelude.{◌≡◌, ◌++◌, ◌^◌, min, Some, None, OnOk, OnErr, if◌then◌else◌};
 ghost use Rattle.std.specs.Fmt.{decimal, signed_decimal};
 ghost use Rattle.std.specs.List.{flat_map};

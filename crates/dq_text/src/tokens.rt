@@ -1,3 +1,5 @@
+//! The tokens of a text that stands in memory.
+
 ghost use Rattle.std.specs.Prelude.{◌≡◌, ◌∷◌, [], MatchOption, IfNone};
 ghost use Rattle.dq_text.specs.Token.{tokens_of, last_line_of};
 

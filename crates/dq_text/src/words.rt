@@ -1,3 +1,5 @@
+//! Words of a line.
+
 ghost use Rattle.std.specs.Prelude.{◌≡◌, ◌++◌, OnOk};
 ghost use Rattle.std.specs.Str.{bytes_eq};
 ghost use Rattle.dq_text.specs.BlankLine.{is_blank_line};

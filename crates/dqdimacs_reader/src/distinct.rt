@@ -1,3 +1,5 @@
+//! A clause's distinct literals, in time that doesn't depend on which they are.
+
 ghost use Rattle.std.specs.Prelude.{◌≡◌, [], IfOk, IfSome, OnOk, OnErr, not};
 ghost use Rattle.std.specs.List.{list_any};
 ghost use Rattle.dq_lits.specs.Literal.{same_literal};

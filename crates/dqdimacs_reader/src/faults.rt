@@ -1,3 +1,5 @@
+//! What can be wrong with a formula's text.
+
 ghost use Rattle.std.specs.Prelude.{◌≡◌};
 ghost use Rattle.dqdimacs_reader.specs.declared.faults.ReadStop.TheVariants.{Memory as OutOfMemory};
 

@@ -1,3 +1,5 @@
+//! What a token is to the grammar.
+
 ghost use Rattle.std.specs.Prelude.{◌≡◌, false};
 ghost use Rattle.dqdimacs_reader.specs.Lexeme.{number_lexeme, word_or, lexeme_of, summary_lexeme};
 

@@ -1,3 +1,5 @@
+//! A bit for each existential under each row of a table.
+
 ghost use Rattle.std.specs.Prelude.{◌≡◌, ◌≢◌, ◌≤◌, length, Contains};
 ghost use Rattle.std.specs.List.{AllPairs};
 ghost use Rattle.dq_lits.specs.Row.{assignment_of, bit_of};

@@ -1,3 +1,5 @@
+//! The instances of a matrix under the rounds' rows.
+
 ghost use Rattle.std.specs.Prelude.{◌≡◌, ◌≢◌, All, map, ◌≤◌, ◌+◌, ◌-◌, ◌++◌, ◌∷◌, [], ℕ, List, length, true, false, OnOk, OnErr, IfOk, IsErrOf, Some, None, Ok, slice_get};
 ghost use Rattle.std.specs.List.{AllPairs};
 ghost use Rattle.dq_lits.specs.Literal.{positive};

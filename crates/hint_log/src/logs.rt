@@ -1,3 +1,5 @@
+//! The proof log as a value, and its calls.
+
 ghost use Rattle.std.specs.Prelude.{◌≡◌, ◌+◌, ◌-◌, ◌≤◌, ◌<◌, ◌^◌, ◌↔◌, ℕ, true, false, List, [], length, take, ◌++◌, Contains, All, OnOk, OnErr, IfOk, IsErrOf, Some, None, IsSome, ◌∷◌, slice_get};
 ghost use Rattle.dq_lits.specs.Literal.{variable_of};
 ghost use Rattle.hint_log.specs.Conditions.{AreNamed, HasSides, IsId, AreIds, MayFollow, AreLogged};

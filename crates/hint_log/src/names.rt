@@ -1,3 +1,5 @@
+//! What a solver variable stands for.
+
 use dq_lits::Lit;
 
 /// What a solver variable stands for.

@@ -1,3 +1,5 @@
+//! Where a given clause comes from.
+
 use dq_lits::Lit;
 
 /// What stands at a place of a circuit: a constant, or a literal on an input or a gate.

@@ -1,3 +1,5 @@
+//! Why a counted step wasn't taken.
+
 ghost use Rattle.std.specs.Prelude.{◌≡◌};
 ghost use Rattle.hint_log.specs.declared.stops.Stop.TheVariants.{Memory as OutOfMemory};
 

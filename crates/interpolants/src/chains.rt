@@ -1,3 +1,5 @@
+//! The hints of a line that made a literal true, newest first.
+
 ghost use Rattle.std.specs.Prelude.{◌≡◌, [], ◌∷◌, OnOk, None, Some, IfSome};
 
 use dq_lits::{Lit, Memory};

@@ -1,3 +1,5 @@
+//! A set of literals.
+
 ghost use Rattle.std.specs.Prelude.{◌≡◌, ◌||◌, [], OnOk};
 ghost use Rattle.dq_lits.specs.Literal.{Literal, same_literal};
 ghost use Rattle.dq_lits.specs.Derivation.{holds};

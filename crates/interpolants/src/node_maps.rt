@@ -1,3 +1,5 @@
+//! Nodes by numbers.
+
 ghost use Rattle.std.specs.Prelude.{◌≡◌, ◌==◌, ℕ, [], Some, OnOk, IfOk, IsSome, if◌then◌else◌};
 ghost use Rattle.interpolants.specs.Interpolant.{node_of};
 

@@ -1,3 +1,5 @@
+//! An interpolant, read off the derivation of an answer.
+
 ghost use Rattle.std.specs.Prelude.{IfOk};
 ghost use Rattle.hint_log.specs.Conditions.{AreNamed, IsId};
 ghost use Rattle.hint_log.specs.Growth.{Each};

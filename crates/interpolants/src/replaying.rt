@@ -1,3 +1,5 @@
+//! A line's hints, propagated once more.
+
 ghost use Rattle.std.specs.Prelude.{◌≡◌, [], map, IfOk};
 ghost use Rattle.dq_lits.specs.Literal.{opposite};
 ghost use Rattle.dq_lits.specs.Derivation.{IsDerived};

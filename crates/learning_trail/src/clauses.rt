@@ -1,3 +1,5 @@
+//! The trait of clauses that are read by their ids.
+
 ghost use Rattle.std.specs.Prelude.{◌≡◌, ◌≤◌, List, Some, length};
 ghost use Rattle.dq_lits.specs.Literal.{Literal};
 ghost use Rattle.oracle.specs.Fit.{live_in};

@@ -1,3 +1,5 @@
+//! The clause that stands for literals of a group.
+
 ghost use Rattle.std.specs.Prelude.{◌≡◌, ◌∷◌, IfOk};
 ghost use Rattle.dq_lits.specs.Literal.{opposite};
 

@@ -1,3 +1,5 @@
+//! The values of a trail, kept as a model.
+
 ghost use Rattle.std.specs.Prelude.{◌≡◌, ◌≤◌, ◌<◌, ◌^◌, ℕ, true, false, length, slice_index_or, suc};
 ghost use Rattle.dq_lits.specs.Literal.{positive};
 ghost use Rattle.learning_trail.specs.Steps.{literals_of, literal_value};

@@ -1,3 +1,5 @@
+//! How a clause stands under a trail.
+
 ghost use Rattle.std.specs.Prelude.{◌≡◌, ◌≤◌, Some, None, All, MatchOption, true};
 ghost use Rattle.std.specs.List.{list_any};
 ghost use Rattle.dq_lits.specs.Literal.{variable_of, same_literal};

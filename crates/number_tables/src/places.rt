@@ -1,3 +1,5 @@
+//! A map from numbers to places: a table for small numbers, an ordered map for others.
+
 ghost use Rattle.std.specs.Prelude.{◌≡◌, ◌+◌, ◌-◌, ◌^◌, ◌<◌, ◌≤◌, ◌==◌, ℕ, true, None, OnOk, OnErr, length, slice_index_or, if◌then◌else◌};
 ghost use Rattle.number_tables.specs.Places.{place_in, Puts};
 

@@ -1,3 +1,5 @@
+//! A set of numbers, each found by its value.
+
 ghost use Rattle.std.specs.Prelude.{◌≡◌, ◌<◌, ◌^◌, ◌==◌, ◌||◌, ◌++◌, ◌∷◌, ℕ, [], Contains, length, is_some, not, IfOk, OnOk, OnErr, IfSome};
 ghost use Rattle.number_tables.specs.Numbers.{has_number, place_of, with_number};
 

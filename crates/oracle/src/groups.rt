@@ -1,3 +1,5 @@
+//! Groups of clauses that are switched on together, and who makes them.
+
 ghost use Rattle.std.specs.Prelude.{◌≡◌};
 
 use dq_lits::Lit;

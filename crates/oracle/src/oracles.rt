@@ -1,3 +1,5 @@
+//! The trait of a solver that several tenants share.
+
 ghost use Rattle.std.specs.Prelude.{◌≡◌, ◌≤◌, ◌<◌, ◌^◌, ◌∷◌, ℕ, Bool, true, false, List, Some, None, IsSome, Ok, Err, IfOk, OnOk, OnErr};
 ghost use Rattle.std.specs.List.{All};
 ghost use Rattle.dq_lits.specs.Literal.{Literal, Assignment, variable_of, opposite};

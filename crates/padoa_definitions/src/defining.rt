@@ -1,3 +1,5 @@
+//! Whether an existential is defined, and by which node.
+
 ghost use Rattle.std.specs.Prelude.{◌≡◌, ◌+◌, ℕ, true, length, IfOk, IsErrOf, IsSome, Some};
 ghost use Rattle.dq_lits.specs.Formula.{Existential, IsWellFormed, existential_of};
 ghost use Rattle.hint_log.specs.Growth.{Grew};

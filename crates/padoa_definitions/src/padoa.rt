@@ -1,3 +1,5 @@
+//! The two copies of the matrix, as they were given to the oracle.
+
 ghost use Rattle.std.specs.Prelude.{◌≡◌, ℕ, true, All, IfOk, None};
 ghost use Rattle.dq_lits.specs.Formula.{IsWellFormed};
 ghost use Rattle.hint_log.specs.Entries.{name_of};

@@ -1,3 +1,5 @@
+//! A black box of a design.
+
 ghost use Rattle.std.specs.Prelude.{◌≡◌};
 
 use std::marker::Model;

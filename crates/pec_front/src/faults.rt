@@ -1,3 +1,5 @@
+//! What can be wrong with a partial design.
+
 ghost use Rattle.std.specs.Prelude.{◌≡◌};
 ghost use Rattle.pec_front.specs.declared.faults.LineStop.TheVariants.{Fault, Memory as LineOutOfMemory};
 ghost use Rattle.pec_front.specs.declared.faults.PecStop.TheVariants.{Memory as OutOfMemory};

@@ -1,3 +1,5 @@
+//! Why a circuit's proof isn't accepted.
+
 ghost use Rattle.std.specs.Prelude.{◌≡◌};
 ghost use Rattle.proof_checker.specs.declared.faults.ProofFault.TheVariants.{Memory as OutOfMemory};
 

@@ -1,3 +1,5 @@
+//! The check of a refutation.
+
 ghost use Rattle.std.specs.Prelude.{◌≡◌, ◌≤◌, length, map, IfOk, OnOk, [], None, false};
 ghost use Rattle.dq_lits.specs.Derivation.{proof_fault};
 ghost use Rattle.dq_lits.specs.Expansion.{instance_at};

@@ -1,3 +1,5 @@
+//! Why a refutation isn't accepted.
+
 ghost use Rattle.std.specs.Prelude.{◌≡◌};
 ghost use Rattle.refutation_checker.specs.declared.faults.RefFault.TheVariants.{Memory as OutOfMemory};
 

@@ -1,3 +1,5 @@
+//! The loop that decides a formula.
+
 ghost use Rattle.std.specs.Prelude.{◌≡◌, [], ℕ, length, OnErr, IsErrOf, Ok};
 ghost use Rattle.dq_lits.specs.Formula.{IsWellFormed};
 ghost use Rattle.hint_log.specs.Deciding.{IsUndecided, KeepsSelectors};

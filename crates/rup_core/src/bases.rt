@@ -1,3 +1,5 @@
+//! The trait of clauses that hints may name.
+
 ghost use Rattle.std.specs.Prelude.{◌≡◌, ◌≤◌, Some, IsSome, IfSome, take};
 ghost use Rattle.dq_lits.specs.Derivation.{LiveClauses};
 ghost use Rattle.rup_core.specs.Reading.{clause_size, literal_at};

@@ -1,3 +1,5 @@
+//! Whether a line is derived by its hints.
+
 ghost use Rattle.std.specs.Prelude.{◌≡◌, true, [], All, IfSome, IfOk, IsOk, not, map};
 ghost use Rattle.dq_lits.specs.Literal.{opposite};
 ghost use Rattle.dq_lits.specs.Derivation.{line_fault, hint_fault, is_tautology};

@@ -1,3 +1,5 @@
+//! The memory of a derivation, clean between lines.
+
 ghost use Rattle.std.specs.Prelude.{◌≡◌, IfOk};
 
 use crate::trails::Trail;

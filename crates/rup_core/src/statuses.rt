@@ -1,3 +1,5 @@
+//! How a clause stands under a trail.
+
 ghost use Rattle.std.specs.Prelude.{◌≡◌, ℕ, true, Some, IfSome};
 ghost use Rattle.dq_lits.specs.Literal.{same_literal};
 ghost use Rattle.dq_lits.specs.Derivation.{status_of, stuck};

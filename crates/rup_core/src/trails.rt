@@ -1,3 +1,5 @@
+//! The literals that a line's hints made true.
+
 ghost use Rattle.std.specs.Prelude.{◌≡◌, ◌+◌, ◌<◌, ◌≤◌, [], ◌∷◌, length, max, All, IfOk, IsOk, OnOk, OnErr, if◌then◌else◌};
 ghost use Rattle.std.specs.Option.{option_copied};
 ghost use Rattle.dq_lits.specs.Derivation.{holds};

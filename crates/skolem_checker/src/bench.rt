@@ -1,3 +1,5 @@
+//! A circuit that is tested against a formula.
+
 ghost use Rattle.std.specs.Prelude.{◌≡◌, ◌≢◌, ◌≤◌, ◌+◌, length, AllPairs, IfOk};
 ghost use Rattle.dq_lits.specs.Formula.{IsWellFormed};
 ghost use Rattle.circuit_plain.specs.Netlist.{IsNetlist};

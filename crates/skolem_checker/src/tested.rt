@@ -1,3 +1,5 @@
+//! What the tests look at.
+
 use circuit_plain::{Circuit, Order};
 use dq_formula::Formula;
 
