@@ -1,5 +1,5 @@
 -- From what the search and the exports answer to a verdict's output.
-use Rattle.std.proofs.Common.{◌≡◌, ◌∙◌, ◌+◌, ◌-◌, ◌≤◌, ℕ, Bool, sym, ap, subst, arith, List, length, None, Result, Ok, Err}
+use Rattle.std.proofs.Common.{◌≡◌, ◌∙◌, ◌-◌, ◌≤◌, ℕ, Bool, sym, ap, subst, arith, List, length, None, Result, Ok, Err}
 use Rattle.std.specs.List.{range_with_len}
 use Rattle.dq_lits.specs.Expansion.{IsExpansionUnsatisfiable}
 use Rattle.dq_lits.specs.Formula.{Dqbf}
@@ -30,11 +30,11 @@ use Rattle.repair_loop.specs.Searching.{IsShownTrue as IsFoundTrue, IsShownFalse
 use Rattle.repair_loop.specs.Stopping.{IsStoppedAtLimit}
 use Rattle.dq_verdicts.specs.Accepted.{ProvedCircuitsAreAccepted, RefutationsAreAccepted, SmallLogsAreWithinLimits}
 use Rattle.dq_verdicts.specs.Outputs.{IsVerdictOutput}
-use Rattle.dq_verdicts.specs.Verdicts.{Verdict, is_unknown, verdict_text, verdict_status, printed_verdict}
+use Rattle.dq_verdicts.specs.Verdicts.{Verdict, is_unknown, verdict_text, verdict_status}
 use Rattle.dq_verdicts.specs.Shown.{IsShownTrue, IsShownFalse, few_entries}
 use Rattle.dq_verdicts.specs.declared.verdicts.Decision.{Decision}
 use Rattle.dq_verdicts.specs.declared.verdicts.Decision.TheVariants.{Shown, Refuted}
-use Rattle.dq_runs.specs.Printed.{Printed, printed}
+use Rattle.dq_runs.specs.Printed.{Printed}
 use Rattle.dq_runs.specs.declared.outputs.Output.{Output}
 use Rattle.dq_verdicts.proofs.Counts.{count_few}
 

@@ -1,6 +1,6 @@
 -- The clauses that `dqsolve_run` had before its reports and its ending were shared with other commands, from those that it has. Kept for
 -- that change alone.
-use Rattle.std.proofs.Common.{◌≡◌, ◌⊎◌, inl, inr, ℕ, ◌<◌, Bool, List, ◌++◌, Option, None, Some, refl, sym, ap, ◌∙◌, subst, arith, codes}
+use Rattle.std.proofs.Common.{◌≡◌, ◌⊎◌, inl, inr, ℕ, ◌<◌, Bool, List, Option, None, Some, refl, sym, ap, ◌∙◌, subst, arith, codes}
 use Rattle.std.specs.Io.KnownBytes.{append_known}
 use Rattle.dq_io.specs.Sinks.{TakesPart}
 use Rattle.dq_io.specs.State.{FilesState}
@@ -19,7 +19,7 @@ use Rattle.dq_verdicts.specs.Verdicts.{Verdict, verdict_text, verdict_status}
 use Rattle.dq_verdicts.specs.declared.demonstrations.Demonstration.{Demonstration}
 use Rattle.dqsolve_words.specs.Command.{Search, Planting, Command, solve, demo, default_steps}
 use Rattle.dqsolve_core.specs.Report.{SearchReport, no_formula, solved, printed_search, demo_text, demonstration_status}
-use Rattle.dqsolve_core.specs.Running.{IsDemonstration, IsDueFor, IsDemoDue, IsDue, IsOwnLog, SeeksVerdict}
+use Rattle.dqsolve_core.specs.Running.{IsDemonstration, IsDueFor, IsDue, IsOwnLog, SeeksVerdict}
 
 pub data Former : Type 0 where
   usage : Former

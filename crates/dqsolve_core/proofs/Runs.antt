@@ -1,5 +1,5 @@
 -- From what a run's parts answer to what is due, and why.
-use Rattle.std.proofs.Common.{◌≡◌, ◌≢◌, ◌⊎◌, inl, inr, ℕ, ◌<◌, ◌≤◌, Bool, List, [], length, Option, None, Some, Result, Ok, Err, refl, sym, ap, ◌∙◌, subst, arith}
+use Rattle.std.proofs.Common.{◌≡◌, ◌≢◌, ◌⊎◌, inl, inr, ℕ, Bool, List, [], Option, None, Some, Result, Ok, Err, refl, sym, ap, ◌∙◌, subst, arith}
 use Rattle.std.specs.Prelude.{IfOk, option_map}
 use Rattle.dq_io.specs.Causes.{Rose}
 use Rattle.dq_io.specs.State.{FilesState}
@@ -8,9 +8,9 @@ use Rattle.dq_lits.specs.declared.memory.Memory.{Memory}
 use Rattle.hint_log.specs.Entries.{ProofLog, steps_of}
 use Rattle.hint_log.specs.ProductiveLog.{IsProductiveLog}
 use Rattle.planted_formulas.specs.Planted.{planted_formula}
-use Rattle.dq_runs.specs.Ending.{IsWritten, IsCutOff, IsUnwritten, IsEnd, Ends, HasCauses}
+use Rattle.dq_runs.specs.Ending.{IsEnd, Ends, HasCauses}
 use Rattle.dq_runs.specs.FileTexts.{PickedOnce}
-use Rattle.dq_runs.specs.FormulaFiles.{max_formula, IsFormulaOf, IsNoFormula, IsFormulaRead, IsUnreadableStop}
+use Rattle.dq_runs.specs.FormulaFiles.{IsFormulaOf, IsNoFormula, IsFormulaRead, IsUnreadableStop}
 use Rattle.dq_runs.specs.declared.formulas.FormulaStop.{FormulaStop}
 use Rattle.dq_runs.specs.declared.formulas.FormulaStop.TheVariants.{Said}
 use Rattle.dq_runs.specs.Printed.{Printed, printed}
@@ -31,7 +31,7 @@ use Rattle.dqsolve_words.specs.declared.names.CommandWords.{CommandWords}
 use Rattle.dqsolve_words.specs.declared.names.CommandWords.TheVariants.{Solve, Demo}
 use Rattle.dqsolve_core.specs.Outputs.{IsReported, IsDemoOutput}
 use Rattle.dqsolve_core.specs.Report.{SearchReport, no_formula, solved, printed_search, printed_demo, demonstration_status}
-use Rattle.dqsolve_core.specs.Running.{IsDueFor, IsDemoDue, IsDue, IsRunLog, IsOwnLog, IsDemonstration, SeeksVerdict, steps_asked}
+use Rattle.dqsolve_core.specs.Running.{IsDueFor, IsDue, IsRunLog, IsOwnLog, IsDemonstration, steps_asked}
 
 status_of : (output : Output) (p : Printed) → printed output ≡ p → output.status ≡ p.status
 status_of output p same = ap (λ (q : Printed). q.status) same

@@ -1,7 +1,6 @@
 -- From what is due to what is shown over a file that is told, and of a planted formula.
-use Rattle.std.proofs.Common.{◌≡◌, ◌≢◌, ◌⊎◌, inl, inr, ℕ, ◌<◌, ◌≤◌, Bool, true, List, length, Option, Some, Result, Ok, Err, refl, sym, ap, ◌∙◌, subst, arith}
+use Rattle.std.proofs.Common.{◌≡◌, inl, inr, ℕ, ◌<◌, ◌≤◌, true, List, length, Option, Result, Ok, Err, sym, ap, ◌∙◌, subst, arith}
 use Rattle.std.specs.Prelude.{IfOk}
-use Rattle.std.specs.Io.KnownBytes.{append_known}
 use Rattle.dq_io.specs.Causes.{Rose}
 use Rattle.dq_io.specs.Files.{Holding, Holds}
 use Rattle.dq_io.specs.State.{FilesState}
@@ -10,19 +9,19 @@ use Rattle.dq_lits.specs.declared.memory.Memory.{Memory}
 use Rattle.hint_log.specs.Entries.{ProofLog}
 use Rattle.dqdimacs_reader.specs.Grammar.{SpellsFormula}
 use Rattle.dqdimacs_reader.specs.Machine.{TextFault, reading}
-use Rattle.dq_runs.specs.Ending.{IsWritten, IsCutOff, IsEnd}
+use Rattle.dq_runs.specs.Ending.{IsWritten, IsEnd}
 use Rattle.dq_runs.specs.FileTexts.{IsTextOf, IsLong}
 use Rattle.dq_runs.specs.FormulaFiles.{max_formula, IsFaultOf, IsFormulaOf}
 use Rattle.dq_runs.specs.Printed.{Printed, printed}
 use Rattle.dq_runs.specs.Sinks.{SinkState}
 use Rattle.dq_runs.specs.declared.formulas.NoFormula.TheVariants.{Unreadable, TooLong, Refused}
 use Rattle.dq_runs.specs.declared.outputs.Output.{Output}
-use Rattle.dq_verdicts.specs.Verdicts.{Verdict, printed_verdict, is_verdict_status}
-use Rattle.dqsolve_words.specs.Command.{Search, Planting, Command, solve, demo}
+use Rattle.dq_verdicts.specs.Verdicts.{is_verdict_status}
+use Rattle.dqsolve_words.specs.Command.{Search, Planting, Command}
 use Rattle.dqsolve_core.specs.Outputs.{IsReported}
-use Rattle.dqsolve_core.specs.Report.{SearchReport, no_formula, solved, printed_search, printed_demo}
+use Rattle.dqsolve_core.specs.Report.{SearchReport, no_formula, solved, printed_search}
 use Rattle.dqsolve_core.specs.Running.{IsDueFor, IsDemoDue, IsDue}
-use Rattle.dqsolve_core.specs.Told.{IsTold, IsSolved, IsSolution, IsDemonstratedRun, SolvesTold}
+use Rattle.dqsolve_core.specs.Told.{IsSolved, IsSolution, IsDemonstratedRun, SolvesTold}
 
 -- what the law of the formulas' grammar gives
 pub record FormulaLaw : Type 0 where

@@ -1,4 +1,4 @@
-use Rattle.std.proofs.Common.{◌∙◌, ◌++◌, refl, sym, subst, ap, cond, [], codes}
+use Rattle.std.proofs.Common.{◌∙◌, ◌++◌, sym, subst, ap, cond, [], codes}
 use Rattle.cert_export.specs.Exportable.{AreExportedSteps}
 use Rattle.cert_export.specs.Exported.{CanExportFalse}
 use Rattle.dq_runs.specs.Printed.{line}
