@@ -4,7 +4,8 @@ use Rattle.std.proofs.lemmas.Bool.{cases_Bool, cases_eq, cases_lt, false≢true,
 use Rattle.dq_lits.specs.Literal.{Literal, opposite, same_literal, variable_of}
 use Rattle.dq_lits.specs.Derivation.{LiveClauses, holds}
 use Rattle.learning_trail.specs.declared.trails.Step.{Step}
-use Rattle.learning_trail.specs.Steps.{Trailed, literals_of, level_of, is_decision, IsFree, Shrunk}
+use Rattle.learning_trail.specs.Steps.{Trailed, literals_of, level_of, is_decision, Shrunk}
+use Rattle.truth_values.specs.Truth.{IsFree}
 use Rattle.learning_trail.specs.Marks.{marked}
 use Rattle.learning_trail.specs.Sound.{IsSound}
 use Rattle.cdcl_core.specs.Chains.{watch_at}
@@ -12,7 +13,7 @@ use Rattle.cdcl_core.specs.Watching.{Guards, AreShortTrue, IsGuarded, AreLevelsG
 use Rattle.cdcl_core.specs.Storage.{Stored, IsHeldWatched}
 use Rattle.learning_trail.specs.Lessons.{LandsInLevel, landed}
 use Rattle.cdcl_core.proofs.GuardedClauses.{among_suffix, guarded_grown, levels_later}
-use Rattle.learning_trail.proofs.HeldLiterals.{holds_first, holds_later, holds_cases, opposite-opposite, same_opposite, same_literal-sound}
+use Rattle.truth_values.proofs.HeldLiterals.{holds_first, holds_later, holds_cases, opposite-opposite, same_opposite, same_literal-sound}
 use Rattle.learning_trail.proofs.Lessons.{live_more, free_suffix, sound_later}
 use Rattle.cdcl_core.proofs.AddedClauses.{watch_old, watch_new}
 use Rattle.cdcl_core.proofs.VisitedClauses.{off_end}

@@ -10,7 +10,7 @@ use Rattle.oracle.specs.Fit.{live_in}
 use Rattle.cdcl_core.specs.Passes.{AreTrueWithin}
 use Rattle.cdcl_core.specs.Pieces.{pieces, AreEnds}
 use Rattle.cdcl_core.specs.Runs.{head_of, BeginsAlike, BeginsTrue, BeginAlike, IsNextStart, AreStarts}
-use Rattle.learning_trail.proofs.HeldLiterals.{holds_first, any_one}
+use Rattle.truth_values.proofs.HeldLiterals.{holds_first, any_one}
 
 get_front : (cs : List (List Literal)) (c : List Literal) (i : ℕ) → i < length cs → slice_get (cs ++ c ∷ []) i ≡ slice_get cs i
 get_front [] c i lt = absurd (omega (arith, lt))

@@ -18,7 +18,7 @@ use Rattle.cdcl_core.specs.Watching.{IsWatched, AreWatched, AreSame, AreShort, I
 use Rattle.cdcl_core.specs.Visits.{IsVisitable, IsLooked, IsDone, IsVisited, IsListVisited, IsVisiting, AreVisited, IsTrailVisited, IsProcessed, AreOnTrail, IsPuttingBack, IsPassing}
 use Rattle.learning_trail.proofs.ConflictAnalysis.{sound_consistent, contains_none, contains_cases}
 use Rattle.cdcl_core.proofs.GuardedClauses.{Among, among_grown, among_suffix, any_more, same_stuck, same-sym, watched_turned, guarded_moved, guarded_turned, levels_moved, levels_turned, levels_grown, short_kept, short_notes_turned, guards_visited, moved_both}
-use Rattle.learning_trail.proofs.HeldLiterals.{any_one, opposite-opposite, holds_first, holds_later, same_literal-sound, same_literal-refl}
+use Rattle.truth_values.proofs.HeldLiterals.{any_one, opposite-opposite, holds_first, holds_later, same_literal-sound, same_literal-refl}
 use Rattle.cdcl_core.proofs.LinkedLists.{has_first, has_later, has_cases, chain_short, chain_range}
 use Rattle.learning_trail.proofs.LargerTrails.{grown_none, grown_one, grown_both, implied_step, literal_within, live_within}
 use Rattle.learning_trail.proofs.ClauseStatus.{is_falsified, is_unit, implied_from}

@@ -10,10 +10,11 @@ ghost use Rattle.oracle.specs.Fit.{Fit};
 ghost use Rattle.oracle.specs.Calls.{IsMade, IsPlain, IsModelUnder, IsRefutedUnder, assumed};
 ghost use Rattle.oracle.specs.Limits.{IsAtLimit};
 ghost use Rattle.learning_trail.specs.Growing.{HasLearned};
-ghost use Rattle.learning_trail.specs.Steps.{literals_of, literal_value};
+ghost use Rattle.learning_trail.specs.Steps.{literals_of};
+ghost use Rattle.truth_values.specs.Truth.{literal_value};
 ghost use Rattle.learning_trail.specs.Searching.{AreAssumptions};
 ghost use Rattle.cdcl_core.specs.Searching.{IsReady, HasRoom, KeepsPlaces, IsSearching, IsFound};
-ghost use Rattle.learning_trail.specs.declared.trails.TruthValue.TheVariants.{True};
+ghost use Rattle.truth_values.specs.declared.values.TruthValue.TheVariants.{True};
 
 use crate::clauses::ClauseStore;
 use crate::search::search;

@@ -44,10 +44,22 @@ impl Model for ClauseStore {
 }
 
 impl Clauses for ClauseStore {
+    ghost use Rattle.cdcl_core.specs.Storage.{HasLists};
+
     ghost clauses = { λ s. s.clauses };
+
+    ghost HasRoom = { λ s lits. (length lits < s.spare) × HasLists s lits };
 
     fn lits(&self, id: u64) -> &[Lit] {
         self.arena.lits(id)
+    }
+
+    fn make_room(&mut self, lits: &[Lit]) -> Result<(), Memory> {
+        self.reserve(lits)
+    }
+
+    fn add(&mut self, lits: &[Lit]) {
+        self.push(lits);
     }
 }
 

@@ -23,7 +23,8 @@ use crate::arenas::Arena;
 use crate::cursors::{Cursors, is_long};
 use crate::watches::{Watches, put_back, put_elsewhere, take};
 use dq_lits::Lit;
-use learning_trail::{Status, Step, Trail, TruthValue, is_false, is_true, status_of};
+use learning_trail::{Status, Step, Trail, is_false, is_true, status_of};
+use truth_values::TruthValue;
 
 /// Propagates to the end, or to a falsified clause, whose id it answers. All literals but the
 /// newest one were processed.

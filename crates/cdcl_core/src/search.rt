@@ -14,18 +14,20 @@ ghost use Rattle.hint_log.specs.ProductiveLog.{IsClosed};
 ghost use Rattle.oracle.specs.Fit.{Fit, live_in};
 ghost use Rattle.oracle.specs.Limits.{IsAtLimit};
 ghost use Rattle.learning_trail.specs.Growing.{HasLearned};
-ghost use Rattle.learning_trail.specs.Steps.{literals_of, IsFree};
+ghost use Rattle.learning_trail.specs.Steps.{literals_of};
+ghost use Rattle.truth_values.specs.Truth.{IsFree};
 ghost use Rattle.learning_trail.specs.Searching.{AreAssumptions};
 ghost use Rattle.cdcl_core.specs.Searching.{IsReady, IsAllGuarded, IsTurn, KeepsPlaces, IsSearching, IsFound};
 ghost use Rattle.learning_trail.specs.Sound.{AreTrue};
 
-use crate::answers::{answer_conflict, answer_false};
 use crate::decisions::open_clause;
 use crate::learning::learn;
 use crate::searchers::Searcher;
 use dq_lits::{Lit, Memory};
 use hint_log::{Log, Name, Stop};
-use learning_trail::{Assumptions, Next, Step, free_decision, next_assumption};
+use learning_trail::{
+    Assumptions, Next, Step, answer_conflict, answer_false, free_decision, next_assumption,
+};
 use oracle::Answer as Found;
 
 /// Searches to the end.
@@ -113,7 +115,15 @@ fn conflict(
             Ok(None)
         }
         None => {
-            let answer = answer_conflict(s, assumptions, id, log)?;
+            let answer = answer_conflict(
+                &mut s.clauses,
+                &mut s.trail,
+                &mut s.notes,
+                &mut s.activities,
+                assumptions,
+                id,
+                log,
+            )?;
             Ok(Some(Found::Unsat(answer)))
         }
     }
@@ -143,7 +153,15 @@ fn go_on(
     match next_assumption(&s.trail, assumptions, made) {
         Next::False(l) => {
             *made = 0;
-            let answer = answer_false(s, assumptions, l, log)?;
+            let answer = answer_false(
+                &mut s.clauses,
+                &mut s.trail,
+                &mut s.notes,
+                &mut s.activities,
+                assumptions,
+                l,
+                log,
+            )?;
             Ok(Some(Found::Unsat(answer)))
         }
         Next::Free(l) => {

@@ -62,6 +62,7 @@ impl Cdcl {
 impl Oracle for Cdcl {
     ghost use Rattle.std.specs.Prelude.{slice_index_or};
     ghost use Rattle.oracle.specs.Fit.{Fit};
+    ghost use Rattle.learning_trail.specs.FitLaws.{fit_searched, fit_round, fit_begun};
 
     ghost Fits = { λ s log. Fit s.held s.variables log.entries };
 
@@ -127,55 +128,14 @@ impl Oracle for Cdcl {
         self.model[v as usize - 1]
     }
 
-    ghost searched = { λ s log fit. record {
-      logged = fit.logged;
-      selectors = fit.selectors;
-      grouped = fit.grouped;
-      negated = fit.negated;
-      derived = fit.derived;
-      new = fit.new;
-      kept = fit.kept;
-    } };
+    ghost searched = { λ s log fit. fit_searched s.held s.variables log.entries fit };
 
     ghost made = { λ s log v fit named. fit.in_range v named };
 
-    ghost round = { λ s log row values j fit. record {
-      count = fit.count;
-      same = fit.same;
-      in_range = fit.in_range;
-      all_named = fit.all_named;
-      logged = (tt, fit.logged);
-      selectors = fit.selectors;
-      grouped = (tt, fit.grouped);
-      negated = λ id c l at h.
-          record {
-            named = (fit.negated id c l at h).named;
-            negated = (fit.negated id c l at h).negated;
-          };
-      derived = (tt, fit.derived);
-      new = (tt, fit.new);
-      hinted = (tt, fit.hinted);
-      kept = (tt, fit.kept);
-    } };
+    ghost round = { λ s log row values j fit.
+        fit_round s.held s.variables log.entries row values j fit };
 
     ghost limit = { λ s log limit fit. fit };
 
-    ghost begun = { λ s log live fit. record {
-      count = fit.count;
-      same = fit.same;
-      in_range = fit.in_range;
-      all_named = fit.all_named;
-      logged = (tt, fit.logged);
-      selectors = fit.selectors;
-      grouped = (tt, fit.grouped);
-      negated = λ id c l at h.
-          record {
-            named = (fit.negated id c l at h).named;
-            negated = (fit.negated id c l at h).negated;
-          };
-      derived = (tt, fit.derived);
-      new = (tt, fit.new);
-      hinted = (tt, fit.hinted);
-      kept = (tt, fit.kept);
-    } };
+    ghost begun = { λ s log live fit. fit_begun s.held s.variables log.entries live fit };
 }

@@ -10,17 +10,18 @@ ghost use Rattle.oracle.specs.Fit.{Fit};
 ghost use Rattle.oracle.specs.Calls.{IsMade, IsPlain, IsModelUnder, IsRefutedUnder, assumed};
 ghost use Rattle.oracle.specs.Limits.{IsAtLimit};
 ghost use Rattle.learning_trail.specs.Growing.{HasLearned};
-ghost use Rattle.learning_trail.specs.Steps.{literals_of, literal_value};
+ghost use Rattle.learning_trail.specs.Steps.{literals_of};
+ghost use Rattle.truth_values.specs.Truth.{literal_value};
 ghost use Rattle.learning_trail.specs.Searching.{AreAssumptions};
 ghost use Rattle.cdcl_scan.specs.Searching.{HasRoom, KeepsPlaces, IsSearching, IsFound};
-ghost use Rattle.learning_trail.specs.declared.trails.TruthValue.TheVariants.{True};
+ghost use Rattle.truth_values.specs.declared.values.TruthValue.TheVariants.{True};
 
 use crate::clauses::ClauseStore;
 use crate::search::search;
 use crate::searchers::Searcher;
 use dq_lits::{Lit, Memory};
 use hint_log::{Log, Origin, Stop};
-use learning_trail::{Assumptions, back_to_start, keep_values};
+use learning_trail::{Assumptions, Clauses, back_to_start, keep_values};
 use oracle::{Answer, Group};
 use std::alloc::Global;
 
@@ -68,9 +69,9 @@ pub(crate) fn keep_given(
     ensures err { OnErr result (log.new ≡ log.old) }
     ensures err_held { OnErr result (clauses.new.clauses ≡ clauses.old.clauses) }
 {
-    clauses.reserve(clause)?;
+    clauses.make_room(clause)?;
     let id = log.given(origin, clause)?;
-    clauses.push(clause);
+    clauses.add(clause);
     Ok(id)
 }
 

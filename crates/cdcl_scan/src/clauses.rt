@@ -49,8 +49,26 @@ impl Model for ClauseStore {
 impl Clauses for ClauseStore {
     ghost clauses = { λ s. s.clauses };
 
+    ghost HasRoom = { λ s lits. length lits < s.spare };
+
     fn lits(&self, id: u64) -> &[Lit] {
         piece(&self.literals, &self.ends, id as usize - 1)
+    }
+
+    fn make_room(&mut self, lits: &[Lit]) -> Result<(), Memory> {
+        self.spare = 0;
+        self.literals.reserve(lits.len())?;
+        self.ends.reserve(1)?;
+        self.runs.reserve(1)?;
+        self.spare = lits.len() + 1;
+        Ok(())
+    }
+
+    fn add(&mut self, lits: &[Lit]) {
+        self.spare = 0;
+        append(&mut self.literals, lits);
+        put_end(&mut self.ends, self.literals.len());
+        extend_runs(&mut self.runs, lits, self.ends.len() as u64);
     }
 }
 
@@ -79,30 +97,6 @@ impl ClauseStore {
         ensures { AreRuns 0 result.now self.now.clauses (length self.now.clauses) }
     {
         &self.runs
-    }
-
-    /// Makes room for a clause of these literals.
-    pub(crate) fn reserve(&mut self, lits: &[Lit]) -> Result<(), Memory>
-        ensures clauses { self.new.clauses ≡ self.old.clauses }
-        ensures spare { OnOk result (length lits.now < self.new.spare) }
-    {
-        self.spare = 0;
-        self.literals.reserve(lits.len())?;
-        self.ends.reserve(1)?;
-        self.runs.reserve(1)?;
-        self.spare = lits.len() + 1;
-        Ok(())
-    }
-
-    /// Adds a clause that there is room for.
-    pub(crate) fn push(&mut self, lits: &[Lit])
-        requires { length lits.now < self.old.spare }
-        ensures { self.new.clauses ≡ self.old.clauses ++ lits.now ∷ [] }
-    {
-        self.spare = 0;
-        append(&mut self.literals, lits);
-        put_end(&mut self.ends, self.literals.len());
-        extend_runs(&mut self.runs, lits, self.ends.len() as u64);
     }
 }
 

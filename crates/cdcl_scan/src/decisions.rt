@@ -9,7 +9,8 @@ ghost use Rattle.dq_lits.specs.Literal.{variable_of};
 ghost use Rattle.dq_lits.specs.Derivation.{holds, status_of, stuck};
 ghost use Rattle.oracle.specs.Fit.{live_in};
 ghost use Rattle.hint_log.specs.ProductiveLog.{IsClosed};
-ghost use Rattle.learning_trail.specs.Steps.{literals_of, IsFree};
+ghost use Rattle.learning_trail.specs.Steps.{literals_of};
+ghost use Rattle.truth_values.specs.Truth.{IsFree};
 ghost use Rattle.learning_trail.specs.Passes.{AreWithin, IsOpening};
 
 use crate::clauses::ClauseStore;

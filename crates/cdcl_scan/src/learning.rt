@@ -9,7 +9,8 @@ ghost use Rattle.hint_log.specs.Entries.{Learned};
 ghost use Rattle.oracle.specs.Fit.{Fit, live_in};
 ghost use Rattle.oracle.specs.Limits.{IsAtLimit};
 ghost use Rattle.learning_trail.specs.Growing.{HasLearned};
-ghost use Rattle.learning_trail.specs.Steps.{literals_of, decision_of, is_decision, IsFree};
+ghost use Rattle.learning_trail.specs.Steps.{literals_of, decision_of, is_decision};
+ghost use Rattle.truth_values.specs.Truth.{IsFree};
 ghost use Rattle.learning_trail.specs.Marks.{is_level_marked};
 ghost use Rattle.learning_trail.specs.Lessons.{IsLanded};
 ghost use Rattle.cdcl_scan.specs.Searching.{HasTurned, KeepsPlaces, IsSearching};
@@ -18,7 +19,7 @@ use crate::clauses::ClauseStore;
 use crate::searchers::Searcher;
 use dq_lits::Lit;
 use hint_log::{Log, Stop};
-use learning_trail::{Assumptions, Notes, analyse, land};
+use learning_trail::{Assumptions, Clauses, Notes, analyse, land};
 
 /// Learns from a falsified clause, and goes back to where what was learned is unit, or begins anew.
 pub(crate) fn learn(
@@ -69,8 +70,8 @@ fn keep(clauses: &mut ClauseStore, notes: &Notes, log: &mut Log) -> Result<u64, 
     ensures err_held { OnErr result (clauses.new.clauses ≡ clauses.old.clauses) }
     ensures limit { IsErrOf result Stop.Limit → steps_of log.old.entries ≡ log.old.limit }
 {
-    clauses.reserve(notes.literals())?;
+    clauses.make_room(notes.literals())?;
     let id = log.learned(notes.literals(), notes.hints())?;
-    clauses.push(notes.literals());
+    clauses.add(notes.literals());
     Ok(id)
 }

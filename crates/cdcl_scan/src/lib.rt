@@ -8,7 +8,6 @@
 
 pub use solvers::Scan;
 
-mod answers;
 mod calls;
 mod clauses;
 mod decisions;

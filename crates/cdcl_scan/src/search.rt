@@ -14,19 +14,21 @@ ghost use Rattle.hint_log.specs.ProductiveLog.{IsClosed};
 ghost use Rattle.oracle.specs.Fit.{Fit, live_in};
 ghost use Rattle.oracle.specs.Limits.{IsAtLimit};
 ghost use Rattle.learning_trail.specs.Growing.{HasLearned};
-ghost use Rattle.learning_trail.specs.Steps.{literals_of, IsFree};
+ghost use Rattle.learning_trail.specs.Steps.{literals_of};
+ghost use Rattle.truth_values.specs.Truth.{IsFree};
 ghost use Rattle.learning_trail.specs.Searching.{AreAssumptions};
 ghost use Rattle.cdcl_scan.specs.Searching.{IsTurn, KeepsPlaces, IsSearching, IsFound};
 ghost use Rattle.learning_trail.specs.Sound.{AreTrue};
 
-use crate::answers::{answer_conflict, answer_false};
 use crate::decisions::newest_open;
 use crate::learning::learn;
 use crate::scans::propagate;
 use crate::searchers::Searcher;
 use dq_lits::{Lit, Memory};
 use hint_log::{Log, Stop};
-use learning_trail::{Assumptions, Next, Step, free_decision, next_assumption};
+use learning_trail::{
+    Assumptions, Next, Step, answer_conflict, answer_false, free_decision, next_assumption,
+};
 use oracle::Answer as Found;
 
 /// Searches to the end.
@@ -101,7 +103,15 @@ fn conflict(
             Ok(None)
         }
         None => {
-            let answer = answer_conflict(s, assumptions, id, log)?;
+            let answer = answer_conflict(
+                &mut s.clauses,
+                &mut s.trail,
+                &mut s.notes,
+                &mut s.activities,
+                assumptions,
+                id,
+                log,
+            )?;
             Ok(Some(Found::Unsat(answer)))
         }
     }
@@ -126,7 +136,15 @@ fn go_on(
 {
     match next_assumption(&s.trail, assumptions, &mut 0) {
         Next::False(l) => {
-            let answer = answer_false(s, assumptions, l, log)?;
+            let answer = answer_false(
+                &mut s.clauses,
+                &mut s.trail,
+                &mut s.notes,
+                &mut s.activities,
+                assumptions,
+                l,
+                log,
+            )?;
             Ok(Some(Found::Unsat(answer)))
         }
         Next::Free(l) => {

@@ -23,14 +23,6 @@ use Rattle.aig_graph.proofs.LargerGraphs.{below_or_here}
 use Rattle.circuit_cnf.specs.Faults.{HasFault, HaveFaults, HaveOneLeaf, AreFewWith}
 use Rattle.circuit_cnf.proofs.GivenGates.{contains_cases, contains_more}
 
--- the first literals have their faults
-pub record FaultsSoFar (f : Dqbf) (group bad j : ℕ) (leaf : ℕ → Leaf) (clause : List Literal) (old log : ProofLog) (i : ℕ) : Type 0 where
-  pub grew : (standing : ℕ) (start : List Entry) → name_of start group ≡ None → Grew (IsAddedBy f circuits standing true start) old log
-  pub names : (v : ℕ) → name_of log.entries v ≡ name_of old.entries v
-  pub few : AreFewWith group log.entries
-  pub one_leaf : HaveOneLeaf f group leaf log.entries
-  pub given : HaveFaults f group bad j leaf clause i log.entries
-
 -- a group counts once
 group_twice : (group : ℕ) (r s : List Literal) (groups : List ℕ) → with_group (negative group ∷ r) (with_group (negative group ∷ s) groups) ≡ with_group (negative group ∷ s) groups
 group_twice group r s groups = by (list_any (λ g. same_literal (negative g) (negative group)) groups) refl where
@@ -43,16 +35,11 @@ group_twice group r s groups = by (list_any (λ g. same_literal (negative g) (ne
 pub few_more : (group j i : ℕ) (out : Leaf) (rest : List Literal) (es : List Entry) → AreFewWith group es → AreFewWith group (Given (Fault j i out) (negative group ∷ rest) ∷ es)
 few_more group j i out rest es few k l leaf more = subst (λ gs. length gs ≤ fault_room es) (sym (group_twice group more rest (fault_groups es))) (few j i out rest)
 
--- what follows the fault of the next literal
-pub record IsNextFault (f : Dqbf) (group bad j place : ℕ) (l : Literal) (out : Leaf) (log new : ProofLog) : Type 0 where
-  pub grew : (standing : ℕ) (start : List Entry) → name_of start group ≡ None → Grew (IsAddedBy f circuits standing true start) log new
-  pub at_most : (new ≡ log) ⊎ ((rest : List Literal) × (new ≡ with_entry log (Given (Fault j place out) (negative group ∷ rest))))
-
 pub fault_stays : (group bad j i : ℕ) (l : Literal) (out : Leaf) (e : Entry) (es : List Entry) → HasFault group bad j i l out es → HasFault group bad j i l out (e ∷ es)
 fault_stays group bad j i l out e es (inl none) = inl none
 fault_stays group bad j i l out e es (inr some) = inr (some.0, some.1, contains_more e (Given (Fault j i out) (negative group ∷ negative bad ∷ some.0)) es some.2)
 
-one_leaf_more : (f : Dqbf) (group j place : ℕ) (leaf : ℕ → Leaf) (l : Literal) (rest : List Literal) (es : List Entry) → matrix_literal f j place ≡ Some l → HaveOneLeaf f group leaf es →
+pub one_leaf_more : (f : Dqbf) (group j place : ℕ) (leaf : ℕ → Leaf) (l : Literal) (rest : List Literal) (es : List Entry) → matrix_literal f j place ≡ Some l → HaveOneLeaf f group leaf es →
     HaveOneLeaf f group leaf (Given (Fault j place (leaf (variable_of l))) (negative group ∷ rest) ∷ es)
 one_leaf_more f group j place leaf l rest es at before k i v out more inside own =
     elim (contains_cases (Given (Fault j place (leaf (variable_of l))) (negative group ∷ rest)) (Given (Fault k i out) (negative group ∷ more)) es inside) [
@@ -65,50 +52,6 @@ one_leaf_more f group j place leaf l rest es at before k i v out more inside own
           sym same ∙ ap leaf variable)
       | inr old ↦ before k i v out more old own
     ]
-
--- what was so far stands after it
-pub fault_kept : (f : Dqbf) (group bad j : ℕ) (leaf : ℕ → Leaf) (clause : List Literal) (old log new : ProofLog) (i : ℕ) (l : Literal) → FaultsSoFar f group bad j leaf clause old log i → matrix_literal f j (i + 1) ≡ Some l →
-    IsNextFault f group bad j (i + 1) l (leaf (variable_of l)) log new → FaultsSoFar f group bad j leaf clause old new i
-fault_kept f group bad j leaf clause old log new i l before at next = by next.at_most where
-  grew : (standing : ℕ) (start : List Entry) → name_of start group ≡ None → Grew (IsAddedBy f circuits standing true start) old new
-  grew standing start unnamed = grown_then (IsAddedBy f circuits standing true start) old log new (before.grew standing start unnamed) (next.grew standing start unnamed)
-
-  by : (new ≡ log) ⊎ ((rest : List Literal) × (new ≡ with_entry log (Given (Fault j (i + 1) (leaf (variable_of l))) (negative group ∷ rest)))) → FaultsSoFar f group bad j leaf clause old new i
-  by (inl same) =
-      let es : new.entries ≡ log.entries = ap (λ (x : ProofLog). x.entries) same in
-      record {
-        grew = grew;
-        names = λ v. ap (λ xs. name_of xs v) es ∙ before.names v;
-        few = subst (AreFewWith group) (sym es) before.few;
-        one_leaf = subst (HaveOneLeaf f group leaf) (sym es) before.one_leaf;
-        given = subst (HaveFaults f group bad j leaf clause i) (sym es) before.given;
-      }
-  by (inr more) =
-      let e = Given (Fault j (i + 1) (leaf (variable_of l))) (negative group ∷ more.0) in
-      let es : new.entries ≡ e ∷ log.entries = ap (λ (x : ProofLog). x.entries) more.1 in
-      record {
-        grew = grew;
-        names = λ v. ap (λ xs. name_of xs v) es ∙ before.names v;
-        few = subst (AreFewWith group) (sym es) (few_more group j (i + 1) (leaf (variable_of l)) more.0 log.entries before.few);
-        one_leaf = subst (HaveOneLeaf f group leaf) (sym es) (one_leaf_more f group j (i + 1) leaf l more.0 log.entries at before.one_leaf);
-        given = subst (HaveFaults f group bad j leaf clause i) (sym es) (λ k m below is. fault_stays group bad j (k + 1) m (leaf (variable_of m)) e log.entries (before.given k m below is));
-      }
-
-pub fault_more : (f : Dqbf) (group bad j : ℕ) (leaf : ℕ → Leaf) (clause : List Literal) (old new : ProofLog) (i : ℕ) (l : Literal) → FaultsSoFar f group bad j leaf clause old new i → slice_get clause i ≡ Some l →
-    HasFault group bad j (i + 1) l (leaf (variable_of l)) new.entries → FaultsSoFar f group bad j leaf clause old new (i + 1)
-fault_more f group bad j leaf clause old new i l before at here = record {
-  grew = before.grew;
-  names = before.names;
-  few = before.few;
-  one_leaf = before.one_leaf;
-  given = λ k m below is. by k m is (below_or_here k i below);
-} where
-  by : (k : ℕ) (m : Literal) → slice_get clause k ≡ Some m → (k < i) ⊎ (k ≡ i) → HasFault group bad j (k + 1) m (leaf (variable_of m)) new.entries
-  by k m is (inl below) = before.given k m below is
-  by k m is (inr same) =
-      let both : Some l ≡ Some m = sym at ∙ ap (slice_get clause) (sym same) ∙ is in
-      let literal : l ≡ m = cc in
-      subst (λ x. HasFault group bad j (x + 1) m (leaf (variable_of m)) new.entries) (sym same) (subst (λ x. HasFault group bad j (i + 1) x (leaf (variable_of x)) new.entries) literal here)
 
 -- the literal at a place
 pub literal_there : (clause : List Literal) (i : ℕ) (l : Literal) → i < length clause → l ≡ get_or clause i l → slice_get clause i ≡ Some l

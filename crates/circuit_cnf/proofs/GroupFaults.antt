@@ -24,7 +24,7 @@ use Rattle.log_laws.proofs.LargerLogs.{leaves_rest, grown_then}
 use Rattle.log_laws.proofs.Kept.{NamesStay, named_stay}
 use Rattle.oracle.specs.Calls.{IsMade}
 use Rattle.oracle.specs.declared.groups.Group.{Group}
-use Rattle.circuit_cnf.specs.Faults.{HaveOneLeaf, AreFewWith, IsBadAt, HaveAllFaults, NamesBadsAlone, IsNamingBads, AreGiven, GrewByGroup}
+use Rattle.circuit_cnf.specs.Faults.{HaveOneLeaf, AreFewWith, IsBadAt, HaveAllFaults, NamesBadsAlone, IsNamingBads, AreGiven, AreNamedAndSaid, AreSaid, GrewByGroup}
 use Rattle.circuit_cnf.proofs.NamedBads.{bad_name}
 use Rattle.circuit_cnf.proofs.GivenGates.{contains_cases, contains_first}
 use Rattle.circuit_cnf.proofs.ClauseFaults.{few_more, fault_stays}
@@ -49,14 +49,7 @@ after_bads f group leaf old new grew faults alone few one = record {
   rest : LeavesRest f circuits group true old.entries new.entries
   rest = leaves_rest f circuits group true old new (grew f group old.entries)
 
--- what the clauses leave
-pub record IsAfterAll (f : Dqbf) (group : ℕ) (leaf : ℕ → Leaf) (log new : ProofLog) : Type 0 where
-  pub grew : GrewByGroup f group log new
-  pub names : (v : ℕ) → name_of new.entries v ≡ name_of log.entries v
-  pub few : AreFewWith group new.entries
-  pub one_leaf : HaveOneLeaf f group leaf new.entries
-
-pub after_all : (f : Dqbf) (group : ℕ) (leaf : ℕ → Leaf) (old log new : ProofLog) → GroupSoFar f group leaf old log → IsAfterAll f group leaf log new → GroupSoFar f group leaf old new
+pub after_all : (f : Dqbf) (group : ℕ) (leaf : ℕ → Leaf) (old log new : ProofLog) → GroupSoFar f group leaf old log → AreSaid f group leaf log new → GroupSoFar f group leaf old new
 after_all f group leaf old log new before after = record {
   grew = λ standing start unnamed. grown_then (IsAddedBy f circuits standing true start) old log new (before.grew standing start unnamed) (after.grew standing start unnamed);
   stay = λ v n is. after.names v ∙ before.stay v n is;
@@ -65,25 +58,16 @@ after_all f group leaf old log new before after = record {
   one_leaf = after.one_leaf;
 }
 
-pub after_some : (f : Dqbf) (group : ℕ) (leaf : ℕ → Leaf) (bads : List Literal) (old log new : ProofLog) → IsAfterAll f group leaf old log → GrewByGroup f group log new →
-    new ≡ with_entry log (Given (Fault 0 0 (Constant false)) (negative group ∷ bads)) → IsAfterAll f group leaf old new
-after_some f group leaf bads old log new before grew is = record {
-  grew = λ standing start unnamed. grown_then (IsAddedBy f circuits standing true start) old log new (before.grew standing start unnamed) (grew standing start unnamed);
-  names = λ v. ap (λ xs. name_of xs v) es ∙ before.names v;
-  few = subst (AreFewWith group) (sym es) (few_more group 0 0 (Constant false) bads log.entries before.few);
-  one_leaf = subst (HaveOneLeaf f group leaf) (sym es) one;
-} where
-  e : Entry
-  e = Given (Fault 0 0 (Constant false)) (negative group ∷ bads)
+pub some_leaf_more : (f : Dqbf) (group : ℕ) (leaf : ℕ → Leaf) (bads : List Literal) (es : List Entry) → HaveOneLeaf f group leaf es →
+    HaveOneLeaf f group leaf (Given (Fault 0 0 (Constant false)) (negative group ∷ bads) ∷ es)
+some_leaf_more f group leaf bads es before j i v out rest inside own =
+    elim (contains_cases (Given (Fault 0 0 (Constant false)) (negative group ∷ bads)) (Given (Fault j i out) (negative group ∷ rest)) es inside) [
+      | inl same ↦ (let left : 0 ≡ j = cc in let none : None ≡ Some v = ap (λ x. option_map variable_of (matrix_literal f x i)) left ∙ own in cc)
+      | inr earlier ↦ before j i v out rest earlier own
+    ]
 
-  es : new.entries ≡ Given (Fault 0 0 (Constant false)) (negative group ∷ bads) ∷ log.entries
-  es = ap (λ (l : ProofLog). l.entries) is
-
-  one : HaveOneLeaf f group leaf (e ∷ log.entries)
-  one j i v out rest inside own = elim (contains_cases e (Given (Fault j i out) (negative group ∷ rest)) log.entries inside) [
-    | inl same ↦ (let left : 0 ≡ j = cc in let none : None ≡ Some v = ap (λ x. option_map variable_of (matrix_literal f x i)) left ∙ own in cc)
-    | inr earlier ↦ before.one_leaf j i v out rest earlier own
-  ]
+pub so_far_is_said : (f : Dqbf) (group : ℕ) (leaf : ℕ → Leaf) (old new : ProofLog) → GroupSoFar f group leaf old new → AreNamedAndSaid f group leaf old new
+so_far_is_said f group leaf old new far = record { grew = far.grew; names = far.names; few = far.few; one_leaf = far.one_leaf }
 
 pub made_stays : (old new : List Entry) (g : Group) → NamesStay old new → IsMade old g → IsMade new g
 made_stays old new g stay made = record { positive = made.positive; named = stay (variable_of g.selector) (Selector (variable_of g.selector)) made.named }
@@ -127,6 +111,10 @@ counted es group from (suc count) (l ∷ bads) h =
 
 pub bads_count : (es : List Entry) (group count : ℕ) (bads : List Literal) → AreNamedAs es bads (map (bad_name group) (range_with_len 1 count)) → length bads ≡ count
 bads_count es group count bads h = counted es group 1 count bads h
+
+pub bads_stay : (old new : List Entry) (group count : ℕ) (bads : List Literal) → ((v : ℕ) → name_of new v ≡ name_of old v) → AreNamedAs old bads (map (bad_name group) (range_with_len 1 count)) →
+    AreNamedAs new bads (map (bad_name group) (range_with_len 1 count))
+bads_stay old new group count bads names are = named_stay old new (λ v n h. names v ∙ h) bads (map (bad_name group) (range_with_len 1 count)) are
 
 pub all_given : (f : Dqbf) (group : ℕ) (leaf : ℕ → Leaf) (bads : List Literal) (named log new : ProofLog) → AreNamedAs named.entries bads (map (bad_name group) (range_with_len 1 (length f.matrix))) →
     ((v : ℕ) → name_of log.entries v ≡ name_of named.entries v) → HaveAllFaults f group bads leaf (length f.matrix) log.entries →

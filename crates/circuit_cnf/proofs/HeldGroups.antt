@@ -24,7 +24,7 @@ use Rattle.oracle.specs.Searched.{IsSearched, IsGivenToGroup, IsOfGroup}
 use Rattle.oracle.proofs.ExcludedAssignments.{same-sound}
 use Rattle.circuit_cnf.specs.Faults.{HaveOneLeaf}
 use Rattle.circuit_cnf.specs.Gates.{IsGateClause, IsGateGiven}
-use Rattle.circuit_cnf.specs.Turning.{NamesAreKept, IsHeldBy}
+use Rattle.circuit_cnf.specs.Turning.{AreTwoGroups, NamesAreKept, IsHeldBy}
 use Rattle.circuit_cnf.proofs.GivenGates.{contains_cases, contains_first}
 
 -- a literal whose opposite is one of two selectors
@@ -119,16 +119,6 @@ fault_is_circuit group (Copy side j) c h inside = cc
 fault_is_circuit group (Link v i) c h inside = cc
 fault_is_circuit group (TermGate v i) c h inside = cc
 fault_is_circuit group (Differ y leaf part) c h inside = cc
-
--- the two groups before the search
-pub record AreTwoGroups (f : Dqbf) (leaf : ℕ → Leaf) (gates faults : ℕ) (old entries : List Entry) : Type 0 where
-  pub gates_named : name_of entries gates ≡ Some (Selector gates)
-  pub faults_named : name_of entries faults ≡ Some (Selector faults)
-  pub faults_new : name_of old faults ≡ None
-  pub names : NamesAreKept old entries
-  pub gates_own : Each (IsGateGiven gates) entries
-  pub faults_own : Each (IsOwnGiven f circuits faults) entries
-  pub one_leaf : HaveOneLeaf f faults leaf entries
 
 pub two_groups_learned : (f : Dqbf) (leaf : ℕ → Leaf) (gates faults : ℕ) (old : List Entry) (log new : ProofLog) → Grew IsLearnedEntry log new → AreTwoGroups f leaf gates faults old log.entries → AreTwoGroups f leaf gates faults old new.entries
 two_groups_learned f leaf gates faults old log new g two = subst (AreTwoGroups f leaf gates faults old) (sym g.grown) (record {

@@ -11,10 +11,11 @@ mod ConeLiterals
 mod NamedBads
 mod GivenFaults
 mod ClauseFaults
-mod AllFaults
 mod SomeFault
 mod GateClauses
 mod GroupFaults
+mod SaidFaults
+mod NamedGroups
 mod PrefixPlaces
 mod UnchangedCheckers
 mod TurnGrowth

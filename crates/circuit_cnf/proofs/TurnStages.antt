@@ -18,13 +18,15 @@ use Rattle.oracle.specs.Searched.{IsGivenToGroup}
 use Rattle.oracle.specs.declared.groups.Group.{Group}
 use Rattle.circuit_cnf.specs.declared.checkers.Checker.{Checker}
 use Rattle.circuit_cnf.specs.Checking.{group_of, IsChecker}
-use Rattle.circuit_cnf.specs.Faults.{HaveOneLeaf, AreFewWith, NamesBadsAlone, GrewByGroup}
+use Rattle.circuit_cnf.specs.Faults.{HaveOneLeaf, AreGiven, AreNamedAndSaid}
 use Rattle.circuit_cnf.proofs.EmptyGroups.{IsUnused, group_is_unused, not_given_there, each_weaker}
-use Rattle.circuit_cnf.proofs.HeldGroups.{AreTwoGroups}
+use Rattle.circuit_cnf.specs.Turning.{AreTwoGroups, HasTurned, HaveFaultGroup}
 use Rattle.circuit_cnf.proofs.UnchangedCheckers.{checker_stays, leaves_elsewhere, group_leaves, added_stay, learned_leaves, leaves_then}
 use Rattle.std.specs.List.{Contains}
+use Rattle.circuit_cnf.specs.Gates.{GrewByGates}
 use Rattle.circuit_cnf.proofs.KnownGates.{LeavesGates}
-use Rattle.circuit_cnf.proofs.TurnGrowth.{any_silence, group_grew, learned_grew, answered_grew}
+use Rattle.circuit_cnf.proofs.OutputLeaves.{few_by_gates}
+use Rattle.circuit_cnf.proofs.TurnGrowth.{any_silence, turn_grew, group_grew, learned_grew, answered_grew, few_without, few_learned, few_answered}
 
 -- a group was made for the turn
 pub record IsGroupMade (f : Dqbf) (checker : Checker) (old log : ProofLog) (group : Group) : Type 0 where
@@ -35,13 +37,6 @@ pub record IsGroupMade (f : Dqbf) (checker : Checker) (old log : ProofLog) (grou
   pub is : log ≡ with_entry old (Named (variable_of group.selector) (Selector (variable_of group.selector)))
   pub grouped : Each IsGivenToGroup old.entries
   pub few : length (fault_groups old.entries) < fault_room old.entries
-
--- and says which clauses are false
-pub record AreFaultsSaid (f : Dqbf) (leaf : ℕ → Leaf) (group : ℕ) (old log : ProofLog) : Type 0 where
-  pub grew : GrewByGroup f group old log
-  pub names : NamesBadsAlone group old.entries log.entries
-  pub few : AreFewWith group log.entries
-  pub one_leaf : HaveOneLeaf f group leaf log.entries
 
 unused_own : (f : Dqbf) (group : ℕ) (earlier : List Entry) (e : Entry) → IsUnused group earlier e → IsOwnGiven f circuits group earlier e
 unused_own f group earlier (Named v n) h = tt
@@ -83,7 +78,7 @@ module _ (f : Dqbf) (checker : Checker) (leaf : ℕ → Leaf) (old first : Proof
   group_one_leaf j i v out rest inside own =
       absurd (not_given_there sel (Named sel (Selector sel) ∷ old.entries) unused (Fault j i out) rest (subst (λ es. Contains es (Given (Fault j i out) (negative sel ∷ rest))) entries_are inside))
 
-  module _ (log : ProofLog) (s : AreFaultsSaid f leaf sel first log) where
+  module _ (log : ProofLog) (s : AreNamedAndSaid f sel leaf first log) where
     -- the same growth, with what stood before the group
     since : Grew (IsAddedBy f circuits sel true old.entries) first log
     since = s.grew sel old.entries m.unnamed
@@ -116,19 +111,59 @@ module _ (f : Dqbf) (checker : Checker) (leaf : ℕ → Leaf) (old first : Proof
       one_leaf = s.one_leaf;
     }
 
-    pub learned_all : (silent : Bool) (new : ProofLog) → Grew IsLearnedEntry log new → Grew (IsAddedBy f circuits (group_of checker) silent old.entries) old new
-    learned_all silent new g = grown_then (IsAddedBy f circuits (group_of checker) silent old.entries) old log new (faults_grew silent) (learned_grew f circuits (group_of checker) silent old.entries log new g)
+    pub faults_turned : (silent : Bool) → HasTurned f checker checker silent old log
+    faults_turned silent = record { checker = faults_checker; group = refl; grew = faults_grew silent; few = few_without sel log.entries s.few }
 
-    pub answered_all : (assumptions : List Literal) (new : ProofLog) (id : ℕ) → IsRefutedUnder log new assumptions id → Grew (IsAddedBy f circuits (group_of checker) false old.entries) old new
-    answered_all assumptions new id r = grown_then (IsAddedBy f circuits (group_of checker) false old.entries) old log new (faults_grew false) (answered_grew f circuits (group_of checker) false old.entries refl assumptions log new id r)
+    pub faults_grouped : AreGiven f sel leaf log.entries → HaveFaultGroup f checker leaf old.entries log.entries group
+    faults_grouped given = record { made = faults_made; two = faults_two_groups; given = given }
 
-    pub learned_checker : (new : ProofLog) → Grew IsLearnedEntry log new → IsChecker f checker new.entries
-    learned_checker new g = checker_stays f checker log.entries new.entries (learned_leaves checker.gates log new g) faults_checker
+-- a search that learns, and perhaps answers
+module _ (f : Dqbf) (checker : Checker) (old log new : ProofLog) (turned : HasTurned f checker checker true old log) where
+  pub learned_turned : Grew IsLearnedEntry log new → HasTurned f checker checker true old new
+  learned_turned g = record {
+    checker = checker_stays f checker log.entries new.entries (learned_leaves checker.gates log new g) turned.checker;
+    group = refl;
+    grew = grown_then (IsAddedBy f circuits (group_of checker) true old.entries) old log new turned.grew (learned_grew f circuits (group_of checker) true old.entries log new g);
+    few = few_learned log new g turned.few;
+  }
 
-    pub answered_checker : (assumptions : List Literal) (new : ProofLog) (id : ℕ) → IsRefutedUnder log new assumptions id → IsChecker f checker new.entries
-    answered_checker assumptions new id r = subst (λ (l : ProofLog). IsChecker f checker l.entries) (sym r.answered)
+  pub answered_turned : (assumptions : List Literal) (id : ℕ) → IsRefutedUnder log new assumptions id → HasTurned f checker checker false old new
+  answered_turned assumptions id r = record {
+    checker = subst (λ (l : ProofLog). IsChecker f checker l.entries) (sym r.answered)
         (checker_stays f checker log.entries (Answer r.clause r.hints ∷ r.before.entries)
-        (leaves_then checker.gates log.entries r.before.entries (Answer r.clause r.hints ∷ r.before.entries) (learned_leaves checker.gates log r.before r.learned) (leaves_elsewhere checker.gates r.before.entries (Answer r.clause r.hints) tt)) faults_checker)
+        (leaves_then checker.gates log.entries r.before.entries (Answer r.clause r.hints ∷ r.before.entries) (learned_leaves checker.gates log r.before r.learned) (leaves_elsewhere checker.gates r.before.entries (Answer r.clause r.hints) tt)) turned.checker);
+    group = refl;
+    grew = grown_then (IsAddedBy f circuits (group_of checker) false old.entries) old log new (any_silence f circuits (group_of checker) false old.entries old log turned.grew)
+        (answered_grew f circuits (group_of checker) false old.entries refl assumptions log new id r);
+    few = few_answered assumptions log new id r turned.few;
+  }
+
+-- the gates of the outputs, and then a search
+pub leaves_turned : (f : Dqbf) (before after : Checker) (old new : ProofLog) → IsChecker f after new.entries → group_of after ≡ group_of before → GrewByGates (group_of before) old new →
+    fault_groups new.entries ≡ fault_groups old.entries → length (fault_groups old.entries) < fault_room old.entries → HasTurned f before after true old new
+leaves_turned f before after old new checker same grew faults few = record {
+  checker = checker;
+  group = same;
+  grew = grew f old.entries;
+  few = few_by_gates (group_of before) old new grew faults few;
+}
+
+pub turn_turned : (f : Dqbf) (before after : Checker) (silent : Bool) (old log new : ProofLog) → group_of after ≡ group_of before → GrewByGates (group_of before) old log →
+    HasTurned f after after silent log new → HasTurned f before after silent old new
+turn_turned f before after silent old log new same grew turned = record {
+  checker = turned.checker;
+  group = same;
+  grew = turn_grew f (group_of before) (group_of after) silent old log new grew same turned.grew;
+  few = turned.few;
+}
+
+pub quiet_turned : (f : Dqbf) (before after : Checker) (silent : Bool) (old new : ProofLog) → HasTurned f before after true old new → HasTurned f before after silent old new
+quiet_turned f before after silent old new turned = record {
+  checker = turned.checker;
+  group = turned.group;
+  grew = any_silence f circuits (group_of before) silent old.entries old new turned.grew;
+  few = turned.few;
+}
 
 -- the literal that switches a group on
 pub switch_is : (l : Literal) → is_negative l ≡ false → l ≡ positive (variable_of l)

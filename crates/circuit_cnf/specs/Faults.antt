@@ -102,3 +102,19 @@ pub record AreGiven (f : Dqbf) (group : ℕ) (leaf : ℕ → Leaf) (entries : Li
   pub bads_are : (j : ℕ) → j < length f.matrix → IsBadAt group j bads entries
   pub some : Contains entries (Given (Fault 0 0 (Constant false)) (negative group ∷ bads))
   pub all : HaveAllFaults f group bads leaf (length f.matrix) entries
+
+-- what is left by clauses that a group gets: how the log grew, names, few groups with faults, and
+-- one leaf for a variable
+pub record AreSaid (f : Dqbf) (group : ℕ) (leaf : ℕ → Leaf) (old new : ProofLog) : Type 0 where
+  pub grew : GrewByGroup f group old new
+  pub names : (v : ℕ) → name_of new.entries v ≡ name_of old.entries v
+  pub few : AreFewWith group new.entries
+  pub one_leaf : HaveOneLeaf f group leaf new.entries
+
+-- the same where the variables that say which clauses are false are named too
+pub record AreNamedAndSaid (f : Dqbf) (group : ℕ) (leaf : ℕ → Leaf)
+    (old new : ProofLog) : Type 0 where
+  pub grew : GrewByGroup f group old new
+  pub names : NamesBadsAlone group old.entries new.entries
+  pub few : AreFewWith group new.entries
+  pub one_leaf : HaveOneLeaf f group leaf new.entries

@@ -1,5 +1,5 @@
 -- What a group is to say.
-use Rattle.std.specs.Prelude.{◌≡◌, ℕ, List, Some}
+use Rattle.std.specs.Prelude.{◌≡◌, ℕ, List, length, Some}
 use Rattle.std.specs.List.{All, Contains}
 use Rattle.dq_lits.specs.Literal.{variable_of}
 use Rattle.dq_lits.specs.Formula.{Dqbf, declared}
@@ -7,7 +7,8 @@ use Rattle.hint_log.specs.Entries.{Entry, name_of}
 use Rattle.hint_log.specs.declared.names.Name.TheVariants.{Bad}
 use Rattle.hint_log.specs.declared.origins.Leaf.{Leaf}
 use Rattle.hint_log.specs.Origins.{IsLeafOf}
-use Rattle.circuit_cnf.specs.Faults.{leaf_of}
+use Rattle.oracle.specs.Calls.{IsMade}
+use Rattle.circuit_cnf.specs.Faults.{leaf_of, AreFewWith, HaveOneLeaf}
 use Rattle.circuit_cnf.specs.declared.faults.Faults.{Faults}
 
 -- the variable of the group
@@ -29,3 +30,14 @@ AreBound f = All (All (λ l. Contains (declared f) (variable_of l))) f.matrix
 -- no variable says of a clause that it is false in the group
 abbrev pub HasNoBads : ℕ → List Entry → Type 0
 HasNoBads group entries = (v j : ℕ) → name_of entries v ≡ Some (Bad group j) → ⊥
+
+-- the group is there, a leaf stands for each variable of the formula, and what the group has of it
+-- already goes with these leaves
+pub record MaySay (faults : Faults) (entries : List Entry) : Type 0 where
+  pub made : IsMade entries faults.group.now
+  pub inputs : length faults.inputs.now ≡ length faults.f.now.universals
+  pub outputs : length faults.outputs.now ≡ length faults.f.now.existentials
+  pub leaves : AreLeaves faults.f.now (leaf_in faults) entries
+  pub bound : AreBound faults.f.now
+  pub few : AreFewWith (selector_in faults) entries
+  pub one_leaf : HaveOneLeaf faults.f.now (selector_in faults) (leaf_in faults) entries

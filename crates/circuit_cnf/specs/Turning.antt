@@ -1,20 +1,27 @@
 -- How a turn's search ends, for private contracts.
-use Rattle.std.specs.Prelude.{◌≡◌, ◌<◌, ◌&&◌, ℕ, Bool, true, false, List, [], ◌∷◌, length, Option, None, Some, Result, Ok, slice_get, slice_index_or}
-use Rattle.dq_lits.specs.Literal.{Assignment, Literal, literal_true, clause_true}
+use Rattle.std.specs.Prelude.{◌≡◌, ◌≤◌, ◌<◌, ◌&&◌, ℕ, Bool, true, false, List, [], ◌∷◌, length, Option, None, Some, Result, Ok, slice_get, slice_index_or}
+use Rattle.dq_lits.specs.Literal.{Assignment, Literal, variable_of, literal_true, clause_true}
 use Rattle.dq_lits.specs.Formula.{Dqbf, Existential}
 use Rattle.aig_graph.specs.declared.nodes.Node.{Node}
 use Rattle.aig_graph.specs.Graph.{AigGraph}
-use Rattle.hint_log.specs.Entries.{Entry}
-use Rattle.hint_log.specs.Entries.{Answer}
+use Rattle.hint_log.specs.Entries.{Entry, Answer, ProofLog, name_of, last_id}
+use Rattle.hint_log.specs.Growth.{Each, Grew}
+use Rattle.hint_log.specs.ProductiveLog.{fault_groups, fault_room}
 use Rattle.hint_log.specs.declared.names.Name.{Name}
-use Rattle.hint_log.specs.declared.names.Name.TheVariants.{And}
+use Rattle.hint_log.specs.declared.names.Name.TheVariants.{And, Selector}
 use Rattle.hint_log.specs.declared.origins.Leaf.{Leaf}
 use Rattle.hint_log.specs.declared.stops.Stop.{Stop}
 use Rattle.hint_log.specs.Deciding.{RestsOnCircuit, IsFaultLeaf}
-use Rattle.hint_log.specs.Entries.{name_of, last_id}
 use Rattle.log_laws.specs.Circuits.{leaf_value}
+use Rattle.log_laws.specs.Engines.{circuits, IsAddedBy, IsOwnGiven}
 use Rattle.log_laws.specs.Meaning.{IsSoundAnswer}
+use Rattle.oracle.specs.Calls.{IsMade}
+use Rattle.oracle.specs.declared.groups.Group.{Group}
+use Rattle.circuit_cnf.specs.Checking.{group_of, IsChecker}
+use Rattle.circuit_cnf.specs.Faults.{AreGiven, HaveOneLeaf}
+use Rattle.circuit_cnf.specs.Gates.{IsGateGiven}
 use Rattle.circuit_cnf.specs.Leaves.{HasLeaf}
+use Rattle.circuit_cnf.specs.declared.checkers.Checker.{Checker}
 
 -- each node has its leaf
 pub record AreLeavesOf (f : Dqbf) (graph : AigGraph) (entries : List Entry) (nodes : List Node)
@@ -51,6 +58,33 @@ pub record AreFailing (f : Dqbf) (leaf : ℕ → Leaf) (old : List Entry)
   pub among : j < length f.matrix
   pub is_false : clause_true (λ v. leaf_value values (leaf v)) (slice_index_or f.matrix j [])
       ≡ false
+
+-- after a turn's step: the checker is one as before, the log grew by its entries, and few groups
+-- have faults
+pub record HasTurned (f : Dqbf) (before after : Checker) (silent : Bool)
+    (old new : ProofLog) : Type 0 where
+  pub checker : IsChecker f after new.entries
+  pub group : group_of after ≡ group_of before
+  pub grew : Grew (IsAddedBy f circuits (group_of before) silent old.entries) old new
+  pub few : length (fault_groups new.entries) ≤ fault_room new.entries
+
+-- the group of the gates, and one of faults that was made since
+pub record AreTwoGroups (f : Dqbf) (leaf : ℕ → Leaf) (gates faults : ℕ)
+    (old entries : List Entry) : Type 0 where
+  pub gates_named : name_of entries gates ≡ Some (Selector gates)
+  pub faults_named : name_of entries faults ≡ Some (Selector faults)
+  pub faults_new : name_of old faults ≡ None
+  pub names : NamesAreKept old entries
+  pub gates_own : Each (IsGateGiven gates) entries
+  pub faults_own : Each (IsOwnGiven f circuits faults) entries
+  pub one_leaf : HaveOneLeaf f faults leaf entries
+
+-- the faults under these leaves are given to a new group
+pub record HaveFaultGroup (f : Dqbf) (checker : Checker) (leaf : ℕ → Leaf) (old entries : List Entry)
+    (group : Group) : Type 0 where
+  pub made : IsMade entries group
+  pub two : AreTwoGroups f leaf (group_of checker) (variable_of group.selector) old entries
+  pub given : AreGiven f (variable_of group.selector) leaf entries
 
 -- a search that answers an id may decide
 abbrev pub is_silent_search : Result (Option ℕ) Stop → Bool

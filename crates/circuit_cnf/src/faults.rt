@@ -1,7 +1,7 @@
 //! The clauses of a group of faults: some clause of the matrix is false under the circuit's leaves.
 
 ghost use Rattle.std.specs.Prelude.{◌≡◌, ◌≤◌, ◌<◌, ◌+◌, ◌∷◌, ◌⊎◌, ℕ, true, false, List, length, slice_index_or, [], IfOk, OnOk, OnErr, Some, Contains};
-ghost use Rattle.dq_lits.specs.Formula.{Dqbf};
+ghost use Rattle.dq_lits.specs.Formula.{Dqbf, declared};
 ghost use Rattle.std.specs.Option.{option_map};
 ghost use Rattle.dq_lits.specs.Literal.{Literal, negative, is_negative, variable_of};
 ghost use Rattle.hint_log.specs.Entries.{Entry};
@@ -15,8 +15,8 @@ ghost use Rattle.hint_log.specs.Origins.{leaf_with_sign, matrix_literal, IsLeafO
 ghost use Rattle.hint_log.specs.ProductiveLog.{fault_groups, fault_room};
 ghost use Rattle.log_laws.specs.Engines.{circuits, IsAddedBy};
 ghost use Rattle.oracle.specs.Calls.{IsMade};
-ghost use Rattle.circuit_cnf.specs.Faults.{HasFault, HaveFaults, HaveOneLeaf, AreFewWith, IsBadAt, HaveAllFaults, IsNamingBads, NamesBadsAlone, AreGiven, GrewByGroup, AreBads};
-ghost use Rattle.circuit_cnf.specs.Saying.{AreBound, AreLeaves, HasNoBads, leaf_in, selector_in};
+ghost use Rattle.circuit_cnf.specs.Faults.{AreBads, AreFewWith, AreGiven, AreNamedAndSaid, AreSaid, HasFault, HaveAllFaults, HaveFaults, HaveOneLeaf, IsBadAt, IsNamingBads};
+ghost use Rattle.circuit_cnf.specs.Saying.{AreBound, AreLeaves, HasNoBads, MaySay, leaf_in, selector_in};
 
 use dq_formula::Formula;
 use dq_lits::{Lit, Memory};
@@ -63,11 +63,8 @@ impl<'g, 'f, 'l> Faults<'g, 'f, 'l> {
         requires one_leaf { HaveOneLeaf self.now.f.now (selector_in self.now) (leaf_in self.now)
             log.old.entries }
         ensures fit { O.Fits oracle.new log.new }
-        ensures grew { GrewByGroup self.now.f.now (selector_in self.now) log.old log.new }
-        ensures names { NamesBadsAlone (selector_in self.now) log.old.entries log.new.entries }
-        ensures few { AreFewWith (selector_in self.now) log.new.entries }
-        ensures one_leaf { HaveOneLeaf self.now.f.now (selector_in self.now) (leaf_in self.now)
-            log.new.entries }
+        ensures said { AreNamedAndSaid self.now.f.now (selector_in self.now) (leaf_in self.now)
+            log.old log.new }
         ensures given { OnOk result (AreGiven self.now.f.now (selector_in self.now)
             (leaf_in self.now) log.new.entries) }
     {
@@ -78,21 +75,11 @@ impl<'g, 'f, 'l> Faults<'g, 'f, 'l> {
     // The same by the variables that say it.
     fn say<O: Oracle>(&self, oracle: &mut O, bads: &[Lit], log: &mut Log) -> Result<(), Memory>
         requires fit { O.Fits oracle.old log.old }
-        requires made { IsMade log.old.entries self.now.group.now }
-        requires input_count { length self.now.inputs.now ≡ length self.now.f.now.universals }
-        requires output_count { length self.now.outputs.now ≡ length self.now.f.now.existentials }
-        requires leaves { AreLeaves self.now.f.now (leaf_in self.now) log.old.entries }
-        requires bound { AreBound self.now.f.now }
+        requires may { MaySay self.now log.old.entries }
         requires bads { AreBads self.now.f.now (selector_in self.now) bads.now log.old.entries }
-        requires few { AreFewWith (selector_in self.now) log.old.entries }
-        requires one_leaf { HaveOneLeaf self.now.f.now (selector_in self.now) (leaf_in self.now)
-            log.old.entries }
         ensures fit { O.Fits oracle.new log.new }
-        ensures grew { GrewByGroup self.now.f.now (selector_in self.now) log.old log.new }
-        ensures names { (v : ℕ) → name_of log.new.entries v ≡ name_of log.old.entries v }
-        ensures few { AreFewWith (selector_in self.now) log.new.entries }
-        ensures one_leaf { HaveOneLeaf self.now.f.now (selector_in self.now) (leaf_in self.now)
-            log.new.entries }
+        ensures said { AreSaid self.now.f.now (selector_in self.now) (leaf_in self.now) log.old
+            log.new }
         ensures given { OnOk result (AreGiven self.now.f.now (selector_in self.now)
             (leaf_in self.now) log.new.entries) }
     {
@@ -138,23 +125,13 @@ impl<'g, 'f, 'l> Faults<'g, 'f, 'l> {
         log: &mut Log,
     ) -> Result<(), Memory>
         requires fit { O.Fits oracle.old log.old }
-        requires made { IsMade log.old.entries self.now.group.now }
-        requires input_count { length self.now.inputs.now ≡ length self.now.f.now.universals }
-        requires output_count { length self.now.outputs.now ≡ length self.now.f.now.existentials }
-        requires leaves { AreLeaves self.now.f.now (leaf_in self.now) log.old.entries }
-        requires bound { AreBound self.now.f.now }
+        requires may { MaySay self.now log.old.entries }
         requires bad_count { length bads.now ≡ length self.now.f.now.matrix }
         requires bads { (j : ℕ) → j < length self.now.f.now.matrix
             → IsBadAt (selector_in self.now) j bads.now log.old.entries }
-        requires few { AreFewWith (selector_in self.now) log.old.entries }
-        requires one_leaf { HaveOneLeaf self.now.f.now (selector_in self.now) (leaf_in self.now)
-            log.old.entries }
         ensures fit { O.Fits oracle.new log.new }
-        ensures grew { GrewByGroup self.now.f.now (selector_in self.now) log.old log.new }
-        ensures names { (v : ℕ) → name_of log.new.entries v ≡ name_of log.old.entries v }
-        ensures few { AreFewWith (selector_in self.now) log.new.entries }
-        ensures one_leaf { HaveOneLeaf self.now.f.now (selector_in self.now) (leaf_in self.now)
-            log.new.entries }
+        ensures said { AreSaid self.now.f.now (selector_in self.now) (leaf_in self.now) log.old
+            log.new }
         ensures given { OnOk result (HaveAllFaults self.now.f.now (selector_in self.now)
             bads.now (leaf_in self.now) (length self.now.f.now.matrix) log.new.entries) }
     {
@@ -173,24 +150,14 @@ impl<'g, 'f, 'l> Faults<'g, 'f, 'l> {
         log: &mut Log,
     ) -> Result<(), Memory>
         requires fit { O.Fits oracle.old log.old }
-        requires made { IsMade log.old.entries self.now.group.now }
+        requires may { MaySay self.now log.old.entries }
         requires clause { j < length self.now.f.now.matrix }
-        requires input_count { length self.now.inputs.now ≡ length self.now.f.now.universals }
-        requires output_count { length self.now.outputs.now ≡ length self.now.f.now.existentials }
-        requires leaves { AreLeaves self.now.f.now (leaf_in self.now) log.old.entries }
-        requires bound { AreBound self.now.f.now }
         requires bad { name_of log.old.entries (variable_of bad)
             ≡ Some (Bad (selector_in self.now) (j + 1)) }
         requires positive { is_negative bad ≡ false }
-        requires few { AreFewWith (selector_in self.now) log.old.entries }
-        requires one_leaf { HaveOneLeaf self.now.f.now (selector_in self.now) (leaf_in self.now)
-            log.old.entries }
         ensures fit { O.Fits oracle.new log.new }
-        ensures grew { GrewByGroup self.now.f.now (selector_in self.now) log.old log.new }
-        ensures names { (v : ℕ) → name_of log.new.entries v ≡ name_of log.old.entries v }
-        ensures few { AreFewWith (selector_in self.now) log.new.entries }
-        ensures one_leaf { HaveOneLeaf self.now.f.now (selector_in self.now) (leaf_in self.now)
-            log.new.entries }
+        ensures said { AreSaid self.now.f.now (selector_in self.now) (leaf_in self.now) log.old
+            log.new }
         ensures given { OnOk result (HaveFaults self.now.f.now (selector_in self.now)
             (variable_of bad) (j + 1) (leaf_in self.now) (slice_index_or self.now.f.now.matrix j [])
             (length (slice_index_or self.now.f.now.matrix j [])) log.new.entries) }
@@ -231,30 +198,19 @@ impl<'g, 'f, 'l> Faults<'g, 'f, 'l> {
         log: &mut Log,
     ) -> Result<(), Memory>
         requires fit { O.Fits oracle.old log.old }
-        requires made { IsMade log.old.entries self.now.group.now }
+        requires may { MaySay self.now log.old.entries }
         requires clause_from_one { 1 ≤ at.clause }
         requires literal { matrix_literal self.now.f.now at.clause at.place ≡ Some at.literal }
-        requires leaf { IsLeafOf self.now.f.now log.old.entries (variable_of at.literal) at.leaf }
+        requires declared { Contains (declared self.now.f.now) (variable_of at.literal) }
+        requires leaf { at.leaf ≡ leaf_in self.now (variable_of at.literal) }
         requires bad { name_of log.old.entries (variable_of bad)
             ≡ Some (Bad (selector_in self.now) at.clause) }
         requires positive { is_negative bad ≡ false }
-        requires few { (rest : List Literal)
-            → length (fault_groups (Given (Fault at.clause at.place at.leaf)
-            (negative (selector_in self.now) ∷ rest) ∷ log.old.entries))
-            ≤ fault_room log.old.entries }
-        requires one_leaf { (j i v : ℕ) (out : OriginLeaf) (rest : List Literal)
-            → Contains log.old.entries
-            (Given (Fault j i out) (negative (selector_in self.now) ∷ rest))
-            → option_map variable_of (matrix_literal self.now.f.now j i) ≡ Some v
-            → v ≡ variable_of at.literal → out ≡ at.leaf }
         ensures fit { O.Fits oracle.new log.new }
-        ensures grew { GrewByGroup self.now.f.now (selector_in self.now) log.old log.new }
+        ensures said { AreSaid self.now.f.now (selector_in self.now) (leaf_in self.now) log.old
+            log.new }
         ensures given { OnOk result (HasFault (selector_in self.now) (variable_of bad)
             at.clause at.place at.literal at.leaf log.new.entries) }
-        ensures at_most { (log.new ≡ log.old)
-            ⊎ ((rest : List Literal)
-            × (log.new ≡ with_entry log.old (Given (Fault at.clause at.place at.leaf)
-            (negative (selector_in self.now) ∷ rest)))) }
     {
         match signed_leaf(&at.leaf, !at.literal.is_neg()) {
             Leaf::Constant(true) => Ok(()),
@@ -279,14 +235,13 @@ impl<'g, 'f, 'l> Faults<'g, 'f, 'l> {
         log: &mut Log,
     ) -> Result<(), Memory>
         requires fit { O.Fits oracle.old log.old }
-        requires made { IsMade log.old.entries self.now.group.now }
+        requires may { MaySay self.now log.old.entries }
         requires bads { AreBads self.now.f.now (selector_in self.now) bads.now log.old.entries }
-        requires few { AreFewWith (selector_in self.now) log.old.entries }
         ensures fit { O.Fits oracle.new log.new }
-        ensures grew { GrewByGroup self.now.f.now (selector_in self.now) log.old log.new }
+        ensures said { AreSaid self.now.f.now (selector_in self.now) (leaf_in self.now) log.old
+            log.new }
         ensures ok { OnOk result (log.new ≡ with_entry log.old (Given
             (Fault 0 0 (OriginLeaf.Constant false)) (negative (selector_in self.now) ∷ bads.now))) }
-        ensures err { OnErr result (log.new ≡ log.old) }
     {
         let output = Leaf::Constant(false);
         oracle.add(self.group, bads, fault(0, 0, &output), log)?;

@@ -17,7 +17,8 @@ ghost use Rattle.circuit_cnf.specs.Failing.{IsFailure, HasFalseClause, IsFailing
 ghost use Rattle.circuit_cnf.specs.Faults.{leaf_of};
 ghost use Rattle.circuit_cnf.specs.Gates.{GrewByGates};
 ghost use Rattle.circuit_cnf.specs.Shown.{HoldEverywhere, IsShownSince};
-ghost use Rattle.circuit_cnf.specs.Turning.{AreLeavesOf, IsHeldBy, AreFailing, is_silent_search};
+ghost use Rattle.circuit_cnf.specs.Saying.{AreLeaves};
+ghost use Rattle.circuit_cnf.specs.Turning.{AreFailing, AreLeavesOf, HasTurned, HaveFaultGroup, IsHeldBy, is_silent_search};
 
 use crate::checkers::Checker;
 use crate::circuits::Circuit;
@@ -29,7 +30,7 @@ use aig_graph::{Graph, Node};
 use dq_formula::Formula;
 use dq_lits::{Lit, Memory, Row};
 use hint_log::{Leaf, Log, Stop};
-use oracle::{Answer, Oracle};
+use oracle::{Answer, Group, Oracle};
 use std::alloc::Global;
 
 /// Whether outputs make every clause true.
@@ -63,12 +64,7 @@ impl Checker {
         requires a_node_an_existential { length outputs.now ≡ length f.now.existentials }
         requires few { length (fault_groups log.old.entries) < fault_room log.old.entries }
         ensures fit { O.Fits oracle.new log.new }
-        ensures checker { IsChecker f.now self.new log.new.entries }
-        ensures group { group_of self.new ≡ group_of self.old }
-        ensures grew { Grew
-            (IsAddedBy f.now circuits (group_of self.old) (is_silent result) log.old.entries)
-            log.old log.new }
-        ensures few { length (fault_groups log.new.entries) ≤ fault_room log.new.entries }
+        ensures turned { HasTurned f.now self.old self.new (is_silent result) log.old log.new }
         ensures holds { (id : ℕ) → result ≡ Ok (Turn.Holds id)
             → HoldEverywhere f.now (outputs_of f.now graph.now outputs.now) }
         ensures shown { (id : ℕ) → result ≡ Ok (Turn.Holds id)
@@ -140,15 +136,11 @@ impl Checker {
         requires ready { self.now.gates.unfinished ≡ None }
         requires formula { IsWellFormed f.now }
         requires output_count { length leaves.now ≡ length f.now.existentials }
-        requires leaves { (v : ℕ) → Contains (declared f.now) v
-            → IsLeafOf f.now log.old.entries v (leaf_of f.now self.now.inputs.items leaves.now v) }
+        requires leaves { AreLeaves f.now (leaf_of f.now self.now.inputs.items leaves.now)
+            log.old.entries }
         requires few { length (fault_groups log.old.entries) < fault_room log.old.entries }
         ensures fit { O.Fits oracle.new log.new }
-        ensures checker { IsChecker f.now self.now log.new.entries }
-        ensures grew { Grew
-            (IsAddedBy f.now circuits (group_of self.now) (is_silent_search result) log.old.entries)
-            log.old log.new }
-        ensures few { length (fault_groups log.new.entries) ≤ fault_room log.new.entries }
+        ensures turned { HasTurned f.now self.now self.now (is_silent_search result) log.old log.new }
         ensures held { (id : ℕ) → result ≡ Ok (Some id)
             → IsHeldBy f.now (leaf_of f.now self.now.inputs.items leaves.now) log.old.entries
             log.new.entries id }
@@ -159,6 +151,34 @@ impl Checker {
         ensures limit { IsErrOf result Stop.Limit → (group : ℕ)
             × IsAtLimit log.new (positive (group_of self.now) ∷ positive group ∷ []) }
     {
+        let group = self.give_faults(oracle, f, leaves, log)?;
+        match oracle.solve(&[self.gates.group, group], &[], log)? {
+            Answer::Unsat(id) => Ok(Some(id)),
+            Answer::Sat => Ok(None),
+        }
+    }
+
+    // Gives the faults under these leaves to a new group.
+    fn give_faults<O: Oracle>(
+        &self,
+        oracle: &mut O,
+        f: &Formula,
+        leaves: &[Leaf],
+        log: &mut Log,
+    ) -> Result<Group, Memory>
+        requires fit { O.Fits oracle.old log.old }
+        requires checker { IsChecker f.now self.now log.old.entries }
+        requires ready { self.now.gates.unfinished ≡ None }
+        requires formula { IsWellFormed f.now }
+        requires output_count { length leaves.now ≡ length f.now.existentials }
+        requires leaves { AreLeaves f.now (leaf_of f.now self.now.inputs.items leaves.now)
+            log.old.entries }
+        requires few { length (fault_groups log.old.entries) < fault_room log.old.entries }
+        ensures fit { O.Fits oracle.new log.new }
+        ensures turned { HasTurned f.now self.now self.now true log.old log.new }
+        ensures given { IfOk result (HaveFaultGroup f.now self.now
+            (leaf_of f.now self.now.inputs.items leaves.now) log.old.entries log.new.entries) }
+    {
         let group = oracle.group(&self.tenant, log)?;
         let faults = Faults {
             group: &group,
@@ -167,10 +187,7 @@ impl Checker {
             outputs: leaves,
         };
         faults.give(self.alloc, oracle, log)?;
-        match oracle.solve(&[self.gates.group, group], &[], log)? {
-            Answer::Unsat(id) => Ok(Some(id)),
-            Answer::Sat => Ok(None),
-        }
+        Ok(group)
     }
 
     // The row that a search found, the outputs' values there, and a clause that is false with them.

@@ -7,7 +7,7 @@ use Rattle.hint_log.specs.Entries.{Entry}
 use Rattle.hint_log.specs.Entries.{clause_at}
 use Rattle.oracle.specs.Fit.{Fit, live_in, HoldsHintedSelectors}
 use Rattle.learning_trail.specs.Analyses.{IsAnalysis}
-use Rattle.learning_trail.proofs.HeldLiterals.{opposite-opposite, holds-map, no_tautology}
+use Rattle.truth_values.proofs.HeldLiterals.{opposite-opposite, holds-map, no_tautology}
 use Rattle.learning_trail.proofs.LeadingHints.{leads_line}
 
 -- propagation depends on what the ids stand for alone

@@ -14,7 +14,7 @@ use Rattle.learning_trail.specs.Sound.{IsSound, IsReasoned, AreAssumed}
 use Rattle.learning_trail.specs.Analyses.{IsAnalysis}
 use Rattle.learning_trail.specs.Backing.{IsWithin, LeadsOn, IsBacking, IsFirstPoint, IsKeeping}
 use Rattle.learning_trail.specs.Noting.{Noted}
-use Rattle.learning_trail.proofs.HeldLiterals.{holds-append, holds_cases, holds_first, holds_later, opposite-opposite, free_variable}
+use Rattle.truth_values.proofs.HeldLiterals.{holds-append, holds_cases, holds_first, holds_later, opposite-opposite, free_variable}
 use Rattle.learning_trail.proofs.ClauseStatus.{IsImplied, implied_from}
 use Rattle.learning_trail.proofs.ConflictAnalysis.{sound_consistent, analysis_next, analysis_past, analysis_kept}
 

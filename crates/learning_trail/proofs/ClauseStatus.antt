@@ -1,15 +1,12 @@
 -- How clauses stand under true literals.
 use Rattle.std.proofs.Common.{◌≡◌, ◌≢◌, Bool, true, false, cond, not, ◌&&◌, inl, inr, List, [], ◌∷◌, Some, refl, sym, ◌∙◌, ap}
-use Rattle.std.specs.List.{list_all, filter}
+use Rattle.std.specs.List.{list_all}
 use Rattle.std.proofs.lemmas.Bool.{cases_Bool, false≢true, and_parts, and_from, not-true}
 use Rattle.dq_lits.specs.Literal.{Literal, opposite, same_literal}
 use Rattle.dq_lits.specs.Derivation.{falsified, unit, stuck, holds, status_by, status_of}
-use Rattle.learning_trail.specs.Steps.{IsFree}
-use Rattle.learning_trail.proofs.HeldLiterals.{same_literal-sound, same_literal-refl, holds_first, holds_later, holds_cases}
-
--- the literals of a clause that aren't false
-abbrev pub not_false : List Literal → List Literal → List Literal
-not_false trues clause = filter (λ l. not (holds trues (opposite l))) clause
+use Rattle.truth_values.specs.Extension.{not_false}
+use Rattle.truth_values.specs.Truth.{IsFree}
+use Rattle.truth_values.proofs.HeldLiterals.{same_literal-sound, same_literal-refl, holds_first, holds_later, holds_cases}
 
 none_left : (trues clause : List Literal) → ((l : Literal) → holds clause l ≡ true → holds trues (opposite l) ≡ true) → not_false trues clause ≡ []
 none_left trues [] h = refl

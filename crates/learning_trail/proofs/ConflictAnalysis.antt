@@ -7,11 +7,12 @@ use Rattle.hint_log.specs.Entries.{Entry}
 use Rattle.hint_log.specs.Naming.{is_selector}
 use Rattle.oracle.specs.Searched.{Stands}
 use Rattle.learning_trail.specs.declared.trails.Step.{Step}
-use Rattle.learning_trail.specs.Steps.{literals_of, IsFree}
+use Rattle.learning_trail.specs.Steps.{literals_of}
+use Rattle.truth_values.specs.Truth.{IsFree}
 use Rattle.learning_trail.specs.Marks.{marked, stands_on}
 use Rattle.learning_trail.specs.Sound.{IsSound}
 use Rattle.learning_trail.specs.Analyses.{IsAnalysis}
-use Rattle.learning_trail.proofs.HeldLiterals.{opposite-opposite, opposite-variable, opposite-other, opposite-negative, same_literal-sound, same_literal-refl, holds_first, holds_later, holds_cases, any_one, any_gives, one_variable}
+use Rattle.truth_values.proofs.HeldLiterals.{opposite-opposite, opposite-variable, opposite-other, opposite-negative, same_literal-sound, same_literal-refl, holds_first, holds_later, holds_cases, any_one, any_gives, one_variable}
 use Rattle.learning_trail.proofs.ClauseStatus.{IsImplied, falsified_tells}
 use Rattle.learning_trail.proofs.LeadingHints.{leads_first, leads_next, leads_past, leads_kept}
 

@@ -19,7 +19,7 @@ use Rattle.oracle.specs.Fit.{Fit, live_in}
 use Rattle.oracle.specs.Searched.{Stands, IsOfGroup}
 use Rattle.oracle.proofs.KeptSelectors.{holds_reached}
 use Rattle.learning_trail.proofs.Lessons.{live_more, last_clause}
-use Rattle.learning_trail.proofs.HeldLiterals.{holds_cases, opposite-variable, opposite-negative}
+use Rattle.truth_values.proofs.HeldLiterals.{holds_cases, opposite-variable, opposite-negative}
 
 module _ (held : List (List Literal)) (c : List Literal) (es : List Entry) (e : Entry) (numbered' : has_id e ≡ true) (is : clause_of e ≡ Some c) (count : length held ≡ last_id es) where
   at_new : (id : ℕ) → id ≡ last_id es + 1 → clause_at (e ∷ es) id ≡ Some c

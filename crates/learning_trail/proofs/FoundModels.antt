@@ -14,10 +14,11 @@ use Rattle.oracle.specs.declared.groups.Group.{Group}
 use Rattle.oracle.specs.Fit.{Fit, live_in}
 use Rattle.oracle.specs.Calls.{IsMade, IsPlain, IsModelUnder, assumed}
 use Rattle.learning_trail.specs.Growing.{HasLearned}
-use Rattle.learning_trail.specs.Steps.{literals_of, literal_value}
-use Rattle.learning_trail.specs.declared.trails.TruthValue.TheVariants.{True, False, Unassigned}
+use Rattle.learning_trail.specs.Steps.{literals_of}
+use Rattle.truth_values.specs.Truth.{literal_value}
+use Rattle.truth_values.specs.declared.values.TruthValue.TheVariants.{True, False, Unassigned}
 use Rattle.learning_trail.specs.Searching.{Searched, AreAssumptions, IsSatisfied}
-use Rattle.learning_trail.proofs.HeldLiterals.{holds_first, holds_later, holds_cases, opposite-variable, opposite-negative, any_one, any_gives, value_true}
+use Rattle.truth_values.proofs.HeldLiterals.{holds_first, holds_later, holds_cases, opposite-variable, opposite-negative, any_one, any_gives, value_true}
 use Rattle.learning_trail.proofs.ConflictAnalysis.{AreConsistent, sound_consistent}
 use Rattle.learning_trail.proofs.SearchTurns.{assumptions_same}
 

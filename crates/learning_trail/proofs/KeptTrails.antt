@@ -9,13 +9,16 @@ use Rattle.std.proofs.Math.Seq.{get_or-append_seam}
 use Rattle.dq_lits.specs.Literal.{Literal, positive, negative, variable_of}
 use Rattle.dq_lits.specs.Derivation.{holds}
 use Rattle.learning_trail.specs.declared.trails.Step.{Step}
-use Rattle.learning_trail.specs.Steps.{literals_of, IsFree}
-use Rattle.learning_trail.specs.Table.{IsTold, is_assigned}
+use Rattle.learning_trail.specs.Steps.{literals_of}
+use Rattle.truth_values.specs.Truth.{IsFree}
+use Rattle.truth_values.specs.Table.{IsTold}
+use Rattle.truth_values.specs.Truth.{is_assigned}
 use Rattle.learning_trail.specs.TrailInside.{IsKept}
-use Rattle.learning_trail.specs.declared.trails.TruthValue.{TruthValue}
-use Rattle.learning_trail.specs.declared.trails.TruthValue.TheVariants.{Unassigned}
-use Rattle.learning_trail.proofs.HeldLiterals.{holds_cases}
-use Rattle.learning_trail.proofs.AssignedLiterals.{value_where_true, tells_more, tells_less, one_more, one_less}
+use Rattle.truth_values.specs.declared.values.TruthValue.{TruthValue}
+use Rattle.truth_values.specs.declared.values.TruthValue.TheVariants.{Unassigned}
+use Rattle.truth_values.proofs.HeldLiterals.{holds_cases}
+use Rattle.learning_trail.proofs.AssignedLiterals.{tells_less, one_more, one_less}
+use Rattle.truth_values.proofs.AssignedLiterals.{value_where_true, tells_more}
 
 pub newest : {X : Type 0} (xs : List X) (x : X) → reverse (xs ++ x ∷ []) ≡ x ∷ reverse xs
 newest xs x = reverse-append xs (x ∷ [])

@@ -8,9 +8,10 @@ use Rattle.dq_lits.specs.Literal.{Literal, variable_of}
 use Rattle.dq_lits.specs.Derivation.{holds}
 use Rattle.oracle.specs.Fit.{live_in}
 use Rattle.learning_trail.specs.declared.trails.Step.{Step}
-use Rattle.learning_trail.specs.Steps.{is_decision, IsFree, Grown}
+use Rattle.learning_trail.specs.Steps.{is_decision, Grown}
+use Rattle.truth_values.specs.Truth.{IsFree}
 use Rattle.learning_trail.specs.Passes.{AreWithin, IsOpening}
-use Rattle.learning_trail.proofs.HeldLiterals.{holds_cases}
+use Rattle.truth_values.proofs.HeldLiterals.{holds_cases}
 
 abbrev pub implied_step : Literal → ℕ → Step
 implied_step l id = record { literal = l; reason = Some id }

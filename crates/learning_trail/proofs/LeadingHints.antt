@@ -3,10 +3,10 @@ use Rattle.std.proofs.Common.{◌≡◌, ◌≢◌, ℕ, ◌+◌, ◌==◌, Bool
 use Rattle.std.proofs.lemmas.Bool.{false≢true, or_left, or_right, false_from_ne_true, eq-eqb}
 use Rattle.dq_lits.specs.Literal.{Literal, variable_of, opposite}
 use Rattle.dq_lits.specs.Derivation.{LiveClauses, falsified, unit, holds, status_of, fault_by, hint_fault, is_tautology, IsDerived}
-use Rattle.learning_trail.specs.Steps.{IsFree}
+use Rattle.truth_values.specs.Truth.{IsFree}
 use Rattle.learning_trail.specs.Marks.{marked, stands_on}
 use Rattle.learning_trail.specs.Analyses.{Leads}
-use Rattle.learning_trail.proofs.HeldLiterals.{opposite-opposite, opposite-variable, holds-map, holds_first, holds_later, holds_cases, free_variable, any_one}
+use Rattle.truth_values.proofs.HeldLiterals.{opposite-opposite, opposite-variable, holds-map, holds_first, holds_later, holds_cases, free_variable, any_one}
 use Rattle.learning_trail.proofs.ClauseStatus.{IsImplied, is_falsified, is_unit}
 
 -- a clause that is false by what is kept and marked

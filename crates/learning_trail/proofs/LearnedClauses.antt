@@ -15,7 +15,7 @@ use Rattle.learning_trail.specs.Noting.{Noted}
 use Rattle.learning_trail.specs.Analyses.{IsAnalysis, AllStand}
 use Rattle.learning_trail.specs.Backing.{IsFirstPoint, IsTrimmed}
 use Rattle.learning_trail.specs.Lessons.{IsLesson}
-use Rattle.learning_trail.proofs.HeldLiterals.{opposite-opposite, opposite-variable, opposite-negative, holds_first, holds_later, holds_cases, holds-map}
+use Rattle.truth_values.proofs.HeldLiterals.{opposite-opposite, opposite-variable, opposite-negative, holds_first, holds_later, holds_cases, holds-map}
 use Rattle.learning_trail.proofs.ConflictAnalysis.{analysis_same}
 use Rattle.learning_trail.proofs.BacktrackSteps.{level_kept, leads_noted}
 

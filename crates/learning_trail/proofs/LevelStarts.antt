@@ -8,7 +8,7 @@ use Rattle.learning_trail.specs.declared.trails.Step.{Step}
 use Rattle.learning_trail.specs.Steps.{is_decision, level_of, starts_of, level_start, IsAt}
 use Rattle.learning_trail.specs.Marks.{marked, is_level_marked}
 use Rattle.learning_trail.specs.Lessons.{IsMarkedInLevel}
-use Rattle.learning_trail.proofs.HeldLiterals.{holds_first, holds_later, holds_cases}
+use Rattle.truth_values.proofs.HeldLiterals.{holds_first, holds_later, holds_cases}
 
 -- no more levels begin than there are steps
 pub few_starts : (steps : List Step) → length (starts_of steps) ≤ length steps

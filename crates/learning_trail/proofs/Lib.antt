@@ -5,7 +5,6 @@ pub mod ClauseStatus
 pub mod ConflictAnalysis
 pub mod FitLogs
 pub mod FoundModels
-pub mod HeldLiterals
 pub mod KeptTrails
 pub mod LargerTrails
 pub mod LeadingHints
@@ -16,6 +15,7 @@ pub mod LoggedAnswers
 pub mod MinimalClauses
 pub mod ReadStatus
 pub mod SearchTurns
+pub mod SoughtAnswers
 pub mod SetMarks
 pub mod TakenLevels
 pub mod Taught

@@ -18,7 +18,7 @@ use Rattle.learning_trail.specs.Noting.{Noted}
 use Rattle.learning_trail.specs.Backing.{IsKeeping}
 use Rattle.learning_trail.specs.Analyses.{IsAnalysis, AllStand}
 use Rattle.learning_trail.specs.Searching.{AreAssumptions}
-use Rattle.learning_trail.proofs.HeldLiterals.{opposite-variable, opposite-negative}
+use Rattle.truth_values.proofs.HeldLiterals.{opposite-variable, opposite-negative}
 use Rattle.learning_trail.proofs.AnswerClauses.{concluded_derived, concluded_tied}
 use Rattle.learning_trail.proofs.Taught.{all_named, all_ids}
 use Rattle.learning_trail.proofs.FitLogs.{fit_answered}

@@ -11,7 +11,7 @@ use Rattle.learning_trail.specs.Marks.{marked, stands_on}
 use Rattle.learning_trail.specs.Sound.{IsSound}
 use Rattle.learning_trail.specs.Noting.{Noted}
 use Rattle.learning_trail.specs.Backing.{IsTrimmed, IsRedundant}
-use Rattle.learning_trail.proofs.HeldLiterals.{holds_cases, holds_first, holds-append, opposite-opposite, opposite-variable, free_variable, any_gives}
+use Rattle.truth_values.proofs.HeldLiterals.{holds_cases, holds_first, holds-append, opposite-opposite, opposite-variable, free_variable, any_gives}
 use Rattle.learning_trail.proofs.Lessons.{sound_later}
 use Rattle.learning_trail.proofs.BacktrackSteps.{within_past, within_hint, within_literal, leads_past_step, leads_resolved, leads_noted, reason_of, reason_at}
 use Rattle.learning_trail.proofs.SetMarks.{turned}

@@ -4,9 +4,10 @@ use Rattle.std.proofs.lemmas.List.Elements.{All-head, All-tail}
 use Rattle.dq_lits.specs.Literal.{Literal, variable_of}
 use Rattle.dq_lits.specs.Derivation.{holds}
 use Rattle.learning_trail.specs.declared.trails.Step.{Step}
-use Rattle.learning_trail.specs.Steps.{literals_of, IsFree, IsAt}
+use Rattle.learning_trail.specs.Steps.{literals_of, IsAt}
+use Rattle.truth_values.specs.Truth.{IsFree}
 use Rattle.learning_trail.specs.TrailInside.{ArePlaced}
-use Rattle.learning_trail.proofs.HeldLiterals.{free_variable, holds_first, holds_later}
+use Rattle.truth_values.proofs.HeldLiterals.{free_variable, holds_first, holds_later}
 
 -- another variable's place is set
 placed_beside : (places : List ℕ) (xs : List Step) (i n : ℕ) → ((t : Literal) → holds (literals_of xs) t ≡ true → variable_of t ≡ suc i → ⊥) → ArePlaced places xs → ArePlaced (set places i n) xs

@@ -22,7 +22,7 @@ use Rattle.learning_trail.specs.Steps.{literals_of, is_decision, is_none, decisi
 use Rattle.learning_trail.specs.Sound.{IsSound, IsReasoned, IsGuided, AreAssumed}
 use Rattle.learning_trail.specs.Passes.{AreWithin, IsOpening}
 use Rattle.learning_trail.specs.Searching.{Searched, AreAssumptions, IsFound}
-use Rattle.learning_trail.proofs.HeldLiterals.{holds_first, holds_later, holds_cases, one_variable}
+use Rattle.truth_values.proofs.HeldLiterals.{holds_first, holds_later, holds_cases, one_variable}
 use Rattle.learning_trail.proofs.ConflictAnalysis.{sound_consistent}
 use Rattle.learning_trail.proofs.Lessons.{sound_later, guided_later}
 use Rattle.learning_trail.proofs.LargerTrails.{clause_read}

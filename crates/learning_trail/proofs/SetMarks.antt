@@ -6,7 +6,7 @@ use Rattle.dq_lits.specs.Derivation.{holds}
 use Rattle.learning_trail.specs.declared.trails.Step.{Step}
 use Rattle.learning_trail.specs.Steps.{is_decision, level_of}
 use Rattle.learning_trail.specs.Marks.{marked, is_level_marked}
-use Rattle.learning_trail.proofs.HeldLiterals.{holds_later}
+use Rattle.truth_values.proofs.HeldLiterals.{holds_later}
 
 pub taken : {X : Type 0} (xs : List X) (i : ℕ) (x : X) → i < length xs → get_or xs i x ≡ x → take (i + 1) xs ≡ take i xs ++ x ∷ []
 taken xs i x lt at = take_more xs i x lt ∙ ap (λ y. take i xs ++ y ∷ []) at

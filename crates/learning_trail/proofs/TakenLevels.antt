@@ -11,7 +11,7 @@ use Rattle.learning_trail.specs.Steps.{is_none as reason_none, Trailed, literals
 use Rattle.learning_trail.specs.Marks.{marked, is_level_marked}
 use Rattle.learning_trail.specs.Sound.{IsSound}
 use Rattle.learning_trail.specs.Lessons.{IsJump}
-use Rattle.learning_trail.proofs.HeldLiterals.{opposite-variable}
+use Rattle.truth_values.proofs.HeldLiterals.{opposite-variable}
 use Rattle.learning_trail.proofs.ClauseStatus.{is_falsified, falsified_tells}
 use Rattle.learning_trail.proofs.Lessons.{below_closed, below_marked}
 

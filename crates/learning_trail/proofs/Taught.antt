@@ -14,11 +14,12 @@ use Rattle.oracle.specs.Limits.{HasNextLemma}
 use Rattle.oracle.specs.Searched.{Stands}
 use Rattle.learning_trail.specs.Growing.{HasLearned}
 use Rattle.learning_trail.specs.declared.trails.Step.{Step}
-use Rattle.learning_trail.specs.Steps.{Trailed, literals_of, decision_of, IsFree}
+use Rattle.learning_trail.specs.Steps.{Trailed, literals_of, decision_of}
+use Rattle.truth_values.specs.Truth.{IsFree}
 use Rattle.learning_trail.specs.Sound.{IsSound, IsGuided}
 use Rattle.learning_trail.specs.Lessons.{IsLesson, IsJump, IsLanded, landed}
 use Rattle.learning_trail.specs.Searching.{Searched, IsSearching}
-use Rattle.learning_trail.proofs.HeldLiterals.{holds_first, holds_later}
+use Rattle.truth_values.proofs.HeldLiterals.{holds_first, holds_later}
 use Rattle.learning_trail.proofs.Lessons.{lesson_derived, lesson_new, lesson_tied, lesson_stands, lesson_active, lesson_sound, lesson_guided, lesson_lands, guided_later, trail_named}
 use Rattle.learning_trail.proofs.FitLogs.{fit_learned}
 

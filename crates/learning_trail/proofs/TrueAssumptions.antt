@@ -7,7 +7,7 @@ use Rattle.dq_lits.specs.Derivation.{holds}
 use Rattle.oracle.specs.declared.groups.Group.{Group}
 use Rattle.oracle.specs.Calls.{assumed}
 use Rattle.learning_trail.specs.Sound.{AreTrue}
-use Rattle.learning_trail.proofs.HeldLiterals.{holds_first, holds_later, holds_cases}
+use Rattle.truth_values.proofs.HeldLiterals.{holds_first, holds_later, holds_cases}
 
 pub none_true : (assumptions trues : List Literal) → AreTrue (take 0 assumptions) trues
 none_true [] trues = λ a h. absurd (false≢true h)

@@ -1,6 +1,8 @@
 pub mod Analyses
+pub mod Answering
 pub mod Backing
 pub mod Extension
+pub mod FitLaws
 pub mod Growing
 pub mod Lessons
 pub mod Marks
@@ -9,5 +11,4 @@ pub mod Passes
 pub mod Searching
 pub mod Sound
 pub mod Steps
-pub mod Table
 pub mod TrailInside

@@ -4,7 +4,8 @@ use Rattle.std.specs.List.{list_any}
 use Rattle.dq_lits.specs.Literal.{Literal, variable_of}
 use Rattle.dq_lits.specs.Derivation.{LiveClauses, holds, status_of, falsified}
 use Rattle.hint_log.specs.ProductiveLog.{IsClosed}
-use Rattle.learning_trail.specs.Steps.{Trailed, literals_of, IsFree}
+use Rattle.learning_trail.specs.Steps.{Trailed, literals_of}
+use Rattle.truth_values.specs.Truth.{IsFree}
 
 abbrev pub AreWithin : ℕ → List (List Literal) → Type 0
 AreWithin room clauses = All (λ c. All (λ l. variable_of l ≤ room) c) clauses

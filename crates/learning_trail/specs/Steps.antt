@@ -1,10 +1,7 @@
 -- The literals that were made true, newest first.
 use Rattle.std.specs.Prelude.{◌≡◌, ℕ, Bool, true, false, List, [], ◌∷◌, Option, None, Some, if◌then◌else◌, ◌++◌, All, length, slice_index_or}
-use Rattle.dq_lits.specs.Literal.{Literal, opposite}
-use Rattle.dq_lits.specs.Derivation.{holds}
+use Rattle.dq_lits.specs.Literal.{Literal}
 use Rattle.learning_trail.specs.declared.trails.Step.{Step}
-use Rattle.learning_trail.specs.declared.trails.TruthValue.{TruthValue}
-use Rattle.learning_trail.specs.declared.trails.TruthValue.TheVariants.{True, False, Unassigned}
 
 -- what a trail stands for: its steps, and how many variables it has room for
 pub record Trailed : Type 0 where
@@ -21,14 +18,6 @@ is_none (Some _) = false
 
 abbrev pub is_decision : Step → Bool
 is_decision s = is_none s.reason
-
-abbrev pub literal_value : List Literal → Literal → TruthValue
-literal_value trues l =
-    if holds trues (opposite l) then False else (if holds trues l then True else Unassigned)
-
--- neither the literal nor its negation is true
-abbrev pub IsFree : List Literal → Literal → Type 0
-IsFree trues l = (holds trues l ≡ false) × (holds trues (opposite l) ≡ false)
 
 -- what is left without the newest level; nothing, where nothing was decided
 abbrev pub under_level : List Step → List Step

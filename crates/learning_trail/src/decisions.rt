@@ -4,11 +4,13 @@ ghost use Rattle.std.specs.Prelude.{◌≡◌, ◌≤◌, ◌⊎◌, true, All, 
 ghost use Rattle.std.specs.List.{list_any};
 ghost use Rattle.dq_lits.specs.Literal.{variable_of, opposite};
 ghost use Rattle.dq_lits.specs.Derivation.{holds, status_of, stuck};
-ghost use Rattle.learning_trail.specs.Steps.{literals_of, IsFree};
+ghost use Rattle.learning_trail.specs.Steps.{literals_of};
+ghost use Rattle.truth_values.specs.Truth.{IsFree};
 
 use crate::activities::Activities;
-use crate::trails::{Trail, TruthValue};
+use crate::trails::Trail;
 use dq_lits::Lit;
+use truth_values::TruthValue;
 
 /// The most active literal without a value, where the clause has no true literal.
 pub fn open_literal(trail: &Trail, lits: &[Lit], activities: &Activities) -> Option<Lit>

@@ -9,7 +9,7 @@
 
 pub use activities::Activities;
 pub use analysis::{analyse, begin};
-pub use answers::{back_to, back_to_decisions};
+pub use answers::{answer_conflict, answer_false};
 pub use assumptions::{Assumptions, Next, free_decision, holds, next_assumption};
 pub use clauses::Clauses;
 pub use decisions::{is_false, next_not_false, open_literal, open_literal_at};
@@ -20,7 +20,7 @@ pub use models::keep_values;
 pub use notes::Notes;
 pub use restarts::Restarts;
 pub use statuses::{Status, is_true, status_of};
-pub use trails::{Step, Trail, TruthValue};
+pub use trails::{Step, Trail};
 
 mod activities;
 mod analysis;

@@ -2,11 +2,13 @@
 
 ghost use Rattle.std.specs.Prelude.{◌≡◌, ◌≤◌, ◌<◌, ◌^◌, ℕ, true, false, length, slice_index_or, suc};
 ghost use Rattle.dq_lits.specs.Literal.{positive};
-ghost use Rattle.learning_trail.specs.Steps.{literals_of, literal_value};
-ghost use Rattle.learning_trail.specs.declared.trails.TruthValue.TheVariants.{True};
+ghost use Rattle.learning_trail.specs.Steps.{literals_of};
+ghost use Rattle.truth_values.specs.Truth.{literal_value};
+ghost use Rattle.truth_values.specs.declared.values.TruthValue.TheVariants.{True};
 
-use crate::trails::{Trail, TruthValue};
+use crate::trails::Trail;
 use dq_lits::Lit;
+use truth_values::TruthValue;
 
 /// Keeps the values of the trail.
 pub fn keep_values(model: &mut [bool], trail: &Trail)

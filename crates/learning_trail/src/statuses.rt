@@ -4,11 +4,14 @@ ghost use Rattle.std.specs.Prelude.{◌≡◌, ◌≤◌, Some, None, All, Match
 ghost use Rattle.std.specs.List.{list_any};
 ghost use Rattle.dq_lits.specs.Literal.{variable_of, same_literal};
 ghost use Rattle.dq_lits.specs.Derivation.{status_of, holds, stuck};
-ghost use Rattle.learning_trail.specs.Steps.{literals_of, IsFree};
-ghost use Rattle.learning_trail.specs.Extension.{seen, with_free, with_literal};
+ghost use Rattle.learning_trail.specs.Steps.{literals_of};
+ghost use Rattle.truth_values.specs.Truth.{IsFree};
+ghost use Rattle.learning_trail.specs.Extension.{seen};
+ghost use Rattle.truth_values.specs.Extension.{with_free, with_literal};
 
-use crate::trails::{Trail, TruthValue};
+use crate::trails::Trail;
 use dq_lits::Lit;
+use truth_values::TruthValue;
 
 /// How a clause stands under a trail.
 #[derive(Clone, Copy)]

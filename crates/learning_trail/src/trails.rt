@@ -7,14 +7,7 @@ use crate::starts::{newest_start, put_start, take_start};
 use dq_lits::{Lit, Memory};
 use std::alloc::Global;
 use std::marker::Model;
-
-/// What a literal is under a trail.
-#[derive(Clone, Copy, PartialEq, Eq)]
-pub enum TruthValue {
-    True,
-    False,
-    Unassigned,
-}
+use truth_values::{TruthValue, truth};
 
 /// A literal that was made true: by a clause, its reason, or by decision.
 #[derive(Clone, Copy)]
@@ -49,7 +42,8 @@ impl Model for Trail {
 }
 
 impl Trail {
-    ghost use Rattle.learning_trail.specs.Steps.{literals_of, literal_value, level_start, IsFree, IsAt};
+    ghost use Rattle.learning_trail.specs.Steps.{literals_of, level_start, IsAt};
+    ghost use Rattle.truth_values.specs.Truth.{literal_value, IsFree};
 
     pub fn new(alloc: Global) -> Trail
         ensures { result ≡ record { room = 0; steps = [] } }
@@ -187,14 +181,4 @@ fn place_of(l: Lit) -> usize
     ensures { result + 1 ≡ variable_of l }
 {
     l.var() as usize - 1
-}
-
-fn truth(is_true: bool) -> TruthValue
-    ensures { result ≡ (if is_true then TruthValue.True else TruthValue.False) }
-{
-    if is_true {
-        TruthValue::True
-    } else {
-        TruthValue::False
-    }
 }

@@ -6,10 +6,11 @@ use Rattle.std.proofs.lemmas.List.{take-append-drop}
 use Rattle.std.proofs.lemmas.List.Folds.{list_any_at}
 use Rattle.dq_lits.specs.Literal.{Literal, positive, negative, opposite, same_literal}
 use Rattle.dq_lits.specs.Derivation.{LiveClauses, holds, is_tautology, hint_fault, line_fault}
-use Rattle.rup_core.specs.Truth.{literal_value, AreSame}
-use Rattle.rup_core.specs.declared.trails.TruthValue.TheVariants.{True}
+use Rattle.rup_core.specs.Truth.{AreSame}
+use Rattle.truth_values.specs.Truth.{literal_value}
+use Rattle.truth_values.specs.declared.values.TruthValue.TheVariants.{True}
 use Rattle.rup_core.proofs.EqualTruths.{hint_fault-same}
-use Rattle.rup_core.proofs.HeldLiterals.{same_literal-sound, same_literal-refl, opposite-opposite, holds-append, value_true}
+use Rattle.truth_values.proofs.HeldLiterals.{same_literal-sound, same_literal-refl, opposite-opposite, holds-append, value_true}
 
 -- no literal beside its negation
 abbrev pub IsConsistent : List Literal → Type 0

@@ -2,7 +2,6 @@ pub mod AssignedLiterals
 pub mod FalseLiterals
 pub mod ReadStatus
 pub mod EqualTruths
-pub mod HeldLiterals
 pub mod DeletedClauses
 pub mod RenamedVariables
 pub mod PagedClauses

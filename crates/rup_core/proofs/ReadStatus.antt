@@ -1,74 +1,21 @@
 -- A clause's status, as its literals are read one by one.
-use Rattle.std.proofs.Common.{◌≡◌, ℕ, zero, suc, ◌+◌, ◌<◌, ◌≤◌, Bool, true, false, not, cond, ◌&&◌, inl, inr, List, [], ◌∷◌, ◌++◌, take, length, get_or, Option, None, Some, IfSome, refl, sym, ◌∙◌, ap, subst, arith}
-use Rattle.std.specs.List.{list_all, filter, slice_get}
-use Rattle.std.proofs.lemmas.Bool.{cases_Bool, cases_lt}
-use Rattle.std.proofs.lemmas.List.{append-nil, take_all, take_more}
-use Rattle.std.proofs.lemmas.List.Elements.{All-get_or, filter-append}
-use Rattle.std.proofs.lemmas.List.Folds.{list_all-append}
+use Rattle.std.proofs.Common.{◌≡◌, ℕ, zero, suc, ◌+◌, ◌<◌, ◌≤◌, Bool, true, false, cond, inl, inr, List, [], ◌∷◌, ◌++◌, take, length, get_or, Option, None, Some, IfSome, refl, sym, ◌∙◌, ap, subst, arith}
+use Rattle.std.specs.List.{slice_get}
+use Rattle.std.proofs.lemmas.Bool.{cases_lt}
+use Rattle.std.proofs.lemmas.List.{take_all, take_more}
+use Rattle.std.proofs.lemmas.List.Elements.{All-get_or}
 use Rattle.std.proofs.lemmas.Option.{get_or_from_slice_get, slice_get-get_or}
-use Rattle.dq_lits.specs.Literal.{Literal, positive, variable_of, opposite, same_literal}
-use Rattle.dq_lits.specs.Derivation.{Status, falsified, unit, stuck, holds, status_by, status_of}
-use Rattle.rup_core.specs.Extension.{with_free, with_literal, UnitIsFree, UnitStandsWithin}
+use Rattle.dq_lits.specs.Literal.{Literal, positive, variable_of, same_literal}
+use Rattle.dq_lits.specs.Derivation.{Status, falsified, unit, stuck, status_by, status_of}
+use Rattle.truth_values.specs.Extension.{not_false}
+use Rattle.rup_core.specs.Extension.{UnitIsFree, UnitStandsWithin}
+use Rattle.truth_values.specs.Extension.{with_literal}
 use Rattle.rup_core.specs.Range.{StandsWithin}
 use Rattle.rup_core.specs.Reading.{clause_size, literal_at}
-use Rattle.rup_core.specs.Truth.{literal_value}
-use Rattle.rup_core.specs.declared.trails.TruthValue.{TruthValue}
-use Rattle.rup_core.specs.declared.trails.TruthValue.TheVariants.{True, False, Unassigned}
-use Rattle.rup_core.proofs.HeldLiterals.{same_literal-sound}
-
--- the literals of a clause that aren't false
-abbrev pub not_false : List Literal → List Literal → List Literal
-not_false trues clause = filter (λ l. not (holds trues (opposite l))) clause
-
--- with one more true literal
-true_sticks : (a s k : Bool) (l : Literal) → (s ≡ true → k ≡ true) → cond ((a && (s && true)) && not k) (unit l) stuck ≡ stuck
-true_sticks true true true l h = refl
-true_sticks true true false l h = let n = h refl in cc
-true_sticks true false k l h = refl
-true_sticks false s k l h = refl
-
-true_more : (trues rest : List Literal) (l : Literal) → holds trues l ≡ true → status_by trues (rest ++ l ∷ []) ≡ stuck
-true_more trues [] l is_true = ap (λ b. cond (true && not b) (unit l) stuck) is_true
-true_more trues (k ∷ rest) l is_true =
-    ap (λ b. cond (b && not (holds trues k)) (unit k) stuck) (list_all-append (same_literal k) rest (l ∷ []))
-    ∙ true_sticks (list_all (same_literal k) rest) (same_literal k l) (holds trues k) k (λ same. ap (holds trues) (same_literal-sound k l same) ∙ is_true)
-
--- with one more unassigned literal
-free_extends : (a s k : Bool) (j l : Literal) → same_literal j l ≡ s →
-    with_free (cond (a && not k) (unit j) stuck) l ≡ cond ((a && (s && true)) && not k) (unit j) stuck
-free_extends true true true j l h = refl
-free_extends true true false j l h = ap (λ b. cond b (unit j) stuck) h
-free_extends true false true j l h = refl
-free_extends true false false j l h = ap (λ b. cond b (unit j) stuck) h
-free_extends false s k j l h = refl
-
-free_literal_more : (trues rest : List Literal) (l : Literal) → holds trues l ≡ false → with_free (status_by trues rest) l ≡ status_by trues (rest ++ l ∷ [])
-free_literal_more trues [] l free = sym (ap (λ b. cond (true && not b) (unit l) stuck) free)
-free_literal_more trues (k ∷ rest) l free =
-    free_extends (list_all (same_literal k) rest) (same_literal k l) (holds trues k) k l refl
-    ∙ sym (ap (λ b. cond (b && not (holds trues k)) (unit k) stuck) (list_all-append (same_literal k) rest (l ∷ [])))
-
-pub status_more : (trues clause : List Literal) (l : Literal) →
-    with_literal (status_by trues (not_false trues clause)) l (literal_value trues l) ≡ status_by trues (not_false trues (clause ++ l ∷ []))
-status_more trues clause l =
-    let rest = not_false trues clause in
-    let split = ap (status_by trues) (filter-append (λ k. not (holds trues (opposite k))) clause (l ∷ [])) in
-    elim (cases_Bool (holds trues (opposite l))) [
-      | inl is_false ↦
-          ap (λ b. with_literal (status_by trues rest) l (cond b False (cond (holds trues l) True Unassigned))) is_false
-          ∙ ap (status_by trues) (sym (append-nil rest))
-          ∙ sym (ap (λ b. status_by trues (rest ++ cond (not b) (l ∷ []) [])) is_false)
-          ∙ sym split
-      | inr other ↦
-          let left = ap (λ b. with_literal (status_by trues rest) l (cond b False (cond (holds trues l) True Unassigned))) other in
-          let right = sym (ap (λ b. status_by trues (rest ++ cond (not b) (l ∷ []) [])) other) ∙ sym split in
-          elim (cases_Bool (holds trues l)) [
-            | inl is_true ↦
-                left ∙ ap (λ b. with_literal (status_by trues rest) l (cond b True Unassigned)) is_true ∙ sym (true_more trues rest l is_true) ∙ right
-            | inr free ↦
-                left ∙ ap (λ b. with_literal (status_by trues rest) l (cond b True Unassigned)) free ∙ free_literal_more trues rest l free ∙ right
-          ]
-    ]
+use Rattle.truth_values.specs.Truth.{literal_value}
+use Rattle.truth_values.specs.declared.values.TruthValue.{TruthValue}
+use Rattle.truth_values.specs.declared.values.TruthValue.TheVariants.{True, False, Unassigned}
+use Rattle.truth_values.proofs.ReadStatus.{status_more}
 
 -- the literal of a unit clause stays unassigned
 free_more : (trues : List Literal) (s : Status) (l : Literal) (t : TruthValue) → UnitIsFree trues s → t ≡ literal_value trues l →

@@ -5,19 +5,9 @@ use Rattle.std.specs.BTreeMap.{BTreeMap, get}
 use Rattle.std.specs.Ordering.{nat_cmp}
 use Rattle.dq_lits.specs.Literal.{Literal, positive, negative}
 use Rattle.dq_lits.specs.Derivation.{holds}
-use Rattle.rup_core.specs.declared.trails.TruthValue.{TruthValue}
-use Rattle.rup_core.specs.declared.trails.TruthValue.TheVariants.{True, False, Unassigned}
-
--- whether a variable and its negation are true, where the variable has this value
-abbrev pub IsTold : TruthValue → Bool → Bool → Type 0
-IsTold True plain negated = (plain ≡ true) × (negated ≡ false)
-IsTold False plain negated = (plain ≡ false) × (negated ≡ true)
-IsTold Unassigned plain negated = (plain ≡ false) × (negated ≡ false)
-
-abbrev pub Tells : List TruthValue → List Literal → Type 0
-Tells values trues = (i : ℕ) → i < length values →
-    IsTold (slice_index_or values i Unassigned) (holds trues (positive (suc i)))
-    (holds trues (negative (suc i)))
+use Rattle.truth_values.specs.Table.{IsTold}
+use Rattle.truth_values.specs.declared.values.TruthValue.{TruthValue}
+use Rattle.truth_values.specs.declared.values.TruthValue.TheVariants.{True, False, Unassigned}
 
 -- the value of a variable in the map
 abbrev pub far_value : Option Bool → TruthValue
@@ -40,8 +30,3 @@ abbrev pub StandsOnlyOn : List TruthValue → List Literal → Type 0
 StandsOnlyOn values literals = (i : ℕ) → i < length values →
     holds literals (positive (suc i)) ≡ false → holds literals (negative (suc i)) ≡ false
     → slice_index_or values i Unassigned ≡ Unassigned
-
-abbrev pub is_assigned : TruthValue → Bool
-is_assigned True = true
-is_assigned False = true
-is_assigned Unassigned = false

@@ -11,8 +11,9 @@ use crate::bases::Base;
 use crate::marks::Marks;
 use crate::progress::{Progress, propagate};
 use crate::statuses::status_of;
-use crate::trails::{Trail, TruthValue};
+use crate::trails::Trail;
 use dq_lits::{Lit, Memory};
+use truth_values::TruthValue;
 
 /// Whether a line is derived.
 #[derive(Clone, Copy, PartialEq, Eq)]

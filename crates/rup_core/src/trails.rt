@@ -4,21 +4,15 @@ ghost use Rattle.std.specs.Prelude.{◌≡◌, ◌+◌, ◌<◌, ◌≤◌, [], 
 ghost use Rattle.std.specs.Option.{option_copied};
 ghost use Rattle.dq_lits.specs.Derivation.{holds};
 ghost use Rattle.dq_lits.specs.Literal.{variable_of, positive, negative};
-ghost use Rattle.rup_core.specs.Truth.{literal_value};
-ghost use Rattle.rup_core.specs.Table.{IsTold, AreSameValues, StandsOnlyOn, far_value};
+ghost use Rattle.truth_values.specs.Truth.{literal_value};
+ghost use Rattle.rup_core.specs.Table.{AreSameValues, StandsOnlyOn, far_value};
+ghost use Rattle.truth_values.specs.Table.{IsTold};
 
 use dq_lits::{Lit, Memory};
 use std::alloc::Global;
 use std::collections::BTreeMap;
 use std::marker::Model;
-
-/// What a literal is under a trail.
-#[derive(Clone, Copy, PartialEq, Eq)]
-pub(crate) enum TruthValue {
-    True,
-    False,
-    Unassigned,
-}
+use truth_values::{TruthValue, truth};
 
 /// The literals that were made true, in order.
 ///
@@ -163,16 +157,6 @@ fn place_of(l: Lit) -> usize
     ensures { result + 1 ≡ variable_of l }
 {
     l.var() as usize - 1
-}
-
-fn truth(is_true: bool) -> TruthValue
-    ensures { result ≡ (if is_true then TruthValue.True else TruthValue.False) }
-{
-    if is_true {
-        TruthValue::True
-    } else {
-        TruthValue::False
-    }
 }
 
 // Makes the table hold the values of more variables, which are unassigned.

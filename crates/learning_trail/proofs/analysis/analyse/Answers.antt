@@ -5,7 +5,7 @@ use Rattle.oracle.specs.Fit.{live_in}
 use Rattle.learning_trail.specs.Steps.{literals_of, decision_of}
 use Rattle.learning_trail.specs.Sound.{IsSound}
 use Rattle.learning_trail.specs.Analyses.{IsAnalysis}
-use Rattle.learning_trail.proofs.HeldLiterals.{any_one}
+use Rattle.truth_values.proofs.HeldLiterals.{any_one}
 use Rattle.learning_trail.proofs.ConflictAnalysis.{analysis_first, sound_consistent}
 use Rattle.learning_trail.proofs.Lessons.{sound_later}
 use Rattle.learning_trail.proofs.TakenLevels.{conflict_of, conflict_marked, is_some_of}

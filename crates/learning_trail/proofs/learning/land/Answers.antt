@@ -2,8 +2,9 @@ use Rattle.std.proofs.Common.{◌∷◌, Some, sym, ◌∙◌, ap, subst, List}
 use Rattle.dq_lits.specs.Literal.{opposite}
 use Rattle.dq_lits.specs.Derivation.{holds}
 use Rattle.learning_trail.specs.declared.trails.Step.{Step}
-use Rattle.learning_trail.specs.Steps.{literals_of, IsFree}
-use Rattle.learning_trail.proofs.HeldLiterals.{opposite-opposite}
+use Rattle.learning_trail.specs.Steps.{literals_of}
+use Rattle.truth_values.specs.Truth.{IsFree}
+use Rattle.truth_values.proofs.HeldLiterals.{opposite-opposite}
 use Rattle.learning_trail.proofs.Lessons.{free_suffix}
 use Rattle.learning_trail.proofs.learning.land.Goals as goal
 

@@ -1,5 +1,5 @@
 use Rattle.circuit_cnf.specs.Saying.{leaf_in, selector_in}
-use Rattle.circuit_cnf.proofs.AllFaults.{AllSoFar}
+use Rattle.circuit_cnf.proofs.SaidFaults.{AllSoFar}
 use Rattle.circuit_cnf.proofs.faults.Faults.all_faults.Given as goal
 
 abbrev pub invariant-loop-j : goal.invariant-loop-j

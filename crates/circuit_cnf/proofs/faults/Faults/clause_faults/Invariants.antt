@@ -1,7 +1,7 @@
 use Rattle.std.proofs.Common.{◌+◌}
 use Rattle.dq_lits.specs.Literal.{variable_of}
 use Rattle.circuit_cnf.specs.Saying.{leaf_in, selector_in}
-use Rattle.circuit_cnf.proofs.ClauseFaults.{FaultsSoFar}
+use Rattle.circuit_cnf.proofs.SaidFaults.{FaultsSoFar}
 use Rattle.circuit_cnf.proofs.faults.Faults.clause_faults.Given as goal
 
 abbrev pub invariant-loop-i : goal.invariant-loop-i

@@ -4,7 +4,7 @@ use Rattle.dq_lits.specs.Literal.{variable_of}
 use Rattle.learning_trail.specs.Steps.{starts_of}
 use Rattle.learning_trail.specs.TrailInside.{IsKept, ArePlaced}
 use Rattle.learning_trail.specs.declared.trails.Step.{Step}
-use Rattle.learning_trail.specs.declared.trails.TruthValue.TheVariants.{Unassigned}
+use Rattle.truth_values.specs.declared.values.TruthValue.TheVariants.{Unassigned}
 use Rattle.learning_trail.proofs.KeptTrails.{kept_popped, newest}
 use Rattle.learning_trail.proofs.trails.Trail.pop.Goals as goal
 

@@ -3,12 +3,13 @@ use Rattle.std.specs.Result.{is_ok}
 use Rattle.std.proofs.lemmas.Bool.{both_ways}
 use Rattle.std.proofs.lemmas.List.{length-set, length-reverse}
 use Rattle.dq_lits.specs.Literal.{variable_of}
-use Rattle.learning_trail.specs.Steps.{Trailed, literals_of, is_decision, starts_of, IsFree}
+use Rattle.learning_trail.specs.Steps.{Trailed, literals_of, is_decision, starts_of}
+use Rattle.truth_values.specs.Truth.{IsFree}
 use Rattle.learning_trail.specs.TrailInside.{IsKept, ArePlaced}
 use Rattle.learning_trail.specs.declared.trails.Step.{Step}
-use Rattle.learning_trail.specs.declared.trails.TruthValue.{TruthValue}
-use Rattle.learning_trail.specs.declared.trails.TruthValue.TheVariants.{True, False}
-use Rattle.learning_trail.proofs.AssignedLiterals.{value_where_true}
+use Rattle.truth_values.specs.declared.values.TruthValue.{TruthValue}
+use Rattle.truth_values.specs.declared.values.TruthValue.TheVariants.{True, False}
+use Rattle.truth_values.proofs.AssignedLiterals.{value_where_true}
 use Rattle.learning_trail.proofs.KeptTrails.{kept_pushed, newest}
 use Rattle.learning_trail.proofs.LevelStarts.{few_starts}
 use Rattle.learning_trail.proofs.PlacedSteps.{placed_pushed}

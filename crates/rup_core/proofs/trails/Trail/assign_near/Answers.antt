@@ -3,9 +3,10 @@ use Rattle.std.specs.Result.{is_ok}
 use Rattle.std.proofs.lemmas.Bool.{both_ways}
 use Rattle.std.proofs.lemmas.List.{length-set}
 use Rattle.dq_lits.specs.Literal.{variable_of}
-use Rattle.rup_core.specs.Truth.{literal_value}
-use Rattle.rup_core.specs.declared.trails.TruthValue.TheVariants.{True, False, Unassigned}
-use Rattle.rup_core.proofs.AssignedLiterals.{value_where_true, assign_room, assign_counted, assign_told, near_keeps_far}
+use Rattle.truth_values.specs.Truth.{literal_value}
+use Rattle.truth_values.specs.declared.values.TruthValue.TheVariants.{True, False, Unassigned}
+use Rattle.rup_core.proofs.AssignedLiterals.{assign_room, assign_counted, assign_told, near_keeps_far}
+use Rattle.truth_values.proofs.AssignedLiterals.{value_where_true}
 use Rattle.rup_core.proofs.trails.Trail.assign_near.Goals as goal
 
 pub unreachable-requires : goal.unreachable-requires

@@ -1,0 +1,3 @@
+pub mod AssignedLiterals
+pub mod HeldLiterals
+pub mod ReadStatus
