@@ -81,14 +81,10 @@ pub fn build(
     ensures one_each { IfOk result (λ nodes. length nodes ≡ length f.now.existentials) }
     ensures nodes { IfOk result (λ nodes. All (IsNode graph.new) nodes) }
     ensures reads { IfOk result (λ nodes. ReadDeclared f.now (outputs_of f.now graph.new nodes)) }
-    ensures at_pairs { IfOk result
-        (λ nodes.
-        AgreeAtPairs f.now table.now.rows (point_bits points.now)
-        (outputs_of f.now graph.new nodes)) }
-    ensures by_rules { IfOk result
-        (λ nodes.
-        FollowRules f.now table.now.rows rules.now definitions.now
-        (outputs_of f.now graph.new nodes)) }
+    ensures at_pairs { IfOk result (λ nodes. AgreeAtPairs f.now table.now.rows
+        (point_bits points.now) (outputs_of f.now graph.new nodes)) }
+    ensures by_rules { IfOk result (λ nodes. FollowRules f.now table.now.rows rules.now
+        definitions.now (outputs_of f.now graph.new nodes)) }
     ensures defined { IfOk result (λ nodes. AreDefined f.now graph.new definitions.now nodes) }
 {
     f.every_formula_is_lawful();

@@ -10,7 +10,7 @@ use Rattle.hint_log.specs.declared.names.Name.TheVariants.{Input}
 use Rattle.hint_log.specs.Conditions.{IsId}
 use Rattle.hint_log.specs.Entries.{ProofLog, name_of, last_id}
 use Rattle.oracle.specs.Calls.{IsRefutedUnder}
-use Rattle.oracle.specs.declared.oracles.Answer.{Answer as Found}
+use Rattle.oracle.specs.declared.oracles.Answer.{Answer as SearchAnswer}
 use Rattle.oracle.specs.declared.oracles.Answer.TheVariants.{Sat, Unsat}
 use Rattle.learning_trail.specs.Growing.{HasLearned}
 use Rattle.learning_trail.proofs.SearchTurns.{names_same}
@@ -39,7 +39,7 @@ refuted_id old new assumptions id refuted =
     record { from_one = omega (arith, last, count); last = omega (arith, last) }
 
 -- whatever a search answered
-pub made_answered : (m : Made) (old new : ProofLog) (assumptions : List Literal) (answer : Found) → AreMade m old.entries
+pub made_answered : (m : Made) (old new : ProofLog) (assumptions : List Literal) (answer : SearchAnswer) → AreMade m old.entries
     → (answer ≡ Sat → HasLearned old new) → ((id : ℕ) → answer ≡ Unsat id → IsRefutedUnder old new assumptions id) → AreMade m new.entries
 made_answered m old new assumptions Sat made sat unsat = made_learned m old new (sat refl) made
 made_answered m old new assumptions (Unsat id) made sat unsat = made_refuted m old new assumptions id (unsat id refl) made

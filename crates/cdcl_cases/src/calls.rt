@@ -143,7 +143,7 @@ pub fn values_of<O: Oracle>(
 
 /// What a search gave.
 #[derive(Drop)]
-pub enum Found {
+pub enum Outcome {
     /// The values of the variables in order.
     Values(Vec<bool>),
     /// The lines that an answer rests on, the answer last.
@@ -159,16 +159,16 @@ pub fn outcome_of<O: Oracle>(
     log: &Log,
     made: &Made,
     answer: Result<Answer, Stop>,
-) -> Result<Found>
+) -> Result<Outcome>
     requires fit { O.Fits oracle.now log.now }
     requires made { AreMade made.now log.now.entries }
     requires told { answer ≡ Ok Answer.Sat → O.is_told oracle.now ≡ true }
     requires id { (id : ℕ) → answer ≡ Ok (Answer.Unsat id) → IsId log.now.entries id }
 {
     match answer {
-        Ok(Answer::Sat) => Ok(Found::Values(values_of(alloc, oracle, log, made)?)),
-        Ok(Answer::Unsat(id)) => Ok(Found::Refuted(lines_of(alloc, log, made, id)?)),
-        Err(Stop::Limit) => Ok(Found::Limit),
+        Ok(Answer::Sat) => Ok(Outcome::Values(values_of(alloc, oracle, log, made)?)),
+        Ok(Answer::Unsat(id)) => Ok(Outcome::Refuted(lines_of(alloc, log, made, id)?)),
+        Err(Stop::Limit) => Ok(Outcome::Limit),
         Err(Stop::Memory) => Err(anyhow!("out of memory")),
     }
 }

@@ -3,7 +3,7 @@
 ghost use Rattle.std.specs.Prelude.{◌≡◌, ◌<◌, [], IfOk, length};
 ghost use Rattle.cdcl_cases.specs.Making.{AreMade};
 
-use crate::calls::{Found, Made, make_group, make_var, no_variables};
+use crate::calls::{Outcome, Made, make_group, make_var, no_variables};
 use crate::judging::Line;
 use crate::tables::{Given, Question, add_given, found_by};
 use anyhow::Result;
@@ -48,7 +48,7 @@ fn found_for<O: Oracle>(
     oracle: &mut O,
     log: &mut Log,
     formula: &Formula,
-) -> Result<Found>
+) -> Result<Outcome>
     requires fit { O.Fits oracle.old log.old }
     requires empty { log.old.entries ≡ [] }
 {
@@ -114,16 +114,16 @@ fn shifted(alloc: Global, formula: &Formula, j: usize) -> Result<Vec<i64>>
     Ok(numbers)
 }
 
-fn written(alloc: Global, found: &Found, steps: u64) -> Result<String> {
+fn written(alloc: Global, found: &Outcome, steps: u64) -> Result<String> {
     let shown = shown(alloc, found)?;
     Ok(format!(in alloc; "{shown}\nc {steps} learned")?)
 }
 
-fn shown(alloc: Global, found: &Found) -> Result<String> {
+fn shown(alloc: Global, found: &Outcome) -> Result<String> {
     match found {
-        Found::Values(values) => shown_values(alloc, values),
-        Found::Refuted(lines) => shown_lines(alloc, lines),
-        Found::Limit => Ok(String::from_str(alloc, "s UNKNOWN")?),
+        Outcome::Values(values) => shown_values(alloc, values),
+        Outcome::Refuted(lines) => shown_lines(alloc, lines),
+        Outcome::Limit => Ok(String::from_str(alloc, "s UNKNOWN")?),
     }
 }
 

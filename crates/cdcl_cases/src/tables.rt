@@ -12,7 +12,7 @@ ghost use Rattle.std.specs.Prelude.{[], IfOk};
 ghost use Rattle.cdcl_cases.specs.Making.{AreMade};
 
 use crate::calls::{
-    Found, Made, add_clause, make_group, make_var, no_variables, outcome_of, seal, search,
+    Outcome, Made, add_clause, make_group, make_var, no_variables, outcome_of, seal, search,
 };
 use crate::numbers::{excludes_itself, group_at, groups_at, plain_lits};
 use anyhow::{Result, anyhow};
@@ -176,7 +176,7 @@ pub fn found_by<O: Oracle>(
     log: &mut Log,
     made: &Made,
     question: &Question,
-) -> Result<Found>
+) -> Result<Outcome>
     requires ready { O.Fits oracle.old log.old × AreMade made.now log.old.entries }
     ensures ready { IfOk result
         (λ f. O.Fits oracle.new log.new × AreMade made.now log.new.entries) }
@@ -223,14 +223,14 @@ fn numbers_of(alloc: Global, text: &str) -> Result<Vec<i64>> {
     Ok(numbers)
 }
 
-fn shown(alloc: Global, given: &[Given], question: &Question, found: &Found) -> Result<String> {
+fn shown(alloc: Global, given: &[Given], question: &Question, found: &Outcome) -> Result<String> {
     match found {
-        Found::Values(values) => shown_values(alloc, given, question, values),
-        Found::Refuted(lines) => match lines.last() {
+        Outcome::Values(values) => shown_values(alloc, given, question, values),
+        Outcome::Refuted(lines) => match lines.last() {
             Some(answer) => shown_clause(alloc, &answer.literals),
             None => Ok(String::from_str(alloc, "Unsat without an answer")?),
         },
-        Found::Limit => Ok(String::from_str(alloc, "Limit")?),
+        Outcome::Limit => Ok(String::from_str(alloc, "Limit")?),
     }
 }
 

@@ -13,7 +13,7 @@ ghost use Rattle.learning_trail.specs.Growing.{HasLearned};
 ghost use Rattle.learning_trail.specs.Steps.{literals_of};
 ghost use Rattle.truth_values.specs.Truth.{literal_value};
 ghost use Rattle.learning_trail.specs.Searching.{AreAssumptions};
-ghost use Rattle.cdcl_core.specs.Searching.{IsReady, HasRoom, KeepsPlaces, IsSearching, IsFound};
+ghost use Rattle.cdcl_core.specs.Searching.{IsReady, HasRoom, KeepsPlaces, IsSearching, IsAnswered};
 ghost use Rattle.truth_values.specs.declared.values.TruthValue.TheVariants.{True};
 
 use crate::clauses::ClauseStore;

@@ -17,7 +17,7 @@ ghost use Rattle.learning_trail.specs.Growing.{HasLearned};
 ghost use Rattle.learning_trail.specs.Steps.{literals_of};
 ghost use Rattle.truth_values.specs.Truth.{IsFree};
 ghost use Rattle.learning_trail.specs.Searching.{AreAssumptions};
-ghost use Rattle.cdcl_core.specs.Searching.{IsReady, IsAllGuarded, IsTurn, KeepsPlaces, IsSearching, IsFound};
+ghost use Rattle.cdcl_core.specs.Searching.{IsReady, IsAllGuarded, IsTurn, KeepsPlaces, IsSearching, IsAnswered};
 ghost use Rattle.learning_trail.specs.Sound.{AreTrue};
 
 use crate::decisions::open_clause;
@@ -28,19 +28,19 @@ use hint_log::{Log, Name, Stop};
 use learning_trail::{
     Assumptions, Next, Step, answer_conflict, answer_false, free_decision, next_assumption,
 };
-use oracle::Answer as Found;
+use oracle::Answer;
 
 /// Searches to the end.
 pub(crate) fn search(
     s: &mut Searcher,
     assumptions: &Assumptions,
     log: &mut Log,
-) -> Result<Found, Stop>
+) -> Result<Answer, Stop>
     requires searching { IsSearching assumptions.now s.old log.old }
     requires ready { IsReady s.old }
     requires few { length s.old.trail.steps ≤ s.old.trail.room }
     requires assumptions { AreAssumptions log.old assumptions.now }
-    ensures ok { IfOk result (λ found. IsFound assumptions.now s.new log.old log.new found) }
+    ensures ok { IfOk result (λ found. IsAnswered assumptions.now s.new log.old log.new found) }
     ensures fit { Fit s.new.clauses.clauses s.new.variables log.new.entries }
     ensures places { KeepsPlaces s.old s.new }
     ensures stop { OnErr result (HasLearned log.old log.new) }
@@ -61,7 +61,7 @@ fn turn(
     assumptions: &Assumptions,
     made: &mut usize,
     log: &mut Log,
-) -> Result<Option<Found>, Stop>
+) -> Result<Option<Answer>, Stop>
     requires searching { IsSearching assumptions.now s.old log.old }
     requires ready { IsReady s.old }
     requires few { length s.old.trail.steps ≤ s.old.trail.room }
@@ -70,7 +70,7 @@ fn turn(
     ensures made { AreTrue (take made.new assumptions.now) (literals_of s.new.trail.steps) }
     ensures ok { IfOk result
         (λ found. MatchOption found (IsTurn assumptions.now s.old s.new log.old log.new)
-        (λ f. IsFound assumptions.now s.new log.old log.new f)) }
+        (λ f. IsAnswered assumptions.now s.new log.old log.new f)) }
     ensures fit { Fit s.new.clauses.clauses s.new.variables log.new.entries }
     ensures places { KeepsPlaces s.old s.new }
     ensures stop { OnErr result (HasLearned log.old log.new) }
@@ -94,7 +94,7 @@ fn conflict(
     assumptions: &Assumptions,
     id: u64,
     log: &mut Log,
-) -> Result<Option<Found>, Stop>
+) -> Result<Option<Answer>, Stop>
     requires searching { IsSearching assumptions.now s.old log.old }
     requires few { length s.old.trail.steps ≤ s.old.trail.room }
     requires assumptions { AreAssumptions log.old assumptions.now }
@@ -102,7 +102,7 @@ fn conflict(
         ≡ falsified }
     ensures ok { IfOk result
         (λ found. MatchOption found (IsTurn assumptions.now s.old s.new log.old log.new)
-        (λ f. IsFound assumptions.now s.new log.old log.new f)) }
+        (λ f. IsAnswered assumptions.now s.new log.old log.new f)) }
     ensures fit { Fit s.new.clauses.clauses s.new.variables log.new.entries }
     ensures places { KeepsPlaces s.old s.new }
     ensures stop { OnErr result (HasLearned log.old log.new) }
@@ -124,7 +124,7 @@ fn conflict(
                 id,
                 log,
             )?;
-            Ok(Some(Found::Unsat(answer)))
+            Ok(Some(Answer::Unsat(answer)))
         }
     }
 }
@@ -135,7 +135,7 @@ fn go_on(
     assumptions: &Assumptions,
     made: &mut usize,
     log: &mut Log,
-) -> Result<Option<Found>, Memory>
+) -> Result<Option<Answer>, Memory>
     requires searching { IsSearching assumptions.now s.old log.old }
     requires few { length s.old.trail.steps ≤ s.old.trail.room }
     requires closed { IsClosed (live_in s.old.clauses.clauses) (literals_of s.old.trail.steps) }
@@ -145,7 +145,7 @@ fn go_on(
     ensures made { AreTrue (take made.new assumptions.now) (literals_of s.new.trail.steps) }
     ensures ok { IfOk result
         (λ found. MatchOption found (IsTurn assumptions.now s.old s.new log.old log.new)
-        (λ f. IsFound assumptions.now s.new log.old log.new f)) }
+        (λ f. IsAnswered assumptions.now s.new log.old log.new f)) }
     ensures fit { Fit s.new.clauses.clauses s.new.variables log.new.entries }
     ensures places { KeepsPlaces s.old s.new }
     ensures err { OnErr result (log.new ≡ log.old) }
@@ -162,7 +162,7 @@ fn go_on(
                 l,
                 log,
             )?;
-            Ok(Some(Found::Unsat(answer)))
+            Ok(Some(Answer::Unsat(answer)))
         }
         Next::Free(l) => {
             s.positions.assume(s.trail.len());
@@ -174,7 +174,7 @@ fn go_on(
 }
 
 // Decides a variable in focus, or an open literal, or finds that every clause is true.
-fn settle(s: &mut Searcher, assumptions: &Assumptions, log: &Log) -> Option<Found>
+fn settle(s: &mut Searcher, assumptions: &Assumptions, log: &Log) -> Option<Answer>
     requires searching { IsSearching assumptions.now s.old log.now }
     requires closed { IsClosed (live_in s.old.clauses.clauses) (literals_of s.old.trail.steps) }
     requires guarded { IsAllGuarded s.old }
@@ -182,7 +182,7 @@ fn settle(s: &mut Searcher, assumptions: &Assumptions, log: &Log) -> Option<Foun
     ensures more { (t : Literal) → holds (literals_of s.old.trail.steps) t ≡ true
         → holds (literals_of s.new.trail.steps) t ≡ true }
     ensures ok { MatchOption result (IsTurn assumptions.now s.old s.new log.now log.now)
-        (λ f. IsFound assumptions.now s.new log.now log.now f) }
+        (λ f. IsAnswered assumptions.now s.new log.now log.now f) }
     ensures fit { Fit s.new.clauses.clauses s.new.variables log.now.entries }
     ensures places { KeepsPlaces s.old s.new }
 {
@@ -197,7 +197,7 @@ fn settle(s: &mut Searcher, assumptions: &Assumptions, log: &Log) -> Option<Foun
 }
 
 // Makes an open literal true, or finds that every clause is.
-fn decide_open(s: &mut Searcher, assumptions: &Assumptions, log: &Log) -> Option<Found>
+fn decide_open(s: &mut Searcher, assumptions: &Assumptions, log: &Log) -> Option<Answer>
     requires searching { IsSearching assumptions.now s.old log.now }
     requires closed { IsClosed (live_in s.old.clauses.clauses) (literals_of s.old.trail.steps) }
     requires guarded { IsAllGuarded s.old }
@@ -205,7 +205,7 @@ fn decide_open(s: &mut Searcher, assumptions: &Assumptions, log: &Log) -> Option
     ensures more { (t : Literal) → holds (literals_of s.old.trail.steps) t ≡ true
         → holds (literals_of s.new.trail.steps) t ≡ true }
     ensures ok { MatchOption result (IsTurn assumptions.now s.old s.new log.now log.now)
-        (λ f. IsFound assumptions.now s.new log.now log.now f) }
+        (λ f. IsAnswered assumptions.now s.new log.now log.now f) }
     ensures fit { Fit s.new.clauses.clauses s.new.variables log.now.entries }
     ensures places { KeepsPlaces s.old s.new }
 {
@@ -216,7 +216,7 @@ fn decide_open(s: &mut Searcher, assumptions: &Assumptions, log: &Log) -> Option
             decide(s, assumptions, open.literal, log);
             None
         }
-        None => Some(Found::Sat),
+        None => Some(Answer::Sat),
     }
 }
 

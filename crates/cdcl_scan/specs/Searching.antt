@@ -2,9 +2,9 @@
 use Rattle.std.specs.Prelude.{◌≡◌, ℕ, ◌+◌, ◌-◌, ◌*◌, ◌≤◌, ◌<◌, List, length, ◌⊎◌}
 use Rattle.dq_lits.specs.Literal.{Literal}
 use Rattle.hint_log.specs.Entries.{ProofLog, steps_of}
-use Rattle.oracle.specs.declared.oracles.Answer.{Answer as Found}
+use Rattle.oracle.specs.declared.oracles.Answer.{Answer}
 use Rattle.learning_trail.specs.Growing.{HasLearned}
-use Rattle.learning_trail.specs.Searching.{Searched, IsSearching as IsAtSearch, IsFound as IsFoundBy}
+use Rattle.learning_trail.specs.Searching.{Searched, IsSearching as IsAtSearch, IsAnswered as IsAnsweredBy}
 use Rattle.cdcl_scan.specs.declared.searchers.Searcher.{Searcher}
 
 -- what of it an analysis sees
@@ -46,8 +46,8 @@ pub record IsTurn (assumptions : List Literal) (s t : Searcher) (old new : Proof
   pub few : length t.trail.steps ≤ t.trail.room
   pub closer : left_of t new < left_of s old
 
-abbrev pub IsFound : List Literal → Searcher → ProofLog → ProofLog → Found → Type 0
-IsFound assumptions s old new found = IsFoundBy assumptions (searched s) old new found
+abbrev pub IsAnswered : List Literal → Searcher → ProofLog → ProofLog → Answer → Type 0
+IsAnswered assumptions s old new found = IsAnsweredBy assumptions (searched s) old new found
 
 -- marks have a place for each variable that there is room for
 abbrev pub HasRoom : Searcher → Type 0

@@ -17,7 +17,7 @@ ghost use Rattle.learning_trail.specs.Growing.{HasLearned};
 ghost use Rattle.learning_trail.specs.Steps.{literals_of};
 ghost use Rattle.truth_values.specs.Truth.{IsFree};
 ghost use Rattle.learning_trail.specs.Searching.{AreAssumptions};
-ghost use Rattle.cdcl_scan.specs.Searching.{IsTurn, KeepsPlaces, IsSearching, IsFound};
+ghost use Rattle.cdcl_scan.specs.Searching.{IsTurn, KeepsPlaces, IsSearching, IsAnswered};
 ghost use Rattle.learning_trail.specs.Sound.{AreTrue};
 
 use crate::decisions::newest_open;
@@ -29,18 +29,18 @@ use hint_log::{Log, Stop};
 use learning_trail::{
     Assumptions, Next, Step, answer_conflict, answer_false, free_decision, next_assumption,
 };
-use oracle::Answer as Found;
+use oracle::Answer;
 
 /// Searches to the end.
 pub(crate) fn search(
     s: &mut Searcher,
     assumptions: &Assumptions,
     log: &mut Log,
-) -> Result<Found, Stop>
+) -> Result<Answer, Stop>
     requires searching { IsSearching assumptions.now s.old log.old }
     requires few { length s.old.trail.steps ≤ s.old.trail.room }
     requires assumptions { AreAssumptions log.old assumptions.now }
-    ensures ok { IfOk result (λ found. IsFound assumptions.now s.new log.old log.new found) }
+    ensures ok { IfOk result (λ found. IsAnswered assumptions.now s.new log.old log.new found) }
     ensures fit { Fit s.new.clauses.clauses s.new.variables log.new.entries }
     ensures places { KeepsPlaces s.old s.new }
     ensures stop { OnErr result (HasLearned log.old log.new) }
@@ -55,13 +55,13 @@ pub(crate) fn search(
 }
 
 // One conflict, or one decision.
-fn turn(s: &mut Searcher, assumptions: &Assumptions, log: &mut Log) -> Result<Option<Found>, Stop>
+fn turn(s: &mut Searcher, assumptions: &Assumptions, log: &mut Log) -> Result<Option<Answer>, Stop>
     requires searching { IsSearching assumptions.now s.old log.old }
     requires few { length s.old.trail.steps ≤ s.old.trail.room }
     requires assumptions { AreAssumptions log.old assumptions.now }
     ensures ok { IfOk result
         (λ found. MatchOption found (IsTurn assumptions.now s.old s.new log.old log.new)
-        (λ f. IsFound assumptions.now s.new log.old log.new f)) }
+        (λ f. IsAnswered assumptions.now s.new log.old log.new f)) }
     ensures fit { Fit s.new.clauses.clauses s.new.variables log.new.entries }
     ensures places { KeepsPlaces s.old s.new }
     ensures stop { OnErr result (HasLearned log.old log.new) }
@@ -82,7 +82,7 @@ fn conflict(
     assumptions: &Assumptions,
     id: u64,
     log: &mut Log,
-) -> Result<Option<Found>, Stop>
+) -> Result<Option<Answer>, Stop>
     requires searching { IsSearching assumptions.now s.old log.old }
     requires few { length s.old.trail.steps ≤ s.old.trail.room }
     requires assumptions { AreAssumptions log.old assumptions.now }
@@ -90,7 +90,7 @@ fn conflict(
         ≡ falsified }
     ensures ok { IfOk result
         (λ found. MatchOption found (IsTurn assumptions.now s.old s.new log.old log.new)
-        (λ f. IsFound assumptions.now s.new log.old log.new f)) }
+        (λ f. IsAnswered assumptions.now s.new log.old log.new f)) }
     ensures fit { Fit s.new.clauses.clauses s.new.variables log.new.entries }
     ensures places { KeepsPlaces s.old s.new }
     ensures stop { OnErr result (HasLearned log.old log.new) }
@@ -112,7 +112,7 @@ fn conflict(
                 id,
                 log,
             )?;
-            Ok(Some(Found::Unsat(answer)))
+            Ok(Some(Answer::Unsat(answer)))
         }
     }
 }
@@ -122,14 +122,14 @@ fn go_on(
     s: &mut Searcher,
     assumptions: &Assumptions,
     log: &mut Log,
-) -> Result<Option<Found>, Memory>
+) -> Result<Option<Answer>, Memory>
     requires searching { IsSearching assumptions.now s.old log.old }
     requires few { length s.old.trail.steps ≤ s.old.trail.room }
     requires closed { IsClosed (live_in s.old.clauses.clauses) (literals_of s.old.trail.steps) }
     requires assumptions { AreAssumptions log.old assumptions.now }
     ensures ok { IfOk result
         (λ found. MatchOption found (IsTurn assumptions.now s.old s.new log.old log.new)
-        (λ f. IsFound assumptions.now s.new log.old log.new f)) }
+        (λ f. IsAnswered assumptions.now s.new log.old log.new f)) }
     ensures fit { Fit s.new.clauses.clauses s.new.variables log.new.entries }
     ensures places { KeepsPlaces s.old s.new }
     ensures err { OnErr result (log.new ≡ log.old) }
@@ -145,7 +145,7 @@ fn go_on(
                 l,
                 log,
             )?;
-            Ok(Some(Found::Unsat(answer)))
+            Ok(Some(Answer::Unsat(answer)))
         }
         Next::Free(l) => {
             decide(s, assumptions, l, log);
@@ -156,12 +156,12 @@ fn go_on(
 }
 
 // Makes an open literal true, or finds that every clause is.
-fn settle(s: &mut Searcher, assumptions: &Assumptions, log: &Log) -> Option<Found>
+fn settle(s: &mut Searcher, assumptions: &Assumptions, log: &Log) -> Option<Answer>
     requires searching { IsSearching assumptions.now s.old log.now }
     requires closed { IsClosed (live_in s.old.clauses.clauses) (literals_of s.old.trail.steps) }
     requires assumed { AreTrue assumptions.now (literals_of s.old.trail.steps) }
     ensures ok { MatchOption result (IsTurn assumptions.now s.old s.new log.now log.now)
-        (λ f. IsFound assumptions.now s.new log.now log.now f) }
+        (λ f. IsAnswered assumptions.now s.new log.now log.now f) }
     ensures fit { Fit s.new.clauses.clauses s.new.variables log.now.entries }
     ensures places { KeepsPlaces s.old s.new }
 {
@@ -170,7 +170,7 @@ fn settle(s: &mut Searcher, assumptions: &Assumptions, log: &Log) -> Option<Foun
             decide(s, assumptions, l, log);
             None
         }
-        None => Some(Found::Sat),
+        None => Some(Answer::Sat),
     }
 }
 

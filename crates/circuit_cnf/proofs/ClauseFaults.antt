@@ -1,5 +1,5 @@
 -- Faults of a clause, one literal after the other.
-use Rattle.std.proofs.Common.{◌≡◌, ℕ, suc, ◌+◌, ◌≤◌, ◌<◌, Bool, true, false, cond, ◌||◌, inl, inr, ◌⊎◌, List, [], ◌∷◌, length, get_or, slice_get, Some, None, refl, sym, ◌∙◌, ap, subst, arith}
+use Rattle.std.proofs.Common.{◌≡◌, ℕ, suc, ◌+◌, ◌≤◌, ◌<◌, Bool, true, false, cond, ◌||◌, inl, inr, List, [], ◌∷◌, length, get_or, slice_get, Some, refl, sym, ◌∙◌, ap, subst, arith}
 use Rattle.std.specs.List.{list_any}
 use Rattle.std.specs.Option.{option_map, option_and_then}
 use Rattle.std.proofs.lemmas.List.{get_or_default}
@@ -10,17 +10,13 @@ use Rattle.hint_log.specs.Entries.{Entry}
 use Rattle.hint_log.specs.Entries.{Given}
 use Rattle.hint_log.specs.declared.origins.Leaf.{Leaf}
 use Rattle.hint_log.specs.declared.origins.Origin.TheVariants.{Fault}
-use Rattle.hint_log.specs.Entries.{ProofLog, with_entry, name_of}
-use Rattle.hint_log.specs.Growth.{Grew}
+use Rattle.hint_log.specs.Entries.{name_of}
 use Rattle.hint_log.specs.declared.origins.Leaf.TheVariants.{Constant, Literal as LeafLiteral}
 use Rattle.hint_log.specs.Conditions.{is_circuit_name}
 use Rattle.hint_log.specs.Origins.{matrix_literal, IsLeafOf}
 use Rattle.log_laws.proofs.Found.{slice_get_at}
 use Rattle.hint_log.specs.ProductiveLog.{fault_groups, with_group, fault_room}
-use Rattle.log_laws.specs.Engines.{circuits, IsAddedBy}
-use Rattle.log_laws.proofs.LargerLogs.{grown_then}
-use Rattle.aig_graph.proofs.LargerGraphs.{below_or_here}
-use Rattle.circuit_cnf.specs.Faults.{HasFault, HaveFaults, HaveOneLeaf, AreFewWith}
+use Rattle.circuit_cnf.specs.Faults.{HasFault, HaveOneLeaf, AreFewWith}
 use Rattle.circuit_cnf.proofs.GivenGates.{contains_cases, contains_more}
 
 -- a group counts once

@@ -27,7 +27,7 @@ use Rattle.oracle.specs.declared.groups.Group.{Group}
 use Rattle.circuit_cnf.specs.Faults.{HaveOneLeaf, AreFewWith, IsBadAt, HaveAllFaults, NamesBadsAlone, IsNamingBads, AreGiven, AreNamedAndSaid, AreSaid, GrewByGroup}
 use Rattle.circuit_cnf.proofs.NamedBads.{bad_name}
 use Rattle.circuit_cnf.proofs.GivenGates.{contains_cases, contains_first}
-use Rattle.circuit_cnf.proofs.ClauseFaults.{few_more, fault_stays}
+use Rattle.circuit_cnf.proofs.ClauseFaults.{fault_stays}
 
 pub record GroupSoFar (f : Dqbf) (group : ℕ) (leaf : ℕ → Leaf) (old log : ProofLog) : Type 0 where
   pub grew : GrewByGroup f group old log

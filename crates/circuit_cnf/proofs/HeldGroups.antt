@@ -1,5 +1,5 @@
 -- An answer to the gates' group and the faults' group.
-use Rattle.std.proofs.Common.{◌≡◌, ℕ, Bool, true, false, ◌||◌, inl, inr, ◌⊎◌, List, [], ◌∷◌, ◌++◌, None, Some, refl, sym, ◌∙◌, ap, subst}
+use Rattle.std.proofs.Common.{◌≡◌, ℕ, Bool, true, false, ◌||◌, inl, inr, ◌⊎◌, List, [], ◌∷◌, ◌++◌, Some, refl, sym, ◌∙◌, ap, subst}
 use Rattle.std.specs.List.{All, Contains}
 use Rattle.std.proofs.lemmas.Bool.{true≢false, or_cases, eq-eqb}
 use Rattle.std.proofs.lemmas.List.Elements.{All-cons, All-nil, Contains-append_right}
@@ -22,9 +22,8 @@ use Rattle.log_laws.proofs.LargerLogs.{each_grown}
 use Rattle.oracle.specs.Calls.{IsLearnedEntry, IsRefutedUnder}
 use Rattle.oracle.specs.Searched.{IsSearched, IsGivenToGroup, IsOfGroup}
 use Rattle.oracle.proofs.ExcludedAssignments.{same-sound}
-use Rattle.circuit_cnf.specs.Faults.{HaveOneLeaf}
 use Rattle.circuit_cnf.specs.Gates.{IsGateClause, IsGateGiven}
-use Rattle.circuit_cnf.specs.Turning.{AreTwoGroups, NamesAreKept, IsHeldBy}
+use Rattle.circuit_cnf.specs.Turning.{AreTwoGroups, IsHeldBy}
 use Rattle.circuit_cnf.proofs.GivenGates.{contains_cases, contains_first}
 
 -- a literal whose opposite is one of two selectors

@@ -1,7 +1,7 @@
 -- A group whose clauses have their variables may still say what it says of them.
 use Rattle.hint_log.specs.Entries.{ProofLog}
 use Rattle.circuit_cnf.specs.Saying.{MaySay, leaf_in, selector_in}
-use Rattle.circuit_cnf.specs.declared.faults.Faults.{Faults}
+use Rattle.circuit_cnf.specs.declared.fault_clauses.Faults.{Faults}
 use Rattle.circuit_cnf.proofs.GroupFaults.{GroupSoFar, made_stays, leaf_of_stays}
 
 pub may_say_named : (s : Faults) (old new : ProofLog) → MaySay s old.entries → GroupSoFar s.f.now (selector_in s) (leaf_in s) old new → MaySay s new.entries

@@ -1,6 +1,6 @@
 -- What a group says, fault after fault.
-use Rattle.std.proofs.Common.{◌≡◌, ℕ, suc, ◌+◌, ◌≤◌, ◌<◌, true, false, inl, inr, ◌⊎◌, not, List, [], ◌∷◌, ◌++◌, length, get_or, slice_get, Some, None, refl, sym, ◌∙◌, ap, subst, arith}
-use Rattle.std.specs.List.{All, Contains}
+use Rattle.std.proofs.Common.{◌≡◌, ℕ, ◌+◌, ◌≤◌, ◌<◌, true, false, inl, inr, ◌⊎◌, not, List, [], ◌∷◌, ◌++◌, length, get_or, slice_get, Some, refl, sym, ◌∙◌, ap, subst}
+use Rattle.std.specs.List.{Contains}
 use Rattle.std.proofs.lemmas.List.Elements.{Contains-append_right}
 use Rattle.dq_lits.specs.Literal.{Literal, positive, negative, variable_of, is_negative, opposite}
 use Rattle.dq_lits.specs.Formula.{Dqbf, declared}
@@ -15,10 +15,10 @@ use Rattle.log_laws.proofs.LargerLogs.{grown_then}
 use Rattle.aig_graph.proofs.LargerGraphs.{below_or_here}
 use Rattle.circuit_cnf.specs.Faults.{AreSaid, HasFault, HaveFaults, HaveAllFaults, AreFewWith, HaveOneLeaf, AreBads}
 use Rattle.circuit_cnf.specs.Saying.{MaySay, leaf_in, selector_in}
-use Rattle.circuit_cnf.specs.declared.faults.Faults.{Faults}
+use Rattle.circuit_cnf.specs.declared.fault_clauses.Faults.{Faults}
 use Rattle.circuit_cnf.proofs.ClauseFaults.{few_more, one_leaf_more, leaf_stays_leaf}
 use Rattle.circuit_cnf.proofs.GivenFaults.{IsFaultReady, fault_grown}
-use Rattle.circuit_cnf.proofs.GivenGates.{contains_cases, selector_is}
+use Rattle.circuit_cnf.proofs.GivenGates.{selector_is}
 use Rattle.circuit_cnf.proofs.GroupFaults.{some_leaf_more}
 use Rattle.circuit_cnf.proofs.SomeFault.{some_grown}
 

@@ -9,7 +9,7 @@ use Rattle.hint_log.specs.declared.origins.Leaf.{Leaf}
 use Rattle.hint_log.specs.Origins.{IsLeafOf}
 use Rattle.oracle.specs.Calls.{IsMade}
 use Rattle.circuit_cnf.specs.Faults.{leaf_of, AreFewWith, HaveOneLeaf}
-use Rattle.circuit_cnf.specs.declared.faults.Faults.{Faults}
+use Rattle.circuit_cnf.specs.declared.fault_clauses.Faults.{Faults}
 
 -- the variable of the group
 abbrev pub selector_in : Faults → ℕ

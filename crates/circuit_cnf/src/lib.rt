@@ -9,7 +9,7 @@ pub use turns::Turn;
 mod checkers;
 mod circuits;
 mod failures;
-mod faults;
+mod fault_clauses;
 mod gates;
 pub mod laws;
 mod leaves;

@@ -23,7 +23,7 @@ ghost use Rattle.circuit_cnf.specs.Turning.{AreFailing, AreLeavesOf, HasTurned, 
 use crate::checkers::Checker;
 use crate::circuits::Circuit;
 use crate::failures::false_clause;
-use crate::faults::Faults;
+use crate::fault_clauses::Faults;
 use crate::laws::shown_outputs_hold;
 use crate::leaves::{Cone, cone_literals, node_leaves};
 use aig_graph::{Graph, Node};

@@ -27,20 +27,16 @@ pub fn read_all<F: Files>(
     ensures longer { (bytes : List ℕ) →
         F.held files.old name.now ≡ Holds bytes → F.given files.new ≤ length bytes }
     ensures absent { F.held files.old name.now ≡ Absent → result ≡ Err ReadStop.Fault }
-
     // Over all files, `given` decides what is too long.
     ensures count { IfOk result (λ v. F.given files.new ≡ length v.items) }
     ensures end { OnOk result (IsAtEnd (F.rest files.new)) }
     ensures too_long { IsErrOf result ReadStop.TooLong ↔ (limit < F.given files.new) }
-
     // A fault has its cause, and where one is counted it is the answer.
     ensures fault { IsErrOf result ReadStop.Fault → Rose (F.faults files.old) (F.faults files.new) }
     ensures unfaulted { ¬ IsErrOf result ReadStop.Fault → F.faults files.new ≡ F.faults files.old }
     ensures later { F.faults files.old ≤ F.faults files.new }
     ensures held { F.held files.new ≡ F.held files.old }
-
-    // One file is picked. Over files that are told to be reliable only one that isn't held is a
-    // fault.
+    // One file is picked. Over reliable files only one that isn't held is a fault.
     ensures picked { F.picks files.new ≡ next_count (F.picks files.old) }
     ensures reliable { F.reliable files.old ≡ true → IsErrOf result ReadStop.Fault →
         F.held files.old name.now ≡ Absent }

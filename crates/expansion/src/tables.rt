@@ -232,8 +232,7 @@ impl Table {
             → result ≡ Ok (Exp.Model points)
             → ArePoints f self.old.rows (point_bits points) }
         ensures refuted { (f : Dqbf) (id : ℕ) → IsFullTable f self.old log.old.entries
-            → result ≡ Ok (Exp.Refuted id)
-            → IsExpansionUnsatisfiable f self.old.rows }
+            → result ≡ Ok (Exp.Refuted id) → IsExpansionUnsatisfiable f self.old.rows }
         ensures shown { (id : ℕ) → result ≡ Ok (Exp.Refuted id) → IsRefutedBy log.new.entries id }
         ensures limit { IsErrOf result Stop.Limit → IsAtLimit log.new (positive self.old.group ∷ []) }
     {

@@ -15,13 +15,13 @@ use Rattle.oracle.specs.Fit.{Fit, live_in}
 use Rattle.oracle.specs.Searched.{Stands}
 use Rattle.oracle.specs.Calls.{IsLearnedEntry, IsRefutedUnder}
 use Rattle.learning_trail.specs.Growing.{HasLearned}
-use Rattle.oracle.specs.declared.oracles.Answer.{Answer as Found}
+use Rattle.oracle.specs.declared.oracles.Answer.{Answer as SearchAnswer}
 use Rattle.oracle.specs.declared.oracles.Answer.TheVariants.{Sat, Unsat}
 use Rattle.learning_trail.specs.declared.trails.Step.{Step}
 use Rattle.learning_trail.specs.Steps.{literals_of, is_decision, is_none, decision_of, Grown, Shrunk}
 use Rattle.learning_trail.specs.Sound.{IsSound, IsReasoned, IsGuided, AreAssumed}
 use Rattle.learning_trail.specs.Passes.{AreWithin, IsOpening}
-use Rattle.learning_trail.specs.Searching.{Searched, AreAssumptions, IsFound}
+use Rattle.learning_trail.specs.Searching.{Searched, AreAssumptions, IsAnswered}
 use Rattle.truth_values.proofs.HeldLiterals.{holds_first, holds_later, holds_cases, one_variable}
 use Rattle.learning_trail.proofs.ConflictAnalysis.{sound_consistent}
 use Rattle.learning_trail.proofs.Lessons.{sound_later, guided_later}
@@ -127,7 +127,7 @@ refuted_later a b c assumptions id learned refuted = record {
   negated = refuted.negated;
 }
 
-pub found_later : (assumptions : List Literal) (s : Searched) (a b c : ProofLog) (found : Found) → HasLearned a b → IsFound assumptions s b c found → IsFound assumptions s a c found
+pub found_later : (assumptions : List Literal) (s : Searched) (a b c : ProofLog) (found : SearchAnswer) → HasLearned a b → IsAnswered assumptions s b c found → IsAnswered assumptions s a c found
 found_later assumptions s a b c Sat learned found = (learned_both a b c learned found.0, found.1)
 found_later assumptions s a b c (Unsat id) learned found = refuted_later a b c assumptions id learned found
 

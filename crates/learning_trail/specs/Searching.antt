@@ -7,7 +7,7 @@ use Rattle.hint_log.specs.Entries.{ProofLog, name_of}
 use Rattle.hint_log.specs.Naming.{is_selector}
 use Rattle.oracle.specs.Fit.{Fit, live_in}
 use Rattle.oracle.specs.Calls.{IsRefutedUnder}
-use Rattle.oracle.specs.declared.oracles.Answer.{Answer as Found}
+use Rattle.oracle.specs.declared.oracles.Answer.{Answer}
 use Rattle.oracle.specs.declared.oracles.Answer.TheVariants.{Sat, Unsat}
 use Rattle.learning_trail.specs.Growing.{HasLearned}
 use Rattle.learning_trail.specs.Steps.{Trailed, literals_of}
@@ -43,6 +43,6 @@ pub record IsSatisfied (assumptions : List Literal) (s : Searched) : Type 0 wher
   pub assumed : AreTrue assumptions (literals_of s.trail.steps)
   pub clauses : All (λ c. list_any (holds (literals_of s.trail.steps)) c ≡ true) s.clauses
 
-abbrev pub IsFound : List Literal → Searched → ProofLog → ProofLog → Found → Type 0
-IsFound assumptions s old new Sat = HasLearned old new × IsSatisfied assumptions s
-IsFound assumptions s old new (Unsat id) = IsRefutedUnder old new assumptions id
+abbrev pub IsAnswered : List Literal → Searched → ProofLog → ProofLog → Answer → Type 0
+IsAnswered assumptions s old new Sat = HasLearned old new × IsSatisfied assumptions s
+IsAnswered assumptions s old new (Unsat id) = IsRefutedUnder old new assumptions id

@@ -22,7 +22,7 @@ use std::alloc::Global;
 
 // Candidates, or the id of the answer that refutes the rows.
 #[derive(Drop)]
-pub(crate) enum Found {
+pub(crate) enum Proposal {
     Candidates(Outputs),
     Refuted(u64),
 }
@@ -36,7 +36,7 @@ impl Engines {
         graph: &mut Graph,
         f: &Formula,
         log: &mut Log,
-    ) -> Result<Found, Stop>
+    ) -> Result<Proposal, Stop>
         requires fit { O.Fits oracle.old log.old }
         requires search { IsSearch f.now graph.old self.old.table self.old.checker
             self.old.definitions.padoa log.old.entries }
@@ -48,16 +48,16 @@ impl Engines {
         ensures padoa { self.new.definitions.padoa ≡ self.old.definitions.padoa }
         ensures kept { IsKept f.now log.new.entries }
         ensures grew { LogGrew log.old log.new }
-        ensures refuted { (id : ℕ) → result ≡ Ok (Found.Refuted id)
+        ensures refuted { (id : ℕ) → result ≡ Ok (Proposal.Refuted id)
             → IsShownFalse f.now log.new id }
-        ensures search { (outputs : _) → result ≡ Ok (Found.Candidates outputs)
+        ensures search { (outputs : _) → result ≡ Ok (Proposal.Candidates outputs)
             → IsSearch f.now graph.new self.new.table self.new.checker self.new.definitions.padoa
             log.new.entries }
-        ensures known { (outputs : _) → result ≡ Ok (Found.Candidates outputs)
+        ensures known { (outputs : _) → result ≡ Ok (Proposal.Candidates outputs)
             → AreKnown f.now self.new.definitions.ranks.items graph.new
             self.new.definitions.nodes.items self.new.definitions.rules.items
             self.new.definitions.guesses.items }
-        ensures candidates { (outputs : _) → result ≡ Ok (Found.Candidates outputs)
+        ensures candidates { (outputs : _) → result ≡ Ok (Proposal.Candidates outputs)
             → AreBuilt f.now graph.new self.new.table.rows outputs }
         ensures undecided { OnErr result (IsUndecided f.now log.new.entries) }
         ensures limit { IsErrOf result Stop.Limit → IsAtSomeLimit log.new }
@@ -66,7 +66,7 @@ impl Engines {
         checkers_stay();
         engines_leave_copies();
         match self.table.solve(oracle, log)? {
-            Exp::Refuted(id) => Ok(Found::Refuted(id)),
+            Exp::Refuted(id) => Ok(Proposal::Refuted(id)),
             Exp::Model(points) => {
                 let model = TableModel {
                     table: &self.table,
@@ -85,7 +85,7 @@ impl Engines {
                     &self.definitions.guesses,
                     graph,
                 )?;
-                Ok(Found::Candidates(outputs))
+                Ok(Proposal::Candidates(outputs))
             }
         }
     }

@@ -7,7 +7,7 @@ ghost use Rattle.hint_log.specs.ProductiveLog.{IsProductiveLog};
 ghost use Rattle.repair_loop.specs.Searching.{IsKept, HasInputs, AreKnown, IsSearch, IsShownTrue, IsShownFalse};
 ghost use Rattle.repair_loop.specs.Stopping.{IsStoppedAtLimit};
 
-use crate::candidates::Found;
+use crate::candidates::Proposal;
 use crate::definitions::{Definitions, find_definitions};
 use crate::judging::{Candidates, Judged};
 use crate::universal_clauses::{find_false_clause, refute};
@@ -121,8 +121,8 @@ impl Engines {
         engines_leave_copies();
         loop {
             let outputs = match self.find_candidates(oracle, graph, f, log)? {
-                Found::Candidates(outputs) => outputs,
-                Found::Refuted(id) => return Ok(Verdict::False(id)),
+                Proposal::Candidates(outputs) => outputs,
+                Proposal::Refuted(id) => return Ok(Verdict::False(id)),
             };
             let candidates = Candidates {
                 graph,

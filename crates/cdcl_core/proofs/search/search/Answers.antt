@@ -1,7 +1,7 @@
 use Rattle.std.proofs.Common.{◌∙◌, subst, Ok, Err, Option, MatchOption, OnErr, Result}
 use Rattle.learning_trail.specs.Growing.{HasLearned}
-use Rattle.oracle.specs.declared.oracles.Answer.{Answer as Found}
-use Rattle.cdcl_core.specs.Searching.{IsTurn, IsFound, searched}
+use Rattle.oracle.specs.declared.oracles.Answer.{Answer}
+use Rattle.cdcl_core.specs.Searching.{IsTurn, IsAnswered, searched}
 use Rattle.learning_trail.proofs.SearchTurns.{assumptions_same, learned_both, found_later}
 use Rattle.cdcl_core.proofs.search.search.Goals as goal
 
@@ -21,7 +21,7 @@ pub turns-preserved : goal.turns-preserved
 turns-preserved c =
     let asm = c.args.assumptions.now in
     let turned : IsTurn asm c.turns.s c.turn.new.s c.turns.log c.turn.new.log =
-    subst (λ (o : Option Found). MatchOption o (IsTurn asm c.turns.s c.turn.new.s c.turns.log c.turn.new.log) (λ f. IsFound asm c.turn.new.s c.turns.log c.turn.new.log f)) c.in-None.is c.in_ok-turn.ensures.ok in
+    subst (λ (o : Option Answer). MatchOption o (IsTurn asm c.turns.s c.turn.new.s c.turns.log c.turn.new.log) (λ f. IsAnswered asm c.turn.new.s c.turns.log c.turn.new.log f)) c.in-None.is c.in_ok-turn.ensures.ok in
     let inv = c.turns.invariant.running in
     record {
       running = record {
@@ -41,6 +41,6 @@ turns-preserved c =
 pub returns-in-Some-clause-ok : goal.returns-in-Some-clause-ok
 returns-in-Some-clause-ok c =
     let asm = c.args.assumptions.now in
-    let found : IsFound asm c.turn.new.s c.turns.log c.turn.new.log c.in-Some.found =
-    subst (λ (o : Option Found). MatchOption o (IsTurn asm c.turns.s c.turn.new.s c.turns.log c.turn.new.log) (λ f. IsFound asm c.turn.new.s c.turns.log c.turn.new.log f)) c.in-Some.is c.in_ok-turn.ensures.ok in
+    let found : IsAnswered asm c.turn.new.s c.turns.log c.turn.new.log c.in-Some.found =
+    subst (λ (o : Option Answer). MatchOption o (IsTurn asm c.turns.s c.turn.new.s c.turns.log c.turn.new.log) (λ f. IsAnswered asm c.turn.new.s c.turns.log c.turn.new.log f)) c.in-Some.is c.in_ok-turn.ensures.ok in
     found_later asm (searched c.turn.new.s) c.args.log.now c.turns.log c.turn.new.log c.in-Some.found c.turns.invariant.running.learned found

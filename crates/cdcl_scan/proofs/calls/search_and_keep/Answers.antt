@@ -1,7 +1,7 @@
 use Rattle.std.proofs.Common.{subst, arith}
-use Rattle.oracle.specs.declared.oracles.Answer.{Answer as Found}
+use Rattle.oracle.specs.declared.oracles.Answer.{Answer}
 use Rattle.oracle.specs.declared.oracles.Answer.TheVariants.{Sat}
-use Rattle.cdcl_scan.specs.Searching.{IsFound, searched}
+use Rattle.cdcl_scan.specs.Searching.{IsAnswered, searched}
 use Rattle.learning_trail.proofs.FoundModels.{found_model}
 use Rattle.cdcl_scan.proofs.calls.search_and_keep.Goals as goal
 
@@ -11,7 +11,7 @@ returns-in-Sat-clause-sat c = λ _.
     let s = c.search.new.s in
     let old = c.args.log.now in
     let new = c.search.new.log in
-    let found : IsFound asm s old new Sat = subst (λ (f : Found). IsFound asm s old new f) c.in-Sat.is c.in_ok-search.ensures.ok in
+    let found : IsAnswered asm s old new Sat = subst (λ (f : Answer). IsAnswered asm s old new f) c.in-Sat.is c.in_ok-search.ensures.ok in
     let len = c.keep_values.ensures.len in
     let vars = c.search.ensures.places.variables in
     let first = c.requires.model in (

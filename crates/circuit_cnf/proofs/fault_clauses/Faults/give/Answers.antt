@@ -1,7 +1,7 @@
 use Rattle.circuit_cnf.specs.Saying.{MaySay, leaf_in, selector_in}
 use Rattle.circuit_cnf.proofs.GroupFaults.{after_bads, after_all, so_far_is_said}
 use Rattle.circuit_cnf.proofs.NamedGroups.{may_say_named}
-use Rattle.circuit_cnf.proofs.faults.Faults.give.Goals as goal
+use Rattle.circuit_cnf.proofs.fault_clauses.Faults.give.Goals as goal
 
 pub returns-in_err-bads-clause-said : goal.returns-in_err-bads-clause-said
 returns-in_err-bads-clause-said g c =

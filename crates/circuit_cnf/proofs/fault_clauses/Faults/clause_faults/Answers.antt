@@ -6,7 +6,7 @@ use Rattle.circuit_cnf.specs.Faults.{HasFault}
 use Rattle.circuit_cnf.specs.Saying.{leaf_in, selector_in}
 use Rattle.circuit_cnf.proofs.ClauseFaults.{literal_there, same_element}
 use Rattle.circuit_cnf.proofs.SaidFaults.{nothing_said, may_say_on, said_then, next_fault}
-use Rattle.circuit_cnf.proofs.faults.Faults.clause_faults.Goals as goal
+use Rattle.circuit_cnf.proofs.fault_clauses.Faults.clause_faults.Goals as goal
 
 pub loop-i-init : goal.loop-i-init
 loop-i-init g c = (c.requires.fit, record { said = nothing_said c.args.self.now c.args.log.now c.requires.may; given = λ i l below is. absurd (omega (arith, below)) })
@@ -42,6 +42,7 @@ loop-i-preserved g c =
     let same = same_element clause i c.index-clause-i-in-loop-i.result l c.loop-i-test.true c.index-clause-i-in-loop-i.is c.index-clause-i.is in
     let out_is : c.leaf.result ≡ leaf (variable_of l) = c.leaf.ensures ∙ ap leaf (c.var.ensures.value ∙ ap variable_of same) in
     let at = literal_there clause i l c.loop-i-test.true c.index-clause-i.is in
-    let here = subst (λ out. HasFault sel (variable_of c.args.bad) (c.args.j + 1) (i + 1) l out c.give_fault.new.log.entries) out_is c.in_ok-give_fault.ensures.given in
-    (c.give_fault.ensures.fit,
-    next_fault c.args.self.now.f.now sel (variable_of c.args.bad) (c.args.j + 1) leaf clause c.args.log.now c.loop-i.log c.give_fault.new.log i l c.loop-i.invariant.1 c.give_fault.ensures.said at here)
+    let here = subst (λ out. HasFault sel (variable_of c.args.bad) (c.args.j + 1) (i + 1) l out c.give_fault.new.log.entries) out_is c.in_ok-give_fault.ensures.given in (
+      c.give_fault.ensures.fit,
+      next_fault c.args.self.now.f.now sel (variable_of c.args.bad) (c.args.j + 1) leaf clause c.args.log.now c.loop-i.log c.give_fault.new.log i l c.loop-i.invariant.1 c.give_fault.ensures.said at here,
+    )

@@ -5,7 +5,7 @@ use Rattle.hint_log.specs.Entries.{Given, with_entry}
 use Rattle.circuit_cnf.specs.Saying.{selector_in}
 use Rattle.circuit_cnf.proofs.SaidFaults.{some_is_said, same_said}
 use Rattle.circuit_cnf.proofs.SomeFault.{bads_are_plain}
-use Rattle.circuit_cnf.proofs.faults.Faults.some_fault.Goals as goal
+use Rattle.circuit_cnf.proofs.fault_clauses.Faults.some_fault.Goals as goal
 
 pub add-requires-clause-plain : goal.add-requires-clause-plain
 add-requires-clause-plain g c = bads_are_plain c.args.log.now.entries (selector_in c.args.self.now) c.args.bads.now (range_with_len 1 (length c.args.self.now.f.now.matrix)) c.requires.bads

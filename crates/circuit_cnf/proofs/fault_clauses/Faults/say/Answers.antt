@@ -1,9 +1,8 @@
 use Rattle.std.proofs.Common.{length}
-use Rattle.std.proofs.Common.{sym, ◌∙◌, ap, subst}
 use Rattle.circuit_cnf.specs.Saying.{leaf_in, selector_in}
 use Rattle.circuit_cnf.proofs.GroupFaults.{bads_are_at, bads_count, all_given, bads_stay}
 use Rattle.circuit_cnf.proofs.SaidFaults.{said_then, may_say_on}
-use Rattle.circuit_cnf.proofs.faults.Faults.say.Goals as goal
+use Rattle.circuit_cnf.proofs.fault_clauses.Faults.say.Goals as goal
 
 pub all_faults-requires-clause-bad_count : goal.all_faults-requires-clause-bad_count
 all_faults-requires-clause-bad_count g c = bads_count c.args.log.now.entries (selector_in c.args.self.now) (length c.args.self.now.f.now.matrix) c.args.bads.now c.requires.bads

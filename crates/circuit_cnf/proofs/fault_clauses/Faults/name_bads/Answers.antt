@@ -5,7 +5,7 @@ use Rattle.hint_log.specs.declared.names.Name.TheVariants.{Bad}
 use Rattle.hint_log.specs.Entries.{with_entry}
 use Rattle.circuit_cnf.specs.Saying.{selector_in}
 use Rattle.circuit_cnf.proofs.NamedBads.{BadsSoFar, no_bads, bad_more}
-use Rattle.circuit_cnf.proofs.faults.Faults.name_bads.Goals as goal
+use Rattle.circuit_cnf.proofs.fault_clauses.Faults.name_bads.Goals as goal
 
 pub loop-j-init : goal.loop-j-init
 loop-j-init g c =

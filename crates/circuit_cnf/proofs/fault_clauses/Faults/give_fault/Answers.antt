@@ -2,10 +2,9 @@ use Rattle.std.proofs.Common.{◌≡◌, not, false, ◌∷◌, [], sym, ◌∙�
 use Rattle.dq_lits.specs.Literal.{is_negative, opposite}
 use Rattle.hint_log.specs.Entries.{Given, with_entry}
 use Rattle.hint_log.specs.declared.origins.Leaf.TheVariants.{Constant, Literal as LeafLiteral}
-use Rattle.hint_log.specs.declared.origins.Origin.TheVariants.{Fault}
 use Rattle.hint_log.specs.Origins.{leaf_with_sign, leaf_clause}
 use Rattle.circuit_cnf.proofs.SaidFaults.{fault_is_said, nothing_said, same_said}
-use Rattle.circuit_cnf.proofs.faults.Faults.give_fault.Goals as goal
+use Rattle.circuit_cnf.proofs.fault_clauses.Faults.give_fault.Goals as goal
 
 pub returns-in-Constant-true-clause-said : goal.returns-in-Constant-true-clause-said
 returns-in-Constant-true-clause-said g c = nothing_said c.args.self.now c.args.log.now c.requires.may

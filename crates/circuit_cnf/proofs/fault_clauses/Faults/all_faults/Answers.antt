@@ -4,7 +4,7 @@ use Rattle.dq_lits.specs.Literal.{positive, variable_of}
 use Rattle.circuit_cnf.specs.Faults.{HaveFaults}
 use Rattle.circuit_cnf.specs.Saying.{leaf_in, selector_in}
 use Rattle.circuit_cnf.proofs.SaidFaults.{nothing_said, may_say_on, said_then, next_clause}
-use Rattle.circuit_cnf.proofs.faults.Faults.all_faults.Goals as goal
+use Rattle.circuit_cnf.proofs.fault_clauses.Faults.all_faults.Goals as goal
 
 pub loop-j-init : goal.loop-j-init
 loop-j-init g c = (c.requires.fit, record { said = nothing_said c.args.self.now c.args.log.now c.requires.may; given = λ j below. absurd (omega (arith, below)) })
