@@ -24,7 +24,8 @@ IsSidePlace graph s p = (place_of graph.inputs s.left ≡ Some p) ⊎ (place_of 
 pub record AreCones (graph : AigGraph) (nodes : List Node) (old marks : List Bool) (count : ℕ) : Type 0 where
   pub sound : (p : ℕ) → bit_of marks p ≡ true → IsInCone graph nodes p
   pub roots : (p : ℕ) → AreRoots graph nodes p → bit_of marks p ≡ true
-  pub closed : (g : ℕ) (s : Sides) → count ≤ g → gate_at graph.gates g ≡ Some s → bit_of marks (graph.inputs + g) ≡ true → (p : ℕ) →
+  pub closed : (g : ℕ) (s : Sides) → count ≤ g → gate_at graph.gates g ≡ Some s →
+      bit_of marks (graph.inputs + g) ≡ true → (p : ℕ) →
       (place_of graph.inputs s.left ≡ Some p) ⊎ (place_of graph.inputs s.right ≡ Some p) → bit_of marks p ≡ true
   pub within : count ≤ length graph.gates
   pub same_length : length marks ≡ length old
@@ -34,11 +35,13 @@ place_below inputs g p (Constant b) earlier is = cc
 place_below inputs g p (Input i negated) earlier is = let e = some_is is in omega (arith, e, earlier)
 place_below inputs g p (Gate h negated) earlier is = let e = some_is is in omega (arith, e, earlier)
 
-side_below : (graph : AigGraph) (g p : ℕ) (s : Sides) → AreSides graph.inputs g s → IsSidePlace graph s p → p < graph.inputs + g
+side_below : (graph : AigGraph) (g p : ℕ) (s : Sides) → AreSides graph.inputs g s → IsSidePlace graph s p →
+    p < graph.inputs + g
 side_below graph g p s sides (inl is) = place_below graph.inputs g p s.left sides.left is
 side_below graph g p s sides (inr is) = place_below graph.inputs g p s.right sides.right is
 
-pub cones_go_on : (graph : AigGraph) (nodes : List Node) (old marks more : List Bool) (g : ℕ) → IsGraph graph → AreCones graph nodes old marks (g + 1) → HandsOn graph g marks more → length more ≡ length marks →
+pub cones_go_on : (graph : AigGraph) (nodes : List Node) (old marks more : List Bool) (g : ℕ) → IsGraph graph →
+    AreCones graph nodes old marks (g + 1) → HandsOn graph g marks more → length more ≡ length marks →
     AreCones graph nodes old more g
 cones_go_on graph nodes old marks more g lawful before hands long = record {
   sound = λ p h. sound p ((on p).0 h);
@@ -50,13 +53,15 @@ cones_go_on graph nodes old marks more g lawful before hands long = record {
   there : (s : Sides) × (gate_at graph.gates g ≡ Some s)
   there = let w = before.within in gate_there graph.gates g (omega (arith, w))
 
-  on : (p : ℕ) → ((bit_of more p ≡ true) ↔ ((bit_of marks p ≡ true) ⊎ ((bit_of marks (graph.inputs + g) ≡ true) × IsSidePlace graph there.0 p)))
+  on : (p : ℕ) → ((bit_of more p ≡ true) ↔ ((bit_of marks p ≡ true) ⊎
+      ((bit_of marks (graph.inputs + g) ≡ true) × IsSidePlace graph there.0 p)))
   on = hands there.0 there.1
 
   sides : AreSides graph.inputs g there.0
   sides = sides_are graph.inputs graph.gates g there.0 lawful.gates there.1
 
-  sound : (p : ℕ) → (bit_of marks p ≡ true) ⊎ ((bit_of marks (graph.inputs + g) ≡ true) × IsSidePlace graph there.0 p) → IsInCone graph nodes p
+  sound : (p : ℕ) → (bit_of marks p ≡ true) ⊎ ((bit_of marks (graph.inputs + g) ≡ true) × IsSidePlace graph there.0 p) →
+      IsInCone graph nodes p
   sound p (inl h) = before.sound p h
   sound p (inr h) = elim h.1 [
     | inl is ↦ left g p there.0 (before.sound (graph.inputs + g) h.0) there.1 is
@@ -66,7 +71,8 @@ cones_go_on graph nodes old marks more g lawful before hands long = record {
   was_marked : (h : ℕ) → g ≤ h → bit_of more (graph.inputs + h) ≡ true → bit_of marks (graph.inputs + h) ≡ true
   was_marked h most marked = elim ((on (graph.inputs + h)).0 marked) [
     | inl was ↦ was
-    | inr side ↦ (let below = side_below graph g (graph.inputs + h) there.0 sides side.1 in absurd (omega (arith, below, most)))
+    | inr side ↦ (let below = side_below graph g (graph.inputs + h) there.0 sides side.1 in
+        absurd (omega (arith, below, most)))
   ]
 
   cases : (h : ℕ) → g ≤ h → (g ≡ h) ⊎ (g + 1 ≤ h)
@@ -75,7 +81,8 @@ cones_go_on graph nodes old marks more g lawful before hands long = record {
     | inr e ↦ (let differ : g ≢ h = λ is. false≢true (sym e ∙ eq-eqb g h is) in inr (omega (arith, most, differ)))
   ]
 
-  closed : (h : ℕ) (t : Sides) → gate_at graph.gates h ≡ Some t → bit_of more (graph.inputs + h) ≡ true → (p : ℕ) → IsSidePlace graph t p → (g ≡ h) ⊎ (g + 1 ≤ h) → bit_of more p ≡ true
+  closed : (h : ℕ) (t : Sides) → gate_at graph.gates h ≡ Some t → bit_of more (graph.inputs + h) ≡ true → (p : ℕ) →
+      IsSidePlace graph t p → (g ≡ h) ⊎ (g + 1 ≤ h) → bit_of more p ≡ true
   closed h t at marked p side (inl is) =
       let same : there.0 ≡ t = some_is (sym there.1 ∙ ap (gate_at graph.gates) is ∙ at) in
       let most : g ≤ h = omega (arith, is) in
@@ -85,7 +92,9 @@ cones_go_on graph nodes old marks more g lawful before hands long = record {
       let most : g ≤ h = omega (arith, above) in
       (on p).1 (inl (before.closed h t above at (was_marked h most marked) p side))
 
-pub roots_marked : (graph : AigGraph) (nodes : List Node) (old marks : List Bool) → ((p : ℕ) → ((bit_of marks p ≡ true) ↔ AreRoots graph nodes p)) → length marks ≡ length old → AreCones graph nodes old marks (length graph.gates)
+pub roots_marked : (graph : AigGraph) (nodes : List Node) (old marks : List Bool) →
+    ((p : ℕ) → ((bit_of marks p ≡ true) ↔ AreRoots graph nodes p)) → length marks ≡ length old →
+    AreCones graph nodes old marks (length graph.gates)
 roots_marked graph nodes old marks exact long = record {
   sound = λ p h. (let r = (exact p).0 h in root r.0 p r.1 r.2);
   roots = λ p r. (exact p).1 r;
@@ -94,7 +103,8 @@ roots_marked graph nodes old marks exact long = record {
   same_length = long;
 }
 
-pub cones_marked : (graph : AigGraph) (nodes : List Node) (old marks : List Bool) → AreCones graph nodes old marks 0 → (p : ℕ) → ((bit_of marks p ≡ true) ↔ IsInCone graph nodes p)
+pub cones_marked : (graph : AigGraph) (nodes : List Node) (old marks : List Bool) → AreCones graph nodes old marks 0 →
+    (p : ℕ) → ((bit_of marks p ≡ true) ↔ IsInCone graph nodes p)
 cones_marked graph nodes old marks c p = (c.sound p, complete p) where
   complete : (q : ℕ) → IsInCone graph nodes q → bit_of marks q ≡ true
   complete _ (root n q inside is) = c.roots q (n, inside, is)
@@ -106,15 +116,30 @@ pub record AreRootMarks (graph : AigGraph) (nodes : List Node) (old marks : List
   pub exact : (p : ℕ) → ((bit_of marks p ≡ true) ↔ AreRoots graph nodes p)
   pub same_length : length marks ≡ length old
 
-pub no_roots : (graph : AigGraph) (marks : List Bool) → ((p : ℕ) → bit_of marks p ≡ false) → AreRootMarks graph [] marks marks
-no_roots graph marks none = record { exact = λ p. ((λ h. absurd (false≢true (sym (none p) ∙ h))), (λ r. let b = r.1.1 in absurd (omega arith))); same_length = refl }
+pub no_roots : (graph : AigGraph) (marks : List Bool) → ((p : ℕ) → bit_of marks p ≡ false) →
+    AreRootMarks graph [] marks marks
+no_roots graph marks none = record {
+  exact = λ p. (
+    (λ h. absurd (false≢true (sym (none p) ∙ h))),
+    (λ r. let b = r.1.1 in absurd (omega arith)),
+  );
+  same_length = refl;
+}
 
-pub root_more : (graph : AigGraph) (nodes : List Node) (old marks more : List Bool) (i : ℕ) (d : Node) → i < length nodes → AreRootMarks graph (take i nodes) old marks →
-    ((p : ℕ) → ((bit_of more p ≡ true) ↔ ((bit_of marks p ≡ true) ⊎ (place_of graph.inputs (get_or nodes i d) ≡ Some p)))) → length more ≡ length marks → AreRootMarks graph (take (i + 1) nodes) old more
+pub root_more : (graph : AigGraph) (nodes : List Node) (old marks more : List Bool) (i : ℕ) (d : Node) →
+    i < length nodes → AreRootMarks graph (take i nodes) old marks →
+    ((p : ℕ) → ((bit_of more p ≡ true) ↔ ((bit_of marks p ≡ true) ⊎
+    (place_of graph.inputs (get_or nodes i d) ≡ Some p)))) → length more ≡ length marks →
+    AreRootMarks graph (take (i + 1) nodes) old more
 root_more graph nodes old marks more i d below before step long =
     subst (λ xs. AreRootMarks graph xs old more) (sym (take_more nodes i d below)) whole where
-      forth : (p : ℕ) → (bit_of marks p ≡ true) ⊎ (place_of graph.inputs (get_or nodes i d) ≡ Some p) → AreRoots graph (take i nodes ++ get_or nodes i d ∷ []) p
-      forth p (inl h) = let r = (before.exact p).0 h in (r.0, Contains-append_left (take i nodes) (get_or nodes i d ∷ []) r.0 r.1, r.2)
+      forth : (p : ℕ) → (bit_of marks p ≡ true) ⊎ (place_of graph.inputs (get_or nodes i d) ≡ Some p) →
+          AreRoots graph (take i nodes ++ get_or nodes i d ∷ []) p
+      forth p (inl h) = let r = (before.exact p).0 h in (
+        r.0,
+        Contains-append_left (take i nodes) (get_or nodes i d ∷ []) r.0 r.1,
+        r.2,
+      )
       forth p (inr is) = (get_or nodes i d, Contains-push (take i nodes) (get_or nodes i d), is)
 
       back : (p : ℕ) → AreRoots graph (take i nodes ++ get_or nodes i d ∷ []) p → bit_of more p ≡ true
@@ -129,22 +154,30 @@ root_more graph nodes old marks more i d below before step long =
       whole : AreRootMarks graph (take i nodes ++ get_or nodes i d ∷ []) old more
       whole = record { exact = λ p. ((λ h. forth p ((step p).0 h)), back p); same_length = long ∙ before.same_length }
 
-pub handed_on : (graph : AigGraph) (g : ℕ) (s : Sides) (old mid new : List Bool) → gate_at graph.gates g ≡ Some s → bit_of old (graph.inputs + g) ≡ true →
-    ((p : ℕ) → ((bit_of mid p ≡ true) ↔ ((bit_of old p ≡ true) ⊎ (place_of graph.inputs s.left ≡ Some p)))) → ((p : ℕ) → ((bit_of new p ≡ true) ↔ ((bit_of mid p ≡ true) ⊎ (place_of graph.inputs s.right ≡ Some p)))) →
+pub handed_on : (graph : AigGraph) (g : ℕ) (s : Sides) (old mid new : List Bool) → gate_at graph.gates g ≡ Some s →
+    bit_of old (graph.inputs + g) ≡ true →
+    ((p : ℕ) → ((bit_of mid p ≡ true) ↔ ((bit_of old p ≡ true) ⊎ (place_of graph.inputs s.left ≡ Some p)))) →
+    ((p : ℕ) → ((bit_of new p ≡ true) ↔ ((bit_of mid p ≡ true) ⊎ (place_of graph.inputs s.right ≡ Some p)))) →
     HandsOn graph g old new
-handed_on graph g s old mid new at marked first second t at' p = subst (λ x. ((bit_of new p ≡ true) ↔ ((bit_of old p ≡ true) ⊎ ((bit_of old (graph.inputs + g) ≡ true) × IsSidePlace graph x p)))) (some_is (sym at ∙ at')) (forth, back) where
-  forth : bit_of new p ≡ true → (bit_of old p ≡ true) ⊎ ((bit_of old (graph.inputs + g) ≡ true) × IsSidePlace graph s p)
-  forth h = elim ((second p).0 h) [
-    | inl was ↦ elim ((first p).0 was) [ inl there ↦ inl there | inr l ↦ inr (marked, inl l) ]
-    | inr r ↦ inr (marked, inr r)
-  ]
+handed_on graph g s old mid new at marked first second t at' p =
+    subst (λ x. ((bit_of new p ≡ true) ↔ ((bit_of old p ≡ true) ⊎
+    ((bit_of old (graph.inputs + g) ≡ true) × IsSidePlace graph x p)))) (some_is (sym at ∙ at')) (forth, back) where
+      forth : bit_of new p ≡ true → (bit_of old p ≡ true) ⊎ ((bit_of old (graph.inputs + g) ≡ true) × IsSidePlace
+          graph s p)
+      forth h = elim ((second p).0 h) [
+        | inl was ↦ elim ((first p).0 was) [ inl there ↦ inl there | inr l ↦ inr (marked, inl l) ]
+        | inr r ↦ inr (marked, inr r)
+      ]
 
-  back : (bit_of old p ≡ true) ⊎ ((bit_of old (graph.inputs + g) ≡ true) × IsSidePlace graph s p) → bit_of new p ≡ true
-  back (inl h) = (second p).1 (inl ((first p).1 (inl h)))
-  back (inr h) = elim h.1 [ inl l ↦ (second p).1 (inl ((first p).1 (inr l))) | inr r ↦ (second p).1 (inr r) ]
+      back : (bit_of old p ≡ true) ⊎ ((bit_of old (graph.inputs + g) ≡ true) × IsSidePlace graph s p) →
+          bit_of new p ≡ true
+      back (inl h) = (second p).1 (inl ((first p).1 (inl h)))
+      back (inr h) = elim h.1 [ inl l ↦ (second p).1 (inl ((first p).1 (inr l))) | inr r ↦ (second p).1 (inr r) ]
 
-pub not_handed_on : (graph : AigGraph) (g : ℕ) (marks : List Bool) → bit_of marks (graph.inputs + g) ≡ false → HandsOn graph g marks marks
+pub not_handed_on : (graph : AigGraph) (g : ℕ) (marks : List Bool) → bit_of marks (graph.inputs + g) ≡ false →
+    HandsOn graph g marks marks
 not_handed_on graph g marks unmarked s at p = ((λ h. inl h), back) where
-  back : (bit_of marks p ≡ true) ⊎ ((bit_of marks (graph.inputs + g) ≡ true) × IsSidePlace graph s p) → bit_of marks p ≡ true
+  back : (bit_of marks p ≡ true) ⊎ ((bit_of marks (graph.inputs + g) ≡ true) × IsSidePlace graph s p) →
+      bit_of marks p ≡ true
   back (inl h) = h
   back (inr h) = absurd (false≢true (sym unmarked ∙ h.0))

@@ -24,7 +24,8 @@ pub record AreConeSoFar (graph : AigGraph) (node : Node) (pending : BTreeSet ℕ
   pub descending : AllPairs (λ g h. h < g) gates
   pub later : (q g : ℕ) → Has pending q → Contains gates g → q < g
   pub root : IsMet pending gates node
-  pub closed : (g : ℕ) (sides : Sides) → Contains gates g → gate_at graph.gates g ≡ Some sides → IsMet pending gates sides.left × IsMet pending gates sides.right
+  pub closed : (g : ℕ) (sides : Sides) → Contains gates g → gate_at graph.gates g ≡ Some sides →
+      IsMet pending gates sides.left × IsMet pending gates sides.right
 
 -- the last gate that was taken; before that the number of gates
 abbrev pub lowest : List ℕ → ℕ → ℕ
@@ -36,13 +37,16 @@ IsAdded node old new = (q : ℕ) → (Has new q ↔ (Has old q ⊎ (gate_of node
 some_is : {X : Type 0} {x y : X} → Some x ≡ Some y → x ≡ y
 some_is e = cc
 
-pub gate_earlier : (inputs count g : ℕ) (node : Node) → IsEarlierNode inputs count node → gate_of node ≡ Some g → g < count
+pub gate_earlier : (inputs count g : ℕ) (node : Node) → IsEarlierNode inputs count node → gate_of node ≡ Some g →
+    g < count
 gate_earlier inputs count g (Constant b) earlier is = cc
 gate_earlier inputs count g (Input i negated) earlier is = cc
 gate_earlier inputs count g (Gate h negated) earlier is = let same = some_is is in omega (arith, same, earlier)
 
-module _ (graph : AigGraph) (node : Node) (old taken more new : BTreeSet ℕ) (gates : List ℕ) (g : ℕ) (s : Sides) (before : AreConeSoFar graph node old gates) (last : IsTakenLast old taken g)
-    (at : gate_at graph.gates g ≡ Some s) (sides : AreSides graph.inputs g s) (first : IsAdded s.left taken more) (second : IsAdded s.right more new) where
+module _ (graph : AigGraph) (node : Node) (old taken more new : BTreeSet ℕ) (gates : List ℕ) (g : ℕ) (s : Sides)
+    (before : AreConeSoFar graph node old gates) (last : IsTakenLast old taken g)
+    (at : gate_at graph.gates g ≡ Some s) (sides : AreSides graph.inputs g s) (first : IsAdded s.left taken more)
+    (second : IsAdded s.right more new) where
   abbrev longer : List ℕ
   longer = gates ++ g ∷ []
 
@@ -76,7 +80,8 @@ module _ (graph : AigGraph) (node : Node) (old taken more new : BTreeSet ℕ) (g
   cone_goes_on = record {
     within = All-push (λ h. h < length graph.gates) gates g before.within own_below;
     pending_within = λ q has. (let b = below q has in let o = own_below in omega (arith, b, o));
-    descending = all_pairs_push (λ h k. k < h) gates g before.descending (λ k d within. before.later g (get_or gates k d) last.member (Contains-get_or gates k d within));
+    descending = all_pairs_push (λ h k. k < h) gates g before.descending
+        (λ k d within. before.later g (get_or gates k d) last.member (Contains-get_or gates k d within));
     later = λ q h has among. elim (Contains-append_cases gates (g ∷ []) h among) [
       | inl earlier ↦ (let b = below q has in let l = before.later g h last.member earlier in omega (arith, b, l))
       | inr here ↦ subst (λ k. q < k) (only h here) (below q has)
@@ -97,13 +102,17 @@ module _ (graph : AigGraph) (node : Node) (old taken more new : BTreeSet ℕ) (g
       let count = length graph.gates in
       let long = length_push gates g in
       let last_place : length longer - 1 ≡ length gates = omega arith in
-      let here : lowest longer count ≡ g = ap (λ k. get_or longer k count) last_place ∙ get_or_push gates g count (length gates) refl in
+      let here : lowest longer count ≡ g = ap (λ k. get_or longer k count) last_place ∙ get_or_push gates g count
+      (length gates) refl in
       subst (λ k. k < lowest gates count) (sym here) (elim (cases_lt 0 (length gates)) [
-        | inl some ↦ before.later g (lowest gates count) last.member (Contains-get_or gates (length gates - 1) count (omega arith))
+        | inl some ↦ before.later g (lowest gates count) last.member
+            (Contains-get_or gates (length gates - 1) count (omega arith))
         | inr none ↦ subst (λ k. g < k) (sym (get_or_past gates (length gates - 1) count (omega arith))) own_below
       ])
 
-pub cone_gathered : (graph : AigGraph) (node : Node) (pending : BTreeSet ℕ) (gates : List ℕ) → AreConeSoFar graph node pending gates → ((q : ℕ) → contains nat_cmp pending q ≡ false) → AreConeGates graph node gates
+pub cone_gathered : (graph : AigGraph) (node : Node) (pending : BTreeSet ℕ) (gates : List ℕ) →
+    AreConeSoFar graph node pending gates → ((q : ℕ) → contains nat_cmp pending q ≡ false) →
+    AreConeGates graph node gates
 cone_gathered graph node pending gates far none = record {
   within = far.within;
   descending = far.descending;

@@ -19,7 +19,8 @@ use Rattle.aig_graph.proofs.LargerGraphs.{extends, more_more, number_of}
 use Rattle.aig_graph.proofs.GatheredCones.{gate_earlier}
 use Rattle.aig_graph.proofs.PutInNodes.{put_stays}
 
-pub record ArePutInFrom (old mid : AigGraph) (subs : List Node) (gates : List ℕ) (made : BTreeMap ℕ Node) (at : ℕ) : Type 0 where
+pub record ArePutInFrom (old mid : AigGraph) (subs : List Node) (gates : List ℕ) (made : BTreeMap ℕ Node)
+    (at : ℕ) : Type 0 where
   pub grown : HasMore old mid
   pub within : at ≤ length gates
   pub each : (k g : ℕ) → at ≤ k → slice_get gates k ≡ Some g → HasPutIn mid subs made g
@@ -27,27 +28,33 @@ pub record ArePutInFrom (old mid : AigGraph) (subs : List Node) (gates : List �
 some_is : {X : Type 0} {x y : X} → Some x ≡ Some y → x ≡ y
 some_is e = cc
 
-gate_before : (more gates : List Sides) (g : ℕ) (s : Sides) → gate_at gates g ≡ Some s → gate_at (more ++ gates) g ≡ Some s
+gate_before : (more gates : List Sides) (g : ℕ) (s : Sides) → gate_at gates g ≡ Some s →
+    gate_at (more ++ gates) g ≡ Some s
 gate_before [] gates g s at = at
 gate_before (x ∷ more) gates g s at =
     let later = gate_before more gates g s at in
     let below = number_of (more ++ gates) g s later in
-    ap (λ b. cond b (Some x) (gate_at (more ++ gates) g)) (ne_eqb g (length (more ++ gates)) (λ is. omega (arith, below, is))) ∙ later
+    ap (λ b. cond b (Some x) (gate_at (more ++ gates) g)) (ne_eqb g (length (more ++ gates))
+    (λ is. omega (arith, below, is))) ∙ later
 
-gate_stays : (old new : AigGraph) (g : ℕ) (s : Sides) → HasMore old new → gate_at old.gates g ≡ Some s → gate_at new.gates g ≡ Some s
+gate_stays : (old new : AigGraph) (g : ℕ) (s : Sides) → HasMore old new → gate_at old.gates g ≡ Some s →
+    gate_at new.gates g ≡ Some s
 gate_stays old new g s more at = ap (λ gs. gate_at gs g) more.grown ∙ gate_before more.more old.gates g s at
 
-module _ (old mid : AigGraph) (node : Node) (subs : List Node) (gates : List ℕ) (made : BTreeMap ℕ Node) (at g : ℕ) (lawful : IsGraph old) (cone : AreConeGates old node gates)
+module _ (old mid : AigGraph) (node : Node) (subs : List Node) (gates : List ℕ) (made : BTreeMap ℕ Node) (at g : ℕ)
+    (lawful : IsGraph old) (cone : AreConeGates old node gates)
     (far : ArePutInFrom old mid subs gates made (at + 1)) (here : slice_get gates at ≡ Some g) where
   pub gate_within : g < length old.gates
-  gate_within = subst (λ h. h < length old.gates) (get_or_from_slice_get gates at g g here) (cone.within at g (slice_get_within gates at g here))
+  gate_within = subst (λ h. h < length old.gates) (get_or_from_slice_get gates at g g here)
+      (cone.within at g (slice_get_within gates at g here))
 
   -- an earlier gate stands behind this one
   earlier_made : (h : ℕ) → Contains gates h → h < g → HasPutIn mid subs made h
   earlier_made h (j, below, is) less = far.each j h (elim (cases_lt at j) [
     | inl behind ↦ omega arith
     | inr before ↦ absurd (elim (cases_eq j at) [
-      | inl same ↦ (let equal : h ≡ g = sym is ∙ ap (λ k. get_or gates k h) same ∙ get_or_from_slice_get gates at g h here in omega arith)
+      | inl same ↦ (let equal : h ≡ g = sym is ∙ ap (λ k. get_or gates k h) same
+          ∙ get_or_from_slice_get gates at g h here in omega arith)
       | inr differ ↦ (
           let less_still = cone.descending j at g (omega arith) (slice_get_within gates at g here) in
           let first : get_or gates at g ≡ g = get_or_from_slice_get gates at g g here in
@@ -76,14 +83,16 @@ module _ (old mid : AigGraph) (node : Node) (subs : List Node) (gates : List ℕ
     ready : (n : Node) → IsEarlierNode old.inputs g n → IsAmongGates gates n → IsReady mid subs made n
     ready n earlier among h is = earlier_made h (among h is) (gate_earlier old.inputs g h n earlier is)
 
-  pub put_in_more : (new : AigGraph) (n : Node) (after : BTreeMap ℕ Node) → All (IsNode old) subs → HasMore mid new → IsPutIn new new (Gate g false) subs n → Updates nat_cmp made after g (Some n)
+  pub put_in_more : (new : AigGraph) (n : Node) (after : BTreeMap ℕ Node) → All (IsNode old) subs → HasMore mid new →
+      IsPutIn new new (Gate g false) subs n → Updates nat_cmp made after g (Some n)
       → ArePutInFrom old new subs gates after at
   put_in_more new n after subs_are grown put updates = record {
     grown = more_more old mid new far.grown grown;
     within = let w = far.within in omega arith;
     each = λ k h past there. elim (cases_lt at k) [
       | inl behind ↦ stays k h behind there
-      | inr same ↦ (let is : k ≡ at = omega arith in let equal : g ≡ h = some_is (sym here ∙ ap (slice_get gates) (sym is) ∙ there) in subst (HasPutIn new subs after) equal made_now)
+      | inr same ↦ (let is : k ≡ at = omega arith in let equal : g ≡ h =
+          some_is (sym here ∙ ap (slice_get gates) (sym is) ∙ there) in subst (HasPutIn new subs after) equal made_now)
     ];
   } where
     made_now : HasPutIn new subs after g
@@ -92,7 +101,8 @@ module _ (old mid : AigGraph) (node : Node) (subs : List Node) (gates : List ℕ
     differ : (h : ℕ) → g ≢ h → is_at (nat_cmp g) h ≡ false
     differ h other = elim (cases_lt g h) [
       | inl less ↦ ap (λ b. is_eq (cond b Less (cond (g == h) Equal Greater))) (lt-ltb g h less)
-      | inr most ↦ ap (λ b. is_eq (cond b Less (cond (g == h) Equal Greater))) (le-ltb g h most) ∙ ap (λ b. is_eq (cond b Equal Greater)) (ne_eqb g h other)
+      | inr most ↦ ap (λ b. is_eq (cond b Less (cond (g == h) Equal Greater))) (le-ltb g h most) ∙ ap
+          (λ b. is_eq (cond b Equal Greater)) (ne_eqb g h other)
     ]
 
     apart : (k h : ℕ) → at < k → slice_get gates k ≡ Some h → g ≢ h
@@ -106,19 +116,31 @@ module _ (old mid : AigGraph) (node : Node) (subs : List Node) (gates : List ℕ
     stays k h behind there =
         let before = far.each k h (omega arith) there in
         let e = extends mid new grown in
-        let all : All (IsNode mid) subs = λ i d below. (extends old mid far.grown).nodes (get_or subs i d) (subs_are i d below) in
-        let is : IsNode mid (Gate h false) = (extends old mid far.grown).nodes (Gate h false) (subst (λ q. q < length old.gates) (get_or_from_slice_get gates k h h there) (cone.within k h (slice_get_within gates k h there))) in
-        record { node = before.node; found = updates.2 h (differ h (apart k h behind there)) ∙ before.found; put_in = put_stays mid new e subs all (Gate h false) before.node is before.put_in }
+        let all : All (IsNode mid) subs = λ i d below. (extends old mid far.grown).nodes (get_or subs i d)
+        (subs_are i d below) in
+        let is : IsNode mid (Gate h false) = (extends old mid far.grown).nodes (Gate h false)
+        (subst (λ q. q < length old.gates) (get_or_from_slice_get gates k h h there)
+        (cone.within k h (slice_get_within gates k h there))) in
+        record {
+          node = before.node;
+          found = updates.2 h (differ h (apart k h behind there)) ∙ before.found;
+          put_in =
+              put_stays mid new e subs all (Gate h false) before.node is before.put_in;
+        }
 
 -- all are made
-pub node_ready : (old mid : AigGraph) (node : Node) (subs : List Node) (gates : List ℕ) (made : BTreeMap ℕ Node) → AreConeGates old node gates → ArePutInFrom old mid subs gates made 0 → IsReady mid subs made node
+pub node_ready : (old mid : AigGraph) (node : Node) (subs : List Node) (gates : List ℕ) (made : BTreeMap ℕ Node) →
+    AreConeGates old node gates → ArePutInFrom old mid subs gates made 0 → IsReady mid subs made node
 node_ready old mid node subs gates made cone far g is =
     let (k, below, at) = cone.root g is in
     far.each k g (omega arith) (slice_get-get_or gates k g below ∙ ap Some at)
 
 -- what is found was made of the gate
-pub found_made : (graph : AigGraph) (subs : List Node) (made : BTreeMap ℕ Node) (g : ℕ) (n : Node) → HasPutIn graph subs made g → Some n ≡ get nat_cmp made g → IsPutIn graph graph (Gate g false) subs n
-found_made graph subs made g n has found = subst (IsPutIn graph graph (Gate g false) subs) (sym (some_is (found ∙ has.found))) has.put_in
+pub found_made : (graph : AigGraph) (subs : List Node) (made : BTreeMap ℕ Node) (g : ℕ) (n : Node) →
+    HasPutIn graph subs made g → Some n ≡ get nat_cmp made g → IsPutIn graph graph (Gate g false) subs n
+found_made graph subs made g n has found = subst (IsPutIn graph graph (Gate g false) subs)
+    (sym (some_is (found ∙ has.found))) has.put_in
 
-pub none_found : (graph : AigGraph) (subs : List Node) (made : BTreeMap ℕ Node) (g : ℕ) → HasPutIn graph subs made g → None ≡ get nat_cmp made g → ⊥
+pub none_found : (graph : AigGraph) (subs : List Node) (made : BTreeMap ℕ Node) (g : ℕ) → HasPutIn graph subs made g →
+    None ≡ get nat_cmp made g → ⊥
 none_found graph subs made g has none = let e : None ≡ Some has.node = none ∙ has.found in cc

@@ -18,32 +18,41 @@ pub record AreMarks (graph : AigGraph) (n : Node) (old marks : List Bool) (count
   pub same_length : length marks ≡ length old
 
 abbrev pub IsMarkedBy : AigGraph → List Bool → List Bool → Node → Type 0
-IsMarkedBy graph old new n = (p : ℕ) → ((bit_of new p ≡ true) ↔ ((bit_of old p ≡ true) ⊎ (place_of graph.inputs n ≡ Some p)))
+IsMarkedBy graph old new n = (p : ℕ) → ((bit_of new p ≡ true) ↔
+    ((bit_of old p ≡ true) ⊎ (place_of graph.inputs n ≡ Some p)))
 
 some_is : {X : Type 0} {x y : X} → Some x ≡ Some y → x ≡ y
 some_is e = cc
 
 -- an input on its place, or a marked gate, that the node reads
-node_reaches : (graph : AigGraph) (count : ℕ) (marks : List Bool) (n : Node) → IsEarlierNode graph.inputs count n → ((p : ℕ) → place_of graph.inputs n ≡ Some p → bit_of marks p ≡ true) →
+node_reaches : (graph : AigGraph) (count : ℕ) (marks : List Bool) (n : Node) → IsEarlierNode graph.inputs count n →
+    ((p : ℕ) → place_of graph.inputs n ≡ Some p → bit_of marks p ≡ true) →
     (i : ℕ) → Contains (node_support graph n) i → IsReached graph count marks i
 node_reaches graph count marks (Constant b) earlier marked i (k, below, is) = absurd (omega arith)
 node_reaches graph count marks (Input j negated) earlier marked i (zero, below, is) = inl (marked i (ap Some is))
 node_reaches graph count marks (Input j negated) earlier marked i (suc k, below, is) = absurd (omega arith)
-node_reaches graph count marks (Gate g negated) earlier marked i has = inr (record { gate = g; below = earlier; marked = marked (graph.inputs + g) refl; reads = has })
+node_reaches graph count marks (Gate g negated) earlier marked i has =
+    inr (record { gate = g; below = earlier; marked = marked (graph.inputs + g) refl; reads = has })
 
 -- what a node's place reaches, the node reads
-place_reads : (graph : AigGraph) (n : Node) (i : ℕ) → i < graph.inputs → place_of graph.inputs n ≡ Some i → Contains (node_support graph n) i
+place_reads : (graph : AigGraph) (n : Node) (i : ℕ) → i < graph.inputs → place_of graph.inputs n ≡ Some i →
+    Contains (node_support graph n) i
 place_reads graph (Constant b) i below is = cc
 place_reads graph (Input j negated) i below is = (0, omega arith, some_is is)
 place_reads graph (Gate g negated) i below is = let e = some_is is in absurd (omega (arith, e, below))
 
-gate_reads : (graph : AigGraph) (n : Node) (g : ℕ) → IsEarlierNode graph.inputs (length graph.gates) n → place_of graph.inputs n ≡ Some (graph.inputs + g) → node_support graph n ≡ gate_support graph.gates g
+gate_reads : (graph : AigGraph) (n : Node) (g : ℕ) → IsEarlierNode graph.inputs (length graph.gates) n →
+    place_of graph.inputs n ≡ Some (graph.inputs + g) → node_support graph n ≡ gate_support graph.gates g
 gate_reads graph (Constant b) g earlier is = cc
 gate_reads graph (Input j negated) g earlier is = let e = some_is is in absurd (omega (arith, e, earlier))
-gate_reads graph (Gate h negated) g earlier is = let e = some_is is in let same : h ≡ g = omega (arith, e) in ap (gate_support graph.gates) same
+gate_reads graph (Gate h negated) g earlier is = let e = some_is is in let same : h ≡ g = omega (arith, e) in
+    ap (gate_support graph.gates) same
 
-pub sides_marked : (graph : AigGraph) (g : ℕ) (s : Sides) (old mid new : List Bool) → IsGraph graph → g < length graph.gates → gate_at graph.gates g ≡ Some s → AreSides graph.inputs g s → bit_of old (graph.inputs + g) ≡ true →
-    IsMarkedBy graph old mid s.left → IsMarkedBy graph mid new s.right → (i : ℕ) → i < graph.inputs → (IsReached graph (g + 1) old i ↔ IsReached graph g new i)
+pub sides_marked : (graph : AigGraph) (g : ℕ) (s : Sides) (old mid new : List Bool) → IsGraph graph →
+    g < length graph.gates → gate_at graph.gates g ≡ Some s → AreSides graph.inputs g s →
+    bit_of old (graph.inputs + g) ≡ true →
+    IsMarkedBy graph old mid s.left → IsMarkedBy graph mid new s.right → (i : ℕ) → i < graph.inputs →
+    (IsReached graph (g + 1) old i ↔ IsReached graph g new i)
 sides_marked graph g s old mid new lawful inside at sides is_marked first second i small = (forth, back) where
   support : gate_support graph.gates g ≡ node_support graph s.left ++ node_support graph s.right
   support = gate_support_at graph.inputs graph.gates g s lawful.gates at
@@ -58,27 +67,49 @@ sides_marked graph g s old mid new lawful inside at sides is_marked first second
   right_marked p h = (second p).1 (inr h)
 
   from_gate : Contains (gate_support graph.gates g) i → IsReached graph g new i
-  from_gate has = elim (Contains-append_cases (node_support graph s.left) (node_support graph s.right) i (subst (λ xs. Contains xs i) support has)) [
-    | inl of_left ↦ node_reaches graph g new s.left sides.left left_marked i of_left
-    | inr of_right ↦ node_reaches graph g new s.right sides.right right_marked i of_right
-  ]
+  from_gate has = elim (Contains-append_cases (node_support graph s.left) (node_support graph s.right) i
+      (subst (λ xs. Contains xs i) support has)) [
+        | inl of_left ↦ node_reaches graph g new s.left sides.left left_marked i of_left
+        | inr of_right ↦ node_reaches graph g new s.right sides.right right_marked i of_right
+      ]
 
   by_number : (r : IsReadFrom graph (g + 1) old i) → (r.gate < g) ⊎ (r.gate ≡ g) → IsReached graph g new i
-  by_number r (inl below) = inr (record { gate = r.gate; below = below; marked = kept (graph.inputs + r.gate) r.marked; reads = r.reads })
+  by_number r (inl below) = inr (record {
+    gate = r.gate;
+    below = below;
+    marked = kept (graph.inputs + r.gate) r.marked;
+    reads = r.reads;
+  })
   by_number r (inr is) = from_gate (subst (λ h. Contains (gate_support graph.gates h) i) is r.reads)
 
   forth : IsReached graph (g + 1) old i → IsReached graph g new i
   forth (inl h) = inl (kept i h)
   forth (inr r) = by_number r (below_or_here r.gate g r.below)
 
-  into_gate : Contains (node_support graph s.left) i ⊎ Contains (node_support graph s.right) i → IsReached graph (g + 1) old i
-  into_gate (inl of_left) = inr (record { gate = g; below = omega arith; marked = is_marked; reads = subst (λ xs. Contains xs i) (sym support) (Contains-append_left (node_support graph s.left) (node_support graph s.right) i of_left) })
-  into_gate (inr of_right) = inr (record { gate = g; below = omega arith; marked = is_marked; reads = subst (λ xs. Contains xs i) (sym support) (Contains-append_right (node_support graph s.left) (node_support graph s.right) i of_right) })
+  into_gate : Contains (node_support graph s.left) i ⊎ Contains (node_support graph s.right) i →
+      IsReached graph (g + 1) old i
+  into_gate (inl of_left) = inr (record {
+    gate = g;
+    below = omega arith;
+    marked = is_marked;
+    reads =
+        subst (λ xs. Contains xs i) (sym support) (Contains-append_left (node_support graph s.left)
+        (node_support graph s.right) i of_left);
+  })
+  into_gate (inr of_right) = inr (record {
+    gate = g;
+    below = omega arith;
+    marked = is_marked;
+    reads =
+        subst (λ xs. Contains xs i) (sym support) (Contains-append_right (node_support graph s.left)
+        (node_support graph s.right) i of_right);
+  })
 
   more : (n : Node) → IsEarlierNode graph.inputs g n → IsEarlierNode graph.inputs (length graph.gates) n
   more n earlier = more_earlier graph.inputs g (length graph.gates) (omega (arith, inside)) n earlier
 
-  of_place : (p : ℕ) → bit_of new p ≡ true → (bit_of old p ≡ true) ⊎ ((place_of graph.inputs s.left ≡ Some p) ⊎ (place_of graph.inputs s.right ≡ Some p))
+  of_place : (p : ℕ) → bit_of new p ≡ true → (bit_of old p ≡ true) ⊎
+      ((place_of graph.inputs s.left ≡ Some p) ⊎ (place_of graph.inputs s.right ≡ Some p))
   of_place p h = elim ((second p).0 h) [
     | inl before ↦ elim ((first p).0 before) [ inl there ↦ inl there | inr left ↦ inr (inl left) ]
     | inr right ↦ inr (inr right)
@@ -97,16 +128,20 @@ sides_marked graph g s old mid new lawful inside at sides is_marked first second
       elim (of_place (graph.inputs + r.gate) r.marked) [
         | inl there ↦ inr (record { gate = r.gate; below = omega (arith, below); marked = there; reads = r.reads })
         | inr side ↦ elim side [
-          | inl left ↦ into_gate (inl (subst (λ xs. Contains xs i) (sym (gate_reads graph s.left r.gate (more s.left sides.left) left)) r.reads))
-          | inr right ↦ into_gate (inr (subst (λ xs. Contains xs i) (sym (gate_reads graph s.right r.gate (more s.right sides.right) right)) r.reads))
+          | inl left ↦ into_gate (inl (subst (λ xs. Contains xs i)
+              (sym (gate_reads graph s.left r.gate (more s.left sides.left) left)) r.reads))
+          | inr right ↦ into_gate (inr (subst (λ xs. Contains xs i)
+              (sym (gate_reads graph s.right r.gate (more s.right sides.right) right)) r.reads))
         ]
       ]
 
-pub sides_unmarked : (graph : AigGraph) (g : ℕ) (marks : List Bool) → bit_of marks (graph.inputs + g) ≡ false → (i : ℕ) → IsReached graph (g + 1) marks i ↔ IsReached graph g marks i
+pub sides_unmarked : (graph : AigGraph) (g : ℕ) (marks : List Bool) → bit_of marks (graph.inputs + g) ≡ false →
+    (i : ℕ) → IsReached graph (g + 1) marks i ↔ IsReached graph g marks i
 sides_unmarked graph g marks unmarked i = (forth, back) where
   by_number : (r : IsReadFrom graph (g + 1) marks i) → (r.gate < g) ⊎ (r.gate ≡ g) → IsReached graph g marks i
   by_number r (inl below) = inr (record { gate = r.gate; below = below; marked = r.marked; reads = r.reads })
-  by_number r (inr is) = absurd (false≢true (sym unmarked ∙ ap (λ h. bit_of marks (graph.inputs + h)) (sym is) ∙ r.marked))
+  by_number r (inr is) = absurd (false≢true (sym unmarked ∙ ap (λ h. bit_of marks (graph.inputs + h)) (sym is)
+      ∙ r.marked))
 
   forth : IsReached graph (g + 1) marks i → IsReached graph g marks i
   forth (inl h) = inl h
@@ -114,36 +149,48 @@ sides_unmarked graph g marks unmarked i = (forth, back) where
 
   back : IsReached graph g marks i → IsReached graph (g + 1) marks i
   back (inl h) = inl h
-  back (inr r) = let below = r.below in inr (record { gate = r.gate; below = omega (arith, below); marked = r.marked; reads = r.reads })
+  back (inr r) = let below = r.below in inr (record {
+    gate = r.gate;
+    below = omega (arith, below);
+    marked = r.marked;
+    reads = r.reads;
+  })
 
 -- the node's place alone
-pub first_marks : (graph : AigGraph) (n : Node) (old cleared marks : List Bool) → IsNode graph n → ((p : ℕ) → bit_of cleared p ≡ false) → ((p : ℕ) → ((bit_of marks p ≡ true) ↔ ((bit_of cleared p ≡ true) ⊎ (place_of graph.inputs n ≡ Some p)))) →
+pub first_marks : (graph : AigGraph) (n : Node) (old cleared marks : List Bool) → IsNode graph n →
+    ((p : ℕ) → bit_of cleared p ≡ false) → ((p : ℕ) → ((bit_of marks p ≡ true) ↔
+    ((bit_of cleared p ≡ true) ⊎ (place_of graph.inputs n ≡ Some p)))) →
     length marks ≡ length old → AreMarks graph n old marks (gate_count n)
-first_marks graph n old cleared marks is_node none marked long = record { reached = λ i small. (forth i small, back i); within = within n is_node; same_length = long } where
-  within : (m : Node) → IsNode graph m → gate_count m ≤ length graph.gates
-  within (Constant b) h = omega arith
-  within (Input j negated) h = omega arith
-  within (Gate g negated) h = omega (arith, h)
+first_marks graph n old cleared marks is_node none marked long =
+    record { reached = λ i small. (forth i small, back i); within = within n is_node; same_length = long } where
+      within : (m : Node) → IsNode graph m → gate_count m ≤ length graph.gates
+      within (Constant b) h = omega arith
+      within (Input j negated) h = omega arith
+      within (Gate g negated) h = omega (arith, h)
 
-  its_place : (p : ℕ) → bit_of marks p ≡ true → place_of graph.inputs n ≡ Some p
-  its_place p h = elim ((marked p).0 h) [ inl there ↦ absurd (false≢true (sym (none p) ∙ there)) | inr here ↦ here ]
+      its_place : (p : ℕ) → bit_of marks p ≡ true → place_of graph.inputs n ≡ Some p
+      its_place p h = elim ((marked p).0 h) [ inl there ↦ absurd (false≢true (sym (none p) ∙ there)) | inr here ↦ here ]
 
-  forth : (i : ℕ) → i < graph.inputs → IsReached graph (gate_count n) marks i → Contains (node_support graph n) i
-  forth i small (inl h) = place_reads graph n i small (its_place i h)
-  forth i small (inr r) = subst (λ xs. Contains xs i) (sym (gate_reads graph n r.gate is_node (its_place (graph.inputs + r.gate) r.marked))) r.reads
+      forth : (i : ℕ) → i < graph.inputs → IsReached graph (gate_count n) marks i → Contains (node_support graph n) i
+      forth i small (inl h) = place_reads graph n i small (its_place i h)
+      forth i small (inr r) = subst (λ xs. Contains xs i) (sym (gate_reads graph n r.gate is_node
+          (its_place (graph.inputs + r.gate) r.marked))) r.reads
 
-  counted : (m : Node) → IsNode graph m → IsEarlierNode graph.inputs (gate_count m) m
-  counted (Constant b) h = tt
-  counted (Input j negated) h = h
-  counted (Gate g negated) h = omega arith
+      counted : (m : Node) → IsNode graph m → IsEarlierNode graph.inputs (gate_count m) m
+      counted (Constant b) h = tt
+      counted (Input j negated) h = h
+      counted (Gate g negated) h = omega arith
 
-  back : (i : ℕ) → Contains (node_support graph n) i → IsReached graph (gate_count n) marks i
-  back i has = node_reaches graph (gate_count n) marks n (counted n is_node) (λ p h. (marked p).1 (inr h)) i has
+      back : (i : ℕ) → Contains (node_support graph n) i → IsReached graph (gate_count n) marks i
+      back i has = node_reaches graph (gate_count n) marks n (counted n is_node) (λ p h. (marked p).1 (inr h)) i has
 
-pub marks_go_on : (graph : AigGraph) (n : Node) (old marks more : List Bool) (g : ℕ) → AreMarks graph n old marks (g + 1) → ((i : ℕ) → i < graph.inputs → (IsReached graph (g + 1) marks i ↔ IsReached graph g more i)) → length more ≡ length marks →
+pub marks_go_on : (graph : AigGraph) (n : Node) (old marks more : List Bool) (g : ℕ) →
+    AreMarks graph n old marks (g + 1) → ((i : ℕ) → i < graph.inputs →
+    (IsReached graph (g + 1) marks i ↔ IsReached graph g more i)) → length more ≡ length marks →
     AreMarks graph n old more g
 marks_go_on graph n old marks more g before step long = record {
-  reached = λ i small. let b = before.reached i small in let s = step i small in ((λ h. b.0 (s.1 h)), (λ h. s.0 (b.1 h)));
+  reached = λ i small. let b = before.reached i small in let s = step i small in
+      ((λ h. b.0 (s.1 h)), (λ h. s.0 (b.1 h)));
   within = let w = before.within in omega (arith, w);
   same_length = long ∙ before.same_length;
 }

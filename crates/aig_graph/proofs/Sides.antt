@@ -16,7 +16,8 @@ sign_not false b = refl
 sign_not true true = refl
 sign_not true false = refl
 
-opposite_value : (graph : AigGraph) (m : ℕ → Bool) (n : Node) → node_value graph m (opposite_node n) ≡ not (node_value graph m n)
+opposite_value : (graph : AigGraph) (m : ℕ → Bool) (n : Node) →
+    node_value graph m (opposite_node n) ≡ not (node_value graph m n)
 opposite_value graph m (Constant b) = refl
 opposite_value graph m (Input i s) = sign_not s (m i)
 opposite_value graph m (Gate g s) = sign_not s (gate_value m graph.gates g)
@@ -37,18 +38,23 @@ negated_gate true false = refl
 negated_gate false r = refl
 
 -- where the gate is a part and the rest
-pub by_side_made : (graph : AigGraph) (g : ℕ) (negated : Bool) (part b : Node) (rest : (ℕ → Bool) → Bool) → IsNode graph (Gate g false) → IsNode graph b →
-    ((m : ℕ → Bool) → gate_value m graph.gates g ≡ (node_value graph m part && rest m)) → (side : Beside) → IsBeside part b side →
+pub by_side_made : (graph : AigGraph) (g : ℕ) (negated : Bool) (part b : Node) (rest : (ℕ → Bool) → Bool) →
+    IsNode graph (Gate g false) → IsNode graph b →
+    ((m : ℕ → Bool) → gate_value m graph.gates g ≡ (node_value graph m part && rest m)) → (side : Beside) →
+    IsBeside part b side →
     IfSome (node_by_side (Gate g negated) negated side b) (IsMade (λ x y. x && y) graph graph (Gate g negated) b)
 by_side_made graph g false part b rest is_gate is_b value Same is = record {
   is_node = is_gate;
-  value = λ m. value m ∙ same_side (node_value graph m part) (rest m) ∙ ap (λ x. x && node_value graph m part) (sym (value m)) ∙ ap (λ n. gate_value m graph.gates g && node_value graph m n) is;
+  value = λ m. value m ∙ same_side (node_value graph m part) (rest m) ∙ ap (λ x. x && node_value graph m part)
+      (sym (value m)) ∙ ap (λ n. gate_value m graph.gates g && node_value graph m n) is;
   reads = λ i has. inl has;
 }
 by_side_made graph g false part b rest is_gate is_b value Opposite is = record {
   is_node = tt;
-  value = λ m. opposite_side (node_value graph m part) (rest m) ∙ ap (λ x. x && not (node_value graph m part)) (sym (value m))
-      ∙ ap (λ x. gate_value m graph.gates g && x) (sym (opposite_value graph m part)) ∙ ap (λ n. gate_value m graph.gates g && node_value graph m n) (sym is);
+  value = λ m. opposite_side (node_value graph m part) (rest m) ∙ ap (λ x. x && not (node_value graph m part))
+      (sym (value m))
+      ∙ ap (λ x. gate_value m graph.gates g && x) (sym (opposite_value graph m part)) ∙ ap
+      (λ n. gate_value m graph.gates g && node_value graph m n) (sym is);
   reads = λ i has. absurd (let below = has.1 in omega arith);
 }
 by_side_made graph g false part b rest is_gate is_b value Apart is = tt
@@ -56,8 +62,10 @@ by_side_made graph g true part b rest is_gate is_b value Same is = tt
 by_side_made graph g true part b rest is_gate is_b value Opposite is = record {
   is_node = is_b;
   value = λ m.
-      ap (node_value graph m) is ∙ opposite_value graph m part ∙ negated_gate (node_value graph m part) (rest m) ∙ ap (λ x. not x && not (node_value graph m part)) (sym (value m))
-      ∙ ap (λ x. not (gate_value m graph.gates g) && x) (sym (opposite_value graph m part)) ∙ ap (λ n. not (gate_value m graph.gates g) && node_value graph m n) (sym is);
+      ap (node_value graph m) is ∙ opposite_value graph m part ∙ negated_gate (node_value graph m part) (rest m) ∙ ap
+      (λ x. not x && not (node_value graph m part)) (sym (value m))
+      ∙ ap (λ x. not (gate_value m graph.gates g) && x) (sym (opposite_value graph m part)) ∙ ap
+      (λ n. not (gate_value m graph.gates g) && node_value graph m n) (sym is);
   reads = λ i has. inr has;
 }
 by_side_made graph g true part b rest is_gate is_b value Apart is = tt
@@ -68,24 +76,32 @@ and_turned true false = refl
 and_turned false true = refl
 and_turned false false = refl
 
-pub by_left : (graph : AigGraph) (g : ℕ) (negated : Bool) (s : Sides) (b : Node) → IsGraph graph → gate_at graph.gates g ≡ Some s → IsNode graph b → (side : Beside) → IsBeside s.left b side →
+pub by_left : (graph : AigGraph) (g : ℕ) (negated : Bool) (s : Sides) (b : Node) → IsGraph graph →
+    gate_at graph.gates g ≡ Some s → IsNode graph b → (side : Beside) → IsBeside s.left b side →
     IfSome (node_by_side (Gate g negated) negated side b) (IsMade (λ x y. x && y) graph graph (Gate g negated) b)
 by_left graph g negated s b lawful at is_b side is =
-    by_side_made graph g negated s.left b (λ m. node_value graph m s.right) (number_of graph.gates g s at) is_b (λ m. gate_value_at m graph.inputs graph.gates g s lawful.gates at) side is
+    by_side_made graph g negated s.left b (λ m. node_value graph m s.right) (number_of graph.gates g s at) is_b
+    (λ m. gate_value_at m graph.inputs graph.gates g s lawful.gates at) side is
 
-pub by_right : (graph : AigGraph) (g : ℕ) (negated : Bool) (s : Sides) (b : Node) → IsGraph graph → gate_at graph.gates g ≡ Some s → IsNode graph b → (side : Beside) → IsBeside s.right b side →
+pub by_right : (graph : AigGraph) (g : ℕ) (negated : Bool) (s : Sides) (b : Node) → IsGraph graph →
+    gate_at graph.gates g ≡ Some s → IsNode graph b → (side : Beside) → IsBeside s.right b side →
     IfSome (node_by_side (Gate g negated) negated side b) (IsMade (λ x y. x && y) graph graph (Gate g negated) b)
 by_right graph g negated s b lawful at is_b side is =
     by_side_made graph g negated s.right b (λ m. node_value graph m s.left) (number_of graph.gates g s at) is_b
-    (λ m. gate_value_at m graph.inputs graph.gates g s lawful.gates at ∙ and_turned (node_value graph m s.left) (node_value graph m s.right)) side is
+    (λ m. gate_value_at m graph.inputs graph.gates g s lawful.gates at ∙ and_turned (node_value graph m s.left)
+    (node_value graph m s.right)) side is
 
-pub swapped_some : (result : Option Node) (graph : AigGraph) (a b : Node) → IfSome result (IsMade (λ x y. x && y) graph graph b a) → IfSome result (IsMade (λ x y. x && y) graph graph a b)
+pub swapped_some : (result : Option Node) (graph : AigGraph) (a b : Node) →
+    IfSome result (IsMade (λ x y. x && y) graph graph b a) → IfSome result (IsMade (λ x y. x && y) graph graph a b)
 swapped_some None graph a b made = tt
 swapped_some (Some n) graph a b made = made_swapped graph graph a b n made
 
 -- as it is answered
-pub answered : (result : Option Node) (graph : AigGraph) (a : Node) (g : ℕ) (negated : Bool) (b : Node) (side : Beside) → a ≡ Gate g negated → result ≡ node_by_side (Gate g negated) negated side b →
-    IfSome (node_by_side (Gate g negated) negated side b) (IsMade (λ x y. x && y) graph graph (Gate g negated) b) → IfSome result (IsMade (λ x y. x && y) graph graph a b)
+pub answered : (result : Option Node) (graph : AigGraph) (a : Node) (g : ℕ) (negated : Bool) (b : Node) (side : Beside)
+    → a ≡ Gate g negated → result ≡ node_by_side (Gate g negated) negated side b →
+    IfSome (node_by_side (Gate g negated) negated side b) (IsMade (λ x y. x && y) graph graph (Gate g negated) b) →
+    IfSome result (IsMade (λ x y. x && y) graph graph a b)
 answered result graph a g negated b side is result_is made =
     subst (λ r. IfSome r (IsMade (λ x y. x && y) graph graph a b)) (sym result_is)
-    (subst (λ n. IfSome (node_by_side (Gate g negated) negated side b) (IsMade (λ x y. x && y) graph graph n b)) (sym is) made)
+    (subst (λ n. IfSome (node_by_side (Gate g negated) negated side b) (IsMade (λ x y. x && y) graph graph n b))
+    (sym is) made)

@@ -20,7 +20,8 @@ all_right P (x ∷ xs) ys h = all_right P xs ys (All-tail P x (xs ++ ys) h)
 
 all_mapped : (P : ℕ → Type 0) (h : ℕ → ℕ) (xs : List ℕ) → All P (map h xs) → All (λ x. P (h x)) xs
 all_mapped P h [] a = All-nil (λ x. P (h x))
-all_mapped P h (x ∷ xs) a = All-cons (λ y. P (h y)) x xs (All-head P (h x) (map h xs) a) (all_mapped P h xs (All-tail P (h x) (map h xs) a))
+all_mapped P h (x ∷ xs) a = All-cons (λ y. P (h y)) x xs (All-head P (h x) (map h xs) a)
+    (all_mapped P h xs (All-tail P (h x) (map h xs) a))
 
 module _ (m n : ℕ → Bool) where
   abbrev Same : ℕ → Type 0
@@ -32,22 +33,32 @@ module _ (m n : ℕ → Bool) where
   value_same g h s same (Input i negated) all = ap (with_sign negated) (All-head Same i [] all)
   value_same g h s same (Gate k negated) all = ap (with_sign negated) (same k all)
 
-  gate_same : (gates : List Sides) (k : ℕ) → All Same (gate_support gates k) → gate_value m gates k ≡ gate_value n gates k
+  gate_same : (gates : List Sides) (k : ℕ) → All Same (gate_support gates k) →
+      gate_value m gates k ≡ gate_value n gates k
   gate_same [] k all = refl
   gate_same (gate ∷ earlier) k all = by_bit (gate_same earlier) (k == length earlier) all where
-    by_bit : ((i : ℕ) → All Same (gate_support earlier i) → gate_value m earlier i ≡ gate_value n earlier i) → (b : Bool) → All Same (cond b (support_by (gate_support earlier) gate.left ++ support_by (gate_support earlier) gate.right) (gate_support earlier k)) →
-        cond b (value_by m (gate_value m earlier) gate.left && value_by m (gate_value m earlier) gate.right) (gate_value m earlier k)
-        ≡ cond b (value_by n (gate_value n earlier) gate.left && value_by n (gate_value n earlier) gate.right) (gate_value n earlier k)
+    by_bit : ((i : ℕ) → All Same (gate_support earlier i) → gate_value m earlier i ≡ gate_value n earlier i) →
+        (b : Bool) → All Same (cond b (support_by (gate_support earlier) gate.left ++ support_by
+        (gate_support earlier) gate.right) (gate_support earlier k)) →
+        cond b (value_by m (gate_value m earlier) gate.left && value_by m (gate_value m earlier) gate.right)
+        (gate_value m earlier k)
+        ≡ cond b (value_by n (gate_value n earlier) gate.left && value_by n (gate_value n earlier) gate.right)
+        (gate_value n earlier k)
     by_bit before true h =
         let left = value_same (gate_value m earlier) (gate_value n earlier) (gate_support earlier) before gate.left
-        (all_left Same (support_by (gate_support earlier) gate.left) (support_by (gate_support earlier) gate.right) h) in
+        (all_left Same (support_by (gate_support earlier) gate.left)
+        (support_by (gate_support earlier) gate.right) h) in
         let right = value_same (gate_value m earlier) (gate_value n earlier) (gate_support earlier) before gate.right
-        (all_right Same (support_by (gate_support earlier) gate.left) (support_by (gate_support earlier) gate.right) h) in
-        ap (λ b. b && value_by m (gate_value m earlier) gate.right) left ∙ ap (λ b. value_by n (gate_value n earlier) gate.left && b) right
+        (all_right Same (support_by (gate_support earlier) gate.left)
+        (support_by (gate_support earlier) gate.right) h) in
+        ap (λ b. b && value_by m (gate_value m earlier) gate.right) left ∙ ap
+        (λ b. value_by n (gate_value n earlier) gate.left && b) right
     by_bit before false h = before k h
 
-  pub node_same : (graph : AigGraph) (node : Node) → All Same (node_support graph node) → node_value graph m node ≡ node_value graph n node
-  node_same graph node all = value_same (gate_value m graph.gates) (gate_value n graph.gates) (gate_support graph.gates) (gate_same graph.gates) node all
+  pub node_same : (graph : AigGraph) (node : Node) → All Same (node_support graph node) →
+      node_value graph m node ≡ node_value graph n node
+  node_same graph node all = value_same (gate_value m graph.gates) (gate_value n graph.gates) (gate_support graph.gates)
+      (gate_same graph.gates) node all
 
 pub output_supported : (f : Dqbf) (graph : AigGraph) (node : Node) → IsSupported (node_output f graph node)
 output_supported f graph node m n all =

@@ -22,7 +22,8 @@ behind_header file = joined_lines (netlist_texts file.circuit) ++ behind_netlist
 canonical_is : (file : AagFile) → canonical_circuit file ≡ header_words file.circuit ++ 10 ∷ behind_header file
 canonical_is file =
     ap₂ (λ xs ys. xs ++ ys) (header_is_line file.circuit)
-    (ap₂ (λ xs ys. xs ++ ys) (netlist_joined file.circuit) (symbols_joined file.symbols.inputs file.symbols.outputs (comment_text file.comment)))
+    (ap₂ (λ xs ys. xs ++ ys) (netlist_joined file.circuit) (symbols_joined file.symbols.inputs file.symbols.outputs
+    (comment_text file.comment)))
     ∙ append_assoc (header_words file.circuit) (10 ∷ []) (behind_header file)
 
 lines_are : (file : AagFile) (is : IsSpellable file) →
@@ -31,13 +32,15 @@ lines_are : (file : AagFile) (is : IsSpellable file) →
     lines_from 1 (canonical_circuit file)
     ≡ record { text = header_words file.circuit; number = 1; behind = behind_header file }
     ∷ (lines_before 2 (netlist_texts file.circuit) (behind_netlist file)
-    ++ (lines_before after (symbol_texts file) (comment_text file.comment) ++ lines_from end (comment_text file.comment)))
+    ++ (lines_before after (symbol_texts file) (comment_text file.comment) ++ lines_from end
+    (comment_text file.comment)))
 lines_are file is =
     let after = number_after 2 (netlist_texts file.circuit) in
     let header : TextLine = record { text = header_words file.circuit; number = 1; behind = behind_header file } in
     ap (lines_from 1) (canonical_is file)
     ∙ one_line 1 (header_words file.circuit) (behind_header file) (header_no_feed file is)
-    ∙ ap (λ lines. header ∷ lines) (joined_are 2 (netlist_texts file.circuit) (behind_netlist file) (netlist_no_feed file.circuit is.lawful is.few_variables)
+    ∙ ap (λ lines. header ∷ lines) (joined_are 2 (netlist_texts file.circuit) (behind_netlist file)
+    (netlist_no_feed file.circuit is.lawful is.few_variables)
     ∙ ap (λ lines. lines_before 2 (netlist_texts file.circuit) (behind_netlist file) ++ lines)
     (joined_are after (symbol_texts file) (comment_text file.comment)
     (symbols_no_feed (symbols_at file.symbols.inputs file.symbols.outputs) (symbols_writable file is))))
@@ -54,7 +57,8 @@ canonical_spells file is =
       symbols = symbols;
       lines = lines_are file is;
       header = header_spells file is;
-      netlist = numbers_of_lines 2 (netlist_texts file.circuit) (behind_netlist file) ∙ netlist_read file.circuit is.lawful is.few_variables;
+      netlist = numbers_of_lines 2 (netlist_texts file.circuit) (behind_netlist file)
+          ∙ netlist_read file.circuit is.lawful is.few_variables;
       symbols_spelled = symbols_spell after symbols (comment_text file.comment) (symbols_writable file is);
       comment = comment_ends (number_after after (symbol_texts file)) file.comment;
       lawful = is.lawful;

@@ -26,7 +26,8 @@ position-le p (x ∷ xs) =
       | inr none ↦ rw none (omega arith)
     ]
 
-choose : (p : ℕ → Bool) (xs : List ℕ) (b : Bool) → nat_lt (position_or_len p xs) (length xs) ≡ b → position_or_len p xs ≤ length xs →
+choose : (p : ℕ → Bool) (xs : List ℕ) (b : Bool) → nat_lt (position_or_len p xs) (length xs) ≡ b →
+    position_or_len p xs ≤ length xs →
     unwrap_or (cond b (Some (position_or_len p xs)) None) (length xs) ≡ position_or_len p xs
 choose p xs true found within = refl
 choose p xs false past within = let far = ltb-false (position_or_len p xs) (length xs) past in omega arith
@@ -34,7 +35,8 @@ choose p xs false past within = let far = ltb-false (position_or_len p xs) (leng
 pub unwrap_position : (p : ℕ → Bool) (xs : List ℕ) → unwrap_or (position p xs) (length xs) ≡ position_or_len p xs
 unwrap_position p xs = choose p xs (nat_lt (position_or_len p xs) (length xs)) refl (position-le p xs)
 
-found : {X : Type 0} (p : X → Bool) (xs : List X) (i : ℕ) → position_or_len p xs ≡ i → (b : Bool) → nat_lt i (length xs) ≡ b →
+found : {X : Type 0} (p : X → Bool) (xs : List X) (i : ℕ) → position_or_len p xs ≡ i → (b : Bool) →
+    nat_lt i (length xs) ≡ b →
     position p xs ≡ cond b (Some i) None
 found p xs i is b test =
     ap (λ k. cond (nat_lt k (length xs)) (Some k) None) is ∙ ap (λ c. cond c (Some i) None) test
@@ -45,6 +47,8 @@ pub position-Some : {X : Type 0} (p : X → Bool) (xs : List X) (i : ℕ) (d : X
 position-Some p xs i d below before here =
     found p xs i (position_or_len_is p xs i d (omega arith) before (λ _. here)) true (lt-ltb i (length xs) below)
 
-pub position-None : {X : Type 0} (p : X → Bool) (xs : List X) (d : X) → ((k : ℕ) → k < length xs → p (get_or xs k d) ≡ false) → position p xs ≡ None
+pub position-None : {X : Type 0} (p : X → Bool) (xs : List X) (d : X) →
+    ((k : ℕ) → k < length xs → p (get_or xs k d) ≡ false) → position p xs ≡ None
 position-None p xs d none =
-    found p xs (length xs) (position_or_len_is p xs (length xs) d (omega arith) none (λ below. absurd (omega arith))) false (le-ltb (length xs) (length xs) (omega arith))
+    found p xs (length xs) (position_or_len_is p xs (length xs) d (omega arith) none (λ below. absurd (omega arith)))
+    false (le-ltb (length xs) (length xs) (omega arith))

@@ -42,7 +42,8 @@ module _ (net : Netlist) where
   settled_new w vs =
       let listed = list_any (λ x. x == w) vs in
       let among = list_any (λ x. x == w) net.inputs in
-      or_right (w == 0) (among || ((w == w) || listed)) (or_right among ((w == w) || listed) (or_left (w == w) listed (eq-eqb w w refl)))
+      or_right (w == 0) (among || ((w == w) || listed)) (or_right among ((w == w) || listed)
+      (or_left (w == w) listed (eq-eqb w w refl)))
 
   settled_grounded : (vs : List ℕ) → All (IsGrounded net) vs → (v : ℕ) → settled vs v ≡ true → IsGrounded net v
   settled_grounded vs grounded v h =
@@ -56,16 +57,20 @@ module _ (net : Netlist) where
       ]
 
   -- where no gate can join, nothing else is in the least set
-  grounded_settled : (vs : List ℕ) → position (can_join vs) net.gates ≡ None → {v : ℕ} → IsGrounded net v → settled vs v ≡ true
+  grounded_settled : (vs : List ℕ) → position (can_join vs) net.gates ≡ None → {v : ℕ} → IsGrounded net v →
+      settled vs v ≡ true
   grounded_settled vs closed constant = refl
   grounded_settled vs closed (input {v = v} i) =
       let among = list_any (λ x. x == v) net.inputs in
       let listed = list_any (λ x. x == v) vs in
       or_right (v == 0) (among || listed) (or_left among listed ((found_among v net.inputs).1 i))
   grounded_settled vs closed (gate g (k, k_in, is) p q) =
-      let stays : can_join vs g ≡ false = ap (can_join vs) (sym is) ∙ none_passes (can_join vs) net.gates closed k g k_in in
-      let sides = and_from (settled vs (left_variable g)) (settled vs (right_variable g)) (grounded_settled vs closed p) (grounded_settled vs closed q) in
-      elim (and_cases (not (settled vs g.variable)) (settled vs (left_variable g) && settled vs (right_variable g)) stays) [
+      let stays : can_join vs g ≡ false = ap (can_join vs) (sym is) ∙ none_passes
+      (can_join vs) net.gates closed k g k_in in
+      let sides = and_from (settled vs (left_variable g)) (settled vs (right_variable g)) (grounded_settled vs closed p)
+      (grounded_settled vs closed q) in
+      elim (and_cases (not (settled vs g.variable)) (settled vs (left_variable g) && settled vs (right_variable g))
+      stays) [
         | inl put ↦ not-false (settled vs g.variable) put
         | inr off ↦ absurd (both_ways (settled vs (left_variable g) && settled vs (right_variable g)) off sides)
       ]
@@ -77,17 +82,21 @@ module _ (net : Netlist) where
       elim (cases_Bool (settled vs g.variable)) [
         | inl put ↦
             let old = cond-true (settled vs g.variable) (left_out vs gs) (suc (left_out vs gs)) put in
-            let new = cond-true (settled (w ∷ vs) g.variable) (left_out (w ∷ vs) gs) (suc (left_out (w ∷ vs) gs)) (settled_more w vs g.variable put) in
+            let new = cond-true (settled (w ∷ vs) g.variable) (left_out (w ∷ vs) gs) (suc (left_out (w ∷ vs) gs))
+            (settled_more w vs g.variable put) in
             omega arith
         | inr off ↦
             let old = cond-false (settled vs g.variable) (left_out vs gs) (suc (left_out vs gs)) off in
             elim (cases_Bool (settled (w ∷ vs) g.variable)) [
-              | inl now ↦ let new = cond-true (settled (w ∷ vs) g.variable) (left_out (w ∷ vs) gs) (suc (left_out (w ∷ vs) gs)) now in omega arith
-              | inr still ↦ let new = cond-false (settled (w ∷ vs) g.variable) (left_out (w ∷ vs) gs) (suc (left_out (w ∷ vs) gs)) still in omega arith
+              | inl now ↦ let new = cond-true (settled (w ∷ vs) g.variable) (left_out (w ∷ vs) gs)
+                  (suc (left_out (w ∷ vs) gs)) now in omega arith
+              | inr still ↦ let new = cond-false (settled (w ∷ vs) g.variable) (left_out (w ∷ vs) gs)
+                  (suc (left_out (w ∷ vs) gs)) still in omega arith
             ]
       ]
 
-  fewer : (vs : List ℕ) (gs : List Gate) (k : ℕ) (d : Gate) → k < length gs → settled vs (get_or gs k d).variable ≡ false →
+  fewer : (vs : List ℕ) (gs : List Gate) (k : ℕ) (d : Gate) → k < length gs →
+      settled vs (get_or gs k d).variable ≡ false →
       left_out ((get_or gs k d).variable ∷ vs) gs < left_out vs gs
   fewer vs [] k d below off = absurd (omega arith)
   fewer vs (g ∷ gs) zero d below off =
@@ -102,23 +111,28 @@ module _ (net : Netlist) where
       elim (cases_Bool (settled vs g.variable)) [
         | inl put ↦
             let old = cond-true (settled vs g.variable) (left_out vs gs) (suc (left_out vs gs)) put in
-            let new = cond-true (settled (w ∷ vs) g.variable) (left_out (w ∷ vs) gs) (suc (left_out (w ∷ vs) gs)) (settled_more w vs g.variable put) in
+            let new = cond-true (settled (w ∷ vs) g.variable) (left_out (w ∷ vs) gs) (suc (left_out (w ∷ vs) gs))
+            (settled_more w vs g.variable put) in
             omega arith
         | inr out ↦
             let old = cond-false (settled vs g.variable) (left_out vs gs) (suc (left_out vs gs)) out in
             elim (cases_Bool (settled (w ∷ vs) g.variable)) [
-              | inl now ↦ let new = cond-true (settled (w ∷ vs) g.variable) (left_out (w ∷ vs) gs) (suc (left_out (w ∷ vs) gs)) now in omega arith
-              | inr still ↦ let new = cond-false (settled (w ∷ vs) g.variable) (left_out (w ∷ vs) gs) (suc (left_out (w ∷ vs) gs)) still in omega arith
+              | inl now ↦ let new = cond-true (settled (w ∷ vs) g.variable) (left_out (w ∷ vs) gs)
+                  (suc (left_out (w ∷ vs) gs)) now in omega arith
+              | inr still ↦ let new = cond-false (settled (w ∷ vs) g.variable) (left_out (w ∷ vs) gs)
+                  (suc (left_out (w ∷ vs) gs)) still in omega arith
             ]
       ]
 
   abbrev Decision : Type 0
   Decision = AllGrounded net ⊎ ((place : ℕ) × IsFirstUngrounded net place)
 
-  at_end : (vs : List ℕ) → All (IsGrounded net) vs → position (can_join vs) net.gates ≡ None → (first : Option ℕ) → position (λ g. not (settled vs g.variable)) net.gates ≡ first → Decision
+  at_end : (vs : List ℕ) → All (IsGrounded net) vs → position (can_join vs) net.gates ≡ None → (first : Option ℕ) →
+      position (λ g. not (settled vs g.variable)) net.gates ≡ first → Decision
   at_end vs grounded closed None none =
       inl (λ k d below. settled_grounded vs grounded (get_or net.gates k d).variable
-      (not-false (settled vs (get_or net.gates k d).variable) (none_passes (λ g. not (settled vs g.variable)) net.gates none k d below)))
+      (not-false (settled vs (get_or net.gates k d).variable)
+      (none_passes (λ g. not (settled vs g.variable)) net.gates none k d below)))
   at_end vs grounded closed (Some place) found =
       let test : Gate → Bool = λ g. not (settled vs g.variable) in
       let no_gate : Gate = record { variable = 0; left = 0; right = 0 } in
@@ -127,32 +141,41 @@ module _ (net : Netlist) where
         place,
         record {
           in_range = is.0;
-          outside = λ inside. both_ways (settled vs (gate_at net place).variable) (not-true (settled vs (gate_at net place).variable) is.1) (grounded_settled vs closed inside);
-          first = λ p before. settled_grounded vs grounded (gate_at net p).variable (not-false (settled vs (gate_at net p).variable) (is.2 p before));
+          outside = λ inside. both_ways (settled vs (gate_at net place).variable)
+              (not-true (settled vs (gate_at net place).variable) is.1) (grounded_settled vs closed inside);
+          first = λ p before. settled_grounded vs grounded (gate_at net p).variable
+              (not-false (settled vs (gate_at net p).variable) (is.2 p before));
         },
       )
 
-  decide_from : (fuel : ℕ) (vs : List ℕ) → left_out vs net.gates ≤ fuel → All (IsGrounded net) vs → (joining : Option ℕ) → position (can_join vs) net.gates ≡ joining → Decision
-  decide_from fuel vs enough grounded None closed = at_end vs grounded closed (position (λ g. not (settled vs g.variable)) net.gates) refl
+  decide_from : (fuel : ℕ) (vs : List ℕ) → left_out vs net.gates ≤ fuel → All (IsGrounded net) vs →
+      (joining : Option ℕ) → position (can_join vs) net.gates ≡ joining → Decision
+  decide_from fuel vs enough grounded None closed = at_end vs grounded closed
+      (position (λ g. not (settled vs g.variable)) net.gates) refl
   decide_from zero vs enough grounded (Some place) found =
       let no_gate : Gate = record { variable = 0; left = 0; right = 0 } in
       let is = position-Some (can_join vs) net.gates place no_gate found in
       let g = get_or net.gates place no_gate in
-      let tests = and_parts (not (settled vs g.variable)) (settled vs (left_variable g) && settled vs (right_variable g)) is.1 in
+      let tests = and_parts (not (settled vs g.variable)) (settled vs (left_variable g) && settled vs
+      (right_variable g)) is.1 in
       let below = fewer vs net.gates place no_gate is.0 (not-true (settled vs g.variable) tests.0) in
       absurd (omega arith)
   decide_from (suc fuel) vs enough grounded (Some place) found =
       let no_gate : Gate = record { variable = 0; left = 0; right = 0 } in
       let is = position-Some (can_join vs) net.gates place no_gate found in
       let g = get_or net.gates place no_gate in
-      let tests = and_parts (not (settled vs g.variable)) (settled vs (left_variable g) && settled vs (right_variable g)) is.1 in
+      let tests = and_parts (not (settled vs g.variable)) (settled vs (left_variable g) && settled vs
+      (right_variable g)) is.1 in
       let sides = and_parts (settled vs (left_variable g)) (settled vs (right_variable g)) tests.1 in
       let below = fewer vs net.gates place no_gate is.0 (not-true (settled vs g.variable) tests.0) in
       let joins : IsGrounded net g.variable =
-      gate g (Contains-get_or net.gates place no_gate is.0) (settled_grounded vs grounded (left_variable g) sides.0) (settled_grounded vs grounded (right_variable g) sides.1) in
+      gate g (Contains-get_or net.gates place no_gate is.0) (settled_grounded vs grounded (left_variable g) sides.0)
+      (settled_grounded vs grounded (right_variable g) sides.1) in
       let more = g.variable ∷ vs in
-      decide_from fuel more (omega arith) (All-cons (IsGrounded net) g.variable vs joins grounded) (position (can_join more) net.gates) refl
+      decide_from fuel more (omega arith) (All-cons (IsGrounded net) g.variable vs joins grounded)
+      (position (can_join more) net.gates) refl
 
   pub all_grounded_or_first : AllGrounded net ⊎ ((place : ℕ) × IsFirstUngrounded net place)
   all_grounded_or_first =
-      decide_from (left_out [] net.gates) [] (omega arith) (λ k d below. absurd (omega arith)) (position (can_join []) net.gates) refl
+      decide_from (left_out [] net.gates) [] (omega arith) (λ k d below. absurd (omega arith))
+      (position (can_join []) net.gates) refl

@@ -19,23 +19,35 @@ record SameLine (k l : TextLine) : Type 0 where
   text : k.text ≡ l.text
   behind : k.behind ≡ l.behind
 
-extend_same : (byte n m : ℕ) (ks ls : List TextLine) → AllZip SameLine ks ls → AllZip SameLine (extend_line byte n ks) (extend_line byte m ls)
+extend_same : (byte n m : ℕ) (ks ls : List TextLine) → AllZip SameLine ks ls →
+    AllZip SameLine (extend_line byte n ks) (extend_line byte m ls)
 extend_same byte n m [] [] same = (record { text = refl; behind = refl }, tt)
 extend_same byte n m [] (l ∷ ls) same = absurd same
 extend_same byte n m (k ∷ ks) [] same = absurd same
-extend_same byte n m (k ∷ ks) (l ∷ ls) same = (record { text = ap (λ t. byte ∷ t) same.0.text; behind = same.0.behind }, same.1)
+extend_same byte n m (k ∷ ks) (l ∷ ls) same = (
+  record {
+    text = ap (λ t. byte ∷ t) same.0.text;
+    behind =
+        same.0.behind;
+  },
+  same.1,
+)
 
 lines_same : (text : List ℕ) (n m : ℕ) → AllZip SameLine (lines_from n text) (lines_from m text)
 lines_same [] n m = tt
 lines_same (byte ∷ bytes) n m =
     elim (cases_Bool (byte == 10)) [
       | inl feed ↦
-          subst (λ b. AllZip SameLine (cond b (record { text = []; number = n; behind = bytes } ∷ lines_from (n + 1) bytes) (extend_line byte n (lines_from n bytes)))
-          (cond b (record { text = []; number = m; behind = bytes } ∷ lines_from (m + 1) bytes) (extend_line byte m (lines_from m bytes)))) (sym feed)
+          subst (λ b. AllZip SameLine (cond b (record { text = []; number = n; behind = bytes } ∷ lines_from
+          (n + 1) bytes) (extend_line byte n (lines_from n bytes)))
+          (cond b (record { text = []; number = m; behind = bytes } ∷ lines_from (m + 1) bytes)
+          (extend_line byte m (lines_from m bytes)))) (sym feed)
           (record { text = refl; behind = refl }, lines_same bytes (n + 1) (m + 1))
       | inr other ↦
-          subst (λ b. AllZip SameLine (cond b (record { text = []; number = n; behind = bytes } ∷ lines_from (n + 1) bytes) (extend_line byte n (lines_from n bytes)))
-          (cond b (record { text = []; number = m; behind = bytes } ∷ lines_from (m + 1) bytes) (extend_line byte m (lines_from m bytes)))) (sym other)
+          subst (λ b. AllZip SameLine (cond b (record { text = []; number = n; behind = bytes } ∷ lines_from
+          (n + 1) bytes) (extend_line byte n (lines_from n bytes)))
+          (cond b (record { text = []; number = m; behind = bytes } ∷ lines_from (m + 1) bytes)
+          (extend_line byte m (lines_from m bytes)))) (sym other)
           (extend_same byte n m (lines_from n bytes) (lines_from m bytes) (lines_same bytes n m))
     ]
 
@@ -44,15 +56,18 @@ abbrev relined : ℕ → Body → Body
 relined line b = record b { header_line = line }
 
 module _ (file : AagFile) (line : ℕ) where
-  unless_same : (b : Body) (output gate : Option ℕ) (made : AagFile) → unless_undefined (or_gate b output gate) made ≡ Ok file →
+  unless_same : (b : Body) (output gate : Option ℕ) (made : AagFile) →
+      unless_undefined (or_gate b output gate) made ≡ Ok file →
       unless_undefined (or_gate (relined line b) output gate) made ≡ Ok file
   unless_same b (Some j) gate made read = cc
   unless_same b None (Some i) made read = cc
   unless_same b None None made read = read
 
-  finish_same : (b : Body) (comment : Option (List ℕ)) → finish b comment ≡ Ok file → finish (relined line b) comment ≡ Ok file
+  finish_same : (b : Body) (comment : Option (List ℕ)) → finish b comment ≡ Ok file →
+      finish (relined line b) comment ≡ Ok file
   finish_same b comment read =
-      unless_same b (position (λ l. not (stands_on_defined b.netlist l)) b.netlist.outputs) (position (λ g. not (reads_defined b.netlist g)) b.netlist.gates)
+      unless_same b (position (λ l. not (stands_on_defined b.netlist l)) b.netlist.outputs)
+      (position (λ g. not (reads_defined b.netlist g)) b.netlist.gates)
       (record { circuit = b.netlist; symbols = b.symbols; comment = comment }) read
 
   end_same : (part : Part) (b : Body) (n m : ℕ) → at_end part b n ≡ Ok file → at_end part (relined line b) m ≡ Ok file
@@ -65,33 +80,43 @@ module _ (file : AagFile) (line : ℕ) where
   abbrev GoesOnAs : (Body → Result AagFile LineFault) → (Body → Result AagFile LineFault) → Type 0
   GoesOnAs next other = (c : Body) → next c ≡ Ok file → other (relined line c) ≡ Ok file
 
-  netlist_same : (n m : ℕ) (b : Body) (r : Result Netlist AagFault) (next other : Body → Result AagFile LineFault) → GoesOnAs next other → go_on n b r next ≡ Ok file →
+  netlist_same : (n m : ℕ) (b : Body) (r : Result Netlist AagFault) (next other : Body → Result AagFile LineFault) →
+      GoesOnAs next other → go_on n b r next ≡ Ok file →
       go_on m (relined line b) r other ≡ Ok file
   netlist_same n m b (Ok net) next other goes read = goes (record b { netlist = net }) read
   netlist_same n m b (Err name) next other goes read = cc
 
-  table_same : (n m : ℕ) (b : Body) (r : Result SymbolTable AagFault) (next other : Body → Result AagFile LineFault) → GoesOnAs next other → with_symbol n b r next ≡ Ok file →
+  table_same : (n m : ℕ) (b : Body) (r : Result SymbolTable AagFault) (next other : Body → Result AagFile LineFault) →
+      GoesOnAs next other → with_symbol n b r next ≡ Ok file →
       with_symbol m (relined line b) r other ≡ Ok file
   table_same n m b (Ok table) next other goes read = goes (record b { symbols = table }) read
   table_same n m b (Err name) next other goes read = cc
 
-  choice_same : (blank mark : Bool) (n m : ℕ) (b : Body) (r : Result SymbolTable AagFault) (comment : List ℕ) (next other : Body → Result AagFile LineFault) → GoesOnAs next other →
+  choice_same : (blank mark : Bool) (n m : ℕ) (b : Body) (r : Result SymbolTable AagFault) (comment : List ℕ)
+      (next other : Body → Result AagFile LineFault) → GoesOnAs next other →
       cond blank (next b) (cond mark (finish b (Some comment)) (with_symbol n b r next)) ≡ Ok file →
-      cond blank (other (relined line b)) (cond mark (finish (relined line b) (Some comment)) (with_symbol m (relined line b) r other)) ≡ Ok file
+      cond blank (other (relined line b)) (cond mark (finish (relined line b) (Some comment))
+      (with_symbol m (relined line b) r other)) ≡ Ok file
   choice_same true mark n m b r comment next other goes read = goes b read
   choice_same false true n m b r comment next other goes read = finish_same b (Some comment) read
   choice_same false false n m b r comment next other goes read = table_same n m b r next other goes read
 
-  line_same : (part : Part) (b : Body) (text behind : List ℕ) (n m : ℕ) (next other : Body → Result AagFile LineFault) → GoesOnAs next other →
+  line_same : (part : Part) (b : Body) (text behind : List ℕ) (n m : ℕ) (next other : Body → Result AagFile LineFault) →
+      GoesOnAs next other →
       read_line part b (record { text = text; number = n; behind = behind }) next ≡ Ok file →
       read_line part (relined line b) (record { text = text; number = m; behind = behind }) other ≡ Ok file
-  line_same InputLine b text behind n m next other goes read = netlist_same n m b (input_line b.netlist (numbers_of (line_tokens text))) next other goes read
-  line_same OutputLine b text behind n m next other goes read = netlist_same n m b (output_line b.netlist (numbers_of (line_tokens text))) next other goes read
-  line_same GateLine b text behind n m next other goes read = netlist_same n m b (gate_line b.netlist (numbers_of (line_tokens text))) next other goes read
+  line_same InputLine b text behind n m next other goes read =
+      netlist_same n m b (input_line b.netlist (numbers_of (line_tokens text))) next other goes read
+  line_same OutputLine b text behind n m next other goes read =
+      netlist_same n m b (output_line b.netlist (numbers_of (line_tokens text))) next other goes read
+  line_same GateLine b text behind n m next other goes read =
+      netlist_same n m b (gate_line b.netlist (numbers_of (line_tokens text))) next other goes read
   line_same SymbolLine b text behind n m next other goes read =
-      choice_same (is_blank_line text) (begins_comment text) n m b (symbol_line b.header b.symbols (symbol_of text)) behind next other goes read
+      choice_same (is_blank_line text) (begins_comment text) n m b
+      (symbol_line b.header b.symbols (symbol_of text)) behind next other goes read
 
-  body_same : (ks ls : List TextLine) → AllZip SameLine ks ls → (b : Body) (n m : ℕ) → read_body b ks n ≡ Ok file → read_body (relined line b) ls m ≡ Ok file
+  body_same : (ks ls : List TextLine) → AllZip SameLine ks ls → (b : Body) (n m : ℕ) → read_body b ks n ≡ Ok file →
+      read_body (relined line b) ls m ≡ Ok file
   body_same [] [] same b n m read = end_same (next_part b) b n m read
   body_same [] (l ∷ ls) same b n m read = absurd same
   body_same (k ∷ ks) [] same b n m read = absurd same
@@ -99,18 +124,23 @@ module _ (file : AagFile) (line : ℕ) where
       let other : Body → Result AagFile LineFault = λ c. read_body c ls (l.number + 1) in
       let moved = line_same (next_part b) b k.text k.behind k.number l.number (λ c. read_body c ks (k.number + 1)) other
       (λ c. body_same ks ls same.1 c (k.number + 1) (l.number + 1)) read in
-      ap₂ (λ text behind. read_line (next_part b) (relined line b) (record { text = text; number = l.number; behind = behind }) other) (sym same.0.text) (sym same.0.behind) ∙ moved
+      ap₂ (λ text behind. read_line (next_part b) (relined line b)
+      (record { text = text; number = l.number; behind = behind }) other) (sym same.0.text)
+      (sym same.0.behind) ∙ moved
 
 header_same : (file : AagFile) (n m : ℕ) (r : Result Header AagFault) (ks ls : List TextLine) → AllZip SameLine ks ls →
-    behind_header n r (λ b. read_body b ks (n + 1)) ≡ Ok file → behind_header m r (λ b. read_body b ls (m + 1)) ≡ Ok file
+    behind_header n r (λ b. read_body b ks (n + 1)) ≡ Ok file →
+    behind_header m r (λ b. read_body b ls (m + 1)) ≡ Ok file
 header_same file n m (Ok h) ks ls same read = body_same file m ks ls same (start n h) (n + 1) (m + 1) read
 header_same file n m (Err name) ks ls same read = cc
 
-read_same : (file : AagFile) (ks ls : List TextLine) (n m : ℕ) → AllZip SameLine ks ls → read_lines ks n ≡ Ok file → read_lines ls m ≡ Ok file
+read_same : (file : AagFile) (ks ls : List TextLine) (n m : ℕ) → AllZip SameLine ks ls → read_lines ks n ≡ Ok file →
+    read_lines ls m ≡ Ok file
 read_same file [] ls n m same read = cc
 read_same file (k ∷ ks) [] n m same read = absurd same
 read_same file (k ∷ ks) (l ∷ ls) n m same read =
-    ap (λ text. behind_header l.number (header_of (line_tokens text)) (λ b. read_body b ls (l.number + 1))) (sym same.0.text)
+    ap (λ text. behind_header l.number (header_of (line_tokens text)) (λ b. read_body b ls (l.number + 1)))
+    (sym same.0.text)
     ∙ header_same file k.number l.number (header_of (line_tokens k.text)) ks ls same.1 read
 
 pub scan_same : (text : List ℕ) (file : AagFile) (n m : ℕ) → scan text n ≡ Ok file → scan text m ≡ Ok file

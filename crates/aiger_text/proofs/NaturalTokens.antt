@@ -10,13 +10,15 @@ use Rattle.aiger_text.specs.Lines.{numbers_of}
 abbrev pub IsSmallNumber : ℕ → Type 0
 IsSmallNumber n = n < 10 ^ 18
 
-numbers_parts : (o : Option ℕ) (os : Option (List ℕ)) (ns : List ℕ) → option_and_then (λ n. option_map (λ rest. n ∷ rest) os) o ≡ Some ns →
+numbers_parts : (o : Option ℕ) (os : Option (List ℕ)) (ns : List ℕ) →
+    option_and_then (λ n. option_map (λ rest. n ∷ rest) os) o ≡ Some ns →
     (n : ℕ) × (rest : List ℕ) × (o ≡ Some n) × (os ≡ Some rest) × (ns ≡ n ∷ rest)
 numbers_parts None os ns h = cc
 numbers_parts (Some n) None ns h = cc
 numbers_parts (Some n) (Some rest) ns h = let e : ns ≡ n ∷ rest = cc in (n, rest, refl, refl, e)
 
-pub numbers_are : (tokens : List (List ℕ)) (ns : List ℕ) → numbers_of tokens ≡ Some ns → AllByRecursion IsSmallNumber ns → map number_of tokens ≡ naturals ns
+pub numbers_are : (tokens : List (List ℕ)) (ns : List ℕ) → numbers_of tokens ≡ Some ns →
+    AllByRecursion IsSmallNumber ns → map number_of tokens ≡ naturals ns
 numbers_are [] ns h small = let e : [] ≡ ns = cc in ap naturals e
 numbers_are (token ∷ tokens) ns h small =
     let parts = numbers_parts (natural_of token) (numbers_of tokens) ns h in
@@ -24,7 +26,8 @@ numbers_are (token ∷ tokens) ns h small =
     ap₂ (λ x xs. x ∷ xs) (natural_spelled token parts.0 parts.2 all.0) (numbers_are tokens parts.1 parts.3 all.1)
     ∙ ap naturals (sym parts.4)
 
-pub numbers_from : (tokens : List (List ℕ)) (ns : List ℕ) → map number_of tokens ≡ naturals ns → numbers_of tokens ≡ Some ns
+pub numbers_from : (tokens : List (List ℕ)) (ns : List ℕ) → map number_of tokens ≡ naturals ns →
+    numbers_of tokens ≡ Some ns
 numbers_from [] [] h = refl
 numbers_from [] (n ∷ ns) h = cc
 numbers_from (token ∷ tokens) [] h = cc

@@ -23,6 +23,7 @@ number_is_name n small =
     let of = decimal_digits n small in
     record {
       some = omega (arith, of.some);
-      one_line = λ k d below. eqb-false _ 10 (All-from_recursion (λ byte. (byte == 10) ≡ false) (decimal n) (word_no_feed (decimal n) (natural_is_word n small)) k d below);
+      one_line = λ k d below. eqb-false _ 10 (All-from_recursion (λ byte. (byte == 10) ≡ false) (decimal n)
+          (word_no_feed (decimal n) (natural_is_word n small)) k d below);
       no_end_crs = digits_kept (decimal n) of.are;
     }

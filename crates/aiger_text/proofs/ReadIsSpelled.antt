@@ -15,7 +15,8 @@ use Rattle.aiger_text.proofs.ReadNetlist.{inputs_spelled, outputs_spelled, gates
 use Rattle.aiger_text.proofs.ReadSymbols.{symbols_spelled}
 use Rattle.aiger_text.proofs.SpelledNetlist.{no_symbols, body_with}
 
-no_netlist : (h : Header) → h.max_var ≤ max_count → IsNetlist (record { max_var = h.max_var; inputs = []; outputs = []; gates = [] })
+no_netlist : (h : Header) → h.max_var ≤ max_count → IsNetlist
+    (record { max_var = h.max_var; inputs = []; outputs = []; gates = [] })
 no_netlist h few = record {
   numbered = omega arith;
   inputs_fit = λ k d below. absurd (omega arith);
@@ -27,24 +28,33 @@ no_netlist h few = record {
 }
 
 no_names : (count : ℕ) → AreNames count []
-no_names count = record { placed = λ k d below. absurd (omega arith); once = λ i j d before below. absurd (omega arith) }
+no_names count = record {
+  placed = λ k d below. absurd (omega arith);
+  once =
+      λ i j d before below. absurd (omega arith);
+}
 
-header_goes_on : (line : ℕ) (r : Result Header AagFault) (next : Body → Result AagFile LineFault) (file : AagFile) → behind_header line r next ≡ Ok file →
+header_goes_on : (line : ℕ) (r : Result Header AagFault) (next : Body → Result AagFile LineFault) (file : AagFile) →
+    behind_header line r next ≡ Ok file →
     (h : Header) × (r ≡ Ok h) × (next (start line h) ≡ Ok file)
 header_goes_on line (Ok h) next file read = (h, refl, read)
 header_goes_on line (Err name) next file read = cc
 
-body_is_spelled : (text : List ℕ) (line : TextLine) (lines : List TextLine) (h : Header) (number : ℕ) (file : AagFile) → lines_from 1 text ≡ line ∷ lines → SpellsHeader line.text h →
+body_is_spelled : (text : List ℕ) (line : TextLine) (lines : List TextLine) (h : Header) (number : ℕ) (file : AagFile) →
+    lines_from 1 text ≡ line ∷ lines → SpellsHeader line.text h →
     read_body (start line.number h) lines number ≡ Ok file → AllGrounded file.circuit → SpellsCircuit text file
 body_is_spelled text line lines h number file are header read acyclic =
     let inputs = inputs_spelled line.number h file lines number (no_netlist h header.few_variables) read in
     let is = inputs.all in
-    let outputs = outputs_spelled line.number h file is inputs.counted inputs.rest inputs.number inputs.kept inputs.read in
+    let outputs = outputs_spelled line.number h file is inputs.counted inputs.rest inputs.number inputs.kept
+    inputs.read in
     let os = outputs.all in
-    let gates = gates_spelled line.number h file is inputs.counted os outputs.counted outputs.rest outputs.number outputs.kept outputs.read in
+    let gates = gates_spelled line.number h file is inputs.counted os outputs.counted outputs.rest outputs.number
+    outputs.kept outputs.read in
     let gs = gates.all in
     let few_inputs : h.inputs ≤ max_count = omega (arith, header.enough, header.few_variables) in
-    let symbols = symbols_spelled line.number h is os gs inputs.counted outputs.counted gates.counted few_inputs header.few_outputs file gates.rest no_symbols gates.number
+    let symbols = symbols_spelled line.number h is os gs inputs.counted outputs.counted gates.counted few_inputs
+    header.few_outputs file gates.rest no_symbols gates.number
     (no_names h.inputs) (no_names h.outputs) gates.read in
     let net : Netlist = record { max_var = h.max_var; inputs = is; outputs = os; gates = gs } in
     let body = body_with line.number h symbols.table is os gs in
@@ -59,12 +69,15 @@ body_is_spelled text line lines h number file are header read acyclic =
       symbol_lines = symbols.own;
       comment_lines = symbols.rest;
       symbols = symbols.symbols;
-      lines = are ∙ ap (λ ls. line ∷ ls) (parted inputs.own outputs.own gates.own (symbols.own ++ symbols.rest) lines inputs.rest outputs.rest gates.rest inputs.parted outputs.parted gates.parted symbols.parted);
+      lines = are ∙ ap (λ ls. line ∷ ls) (parted inputs.own outputs.own gates.own
+          (symbols.own ++ symbols.rest) lines inputs.rest outputs.rest gates.rest inputs.parted outputs.parted
+          gates.parted symbols.parted);
       header = subst (SpellsHeader line.text) counts header;
       netlist = map-append line_numbers inputs.own (outputs.own ++ gates.own)
           ∙ ap₂ (λ xs ys. xs ++ ys) (inputs.spelled ∙ ap (map input_numbers) inputs.whole)
           (map-append line_numbers outputs.own gates.own
-          ∙ ap₂ (λ xs ys. xs ++ ys) (outputs.spelled ∙ ap (map output_numbers) outputs.whole) (gates.spelled ∙ ap (map gate_numbers) gates.whole));
+          ∙ ap₂ (λ xs ys. xs ++ ys) (outputs.spelled ∙ ap (map output_numbers) outputs.whole)
+          (gates.spelled ∙ ap (map gate_numbers) gates.whole));
       symbols_spelled = symbols.spelled;
       comment = symbols.ends;
       lawful = gates.kept;
@@ -76,16 +89,21 @@ body_is_spelled text line lines h number file are header read acyclic =
       output_names = subst (λ n. AreNames n symbols.table.outputs) (sym outputs.counted) symbols.outputs;
     })
   where
-    parted : (a b c d lines after_a after_b after_c : List TextLine) → lines ≡ a ++ after_a → after_a ≡ b ++ after_b → after_b ≡ c ++ after_c → after_c ≡ d →
+    parted : (a b c d lines after_a after_b after_c : List TextLine) → lines ≡ a ++ after_a → after_a ≡ b ++ after_b →
+        after_b ≡ c ++ after_c → after_c ≡ d →
         lines ≡ (a ++ (b ++ c)) ++ d
     parted a b c d lines after_a after_b after_c one two three four =
-        one ∙ ap (λ ls. a ++ ls) (two ∙ ap (λ ls. b ++ ls) (three ∙ ap (λ ls. c ++ ls) four) ∙ sym (append_assoc b c d)) ∙ sym (append_assoc a (b ++ c) d)
+        one ∙ ap (λ ls. a ++ ls) (two ∙ ap (λ ls. b ++ ls) (three ∙ ap (λ ls. c ++ ls) four) ∙ sym (append_assoc b c d))
+        ∙ sym (append_assoc a (b ++ c) d)
 
-lines_are_spelled : (text : List ℕ) (lines : List TextLine) (file : AagFile) → lines_from 1 text ≡ lines → read_lines lines 1 ≡ Ok file → AllGrounded file.circuit → SpellsCircuit text file
+lines_are_spelled : (text : List ℕ) (lines : List TextLine) (file : AagFile) → lines_from 1 text ≡ lines →
+    read_lines lines 1 ≡ Ok file → AllGrounded file.circuit → SpellsCircuit text file
 lines_are_spelled text [] file are read acyclic = cc
 lines_are_spelled text (line ∷ lines) file are read acyclic =
-    let on = header_goes_on line.number (header_of (line_tokens line.text)) (λ b. read_body b lines (line.number + 1)) file read in
+    let on = header_goes_on line.number (header_of (line_tokens line.text))
+    (λ b. read_body b lines (line.number + 1)) file read in
     body_is_spelled text line lines on.0 (line.number + 1) file are (header_is line.text on.0 on.1) on.2 acyclic
 
-pub read_is_spelled : (text : List ℕ) (file : AagFile) → scan text 1 ≡ Ok file → AllGrounded file.circuit → SpellsCircuit text file
+pub read_is_spelled : (text : List ℕ) (file : AagFile) → scan text 1 ≡ Ok file → AllGrounded file.circuit →
+    SpellsCircuit text file
 read_is_spelled text file read acyclic = lines_are_spelled text (lines_from 1 text) file refl read acyclic

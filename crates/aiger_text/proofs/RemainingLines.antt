@@ -16,7 +16,8 @@ no_memory : (first : ℕ) (scanned : Result AagFile LineFault) → IsAagReading 
 no_memory first (Ok file) = tt
 no_memory first (Err fault) = tt
 
-pub stopped : (first : ℕ) (scanned : Result AagFile LineFault) (old new : Body) (text behind : List ℕ) (number : ℕ) (lines : List TextLine)
+pub stopped : (first : ℕ) (scanned : Result AagFile LineFault) (old new : Body) (text behind : List ℕ) (number : ℕ)
+    (lines : List TextLine)
     (stop : LineStop) (answer : AagStop) → scanned ≡ read_body old (line_of text number behind ∷ lines) number →
     TakesLine old text (Err stop) new → StopsAt number stop answer → IsAagReading first scanned (Err answer)
 stopped first scanned old new text behind number lines (Fault name) answer same takes stops =
@@ -29,7 +30,8 @@ stopped first scanned old new text behind number lines Memory answer same takes 
     let Answers : AagStop → Type 0 = λ a. IsAagReading first scanned (Err a) in
     subst Answers (sym stops) (no_memory first scanned)
 
-pub shorter : (bytes text others : List ℕ) (number : ℕ) (line : TextLine) (lines : List TextLine) → IsFirstLine bytes text others →
+pub shorter : (bytes text others : List ℕ) (number : ℕ) (line : TextLine) (lines : List TextLine) →
+    IsFirstLine bytes text others →
     lines_from number bytes ≡ line ∷ lines → length others < length bytes
 shorter [] text others number line lines first some = cc
 shorter (byte ∷ bytes) text others number line lines first some =
@@ -39,13 +41,16 @@ shorter (byte ∷ bytes) text others number line lines first some =
     ]
 
 -- one line more is read
-pub one_more : (all before rest lines : List TextLine) (line : TextLine) → all ≡ before ++ lines → lines ≡ line ∷ rest → all ≡ (before ++ line ∷ []) ++ rest
+pub one_more : (all before rest lines : List TextLine) (line : TextLine) → all ≡ before ++ lines → lines ≡ line ∷ rest →
+    all ≡ (before ++ line ∷ []) ++ rest
 one_more all before rest lines line so_far next =
     so_far ∙ ap (λ ls. before ++ ls) next ∙ sym (append_assoc before (line ∷ []) rest)
 
 pub comment_stands : (result : Result ReadCircuit AagStop) (text : List ℕ) (first : ℕ) (comment : List ℕ) (line : ℕ) →
-    IfOk result (λ r. r.file.comment ≡ Some comment) → IfOk result (λ r. r.comment_line ≡ Some line) → IsBehindMark text first comment line →
+    IfOk result (λ r. r.file.comment ≡ Some comment) → IfOk result (λ r. r.comment_line ≡ Some line) →
+    IsBehindMark text first comment line →
     IfOk result (λ r. IsCommentLine text first r.file.comment r.comment_line)
 comment_stands (Ok r) text first comment line comment_is line_is stands =
-    subst (λ c. IsCommentLine text first c r.comment_line) (sym comment_is) (subst (λ l. IsCommentLine text first (Some comment) l) (sym line_is) stands)
+    subst (λ c. IsCommentLine text first c r.comment_line) (sym comment_is)
+    (subst (λ l. IsCommentLine text first (Some comment) l) (sym line_is) stands)
 comment_stands (Err stop) text first comment line comment_is line_is stands = tt

@@ -16,7 +16,8 @@ use Rattle.aiger_text.proofs.NaturalTokens.{IsSmallNumber, numbers_are, numbers_
 
 zeros_small : (n : ℕ) → list_any (λ k. nat_lt max_count k) (replicate n 0) ≡ false
 zeros_small zero = refl
-zeros_small (suc n) = or_from (nat_lt max_count 0) (list_any (λ k. nat_lt max_count k) (replicate n 0)) refl (zeros_small n)
+zeros_small (suc n) = or_from (nat_lt max_count 0) (list_any (λ k. nat_lt max_count k) (replicate n 0)) refl
+    (zeros_small n)
 
 zeros_none : (n : ℕ) → list_any (λ k. not (k == 0)) (replicate n 0) ≡ false
 zeros_none zero = refl
@@ -35,24 +36,30 @@ header_from text h spells =
     let Large : ℕ → Bool = λ n. nat_lt max_count n in
     let long : length zs ≡ spells.zeros = length-replicate spells.zeros 0 in
     let counted : length ns ≡ 5 + spells.zeros = omega arith in
-    let shaped = or_from (nat_lt (length ns) 5) (nat_lt 9 (length ns)) (le-ltb (length ns) 5 (omega arith)) (le-ltb 9 (length ns) (omega (arith, spells.few_sections))) in
-    let small = or_from (Large h.max_var) (list_any Large (h.inputs ∷ 0 ∷ h.outputs ∷ h.gates ∷ zs)) (le-ltb max_count h.max_var (omega arith))
+    let shaped = or_from (nat_lt (length ns) 5) (nat_lt 9 (length ns)) (le-ltb (length ns) 5 (omega arith))
+    (le-ltb 9 (length ns) (omega (arith, spells.few_sections))) in
+    let small = or_from (Large h.max_var) (list_any Large (h.inputs ∷ 0 ∷ h.outputs ∷ h.gates ∷ zs))
+    (le-ltb max_count h.max_var (omega arith))
     (or_from (Large h.inputs) (list_any Large (0 ∷ h.outputs ∷ h.gates ∷ zs)) (le-ltb max_count h.inputs (omega arith))
     (or_from (Large 0) (list_any Large (h.outputs ∷ h.gates ∷ zs)) refl
     (or_from (Large h.outputs) (list_any Large (h.gates ∷ zs)) (le-ltb max_count h.outputs (omega arith))
-    (or_from (Large h.gates) (list_any Large zs) (le-ltb max_count h.gates (omega arith)) (zeros_small spells.zeros))))) in
+    (or_from (Large h.gates) (list_any Large zs) (le-ltb max_count h.gates (omega arith))
+    (zeros_small spells.zeros))))) in
     ap header_of spells.word
     ∙ ap header_numbers (numbers_from spells.tokens ns spells.numbers)
     ∙ cond-false (nat_lt (length ns) 5 || nat_lt 9 (length ns)) (Err BadHeader) (limited_counts_of ns) shaped
     ∙ cond-false (list_any Large ns) (Err TooBig) (counts_of ns) small
     ∙ cond-false (list_any (λ n. not (n == 0)) zs) (Err NotCombinational) _ (zeros_none spells.zeros)
-    ∙ cond-false (nat_lt h.max_var (h.inputs + h.gates)) (Err BadHeader) (Ok h) (le-ltb h.max_var (h.inputs + h.gates) spells.enough)
+    ∙ cond-false (nat_lt h.max_var (h.inputs + h.gates)) (Err BadHeader) (Ok h)
+    (le-ltb h.max_var (h.inputs + h.gates) spells.enough)
 
-unless_error : (b : Bool) (name : AagFault) (r : Result Header AagFault) (h : Header) → cond b (Err name) r ≡ Ok h → (b ≡ false) × (r ≡ Ok h)
+unless_error : (b : Bool) (name : AagFault) (r : Result Header AagFault) (h : Header) → cond b (Err name) r ≡ Ok h →
+    (b ≡ false) × (r ≡ Ok h)
 unless_error true name r h same = cc
 unless_error false name r h same = (refl, same)
 
-if_error : (b : Bool) (name : AagFault) (r : Result Header AagFault) (h : Header) → cond b r (Err name) ≡ Ok h → (b ≡ true) × (r ≡ Ok h)
+if_error : (b : Bool) (name : AagFault) (r : Result Header AagFault) (h : Header) → cond b r (Err name) ≡ Ok h →
+    (b ≡ true) × (r ≡ Ok h)
 if_error true name r h same = (refl, same)
 if_error false name r h same = cc
 
@@ -63,8 +70,10 @@ small_are (n ∷ ns) h =
     let within = ltb-false max_count n parts.0 in
     (omega arith, small_are ns parts.1)
 
-counts_are : (text : List ℕ) (tokens : List (List ℕ)) (ns : List ℕ) (h : Header) → line_tokens text ≡ codes "aag" ∷ tokens → map number_of tokens ≡ naturals ns →
-    5 ≤ length ns → length ns ≤ 9 → list_any (λ n. nat_lt max_count n) ns ≡ false → counts_of ns ≡ Ok h → SpellsHeader text h
+counts_are : (text : List ℕ) (tokens : List (List ℕ)) (ns : List ℕ) (h : Header) →
+    line_tokens text ≡ codes "aag" ∷ tokens → map number_of tokens ≡ naturals ns →
+    5 ≤ length ns → length ns ≤ 9 → list_any (λ n. nat_lt max_count n) ns ≡ false → counts_of ns ≡ Ok h →
+    SpellsHeader text h
 counts_are text tokens [] h word numbers enough few small counts = absurd (omega arith)
 counts_are text tokens (m ∷ []) h word numbers enough few small counts = absurd (omega arith)
 counts_are text tokens (m ∷ i ∷ []) h word numbers enough few small counts = absurd (omega arith)
@@ -77,7 +86,8 @@ counts_are text tokens (m ∷ i ∷ l ∷ o ∷ a ∷ zs) h word numbers enough 
     let third = or_parts (Large l) (list_any Large (o ∷ a ∷ zs)) second.1 in
     let fourth = or_parts (Large o) (list_any Large (a ∷ zs)) third.1 in
     let made : Header = record { max_var = m; inputs = i; outputs = o; gates = a } in
-    let sections = unless_error (not (l == 0) || list_any (λ n. not (n == 0)) zs) NotCombinational (cond (nat_lt m (i + a)) (Err BadHeader) (Ok made)) h counts in
+    let sections = unless_error (not (l == 0) || list_any (λ n. not (n == 0)) zs) NotCombinational
+    (cond (nat_lt m (i + a)) (Err BadHeader) (Ok made)) h counts in
     let zero = or_parts (not (l == 0)) (list_any (λ n. not (n == 0)) zs) sections.0 in
     let room = unless_error (nat_lt m (i + a)) BadHeader (Ok made) h sections.1 in
     let same : made ≡ h = cc in
@@ -94,20 +104,24 @@ counts_are text tokens (m ∷ i ∷ l ∷ o ∷ a ∷ zs) h word numbers enough 
       few_outputs = ltb-false max_count o fourth.0;
     })
 
-numbers_spell : (text : List ℕ) (tokens : List (List ℕ)) (found : Option (List ℕ)) (h : Header) → line_tokens text ≡ codes "aag" ∷ tokens → numbers_of tokens ≡ found →
+numbers_spell : (text : List ℕ) (tokens : List (List ℕ)) (found : Option (List ℕ)) (h : Header) →
+    line_tokens text ≡ codes "aag" ∷ tokens → numbers_of tokens ≡ found →
     header_numbers found ≡ Ok h → SpellsHeader text h
 numbers_spell text tokens None h word are read = cc
 numbers_spell text tokens (Some ns) h word are read =
     let shaped = unless_error (nat_lt (length ns) 5 || nat_lt 9 (length ns)) BadHeader (limited_counts_of ns) h read in
     let bounds = or_parts (nat_lt (length ns) 5) (nat_lt 9 (length ns)) shaped.0 in
     let small = unless_error (list_any (λ n. nat_lt max_count n) ns) TooBig (counts_of ns) h shaped.1 in
-    counts_are text tokens ns h word (numbers_are tokens ns are (small_are ns small.0)) (ltb-false (length ns) 5 bounds.0) (ltb-false 9 (length ns) bounds.1) small.0 small.1
+    counts_are text tokens ns h word (numbers_are tokens ns are (small_are ns small.0))
+    (ltb-false (length ns) 5 bounds.0) (ltb-false 9 (length ns) bounds.1) small.0 small.1
 
-tokens_spell : (text : List ℕ) (tokens : List (List ℕ)) (h : Header) → line_tokens text ≡ tokens → header_of tokens ≡ Ok h → SpellsHeader text h
+tokens_spell : (text : List ℕ) (tokens : List (List ℕ)) (h : Header) → line_tokens text ≡ tokens →
+    header_of tokens ≡ Ok h → SpellsHeader text h
 tokens_spell text [] h are read = cc
 tokens_spell text (word ∷ tokens) h are read =
     let parts = if_error (bytes_eq word (codes "aag")) BadHeader (header_numbers (numbers_of tokens)) h read in
-    numbers_spell text tokens (numbers_of tokens) h (are ∙ ap (λ w. w ∷ tokens) ((bytes_eq-Decides word (codes "aag")).0 parts.0)) refl parts.1
+    numbers_spell text tokens (numbers_of tokens) h (are ∙ ap (λ w. w ∷ tokens)
+    ((bytes_eq-Decides word (codes "aag")).0 parts.0)) refl parts.1
 
 pub header_is : (text : List ℕ) (h : Header) → header_of (line_tokens text) ≡ Ok h → SpellsHeader text h
 header_is text h read = tokens_spell text (line_tokens text) h refl read

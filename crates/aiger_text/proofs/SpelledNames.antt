@@ -16,7 +16,8 @@ abbrev AreLines : List TextLine → Type 0
 AreLines lines = AllByRecursion (λ (l : TextLine). AreNoFeed l.text) lines
 
 -- no line holds an LF
-extended : (byte n : ℕ) (lines : List TextLine) → (byte == 10) ≡ false → AreLines lines → AreLines (extend_line byte n lines)
+extended : (byte n : ℕ) (lines : List TextLine) → (byte == 10) ≡ false → AreLines lines →
+    AreLines (extend_line byte n lines)
 extended byte n [] other are = ((other, tt), tt)
 extended byte n (line ∷ lines) other are = ((other, are.0), are.1)
 
@@ -24,7 +25,8 @@ lines_no_feed : (n : ℕ) (bytes : List ℕ) → AreLines (lines_from n bytes)
 lines_no_feed n [] = tt
 lines_no_feed n (byte ∷ bytes) =
     let first : TextLine = record { text = []; number = n; behind = bytes } in
-    let Cut : Bool → Type 0 = λ b. AreLines (cond b (first ∷ lines_from (n + 1) bytes) (extend_line byte n (lines_from n bytes))) in
+    let Cut : Bool → Type 0 = λ b. AreLines (cond b (first ∷ lines_from (n + 1) bytes)
+    (extend_line byte n (lines_from n bytes))) in
     elim (cases_Bool (byte == 10)) [
       | inl feed ↦ subst Cut (sym feed) (tt, lines_no_feed (n + 1) bytes)
       | inr other ↦ subst Cut (sym other) (extended byte n (lines_from n bytes) other (lines_no_feed n bytes))
@@ -51,7 +53,8 @@ name_no_feed : (bytes : List ℕ) → AreNoFeed bytes → AreNoFeed (without_end
 name_no_feed [] none = tt
 name_no_feed (byte ∷ bytes) none = kept_no_feed byte (without_end_crs bytes) none.0 (name_no_feed bytes none.1)
 
-kept_twice : (byte : ℕ) (bytes : List ℕ) → without_end_crs bytes ≡ bytes → without_end_crs (keep_byte byte bytes) ≡ keep_byte byte bytes
+kept_twice : (byte : ℕ) (bytes : List ℕ) → without_end_crs bytes ≡ bytes →
+    without_end_crs (keep_byte byte bytes) ≡ keep_byte byte bytes
 kept_twice byte [] same =
     elim (cases_Bool (byte == 13)) [
       | inl cr ↦ let none = cond-true (byte == 13) [] (byte ∷ []) cr in ap without_end_crs none ∙ sym none
@@ -74,13 +77,15 @@ symbol_named text s none spells =
       no_end_crs = ap without_end_crs spells.name ∙ cut_twice spells.rest ∙ sym spells.name;
     }
 
-symbols_named : (lines : List TextLine) (symbols : List SymbolLine) → AreLines lines → SpellSymbols lines symbols → AllByRecursion (λ s. IsName s.name) symbols
+symbols_named : (lines : List TextLine) (symbols : List SymbolLine) → AreLines lines → SpellSymbols lines symbols →
+    AllByRecursion (λ s. IsName s.name) symbols
 symbols_named [] [] are spelled = tt
 symbols_named [] (s ∷ symbols) are spelled = absurd spelled
 symbols_named (line ∷ lines) [] are spelled = tt
 symbols_named (line ∷ lines) (s ∷ symbols) are spelled =
     let own = filter (λ (l : TextLine). not (is_blank_line l.text)) lines in
-    let Zip : Bool → Type 0 = λ b. AllZip (λ (l : TextLine) e. SpellsSymbol l.text e) (cond (not b) (line ∷ own) own) (s ∷ symbols) in
+    let Zip : Bool → Type 0 = λ b. AllZip (λ (l : TextLine) e. SpellsSymbol l.text e) (cond (not b) (line ∷ own) own)
+    (s ∷ symbols) in
     elim (cases_Bool (is_blank_line line.text)) [
       | inl blank ↦ symbols_named lines (s ∷ symbols) are.1 (subst Zip blank spelled)
       | inr other ↦
@@ -88,11 +93,13 @@ symbols_named (line ∷ lines) (s ∷ symbols) are spelled =
           (symbol_named line.text s are.0 both.0, symbols_named lines symbols are.1 both.1)
     ]
 
-names_named : (of_kind : SymbolLine → Bool) (symbols : List SymbolLine) → AllByRecursion (λ s. IsName s.name) symbols → AllByRecursion (λ x. IsName x.1) (names of_kind symbols)
+names_named : (of_kind : SymbolLine → Bool) (symbols : List SymbolLine) → AllByRecursion (λ s. IsName s.name) symbols →
+    AllByRecursion (λ x. IsName x.1) (names of_kind symbols)
 names_named of_kind [] are = tt
 names_named of_kind (s ∷ symbols) are =
     let own = filter of_kind symbols in
-    let Named : Bool → Type 0 = λ b. AllByRecursion {X = ℕ × List ℕ} (λ x. IsName x.1) (map (λ e. (e.place, e.name)) (cond b (s ∷ own) own)) in
+    let Named : Bool → Type 0 = λ b. AllByRecursion {X = ℕ × List ℕ} (λ x. IsName x.1)
+    (map (λ e. (e.place, e.name)) (cond b (s ∷ own) own)) in
     elim (cases_Bool (of_kind s)) [
       | inl is ↦ subst Named (sym is) (are.0, names_named of_kind symbols are.1)
       | inr other ↦ subst Named (sym other) (names_named of_kind symbols are.1)
@@ -103,9 +110,12 @@ spelled_is_spellable text file spells =
     let P : TextLine → Type 0 = λ (l : TextLine). AreNoFeed l.text in
     let all = subst AreLines spells.lines (lines_no_feed 1 text) in
     let behind = behind_front P spells.netlist_lines (spells.symbol_lines ++ spells.comment_lines) all.1 in
-    let named = symbols_named spells.symbol_lines spells.symbols (before_back P spells.symbol_lines spells.comment_lines behind) spells.symbols_spelled in
-    let inputs = All-from_recursion (λ x. IsName x.1) (names (λ s. s.of_input) spells.symbols) (names_named (λ s. s.of_input) spells.symbols named) in
-    let outputs = All-from_recursion (λ x. IsName x.1) (names (λ s. not s.of_input) spells.symbols) (names_named (λ s. not s.of_input) spells.symbols named) in
+    let named = symbols_named spells.symbol_lines spells.symbols
+    (before_back P spells.symbol_lines spells.comment_lines behind) spells.symbols_spelled in
+    let inputs = All-from_recursion (λ x. IsName x.1) (names (λ s. s.of_input) spells.symbols)
+    (names_named (λ s. s.of_input) spells.symbols named) in
+    let outputs = All-from_recursion (λ x. IsName x.1) (names (λ s. not s.of_input) spells.symbols)
+    (names_named (λ s. not s.of_input) spells.symbols named) in
     record {
       enough = spells.header.enough;
       few_variables = spells.header.few_variables;

@@ -10,18 +10,24 @@ use Rattle.aiger_text.specs.Grammar.{letter_of, SpellsSymbol}
 use Rattle.aiger_text.specs.Lines.{SymbolLine, if_named, behind_place, digits_end, behind_kind, symbol_of, without_end_crs}
 
 -- digits, and a byte that is none
-digits_stop : (digits : List ℕ) (byte : ℕ) (rest : List ℕ) → list_all is_ascii_digit digits ≡ true → is_ascii_digit byte ≡ false →
-    (take (digits_end (digits ++ (byte ∷ rest))) (digits ++ (byte ∷ rest)) ≡ digits) × (drop (digits_end (digits ++ (byte ∷ rest))) (digits ++ (byte ∷ rest)) ≡ byte ∷ rest)
+digits_stop : (digits : List ℕ) (byte : ℕ) (rest : List ℕ) → list_all is_ascii_digit digits ≡ true →
+    is_ascii_digit byte ≡ false →
+    (take (digits_end (digits ++ (byte ∷ rest))) (digits ++ (byte ∷ rest)) ≡ digits) ×
+    (drop (digits_end (digits ++ (byte ∷ rest))) (digits ++ (byte ∷ rest)) ≡ byte ∷ rest)
 digits_stop [] byte rest are stops =
-    let none : digits_end (byte ∷ rest) ≡ 0 = cond-false (not (not (is_ascii_digit byte))) (1 + digits_end rest) 0 (ap (λ b. not (not b)) stops) in
+    let none : digits_end (byte ∷ rest) ≡ 0 = cond-false (not (not (is_ascii_digit byte))) (1 + digits_end rest) 0
+    (ap (λ b. not (not b)) stops) in
     (ap (λ n. take n (byte ∷ rest)) none, ap (λ n. drop n (byte ∷ rest)) none)
 digits_stop (digit ∷ digits) byte rest are stops =
     let bytes = digits ++ (byte ∷ rest) in
     let parts = and_parts (is_ascii_digit digit) (list_all is_ascii_digit digits) are in
     let behind = digits_stop digits byte rest parts.1 stops in
     let more : digits_end (digit ∷ bytes) ≡ suc (digits_end bytes) =
-    cond-true (not (not (is_ascii_digit digit))) (1 + digits_end bytes) 0 (ap (λ b. not (not b)) parts.0) ∙ one-add (digits_end bytes) in
-    (ap (λ n. take n (digit ∷ bytes)) more ∙ ap (λ xs. digit ∷ xs) behind.0, ap (λ n. drop n (digit ∷ bytes)) more ∙ behind.1)
+    cond-true (not (not (is_ascii_digit digit))) (1 + digits_end bytes) 0 (ap (λ b. not (not b)) parts.0) ∙ one-add
+    (digits_end bytes) in (
+      ap (λ n. take n (digit ∷ bytes)) more ∙ ap (λ xs. digit ∷ xs) behind.0,
+      ap (λ n. drop n (digit ∷ bytes)) more ∙ behind.1,
+    )
 
 digits_are : (bytes : List ℕ) → list_all is_ascii_digit (take (digits_end bytes) bytes) ≡ true
 digits_are [] = refl
@@ -29,11 +35,14 @@ digits_are (byte ∷ bytes) =
     elim (cases_Bool (is_ascii_digit byte)) [
       | inl digit ↦
           let more : digits_end (byte ∷ bytes) ≡ suc (digits_end bytes) =
-          cond-true (not (not (is_ascii_digit byte))) (1 + digits_end bytes) 0 (ap (λ b. not (not b)) digit) ∙ one-add (digits_end bytes) in
+          cond-true (not (not (is_ascii_digit byte))) (1 + digits_end bytes) 0 (ap (λ b. not (not b)) digit) ∙ one-add
+          (digits_end bytes) in
           ap (λ n. list_all is_ascii_digit (take n (byte ∷ bytes))) more
-          ∙ and_from (is_ascii_digit byte) (list_all is_ascii_digit (take (digits_end bytes) bytes)) digit (digits_are bytes)
+          ∙ and_from (is_ascii_digit byte) (list_all is_ascii_digit (take (digits_end bytes) bytes)) digit
+          (digits_are bytes)
       | inr other ↦
-          let none : digits_end (byte ∷ bytes) ≡ 0 = cond-false (not (not (is_ascii_digit byte))) (1 + digits_end bytes) 0 (ap (λ b. not (not b)) other) in
+          let none : digits_end (byte ∷ bytes) ≡ 0 = cond-false (not (not (is_ascii_digit byte)))
+          (1 + digits_end bytes) 0 (ap (λ b. not (not b)) other) in
           ap (λ n. list_all is_ascii_digit (take n (byte ∷ bytes))) none
     ]
 
@@ -41,11 +50,13 @@ separates : (byte : ℕ) → (byte ≡ 32) ⊎ (byte ≡ 9) → ((byte == 32 || 
 separates byte (inl space) = (or_left (byte == 32) (byte == 9) (eq-eqb byte 32 space), ap is_ascii_digit space)
 separates byte (inr tab) = (or_right (byte == 32) (byte == 9) (eq-eqb byte 9 tab), ap is_ascii_digit tab)
 
-if_named_some : (b : Bool) (place : ℕ) (name : List ℕ) → 1 ≤ length name → if_named b place name ≡ Some (record { of_input = b; place = place; name = name })
+if_named_some : (b : Bool) (place : ℕ) (name : List ℕ) → 1 ≤ length name →
+    if_named b place name ≡ Some (record { of_input = b; place = place; name = name })
 if_named_some b place [] some = absurd (omega arith)
 if_named_some b place (byte ∷ bytes) some = refl
 
-behind_kind_from : (b : Bool) (s : SymbolLine) (digits : List ℕ) (separator : ℕ) (rest : List ℕ) → list_all is_ascii_digit digits ≡ true → number_of digits ≡ Int (pos s.place) →
+behind_kind_from : (b : Bool) (s : SymbolLine) (digits : List ℕ) (separator : ℕ) (rest : List ℕ) →
+    list_all is_ascii_digit digits ≡ true → number_of digits ≡ Int (pos s.place) →
     (separator ≡ 32) ⊎ (separator ≡ 9) → s.name ≡ without_end_crs rest → 1 ≤ length s.name →
     behind_kind b (digits ++ (separator ∷ rest)) ≡ Some (record { of_input = b; place = s.place; name = s.name })
 behind_kind_from b s digits separator rest are place separated name named =
@@ -68,9 +79,11 @@ pub symbol_from : (text : List ℕ) (s : SymbolLine) → SpellsSymbol text s →
 symbol_from text s spells =
     ap symbol_of spells.spelling
     ∙ by_letter s.of_input (spells.digits ++ (spells.separator ∷ spells.rest))
-    ∙ behind_kind_from s.of_input s spells.digits spells.separator spells.rest spells.are_digits spells.place spells.separated spells.name spells.named
+    ∙ behind_kind_from s.of_input s spells.digits spells.separator spells.rest spells.are_digits spells.place
+    spells.separated spells.name spells.named
 
-number_parts : (o : Option ℕ) (next : ℕ → Option SymbolLine) (s : SymbolLine) → option_and_then next o ≡ Some s → (n : ℕ) × (o ≡ Some n) × (next n ≡ Some s)
+number_parts : (o : Option ℕ) (next : ℕ → Option SymbolLine) (s : SymbolLine) → option_and_then next o ≡ Some s →
+    (n : ℕ) × (o ≡ Some n) × (next n ≡ Some s)
 number_parts None next s h = cc
 number_parts (Some n) next s h = (n, refl, h)
 
@@ -79,35 +92,44 @@ named_is : (b : Bool) (place : ℕ) (name : List ℕ) (s : SymbolLine) → if_na
 named_is b place [] s h = cc
 named_is b place (byte ∷ bytes) s h =
     let same : record { of_input = b; place = place; name = byte ∷ bytes } ≡ s = cc in
-    let name : byte ∷ bytes ≡ s.name = ap (λ (x : SymbolLine). x.name) same in
-    (ap (λ (x : SymbolLine). x.of_input) same, ap (λ (x : SymbolLine). x.place) same, sym name, omega (arith, ap length name))
+    let name : byte ∷ bytes ≡ s.name = ap (λ (x : SymbolLine). x.name) same in (
+      ap (λ (x : SymbolLine). x.of_input) same,
+      ap (λ (x : SymbolLine). x.place) same,
+      sym name,
+      omega (arith, ap length name),
+    )
 
 separator_is : (byte : ℕ) → (byte == 32 || byte == 9) ≡ true → (byte ≡ 32) ⊎ (byte ≡ 9)
-separator_is byte h = elim (or_cases (byte == 32) (byte == 9) h) [ inl space ↦ inl (eqb-true byte 32 space) | inr tab ↦ inr (eqb-true byte 9 tab) ]
+separator_is byte h = elim (or_cases (byte == 32) (byte == 9) h)
+    [ inl space ↦ inl (eqb-true byte 32 space) | inr tab ↦ inr (eqb-true byte 9 tab) ]
 
 none_or : (b : Bool) (o : Option SymbolLine) (s : SymbolLine) → cond b o None ≡ Some s → (b ≡ true) × (o ≡ Some s)
 none_or true o s h = (refl, h)
 none_or false o s h = cc
 
 place_parts : (b : Bool) (place : ℕ) (bytes : List ℕ) (s : SymbolLine) → behind_place b place bytes ≡ Some s →
-    (separator : ℕ) × (rest : List ℕ) × (bytes ≡ separator ∷ rest) × ((separator ≡ 32) ⊎ (separator ≡ 9)) × (if_named b place (without_end_crs rest) ≡ Some s)
+    (separator : ℕ) × (rest : List ℕ) × (bytes ≡ separator ∷ rest) × ((separator ≡ 32) ⊎ (separator ≡ 9)) ×
+    (if_named b place (without_end_crs rest) ≡ Some s)
 place_parts b place [] s h = cc
 place_parts b place (separator ∷ rest) s h =
     let parts = none_or (separator == 32 || separator == 9) (if_named b place (without_end_crs rest)) s h in
     (separator, rest, refl, separator_is separator parts.0, parts.1)
 
-kind_is : (b : Bool) (bytes : List ℕ) (s : SymbolLine) → behind_kind b bytes ≡ Some s → s.place < 10 ^ 18 → SpellsSymbol (letter_of b ∷ bytes) s
+kind_is : (b : Bool) (bytes : List ℕ) (s : SymbolLine) → behind_kind b bytes ≡ Some s → s.place < 10 ^ 18 →
+    SpellsSymbol (letter_of b ∷ bytes) s
 kind_is b bytes s h small =
     let end = digits_end bytes in
     let number = number_parts (natural_of (take end bytes)) (λ n. behind_place b n (drop end bytes)) s h in
     let behind = place_parts b number.0 (drop end bytes) s number.2 in
     let named = named_is b number.0 (without_end_crs behind.1) s behind.4 in
-    let natural : number_of (take end bytes) ≡ Int (pos number.0) = natural_spelled (take end bytes) number.0 number.1 (omega arith) in
+    let natural : number_of (take end bytes) ≡ Int (pos number.0) =
+    natural_spelled (take end bytes) number.0 number.1 (omega arith) in
     record {
       digits = take end bytes;
       separator = behind.0;
       rest = behind.1;
-      spelling = ap₂ (λ kind xs. kind ∷ xs) (ap letter_of named.0) (sym (take-append-drop end bytes) ∙ ap (λ xs. take end bytes ++ xs) behind.2);
+      spelling = ap₂ (λ kind xs. kind ∷ xs) (ap letter_of named.0)
+          (sym (take-append-drop end bytes) ∙ ap (λ xs. take end bytes ++ xs) behind.2);
       are_digits = digits_are bytes;
       place = natural ∙ ap (λ n. Int (pos n)) named.1;
       separated = behind.3;
@@ -123,6 +145,8 @@ symbol_is (kind ∷ bytes) s h small =
           subst (λ k. SpellsSymbol (k ∷ bytes) s) (sym (eqb-true kind 105 input))
           (kind_is true bytes s (sym (cond-true (kind == 105) (behind_kind true bytes) _ input) ∙ h) small)
       | inr other ↦
-          let parts = none_or (kind == 111) (behind_kind false bytes) s (sym (cond-false (kind == 105) (behind_kind true bytes) _ other) ∙ h) in
-          subst (λ k. SpellsSymbol (k ∷ bytes) s) (sym (eqb-true kind 111 parts.0)) (kind_is false bytes s parts.1 small)
+          let parts = none_or (kind == 111) (behind_kind false bytes) s
+          (sym (cond-false (kind == 105) (behind_kind true bytes) _ other) ∙ h) in
+          subst (λ k. SpellsSymbol (k ∷ bytes) s) (sym (eqb-true kind 111 parts.0))
+          (kind_is false bytes s parts.1 small)
     ]

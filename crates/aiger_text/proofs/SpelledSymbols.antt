@@ -22,49 +22,68 @@ use Rattle.aiger_text.proofs.SpelledSymbolLines.{symbol_from}
 
 -- the symbols behind those of a table
 abbrev pub joined : SymbolTable → List SymbolLine → SymbolTable
-joined t symbols = record { inputs = t.inputs ++ names (λ s. s.of_input) symbols; outputs = t.outputs ++ names (λ s. not s.of_input) symbols }
+joined t symbols = record {
+  inputs = t.inputs ++ names (λ s. s.of_input) symbols;
+  outputs =
+      t.outputs ++ names (λ s. not s.of_input) symbols;
+}
 
 abbrev pub with_name : SymbolTable → SymbolLine → SymbolTable
-with_name t s = cond s.of_input (record t { inputs = t.inputs ++ (s.place, s.name) ∷ [] }) (record t { outputs = t.outputs ++ (s.place, s.name) ∷ [] })
+with_name t s = cond s.of_input (record t { inputs = t.inputs ++ (s.place, s.name) ∷ [] })
+    (record t { outputs = t.outputs ++ (s.place, s.name) ∷ [] })
 
 pub joined-nil : (t : SymbolTable) → joined t [] ≡ t
-joined-nil t = ap (λ xs. record { inputs = xs; outputs = t.outputs ++ [] }) (append-nil t.inputs) ∙ ap (λ xs. record { inputs = t.inputs; outputs = xs }) (append-nil t.outputs)
+joined-nil t = ap (λ xs. record { inputs = xs; outputs = t.outputs ++ [] }) (append-nil t.inputs) ∙ ap
+    (λ xs. record { inputs = t.inputs; outputs = xs }) (append-nil t.outputs)
 
 joined_parts : (t : SymbolTable) (b : Bool) (place : ℕ) (name : List ℕ) (symbols : List SymbolLine) →
-    let s : SymbolLine = record { of_input = b; place = place; name = name } in joined (with_name t s) symbols ≡ joined t (s ∷ symbols)
+    let s : SymbolLine = record { of_input = b; place = place; name = name } in
+    joined (with_name t s) symbols ≡ joined t (s ∷ symbols)
 joined_parts t true place name symbols =
-    ap (λ xs. record { inputs = xs; outputs = t.outputs ++ names (λ s. not s.of_input) symbols }) (append_assoc t.inputs ((place, name) ∷ []) (names (λ s. s.of_input) symbols))
+    ap (λ xs. record { inputs = xs; outputs = t.outputs ++ names (λ s. not s.of_input) symbols })
+    (append_assoc t.inputs ((place, name) ∷ []) (names (λ s. s.of_input) symbols))
 joined_parts t false place name symbols =
-    ap (λ xs. record { inputs = t.inputs ++ names (λ s. s.of_input) symbols; outputs = xs }) (append_assoc t.outputs ((place, name) ∷ []) (names (λ s. not s.of_input) symbols))
+    ap (λ xs. record { inputs = t.inputs ++ names (λ s. s.of_input) symbols; outputs = xs })
+    (append_assoc t.outputs ((place, name) ∷ []) (names (λ s. not s.of_input) symbols))
 
-pub joined-cons : (t : SymbolTable) (s : SymbolLine) (symbols : List SymbolLine) → joined (with_name t s) symbols ≡ joined t (s ∷ symbols)
+pub joined-cons : (t : SymbolTable) (s : SymbolLine) (symbols : List SymbolLine) →
+    joined (with_name t s) symbols ≡ joined t (s ∷ symbols)
 joined-cons t s symbols = joined_parts t s.of_input s.place s.name symbols
 
-absent_from : (symbols : List (ℕ × List ℕ)) (place : ℕ) → list_any (λ s. s.0 == place) symbols ≡ false → lookup (nat_eq place) symbols ≡ None
+absent_from : (symbols : List (ℕ × List ℕ)) (place : ℕ) → list_any (λ s. s.0 == place) symbols ≡ false →
+    lookup (nat_eq place) symbols ≡ None
 absent_from [] place h = refl
 absent_from (s ∷ symbols) place h =
     let parts = or_parts (s.0 == place) (list_any (λ e. e.0 == place) symbols) h in
-    cond-false (nat_eq place s.0) (Some s.1) (lookup (nat_eq place) symbols) (ne_eqb place s.0 (λ same. eqb-false s.0 place parts.0 (sym same)))
+    cond-false (nat_eq place s.0) (Some s.1) (lookup (nat_eq place) symbols)
+    (ne_eqb place s.0 (λ same. eqb-false s.0 place parts.0 (sym same)))
     ∙ absent_from symbols place parts.1
 
 -- a name of the whole table that has its place free
-name_passes : (count : ℕ) (all done todo : List (ℕ × List ℕ)) (place : ℕ) (name : List ℕ) → AreNames count all → done ++ ((place, name) ∷ todo) ≡ all →
+name_passes : (count : ℕ) (all done todo : List (ℕ × List ℕ)) (place : ℕ) (name : List ℕ) → AreNames count all →
+    done ++ ((place, name) ∷ todo) ≡ all →
     (nat_lt place count && is_none (name_at done place)) ≡ true
 name_passes count all done todo place name are whole =
     and_from (nat_lt place count) (is_none (name_at done place))
-    (lt-ltb place count (All-contains (λ symbol. symbol.0 < count) all (place, name) are.placed (is_member all done todo (place, name) whole)))
+    (lt-ltb place count (All-contains (λ symbol. symbol.0 < count) all (place, name) are.placed
+    (is_member all done todo (place, name) whole)))
     (ap is_none (absent_from done place (not_before (λ symbol. symbol.0) all done todo (place, name) whole are.once)))
 
-symbol_passes : (h : Header) (table t : SymbolTable) (b : Bool) (place : ℕ) (name : List ℕ) (todo : List SymbolLine) → AreNames h.inputs table.inputs → AreNames h.outputs table.outputs →
-    let s : SymbolLine = record { of_input = b; place = place; name = name } in joined t (s ∷ todo) ≡ table → add_symbol h t s ≡ Ok (with_name t s)
+symbol_passes : (h : Header) (table t : SymbolTable) (b : Bool) (place : ℕ) (name : List ℕ) (todo : List SymbolLine) →
+    AreNames h.inputs table.inputs → AreNames h.outputs table.outputs →
+    let s : SymbolLine = record { of_input = b; place = place; name = name } in joined t (s ∷ todo) ≡ table →
+    add_symbol h t s ≡ Ok (with_name t s)
 symbol_passes h table t true place name todo inputs outputs whole =
     cond-true (nat_lt place h.inputs && is_none (name_at t.inputs place)) _ (Err BadSymbol)
-    (name_passes h.inputs table.inputs t.inputs (names (λ s. s.of_input) todo) place name inputs (ap (λ (x : SymbolTable). x.inputs) whole))
+    (name_passes h.inputs table.inputs t.inputs (names (λ s. s.of_input) todo) place name inputs
+    (ap (λ (x : SymbolTable). x.inputs) whole))
 symbol_passes h table t false place name todo inputs outputs whole =
     cond-true (nat_lt place h.outputs && is_none (name_at t.outputs place)) _ (Err BadSymbol)
-    (name_passes h.outputs table.outputs t.outputs (names (λ s. not s.of_input) todo) place name outputs (ap (λ (x : SymbolTable). x.outputs) whole))
+    (name_passes h.outputs table.outputs t.outputs (names (λ s. not s.of_input) todo) place name outputs
+    (ap (λ (x : SymbolTable). x.outputs) whole))
 
-extended : (byte : ℕ) (tokens : List (List ℕ)) → has_no_token tokens ≡ false → has_no_token (extend_token byte tokens) ≡ false
+extended : (byte : ℕ) (tokens : List (List ℕ)) → has_no_token tokens ≡ false →
+    has_no_token (extend_token byte tokens) ≡ false
 extended byte [] h = h
 extended byte (token ∷ tokens) h = refl
 
@@ -74,8 +93,10 @@ not_blank byte [] h = ap has_no_token (cond-false (is_separator (kind_of byte)) 
 not_blank byte (next ∷ bytes) h =
     ap has_no_token (cond-false (is_separator (kind_of byte)) (line_tokens (next ∷ bytes)) _ h)
     ∙ elim (cases_Bool (is_separator (kind_of next))) [
-      | inl blank ↦ ap has_no_token (cond-false (not (is_separator (kind_of next))) (extend_token byte (line_tokens (next ∷ bytes))) _ (ap not blank))
-      | inr more ↦ ap has_no_token (cond-true (not (is_separator (kind_of next))) _ ((byte ∷ []) ∷ line_tokens (next ∷ bytes)) (ap not more))
+      | inl blank ↦ ap has_no_token (cond-false (not (is_separator (kind_of next)))
+          (extend_token byte (line_tokens (next ∷ bytes))) _ (ap not blank))
+      | inr more ↦ ap has_no_token (cond-true (not (is_separator (kind_of next))) _
+          ((byte ∷ []) ∷ line_tokens (next ∷ bytes)) (ap not more))
           ∙ extended byte (line_tokens (next ∷ bytes)) (not_blank next bytes more)
     ]
 
@@ -84,23 +105,32 @@ no_mark_parts true bytes = refl
 no_mark_parts false bytes = refl
 
 no_mark : (text : List ℕ) (s : SymbolLine) → SpellsSymbol text s → begins_comment text ≡ false
-no_mark text s spells = ap begins_comment spells.spelling ∙ no_mark_parts s.of_input (spells.digits ++ (spells.separator ∷ spells.rest))
+no_mark text s spells = ap begins_comment spells.spelling ∙ no_mark_parts s.of_input
+    (spells.digits ++ (spells.separator ∷ spells.rest))
 
-module _ (header_line : ℕ) (h : Header) (is os : List ℕ) (gs : List Gate) (all_inputs : length is ≡ h.inputs) (all_outputs : length os ≡ h.outputs) (all_gates : length gs ≡ h.gates) (file : AagFile) where
+module _ (header_line : ℕ) (h : Header) (is os : List ℕ) (gs : List Gate) (all_inputs : length is ≡ h.inputs)
+    (all_outputs : length os ≡ h.outputs) (all_gates : length gs ≡ h.gates) (file : AagFile) where
   abbrev with_table : SymbolTable → Body
   with_table t = body_with header_line h t is os gs
 
   on_symbol : (t : SymbolTable) (line : TextLine) (lines : List TextLine) (number : ℕ) →
-      read_body (with_table t) (line ∷ lines) number ≡ behind_gates (with_table t) line (λ c. read_body c lines (line.number + 1))
-  on_symbol t line lines number = on_part AtSymbol (with_table t) line lines number (at_symbol header_line h t is os gs all_inputs all_outputs all_gates)
+      read_body (with_table t) (line ∷ lines) number ≡ behind_gates (with_table t) line
+      (λ c. read_body c lines (line.number + 1))
+  on_symbol t line lines number = on_part AtSymbol (with_table t) line lines number
+      (at_symbol header_line h t is os gs all_inputs all_outputs all_gates)
 
-  blank_step : (t : SymbolTable) (line : TextLine) (lines : List TextLine) (number : ℕ) → is_blank_line line.text ≡ true →
-      read_body (with_table t) lines (line.number + 1) ≡ Ok file → read_body (with_table t) (line ∷ lines) number ≡ Ok file
+  blank_step : (t : SymbolTable) (line : TextLine) (lines : List TextLine) (number : ℕ) →
+      is_blank_line line.text ≡ true →
+      read_body (with_table t) lines (line.number + 1) ≡ Ok file →
+      read_body (with_table t) (line ∷ lines) number ≡ Ok file
   blank_step t line lines number blank goes =
-      on_symbol t line lines number ∙ cond-true (is_blank_line line.text) (read_body (with_table t) lines (line.number + 1)) _ blank ∙ goes
+      on_symbol t line lines number ∙ cond-true (is_blank_line line.text)
+      (read_body (with_table t) lines (line.number + 1)) _ blank ∙ goes
 
-  symbol_step : (t : SymbolTable) (line : TextLine) (lines : List TextLine) (number : ℕ) (s : SymbolLine) → is_blank_line line.text ≡ false → SpellsSymbol line.text s →
-      add_symbol h t s ≡ Ok (with_name t s) → read_body (with_table (with_name t s)) lines (line.number + 1) ≡ Ok file → read_body (with_table t) (line ∷ lines) number ≡ Ok file
+  symbol_step : (t : SymbolTable) (line : TextLine) (lines : List TextLine) (number : ℕ) (s : SymbolLine) →
+      is_blank_line line.text ≡ false → SpellsSymbol line.text s →
+      add_symbol h t s ≡ Ok (with_name t s) → read_body (with_table (with_name t s)) lines (line.number + 1) ≡ Ok file →
+      read_body (with_table t) (line ∷ lines) number ≡ Ok file
   symbol_step t line lines number s other spells added goes =
       let b = with_table t in
       let next : Body → Result AagFile LineFault = λ c. read_body c lines (line.number + 1) in
@@ -111,39 +141,51 @@ module _ (header_line : ℕ) (h : Header) (is os : List ℕ) (gs : List Gate) (a
       ∙ ap (λ r. with_symbol line.number b r next) added
       ∙ goes
 
-  pub symbols_read : (table : SymbolTable) (behind : List TextLine) → AreNames h.inputs table.inputs → AreNames h.outputs table.outputs →
+  pub symbols_read : (table : SymbolTable) (behind : List TextLine) → AreNames h.inputs table.inputs →
+      AreNames h.outputs table.outputs →
       ((number : ℕ) → read_body (with_table table) behind number ≡ Ok file) →
-      (lines : List TextLine) (symbols : List SymbolLine) (t : SymbolTable) (number : ℕ) → joined t symbols ≡ table → SpellSymbols lines symbols →
+      (lines : List TextLine) (symbols : List SymbolLine) (t : SymbolTable) (number : ℕ) → joined t symbols ≡ table →
+      SpellSymbols lines symbols →
       read_body (with_table t) (lines ++ behind) number ≡ Ok file
   symbols_read table behind inputs outputs next [] [] t number whole spelled =
       subst (λ x. read_body (with_table x) behind number ≡ Ok file) (sym whole ∙ joined-nil t) (next number)
   symbols_read table behind inputs outputs next [] (s ∷ symbols) t number whole spelled = absurd spelled
   symbols_read table behind inputs outputs next (line ∷ lines) [] t number whole spelled =
       let own = filter (λ (l : TextLine). not (is_blank_line l.text)) lines in
-      let Zip : Bool → Type 0 = λ b. AllZip (λ (l : TextLine) s. SpellsSymbol l.text s) (cond (not b) (line ∷ own) own) [] in
+      let Zip : Bool → Type 0 = λ b. AllZip (λ (l : TextLine) s. SpellsSymbol l.text s)
+      (cond (not b) (line ∷ own) own) [] in
       elim (cases_Bool (is_blank_line line.text)) [
-        | inl blank ↦ blank_step t line (lines ++ behind) number blank (symbols_read table behind inputs outputs next lines [] t (line.number + 1) whole (subst Zip blank spelled))
+        | inl blank ↦ blank_step t line (lines ++ behind) number blank
+            (symbols_read table behind inputs outputs next lines [] t (line.number + 1) whole (subst Zip blank spelled))
         | inr other ↦ absurd (subst Zip other spelled)
       ]
   symbols_read table behind inputs outputs next (line ∷ lines) (s ∷ symbols) t number whole spelled =
       let own = filter (λ (l : TextLine). not (is_blank_line l.text)) lines in
-      let Zip : Bool → Type 0 = λ b. AllZip (λ (l : TextLine) e. SpellsSymbol l.text e) (cond (not b) (line ∷ own) own) (s ∷ symbols) in
+      let Zip : Bool → Type 0 = λ b. AllZip (λ (l : TextLine) e. SpellsSymbol l.text e) (cond (not b) (line ∷ own) own)
+      (s ∷ symbols) in
       elim (cases_Bool (is_blank_line line.text)) [
-        | inl blank ↦ blank_step t line (lines ++ behind) number blank (symbols_read table behind inputs outputs next lines (s ∷ symbols) t (line.number + 1) whole (subst Zip blank spelled))
+        | inl blank ↦ blank_step t line (lines ++ behind) number blank
+            (symbols_read table behind inputs outputs next lines (s ∷ symbols) t (line.number + 1) whole
+            (subst Zip blank spelled))
         | inr other ↦
             let both = subst Zip other spelled in
-            symbol_step t line (lines ++ behind) number s other both.0 (symbol_passes h table t s.of_input s.place s.name symbols inputs outputs whole)
-            (symbols_read table behind inputs outputs next lines symbols (with_name t s) (line.number + 1) (joined-cons t s symbols ∙ whole) both.1)
+            symbol_step t line (lines ++ behind) number s other both.0
+            (symbol_passes h table t s.of_input s.place s.name symbols inputs outputs whole)
+            (symbols_read table behind inputs outputs next lines symbols (with_name t s) (line.number + 1)
+            (joined-cons t s symbols ∙ whole) both.1)
       ]
 
-  pub comment_read : (t : SymbolTable) (lines : List TextLine) (comment : Option (List ℕ)) (number : ℕ) → EndsWith lines comment →
+  pub comment_read : (t : SymbolTable) (lines : List TextLine) (comment : Option (List ℕ)) (number : ℕ) →
+      EndsWith lines comment →
       finish (with_table t) comment ≡ Ok file → read_body (with_table t) lines number ≡ Ok file
-  comment_read t [] None number ends done = ap (λ p. at_end p (with_table t) number) (at_symbol header_line h t is os gs all_inputs all_outputs all_gates) ∙ done
+  comment_read t [] None number ends done = ap (λ p. at_end p (with_table t) number)
+      (at_symbol header_line h t is os gs all_inputs all_outputs all_gates) ∙ done
   comment_read t [] (Some comment) number ends done = absurd ends
   comment_read t (line ∷ lines) None number ends done = absurd ends
   comment_read t (line ∷ lines) (Some comment) number ends done =
       on_symbol t line lines number
       ∙ cond-false (is_blank_line line.text) _ _ (ap is_blank_line ends.mark ∙ not_blank 99 ends.blanks refl)
-      ∙ cond-true (begins_comment line.text) (finish (with_table t) (Some line.behind)) _ (ap begins_comment ends.mark ∙ ends.blank)
+      ∙ cond-true (begins_comment line.text) (finish (with_table t) (Some line.behind)) _
+      (ap begins_comment ends.mark ∙ ends.blank)
       ∙ ap (λ x. finish (with_table t) (Some x)) (sym ends.behind)
       ∙ done

@@ -20,9 +20,11 @@ defined_is net v (inl (k, below, is)) =
     (list_any_at (λ x. x == v) net.inputs k v below (eq-eqb (get_or net.inputs k v) v is))
 defined_is net v (inr (k, below, is)) =
     let inside : k < length net.gates = rw (length-map net.gates variable_of_gate) at below in
-    let same : (get_or net.gates k no_gate).variable ≡ v = sym (get_or-map variable_of_gate net.gates k no_gate v inside) ∙ is in
+    let same : (get_or net.gates k no_gate).variable ≡ v = sym
+    (get_or-map variable_of_gate net.gates k no_gate v inside) ∙ is in
     or_right (list_any (λ x. x == v) net.inputs) (list_any (λ g. g.variable == v) net.gates)
-    (list_any_at (λ g. g.variable == v) net.gates k no_gate inside (eq-eqb (get_or net.gates k no_gate).variable v same))
+    (list_any_at (λ g. g.variable == v) net.gates k no_gate inside
+    (eq-eqb (get_or net.gates k no_gate).variable v same))
 
 positive_range : (max_var l : ℕ) → is_positive max_var l ≡ true → IsVariable max_var (l / 2)
 positive_range max_var l h =
@@ -33,7 +35,8 @@ positive_range max_var l h =
     let even = eqb-true (l % 2) 0 parts.0 in
     (omega arith, omega arith)
 
-pub is_new : (net : Netlist) (l : ℕ) → is_positive net.max_var l ≡ true → is_defined net (l / 2) ≡ false → IsNewVariable net (l / 2)
+pub is_new : (net : Netlist) (l : ℕ) → is_positive net.max_var l ≡ true → is_defined net (l / 2) ≡ false →
+    IsNewVariable net (l / 2)
 is_new net l positive undefined = record {
   in_range = positive_range net.max_var l positive;
   undefined = λ defined. true≢false (sym (defined_is net (l / 2) defined) ∙ undefined);
@@ -43,7 +46,8 @@ second : {T : Type 0} (b : Bool) (x y : T) → b ≡ false → cond b x y ≡ y
 second true x y h = cc
 second false x y h = refl
 
-pub input_passes : (net : Netlist) (l : ℕ) → is_too_big l ≡ false → is_positive net.max_var l ≡ true → is_defined net (l / 2) ≡ false →
+pub input_passes : (net : Netlist) (l : ℕ) → is_too_big l ≡ false → is_positive net.max_var l ≡ true →
+    is_defined net (l / 2) ≡ false →
     input_of net l ≡ Ok (with_input net (l / 2))
 input_passes net l small positive undefined =
     second (is_too_big l) (Err TooBig) _ small
@@ -54,18 +58,23 @@ input_passes net l small positive undefined =
 abbrev pub gate_in_range : ℕ → GateNumbers → Bool
 gate_in_range max_var g = is_positive max_var g.lhs && (is_literal max_var g.left && is_literal max_var g.right)
 
-pub gate_passes : (net : Netlist) (g : GateNumbers) → is_too_big g.lhs ≡ false → is_too_big g.left ≡ false → is_too_big g.right ≡ false →
+pub gate_passes : (net : Netlist) (g : GateNumbers) → is_too_big g.lhs ≡ false → is_too_big g.left ≡ false →
+    is_too_big g.right ≡ false →
     gate_in_range net.max_var g ≡ true → is_defined net (g.lhs / 2) ≡ false →
-    gate_of net g.lhs g.left g.right ≡ Ok (with_gate net (record { variable = g.lhs / 2; left = g.left; right = g.right }))
+    gate_of net g.lhs g.left g.right ≡ Ok (with_gate net (record
+    { variable = g.lhs / 2; left = g.left; right = g.right }))
 gate_passes net g lhs left right range undefined =
     second (is_too_big g.lhs || (is_too_big g.left || is_too_big g.right)) (Err TooBig) _
-    (or_from (is_too_big g.lhs) (is_too_big g.left || is_too_big g.right) lhs (or_from (is_too_big g.left) (is_too_big g.right) left right))
+    (or_from (is_too_big g.lhs) (is_too_big g.left || is_too_big g.right) lhs
+    (or_from (is_too_big g.left) (is_too_big g.right) left right))
     ∙ second (not (gate_in_range net.max_var g)) (Err Range) _ (ap not range)
     ∙ second (is_defined net (g.lhs / 2)) (Err DefinedTwice) _ undefined
 
-pub is_new_gate : (net : Netlist) (g : GateNumbers) → gate_in_range net.max_var g ≡ true → is_defined net (g.lhs / 2) ≡ false → IsNewGate net g (g.lhs / 2)
+pub is_new_gate : (net : Netlist) (g : GateNumbers) → gate_in_range net.max_var g ≡ true →
+    is_defined net (g.lhs / 2) ≡ false → IsNewGate net g (g.lhs / 2)
 is_new_gate net g range undefined =
-    let parts = and_parts (is_positive net.max_var g.lhs) (is_literal net.max_var g.left && is_literal net.max_var g.right) range in
+    let parts = and_parts (is_positive net.max_var g.lhs) (is_literal net.max_var g.left && is_literal net.max_var
+    g.right) range in
     let sides = and_parts (is_literal net.max_var g.left) (is_literal net.max_var g.right) parts.1 in
     let even = and_parts (g.lhs % 2 == 0) (nat_le 2 g.lhs && nat_le g.lhs (2 * net.max_var)) parts.0 in
     record {

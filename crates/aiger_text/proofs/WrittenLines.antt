@@ -19,34 +19,41 @@ joined_lines texts = flat_map (λ text. text ++ 10 ∷ []) texts
 -- these lines from this number on, in front of other bytes
 abbrev pub lines_before : ℕ → List (List ℕ) → List ℕ → List TextLine
 lines_before n [] rest = []
-lines_before n (text ∷ texts) rest = record { text = text; number = n; behind = joined_lines texts ++ rest } ∷ lines_before (n + 1) texts rest
+lines_before n (text ∷ texts) rest = record { text = text; number = n; behind = joined_lines texts ++ rest } ∷
+    lines_before (n + 1) texts rest
 
 abbrev pub number_after : ℕ → List (List ℕ) → ℕ
 number_after n [] = n
 number_after n (_ ∷ texts) = number_after (n + 1) texts
 
-pub one_line : (n : ℕ) (bytes rest : List ℕ) → AreNoFeed bytes → lines_from n (bytes ++ 10 ∷ rest) ≡ record { text = bytes; number = n; behind = rest } ∷ lines_from (n + 1) rest
+pub one_line : (n : ℕ) (bytes rest : List ℕ) → AreNoFeed bytes →
+    lines_from n (bytes ++ 10 ∷ rest) ≡ record { text = bytes; number = n; behind = rest } ∷ lines_from (n + 1) rest
 one_line n [] rest none = refl
 one_line n (byte ∷ bytes) rest none =
-    ap (λ b. cond b (record { text = []; number = n; behind = bytes ++ 10 ∷ rest } ∷ lines_from (n + 1) (bytes ++ 10 ∷ rest)) (extend_line byte n (lines_from n (bytes ++ 10 ∷ rest)))) none.0
+    ap (λ b. cond b (record { text = []; number = n; behind = bytes ++ 10 ∷ rest } ∷ lines_from (n + 1)
+    (bytes ++ 10 ∷ rest)) (extend_line byte n (lines_from n (bytes ++ 10 ∷ rest)))) none.0
     ∙ ap (extend_line byte n) (one_line n bytes rest none.1)
 
 pub joined_are : (n : ℕ) (texts : List (List ℕ)) (rest : List ℕ) → AllByRecursion AreNoFeed texts →
     lines_from n (joined_lines texts ++ rest) ≡ lines_before n texts rest ++ lines_from (number_after n texts) rest
 joined_are n [] rest none = refl
 joined_are n (text ∷ texts) rest none =
-    ap (lines_from n) (append_assoc (text ++ 10 ∷ []) (joined_lines texts) rest ∙ append_assoc text (10 ∷ []) (joined_lines texts ++ rest))
+    ap (lines_from n) (append_assoc (text ++ 10 ∷ []) (joined_lines texts) rest ∙ append_assoc text (10 ∷ [])
+    (joined_lines texts ++ rest))
     ∙ one_line n text (joined_lines texts ++ rest) none.0
-    ∙ ap (λ lines. record { text = text; number = n; behind = joined_lines texts ++ rest } ∷ lines) (joined_are (n + 1) texts rest none.1)
+    ∙ ap (λ lines. record { text = text; number = n; behind = joined_lines texts ++ rest } ∷ lines)
+    (joined_are (n + 1) texts rest none.1)
 
 abbrev pub line_numbers_of : List ℕ → List Number
 line_numbers_of text = map number_of (line_tokens text)
 
-pub numbers_of_lines : (n : ℕ) (texts : List (List ℕ)) (rest : List ℕ) → map line_numbers (lines_before n texts rest) ≡ map line_numbers_of texts
+pub numbers_of_lines : (n : ℕ) (texts : List (List ℕ)) (rest : List ℕ) →
+    map line_numbers (lines_before n texts rest) ≡ map line_numbers_of texts
 numbers_of_lines n [] rest = refl
 numbers_of_lines n (text ∷ texts) rest = ap (λ ns. line_numbers_of text ∷ ns) (numbers_of_lines (n + 1) texts rest)
 
-pub both_lines : (xs ys : List (List ℕ)) → AllByRecursion AreNoFeed xs → AllByRecursion AreNoFeed ys → AllByRecursion AreNoFeed (xs ++ ys)
+pub both_lines : (xs ys : List (List ℕ)) → AllByRecursion AreNoFeed xs → AllByRecursion AreNoFeed ys →
+    AllByRecursion AreNoFeed (xs ++ ys)
 both_lines [] ys left right = right
 both_lines (x ∷ xs) ys left right = (left.0, both_lines xs ys left.1 right)
 
@@ -62,7 +69,8 @@ both_words [] [] left right = tt
 both_words [] (n ∷ ns) left right = (natural_is_word n right.0, both_words [] ns tt right.1)
 both_words (x ∷ xs) ns left right = (left.0, both_words xs ns left.1 right)
 
-numbers_spaced : (words : List (List ℕ)) (ns : List ℕ) (last : ℕ) → numbers_line words ns last ≡ spaced (words ++ map decimal ns) ++ decimal last
+numbers_spaced : (words : List (List ℕ)) (ns : List ℕ) (last : ℕ) →
+    numbers_line words ns last ≡ spaced (words ++ map decimal ns) ++ decimal last
 numbers_spaced [] [] last = refl
 numbers_spaced [] (n ∷ ns) last =
     append_assoc (number_text n) (flat_map number_text ns) (decimal last)
@@ -81,10 +89,12 @@ numbers_tokens words ns last are small is =
     ∙ append_assoc words (map decimal ns) (decimal last ∷ [])
     ∙ ap (λ tokens. words ++ tokens) (sym (map-append decimal ns (last ∷ [])))
 
-pub numbers_no_feed : (words : List (List ℕ)) (ns : List ℕ) (last : ℕ) → AreWords words → AreSmall ns → last < 10 ^ 18 → AreNoFeed (numbers_line words ns last)
+pub numbers_no_feed : (words : List (List ℕ)) (ns : List ℕ) (last : ℕ) → AreWords words → AreSmall ns → last < 10 ^ 18 →
+    AreNoFeed (numbers_line words ns last)
 numbers_no_feed words ns last are small is =
     subst AreNoFeed (sym (numbers_spaced words ns last))
-    (both_no_feed (spaced (words ++ map decimal ns)) (decimal last) (words_no_feed (words ++ map decimal ns) (both_words words ns are small))
+    (both_no_feed (spaced (words ++ map decimal ns)) (decimal last)
+    (words_no_feed (words ++ map decimal ns) (both_words words ns are small))
     (word_no_feed (decimal last) (natural_is_word last is)))
 
 pub numbers_are_read : (ns : List ℕ) → AreSmall ns → map number_of (map decimal ns) ≡ naturals ns
@@ -95,5 +105,7 @@ both_small : (ns : List ℕ) (last : ℕ) → AreSmall ns → last < 10 ^ 18 →
 both_small [] last small is = (is, tt)
 both_small (n ∷ ns) last small is = (small.0, both_small ns last small.1 is)
 
-pub line_is_read : (ns : List ℕ) (last : ℕ) → AreSmall ns → last < 10 ^ 18 → line_numbers_of (numbers_line [] ns last) ≡ naturals (ns ++ last ∷ [])
-line_is_read ns last small is = ap (map number_of) (numbers_tokens [] ns last tt small is) ∙ numbers_are_read (ns ++ last ∷ []) (both_small ns last small is)
+pub line_is_read : (ns : List ℕ) (last : ℕ) → AreSmall ns → last < 10 ^ 18 →
+    line_numbers_of (numbers_line [] ns last) ≡ naturals (ns ++ last ∷ [])
+line_is_read ns last small is = ap (map number_of) (numbers_tokens [] ns last tt small is) ∙ numbers_are_read
+    (ns ++ last ∷ []) (both_small ns last small is)

@@ -36,16 +36,23 @@ header_is_line net =
     ap (λ zero. codes "aag " ++ (m ++ (i ++ (zero ++ (o ++ (a ++ 10 ∷ [])))))) zero_text
     ∙ ap (λ bytes. codes "aag " ++ bytes) (parted m i (number_text 0) o a (10 ∷ []))
   where
-    parted : (m i z o a end : List ℕ) → m ++ (i ++ (z ++ (o ++ (a ++ end)))) ≡ ((m ++ (i ++ (z ++ (o ++ [])))) ++ a) ++ end
+    parted : (m i z o a end : List ℕ) → m ++ (i ++ (z ++ (o ++ (a ++ end)))) ≡
+        ((m ++ (i ++ (z ++ (o ++ [])))) ++ a) ++ end
     parted m i z o a end =
         sym (append_assoc (m ++ (i ++ (z ++ (o ++ [])))) a end
         ∙ append_assoc m (i ++ (z ++ (o ++ []))) (a ++ end)
         ∙ ap (λ bytes. m ++ bytes) (append_assoc i (z ++ (o ++ [])) (a ++ end)
-        ∙ ap (λ bytes. i ++ bytes) (append_assoc z (o ++ []) (a ++ end) ∙ ap (λ bytes. z ++ bytes) (append_assoc o [] (a ++ end)))))
+        ∙ ap (λ bytes. i ++ bytes) (append_assoc z (o ++ []) (a ++ end) ∙ ap (λ bytes. z ++ bytes)
+        (append_assoc o [] (a ++ end)))))
 
 counts_small : (file : AagFile) → IsSpellable file → AreSmall (front_counts file.circuit)
-counts_small file is =
-    (omega (arith, is.few_variables), (omega (arith, is.enough, is.few_variables), (omega arith, (omega (arith, is.few_outputs), tt))))
+counts_small file is = (
+  omega (arith, is.few_variables),
+  (
+    omega (arith, is.enough, is.few_variables),
+    (omega arith, (omega (arith, is.few_outputs), tt)),
+  ),
+)
 
 gates_small : (file : AagFile) → IsSpellable file → length file.circuit.gates < 10 ^ 18
 gates_small file is = omega (arith, is.enough, is.few_variables)
@@ -56,9 +63,11 @@ aag_is_word = ((refl, (refl, (refl, tt))), tt)
 pub header_no_feed : (file : AagFile) → IsSpellable file → AreNoFeed (header_words file.circuit)
 header_no_feed file is =
     let net = file.circuit in
-    numbers_no_feed (codes "aag" ∷ []) (front_counts net) (length net.gates) aag_is_word (counts_small file is) (gates_small file is)
+    numbers_no_feed (codes "aag" ∷ []) (front_counts net) (length net.gates) aag_is_word (counts_small file is)
+    (gates_small file is)
 
-pub header_spells : (file : AagFile) → IsSpellable file → SpellsHeader (header_words file.circuit) (counts_in file.circuit)
+pub header_spells : (file : AagFile) → IsSpellable file → SpellsHeader (header_words file.circuit)
+    (counts_in file.circuit)
 header_spells file is =
     let net = file.circuit in
     let all = net.max_var ∷ length net.inputs ∷ 0 ∷ length net.outputs ∷ length net.gates ∷ [] in
@@ -124,21 +133,27 @@ module _ (max_var : ℕ) (few : max_var ≤ max_count) where
   literal_small : (l : ℕ) → IsLiteral max_var l → l < 10 ^ 18
   literal_small l is = omega (arith, is, few)
 
-  inputs_read : (vs : List ℕ) → AllByRecursion (IsVariable max_var) vs → map line_numbers_of (map input_line vs) ≡ map input_numbers vs
+  inputs_read : (vs : List ℕ) → AllByRecursion (IsVariable max_var) vs →
+      map line_numbers_of (map input_line vs) ≡ map input_numbers vs
   inputs_read [] are = refl
-  inputs_read (v ∷ vs) are = ap₂ (λ n ns. n ∷ ns) (line_is_read [] (2 * v) tt (input_small v are.0)) (inputs_read vs are.1)
+  inputs_read (v ∷ vs) are = ap₂ (λ n ns. n ∷ ns) (line_is_read [] (2 * v) tt (input_small v are.0))
+      (inputs_read vs are.1)
 
-  outputs_read : (ls : List ℕ) → AllByRecursion (IsLiteral max_var) ls → map line_numbers_of (map decimal ls) ≡ map output_numbers ls
+  outputs_read : (ls : List ℕ) → AllByRecursion (IsLiteral max_var) ls →
+      map line_numbers_of (map decimal ls) ≡ map output_numbers ls
   outputs_read [] are = refl
-  outputs_read (l ∷ ls) are = ap₂ (λ n ns. n ∷ ns) (line_is_read [] l tt (literal_small l are.0)) (outputs_read ls are.1)
+  outputs_read (l ∷ ls) are = ap₂ (λ n ns. n ∷ ns) (line_is_read [] l tt (literal_small l are.0))
+      (outputs_read ls are.1)
 
   gate_small : (g : Gate) → IsGate max_var g → AreSmall (2 * g.variable ∷ g.left ∷ [])
   gate_small g is = (input_small g.variable is.variable, (literal_small g.left is.left, tt))
 
-  gates_read : (gs : List Gate) → AllByRecursion (IsGate max_var) gs → map line_numbers_of (map gate_line gs) ≡ map gate_numbers gs
+  gates_read : (gs : List Gate) → AllByRecursion (IsGate max_var) gs →
+      map line_numbers_of (map gate_line gs) ≡ map gate_numbers gs
   gates_read [] are = refl
   gates_read (g ∷ gs) are =
-      ap₂ (λ n ns. n ∷ ns) (line_is_read (2 * g.variable ∷ g.left ∷ []) g.right (gate_small g are.0) (literal_small g.right are.0.right)) (gates_read gs are.1)
+      ap₂ (λ n ns. n ∷ ns) (line_is_read (2 * g.variable ∷ g.left ∷ []) g.right (gate_small g are.0)
+      (literal_small g.right are.0.right)) (gates_read gs are.1)
 
   inputs_no_feed : (vs : List ℕ) → AllByRecursion (IsVariable max_var) vs → AllByRecursion AreNoFeed (map input_line vs)
   inputs_no_feed [] are = tt
@@ -150,25 +165,33 @@ module _ (max_var : ℕ) (few : max_var ≤ max_count) where
 
   gates_no_feed : (gs : List Gate) → AllByRecursion (IsGate max_var) gs → AllByRecursion AreNoFeed (map gate_line gs)
   gates_no_feed [] are = tt
-  gates_no_feed (g ∷ gs) are =
-      (numbers_no_feed [] (2 * g.variable ∷ g.left ∷ []) g.right tt (gate_small g are.0) (literal_small g.right are.0.right), gates_no_feed gs are.1)
+  gates_no_feed (g ∷ gs) are = (
+    numbers_no_feed [] (2 * g.variable ∷ g.left ∷ []) g.right tt (gate_small g are.0)
+        (literal_small g.right are.0.right),
+    gates_no_feed gs are.1,
+  )
 
-pub netlist_read : (net : Netlist) → IsNetlist net → net.max_var ≤ max_count → map line_numbers_of (netlist_texts net) ≡ netlist_numbers net
+pub netlist_read : (net : Netlist) → IsNetlist net → net.max_var ≤ max_count →
+    map line_numbers_of (netlist_texts net) ≡ netlist_numbers net
 netlist_read net is few =
     let m = net.max_var in
     let os = map decimal net.outputs in
     let gs = map gate_line net.gates in
     map-append line_numbers_of (map input_line net.inputs) (os ++ gs)
-    ∙ ap₂ (λ xs ys. xs ++ ys) (inputs_read m few net.inputs (recursion_from_All (IsVariable m) net.inputs is.inputs_fit))
+    ∙ ap₂ (λ xs ys. xs ++ ys) (inputs_read m few net.inputs (recursion_from_All
+    (IsVariable m) net.inputs is.inputs_fit))
     (map-append line_numbers_of os gs
-    ∙ ap₂ (λ xs ys. xs ++ ys) (outputs_read m few net.outputs (recursion_from_All (IsLiteral m) net.outputs is.outputs_fit))
+    ∙ ap₂ (λ xs ys. xs ++ ys) (outputs_read m few net.outputs
+    (recursion_from_All (IsLiteral m) net.outputs is.outputs_fit))
     (gates_read m few net.gates (recursion_from_All (IsGate m) net.gates is.gates_fit)))
 
-pub netlist_no_feed : (net : Netlist) → IsNetlist net → net.max_var ≤ max_count → AllByRecursion AreNoFeed (netlist_texts net)
+pub netlist_no_feed : (net : Netlist) → IsNetlist net → net.max_var ≤ max_count →
+    AllByRecursion AreNoFeed (netlist_texts net)
 netlist_no_feed net is few =
     let m = net.max_var in
     let os = map decimal net.outputs in
     let gs = map gate_line net.gates in
-    both_lines (map input_line net.inputs) (os ++ gs) (inputs_no_feed m few net.inputs (recursion_from_All (IsVariable m) net.inputs is.inputs_fit))
+    both_lines (map input_line net.inputs) (os ++ gs) (inputs_no_feed m few net.inputs
+    (recursion_from_All (IsVariable m) net.inputs is.inputs_fit))
     (both_lines os gs (outputs_no_feed m few net.outputs (recursion_from_All (IsLiteral m) net.outputs is.outputs_fit))
     (gates_no_feed m few net.gates (recursion_from_All (IsGate m) net.gates is.gates_fit)))

@@ -37,22 +37,27 @@ text_is_line b x =
     ap (λ bytes. letter_of b ∷ bytes)
     (append_assoc (decimal x.0) (32 ∷ []) (x.1 ++ 10 ∷ []) ∙ sym (append_assoc (decimal x.0) (32 ∷ x.1) (10 ∷ [])))
 
-kind_joined : (b : Bool) (xs : List (ℕ × List ℕ)) → flat_map (symbol_text (letter_of b)) xs ≡ joined_lines (map symbol_line_text (map (symbol_at b) xs))
+kind_joined : (b : Bool) (xs : List (ℕ × List ℕ)) → flat_map (symbol_text (letter_of b)) xs ≡ joined_lines
+    (map symbol_line_text (map (symbol_at b) xs))
 kind_joined b [] = refl
 kind_joined b (x ∷ xs) = ap₂ (λ ys zs. ys ++ zs) (text_is_line b x) (kind_joined b xs)
 
-both_joined : (ss ts : List SymbolLine) → joined_lines (map symbol_line_text ss) ++ joined_lines (map symbol_line_text ts) ≡ joined_lines (map symbol_line_text (ss ++ ts))
+both_joined : (ss ts : List SymbolLine) → joined_lines (map symbol_line_text ss) ++ joined_lines
+    (map symbol_line_text ts) ≡ joined_lines (map symbol_line_text (ss ++ ts))
 both_joined [] ts = refl
 both_joined (s ∷ ss) ts =
-    append_assoc (symbol_line_text s ++ 10 ∷ []) (joined_lines (map symbol_line_text ss)) (joined_lines (map symbol_line_text ts))
+    append_assoc (symbol_line_text s ++ 10 ∷ []) (joined_lines (map symbol_line_text ss))
+    (joined_lines (map symbol_line_text ts))
     ∙ ap (λ bytes. (symbol_line_text s ++ 10 ∷ []) ++ bytes) (both_joined ss ts)
 
 pub symbols_joined : (inputs outputs : List (ℕ × List ℕ)) (rest : List ℕ) →
-    flat_map (symbol_text 105) inputs ++ (flat_map (symbol_text 111) outputs ++ rest) ≡ joined_lines (map symbol_line_text (symbols_at inputs outputs)) ++ rest
+    flat_map (symbol_text 105) inputs ++ (flat_map (symbol_text 111) outputs ++ rest) ≡ joined_lines
+    (map symbol_line_text (symbols_at inputs outputs)) ++ rest
 symbols_joined inputs outputs rest =
     sym (append_assoc (flat_map (symbol_text 105) inputs) (flat_map (symbol_text 111) outputs) rest)
     ∙ ap (λ bytes. bytes ++ rest)
-    (ap₂ (λ xs ys. xs ++ ys) (kind_joined true inputs) (kind_joined false outputs) ∙ both_joined (map (symbol_at true) inputs) (map (symbol_at false) outputs))
+    (ap₂ (λ xs ys. xs ++ ys) (kind_joined true inputs) (kind_joined false outputs) ∙ both_joined
+    (map (symbol_at true) inputs) (map (symbol_at false) outputs))
 
 -- each line spells its symbol
 spells_symbol : (s : SymbolLine) → IsWritable s → SpellsSymbol (symbol_line_text s) s
@@ -79,8 +84,10 @@ symbols_spell n (s ∷ symbols) rest are =
     let texts = map symbol_line_text symbols in
     let line : TextLine = record { text = symbol_line_text s; number = n; behind = joined_lines texts ++ rest } in
     let own = filter (λ (l : TextLine). not (is_blank_line l.text)) (lines_before (n + 1) texts rest) in
-    let Zip : Bool → Type 0 = λ b. AllZip (λ (l : TextLine) e. SpellsSymbol l.text e) (cond (not b) (line ∷ own) own) (s ∷ symbols) in
-    subst Zip (sym (letter_shows s.of_input (decimal s.place ++ (32 ∷ s.name)))) (spells_symbol s are.0, symbols_spell (n + 1) symbols rest are.1)
+    let Zip : Bool → Type 0 = λ b. AllZip (λ (l : TextLine) e. SpellsSymbol l.text e) (cond (not b) (line ∷ own) own)
+    (s ∷ symbols) in
+    subst Zip (sym (letter_shows s.of_input (decimal s.place ++ (32 ∷ s.name))))
+    (spells_symbol s are.0, symbols_spell (n + 1) symbols rest are.1)
 
 -- and is one line
 name_no_feed : (name : List ℕ) → AllByRecursion (λ byte. byte ≢ 10) name → AreNoFeed name
@@ -91,7 +98,8 @@ letter_no_feed : (b : Bool) → (letter_of b == 10) ≡ false
 letter_no_feed true = refl
 letter_no_feed false = refl
 
-pub symbols_no_feed : (symbols : List SymbolLine) → AllByRecursion IsWritable symbols → AllByRecursion AreNoFeed (map symbol_line_text symbols)
+pub symbols_no_feed : (symbols : List SymbolLine) → AllByRecursion IsWritable symbols →
+    AllByRecursion AreNoFeed (map symbol_line_text symbols)
 symbols_no_feed [] are = tt
 symbols_no_feed (s ∷ symbols) are =
     let is = are.0 in (
@@ -103,22 +111,29 @@ symbols_no_feed (s ∷ symbols) are =
       symbols_no_feed symbols are.1,
     )
 
-kind_writable : (b : Bool) (count : ℕ) (xs : List (ℕ × List ℕ)) (behind : List SymbolLine) → count < 10 ^ 18 → AllByRecursion (λ x. x.0 < count) xs →
-    AllByRecursion (λ x. IsName x.1) xs → AllByRecursion IsWritable behind → AllByRecursion IsWritable (map (symbol_at b) xs ++ behind)
+kind_writable : (b : Bool) (count : ℕ) (xs : List (ℕ × List ℕ)) (behind : List SymbolLine) → count < 10 ^ 18 →
+    AllByRecursion (λ x. x.0 < count) xs →
+    AllByRecursion (λ x. IsName x.1) xs → AllByRecursion IsWritable behind →
+    AllByRecursion IsWritable (map (symbol_at b) xs ++ behind)
 kind_writable b count [] behind few placed named are = are
-kind_writable b count (x ∷ xs) behind few placed named are =
-    (record { place = omega (arith, placed.0, few); name = named.0 }, kind_writable b count xs behind few placed.1 named.1 are)
+kind_writable b count (x ∷ xs) behind few placed named are = (
+  record { place = omega (arith, placed.0, few); name = named.0 },
+  kind_writable b count xs behind few placed.1 named.1 are,
+)
 
-pub symbols_writable : (file : AagFile) → IsSpellable file → AllByRecursion IsWritable (symbols_at file.symbols.inputs file.symbols.outputs)
+pub symbols_writable : (file : AagFile) → IsSpellable file →
+    AllByRecursion IsWritable (symbols_at file.symbols.inputs file.symbols.outputs)
 symbols_writable file is =
     let ins = file.symbols.inputs in
     let outs = file.symbols.outputs in
     let few_inputs : length file.circuit.inputs < 10 ^ 18 = omega (arith, is.enough, is.few_variables) in
     let few_outputs : length file.circuit.outputs < 10 ^ 18 = omega (arith, is.few_outputs) in
-    let outputs = kind_writable false (length file.circuit.outputs) outs [] few_outputs (recursion_from_All (λ x. x.0 < length file.circuit.outputs) outs is.output_names.placed)
+    let outputs = kind_writable false (length file.circuit.outputs) outs [] few_outputs
+    (recursion_from_All (λ x. x.0 < length file.circuit.outputs) outs is.output_names.placed)
     (recursion_from_All (λ x. IsName x.1) outs is.outputs_named) tt in
     kind_writable true (length file.circuit.inputs) ins (map (symbol_at false) outs) few_inputs
-    (recursion_from_All (λ x. x.0 < length file.circuit.inputs) ins is.input_names.placed) (recursion_from_All (λ x. IsName x.1) ins is.inputs_named)
+    (recursion_from_All (λ x. x.0 < length file.circuit.inputs) ins is.input_names.placed)
+    (recursion_from_All (λ x. IsName x.1) ins is.inputs_named)
     (subst (AllByRecursion IsWritable) (append-nil (map (symbol_at false) outs)) outputs)
 
 -- the names of these symbols are those of the table
@@ -139,7 +154,8 @@ names_of_outputs [] outputs = all_outputs outputs
 names_of_outputs (x ∷ xs) outputs = names_of_outputs xs outputs
 
 pub table_is : (t : SymbolTable) → t ≡ table_of (symbols_at t.inputs t.outputs)
-table_is t = sym (ap₂ (λ xs ys. record { inputs = xs; outputs = ys }) (names_of_inputs t.inputs t.outputs) (names_of_outputs t.inputs t.outputs))
+table_is t = sym (ap₂ (λ xs ys. record { inputs = xs; outputs = ys }) (names_of_inputs t.inputs t.outputs)
+    (names_of_outputs t.inputs t.outputs))
 
 -- the comment
 pub comment_ends : (n : ℕ) (comment : Option (List ℕ)) → EndsWith (lines_from n (comment_text comment)) comment

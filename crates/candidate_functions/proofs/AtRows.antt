@@ -19,10 +19,15 @@ any_is v (x ∷ xs) h = elim (or_cases (x == v) (list_any (λ z. z == v) xs) h) 
 ]
 
 pub contains_mapped : (ys : List Existential) (y : Existential) → Contains ys y → Contains (map variable ys) y.variable
-contains_mapped ys y (k, below, is) = (k, rw (length-map ys variable) below, get_or-map variable ys k y y.variable below ∙ ap variable is)
+contains_mapped ys y (k, below, is) = (
+  k,
+  rw (length-map ys variable) below,
+  get_or-map variable ys k y y.variable below ∙ ap variable is,
+)
 
 -- no existential is a universal
-pub apart : (f : Dqbf) → HasLawfulPrefix f → (v : ℕ) (y : Existential) → existential_of f v ≡ Some y → is_universal f v ≡ true → ⊥
+pub apart : (f : Dqbf) → HasLawfulPrefix f → (v : ℕ) (y : Existential) → existential_of f v ≡ Some y →
+    is_universal f v ≡ true → ⊥
 apart f lawful v y found universal =
     let us = f.universals in
     let es = map variable f.existentials in
@@ -30,14 +35,18 @@ apart f lawful v y found universal =
     let u = any_is v us universal in
     let e = contains_mapped f.existentials y own.0 in
     let left : get_or (us ++ es) u.0 0 ≡ v = get_or-append us es 0 u.0 u.1 ∙ get_or_default us u.0 0 v u.1 ∙ u.2 in
-    let right : get_or (us ++ es) (length us + e.0) 0 ≡ y.variable = get_or-append-add us es e.0 0 ∙ get_or_default es e.0 0 y.variable e.1 ∙ e.2 in
-    lawful.declared_once u.0 (length us + e.0) 0 (let a = u.1 in omega arith) (let b = e.1 in omega (arith, length-append us es)) (left ∙ sym own.1 ∙ sym right)
+    let right : get_or (us ++ es) (length us + e.0) 0 ≡ y.variable =
+    get_or-append-add us es e.0 0 ∙ get_or_default es e.0 0 y.variable e.1 ∙ e.2 in
+    lawful.declared_once u.0 (length us + e.0) 0 (let a = u.1 in omega arith)
+    (let b = e.1 in omega (arith, length-append us es)) (left ∙ sym own.1 ∙ sym right)
 
-literal_true-on : (m n : Assignment) (p : ℕ) (l : Literal) → m p ≡ n (variable_of l) → literal_true m (on_variable p l) ≡ literal_true n l
+literal_true-on : (m n : Assignment) (p : ℕ) (l : Literal) → m p ≡ n (variable_of l) →
+    literal_true m (on_variable p l) ≡ literal_true n l
 literal_true-on m n p (positive v) h = h
 literal_true-on m n p (negative v) h = ap not h
 
-literal_true-same : (m n : Assignment) (l : Literal) → m (variable_of l) ≡ n (variable_of l) → literal_true m l ≡ literal_true n l
+literal_true-same : (m n : Assignment) (l : Literal) → m (variable_of l) ≡ n (variable_of l) →
+    literal_true m l ≡ literal_true n l
 literal_true-same m n (positive v) h = h
 literal_true-same m n (negative v) h = ap not h
 
@@ -46,31 +55,41 @@ abbrev pub AtRow : Dqbf → List (List Bool) → List Bool → Assignment → As
 AtRow f rows row m n = IsAtRow f rows row m n
 
 module _ (f : Dqbf) (rows : List (List Bool)) (row : List Bool) (m n : Assignment) (t : AtRow f rows row m n) where
-  by_universal : (clause : List Literal) → list_any (universal_literal_true f row) clause ≡ true → clause_true n clause ≡ true
+  by_universal : (clause : List Literal) → list_any (universal_literal_true f row) clause ≡ true →
+      clause_true n clause ≡ true
   by_universal [] h = h
-  by_universal (l ∷ ls) h = elim (or_cases (universal_literal_true f row l) (list_any (universal_literal_true f row) ls) h) [
-    | inl here ↦ (
-        let parts = and_parts (is_universal f (variable_of l)) (literal_true (row_assignment f row) l) here in
-        or_left (literal_true n l) (clause_true n ls) (literal_true-same n (row_assignment f row) l (t.universal (variable_of l) parts.0) ∙ parts.1))
-    | inr later ↦ or_right (literal_true n l) (clause_true n ls) (by_universal ls later)
-  ]
+  by_universal (l ∷ ls) h = elim (or_cases (universal_literal_true f row l)
+      (list_any (universal_literal_true f row) ls) h) [
+        | inl here ↦ (
+            let parts = and_parts (is_universal f (variable_of l)) (literal_true (row_assignment f row) l) here in
+            or_left (literal_true n l) (clause_true n ls) (literal_true-same n (row_assignment f row) l
+            (t.universal (variable_of l) parts.0) ∙ parts.1))
+        | inr later ↦ or_right (literal_true n l) (clause_true n ls) (by_universal ls later)
+      ]
 
   by_pair : (l : Literal) (ls : List Literal) (o : Option Existential) → existential_of f (variable_of l) ≡ o
       → (clause_true m (filter_map (pair_literal f rows row) ls) ≡ true → clause_true n ls ≡ true)
-      → clause_true m (cons_option (option_map (λ y. on_variable (pair_number f rows row y) l) o) (filter_map (pair_literal f rows row) ls)) ≡ true → clause_true n (l ∷ ls) ≡ true
+      → clause_true m (cons_option (option_map (λ y. on_variable (pair_number f rows row y) l) o)
+      (filter_map (pair_literal f rows row) ls)) ≡ true → clause_true n (l ∷ ls) ≡ true
   by_pair l ls None found rest h = or_right (literal_true n l) (clause_true n ls) (rest h)
   by_pair l ls (Some y) found rest h =
-      elim (or_cases (literal_true m (on_variable (pair_number f rows row y) l)) (clause_true m (filter_map (pair_literal f rows row) ls)) h) [
-        | inl here ↦ or_left (literal_true n l) (clause_true n ls) (sym (literal_true-on m n (pair_number f rows row y) l (sym (t.existential (variable_of l) y found))) ∙ here)
+      elim (or_cases (literal_true m (on_variable (pair_number f rows row y) l))
+      (clause_true m (filter_map (pair_literal f rows row) ls)) h) [
+        | inl here ↦ or_left (literal_true n l) (clause_true n ls)
+            (sym (literal_true-on m n (pair_number f rows row y) l
+            (sym (t.existential (variable_of l) y found))) ∙ here)
         | inr later ↦ or_right (literal_true n l) (clause_true n ls) (rest later)
       ]
 
-  by_instance : (clause : List Literal) → clause_true m (filter_map (pair_literal f rows row) clause) ≡ true → clause_true n clause ≡ true
+  by_instance : (clause : List Literal) → clause_true m (filter_map (pair_literal f rows row) clause) ≡ true →
+      clause_true n clause ≡ true
   by_instance [] h = h
   by_instance (l ∷ ls) h = by_pair l ls (existential_of f (variable_of l)) refl (by_instance ls) h
 
-  pub clause_holds : (clause : List Literal) → InstanceHolds m (instance_clause f rows row clause) → clause_true n clause ≡ true
+  pub clause_holds : (clause : List Literal) → InstanceHolds m (instance_clause f rows row clause) →
+      clause_true n clause ≡ true
   clause_holds clause h = by_bit (list_any (universal_literal_true f row) clause) refl h where
-    by_bit : (b : Bool) → list_any (universal_literal_true f row) clause ≡ b → InstanceHolds m (cond b None (Some (filter_map (pair_literal f rows row) clause))) → clause_true n clause ≡ true
+    by_bit : (b : Bool) → list_any (universal_literal_true f row) clause ≡ b →
+        InstanceHolds m (cond b None (Some (filter_map (pair_literal f rows row) clause))) → clause_true n clause ≡ true
     by_bit true e h = by_universal clause e
     by_bit false e h = by_instance clause h

@@ -23,8 +23,10 @@ one_mapped P g xs i all (k, lt, at) =
     let there : get_or (map g xs) k (g i) ≡ g i = get_or-map g xs k i (g i) lt ∙ ap g at in
     subst P there (all k (g i) (rw (length-map xs g) lt))
 
-pub unplaced : (ys : List Existential) (w p : ℕ) (y : Existential) → position (λ v. v == w) (map variable ys) ≡ None → slice_get ys p ≡ Some y → w ≡ y.variable → ⊥
+pub unplaced : (ys : List Existential) (w p : ℕ) (y : Existential) → position (λ v. v == w) (map variable ys) ≡ None →
+    slice_get ys p ≡ Some y → w ≡ y.variable → ⊥
 unplaced ys w p y none at same =
     let lt : p < length ys = slice_get_within ys p y at in
-    let here : get_or (map variable ys) p w ≡ w = get_or-map variable ys p y w lt ∙ ap variable (get_or_from_slice_get ys p y y at) ∙ sym same in
+    let here : get_or (map variable ys) p w ≡ w = get_or-map variable ys p y w lt ∙ ap variable
+    (get_or_from_slice_get ys p y y at) ∙ sym same in
     none_contained (map variable ys) w none (p, rw (length-map ys variable) lt, here)

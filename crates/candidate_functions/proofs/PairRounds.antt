@@ -5,7 +5,8 @@ use Rattle.std.proofs.lemmas.List.Elements.{All-push, Contains-push, Contains-ap
 use Rattle.candidate_functions.specs.Pairs.{HasRound, ArePairRounds}
 use Rattle.candidate_functions.proofs.RowCubes.{agrees-refl}
 
-later : (rows : List (List Bool)) (places rounds : List ℕ) (r : ℕ) (row : List Bool) → HasRound rows places rounds row → HasRound rows places (rounds ++ r ∷ []) row
+later : (rows : List (List Bool)) (places rounds : List ℕ) (r : ℕ) (row : List Bool) → HasRound rows places rounds row →
+    HasRound rows places (rounds ++ r ∷ []) row
 later rows places rounds r row has = record {
   round = has.round;
   among = Contains-append_left rounds (r ∷ []) has.round has.among;
@@ -16,8 +17,10 @@ later rows places rounds r row has = record {
 }
 
 -- the row of a round has the pair of an earlier one
-pub one_more : (rows : List (List Bool)) (places : List ℕ) (round : ℕ) (rounds : List ℕ) (row : List Bool) → 1 ≤ round → slice_get rows (round - 1) ≡ Some row
-    → ArePairRounds rows places (round - 1) rounds → HasRound rows places rounds row → ArePairRounds rows places round rounds
+pub one_more : (rows : List (List Bool)) (places : List ℕ) (round : ℕ) (rounds : List ℕ) (row : List Bool) → 1 ≤ round →
+    slice_get rows (round - 1) ≡ Some row
+    → ArePairRounds rows places (round - 1) rounds → HasRound rows places rounds row →
+    ArePairRounds rows places round rounds
 one_more rows places round rounds row one at are has = record {
   each = are.each;
   complete = λ j r below there. elim (cases_lt j (round - 1)) [
@@ -31,7 +34,8 @@ one_more rows places round rounds row one at are has = record {
 }
 
 -- it has a pair of its own
-pub pushed_round : (rows : List (List Bool)) (places : List ℕ) (round : ℕ) (rounds : List ℕ) (row : List Bool) → 1 ≤ round → round ≤ length rows → slice_get rows (round - 1) ≡ Some row
+pub pushed_round : (rows : List (List Bool)) (places : List ℕ) (round : ℕ) (rounds : List ℕ) (row : List Bool) →
+    1 ≤ round → round ≤ length rows → slice_get rows (round - 1) ≡ Some row
     → ArePairRounds rows places (round - 1) rounds → ArePairRounds rows places round (rounds ++ round ∷ [])
 pushed_round rows places round rounds row one last at are =
     let longer : ArePairRounds rows places (round - 1) (rounds ++ round ∷ []) = record {

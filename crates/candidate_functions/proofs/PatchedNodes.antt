@@ -12,10 +12,12 @@ use Rattle.candidate_functions.specs.Pairs.{at_pair, has_bit, IsReadByPair, IsWi
 use Rattle.candidate_functions.specs.declared.cubes.Pair.{Pair}
 use Rattle.candidate_functions.proofs.LargerGraphs.{extends-trans}
 
-pub with_one : (old new : AigGraph) (made : Node) (bit : Bool) (cube node : Node) → bit ≡ true → IsMade (λ x y. x || y) old new made cube node → IsWith old new made bit cube node
+pub with_one : (old new : AigGraph) (made : Node) (bit : Bool) (cube node : Node) → bit ≡ true →
+    IsMade (λ x y. x || y) old new made cube node → IsWith old new made bit cube node
 with_one old new made bit cube node is one = record {
   is_node = one.is_node;
-  value = λ inputs. one.value inputs ∙ ap (λ b. node_value old inputs made || (b && node_value old inputs cube)) (sym is);
+  value = λ inputs. one.value inputs ∙ ap (λ b. node_value old inputs made || (b && node_value old inputs cube))
+      (sym is);
   reads = one.reads;
 }
 
@@ -24,12 +26,20 @@ pub record AtPairSoFar (old mid : AigGraph) (bits : ℕ → Bool) (pairs : List 
   pub grown : Extends old mid
   pub at : IsAtPair old mid bits pairs made
 
-longer : (g : AigGraph) (pairs : List Pair) (p : Pair) (i : ℕ) → IsReadByPair g pairs i → IsReadByPair g (pairs ++ p ∷ []) i
-longer g pairs p i by = record { pair = by.pair; among = Contains-append_left pairs (p ∷ []) by.pair by.among; reads = by.reads }
+longer : (g : AigGraph) (pairs : List Pair) (p : Pair) (i : ℕ) → IsReadByPair g pairs i →
+    IsReadByPair g (pairs ++ p ∷ []) i
+longer g pairs p i by = record {
+  pair = by.pair;
+  among = Contains-append_left pairs (p ∷ []) by.pair by.among;
+  reads =
+      by.reads;
+}
 
-pub one_pair_more : (old mid new : AigGraph) (bits : ℕ → Bool) (pairs : List Pair) (i : ℕ) (d : Pair) (made node : Node) (bit : Bool)
+pub one_pair_more : (old mid new : AigGraph) (bits : ℕ → Bool) (pairs : List Pair) (i : ℕ) (d : Pair) (made node : Node)
+    (bit : Bool)
     → i < length pairs → IsNode old (get_or pairs i d).cube → bit ≡ bits (get_or pairs i d).round
-    → AtPairSoFar old mid bits (take i pairs) made → Extends mid new → IsWith mid new made bit (get_or pairs i d).cube node
+    → AtPairSoFar old mid bits (take i pairs) made → Extends mid new →
+    IsWith mid new made bit (get_or pairs i d).cube node
     → AtPairSoFar old new bits (take (i + 1) pairs) node
 one_pair_more old mid new bits pairs i d made node bit below cube is far grown with =
     let p = get_or pairs i d in
@@ -42,10 +52,12 @@ one_pair_more old mid new bits pairs i d made node bit below cube is far grown w
             with.value inputs
             ∙ ap (λ b. b || (bit && node_value mid inputs p.cube)) (far.at.value inputs)
             ∙ ap (λ b. at_pair old bits (take i pairs) inputs || (b && node_value mid inputs p.cube)) is
-            ∙ ap (λ b. at_pair old bits (take i pairs) inputs || (bits p.round && b)) (far.grown.values p.cube cube inputs)
+            ∙ ap (λ b. at_pair old bits (take i pairs) inputs || (bits p.round && b))
+            (far.grown.values p.cube cube inputs)
             ∙ sym (list_any_more (λ q. bits q.round && node_value old inputs q.cube) pairs i d below);
         reads = λ j has. elim (with.reads j has) [
-          | inl before ↦ subst (λ ps. IsReadByPair old ps j) (sym here) (longer old (take i pairs) p j (far.at.reads j before))
+          | inl before ↦ subst (λ ps. IsReadByPair old ps j) (sym here)
+              (longer old (take i pairs) p j (far.at.reads j before))
           | inr own ↦ subst (λ ps. IsReadByPair old ps j) (sym here) (record {
             pair = p;
             among = Contains-push (take i pairs) p;
@@ -57,7 +69,8 @@ one_pair_more old mid new bits pairs i d made node bit below cube is far grown w
 
 pub masked_by : (old mid new : AigGraph) (bits : ℕ → Bool) (pairs : List Pair) (other zeros negated node : Node)
     → Extends old mid → IsNode old other → IsAtPair old mid bits pairs zeros
-    → ((inputs : ℕ → Bool) → node_value mid inputs negated ≡ not (node_value mid inputs zeros)) → node_support mid negated ≡ node_support mid zeros
+    → ((inputs : ℕ → Bool) → node_value mid inputs negated ≡ not (node_value mid inputs zeros)) →
+    node_support mid negated ≡ node_support mid zeros
     → IsMade (λ x y. x && y) mid new other negated node → IsMasked old new bits pairs other node
 masked_by old mid new bits pairs other zeros negated node grown is at turned same made = record {
   is_node = made.is_node;
@@ -72,13 +85,16 @@ masked_by old mid new bits pairs other zeros negated node grown is at turned sam
 }
 
 module _ (a b : AigGraph) (h : Extends a b) where
-  at_pair_stays : (bits : ℕ → Bool) (pairs : List Pair) (inputs : ℕ → Bool) → All (λ p. IsNode a p.cube) pairs → at_pair b bits pairs inputs ≡ at_pair a bits pairs inputs
+  at_pair_stays : (bits : ℕ → Bool) (pairs : List Pair) (inputs : ℕ → Bool) → All (λ p. IsNode a p.cube) pairs →
+      at_pair b bits pairs inputs ≡ at_pair a bits pairs inputs
   at_pair_stays bits [] inputs nodes = refl
   at_pair_stays bits (p ∷ pairs) inputs nodes =
       ap (λ v. (bits p.round && v) || at_pair b bits pairs inputs) (h.values p.cube (nodes 0 p (omega arith)) inputs)
-      ∙ ap (λ v. (bits p.round && node_value a inputs p.cube) || v) (at_pair_stays bits pairs inputs (λ k d below. nodes (suc k) d (omega (arith, below))))
+      ∙ ap (λ v. (bits p.round && node_value a inputs p.cube) || v)
+      (at_pair_stays bits pairs inputs (λ k d below. nodes (suc k) d (omega (arith, below))))
 
-  read_before : (pairs : List Pair) (i : ℕ) → All (λ p. IsNode a p.cube) pairs → IsReadByPair b pairs i → IsReadByPair a pairs i
+  read_before : (pairs : List Pair) (i : ℕ) → All (λ p. IsNode a p.cube) pairs → IsReadByPair b pairs i →
+      IsReadByPair a pairs i
   read_before pairs i nodes by = record {
     pair = by.pair;
     among = by.among;
@@ -88,7 +104,8 @@ module _ (a b : AigGraph) (h : Extends a b) where
         subst (λ s. Contains s i) (h.supports by.pair.cube node) by.reads;
   }
 
-pub patched_by : (old mid last new : AigGraph) (points : PointBits) (y : ℕ) (pairs : List Pair) (other rest ones node : Node)
+pub patched_by : (old mid last new : AigGraph) (points : PointBits) (y : ℕ) (pairs : List Pair)
+    (other rest ones node : Node)
     → Extends old mid → Extends mid last → All (λ p. IsNode old p.cube) pairs
     → IsMasked old mid (has_bit false points y) pairs other rest → IsAtPair mid last (has_bit true points y) pairs ones
     → IsMade (λ x y. x || y) last new ones rest node → IsPatched old new points y pairs other node
@@ -96,8 +113,10 @@ patched_by old mid last new points y pairs other rest ones node grown more cubes
   is_node = made.is_node;
   value = λ inputs.
       made.value inputs
-      ∙ ap (λ b. b || node_value last inputs rest) (at.value inputs ∙ at_pair_stays old mid grown (has_bit true points y) pairs inputs cubes)
-      ∙ ap (λ b. at_pair old (has_bit true points y) pairs inputs || b) (more.values rest masked.is_node inputs ∙ masked.value inputs);
+      ∙ ap (λ b. b || node_value last inputs rest) (at.value inputs ∙ at_pair_stays old mid grown
+      (has_bit true points y) pairs inputs cubes)
+      ∙ ap (λ b. at_pair old (has_bit true points y) pairs inputs || b)
+      (more.values rest masked.is_node inputs ∙ masked.value inputs);
   reads = λ i has. elim (made.reads i has) [
     | inl one ↦ inr (read_before old mid grown pairs i cubes (at.reads i one))
     | inr other ↦ masked.reads i (subst (λ s. Contains s i) (more.supports rest masked.is_node) other)

@@ -11,7 +11,8 @@ use Rattle.aig_graph.specs.declared.nodes.Node.{Node}
 use Rattle.candidate_functions.specs.Pairs.{agrees, row_literal, IsRowCube}
 
 -- an element of a mapped list comes from one of the list
-pub mapped_from : {X Y : Type 0} (f : X → Y) (xs : List X) (y : Y) → Contains (map f xs) y → (x : X) × Contains xs x × (f x ≡ y)
+pub mapped_from : {X Y : Type 0} (f : X → Y) (xs : List X) (y : Y) → Contains (map f xs) y →
+    (x : X) × Contains xs x × (f x ≡ y)
 mapped_from f [] y (k, below, is) = absurd (omega (arith, below))
 mapped_from f (x ∷ xs) y (zero, below, is) = (x, (0, omega arith, refl), is)
 mapped_from f (x ∷ xs) y (suc k, below, is) =
@@ -27,13 +28,15 @@ signed : (b x : Bool) → with_sign (not b) x ≡ same_bit b x
 signed true x = refl
 signed false x = refl
 
-literals_value : (old : AigGraph) (inputs : ℕ → Bool) (row : List Bool) (places : List ℕ) → list_all (node_value old inputs) (map (row_literal row) places) ≡ agrees places row inputs
+literals_value : (old : AigGraph) (inputs : ℕ → Bool) (row : List Bool) (places : List ℕ) →
+    list_all (node_value old inputs) (map (row_literal row) places) ≡ agrees places row inputs
 literals_value old inputs row [] = refl
 literals_value old inputs row (p ∷ places) =
     ap (λ b. b && list_all (node_value old inputs) (map (row_literal row) places)) (signed (bit_of row p) (inputs p))
     ∙ ap (λ b. same_bit (bit_of row p) (inputs p) && b) (literals_value old inputs row places)
 
-pub row_cube_made : (old new : AigGraph) (places : List ℕ) (row : List Bool) (n : Node) → IsCube old new (map (row_literal row) places) n → IsRowCube new places row n
+pub row_cube_made : (old new : AigGraph) (places : List ℕ) (row : List Bool) (n : Node) →
+    IsCube old new (map (row_literal row) places) n → IsRowCube new places row n
 row_cube_made old new places row n cube = record {
   is_node = cube.is_node;
   value = λ inputs. cube.value inputs ∙ literals_value old inputs row places;
@@ -44,7 +47,8 @@ row_cube_made old new places row n cube = record {
       subst (Contains places) (only_one from.0 i read) from.1;
 }
 
-pub literals_are_nodes : (g : AigGraph) (row : List Bool) (places : List ℕ) → All (λ p. p < g.inputs) places → All (IsNode g) (map (row_literal row) places)
+pub literals_are_nodes : (g : AigGraph) (row : List Bool) (places : List ℕ) → All (λ p. p < g.inputs) places →
+    All (IsNode g) (map (row_literal row) places)
 literals_are_nodes g row places below = All-map (IsNode g) (row_literal row) places below
 
 same_bit-refl : (b : Bool) → same_bit b b ≡ true
@@ -53,7 +57,10 @@ same_bit-refl false = refl
 
 pub agrees-refl : (row : List Bool) (places : List ℕ) → agrees places row (bit_of row) ≡ true
 agrees-refl row [] = refl
-agrees-refl row (p ∷ places) = ap (λ b. b && agrees places row (bit_of row)) (same_bit-refl (bit_of row p)) ∙ agrees-refl row places
+agrees-refl row (p ∷ places) = ap (λ b. b && agrees places row (bit_of row)) (same_bit-refl (bit_of row p))
+    ∙ agrees-refl row places
 
-pub row_has : (rows : List (List Bool)) (P : List Bool → Type 0) (k : ℕ) (row : List Bool) → All P rows → slice_get rows k ≡ Some row → P row
-row_has rows P k row all at = subst P (get_or_from_slice_get rows k row row at) (all k row (slice_get_within rows k row at))
+pub row_has : (rows : List (List Bool)) (P : List Bool → Type 0) (k : ℕ) (row : List Bool) → All P rows →
+    slice_get rows k ≡ Some row → P row
+row_has rows P k row all at = subst P (get_or_from_slice_get rows k row row at)
+    (all k row (slice_get_within rows k row at))

@@ -22,7 +22,8 @@ use Rattle.candidate_functions.proofs.RowCubes.{only_one, mapped_from}
 use Rattle.candidate_functions.proofs.DeclaredPlaces.{is_found, all_mapped}
 use Rattle.candidate_functions.proofs.LargerGraphs.{extends-trans, rule_node_stays}
 
-pub over_stays : (old new : AigGraph) → Extends old new → (places : List ℕ) (n : Node) → IsOver old places n → IsOver new places n
+pub over_stays : (old new : AigGraph) → Extends old new → (places : List ℕ) (n : Node) → IsOver old places n →
+    IsOver new places n
 over_stays old new h places n is = record {
   is_node = h.nodes n is.is_node;
   reads = λ i has. is.reads i (subst (λ s. Contains s i) (h.supports n is.is_node) has);
@@ -34,24 +35,35 @@ constant_over g places b = record {
   reads = λ i has. absurd (let (k, below, at) = has in omega (arith, below));
 }
 
-pub all_over_stay : (old new : AigGraph) → Extends old new → (places : List ℕ) (nodes : List Node) → All (IsOver old places) nodes → All (IsOver new places) nodes
+pub all_over_stay : (old new : AigGraph) → Extends old new → (places : List ℕ) (nodes : List Node) →
+    All (IsOver old places) nodes → All (IsOver new places) nodes
 all_over_stay old new h places nodes are k d lt = over_stays old new h places (get_or nodes k d) (are k d lt)
 
-pub at_over : (g : AigGraph) (places : List ℕ) (nodes : List Node) → All (IsOver g places) nodes → (k : ℕ) → IsOver g places (get_or nodes k (Constant false))
+pub at_over : (g : AigGraph) (places : List ℕ) (nodes : List Node) → All (IsOver g places) nodes → (k : ℕ) →
+    IsOver g places (get_or nodes k (Constant false))
 at_over g places nodes are k = elim (cases_lt k (length nodes)) [
   | inl below ↦ are k (Constant false) below
-  | inr not_below ↦ subst (IsOver g places) (sym (get_or_past nodes k (Constant false) (omega (arith, not_below)))) (constant_over g places false)
+  | inr not_below ↦ subst (IsOver g places) (sym (get_or_past nodes k (Constant false) (omega (arith, not_below))))
+      (constant_over g places false)
 ]
 
 -- where a universal that is seen stands
-pub place_among : (f : Dqbf) (seen : List ℕ) (x p : ℕ) → Contains seen x → p ≡ place f.universals x → Contains (universal_places f seen) p
-place_among f seen x p (k, below, at) is =
-    (k, rw (length-map seen (place f.universals)) below, get_or-map (place f.universals) seen k x p below ∙ ap (place f.universals) at ∙ sym is)
+pub place_among : (f : Dqbf) (seen : List ℕ) (x p : ℕ) → Contains seen x → p ≡ place f.universals x →
+    Contains (universal_places f seen) p
+place_among f seen x p (k, below, at) is = (
+  k,
+  rw (length-map seen (place f.universals)) below,
+  get_or-map (place f.universals) seen k x p below ∙ ap
+      (place f.universals) at ∙ sym is,
+)
 
-pub place_within : (f : Dqbf) (seen : List ℕ) (x p : ℕ) → All (Contains f.universals) seen → Contains seen x → p ≡ place f.universals x → p < length f.universals
-place_within f seen x p all among is = subst (λ q. q < length f.universals) (sym is) (place-below f.universals x (is_found f.universals x (All-contains (Contains f.universals) seen x all among)))
+pub place_within : (f : Dqbf) (seen : List ℕ) (x p : ℕ) → All (Contains f.universals) seen → Contains seen x →
+    p ≡ place f.universals x → p < length f.universals
+place_within f seen x p all among is = subst (λ q. q < length f.universals) (sym is)
+    (place-below f.universals x (is_found f.universals x (All-contains (Contains f.universals) seen x all among)))
 
-pub chosen_over : (old new : AigGraph) (places : List ℕ) (p : ℕ) (t e n : Node) → Contains places p → IsOver old places t → IsOver old places e
+pub chosen_over : (old new : AigGraph) (places : List ℕ) (p : ℕ) (t e n : Node) → Contains places p →
+    IsOver old places t → IsOver old places e
     → IsChosen old new (Input p false) t e n → IsOver new places n
 chosen_over old new places p t e n among over other chosen = record {
   is_node = chosen.is_node;
@@ -70,10 +82,12 @@ pub record TreeSoFar (old new : AigGraph) (places : List ℕ) (at : ℕ) (nodes 
   pub within : at ≤ length nodes
   pub over : All (IsOver new places) nodes
 
-put_over : (g : AigGraph) (places : List ℕ) (nodes : List Node) (p : ℕ) (n : Node) → All (IsOver g places) nodes → IsOver g places n → All (IsOver g places) (set nodes p n)
+put_over : (g : AigGraph) (places : List ℕ) (nodes : List Node) (p : ℕ) (n : Node) → All (IsOver g places) nodes →
+    IsOver g places n → All (IsOver g places) (set nodes p n)
 put_over g places nodes p n are is = All-set (IsOver g places) nodes p n is are
 
-pub tree_more : (old mid new : AigGraph) (places : List ℕ) (at : ℕ) (nodes : List Node) (n : Node) → 0 < at → TreeSoFar old mid places at nodes → Extends mid new → IsOver new places n
+pub tree_more : (old mid new : AigGraph) (places : List ℕ) (at : ℕ) (nodes : List Node) (n : Node) → 0 < at →
+    TreeSoFar old mid places at nodes → Extends mid new → IsOver new places n
     → TreeSoFar old new places (at - 1) (set nodes (at - 1) n)
 tree_more old mid new places at nodes n some far grown is = record {
   grown = extends-trans old mid new far.grown grown;
@@ -84,11 +98,13 @@ tree_more old mid new places at nodes n some far grown is = record {
 none_is : {X : Type 0} (x : X) → None ≡ Some x → ⊥
 none_is x e = cc
 
-pub seen_told : (f : Dqbf) (v : ℕ) (seen : List ℕ) → IfSome (existential_of f v) (λ e. seen ≡ e.sees) → (e : Existential) → existential_of f v ≡ Some e → seen ≡ e.sees
+pub seen_told : (f : Dqbf) (v : ℕ) (seen : List ℕ) → IfSome (existential_of f v) (λ e. seen ≡ e.sees) →
+    (e : Existential) → existential_of f v ≡ Some e → seen ≡ e.sees
 seen_told f v seen told e found = subst (λ o. IfSome o (λ z. seen ≡ z.sees)) found told
 
 -- without rules nothing is said of its values
-pub unruled : (f : Dqbf) → IsLawful f → (v : ℕ) (y : Existential) → existential_of f v ≡ Some y → (g : AigGraph) (places : List ℕ) → places ≡ universal_places f y.sees
+pub unruled : (f : Dqbf) → IsLawful f → (v : ℕ) (y : Existential) → existential_of f v ≡ Some y →
+    (g : AigGraph) (places : List ℕ) → places ≡ universal_places f y.sees
     → (n : Node) → IsOver g places n → IsByRules f g [] y n
 unruled f lawful v y found g places are n is = record {
   is_node = is.is_node;
@@ -97,12 +113,14 @@ unruled f lawful v y found g places are n is = record {
       let from = mapped_from (place f.universals) y.sees i (subst (λ ps. Contains ps i) are (is.reads i has)) in
       let x = from.0 in
       let among = All-contains (Contains f.universals) y.sees x (sees_universals f lawful v y found) from.1 in
-      let there : get_or f.universals i 0 ≡ x = ap (λ q. get_or f.universals q 0) (sym from.2) ∙ get_or-place f.universals x 0 (is_found f.universals x among) in
+      let there : get_or f.universals i 0 ≡ x = ap (λ q. get_or f.universals q 0) (sym from.2)
+      ∙ get_or-place f.universals x 0 (is_found f.universals x among) in
       subst (Contains y.sees) (sym there) from.1);
 }
 
 -- a guess that is given at a place
-pub guess_there : (f : Dqbf) → IsLawful f → (g : AigGraph) (guesses : List (Option Node)) (p : ℕ) (y : Existential) (n : Node) → AreGuesses f g guesses → slice_get f.existentials p ≡ Some y
+pub guess_there : (f : Dqbf) → IsLawful f → (g : AigGraph) (guesses : List (Option Node)) (p : ℕ) (y : Existential)
+    (n : Node) → AreGuesses f g guesses → slice_get f.existentials p ≡ Some y
     → get_or guesses p None ≡ Some n → IsByRules f g [] y n
 guess_there f lawful g guesses p y n are at is = record {
   is_node = guess.is_node;
@@ -110,7 +128,8 @@ guess_there f lawful g guesses p y n are at is = record {
   reads = guess.reads;
 } where
   guess : IsGuess f g y n
-  guess = All-contains (λ z. (m : Node) → definition_of f guesses z ≡ Some m → IsGuess f g z m) f.existentials y are (contained_at f.existentials p y at) n
+  guess = All-contains (λ z. (m : Node) → definition_of f guesses z ≡ Some m → IsGuess f g z m) f.existentials y are
+      (contained_at f.existentials p y at) n
       (ap (λ k. get_or guesses k None) (existential_at f lawful.prefix p y at) ∙ is)
 
 -- a constant reads nothing
@@ -125,25 +144,31 @@ unruled_constant f g y b = record {
 pub record NodesSoFar (f : Dqbf) (old new : AigGraph) (count : ℕ) (nodes : List Node) : Type 0 where
   pub grown : Extends old new
   pub one_each : length nodes ≡ count
-  pub each : (p : ℕ) (y : Existential) → p < count → slice_get f.existentials p ≡ Some y → IsByRules f new [] y (get_or nodes p (Constant false))
+  pub each : (p : ℕ) (y : Existential) → p < count → slice_get f.existentials p ≡ Some y →
+      IsByRules f new [] y (get_or nodes p (Constant false))
 
-pub node_more : (f : Dqbf) (old mid new : AigGraph) (count : ℕ) (nodes : List Node) (n : Node) → NodesSoFar f old mid count nodes → Extends mid new
-    → ((y : Existential) → slice_get f.existentials count ≡ Some y → IsByRules f new [] y n) → NodesSoFar f old new (count + 1) (nodes ++ n ∷ [])
+pub node_more : (f : Dqbf) (old mid new : AigGraph) (count : ℕ) (nodes : List Node) (n : Node) →
+    NodesSoFar f old mid count nodes → Extends mid new
+    → ((y : Existential) → slice_get f.existentials count ≡ Some y → IsByRules f new [] y n) →
+    NodesSoFar f old new (count + 1) (nodes ++ n ∷ [])
 node_more f old mid new count nodes n far grown is = record {
   grown = extends-trans old mid new far.grown grown;
   one_each = length_push nodes n ∙ ap (λ k. k + 1) far.one_each;
   each = λ p y below at. elim (cases_lt p count) [
-    | inl early ↦ subst (IsByRules f new [] y) (sym (get_or-append nodes (n ∷ []) (Constant false) p (let long = far.one_each in omega arith)))
+    | inl early ↦ subst (IsByRules f new [] y) (sym (get_or-append nodes (n ∷ []) (Constant false) p
+        (let long = far.one_each in omega arith)))
         (rule_node_stays mid new grown f [] y (get_or nodes p (Constant false)) (far.each p y early at))
     | inr late ↦ (
         let here : p ≡ count = omega arith in
-        let last : get_or (nodes ++ n ∷ []) count (Constant false) ≡ n = get_or_push nodes n (Constant false) count far.one_each in
+        let last : get_or (nodes ++ n ∷ []) count (Constant false) ≡ n =
+        get_or_push nodes n (Constant false) count far.one_each in
         subst (λ q. IsByRules f new [] y (get_or (nodes ++ n ∷ []) q (Constant false))) (sym here)
         (subst (IsByRules f new [] y) (sym last) (is y (subst (λ q. slice_get f.existentials q ≡ Some y) here at))))
   ];
 }
 
-pub all_nodes : (f : Dqbf) (old new : AigGraph) (count : ℕ) (nodes : List Node) → count ≡ length f.existentials → NodesSoFar f old new count nodes → AreByRules f new [] nodes
+pub all_nodes : (f : Dqbf) (old new : AigGraph) (count : ℕ) (nodes : List Node) → count ≡ length f.existentials →
+    NodesSoFar f old new count nodes → AreByRules f new [] nodes
 all_nodes f old new count nodes all far = record {
   one_each = far.one_each ∙ all;
   each = λ p y at. far.each p y (let w = slice_get_within f.existentials p y at in omega (arith, w, all)) at;

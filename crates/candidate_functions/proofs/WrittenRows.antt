@@ -10,17 +10,21 @@ pub record WrittenSoFar (row : List Bool) (inputs : List Bool) (size at : ℕ) :
   pub before : (i : ℕ) → i < at → bit_of inputs i ≡ bit_of row i
   pub behind : (i : ℕ) → at ≤ i → bit_of inputs i ≡ false
 
-pub written_more : (row inputs : List Bool) (size at : ℕ) (bit : Bool) → at < length inputs → bit ≡ bit_of row at → WrittenSoFar row inputs size at → WrittenSoFar row (set inputs at bit) size (at + 1)
+pub written_more : (row inputs : List Bool) (size at : ℕ) (bit : Bool) → at < length inputs → bit ≡ bit_of row at →
+    WrittenSoFar row inputs size at → WrittenSoFar row (set inputs at bit) size (at + 1)
 written_more row inputs size at bit below is far = record {
   long = length-set inputs at bit ∙ far.long;
   before = λ i early. elim (cases_eq i at) [
-    | inl here ↦ subst (λ k. get_or (set inputs at bit) k false ≡ bit_of row k) (sym here) (get_or-set_same inputs at bit false below ∙ is)
+    | inl here ↦ subst (λ k. get_or (set inputs at bit) k false ≡ bit_of row k) (sym here)
+        (get_or-set_same inputs at bit false below ∙ is)
     | inr other ↦ get_or-set_other inputs at i bit false other ∙ far.before i (omega (arith, early, other))
   ];
-  behind = λ i late. get_or-set_other inputs at i bit false (λ same. omega (arith, late, same)) ∙ far.behind i (omega (arith, late));
+  behind = λ i late. get_or-set_other inputs at i bit false (λ same. omega (arith, late, same)) ∙ far.behind i
+      (omega (arith, late));
 }
 
-pub written_all : (row inputs : List Bool) (size at : ℕ) → length row ≤ at → WrittenSoFar row inputs size at → (i : ℕ) → bit_of inputs i ≡ bit_of row i
+pub written_all : (row inputs : List Bool) (size at : ℕ) → length row ≤ at → WrittenSoFar row inputs size at → (i : ℕ) →
+    bit_of inputs i ≡ bit_of row i
 written_all row inputs size at all far i = elim (cases_lt i at) [
   | inl early ↦ far.before i early
   | inr late ↦ far.behind i (omega (arith, late)) ∙ sym (get_or_past row i false (omega (arith, late, all)))

@@ -10,17 +10,25 @@ pieces-length xs start (end ∷ ends) = ap suc (pieces-length xs end ends)
 
 pub ends_low : (start : ℕ) (ends : List ℕ) (total : ℕ) → AreEnds start ends total → start ≤ total
 ends_low start [] total are = omega (arith, are)
-ends_low start (end ∷ ends) total are = let low = are.0 in let rest = ends_low end ends total are.1 in omega (arith, low, rest)
+ends_low start (end ∷ ends) total are = let low = are.0 in let rest = ends_low end ends total are.1 in
+    omega (arith, low, rest)
 
 -- a piece
 pub record IsPiece (xs : List Literal) (start : ℕ) (ends : List ℕ) (i : ℕ) : Type 0 where
-  pub at : slice_get (pieces xs start ends) i ≡ Some (take (get_or ends i 0 - start_of start ends i) (drop (start_of start ends i) xs))
+  pub at : slice_get (pieces xs start ends) i ≡ Some (take (get_or ends i 0 - start_of start ends i)
+      (drop (start_of start ends i) xs))
   pub from : start_of start ends i ≤ get_or ends i 0
   pub to : get_or ends i 0 ≤ length xs
 
-pub piece_at : (xs : List Literal) (start : ℕ) (ends : List ℕ) (i : ℕ) → AreEnds start ends (length xs) → i < length ends → IsPiece xs start ends i
+pub piece_at : (xs : List Literal) (start : ℕ) (ends : List ℕ) (i : ℕ) → AreEnds start ends (length xs) →
+    i < length ends → IsPiece xs start ends i
 piece_at xs start [] i are lt = absurd (omega (arith, lt))
-piece_at xs start (end ∷ ends) zero are lt = record { at = refl; from = are.0; to = ends_low end ends (length xs) are.1 }
+piece_at xs start (end ∷ ends) zero are lt = record {
+  at = refl;
+  from = are.0;
+  to =
+      ends_low end ends (length xs) are.1;
+}
 piece_at xs start (end ∷ ends) (suc i) are lt =
     let p = piece_at xs end ends i are.1 (omega (arith, lt)) in
     record { at = p.at; from = p.from; to = p.to }
@@ -35,7 +43,8 @@ start_before start (end ∷ ends) zero lt = by ends
 start_before start (end ∷ ends) (suc i) lt = start_before end ends i (omega (arith, lt))
 
 -- one piece more, behind the others
-pieces_within : (xs ys : List Literal) (start : ℕ) (ends more : List ℕ) → AreEnds start ends (length xs) → pieces (xs ++ ys) start (ends ++ more) ≡ pieces xs start ends ++ pieces (xs ++ ys) (length xs) more
+pieces_within : (xs ys : List Literal) (start : ℕ) (ends more : List ℕ) → AreEnds start ends (length xs) →
+    pieces (xs ++ ys) start (ends ++ more) ≡ pieces xs start ends ++ pieces (xs ++ ys) (length xs) more
 pieces_within xs ys start [] more are = ap (λ n. pieces (xs ++ ys) n more) are
 pieces_within xs ys start (end ∷ ends) more are =
     let low = are.0 in
@@ -59,14 +68,17 @@ take_whole ys n e = ap (λ k. take k ys) e ∙ whole ys
     whole [] = refl
     whole (y ∷ ys) = ap (λ zs. y ∷ zs) (whole ys)
 
-pub pieces_more : (xs ys all : List Literal) (ends : List ℕ) (total : ℕ) → AreEnds 0 ends (length xs) → all ≡ xs ++ ys → total ≡ length all
+pub pieces_more : (xs ys all : List Literal) (ends : List ℕ) (total : ℕ) → AreEnds 0 ends (length xs) → all ≡ xs ++ ys →
+    total ≡ length all
     → pieces all 0 (ends ++ total ∷ []) ≡ pieces xs 0 ends ++ ys ∷ []
 pieces_more xs ys all ends total are is long =
     let n : total - length xs ≡ length ys = omega (arith, long, ap length is, length-append xs ys) in
     ap (λ zs. pieces zs 0 (ends ++ total ∷ [])) is ∙ pieces_within xs ys 0 ends (total ∷ []) are
-    ∙ ap (λ c. pieces xs 0 ends ++ c ∷ []) (ap (take (total - length xs)) (drop_all xs ys) ∙ take_whole ys (total - length xs) n)
+    ∙ ap (λ c. pieces xs 0 ends ++ c ∷ []) (ap (take (total - length xs)) (drop_all xs ys) ∙ take_whole ys
+    (total - length xs) n)
 
-pub ends_more : (xs ys all : List Literal) (ends : List ℕ) (total : ℕ) → AreEnds 0 ends (length xs) → all ≡ xs ++ ys → total ≡ length all → AreEnds 0 (ends ++ total ∷ []) (length all)
+pub ends_more : (xs ys all : List Literal) (ends : List ℕ) (total : ℕ) → AreEnds 0 ends (length xs) → all ≡ xs ++ ys →
+    total ≡ length all → AreEnds 0 (ends ++ total ∷ []) (length all)
 ends_more xs ys all ends total are is long = by 0 ends are
   where
     by : (start : ℕ) (es : List ℕ) → AreEnds start es (length xs) → AreEnds start (es ++ total ∷ []) (length all)

@@ -20,7 +20,8 @@ Among few many = (t : Literal) → holds few t ≡ true → holds many t ≡ tru
 
 pub among_suffix : (popped steps : List Step) → Among (literals_of steps) (literals_of (popped ++ steps))
 among_suffix [] steps t h = h
-among_suffix (s ∷ popped) steps t h = holds_later s.literal (literals_of (popped ++ steps)) t (among_suffix popped steps t h)
+among_suffix (s ∷ popped) steps t h = holds_later s.literal (literals_of (popped ++ steps)) t
+    (among_suffix popped steps t h)
 
 pub among_grown : (old new : List Step) → Grown old new → Among (literals_of old) (literals_of new)
 among_grown old new grown t h = ap (λ xs. holds (literals_of xs) t) grown.is ∙ among_suffix grown.more old t h
@@ -31,10 +32,12 @@ same-sym k l h = elim (cases_Bool (same_literal l k)) [
   | inr f ↦ f
 ]
 
-pub any_more : (few many c : List Literal) → Among few many → list_any (holds few) c ≡ true → list_any (holds many) c ≡ true
+pub any_more : (few many c : List Literal) → Among few many → list_any (holds few) c ≡ true →
+    list_any (holds many) c ≡ true
 any_more few many c among h = let g = any_gives (holds few) c h in any_one (holds many) c g.0 g.1 (among g.0 g.2)
 
-pub watched_turned : (clauses : List (List Literal)) (these others : List Literal) → AreWatched clauses these others → AreWatched clauses others these
+pub watched_turned : (clauses : List (List Literal)) (these others : List Literal) → AreWatched clauses these others →
+    AreWatched clauses others these
 watched_turned clauses these others w i c at = record {
   two = λ n. let h = (w i c at).two (same-sym (watch_at others i) (watch_at these i) n) in (h.1, h.0);
   one = λ s x m.
@@ -43,48 +46,69 @@ watched_turned clauses these others w i c at = record {
 }
 
 -- the side that moved
-pub guards_moved : (trues old_trues new_trues processed old new others : List Literal) → AreMoved trues old new others → Among processed trues → Among old_trues new_trues
+pub guards_moved : (trues old_trues new_trues processed old new others : List Literal) → AreMoved trues old new others →
+    Among processed trues → Among old_trues new_trues
     → Guards processed old_trues old others → Guards processed new_trues new others
-guards_moved trues old_trues new_trues processed old new others moved among grown guards i apart is_false = elim (moved i) [
-  | inl e ↦ grown (watch_at others i) (guards i (ap (λ l. same_literal l (watch_at others i)) (sym e) ∙ apart) (ap (λ l. holds processed (opposite l)) (sym e) ∙ is_false))
-  | inr m ↦ absurd (false≢true (sym m.not_false ∙ among (opposite (watch_at new i)) is_false))
-]
+guards_moved trues old_trues new_trues processed old new others moved among grown guards i apart is_false =
+    elim (moved i) [
+      | inl e ↦ grown (watch_at others i) (guards i (ap (λ l. same_literal l (watch_at others i)) (sym e) ∙ apart)
+          (ap (λ l. holds processed (opposite l)) (sym e) ∙ is_false))
+      | inr m ↦ absurd (false≢true (sym m.not_false ∙ among (opposite (watch_at new i)) is_false))
+    ]
 
 -- the other side
-pub guards_beside : (trues old_trues new_trues processed old new others : List Literal) → AreMoved trues old new others → AreConsistent trues → Among old_trues trues → Among old_trues new_trues
+pub guards_beside : (trues old_trues new_trues processed old new others : List Literal) →
+    AreMoved trues old new others → AreConsistent trues → Among old_trues trues → Among old_trues new_trues
     → Guards processed old_trues others old → Guards processed new_trues others new
-guards_beside trues old_trues new_trues processed old new others moved consistent inside grown guards i apart is_false = elim (moved i) [
-  | inl e ↦
-      let h = grown (watch_at old i) (guards i (ap (same_literal (watch_at others i)) (sym e) ∙ apart) is_false) in
-      ap (holds new_trues) e ∙ h
-  | inr m ↦
-      let h = inside (watch_at old i) (guards i (same-sym (watch_at old i) (watch_at others i) m.was_apart) is_false) in
-      absurd (consistent (watch_at old i) h m.was_false)
-]
+guards_beside trues old_trues new_trues processed old new others moved consistent inside grown guards i apart is_false =
+    elim (moved i) [
+      | inl e ↦
+          let h = grown (watch_at old i) (guards i (ap (same_literal (watch_at others i)) (sym e) ∙ apart) is_false) in
+          ap (holds new_trues) e ∙ h
+      | inr m ↦
+          let h = inside (watch_at old i) (guards i (same-sym (watch_at old i) (watch_at others i) m.was_apart)
+          is_false) in
+          absurd (consistent (watch_at old i) h m.was_false)
+    ]
 
-short_moved : (clauses : List (List Literal)) (trues old_trues new_trues old new others : List Literal) → AreMoved trues old new others → Among old_trues new_trues
+short_moved : (clauses : List (List Literal)) (trues old_trues new_trues old new others : List Literal) →
+    AreMoved trues old new others → Among old_trues new_trues
     → AreShortTrue clauses old others old_trues → AreShortTrue clauses new others new_trues
 short_moved clauses trues old_trues new_trues old new others moved grown short i c at same = elim (moved i) [
-  | inl e ↦ any_more old_trues new_trues c grown (short i c at (ap (λ l. same_literal l (watch_at others i)) (sym e) ∙ same))
+  | inl e ↦ any_more old_trues new_trues c grown (short i c at
+      (ap (λ l. same_literal l (watch_at others i)) (sym e) ∙ same))
   | inr m ↦ absurd (false≢true (sym m.apart ∙ same))
 ]
 
-short_turned : (clauses : List (List Literal)) (first second trues : List Literal) → AreShortTrue clauses first second trues → AreShortTrue clauses second first trues
-short_turned clauses first second trues short i c at same = short i c at (same_literal-sym (watch_at second i) (watch_at first i) same)
+short_turned : (clauses : List (List Literal)) (first second trues : List Literal) →
+    AreShortTrue clauses first second trues → AreShortTrue clauses second first trues
+short_turned clauses first second trues short i c at same = short i c at
+    (same_literal-sym (watch_at second i) (watch_at first i) same)
 
 -- all that guards, where the first side moved
-pub guarded_moved : (clauses : List (List Literal)) (trues old_trues new_trues processed old new others : List Literal) → AreMoved trues old new others → AreConsistent trues
-    → Among processed trues → Among old_trues trues → Among old_trues new_trues → IsGuarded clauses old others processed old_trues → IsGuarded clauses new others processed new_trues
-guarded_moved clauses trues old_trues new_trues processed old new others moved consistent among inside grown g = record {
-  first_guards = guards_moved trues old_trues new_trues processed old new others moved among grown g.first_guards;
-  second_guards = guards_beside trues old_trues new_trues processed old new others moved consistent inside grown g.second_guards;
-  short = short_moved clauses trues old_trues new_trues old new others moved grown g.short;
+pub guarded_moved : (clauses : List (List Literal)) (trues old_trues new_trues processed old new others : List Literal)
+    → AreMoved trues old new others → AreConsistent trues
+    → Among processed trues → Among old_trues trues → Among old_trues new_trues →
+    IsGuarded clauses old others processed old_trues → IsGuarded clauses new others processed new_trues
+guarded_moved clauses trues old_trues new_trues processed old new others moved consistent among inside grown g =
+    record {
+      first_guards = guards_moved trues old_trues new_trues processed old new others moved among grown g.first_guards;
+      second_guards = guards_beside trues old_trues new_trues processed old new others moved consistent inside grown
+          g.second_guards;
+      short = short_moved clauses trues old_trues new_trues old new others moved grown g.short;
+    }
+
+pub guarded_turned : (clauses : List (List Literal)) (first second processed trues : List Literal) →
+    IsGuarded clauses first second processed trues → IsGuarded clauses second first processed trues
+guarded_turned clauses first second processed trues g = record {
+  first_guards = g.second_guards;
+  second_guards = g.first_guards;
+  short =
+      short_turned clauses first second trues g.short;
 }
 
-pub guarded_turned : (clauses : List (List Literal)) (first second processed trues : List Literal) → IsGuarded clauses first second processed trues → IsGuarded clauses second first processed trues
-guarded_turned clauses first second processed trues g = record { first_guards = g.second_guards; second_guards = g.first_guards; short = short_turned clauses first second trues g.short }
-
-pub guarded_grown : (clauses : List (List Literal)) (first second processed old_trues new_trues : List Literal) → Among old_trues new_trues → IsGuarded clauses first second processed old_trues
+pub guarded_grown : (clauses : List (List Literal)) (first second processed old_trues new_trues : List Literal) →
+    Among old_trues new_trues → IsGuarded clauses first second processed old_trues
     → IsGuarded clauses first second processed new_trues
 guarded_grown clauses first second processed old_trues new_trues grown g = record {
   first_guards = λ i n f. grown (watch_at second i) (g.first_guards i n f);
@@ -93,22 +117,28 @@ guarded_grown clauses first second processed old_trues new_trues grown g = recor
 }
 
 -- at each level's end
-pub levels_moved : (clauses : List (List Literal)) (trues old new others : List Literal) (steps : List Step) → AreMoved trues old new others → AreConsistent trues → Among (literals_of steps) trues
+pub levels_moved : (clauses : List (List Literal)) (trues old new others : List Literal) (steps : List Step) →
+    AreMoved trues old new others → AreConsistent trues → Among (literals_of steps) trues
     → AreLevelsGuarded clauses old others steps → AreLevelsGuarded clauses new others steps
 levels_moved clauses trues old new others [] moved consistent among levels = tt
 levels_moved clauses trues old new others (s ∷ earlier) moved consistent among levels =
     let below : Among (literals_of earlier) trues = λ t h. among t (holds_later s.literal (literals_of earlier) t h) in
     let here = literals_of earlier in (
-      λ d. guarded_moved clauses trues here here here old new others moved consistent below below (λ t h. h) (levels.0 d),
+      λ d. guarded_moved clauses trues here here here old new others moved consistent below below (λ t h. h)
+          (levels.0 d),
       levels_moved clauses trues old new others earlier moved consistent below levels.1,
     )
 
-pub levels_turned : (clauses : List (List Literal)) (first second : List Literal) (steps : List Step) → AreLevelsGuarded clauses first second steps → AreLevelsGuarded clauses second first steps
+pub levels_turned : (clauses : List (List Literal)) (first second : List Literal) (steps : List Step) →
+    AreLevelsGuarded clauses first second steps → AreLevelsGuarded clauses second first steps
 levels_turned clauses first second [] levels = tt
-levels_turned clauses first second (s ∷ earlier) levels =
-    (λ d. guarded_turned clauses first second (literals_of earlier) (literals_of earlier) (levels.0 d), levels_turned clauses first second earlier levels.1)
+levels_turned clauses first second (s ∷ earlier) levels = (
+  λ d. guarded_turned clauses first second (literals_of earlier) (literals_of earlier) (levels.0 d),
+  levels_turned clauses first second earlier levels.1,
+)
 
-levels_more : (clauses : List (List Literal)) (first second : List Literal) (more old : List Step) → All (λ s. is_decision s ≡ false) more → AreLevelsGuarded clauses first second old
+levels_more : (clauses : List (List Literal)) (first second : List Literal) (more old : List Step) →
+    All (λ s. is_decision s ≡ false) more → AreLevelsGuarded clauses first second old
     → AreLevelsGuarded clauses first second (more ++ old)
 levels_more clauses first second [] old implied levels = levels
 levels_more clauses first second (s ∷ more) old implied levels = (
@@ -116,15 +146,19 @@ levels_more clauses first second (s ∷ more) old implied levels = (
   levels_more clauses first second more old (All-tail (λ (k : Step). is_decision k ≡ false) s more implied) levels,
 )
 
-pub levels_grown : (clauses : List (List Literal)) (first second : List Literal) (old new : List Step) → Grown old new → AreLevelsGuarded clauses first second old → AreLevelsGuarded clauses first second new
-levels_grown clauses first second old new grown levels = subst (AreLevelsGuarded clauses first second) (sym grown.is) (levels_more clauses first second grown.more old grown.implied levels)
+pub levels_grown : (clauses : List (List Literal)) (first second : List Literal) (old new : List Step) → Grown old new →
+    AreLevelsGuarded clauses first second old → AreLevelsGuarded clauses first second new
+levels_grown clauses first second old new grown levels = subst (AreLevelsGuarded clauses first second) (sym grown.is)
+    (levels_more clauses first second grown.more old grown.implied levels)
 
-pub levels_later : (clauses : List (List Literal)) (first second : List Literal) (popped steps : List Step) → AreLevelsGuarded clauses first second (popped ++ steps) → AreLevelsGuarded clauses first second steps
+pub levels_later : (clauses : List (List Literal)) (first second : List Literal) (popped steps : List Step) →
+    AreLevelsGuarded clauses first second (popped ++ steps) → AreLevelsGuarded clauses first second steps
 levels_later clauses first second [] steps levels = levels
 levels_later clauses first second (s ∷ popped) steps levels = levels_later clauses first second popped steps levels.1
 
 -- the notes on short clauses
-pub short_kept : (clauses : List (List Literal)) (trues old new others : List Literal) (short : List ℕ) → AreMoved trues old new others → AreShort clauses old others short → AreShort clauses new others short
+pub short_kept : (clauses : List (List Literal)) (trues old new others : List Literal) (short : List ℕ) →
+    AreMoved trues old new others → AreShort clauses old others short → AreShort clauses new others short
 short_kept clauses trues old new others short moved notes = record {
   ids = notes.ids;
   one = λ id h. elim (moved (id - 1)) [
@@ -137,7 +171,8 @@ short_kept clauses trues old new others short moved notes = record {
   ];
 }
 
-pub short_notes_turned : (clauses : List (List Literal)) (first second : List Literal) (short : List ℕ) → AreShort clauses first second short → AreShort clauses second first short
+pub short_notes_turned : (clauses : List (List Literal)) (first second : List Literal) (short : List ℕ) →
+    AreShort clauses first second short → AreShort clauses second first short
 short_notes_turned clauses first second short notes = record {
   ids = notes.ids;
   one = λ id h. same_literal-sym (watch_at first (id - 1)) (watch_at second (id - 1)) (notes.one id h);
@@ -145,24 +180,28 @@ short_notes_turned clauses first second short notes = record {
 }
 
 -- a clause with one literal that is stuck is true
-pub same_stuck : (trues c : List Literal) → AreSame c → status_of trues (Some c) ≡ stuck → list_any (holds trues) c ≡ true
+pub same_stuck : (trues c : List Literal) → AreSame c → status_of trues (Some c) ≡ stuck →
+    list_any (holds trues) c ≡ true
 same_stuck trues [] same h = let n : falsified ≡ stuck = h in cc
 same_stuck trues (x ∷ c) same h = elim (cases_Bool (holds trues x)) [
   | inl on ↦ any_one (holds trues) (x ∷ c) x (holds_first x c) on
   | inr off ↦ elim (cases_Bool (holds trues (opposite x))) [
     | inl is_false ↦
-        let f = is_falsified trues (x ∷ c) (λ l m. ap (λ k. holds trues (opposite k)) (same l x m (holds_first x c)) ∙ is_false) in
+        let f = is_falsified trues (x ∷ c) (λ l m. ap (λ k. holds trues (opposite k)) (same l x m (holds_first x c))
+        ∙ is_false) in
         let clash : falsified ≡ stuck = sym f ∙ h in
         cc
     | inr free ↦
-        let u = is_unit trues (x ∷ c) x (holds_first x c) (λ l m n. absurd (n (same l x m (holds_first x c)))) (off, free) in
+        let u = is_unit trues (x ∷ c) x (holds_first x c) (λ l m n. absurd (n (same l x m (holds_first x c))))
+        (off, free) in
         let clash : unit x ≡ stuck = sym u ∙ h in
         cc
   ]
 ]
 
 -- where everything was processed, no clause is unit or falsified
-pub guarded_closed : (clauses : List (List Literal)) (first second trues : List Literal) → AreWatched clauses first second → AreConsistent trues → IsGuarded clauses first second trues trues
+pub guarded_closed : (clauses : List (List Literal)) (first second trues : List Literal) →
+    AreWatched clauses first second → AreConsistent trues → IsGuarded clauses first second trues trues
     → IsClosed (live_in clauses) trues
 guarded_closed clauses first second trues watched consistent g zero = refl
 guarded_closed clauses first second trues watched consistent g (suc i) = by (slice_get clauses i) refl
@@ -183,8 +222,10 @@ guarded_closed clauses first second trues watched consistent g (suc i) = by (sli
               elim (cases_Bool (holds trues (opposite k))) [
                 | inl f ↦ let on = g.first_guards i apart f in stuck_from_true trues c l two.1 on (off l on)
                 | inr kf ↦ elim (cases_Bool (holds trues (opposite l))) [
-                  | inl f ↦ let on = g.second_guards i (same-sym k l apart) f in stuck_from_true trues c k two.0 on (off k on)
-                  | inr lf ↦ stuck_from_two trues c k l two.0 two.1 (λ e. false≢true (sym apart ∙ ap (same_literal k) (sym e) ∙ same_literal-refl k)) kf lf
+                  | inl f ↦ let on = g.second_guards i (same-sym k l apart) f in
+                      stuck_from_true trues c k two.0 on (off k on)
+                  | inr lf ↦ stuck_from_two trues c k l two.0 two.1
+                      (λ e. false≢true (sym apart ∙ ap (same_literal k) (sym e) ∙ same_literal-refl k)) kf lf
                 ]
               ]
         ]
@@ -195,7 +236,8 @@ guarded_closed clauses first second trues watched consistent g (suc i) = by (sli
 
 -- the literal that was visited is processed too
 pub guards_visited : (trues these others processed : List Literal) (l : Literal) → Guards processed trues these others
-    → ((i : ℕ) → same_literal (watch_at these i) (watch_at others i) ≡ false → watch_at these i ≡ l → holds trues (watch_at others i) ≡ true)
+    → ((i : ℕ) → same_literal (watch_at these i) (watch_at others i) ≡ false → watch_at these i ≡ l →
+    holds trues (watch_at others i) ≡ true)
     → Guards (opposite l ∷ processed) trues these others
 guards_visited trues these others processed l guards done i apart is_false =
     elim (holds_cases (opposite l) processed (opposite (watch_at these i)) is_false) [
@@ -204,8 +246,10 @@ guards_visited trues these others processed l guards done i apart is_false =
     ]
 
 -- moves behind one another
-pub moved_both : (trues now_trues old now new others : List Literal) → Among trues now_trues → AreMoved trues old now others → AreMoved now_trues now new others
-    → ((i : ℕ) → IsMove now_trues (watch_at now i) (watch_at new i) (watch_at others i) → holds trues (opposite (watch_at now i)) ≡ true)
+pub moved_both : (trues now_trues old now new others : List Literal) → Among trues now_trues →
+    AreMoved trues old now others → AreMoved now_trues now new others
+    → ((i : ℕ) → IsMove now_trues (watch_at now i) (watch_at new i) (watch_at others i) →
+    holds trues (opposite (watch_at now i)) ≡ true)
     → AreMoved trues old new others
 moved_both trues now_trues old now new others among first second here i = elim (second i) [
   | inl e ↦ elim (first i) [
@@ -213,14 +257,22 @@ moved_both trues now_trues old now new others among first second here i = elim (
     | inr m ↦ inr (subst (λ l. IsMove trues (watch_at old i) l (watch_at others i)) (sym e) m)
   ]
   | inr m ↦
-      let still : holds trues (opposite (watch_at new i)) ≡ false = elim (cases_Bool (holds trues (opposite (watch_at new i)))) [
+      let still : holds trues (opposite (watch_at new i)) ≡ false =
+      elim (cases_Bool (holds trues (opposite (watch_at new i)))) [
         | inl t ↦ absurd (false≢true (sym m.not_false ∙ among (opposite (watch_at new i)) t))
         | inr f ↦ f
       ] in
       elim (first i) [
         | inl f ↦
-            let was : holds trues (opposite (watch_at old i)) ≡ true = ap (λ l. holds trues (opposite l)) (sym f) ∙ here i m in
-            inr (record { was_false = was; not_false = still; was_apart = ap (λ l. same_literal l (watch_at others i)) (sym f) ∙ m.was_apart; apart = m.apart })
+            let was : holds trues (opposite (watch_at old i)) ≡ true =
+            ap (λ l. holds trues (opposite l)) (sym f) ∙ here i m in
+            inr (record {
+              was_false = was;
+              not_false = still;
+              was_apart =
+                  ap (λ l. same_literal l (watch_at others i)) (sym f) ∙ m.was_apart;
+              apart = m.apart;
+            })
         | inr n ↦ inr (record { was_false = n.was_false; not_false = still; was_apart = n.was_apart; apart = m.apart })
       ]
 ]

@@ -29,33 +29,39 @@ has_cases id x rest h = elim (or_cases (x == id) (has rest x) h) [
   | inr t ↦ inr t
 ]
 
-pub chain_range : (nexts : List ℕ) (start x : ℕ) (xs : List ℕ) → IsChain nexts start xs → has xs x ≡ true → (1 ≤ x) × (x ≤ length nexts)
+pub chain_range : (nexts : List ℕ) (start x : ℕ) (xs : List ℕ) → IsChain nexts start xs → has xs x ≡ true →
+    (1 ≤ x) × (x ≤ length nexts)
 chain_range nexts start x [] c h = absurd (false≢true h)
 chain_range nexts start x (y ∷ ys) c h = elim (has_cases y x ys h) [
   | inl e ↦ let low = c.1 in let high = c.2 in (omega (arith, e, low), omega (arith, e, high))
   | inr t ↦ chain_range nexts (get_or nexts (y - 1) 0) x ys c.3 t
 ]
 
-chain_keeps : (nexts : List ℕ) (start id v : ℕ) (xs : List ℕ) → 1 ≤ id → has xs id ≡ false → IsChain nexts start xs → IsChain (set nexts (id - 1) v) start xs
+chain_keeps : (nexts : List ℕ) (start id v : ℕ) (xs : List ℕ) → 1 ≤ id → has xs id ≡ false → IsChain nexts start xs →
+    IsChain (set nexts (id - 1) v) start xs
 chain_keeps nexts start id v [] one none c = c
 chain_keeps nexts start id v (x ∷ xs) one none c =
     let p = or_parts (id == x) (has xs id) none in
     let n : id ≢ x = λ e. false≢true (sym p.0 ∙ eq-eqb id x e) in
     let low = c.1 in
     let high = c.2 in
-    let same : get_or (set nexts (id - 1) v) (x - 1) 0 ≡ get_or nexts (x - 1) 0 = get_or-set_other nexts (id - 1) (x - 1) v 0 (λ e. n (omega (arith, one, low, e))) in (
+    let same : get_or (set nexts (id - 1) v) (x - 1) 0 ≡ get_or nexts (x - 1) 0 =
+    get_or-set_other nexts (id - 1) (x - 1) v 0 (λ e. n (omega (arith, one, low, e))) in (
       c.0,
       low,
       omega (arith, high, length-set nexts (id - 1) v),
-      subst (λ s. IsChain (set nexts (id - 1) v) s xs) (sym same) (chain_keeps nexts (get_or nexts (x - 1) 0) id v xs one p.1 c.3),
+      subst (λ s. IsChain (set nexts (id - 1) v) s xs) (sym same)
+          (chain_keeps nexts (get_or nexts (x - 1) 0) id v xs one p.1 c.3),
     )
 
-chain_longer : (nexts more : List ℕ) (start : ℕ) (xs : List ℕ) → IsChain nexts start xs → IsChain (nexts ++ more) start xs
+chain_longer : (nexts more : List ℕ) (start : ℕ) (xs : List ℕ) → IsChain nexts start xs →
+    IsChain (nexts ++ more) start xs
 chain_longer nexts more start [] c = c
 chain_longer nexts more start (x ∷ xs) c =
     let low = c.1 in
     let high = c.2 in
-    let same : get_or (nexts ++ more) (x - 1) 0 ≡ get_or nexts (x - 1) 0 = get_or_append_left nexts more 0 (x - 1) (omega (arith, low, high)) in (
+    let same : get_or (nexts ++ more) (x - 1) 0 ≡ get_or nexts (x - 1) 0 =
+    get_or_append_left nexts more 0 (x - 1) (omega (arith, low, high)) in (
       c.0,
       low,
       omega (arith, high, length-append nexts more),
@@ -76,17 +82,20 @@ distinct (x ∷ xs) once = (apart x xs once.0, distinct xs once.1)
     apart x [] none = tt
     apart x (y ∷ ys) none = let p = or_parts (x == y) (has ys x) none in (p.0, apart x ys p.1)
 
-zero_apart : (nexts : List ℕ) (start : ℕ) (xs : List ℕ) → IsChain nexts start xs → AllByRecursion (λ y. eqb 0 y ≡ false) xs
+zero_apart : (nexts : List ℕ) (start : ℕ) (xs : List ℕ) → IsChain nexts start xs →
+    AllByRecursion (λ y. eqb 0 y ≡ false) xs
 zero_apart nexts start [] c = tt
 zero_apart nexts start (x ∷ xs) c =
     let low = c.1 in
     (ne_eqb 0 x (λ e. omega (arith, e, low)), zero_apart nexts (get_or nexts (x - 1) 0) xs c.3)
 
 -- no more ids stand on a list than there are
-pub chain_short : (nexts : List ℕ) (start : ℕ) (xs : List ℕ) → IsChain nexts start xs → AreOnce xs → length xs ≤ length nexts
+pub chain_short : (nexts : List ℕ) (start : ℕ) (xs : List ℕ) → IsChain nexts start xs → AreOnce xs →
+    length xs ≤ length nexts
 unfolding IsDistinct
 chain_short nexts start xs c once =
-    let all : length (0 ∷ xs) ≤ suc (length nexts) = length-le_from_distinct_below (0 ∷ xs) (suc (length nexts)) (zero_apart nexts start xs c, distinct xs once) (λ q h. elim (has_cases 0 q xs h) [
+    let all : length (0 ∷ xs) ≤ suc (length nexts) = length-le_from_distinct_below (0 ∷ xs) (suc (length nexts))
+    (zero_apart nexts start xs c, distinct xs once) (λ q h. elim (has_cases 0 q xs h) [
       | inl e ↦ omega (arith, e)
       | inr t ↦ let r = chain_range nexts start q xs c t in let high = r.1 in omega (arith, high)
     ]) in
@@ -105,7 +114,8 @@ put_other lists q xs p n = ap (λ b. cond b xs (lists p)) (ne_eqb p q n)
 head_here : (heads : List ℕ) (q v p : ℕ) → q < length heads → p ≡ q → get_or (set heads q v) p 0 ≡ v
 head_here heads q v p lt e = ap (λ n. get_or (set heads q v) n 0) e ∙ get_or-set_same heads q v 0 lt
 
-pub linked_put : (heads nexts : List ℕ) (literals : List Literal) (id q : ℕ) (rest : List ℕ) → AreLinked heads nexts literals id (id ∷ rest)
+pub linked_put : (heads nexts : List ℕ) (literals : List Literal) (id q : ℕ) (rest : List ℕ) →
+    AreLinked heads nexts literals id (id ∷ rest)
     → place_of (watch_at literals (id - 1)) ≡ q → q < length heads
     → AreLinked (set heads q id) (set nexts (id - 1) (get_or heads q 0)) literals (get_or nexts (id - 1) 0) rest
 linked_put heads nexts literals id q rest k at lt =
@@ -120,14 +130,16 @@ linked_put heads nexts literals id q rest k at lt =
       | inr n ↦ n
     ] in
     let lists = put k.lists q (id ∷ k.lists q) in
-    let Q : (p : ℕ) → List ℕ → Type 0 = λ p xs. (IsChain nexts' (get_or (set heads q id) p 0) xs) × AreOnce xs × ((x : ℕ) → has xs x ≡ true → (place_of (watch_at literals (x - 1)) ≡ p) × (has rest x ≡ false)) in
+    let Q : (p : ℕ) → List ℕ → Type 0 = λ p xs. (IsChain nexts' (get_or (set heads q id) p 0) xs) × AreOnce xs ×
+    ((x : ℕ) → has xs x ≡ true → (place_of (watch_at literals (x - 1)) ≡ p) × (has rest x ≡ false)) in
     let all : (p : ℕ) → Q p (lists p) = λ p. elim (cases_eq p q) [
       | inl e ↦ subst (Q p) (sym (put_here k.lists q (id ∷ k.lists q) p e)) (
         (
           head_here heads q id p lt e,
           one,
           omega (arith, high, long),
-          subst (λ s. IsChain nexts' s (k.lists q)) (sym (get_or-set_same nexts (id - 1) next 0 (omega (arith, one, high)))) (chain_keeps nexts next id next (k.lists q) one (absent q) (k.chains q)),
+          subst (λ s. IsChain nexts' s (k.lists q)) (sym (get_or-set_same nexts (id - 1) next 0
+              (omega (arith, one, high)))) (chain_keeps nexts next id next (k.lists q) one (absent q) (k.chains q)),
         ),
         (absent q, k.once q),
         λ x h. elim (has_cases id x (k.lists q) h) [
@@ -136,7 +148,8 @@ linked_put heads nexts literals id q rest k at lt =
         ],
       )
       | inr n ↦ subst (Q p) (sym (put_other k.lists q (id ∷ k.lists q) p n)) (
-        subst (λ s. IsChain nexts' s (k.lists p)) (sym (get_or-set_other heads q p id 0 n)) (chain_keeps nexts (get_or heads p 0) id next (k.lists p) one (absent p) (k.chains p)),
+        subst (λ s. IsChain nexts' s (k.lists p)) (sym (get_or-set_other heads q p id 0 n))
+            (chain_keeps nexts (get_or heads p 0) id next (k.lists p) one (absent p) (k.chains p)),
         k.once p,
         λ x t. (k.on_list p x t, (or_parts (x == id) (has rest x) (k.rest_apart p x t)).1),
       )
@@ -154,24 +167,28 @@ linked_put heads nexts literals id q rest k at lt =
           let place = place_of (watch_at literals (x - 1)) in
           elim (k.whole x low (omega (arith, up, long))) [
             | inl t ↦ elim (cases_eq place q) [
-              | inl e ↦ inl (subst (λ xs. has xs x ≡ true) (sym (put_here k.lists q (id ∷ k.lists q) place e)) (has_later id x (k.lists q) (subst (λ p. has (k.lists p) x ≡ true) e t)))
+              | inl e ↦ inl (subst (λ xs. has xs x ≡ true) (sym (put_here k.lists q (id ∷ k.lists q) place e))
+                  (has_later id x (k.lists q) (subst (λ p. has (k.lists p) x ≡ true) e t)))
               | inr n ↦ inl (subst (λ xs. has xs x ≡ true) (sym (put_other k.lists q (id ∷ k.lists q) place n)) t)
             ]
             | inr t ↦ elim (has_cases id x rest t) [
               | inl s ↦
                   let e : place ≡ q = ap (λ n. place_of (watch_at literals (n - 1))) s ∙ at in
-                  inl (subst (λ xs. has xs x ≡ true) (sym (put_here k.lists q (id ∷ k.lists q) place e)) (ap (has (id ∷ k.lists q)) s ∙ has_first id (k.lists q)))
+                  inl (subst (λ xs. has xs x ≡ true) (sym (put_here k.lists q (id ∷ k.lists q) place e))
+                  (ap (has (id ∷ k.lists q)) s ∙ has_first id (k.lists q)))
               | inr u ↦ inr u
             ]
           ];
     }
 
 -- a clause that is left to visit gets another literal
-pub linked_relabelled : (heads nexts : List ℕ) (literals : List Literal) (id : ℕ) (l : Literal) (rest : List ℕ) → AreLinked heads nexts literals id (id ∷ rest)
+pub linked_relabelled : (heads nexts : List ℕ) (literals : List Literal) (id : ℕ) (l : Literal) (rest : List ℕ) →
+    AreLinked heads nexts literals id (id ∷ rest)
     → AreLinked heads nexts (set literals (id - 1) l) id (id ∷ rest)
 linked_relabelled heads nexts literals id l rest k =
     let one = k.rest_chain.1 in
-    let other : (x : ℕ) → 1 ≤ x → x ≢ id → watch_at (set literals (id - 1) l) (x - 1) ≡ watch_at literals (x - 1) = λ x low n.
+    let other : (x : ℕ) → 1 ≤ x → x ≢ id → watch_at (set literals (id - 1) l) (x - 1) ≡ watch_at literals (x - 1) =
+    λ x low n.
     get_or-set_other literals (id - 1) (x - 1) l (positive 0) (λ e. n (omega (arith, one, low, e))) in
     record {
       count = length-set literals (id - 1) l ∙ k.count;
@@ -180,7 +197,8 @@ linked_relabelled heads nexts literals id l rest k =
       once = k.once;
       on_list = λ p x h.
           let low = (chain_range nexts (get_or heads p 0) x (k.lists p) (k.chains p) h).0 in
-          let n : x ≢ id = λ e. false≢true (sym (ap (λ y. has (id ∷ rest) y) (sym e) ∙ k.rest_apart p x h) ∙ has_first id rest) in
+          let n : x ≢ id = λ e. false≢true (sym (ap (λ y. has (id ∷ rest) y) (sym e) ∙ k.rest_apart p x h)
+          ∙ has_first id rest) in
           ap place_of (other x low n) ∙ k.on_list p x h;
       rest_chain = k.rest_chain;
       rest_once = k.rest_once;
@@ -195,16 +213,23 @@ linked_relabelled heads nexts literals id l rest k =
     }
 
 -- a list is taken away
-pub linked_taken : (heads nexts : List ℕ) (literals : List Literal) (q : ℕ) → q < length heads → (k : AreLinked heads nexts literals 0 [])
+pub linked_taken : (heads nexts : List ℕ) (literals : List Literal) (q : ℕ) → q < length heads →
+    (k : AreLinked heads nexts literals 0 [])
     → AreLinked (set heads q 0) nexts literals (get_or heads q 0) (k.lists q)
 linked_taken heads nexts literals q lt k =
-    let Q : (p : ℕ) → List ℕ → Type 0 = λ p xs. (IsChain nexts (get_or (set heads q 0) p 0) xs) × AreOnce xs × ((x : ℕ) → has xs x ≡ true → (place_of (watch_at literals (x - 1)) ≡ p) × (has (k.lists q) x ≡ false)) in
+    let Q : (p : ℕ) → List ℕ → Type 0 = λ p xs. (IsChain nexts (get_or (set heads q 0) p 0) xs) × AreOnce xs ×
+    ((x : ℕ) → has xs x ≡ true → (place_of (watch_at literals (x - 1)) ≡ p) × (has (k.lists q) x ≡ false)) in
     let all : (p : ℕ) → Q p (put k.lists q [] p) = λ p. elim (cases_eq p q) [
-      | inl e ↦ subst (Q p) (sym (put_here k.lists q [] p e)) (head_here heads q 0 p lt e, tt, λ x h. absurd (false≢true h))
+      | inl e ↦ subst (Q p) (sym (put_here k.lists q [] p e))
+          (head_here heads q 0 p lt e, tt, λ x h. absurd (false≢true h))
       | inr n ↦ subst (Q p) (sym (put_other k.lists q [] p n)) (
         subst (λ s. IsChain nexts s (k.lists p)) (sym (get_or-set_other heads q p 0 0 n)) (k.chains p),
         k.once p,
-        λ x t. (k.on_list p x t, elim (cases_Bool (has (k.lists q) x)) [ inl u ↦ absurd (n (sym (k.on_list p x t) ∙ k.on_list q x u)) | inr f ↦ f ]),
+        λ x t. (
+          k.on_list p x t,
+          elim (cases_Bool (has (k.lists q) x))
+              [ inl u ↦ absurd (n (sym (k.on_list p x t) ∙ k.on_list q x u)) | inr f ↦ f ],
+        ),
       )
     ] in
     record {
@@ -227,16 +252,20 @@ linked_taken heads nexts literals q lt k =
           ];
     }
 
-pub taken_list : (heads nexts : List ℕ) (literals : List Literal) (w : Watches) (l : Literal) → place_of l < length heads → (k : AreLinked heads nexts literals 0 [])
-    → w.heads.items ≡ set heads (place_of l) 0 → w.nexts.items ≡ nexts → w.literals.items ≡ literals → IsTaken w l (get_or heads (place_of l) 0)
+pub taken_list : (heads nexts : List ℕ) (literals : List Literal) (w : Watches) (l : Literal) →
+    place_of l < length heads → (k : AreLinked heads nexts literals 0 [])
+    → w.heads.items ≡ set heads (place_of l) 0 → w.nexts.items ≡ nexts → w.literals.items ≡ literals →
+    IsTaken w l (get_or heads (place_of l) 0)
 taken_list heads nexts literals w l lt k heads_are nexts_are literals_are =
     let q = place_of l in
     record {
       rest = k.lists q;
       linked = subst (λ hs. AreLinked hs w.nexts.items w.literals.items (get_or heads q 0) (k.lists q)) (sym heads_are)
           (subst (λ ns. AreLinked (set heads q 0) ns w.literals.items (get_or heads q 0) (k.lists q)) (sym nexts_are)
-          (subst (λ ls. AreLinked (set heads q 0) nexts ls (get_or heads q 0) (k.lists q)) (sym literals_are) (linked_taken heads nexts literals q lt k)));
-      watched = λ x h. ap (λ ls. watch_at ls (x - 1)) literals_are ∙ place_of-one (watch_at literals (x - 1)) l (k.on_list q x h);
+          (subst (λ ls. AreLinked (set heads q 0) nexts ls (get_or heads q 0) (k.lists q)) (sym literals_are)
+          (linked_taken heads nexts literals q lt k)));
+      watched = λ x h. ap (λ ls. watch_at ls (x - 1)) literals_are ∙ place_of-one (watch_at literals (x - 1)) l
+          (k.on_list q x h);
       whole = λ x low up at.
           let here : watch_at literals (x - 1) ≡ l = ap (λ ls. watch_at ls (x - 1)) (sym literals_are) ∙ at in
           elim (k.whole x low (omega (arith, up, ap length nexts_are))) [
@@ -248,7 +277,9 @@ taken_list heads nexts literals w l lt k heads_are nexts_are literals_are =
 
 pub taken_none : (w : Watches) (l : Literal) → length w.heads.items ≤ place_of l → IsLinked w 0 [] → IsTaken w l 0
 taken_none w l past k =
-    let none : k.lists (place_of l) ≡ [] = chain_none w.nexts.items (k.lists (place_of l)) (subst (λ s. IsChain w.nexts.items s (k.lists (place_of l))) (get_or_past w.heads.items (place_of l) 0 past) (k.chains (place_of l))) in
+    let none : k.lists (place_of l) ≡ [] = chain_none w.nexts.items (k.lists (place_of l))
+    (subst (λ s. IsChain w.nexts.items s (k.lists (place_of l))) (get_or_past w.heads.items (place_of l) 0 past)
+    (k.chains (place_of l))) in
     record {
       rest = [];
       linked = k;
@@ -261,7 +292,8 @@ taken_none w l past k =
     }
 
 -- one clause more
-pub linked_more : (heads nexts : List ℕ) (literals : List Literal) (l : Literal) (id : ℕ) → AreLinked heads nexts literals 0 [] → place_of l < length heads → id ≡ length nexts + 1
+pub linked_more : (heads nexts : List ℕ) (literals : List Literal) (l : Literal) (id : ℕ) →
+    AreLinked heads nexts literals 0 [] → place_of l < length heads → id ≡ length nexts + 1
     → AreLinked (set heads (place_of l) id) (nexts ++ get_or heads (place_of l) 0 ∷ []) (literals ++ l ∷ []) 0 []
 linked_more heads nexts literals l id k lt is =
     let q = place_of l in
@@ -271,24 +303,29 @@ linked_more heads nexts literals l id k lt is =
     let long : length nexts' ≡ length nexts + 1 = length-append nexts (next ∷ []) in
     let count = k.count in
     let last : id - 1 ≡ length nexts = omega (arith, is) in
-    let new : watch_at literals' (id - 1) ≡ l = ap (watch_at literals') (last ∙ sym count) ∙ get_or-append_seam literals l [] (positive 0) in
+    let new : watch_at literals' (id - 1) ≡ l = ap (watch_at literals') (last ∙ sym count)
+    ∙ get_or-append_seam literals l [] (positive 0) in
     let old : (x : ℕ) → 1 ≤ x → x ≤ length nexts → watch_at literals' (x - 1) ≡ watch_at literals (x - 1) = λ x low up.
     get_or_append_left literals (l ∷ []) (positive 0) (x - 1) (omega (arith, low, up, count)) in
     let absent : (p : ℕ) → has (k.lists p) id ≡ false = λ p. elim (cases_Bool (has (k.lists p) id)) [
-      | inl h ↦ let r = (chain_range nexts (get_or heads p 0) id (k.lists p) (k.chains p) h).1 in absurd (omega (arith, r, is))
+      | inl h ↦ let r = (chain_range nexts (get_or heads p 0) id (k.lists p) (k.chains p) h).1 in
+          absurd (omega (arith, r, is))
       | inr n ↦ n
     ] in
     let here : (p x : ℕ) → has (k.lists p) x ≡ true → place_of (watch_at literals' (x - 1)) ≡ p = λ p x h.
-    (let r = chain_range nexts (get_or heads p 0) x (k.lists p) (k.chains p) h in ap place_of (old x r.0 r.1) ∙ k.on_list p x h) in
+    (let r = chain_range nexts (get_or heads p 0) x (k.lists p) (k.chains p) h in
+    ap place_of (old x r.0 r.1) ∙ k.on_list p x h) in
     let lists = put k.lists q (id ∷ k.lists q) in
-    let Q : (p : ℕ) → List ℕ → Type 0 = λ p xs. (IsChain nexts' (get_or (set heads q id) p 0) xs) × AreOnce xs × ((x : ℕ) → has xs x ≡ true → place_of (watch_at literals' (x - 1)) ≡ p) in
+    let Q : (p : ℕ) → List ℕ → Type 0 = λ p xs. (IsChain nexts' (get_or (set heads q id) p 0) xs) × AreOnce xs ×
+    ((x : ℕ) → has xs x ≡ true → place_of (watch_at literals' (x - 1)) ≡ p) in
     let all : (p : ℕ) → Q p (lists p) = λ p. elim (cases_eq p q) [
       | inl e ↦ subst (Q p) (sym (put_here k.lists q (id ∷ k.lists q) p e)) (
         (
           head_here heads q id p lt e,
           omega (arith, is),
           omega (arith, is, long),
-          subst (λ s. IsChain nexts' s (k.lists q)) (sym (ap (λ n. get_or nexts' n 0) last ∙ get_or-append_seam nexts next [] 0)) (chain_longer nexts (next ∷ []) next (k.lists q) (k.chains q)),
+          subst (λ s. IsChain nexts' s (k.lists q)) (sym (ap (λ n. get_or nexts' n 0) last
+              ∙ get_or-append_seam nexts next [] 0)) (chain_longer nexts (next ∷ []) next (k.lists q) (k.chains q)),
         ),
         (absent q, k.once q),
         λ x h. elim (has_cases id x (k.lists q) h) [
@@ -297,7 +334,8 @@ linked_more heads nexts literals l id k lt is =
         ],
       )
       | inr n ↦ subst (Q p) (sym (put_other k.lists q (id ∷ k.lists q) p n)) (
-        subst (λ s. IsChain nexts' s (k.lists p)) (sym (get_or-set_other heads q p id 0 n)) (chain_longer nexts (next ∷ []) (get_or heads p 0) (k.lists p) (k.chains p)),
+        subst (λ s. IsChain nexts' s (k.lists p)) (sym (get_or-set_other heads q p id 0 n))
+            (chain_longer nexts (next ∷ []) (get_or heads p 0) (k.lists p) (k.chains p)),
         k.once p,
         here p,
       )
@@ -316,15 +354,19 @@ linked_more heads nexts literals l id k lt is =
           elim (cases_eq x id) [
             | inl s ↦
                 let e : place ≡ q = ap (λ n. place_of (watch_at literals' (n - 1))) s ∙ ap place_of new in
-                inl (subst (λ xs. has xs x ≡ true) (sym (put_here k.lists q (id ∷ k.lists q) place e)) (ap (has (id ∷ k.lists q)) s ∙ has_first id (k.lists q)))
+                inl (subst (λ xs. has xs x ≡ true) (sym (put_here k.lists q (id ∷ k.lists q) place e))
+                (ap (has (id ∷ k.lists q)) s ∙ has_first id (k.lists q)))
             | inr n ↦
                 let small : x ≤ length nexts = omega (arith, up, long, is, n) in
                 elim (k.whole x low small) [
                   | inl t ↦
-                      let t' : has (k.lists place) x ≡ true = subst (λ m. has (k.lists (place_of m)) x ≡ true) (sym (old x low small)) t in
+                      let t' : has (k.lists place) x ≡ true =
+                      subst (λ m. has (k.lists (place_of m)) x ≡ true) (sym (old x low small)) t in
                       elim (cases_eq place q) [
-                        | inl e ↦ inl (subst (λ xs. has xs x ≡ true) (sym (put_here k.lists q (id ∷ k.lists q) place e)) (has_later id x (k.lists q) (subst (λ p. has (k.lists p) x ≡ true) e t')))
-                        | inr o ↦ inl (subst (λ xs. has xs x ≡ true) (sym (put_other k.lists q (id ∷ k.lists q) place o)) t')
+                        | inl e ↦ inl (subst (λ xs. has xs x ≡ true) (sym (put_here k.lists q (id ∷ k.lists q) place e))
+                            (has_later id x (k.lists q) (subst (λ p. has (k.lists p) x ≡ true) e t')))
+                        | inr o ↦ inl (subst (λ xs. has xs x ≡ true)
+                            (sym (put_other k.lists q (id ∷ k.lists q) place o)) t')
                       ]
                   | inr t ↦ absurd (false≢true t)
                 ]
@@ -345,14 +387,21 @@ linked_none = record {
 }
 
 pub added_both : (a b c : List ℕ) → AddsLists a b → AddsLists b c → AddsLists a c
-added_both a b c f g = record { more = let m = f.more in let n = g.more in omega (arith, m, n); same = λ p. g.same p ∙ f.same p }
+added_both a b c f g = record {
+  more = let m = f.more in let n = g.more in omega (arith, m, n);
+  same =
+      λ p. g.same p ∙ f.same p;
+}
 
-pub listed_more : (n m : ℕ) (lits : List Literal) (l : Literal) (i : ℕ) → i < length lits → get_or lits i l ≡ l → variable_of l * 2 + 2 ≤ m → n ≤ m
+pub listed_more : (n m : ℕ) (lits : List Literal) (l : Literal) (i : ℕ) → i < length lits → get_or lits i l ≡ l →
+    variable_of l * 2 + 2 ≤ m → n ≤ m
     → All (λ k. place_of k + 1 ≤ n) (take i lits) → All (λ k. place_of k + 1 ≤ m) (take (i + 1) lits)
 listed_more n m lits l i lt at wide le all =
     let P : Literal → Type 0 = λ k. place_of k + 1 ≤ m in
-    let longer : take (i + 1) lits ≡ take i lits ++ l ∷ [] = take_more lits i l lt ∙ ap (λ y. take i lits ++ y ∷ []) at in
-    subst (λ xs. All P xs) (sym longer) (All-append P (take i lits) (l ∷ []) (λ j d g. let low = all j d g in omega (arith, low, le)) (All-cons P l [] (low_place l wide) (All-nil P)))
+    let longer : take (i + 1) lits ≡ take i lits ++ l ∷ [] =
+    take_more lits i l lt ∙ ap (λ y. take i lits ++ y ∷ []) at in
+    subst (λ xs. All P xs) (sym longer) (All-append P (take i lits) (l ∷ [])
+    (λ j d g. let low = all j d g in omega (arith, low, le)) (All-cons P l [] (low_place l wide) (All-nil P)))
   where
     low_place : (l : Literal) → variable_of l * 2 + 2 ≤ m → place_of l + 1 ≤ m
     low_place (positive v) h = omega (arith, h)

@@ -6,5 +6,13 @@ use Rattle.learning_trail.specs.Searching.{IsSearching as IsAtSearch}
 use Rattle.cdcl_core.specs.declared.searchers.Searcher.{Searcher}
 use Rattle.cdcl_core.specs.Searching.{IsSearching, searched}
 
-pub at_search : (assumptions : List Literal) (s : Searcher) (log : ProofLog) → IsSearching assumptions s log → IsAtSearch assumptions (searched s) log
-at_search assumptions s log r = record { fit = r.fit; sound = r.sound; guided = r.guided; room = r.room; marks = r.marks }
+pub at_search : (assumptions : List Literal) (s : Searcher) (log : ProofLog) → IsSearching assumptions s log →
+    IsAtSearch assumptions (searched s) log
+at_search assumptions s log r = record {
+  fit = r.fit;
+  sound = r.sound;
+  guided = r.guided;
+  room = r.room;
+  marks =
+      r.marks;
+}

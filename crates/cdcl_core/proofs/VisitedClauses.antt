@@ -23,22 +23,27 @@ use Rattle.cdcl_core.proofs.LinkedLists.{has_first, has_later, has_cases, chain_
 use Rattle.learning_trail.proofs.LargerTrails.{grown_none, grown_one, grown_both, implied_step, literal_within, live_within}
 use Rattle.learning_trail.proofs.ClauseStatus.{is_falsified, is_unit, implied_from}
 
-pub at_id : (clauses : List (List Literal)) (id : ℕ) (c : List Literal) → live_in clauses id ≡ Some c → slice_get clauses (id - 1) ≡ Some c
+pub at_id : (clauses : List (List Literal)) (id : ℕ) (c : List Literal) → live_in clauses id ≡ Some c →
+    slice_get clauses (id - 1) ≡ Some c
 at_id clauses zero c is = let n : None ≡ Some c = is in cc
 at_id clauses (suc i) c is = let e : suc i - 1 ≡ i = omega arith in ap (slice_get clauses) e ∙ is
 
-pub some_clause : (clauses : List (List Literal)) (id : ℕ) → 1 ≤ id → id ≤ length clauses → (c : List Literal) × (live_in clauses id ≡ Some c)
+pub some_clause : (clauses : List (List Literal)) (id : ℕ) → 1 ≤ id → id ≤ length clauses →
+    (c : List Literal) × (live_in clauses id ≡ Some c)
 some_clause clauses zero low high = absurd (omega (arith, low))
 some_clause clauses (suc i) low high = (get_or clauses i [], slice_get-get_or clauses i [] (omega (arith, high)))
 
-one_clause : (clauses : List (List Literal)) (i : ℕ) (c d : List Literal) → slice_get clauses i ≡ Some c → slice_get clauses i ≡ Some d → c ≡ d
+one_clause : (clauses : List (List Literal)) (i : ℕ) (c d : List Literal) → slice_get clauses i ≡ Some c →
+    slice_get clauses i ≡ Some d → c ≡ d
 one_clause clauses i c d a b = let e : Some c ≡ Some d = sym a ∙ b in cc
 
 pub read_watch : (xs : List Literal) (i : ℕ) (l : Literal) → i < length xs → l ≡ get_or xs i l → l ≡ watch_at xs i
 read_watch xs i l lt at = at ∙ get_or_default xs i l (positive 0) lt
 
-pub visitable_next : (clauses : List (List Literal)) (old new : Trailed) (was now others : Watches) → IsVisitable clauses old was others → new.room ≡ old.room → IsSound (live_in clauses) new.steps
-    → length new.steps ≤ new.room → AreWatched clauses now.literals.items others.literals.items → length now.literals.items ≡ length was.literals.items
+pub visitable_next : (clauses : List (List Literal)) (old new : Trailed) (was now others : Watches) →
+    IsVisitable clauses old was others → new.room ≡ old.room → IsSound (live_in clauses) new.steps
+    → length new.steps ≤ new.room → AreWatched clauses now.literals.items others.literals.items →
+    length now.literals.items ≡ length was.literals.items
     → length now.heads.items ≡ length was.heads.items → IsVisitable clauses new now others
 visitable_next clauses old new was now others v room sound few watched long lists = record {
   in_range = subst (λ n. AreWithin n clauses) (sym room) v.in_range;
@@ -51,7 +56,8 @@ visitable_next clauses old new was now others v room sound few watched long list
   other_listed = v.other_listed;
 }
 
-pub visitable_turned : (clauses : List (List Literal)) (trail : Trailed) (first second : Watches) → IsVisitable clauses trail first second → IsVisitable clauses trail second first
+pub visitable_turned : (clauses : List (List Literal)) (trail : Trailed) (first second : Watches) →
+    IsVisitable clauses trail first second → IsVisitable clauses trail second first
 visitable_turned clauses trail first second v = record {
   in_range = v.in_range;
   sound = v.sound;
@@ -63,14 +69,18 @@ visitable_turned clauses trail first second v = record {
   other_listed = v.listed;
 }
 
-module _ (clauses : List (List Literal)) (old : Trailed) (was others : Watches) (l other : Literal) (id : ℕ) (c : List Literal)
-    (v : IsVisitable clauses old was others) (is : live_in clauses id ≡ Some c) (here : watch_at was.literals.items (id - 1) ≡ l)
-    (beside : other ≡ watch_at others.literals.items (id - 1)) (false_now : holds (literals_of old.steps) (opposite l) ≡ true) where
+module _ (clauses : List (List Literal)) (old : Trailed) (was others : Watches) (l other : Literal) (id : ℕ)
+    (c : List Literal)
+    (v : IsVisitable clauses old was others) (is : live_in clauses id ≡ Some c)
+    (here : watch_at was.literals.items (id - 1) ≡ l)
+    (beside : other ≡ watch_at others.literals.items (id - 1))
+    (false_now : holds (literals_of old.steps) (opposite l) ≡ true) where
   found_at : slice_get clauses (id - 1) ≡ Some c
   found_at = at_id clauses id c is
 
   pair : IsWatched c l other
-  pair = subst (λ k. IsWatched c l k) (sym beside) (subst (λ k. IsWatched c k (watch_at others.literals.items (id - 1))) here (v.watched (id - 1) c found_at))
+  pair = subst (λ k. IsWatched c l k) (sym beside) (subst (λ k. IsWatched c k (watch_at others.literals.items (id - 1)))
+      here (v.watched (id - 1) c found_at))
 
   pub other_within : variable_of l ≤ old.room → variable_of other ≤ old.room
   other_within low = elim (cases_Bool (same_literal l other)) [
@@ -81,14 +91,18 @@ module _ (clauses : List (List Literal)) (old : Trailed) (was others : Watches) 
   -- the other literal isn't false, so it is another one of the clause
   other_among : holds (literals_of old.steps) (opposite other) ≡ false → holds c other ≡ true
   other_among free = elim (cases_Bool (same_literal l other)) [
-    | inl same ↦ absurd (false≢true (sym free ∙ ap (λ k. holds (literals_of old.steps) (opposite k)) (sym (same_literal-sound l other same)) ∙ false_now))
+    | inl same ↦ absurd (false≢true (sym free ∙ ap (λ k. holds (literals_of old.steps) (opposite k))
+        (sym (same_literal-sound l other same)) ∙ false_now))
     | inr apart ↦ (pair.two apart).1
   ]
 
-  pub visited_kept : (new : Trailed) (now : Watches) (next : ℕ) → length new.steps ≤ new.room → IsLooked c id old new other Kept → now.literals.items ≡ was.literals.items
-      → length now.heads.items ≡ length was.heads.items → ((rest : List ℕ) → IsLinked was id (id ∷ rest) → IsLinked now next rest) → IsVisited clauses old new was now others l id (Some next)
+  pub visited_kept : (new : Trailed) (now : Watches) (next : ℕ) → length new.steps ≤ new.room →
+      IsLooked c id old new other Kept → now.literals.items ≡ was.literals.items
+      → length now.heads.items ≡ length was.heads.items → ((rest : List ℕ) → IsLinked was id (id ∷ rest) →
+      IsLinked now next rest) → IsVisited clauses old new was now others l id (Some next)
   visited_kept new now next few looked same lists linked =
-      let P : Trailed → Type 0 = λ t. (t.room ≡ old.room) × IsSound (live_in clauses) t.steps × Grown old.steps t.steps × (holds (literals_of t.steps) other ≡ true) in
+      let P : Trailed → Type 0 = λ t. (t.room ≡ old.room) × IsSound
+      (live_in clauses) t.steps × Grown old.steps t.steps × (holds (literals_of t.steps) other ≡ true) in
       let all : P new = elim looked [
         | inl k ↦ subst P (sym k.0) (refl, v.sound, grown_none old.steps, k.1)
         | inr m ↦ subst P (sym m.is) (
@@ -96,8 +110,10 @@ module _ (clauses : List (List Literal)) (old : Trailed) (was others : Watches) 
           (
             record {
               free = m.free;
-              reasoned = ap (status_of (literals_of old.steps)) is ∙ is_unit (literals_of old.steps) c other (other_among m.free.1)
-                  (λ k h n. m.others k h (elim (cases_Bool (same_literal k other)) [ inl s ↦ absurd (n (same_literal-sound k other s)) | inr f ↦ f ])) m.free;
+              reasoned = ap (status_of (literals_of old.steps)) is ∙ is_unit (literals_of old.steps) c other
+                  (other_among m.free.1)
+                  (λ k h n. m.others k h (elim (cases_Bool (same_literal k other))
+                  [ inl s ↦ absurd (n (same_literal-sound k other s)) | inr f ↦ f ])) m.free;
             },
             v.sound,
           ),
@@ -106,7 +122,8 @@ module _ (clauses : List (List Literal)) (old : Trailed) (was others : Watches) 
         )
       ] in
       record {
-        visitable = visitable_next clauses old new was now others v all.0 all.1 few (subst (λ ls. AreWatched clauses ls others.literals.items) (sym same) v.watched) (ap length same) lists;
+        visitable = visitable_next clauses old new was now others v all.0 all.1 few
+            (subst (λ ls. AreWatched clauses ls others.literals.items) (sym same) v.watched) (ap length same) lists;
         room = all.0;
         grown = all.2;
         moved = λ i. inl (ap (λ ls. watch_at ls i) same);
@@ -116,15 +133,18 @@ module _ (clauses : List (List Literal)) (old : Trailed) (was others : Watches) 
         ended = λ apart e. ap (holds (literals_of new.steps)) (sym beside) ∙ all.3;
       }
 
-  pub visited_moved : (new : Trailed) (now : Watches) (k : Literal) (next : ℕ) → length new.steps ≤ new.room → IsLooked c id old new other (Moved k) → 1 ≤ id → id ≤ length clauses
-      → now.literals.items ≡ set was.literals.items (id - 1) k → length now.heads.items ≡ length was.heads.items → ((rest : List ℕ) → IsLinked was id (id ∷ rest) → IsLinked now next rest)
+  pub visited_moved : (new : Trailed) (now : Watches) (k : Literal) (next : ℕ) → length new.steps ≤ new.room →
+      IsLooked c id old new other (Moved k) → 1 ≤ id → id ≤ length clauses
+      → now.literals.items ≡ set was.literals.items (id - 1) k → length now.heads.items ≡ length was.heads.items →
+      ((rest : List ℕ) → IsLinked was id (id ∷ rest) → IsLinked now next rest)
       → IsVisited clauses old new was now others l id (Some next)
   visited_moved new now k next few looked low high changed lists linked =
       let i = id - 1 in
       let o = looked.1 in
       let count = v.count in
       let lt : i < length was.literals.items = omega (arith, low, high, count) in
-      let new_here : watch_at now.literals.items i ≡ k = ap (λ ls. watch_at ls i) changed ∙ get_or-set_same was.literals.items i k (positive 0) lt in
+      let new_here : watch_at now.literals.items i ≡ k = ap (λ ls. watch_at ls i) changed
+      ∙ get_or-set_same was.literals.items i k (positive 0) lt in
       let elsewhere : (j : ℕ) → (j ≡ i → ⊥) → watch_at now.literals.items j ≡ watch_at was.literals.items j = λ j n.
       ap (λ ls. watch_at ls j) changed ∙ get_or-set_other was.literals.items i j k (positive 0) n in
       let was_apart : same_literal l other ≡ false = elim (cases_Bool (same_literal l other)) [
@@ -133,10 +153,13 @@ module _ (clauses : List (List Literal)) (old : Trailed) (was others : Watches) 
             absurd (false≢true (sym o.apart ∙ ap (same_literal k) (sym e) ∙ same_literal-refl k))
         | inr f ↦ f
       ] in
-      let move : IsMove (literals_of old.steps) (watch_at was.literals.items i) (watch_at now.literals.items i) (watch_at others.literals.items i) =
-      subst (λ b. IsMove (literals_of old.steps) (watch_at was.literals.items i) (watch_at now.literals.items i) b) beside
+      let move : IsMove (literals_of old.steps) (watch_at was.literals.items i) (watch_at now.literals.items i)
+      (watch_at others.literals.items i) =
+      subst (λ b. IsMove (literals_of old.steps) (watch_at was.literals.items i)
+      (watch_at now.literals.items i) b) beside
       (subst (λ n. IsMove (literals_of old.steps) (watch_at was.literals.items i) n other) (sym new_here)
-      (subst (λ w. IsMove (literals_of old.steps) w k other) (sym here) (record { was_false = false_now; not_false = o.not_false; was_apart = was_apart; apart = o.apart }))) in
+      (subst (λ w. IsMove (literals_of old.steps) w k other) (sym here)
+      (record { was_false = false_now; not_false = o.not_false; was_apart = was_apart; apart = o.apart }))) in
       let watched : AreWatched clauses now.literals.items others.literals.items = λ j d at_j. elim (cases_eq j i) [
         | inl e ↦
             let same : d ≡ c = one_clause clauses i d c (ap (slice_get clauses) (sym e) ∙ at_j) found_at in
@@ -145,17 +168,22 @@ module _ (clauses : List (List Literal)) (old : Trailed) (was others : Watches) 
               one = λ s. absurd (false≢true (sym o.apart ∙ s));
             } in
             subst (λ n. IsWatched d (watch_at now.literals.items n) (watch_at others.literals.items n)) (sym e)
-            (subst (λ b. IsWatched d (watch_at now.literals.items i) b) beside (subst (λ n. IsWatched d n other) (sym new_here) (subst (λ x. IsWatched x k other) (sym same) w)))
-        | inr n ↦ subst (λ w. IsWatched d w (watch_at others.literals.items j)) (sym (elsewhere j n)) (v.watched j d at_j)
+            (subst (λ b. IsWatched d (watch_at now.literals.items i) b) beside
+            (subst (λ n. IsWatched d n other) (sym new_here) (subst (λ x. IsWatched x k other) (sym same) w)))
+        | inr n ↦ subst (λ w. IsWatched d w (watch_at others.literals.items j)) (sym (elsewhere j n))
+            (v.watched j d at_j)
       ] in
-      let P : Trailed → Type 0 = λ t. (t.room ≡ old.room) × IsSound (live_in clauses) t.steps × Grown old.steps t.steps in
+      let P : Trailed → Type 0 = λ t. (t.room ≡ old.room) × IsSound
+      (live_in clauses) t.steps × Grown old.steps t.steps in
       let all : P new = subst P (sym looked.0) (refl, v.sound, grown_none old.steps) in
       record {
-        visitable = visitable_next clauses old new was now others v all.0 all.1 few watched (ap length changed ∙ length-set was.literals.items i k) lists;
+        visitable = visitable_next clauses old new was now others v all.0 all.1 few watched
+            (ap length changed ∙ length-set was.literals.items i k) lists;
         room = all.0;
         grown = all.2;
         moved = λ j. elim (cases_eq j i) [
-          | inl e ↦ inr (subst (λ n. IsMove (literals_of old.steps) (watch_at was.literals.items n) (watch_at now.literals.items n) (watch_at others.literals.items n)) (sym e) move)
+          | inl e ↦ inr (subst (λ n. IsMove (literals_of old.steps) (watch_at was.literals.items n)
+              (watch_at now.literals.items n) (watch_at others.literals.items n)) (sym e) move)
           | inr n ↦ inl (elsewhere j n)
         ];
         elsewhere = elsewhere;
@@ -163,13 +191,22 @@ module _ (clauses : List (List Literal)) (old : Trailed) (was others : Watches) 
         lists = lists;
         ended = λ apart e.
             let same : k ≡ l = sym new_here ∙ e in
-            absurd (false≢true (sym o.not_false ∙ ap (λ x. holds (literals_of old.steps) (opposite x)) same ∙ false_now));
+            absurd (false≢true (sym o.not_false ∙ ap (λ x. holds (literals_of old.steps) (opposite x)) same
+            ∙ false_now));
       }
 
-  pub visited_falsified : (new : Trailed) → length new.steps ≤ new.room → IsLooked c id old new other Falsified → IsVisited clauses old new was was others l id None
+  pub visited_falsified : (new : Trailed) → length new.steps ≤ new.room → IsLooked c id old new other Falsified →
+      IsVisited clauses old new was was others l id None
   visited_falsified new few looked =
-      let P : Trailed → Type 0 = λ t. (t.room ≡ old.room) × IsSound (live_in clauses) t.steps × Grown old.steps t.steps × (status_of (literals_of t.steps) (live_in clauses id) ≡ falsified) in
-      let all : P new = subst P (sym looked.0) (refl, v.sound, grown_none old.steps, ap (status_of (literals_of old.steps)) is ∙ is_falsified (literals_of old.steps) c looked.1) in
+      let P : Trailed → Type 0 = λ t. (t.room ≡ old.room) × IsSound
+      (live_in clauses) t.steps × Grown old.steps t.steps ×
+      (status_of (literals_of t.steps) (live_in clauses id) ≡ falsified) in
+      let all : P new = subst P (sym looked.0) (
+        refl,
+        v.sound,
+        grown_none old.steps,
+        ap (status_of (literals_of old.steps)) is ∙ is_falsified (literals_of old.steps) c looked.1,
+      ) in
       record {
         visitable = visitable_next clauses old new was was others v all.0 all.1 few v.watched refl refl;
         room = all.0;
@@ -197,7 +234,8 @@ first_left w at (id ∷ later) k n =
 
 pub none_left : (w : Watches) (at : ℕ) (rest : List ℕ) → IsLinked w at rest → at ≡ 0 → rest ≡ []
 none_left w at [] k e = refl
-none_left w at (id ∷ later) k e = let c = k.rest_chain in let s = c.0 in let low = c.1 in absurd (omega (arith, s, low, e))
+none_left w at (id ∷ later) k e = let c = k.rest_chain in let s = c.0 in let low = c.1 in
+    absurd (omega (arith, s, low, e))
 
 pub linked_end : (w : Watches) (at : ℕ) (rest : List ℕ) → IsLinked w at rest → at ≡ 0 → IsLinked w 0 []
 linked_end w at rest k e = subst (λ xs. IsLinked w 0 xs) (none_left w at rest k e) (subst (λ n. IsLinked w n rest) e k)
@@ -218,8 +256,10 @@ putting_first w at l left = record {
   len = refl;
 }
 
-pub putting_next : (was now new : Watches) (l : Literal) (at next i : ℕ) → IsPuttingBack was now l at i → at ≢ 0 → ((rest : List ℕ) → IsLinked now at (at ∷ rest) → IsLinked new next rest)
-    → new.literals.items ≡ now.literals.items → length new.heads.items ≡ length now.heads.items → length new.nexts.items ≡ length now.nexts.items → IsPuttingBack was new l next (i + 1)
+pub putting_next : (was now new : Watches) (l : Literal) (at next i : ℕ) → IsPuttingBack was now l at i → at ≢ 0 →
+    ((rest : List ℕ) → IsLinked now at (at ∷ rest) → IsLinked new next rest)
+    → new.literals.items ≡ now.literals.items → length new.heads.items ≡ length now.heads.items →
+    length new.nexts.items ≡ length now.nexts.items → IsPuttingBack was new l next (i + 1)
 putting_next was now new l at next i p n linked literals lists len =
     let f = first_left now at p.left.rest p.left.linked n in
     let few = p.few in
@@ -227,7 +267,8 @@ putting_next was now new l at next i p n linked literals lists len =
       left = record {
         rest = f.later;
         linked = linked f.later (subst (λ xs. IsLinked now at xs) f.is p.left.linked);
-        watched = λ id h. ap (λ ls. watch_at ls (id - 1)) literals ∙ p.left.watched id (ap (λ xs. has xs id) f.is ∙ has_later at id f.later h);
+        watched = λ id h. ap (λ ls. watch_at ls (id - 1)) literals ∙ p.left.watched id
+            (ap (λ xs. has xs id) f.is ∙ has_later at id f.later h);
       };
       few = omega (arith, few, len, ap length f.is);
       literals = literals ∙ p.literals;
@@ -236,19 +277,24 @@ putting_next was now new l at next i p n linked literals lists len =
     }
 
 -- the visits of a list
-pub off_end : (these others : List Literal) (i : ℕ) → length these ≤ i → length others ≤ i → same_literal (watch_at these i) (watch_at others i) ≡ false → ⊥
+pub off_end : (these others : List Literal) (i : ℕ) → length these ≤ i → length others ≤ i →
+    same_literal (watch_at these i) (watch_at others i) ≡ false → ⊥
 off_end these others i a b apart =
-    false≢true (sym apart ∙ ap (λ l. same_literal l (watch_at others i)) (get_or_past these i (positive 0) a) ∙ ap (same_literal (positive 0)) (get_or_past others i (positive 0) b)
+    false≢true (sym apart ∙ ap (λ l. same_literal l (watch_at others i)) (get_or_past these i (positive 0) a) ∙ ap
+    (same_literal (positive 0)) (get_or_past others i (positive 0) b)
     ∙ same_literal-refl (positive 0))
 
-pub visiting_first : (clauses : List (List Literal)) (trail : Trailed) (was now others : Watches) (l : Literal) (at : ℕ) → IsVisitable clauses trail was others → IsTaken now l at
-    → now.literals.items ≡ was.literals.items → length now.heads.items ≡ length was.heads.items → IsVisiting clauses trail trail was now others l at 0
+pub visiting_first : (clauses : List (List Literal)) (trail : Trailed) (was now others : Watches) (l : Literal) (at : ℕ)
+    → IsVisitable clauses trail was others → IsTaken now l at
+    → now.literals.items ≡ was.literals.items → length now.heads.items ≡ length was.heads.items →
+    IsVisiting clauses trail trail was now others l at 0
 visiting_first clauses trail was now others l at v taken same lists =
     let count = v.count in
     let other_count = v.other_count in
     let nexts : length now.nexts.items ≡ length clauses = sym taken.linked.count ∙ ap length same ∙ count in
     record {
-      visitable = visitable_next clauses trail trail was now others v refl v.sound v.few (subst (λ ls. AreWatched clauses ls others.literals.items) (sym same) v.watched) (ap length same) lists;
+      visitable = visitable_next clauses trail trail was now others v refl v.sound v.few
+          (subst (λ ls. AreWatched clauses ls others.literals.items) (sym same) v.watched) (ap length same) lists;
       room = refl;
       grown = grown_none trail.steps;
       moved = λ i. inl (ap (λ ls. watch_at ls i) same);
@@ -259,16 +305,19 @@ visiting_first clauses trail was now others l at v taken same lists =
         | inl lt ↦ elim (cases_Bool (same_literal (watch_at now.literals.items i) l)) [
           | inl s ↦
               let one : suc i - 1 ≡ i = omega arith in
-              inl (taken.whole (suc i) (omega arith) (omega (arith, lt, nexts)) (ap (watch_at now.literals.items) one ∙ same_literal-sound (watch_at now.literals.items i) l s))
+              inl (taken.whole (suc i) (omega arith) (omega (arith, lt, nexts))
+              (ap (watch_at now.literals.items) one ∙ same_literal-sound (watch_at now.literals.items i) l s))
           | inr n ↦ inr (λ apart e. absurd (false≢true (sym n ∙ ap (λ k. same_literal k l) e ∙ same_literal-refl l)))
         ]
-        | inr past ↦ inr (λ apart e. absurd (off_end now.literals.items others.literals.items i (omega (arith, past, count, ap length same)) (omega (arith, past, other_count)) apart))
+        | inr past ↦ inr (λ apart e. absurd (off_end now.literals.items others.literals.items i
+            (omega (arith, past, count, ap length same)) (omega (arith, past, other_count)) apart))
       ];
       list = taken.list;
       few = let s = left_short now at taken.rest taken.linked in omega (arith, s, nexts);
     }
 
-pub visiting_end : (clauses : List (List Literal)) (old new : Trailed) (was now others : Watches) (l : Literal) (at i : ℕ) → (p : IsVisiting clauses old new was now others l at i) → at ≡ 0
+pub visiting_end : (clauses : List (List Literal)) (old new : Trailed) (was now others : Watches) (l : Literal)
+    (at i : ℕ) → (p : IsVisiting clauses old new was now others l at i) → at ≡ 0
     → IsListVisited clauses old new was now others l None
 visiting_end clauses old new was now others l at i p e =
     let none = none_left now at p.rest p.linked e in
@@ -284,18 +333,23 @@ visiting_end clauses old new was now others l at i p e =
       ];
     }
 
-module _ (clauses : List (List Literal)) (old now_trail new_trail : Trailed) (was now new others : Watches) (l : Literal) (at i : ℕ) (found : Option ℕ)
-    (p : IsVisiting clauses old now_trail was now others l at i) (f : IsFirstLeft now at p.rest) (s : IsVisited clauses now_trail new_trail now new others l at found)
+module _ (clauses : List (List Literal)) (old now_trail new_trail : Trailed) (was now new others : Watches)
+    (l : Literal) (at i : ℕ) (found : Option ℕ)
+    (p : IsVisiting clauses old now_trail was now others l at i) (f : IsFirstLeft now at p.rest)
+    (s : IsVisited clauses now_trail new_trail now new others l at found)
     (false_now : holds (literals_of old.steps) (opposite l) ≡ true) where
   here : watch_at now.literals.items (at - 1) ≡ l
   here = p.watched at (ap (λ xs. has xs at) f.is ∙ has_first at f.later)
 
   moved_on : AreMoved (literals_of old.steps) was.literals.items new.literals.items others.literals.items
-  moved_on = moved_both (literals_of old.steps) (literals_of now_trail.steps) was.literals.items now.literals.items new.literals.items others.literals.items
+  moved_on = moved_both (literals_of old.steps) (literals_of now_trail.steps) was.literals.items now.literals.items
+      new.literals.items others.literals.items
       (among_grown old.steps now_trail.steps p.grown) p.moved s.moved
       (λ j m. elim (cases_eq j (at - 1)) [
-        | inl e ↦ ap (λ n. holds (literals_of old.steps) (opposite (watch_at now.literals.items n))) e ∙ ap (λ k. holds (literals_of old.steps) (opposite k)) here ∙ false_now
-        | inr n ↦ absurd (false≢true (sym m.not_false ∙ ap (λ k. holds (literals_of now_trail.steps) (opposite k)) (s.elsewhere j n) ∙ m.was_false))
+        | inl e ↦ ap (λ n. holds (literals_of old.steps) (opposite (watch_at now.literals.items n))) e ∙ ap
+            (λ k. holds (literals_of old.steps) (opposite k)) here ∙ false_now
+        | inr n ↦ absurd (false≢true (sym m.not_false ∙ ap (λ k. holds (literals_of now_trail.steps) (opposite k))
+            (s.elsewhere j n) ∙ m.was_false))
       ])
 
   before : IsLinked now at (at ∷ f.later)
@@ -308,9 +362,11 @@ module _ (clauses : List (List Literal)) (old now_trail new_trail : Trailed) (wa
 
   pub visiting_next : (next : ℕ) → found ≡ Some next → IsVisiting clauses old new_trail was new others l next (i + 1)
   visiting_next next is =
-      let ends = subst (λ (o : Option ℕ). MatchOption o ((new ≡ now) × (status_of (literals_of new_trail.steps) (live_in clauses at) ≡ falsified))
+      let ends = subst (λ (o : Option ℕ). MatchOption o ((new ≡ now) ×
+      (status_of (literals_of new_trail.steps) (live_in clauses at) ≡ falsified))
       (λ _. IsDone (literals_of new_trail.steps) new.literals.items others.literals.items l (at - 1))) is s.ended in
-      let after : IsLinked new next f.later = subst (λ (o : Option ℕ). MatchOption o (IsLinked new at (at ∷ f.later)) (λ n. IsLinked new n f.later)) is (s.linked f.later before) in
+      let after : IsLinked new next f.later = subst (λ (o : Option ℕ). MatchOption o (IsLinked new at (at ∷ f.later))
+      (λ n. IsLinked new n f.later)) is (s.linked f.later before) in
       let low = before.rest_chain.1 in
       let few = p.few in
       record {
@@ -322,16 +378,20 @@ module _ (clauses : List (List Literal)) (old now_trail new_trail : Trailed) (wa
         linked = after;
         watched = λ id h.
             let r = left_range new next f.later id after h in
-            s.elsewhere (id - 1) (one_later id h low r) ∙ p.watched id (ap (λ xs. has xs id) f.is ∙ has_later at id f.later h);
+            s.elsewhere (id - 1) (one_later id h low r) ∙ p.watched id
+            (ap (λ xs. has xs id) f.is ∙ has_later at id f.later h);
         done = λ j. elim (cases_eq j (at - 1)) [
-          | inl e ↦ inr (subst (IsDone (literals_of new_trail.steps) new.literals.items others.literals.items l) (sym e) ends)
+          | inl e ↦ inr (subst (IsDone (literals_of new_trail.steps) new.literals.items others.literals.items l)
+              (sym e) ends)
           | inr n ↦ elim (p.done j) [
             | inl h ↦ elim (has_cases at (suc j) f.later (ap (λ xs. has xs (suc j)) (sym f.is) ∙ h)) [
               | inl e ↦ absurd (n (omega (arith, e)))
               | inr t ↦ inl t
             ]
-            | inr d ↦ inr (λ apart e. among_grown now_trail.steps new_trail.steps s.grown (watch_at others.literals.items j)
-                (d (ap (λ k. same_literal k (watch_at others.literals.items j)) (sym (s.elsewhere j n)) ∙ apart) (sym (s.elsewhere j n) ∙ e)))
+            | inr d ↦ inr (λ apart e. among_grown now_trail.steps new_trail.steps s.grown
+                (watch_at others.literals.items j)
+                (d (ap (λ k. same_literal k (watch_at others.literals.items j)) (sym (s.elsewhere j n)) ∙ apart)
+                (sym (s.elsewhere j n) ∙ e)))
           ]
         ];
         list = elim p.list [
@@ -341,39 +401,49 @@ module _ (clauses : List (List Literal)) (old now_trail new_trail : Trailed) (wa
         few = omega (arith, few, ap length f.is);
       }
 
-  pub visiting_conflict : (back : Watches) → found ≡ None → IsLinked back 0 [] → back.literals.items ≡ new.literals.items → length back.heads.items ≡ length new.heads.items
+  pub visiting_conflict : (back : Watches) → found ≡ None → IsLinked back 0 [] →
+      back.literals.items ≡ new.literals.items → length back.heads.items ≡ length new.heads.items
       → IsListVisited clauses old new_trail was back others l (Some at)
   visiting_conflict back is linked same lists =
-      let ends = subst (λ (o : Option ℕ). MatchOption o ((new ≡ now) × (status_of (literals_of new_trail.steps) (live_in clauses at) ≡ falsified))
+      let ends = subst (λ (o : Option ℕ). MatchOption o ((new ≡ now) ×
+      (status_of (literals_of new_trail.steps) (live_in clauses at) ≡ falsified))
       (λ _. IsDone (literals_of new_trail.steps) new.literals.items others.literals.items l (at - 1))) is s.ended in
       let v = s.visitable in
       record {
-        visitable = visitable_next clauses new_trail new_trail new back others v refl v.sound v.few (subst (λ ls. AreWatched clauses ls others.literals.items) (sym same) v.watched) (ap length same) lists;
+        visitable = visitable_next clauses new_trail new_trail new back others v refl v.sound v.few
+            (subst (λ ls. AreWatched clauses ls others.literals.items) (sym same) v.watched) (ap length same) lists;
         room = s.room ∙ p.room;
         grown = grown_both old.steps now_trail.steps new_trail.steps p.grown s.grown;
-        moved = subst (λ ls. AreMoved (literals_of old.steps) was.literals.items ls others.literals.items) (sym same) moved_on;
+        moved = subst (λ ls. AreMoved (literals_of old.steps) was.literals.items ls others.literals.items)
+            (sym same) moved_on;
         linked = linked;
         ended = ends.1;
       }
 
 -- both sides
-pub both_conflict : (clauses : List (List Literal)) (old new : Trailed) (was now second : Watches) (l : Literal) (id : ℕ) → IsSound (live_in clauses) old.steps → IsLinked second 0 []
-    → IsListVisited clauses old new was now second l (Some id) → AreVisited clauses old new was now second second l (Some id)
+pub both_conflict : (clauses : List (List Literal)) (old new : Trailed) (was now second : Watches) (l : Literal)
+    (id : ℕ) → IsSound (live_in clauses) old.steps → IsLinked second 0 []
+    → IsListVisited clauses old new was now second l (Some id) →
+    AreVisited clauses old new was now second second l (Some id)
 both_conflict clauses old new was now second l id sound linked p = record {
   visitable = p.visitable;
   linked = p.linked;
   second_linked = linked;
   room = p.room;
   grown = p.grown;
-  short = λ short notes. short_kept clauses (literals_of old.steps) was.literals.items now.literals.items second.literals.items short p.moved notes;
+  short = λ short notes. short_kept clauses (literals_of old.steps) was.literals.items now.literals.items
+      second.literals.items short p.moved notes;
   levels = λ levels.
       levels_grown clauses now.literals.items second.literals.items old.steps new.steps p.grown
-      (levels_moved clauses (literals_of old.steps) was.literals.items now.literals.items second.literals.items old.steps p.moved (sound_consistent (live_in clauses) old.steps sound) (λ t h. h) levels);
+      (levels_moved clauses (literals_of old.steps) was.literals.items now.literals.items second.literals.items
+      old.steps p.moved (sound_consistent (live_in clauses) old.steps sound) (λ t h. h) levels);
   ended = p.ended;
 }
 
-pub both_visited : (clauses : List (List Literal)) (old mid new : Trailed) (was now was_second now_second : Watches) (l : Literal) (found : Option ℕ) → IsSound (live_in clauses) old.steps
-    → IsListVisited clauses old mid was now was_second l None → IsListVisited clauses mid new was_second now_second now l found
+pub both_visited : (clauses : List (List Literal)) (old mid new : Trailed) (was now was_second now_second : Watches)
+    (l : Literal) (found : Option ℕ) → IsSound (live_in clauses) old.steps
+    → IsListVisited clauses old mid was now was_second l None →
+    IsListVisited clauses mid new was_second now_second now l found
     → AreVisited clauses old new was now was_second now_second l found
 both_visited clauses old mid new was now was_second now_second l found sound p q =
     let T = literals_of old.steps in
@@ -394,43 +464,58 @@ both_visited clauses old mid new was now was_second now_second l found sound p q
       room = q.room ∙ p.room;
       grown = grown_both old.steps mid.steps new.steps p.grown q.grown;
       short = λ short notes.
-          short_notes_turned clauses d b short (short_kept clauses U c d b short q.moved (short_notes_turned clauses b c short (short_kept clauses T a b c short p.moved notes)));
+          short_notes_turned clauses d b short (short_kept clauses U c d b short q.moved
+          (short_notes_turned clauses b c short (short_kept clauses T a b c short p.moved notes)));
       levels = λ levels.
-          levels_turned clauses d b new.steps (levels_grown clauses d b mid.steps new.steps q.grown (levels_moved clauses U c d b mid.steps q.moved consistent_mid (λ t h. h)
-          (levels_turned clauses b c mid.steps (levels_grown clauses b c old.steps mid.steps p.grown (levels_moved clauses T a b c old.steps p.moved consistent (λ t h. h) levels)))));
+          levels_turned clauses d b new.steps (levels_grown clauses d b mid.steps new.steps q.grown
+          (levels_moved clauses U c d b mid.steps q.moved consistent_mid (λ t h. h)
+          (levels_turned clauses b c mid.steps (levels_grown clauses b c old.steps mid.steps p.grown
+          (levels_moved clauses T a b c old.steps p.moved consistent (λ t h. h) levels)))));
       ended = by found q.ended (λ processed among g.
           guarded_turned clauses d b processed V
-          (guarded_moved clauses U U V processed c d b q.moved consistent_mid (λ t h. up t (among t h)) (λ t h. h) up_more
-          (guarded_turned clauses b c processed U (guarded_moved clauses T T U processed a b c p.moved consistent among (λ t h. h) up g))))
+          (guarded_moved clauses U U V processed c d b q.moved consistent_mid (λ t h. up t (among t h))
+          (λ t h. h) up_more
+          (guarded_turned clauses b c processed U (guarded_moved clauses T T U processed a b c p.moved consistent among
+          (λ t h. h) up g))))
           (λ i apart e. by_first i apart e);
     }
   where
-    by_first : (i : ℕ) → same_literal (watch_at now.literals.items i) (watch_at now_second.literals.items i) ≡ false → watch_at now.literals.items i ≡ l
+    by_first : (i : ℕ) → same_literal (watch_at now.literals.items i) (watch_at now_second.literals.items i) ≡ false →
+        watch_at now.literals.items i ≡ l
         → holds (literals_of new.steps) (watch_at now_second.literals.items i) ≡ true
     by_first i apart e = elim (q.moved i) [
       | inl s ↦
           let h = p.ended i (ap (same_literal (watch_at now.literals.items i)) (sym s) ∙ apart) e in
-          ap (holds (literals_of new.steps)) s ∙ among_grown mid.steps new.steps q.grown (watch_at was_second.literals.items i) h
+          ap (holds (literals_of new.steps)) s ∙ among_grown mid.steps new.steps q.grown
+          (watch_at was_second.literals.items i) h
       | inr m ↦
-          let h = p.ended i (same-sym (watch_at was_second.literals.items i) (watch_at now.literals.items i) m.was_apart) e in
-          absurd (sound_consistent (live_in clauses) mid.steps p.visitable.sound (watch_at was_second.literals.items i) h m.was_false)
+          let h = p.ended i (same-sym (watch_at was_second.literals.items i)
+          (watch_at now.literals.items i) m.was_apart) e in
+          absurd (sound_consistent (live_in clauses) mid.steps p.visitable.sound
+          (watch_at was_second.literals.items i) h m.was_false)
     ]
 
-    by : (o : Option ℕ) → MatchOption o ((i : ℕ) → IsDone (literals_of new.steps) now_second.literals.items now.literals.items l i) (λ id. status_of (literals_of new.steps) (live_in clauses id) ≡ falsified)
-        → ((processed : List Literal) → Among processed (literals_of old.steps) → IsGuarded clauses was.literals.items was_second.literals.items processed (literals_of old.steps)
+    by : (o : Option ℕ) → MatchOption o ((i : ℕ) → IsDone (literals_of new.steps) now_second.literals.items
+        now.literals.items l i) (λ id. status_of (literals_of new.steps) (live_in clauses id) ≡ falsified)
+        → ((processed : List Literal) → Among processed (literals_of old.steps) →
+        IsGuarded clauses was.literals.items was_second.literals.items processed (literals_of old.steps)
         → IsGuarded clauses now.literals.items now_second.literals.items processed (literals_of new.steps))
         → ((i : ℕ) → IsDone (literals_of new.steps) now.literals.items now_second.literals.items l i)
         → MatchOption o
-        ((processed : List Literal) → ((t : Literal) → holds processed t ≡ true → holds (literals_of old.steps) t ≡ true)
+        ((processed : List Literal) → ((t : Literal) → holds processed t ≡ true →
+        holds (literals_of old.steps) t ≡ true)
         → IsGuarded clauses was.literals.items was_second.literals.items processed (literals_of old.steps)
-        → IsGuarded clauses now.literals.items now_second.literals.items (opposite l ∷ processed) (literals_of new.steps))
+        → IsGuarded clauses now.literals.items now_second.literals.items (opposite l ∷ processed)
+        (literals_of new.steps))
         (λ id. status_of (literals_of new.steps) (live_in clauses id) ≡ falsified)
     by (Some id) e g f = e
     by None e g f = λ processed among guarded.
         let h = g processed among guarded in
         record {
-          first_guards = guards_visited (literals_of new.steps) now.literals.items now_second.literals.items processed l h.first_guards f;
-          second_guards = guards_visited (literals_of new.steps) now_second.literals.items now.literals.items processed l h.second_guards e;
+          first_guards = guards_visited (literals_of new.steps) now.literals.items now_second.literals.items processed l
+              h.first_guards f;
+          second_guards = guards_visited (literals_of new.steps) now_second.literals.items now.literals.items processed
+              l h.second_guards e;
           short = h.short;
         }
 
@@ -444,9 +529,12 @@ suffix_one xs ys zs ws e long =
     let n : length xs ≡ length zs = omega (arith, ap length e, length-append xs ys, length-append zs ws, long) in
     sym (drop_front xs ys) ∙ ap (drop (length xs)) e ∙ ap (λ k. drop k (zs ++ ws)) n ∙ drop_front zs ws
 
-module _ (clauses : List (List Literal)) (old now_trail new_trail : Trailed) (was now new was_second now_second new_second : Watches) (at : ℕ) (l : Literal) (found : Option ℕ)
-    (p : AreOnTrail clauses old now_trail was now was_second now_second at) (v : AreVisited clauses now_trail new_trail now new now_second new_second l found) where
-  pub trail_conflict : (id : ℕ) → found ≡ Some id → IsTrailVisited clauses old new_trail was new was_second new_second found
+module _ (clauses : List (List Literal)) (old now_trail new_trail : Trailed)
+    (was now new was_second now_second new_second : Watches) (at : ℕ) (l : Literal) (found : Option ℕ)
+    (p : AreOnTrail clauses old now_trail was now was_second now_second at)
+    (v : AreVisited clauses now_trail new_trail now new now_second new_second l found) where
+  pub trail_conflict : (id : ℕ) → found ≡ Some id → IsTrailVisited clauses old new_trail was new was_second
+      new_second found
   trail_conflict id is = record {
     visitable = v.visitable;
     linked = v.linked;
@@ -458,23 +546,31 @@ module _ (clauses : List (List Literal)) (old now_trail new_trail : Trailed) (wa
     ended = by found is _ v.ended;
   }
     where
-      by : (o : Option ℕ) → o ≡ Some id → (X : Type 0) → MatchOption o X (λ id. status_of (literals_of new_trail.steps) (live_in clauses id) ≡ falsified)
-          → MatchOption o (IsGuarded clauses new.literals.items new_second.literals.items (literals_of new_trail.steps) (literals_of new_trail.steps))
+      by : (o : Option ℕ) → o ≡ Some id → (X : Type 0) → MatchOption o X
+          (λ id. status_of (literals_of new_trail.steps) (live_in clauses id) ≡ falsified)
+          → MatchOption o (IsGuarded clauses new.literals.items new_second.literals.items (literals_of new_trail.steps)
+          (literals_of new_trail.steps))
           (λ id. status_of (literals_of new_trail.steps) (live_in clauses id) ≡ falsified)
       by None e X h = let n : None ≡ Some id = e in cc
       by (Some id') e X h = h
 
-  pub trail_next : (k : Literal) → found ≡ None → IsAt now_trail.steps at k → l ≡ opposite k → AreOnTrail clauses old new_trail was new was_second new_second (at + 1)
+  pub trail_next : (k : Literal) → found ≡ None → IsAt now_trail.steps at k → l ≡ opposite k →
+      AreOnTrail clauses old new_trail was new was_second new_second (at + 1)
   trail_next k is here turned =
       let done = p.processed in
-      let split : now_trail.steps ≡ (here.newer ++ here.step ∷ []) ++ here.older = here.is ∙ sym (append_assoc here.newer (here.step ∷ []) here.older) in
-      let older : done.older ≡ here.older = suffix_one done.newer done.older (here.newer ++ here.step ∷ []) here.older (sym done.is ∙ split) (done.count ∙ sym here.count) in
+      let split : now_trail.steps ≡ (here.newer ++ here.step ∷ []) ++ here.older =
+      here.is ∙ sym (append_assoc here.newer (here.step ∷ []) here.older) in
+      let older : done.older ≡ here.older = suffix_one done.newer done.older (here.newer ++ here.step ∷ []) here.older
+      (sym done.is ∙ split) (done.count ∙ sym here.count) in
       let ends = subst (λ (o : Option ℕ). MatchOption o
-      ((processed : List Literal) → ((t : Literal) → holds processed t ≡ true → holds (literals_of now_trail.steps) t ≡ true)
+      ((processed : List Literal) → ((t : Literal) → holds processed t ≡ true →
+      holds (literals_of now_trail.steps) t ≡ true)
       → IsGuarded clauses now.literals.items now_second.literals.items processed (literals_of now_trail.steps)
-      → IsGuarded clauses new.literals.items new_second.literals.items (opposite l ∷ processed) (literals_of new_trail.steps))
+      → IsGuarded clauses new.literals.items new_second.literals.items (opposite l ∷ processed)
+      (literals_of new_trail.steps))
       (λ id. status_of (literals_of new_trail.steps) (live_in clauses id) ≡ falsified)) is v.ended in
-      let inside : Among (literals_of done.older) (literals_of now_trail.steps) = λ t h. ap (λ xs. holds (literals_of xs) t) done.is ∙ among_suffix done.newer done.older t h in
+      let inside : Among (literals_of done.older) (literals_of now_trail.steps) =
+      λ t h. ap (λ xs. holds (literals_of xs) t) done.is ∙ among_suffix done.newer done.older t h in
       let guarded = ends (literals_of done.older) inside done.guarded in
       let first : opposite l ≡ here.step.literal = ap opposite turned ∙ opposite-opposite k ∙ sym here.literal in
       record {
@@ -487,21 +583,29 @@ module _ (clauses : List (List Literal)) (old now_trail new_trail : Trailed) (wa
         processed = record {
           newer = v.grown.more ++ here.newer;
           older = here.step ∷ here.older;
-          is = v.grown.is ∙ ap (λ xs. v.grown.more ++ xs) here.is ∙ sym (append_assoc v.grown.more here.newer (here.step ∷ here.older));
+          is = v.grown.is ∙ ap (λ xs. v.grown.more ++ xs) here.is ∙ sym
+              (append_assoc v.grown.more here.newer (here.step ∷ here.older));
           count = omega (arith, here.count);
-          guarded = subst (λ xs. IsGuarded clauses new.literals.items new_second.literals.items xs (literals_of new_trail.steps)) (ap (λ x. x ∷ literals_of done.older) first ∙ ap (λ xs. here.step.literal ∷ literals_of xs) older) guarded;
+          guarded = subst (λ xs. IsGuarded clauses new.literals.items new_second.literals.items xs
+              (literals_of new_trail.steps)) (ap (λ x. x ∷ literals_of done.older) first ∙ ap
+              (λ xs. here.step.literal ∷ literals_of xs) older) guarded;
           levels = v.levels done.levels;
         };
       }
 
 -- a trail without literals, and the short clauses
-pub visitable_passed : (clauses : List (List Literal)) (old new : Trailed) (first second : Watches) → IsVisitable clauses old first second → new.room ≡ old.room → IsSound (live_in clauses) new.steps
+pub visitable_passed : (clauses : List (List Literal)) (old new : Trailed) (first second : Watches) →
+    IsVisitable clauses old first second → new.room ≡ old.room → IsSound (live_in clauses) new.steps
     → length new.steps ≤ new.room → IsVisitable clauses new first second
-visitable_passed clauses old new first second v room sound few = visitable_next clauses old new first first second v room sound few v.watched refl refl
+visitable_passed clauses old new first second v room sound few =
+    visitable_next clauses old new first first second v room sound few v.watched refl refl
 
-pub passed_conflict : (clauses : List (List Literal)) (old new : Trailed) (first second : Watches) (id : ℕ) → IsVisitable clauses old first second → IsLinked first 0 [] → IsLinked second 0 []
-    → AreLevelsGuarded clauses first.literals.items second.literals.items old.steps → new.room ≡ old.room → IsSound (live_in clauses) new.steps → Grown old.steps new.steps
-    → length new.steps ≤ new.room → status_of (literals_of new.steps) (live_in clauses id) ≡ falsified → IsTrailVisited clauses old new first first second second (Some id)
+pub passed_conflict : (clauses : List (List Literal)) (old new : Trailed) (first second : Watches) (id : ℕ) →
+    IsVisitable clauses old first second → IsLinked first 0 [] → IsLinked second 0 []
+    → AreLevelsGuarded clauses first.literals.items second.literals.items old.steps → new.room ≡ old.room →
+    IsSound (live_in clauses) new.steps → Grown old.steps new.steps
+    → length new.steps ≤ new.room → status_of (literals_of new.steps) (live_in clauses id) ≡ falsified →
+    IsTrailVisited clauses old new first first second second (Some id)
 passed_conflict clauses old new first second id v linked second_linked levels room sound grown few is_false = record {
   visitable = visitable_passed clauses old new first second v room sound few;
   linked = linked;
@@ -513,9 +617,11 @@ passed_conflict clauses old new first second id v linked second_linked levels ro
   ended = is_false;
 }
 
-pub passed_first : (clauses : List (List Literal)) (old new : Trailed) (first second : List Literal) (short : List ℕ) → AreWatched clauses first second → AreShort clauses first second short
+pub passed_first : (clauses : List (List Literal)) (old new : Trailed) (first second : List Literal) (short : List ℕ) →
+    AreWatched clauses first second → AreShort clauses first second short
     → AreLevelsGuarded clauses first second old.steps → Grown old.steps new.steps
-    → ((id : ℕ) (c : List Literal) → Contains short id → live_in clauses id ≡ Some c → AreSame c → list_any (holds (literals_of new.steps)) c ≡ true)
+    → ((id : ℕ) (c : List Literal) → Contains short id → live_in clauses id ≡ Some c → AreSame c →
+    list_any (holds (literals_of new.steps)) c ≡ true)
     → IsProcessed clauses first second new.steps 0
 passed_first clauses old new first second short watched notes levels grown passed = record {
   newer = new.steps;
@@ -527,12 +633,14 @@ passed_first clauses old new first second short watched notes levels grown passe
     second_guards = λ i apart f. absurd (false≢true f);
     short = λ i c at same.
         let one = (watched i c at).one same in
-        passed (suc i) c (notes.whole i (slice_get_within clauses i c at) same) at (λ x y hx hy. one x hx ∙ sym (one y hy));
+        passed (suc i) c (notes.whole i (slice_get_within clauses i c at) same) at
+        (λ x y hx hy. one x hx ∙ sym (one y hy));
   };
   levels = levels_grown clauses first second old.steps new.steps grown levels;
 }
 
-pub processed_top : (clauses : List (List Literal)) (first second : List Literal) (steps : List Step) (at : ℕ) → length steps ≢ 0 → at ≡ length steps - 1 → IsReady clauses first second steps
+pub processed_top : (clauses : List (List Literal)) (first second : List Literal) (steps : List Step) (at : ℕ) →
+    length steps ≢ 0 → at ≡ length steps - 1 → IsReady clauses first second steps
     → IsProcessed clauses first second steps at
 processed_top clauses first second [] at n is ready = absurd (n refl)
 processed_top clauses first second (s ∷ earlier) at n is ready = record {
@@ -561,11 +669,16 @@ contains_last (z ∷ xs) y x h = elim (contains_cases z (xs ++ y ∷ []) x h) [
 ]
 
 -- the first short clauses
-pub passing_unit : (clauses : List (List Literal)) (old now new : Trailed) (short : List ℕ) (i id : ℕ) (c : List Literal) (l : Literal) → i < length short → id ≡ get_or short i id
-    → live_in clauses id ≡ Some c → IsPassing clauses old now (take i short) → status_of (literals_of now.steps) (Some c) ≡ unit l
-    → new ≡ record { room = now.room; steps = implied_step l id ∷ now.steps } → length new.steps ≤ new.room → IsPassing clauses old new (take (i + 1) short)
+pub passing_unit : (clauses : List (List Literal)) (old now new : Trailed) (short : List ℕ) (i id : ℕ)
+    (c : List Literal) (l : Literal) → i < length short → id ≡ get_or short i id
+    → live_in clauses id ≡ Some c → IsPassing clauses old now (take i short) →
+    status_of (literals_of now.steps) (Some c) ≡ unit l
+    → new ≡ record { room = now.room; steps = implied_step l id ∷ now.steps } → length new.steps ≤ new.room →
+    IsPassing clauses old new (take (i + 1) short)
 passing_unit clauses old now new short i id c l lt at is p status pushed few =
-    let P : Trailed → Type 0 = λ t. (t.room ≡ old.room) × IsSound (live_in clauses) t.steps × Grown old.steps t.steps × Among (literals_of now.steps) (literals_of t.steps) × (holds (literals_of t.steps) l ≡ true) in
+    let P : Trailed → Type 0 = λ t. (t.room ≡ old.room) × IsSound
+    (live_in clauses) t.steps × Grown old.steps t.steps × Among (literals_of now.steps) (literals_of t.steps) ×
+    (holds (literals_of t.steps) l ≡ true) in
     let imp = implied_from (literals_of now.steps) c l status in
     let all : P new = subst P (sym pushed) (
       p.room,
@@ -588,31 +701,39 @@ passing_unit clauses old now new short i id c l lt at is p status pushed few =
       ];
     }
   where
-    taken_cases : (short : List ℕ) (i id id' : ℕ) → i < length short → id ≡ get_or short i id → Contains (take (i + 1) short) id' → Contains (take i short) id' ⊎ (id' ≡ id)
+    taken_cases : (short : List ℕ) (i id id' : ℕ) → i < length short → id ≡ get_or short i id →
+        Contains (take (i + 1) short) id' → Contains (take i short) id' ⊎ (id' ≡ id)
     taken_cases short i id id' lt at has =
-        let longer : take (i + 1) short ≡ take i short ++ id ∷ [] = take_more short i id lt ∙ ap (λ y. take i short ++ y ∷ []) (sym at) in
+        let longer : take (i + 1) short ≡ take i short ++ id ∷ [] =
+        take_more short i id lt ∙ ap (λ y. take i short ++ y ∷ []) (sym at) in
         contains_last (take i short) id id' (subst (λ xs. Contains xs id') longer has)
 
-pub passing_stuck : (clauses : List (List Literal)) (old now : Trailed) (short : List ℕ) (i id : ℕ) (c : List Literal) → i < length short → id ≡ get_or short i id
-    → live_in clauses id ≡ Some c → IsPassing clauses old now (take i short) → status_of (literals_of now.steps) (Some c) ≡ stuck → IsPassing clauses old now (take (i + 1) short)
+pub passing_stuck : (clauses : List (List Literal)) (old now : Trailed) (short : List ℕ) (i id : ℕ) (c : List Literal) →
+    i < length short → id ≡ get_or short i id
+    → live_in clauses id ≡ Some c → IsPassing clauses old now (take i short) →
+    status_of (literals_of now.steps) (Some c) ≡ stuck → IsPassing clauses old now (take (i + 1) short)
 passing_stuck clauses old now short i id c lt at is p status = record {
   room = p.room;
   sound = p.sound;
   grown = p.grown;
   few = p.few;
   true_now = λ id' d has is' same.
-      let longer : take (i + 1) short ≡ take i short ++ id ∷ [] = take_more short i id lt ∙ ap (λ y. take i short ++ y ∷ []) (sym at) in
+      let longer : take (i + 1) short ≡ take i short ++ id ∷ [] =
+      take_more short i id lt ∙ ap (λ y. take i short ++ y ∷ []) (sym at) in
       elim (contains_last (take i short) id id' (subst (λ xs. Contains xs id') longer has)) [
         | inl e ↦ p.true_now id' d e is' same
         | inr e ↦
             let q : Some d ≡ Some c = sym is' ∙ ap (live_in clauses) e ∙ is in
             let r : c ≡ d = cc in
-            same_stuck (literals_of now.steps) d same (ap (λ xs. status_of (literals_of now.steps) (Some xs)) (sym r) ∙ status)
+            same_stuck (literals_of now.steps) d same (ap (λ xs. status_of (literals_of now.steps) (Some xs)) (sym r)
+            ∙ status)
       ];
 }
 
-pub at_holds : (steps : List Step) (at : ℕ) (l k : Literal) → k ≡ opposite l → IsAt steps at l → holds (literals_of steps) (opposite k) ≡ true
+pub at_holds : (steps : List Step) (at : ℕ) (l k : Literal) → k ≡ opposite l → IsAt steps at l →
+    holds (literals_of steps) (opposite k) ≡ true
 at_holds steps at l k turned here =
     ap (holds (literals_of steps)) (ap opposite turned ∙ opposite-opposite l ∙ sym here.literal)
     ∙ ap (λ xs. holds (literals_of xs) here.step.literal) here.is
-    ∙ among_suffix here.newer (here.step ∷ here.older) here.step.literal (holds_first here.step.literal (literals_of here.older))
+    ∙ among_suffix here.newer (here.step ∷ here.older) here.step.literal
+    (holds_first here.step.literal (literals_of here.older))

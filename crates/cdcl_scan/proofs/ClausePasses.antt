@@ -20,11 +20,14 @@ use Rattle.cdcl_scan.proofs.ClausePieces.{runs_low}
 grown_longer : (old new : List Step) → Grown old new → length old ≤ length new
 grown_longer old new g = omega (arith, ap length g.is, length-append g.more old)
 
-pub scanned_unit : (live : LiveClauses) (old now new : Trailed) (quiet : Bool) (first i id : ℕ) (c : List Literal) (l : Literal) → live id ≡ Some c
+pub scanned_unit : (live : LiveClauses) (old now new : Trailed) (quiet : Bool) (first i id : ℕ) (c : List Literal)
+    (l : Literal) → live id ≡ Some c
     → IsScanned live old now quiet first i → status_of (literals_of now.steps) (Some c) ≡ unit l
-    → new ≡ record { room = now.room; steps = implied_step l id ∷ now.steps } → length new.steps ≤ new.room → IsScanned live old new false first (i + 1)
+    → new ≡ record { room = now.room; steps = implied_step l id ∷ now.steps } → length new.steps ≤ new.room →
+    IsScanned live old new false first (i + 1)
 scanned_unit live old now new quiet first i id c l is inv status pushed few =
-    let P : Trailed → Type 0 = λ t. (t.room ≡ old.room) × IsSound live t.steps × Grown old.steps t.steps × (length old.steps < length t.steps) in
+    let P : Trailed → Type 0 = λ t. (t.room ≡ old.room) × IsSound live t.steps × Grown old.steps t.steps ×
+    (length old.steps < length t.steps) in
     let imp = implied_from (literals_of now.steps) c l status in
     let longer = grown_longer old.steps now.steps inv.grown in
     let all : P new = subst P (sym pushed) (
@@ -42,8 +45,10 @@ scanned_unit live old now new quiet first i id c l is inv status pushed few =
       moved = λ _. all.3;
     }
 
-pub scanned_stuck : (live : LiveClauses) (old now : Trailed) (quiet : Bool) (first i : ℕ) (c : List Literal) → live (suc i) ≡ Some c
-    → IsScanned live old now quiet first i → status_of (literals_of now.steps) (Some c) ≡ stuck → IsScanned live old now quiet first (i + 1)
+pub scanned_stuck : (live : LiveClauses) (old now : Trailed) (quiet : Bool) (first i : ℕ) (c : List Literal) →
+    live (suc i) ≡ Some c
+    → IsScanned live old now quiet first i → status_of (literals_of now.steps) (Some c) ≡ stuck →
+    IsScanned live old now quiet first (i + 1)
 scanned_stuck live old now quiet first i c is inv status = record {
   room = inv.room;
   sound = inv.sound;
@@ -53,15 +58,18 @@ scanned_stuck live old now quiet first i c is inv status = record {
     (inv.still q).0,
     λ j low lt. elim (cases_lt j i) [
       | inl h ↦ (inv.still q).1 j low h
-      | inr g ↦ let e : j ≡ i = omega (arith, lt, g) in ap (λ k. status_of (literals_of now.steps) (live (suc k))) e ∙ ap (status_of (literals_of now.steps)) is ∙ status
+      | inr g ↦ let e : j ≡ i = omega (arith, lt, g) in ap (λ k. status_of (literals_of now.steps) (live (suc k))) e
+          ∙ ap (status_of (literals_of now.steps)) is ∙ status
     ],
   );
   moved = inv.moved;
 }
 
 -- a run that made literals true, and a quiet one
-pub scanned_more : (live : LiveClauses) (old now new : Trailed) (quiet : Bool) (i last : ℕ) → IsScanned live old now quiet 0 i → new.room ≡ now.room → IsSound live new.steps
-    → Grown now.steps new.steps → (length now.steps ≤ now.room → length new.steps ≤ now.room) → length now.steps < length new.steps → IsScanned live old new false 0 last
+pub scanned_more : (live : LiveClauses) (old now new : Trailed) (quiet : Bool) (i last : ℕ) →
+    IsScanned live old now quiet 0 i → new.room ≡ now.room → IsSound live new.steps
+    → Grown now.steps new.steps → (length now.steps ≤ now.room → length new.steps ≤ now.room) →
+    length now.steps < length new.steps → IsScanned live old new false 0 last
 scanned_more live old now new quiet i last inv room sound grown few longer = record {
   room = room ∙ inv.room;
   sound = sound;
@@ -71,10 +79,13 @@ scanned_more live old now new quiet i last inv room sound grown few longer = rec
   moved = λ _. let n = grown_longer old.steps now.steps inv.grown in omega (arith, n, longer);
 }
 
-pub scanned_quiet : (live : LiveClauses) (old now new : Trailed) (quiet : Bool) (i last : ℕ) → IsScanned live old now quiet 0 i → new ≡ now
-    → ((j : ℕ) → i ≤ j → j < last → status_of (literals_of new.steps) (live (suc j)) ≡ stuck) → IsScanned live old new quiet 0 last
+pub scanned_quiet : (live : LiveClauses) (old now new : Trailed) (quiet : Bool) (i last : ℕ) →
+    IsScanned live old now quiet 0 i → new ≡ now
+    → ((j : ℕ) → i ≤ j → j < last → status_of (literals_of new.steps) (live (suc j)) ≡ stuck) →
+    IsScanned live old new quiet 0 last
 scanned_quiet live old now new quiet i last inv same here =
-    let still : IsScanned live old new quiet 0 i = subst (λ (t : Trailed). IsScanned live old t quiet 0 i) (sym same) inv in
+    let still : IsScanned live old new quiet 0 i = subst (λ (t : Trailed). IsScanned live old t quiet 0 i)
+    (sym same) inv in
     record {
       room = still.room;
       sound = still.sound;
@@ -97,7 +108,8 @@ none_past {X = X} xs j g = by (slice_get xs j) refl
     by None e = refl
     by (Some x) e = let lt = slice_get_within xs j x e in absurd (omega (arith, lt, g))
 
-pub scanned_closed : (clauses : List (List Literal)) (old now : Trailed) (i : ℕ) → i ≡ length clauses → IsScanned (live_in clauses) old now true 0 i
+pub scanned_closed : (clauses : List (List Literal)) (old now : Trailed) (i : ℕ) → i ≡ length clauses →
+    IsScanned (live_in clauses) old now true 0 i
     → IsClosed (live_in clauses) (literals_of now.steps)
 scanned_closed clauses old now i all inv zero = refl
 scanned_closed clauses old now i all inv (suc j) = elim (cases_lt j (length clauses)) [
@@ -111,16 +123,25 @@ pub record IsNextRun (runs : List Run) (clauses : List (List Literal)) (first i 
   pub last : run.last ≤ length clauses
   pub left : AreRuns run.last (drop (i + 1) runs) clauses (length clauses)
 
-pub next_run : (runs : List Run) (clauses : List (List Literal)) (first i : ℕ) (run : Run) → i < length runs → get_or runs i run ≡ run
+pub next_run : (runs : List Run) (clauses : List (List Literal)) (first i : ℕ) (run : Run) → i < length runs →
+    get_or runs i run ≡ run
     → AreRuns first (drop i runs) clauses (length clauses) → IsNextRun runs clauses first i run
 next_run runs clauses first i run lt at are =
     let one : suc i ≡ i + 1 = omega arith in
-    let rest : drop i runs ≡ run ∷ drop (i + 1) runs = drop-cons runs i run lt ∙ ap (λ r. r ∷ drop (suc i) runs) at ∙ ap (λ n. run ∷ drop n runs) one in
+    let rest : drop i runs ≡ run ∷ drop (i + 1) runs = drop-cons runs i run lt ∙ ap (λ r. r ∷ drop (suc i) runs) at ∙ ap
+    (λ n. run ∷ drop n runs) one in
     let split = subst (λ (rs : List Run). AreRuns first rs clauses (length clauses)) rest are in
-    record { is_run = split.0; last = runs_low run.last (drop (i + 1) runs) clauses (length clauses) split.1; left = split.1 }
+    record {
+      is_run = split.0;
+      last = runs_low run.last (drop (i + 1) runs) clauses (length clauses) split.1;
+      left =
+          split.1;
+    }
 
-pub no_run_left : (runs : List Run) (clauses : List (List Literal)) (first i : ℕ) → length runs ≤ i → AreRuns first (drop i runs) clauses (length clauses) → first ≡ length clauses
-no_run_left runs clauses first i all are = subst (λ (rs : List Run). AreRuns first rs clauses (length clauses)) (drop_past runs i all) are
+pub no_run_left : (runs : List Run) (clauses : List (List Literal)) (first i : ℕ) → length runs ≤ i →
+    AreRuns first (drop i runs) clauses (length clauses) → first ≡ length clauses
+no_run_left runs clauses first i all are = subst (λ (rs : List Run). AreRuns first rs clauses (length clauses))
+    (drop_past runs i all) are
   where
     drop_past : (rs : List Run) (n : ℕ) → length rs ≤ n → drop n rs ≡ []
     drop_past [] zero le = refl
@@ -129,11 +150,13 @@ no_run_left runs clauses first i all are = subst (λ (rs : List Run). AreRuns fi
     drop_past (r ∷ rs) (suc n) le = drop_past rs n (omega (arith, le))
 
 -- a clause of a run
-clause_some : (clauses : List (List Literal)) (j : ℕ) → j < length clauses → (c : List Literal) × (slice_get clauses j ≡ Some c)
+clause_some : (clauses : List (List Literal)) (j : ℕ) → j < length clauses →
+    (c : List Literal) × (slice_get clauses j ≡ Some c)
 clause_some clauses j lt = (get_or clauses j [], slice_get-get_or clauses j [] lt)
 
 -- the shared literal of a run stands on a variable in range
-pub shared_within : (clauses : List (List Literal)) (room first : ℕ) (run : Run) → AreWithin room clauses → IsRun first run clauses → run.last ≤ length clauses
+pub shared_within : (clauses : List (List Literal)) (room first : ℕ) (run : Run) → AreWithin room clauses →
+    IsRun first run clauses → run.last ≤ length clauses
     → IfSome run.shared (λ l. variable_of l ≤ room)
 shared_within clauses room first run within is_run last =
     let from = is_run.from in
@@ -147,22 +170,26 @@ shared_within clauses room first run within is_run last =
         let e : get_or clauses first c ≡ c = cc in
         clause_within clauses room first c lt e within
 
-    by : (shared : Option Literal) (c : List Literal) → Shares shared c → (d : List Literal) → c ≡ d → All (λ l. variable_of l ≤ room) d → IfSome shared (λ l. variable_of l ≤ room)
+    by : (shared : Option Literal) (c : List Literal) → Shares shared c → (d : List Literal) → c ≡ d →
+        All (λ l. variable_of l ≤ room) d → IfSome shared (λ l. variable_of l ≤ room)
     by None c share d e all = tt
     by (Some l) c share d e all = literal_within room d l all (ap (λ xs. holds xs l) (sym e) ∙ share)
 
 -- where the shared literal of a run is true, its clauses are stuck
-pub shared_stuck : (clauses : List (List Literal)) (trues : List Literal) (first : ℕ) (run : Run) → IsRun first run clauses → run.last ≤ length clauses → IsSharedTrue trues run.shared
+pub shared_stuck : (clauses : List (List Literal)) (trues : List Literal) (first : ℕ) (run : Run) →
+    IsRun first run clauses → run.last ≤ length clauses → IsSharedTrue trues run.shared
     → (j : ℕ) → first ≤ j → j < run.last → status_of trues (live_in clauses (suc j)) ≡ stuck
 shared_stuck clauses trues first run is_run last true_now j low lt =
     let k = clause_some clauses j (omega (arith, lt, last)) in
     ap (status_of trues) k.1 ∙ by run.shared k.0 true_now (is_run.share j k.0 low lt k.1)
   where
-    by : (shared : Option Literal) (c : List Literal) → IsSharedTrue trues shared → Shares shared c → status_of trues (Some c) ≡ stuck
+    by : (shared : Option Literal) (c : List Literal) → IsSharedTrue trues shared → Shares shared c →
+        status_of trues (Some c) ≡ stuck
     by None c on share = absurd on
     by (Some l) c on share = stuck_from_true trues c l share on.0 on.1
 
-pub propagating_more : (live : LiveClauses) (old now new : Trailed) → IsPropagating live old now → new.room ≡ now.room → IsSound live new.steps → Grown now.steps new.steps
+pub propagating_more : (live : LiveClauses) (old now new : Trailed) → IsPropagating live old now → new.room ≡ now.room →
+    IsSound live new.steps → Grown now.steps new.steps
     → (length now.steps ≤ now.room → length new.steps ≤ now.room) → IsPropagating live old new
 propagating_more live old now new inv room sound grown few = record {
   room = room ∙ inv.room;
@@ -172,10 +199,12 @@ propagating_more live old now new inv room sound grown few = record {
 }
 
 -- a clause by its id
-pub live_read : (clauses : List (List Literal)) (at : ℕ) (c : List Literal) → live_in clauses (at + 1) ≡ Some c → live_in clauses (suc at) ≡ Some c
+pub live_read : (clauses : List (List Literal)) (at : ℕ) (c : List Literal) → live_in clauses (at + 1) ≡ Some c →
+    live_in clauses (suc at) ≡ Some c
 live_read clauses at c is = let one : suc at ≡ at + 1 = omega arith in ap (live_in clauses) one ∙ is
 
-pub live_within : (clauses : List (List Literal)) (room id : ℕ) (c : List Literal) → live_in clauses id ≡ Some c → AreWithin room clauses → All (λ l. variable_of l ≤ room) c
+pub live_within : (clauses : List (List Literal)) (room id : ℕ) (c : List Literal) → live_in clauses id ≡ Some c →
+    AreWithin room clauses → All (λ l. variable_of l ≤ room) c
 live_within clauses room zero c is within = let n : None ≡ Some c = is in cc
 live_within clauses room (suc i) c is within =
     let lt = slice_get_within clauses i c is in

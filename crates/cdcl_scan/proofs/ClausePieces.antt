@@ -14,17 +14,25 @@ pieces-length xs start (end ∷ ends) = ap suc (pieces-length xs end ends)
 
 pub ends_low : (start : ℕ) (ends : List ℕ) (total : ℕ) → AreEnds start ends total → start ≤ total
 ends_low start [] total are = omega (arith, are)
-ends_low start (end ∷ ends) total are = let low = are.0 in let rest = ends_low end ends total are.1 in omega (arith, low, rest)
+ends_low start (end ∷ ends) total are = let low = are.0 in let rest = ends_low end ends total are.1 in
+    omega (arith, low, rest)
 
 -- a piece
 pub record IsPiece (xs : List Literal) (start : ℕ) (ends : List ℕ) (i : ℕ) : Type 0 where
-  pub at : slice_get (pieces xs start ends) i ≡ Some (take (get_or ends i 0 - start_of start ends i) (drop (start_of start ends i) xs))
+  pub at : slice_get (pieces xs start ends) i ≡ Some (take (get_or ends i 0 - start_of start ends i)
+      (drop (start_of start ends i) xs))
   pub from : start_of start ends i ≤ get_or ends i 0
   pub to : get_or ends i 0 ≤ length xs
 
-pub piece_at : (xs : List Literal) (start : ℕ) (ends : List ℕ) (i : ℕ) → AreEnds start ends (length xs) → i < length ends → IsPiece xs start ends i
+pub piece_at : (xs : List Literal) (start : ℕ) (ends : List ℕ) (i : ℕ) → AreEnds start ends (length xs) →
+    i < length ends → IsPiece xs start ends i
 piece_at xs start [] i are lt = absurd (omega (arith, lt))
-piece_at xs start (end ∷ ends) zero are lt = record { at = refl; from = are.0; to = ends_low end ends (length xs) are.1 }
+piece_at xs start (end ∷ ends) zero are lt = record {
+  at = refl;
+  from = are.0;
+  to =
+      ends_low end ends (length xs) are.1;
+}
 piece_at xs start (end ∷ ends) (suc i) are lt =
     let p = piece_at xs end ends i are.1 (omega (arith, lt)) in
     record { at = p.at; from = p.from; to = p.to }
@@ -39,7 +47,8 @@ start_before start (end ∷ ends) zero lt = by ends
 start_before start (end ∷ ends) (suc i) lt = start_before end ends i (omega (arith, lt))
 
 -- one piece more, behind the others
-pieces_within : (xs ys : List Literal) (start : ℕ) (ends more : List ℕ) → AreEnds start ends (length xs) → pieces (xs ++ ys) start (ends ++ more) ≡ pieces xs start ends ++ pieces (xs ++ ys) (length xs) more
+pieces_within : (xs ys : List Literal) (start : ℕ) (ends more : List ℕ) → AreEnds start ends (length xs) →
+    pieces (xs ++ ys) start (ends ++ more) ≡ pieces xs start ends ++ pieces (xs ++ ys) (length xs) more
 pieces_within xs ys start [] more are = ap (λ n. pieces (xs ++ ys) n more) are
 pieces_within xs ys start (end ∷ ends) more are =
     let low = are.0 in
@@ -63,25 +72,31 @@ take_whole ys n e = ap (λ k. take k ys) e ∙ whole ys
     whole [] = refl
     whole (y ∷ ys) = ap (λ zs. y ∷ zs) (whole ys)
 
-pub pieces_more : (xs ys all : List Literal) (ends : List ℕ) (total : ℕ) → AreEnds 0 ends (length xs) → all ≡ xs ++ ys → total ≡ length all
+pub pieces_more : (xs ys all : List Literal) (ends : List ℕ) (total : ℕ) → AreEnds 0 ends (length xs) → all ≡ xs ++ ys →
+    total ≡ length all
     → pieces all 0 (ends ++ total ∷ []) ≡ pieces xs 0 ends ++ ys ∷ []
 pieces_more xs ys all ends total are is long =
     let n : total - length xs ≡ length ys = omega (arith, long, ap length is, length-append xs ys) in
     ap (λ zs. pieces zs 0 (ends ++ total ∷ [])) is ∙ pieces_within xs ys 0 ends (total ∷ []) are
-    ∙ ap (λ c. pieces xs 0 ends ++ c ∷ []) (ap (take (total - length xs)) (drop_all xs ys) ∙ take_whole ys (total - length xs) n)
+    ∙ ap (λ c. pieces xs 0 ends ++ c ∷ []) (ap (take (total - length xs)) (drop_all xs ys) ∙ take_whole ys
+    (total - length xs) n)
 
-pub ends_more : (xs ys all : List Literal) (ends : List ℕ) (total : ℕ) → AreEnds 0 ends (length xs) → all ≡ xs ++ ys → total ≡ length all → AreEnds 0 (ends ++ total ∷ []) (length all)
+pub ends_more : (xs ys all : List Literal) (ends : List ℕ) (total : ℕ) → AreEnds 0 ends (length xs) → all ≡ xs ++ ys →
+    total ≡ length all → AreEnds 0 (ends ++ total ∷ []) (length all)
 ends_more xs ys all ends total are is long = by 0 ends are
   where
     by : (start : ℕ) (es : List ℕ) → AreEnds start es (length xs) → AreEnds start (es ++ total ∷ []) (length all)
     by start [] e = (omega (arith, e, long, ap length is, length-append xs ys), long)
     by start (x ∷ es) e = (e.0, by x es e.1)
 
-pub runs_low : (start : ℕ) (runs : List Run) (clauses : List (List Literal)) (end : ℕ) → AreRuns start runs clauses end → start ≤ end
+pub runs_low : (start : ℕ) (runs : List Run) (clauses : List (List Literal)) (end : ℕ) →
+    AreRuns start runs clauses end → start ≤ end
 runs_low start [] clauses end are = omega (arith, are)
-runs_low start (run ∷ runs) clauses end are = let low = are.0.from in let rest = runs_low run.last runs clauses end are.1 in omega (arith, low, rest)
+runs_low start (run ∷ runs) clauses end are = let low = are.0.from in let rest =
+    runs_low run.last runs clauses end are.1 in omega (arith, low, rest)
 
-runs_longer : (start : ℕ) (runs : List Run) (clauses : List (List Literal)) (c : List Literal) (end : ℕ) → end ≤ length clauses → AreRuns start runs clauses end → AreRuns start runs (clauses ++ c ∷ []) end
+runs_longer : (start : ℕ) (runs : List Run) (clauses : List (List Literal)) (c : List Literal) (end : ℕ) →
+    end ≤ length clauses → AreRuns start runs clauses end → AreRuns start runs (clauses ++ c ∷ []) end
 runs_longer start [] clauses c end le are = are
 runs_longer start (run ∷ runs) clauses c end le are =
     let high = runs_low run.last runs clauses end are.1 in (
@@ -101,18 +116,21 @@ record IsSplit (start : ℕ) (init : List Run) (run : Run) (clauses : List (List
   pub here : IsRun middle run clauses
   pub last : run.last ≡ end
 
-runs_split : (start : ℕ) (init : List Run) (run : Run) (clauses : List (List Literal)) (end : ℕ) → AreRuns start (init ++ run ∷ []) clauses end → IsSplit start init run clauses end
+runs_split : (start : ℕ) (init : List Run) (run : Run) (clauses : List (List Literal)) (end : ℕ) →
+    AreRuns start (init ++ run ∷ []) clauses end → IsSplit start init run clauses end
 runs_split start [] run clauses end are = record { middle = start; before = refl; here = are.0; last = are.1 }
 runs_split start (r ∷ init) run clauses end are =
     let s = runs_split r.last init run clauses end are.1 in
     record { middle = s.middle; before = (are.0, s.before); here = s.here; last = s.last }
 
-runs_join : (start : ℕ) (init : List Run) (run : Run) (clauses : List (List Literal)) (middle : ℕ) → AreRuns start init clauses middle → IsRun middle run clauses
+runs_join : (start : ℕ) (init : List Run) (run : Run) (clauses : List (List Literal)) (middle : ℕ) →
+    AreRuns start init clauses middle → IsRun middle run clauses
     → AreRuns start (init ++ run ∷ []) clauses run.last
 runs_join start [] run clauses middle are here = (subst (λ n. IsRun n run clauses) (sym are) here, refl)
 runs_join start (r ∷ init) run clauses middle are here = (are.0, runs_join r.last init run clauses middle are.1 here)
 
-new_run : (clauses : List (List Literal)) (c : List Literal) (shared : Option Literal) (last : ℕ) → Shares shared c → last ≡ length clauses + 1
+new_run : (clauses : List (List Literal)) (c : List Literal) (shared : Option Literal) (last : ℕ) → Shares shared c →
+    last ≡ length clauses + 1
     → IsRun (length clauses) (record { shared = shared; last = last }) (clauses ++ c ∷ [])
 new_run clauses c shared last share is = record {
   from = omega (arith, is);
@@ -128,15 +146,18 @@ new_run clauses c shared last share is = record {
 }
 
 -- a clause that goes with the newest run
-pub runs_extended : (init : List Run) (run : Run) (clauses : List (List Literal)) (c : List Literal) (last : ℕ) → AreRuns 0 (init ++ run ∷ []) clauses (length clauses)
-    → Shares run.shared c → last ≡ length clauses + 1 → AreRuns 0 (init ++ record { shared = run.shared; last = last } ∷ []) (clauses ++ c ∷ []) last
+pub runs_extended : (init : List Run) (run : Run) (clauses : List (List Literal)) (c : List Literal) (last : ℕ) →
+    AreRuns 0 (init ++ run ∷ []) clauses (length clauses)
+    → Shares run.shared c → last ≡ length clauses + 1 → AreRuns 0
+    (init ++ record { shared = run.shared; last = last } ∷ []) (clauses ++ c ∷ []) last
 runs_extended init run clauses c last are share is =
     let s = runs_split 0 init run clauses (length clauses) are in
     let here = s.here in
     let from = here.from in
     let high = s.last in
     let more : Run = record { shared = run.shared; last = last } in
-    runs_join 0 init more (clauses ++ c ∷ []) s.middle (runs_longer 0 init clauses c s.middle (omega (arith, from, high)) s.before) (record {
+    runs_join 0 init more (clauses ++ c ∷ []) s.middle (runs_longer 0 init clauses c s.middle
+    (omega (arith, from, high)) s.before) (record {
       from = omega (arith, from, high, is);
       share = λ i d low lt at. elim (live_more clauses c (suc i)) [
         | inl same ↦
@@ -150,8 +171,11 @@ runs_extended init run clauses c last are share is =
     })
 
 -- a clause that begins a run
-pub runs_begun : (runs : List Run) (clauses : List (List Literal)) (c : List Literal) (shared : Option Literal) (last : ℕ) → AreRuns 0 runs clauses (length clauses)
-    → Shares shared c → last ≡ length clauses + 1 → AreRuns 0 (runs ++ record { shared = shared; last = last } ∷ []) (clauses ++ c ∷ []) last
+pub runs_begun : (runs : List Run) (clauses : List (List Literal)) (c : List Literal) (shared : Option Literal)
+    (last : ℕ) → AreRuns 0 runs clauses (length clauses)
+    → Shares shared c → last ≡ length clauses + 1 → AreRuns 0 (runs ++ record { shared = shared; last = last } ∷ [])
+    (clauses ++ c ∷ []) last
 runs_begun runs clauses c shared last are share is =
-    runs_join 0 runs (record { shared = shared; last = last }) (clauses ++ c ∷ []) (length clauses) (runs_longer 0 runs clauses c (length clauses) (omega arith) are)
+    runs_join 0 runs (record { shared = shared; last = last }) (clauses ++ c ∷ []) (length clauses)
+    (runs_longer 0 runs clauses c (length clauses) (omega arith) are)
     (new_run clauses c shared last share is)

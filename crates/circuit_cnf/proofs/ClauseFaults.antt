@@ -20,51 +20,70 @@ use Rattle.circuit_cnf.specs.Faults.{HasFault, HaveOneLeaf, AreFewWith}
 use Rattle.circuit_cnf.proofs.GivenGates.{contains_cases, contains_more}
 
 -- a group counts once
-group_twice : (group : ℕ) (r s : List Literal) (groups : List ℕ) → with_group (negative group ∷ r) (with_group (negative group ∷ s) groups) ≡ with_group (negative group ∷ s) groups
+group_twice : (group : ℕ) (r s : List Literal) (groups : List ℕ) →
+    with_group (negative group ∷ r) (with_group (negative group ∷ s) groups) ≡ with_group (negative group ∷ s) groups
 group_twice group r s groups = by (list_any (λ g. same_literal (negative g) (negative group)) groups) refl where
-  by : (b : Bool) → list_any (λ g. same_literal (negative g) (negative group)) groups ≡ b → with_group (negative group ∷ r) (cond b groups (group ∷ groups)) ≡ cond b groups (group ∷ groups)
+  by : (b : Bool) → list_any (λ g. same_literal (negative g) (negative group)) groups ≡ b →
+      with_group (negative group ∷ r) (cond b groups (group ∷ groups)) ≡ cond b groups (group ∷ groups)
   by true e = ap (λ b. cond b groups (group ∷ groups)) e
-  by false e = ap (λ b. cond b (group ∷ groups) (group ∷ group ∷ groups)) (or_true (list_any (λ g. same_literal (negative g) (negative group)) groups) (eq-eqb group group refl)) where
-    or_true : (b : Bool) {a : Bool} → a ≡ true → (a || b) ≡ true
-    or_true b h = ap (λ x. x || b) h
+  by false e = ap (λ b. cond b (group ∷ groups) (group ∷ group ∷ groups))
+      (or_true (list_any (λ g. same_literal (negative g) (negative group)) groups) (eq-eqb group group refl)) where
+        or_true : (b : Bool) {a : Bool} → a ≡ true → (a || b) ≡ true
+        or_true b h = ap (λ x. x || b) h
 
-pub few_more : (group j i : ℕ) (out : Leaf) (rest : List Literal) (es : List Entry) → AreFewWith group es → AreFewWith group (Given (Fault j i out) (negative group ∷ rest) ∷ es)
-few_more group j i out rest es few k l leaf more = subst (λ gs. length gs ≤ fault_room es) (sym (group_twice group more rest (fault_groups es))) (few j i out rest)
+pub few_more : (group j i : ℕ) (out : Leaf) (rest : List Literal) (es : List Entry) → AreFewWith group es →
+    AreFewWith group (Given (Fault j i out) (negative group ∷ rest) ∷ es)
+few_more group j i out rest es few k l leaf more = subst (λ gs. length gs ≤ fault_room es)
+    (sym (group_twice group more rest (fault_groups es))) (few j i out rest)
 
-pub fault_stays : (group bad j i : ℕ) (l : Literal) (out : Leaf) (e : Entry) (es : List Entry) → HasFault group bad j i l out es → HasFault group bad j i l out (e ∷ es)
+pub fault_stays : (group bad j i : ℕ) (l : Literal) (out : Leaf) (e : Entry) (es : List Entry) →
+    HasFault group bad j i l out es → HasFault group bad j i l out (e ∷ es)
 fault_stays group bad j i l out e es (inl none) = inl none
-fault_stays group bad j i l out e es (inr some) = inr (some.0, some.1, contains_more e (Given (Fault j i out) (negative group ∷ negative bad ∷ some.0)) es some.2)
+fault_stays group bad j i l out e es (inr some) = inr (
+  some.0,
+  some.1,
+  contains_more e (Given (Fault j i out) (negative group ∷ negative bad ∷ some.0)) es some.2,
+)
 
-pub one_leaf_more : (f : Dqbf) (group j place : ℕ) (leaf : ℕ → Leaf) (l : Literal) (rest : List Literal) (es : List Entry) → matrix_literal f j place ≡ Some l → HaveOneLeaf f group leaf es →
+pub one_leaf_more : (f : Dqbf) (group j place : ℕ) (leaf : ℕ → Leaf) (l : Literal) (rest : List Literal)
+    (es : List Entry) → matrix_literal f j place ≡ Some l → HaveOneLeaf f group leaf es →
     HaveOneLeaf f group leaf (Given (Fault j place (leaf (variable_of l))) (negative group ∷ rest) ∷ es)
 one_leaf_more f group j place leaf l rest es at before k i v out more inside own =
-    elim (contains_cases (Given (Fault j place (leaf (variable_of l))) (negative group ∷ rest)) (Given (Fault k i out) (negative group ∷ more)) es inside) [
+    elim (contains_cases (Given (Fault j place (leaf (variable_of l))) (negative group ∷ rest))
+    (Given (Fault k i out) (negative group ∷ more)) es inside) [
       | inl is ↦
           (let left : j ≡ k = cc in
           let right : place ≡ i = cc in
           let same : leaf (variable_of l) ≡ out = cc in
-          let here : Some (variable_of l) ≡ Some v = sym (ap (option_map variable_of) at) ∙ ap (λ x. option_map variable_of (matrix_literal f x place)) left ∙ ap (λ x. option_map variable_of (matrix_literal f k x)) right ∙ own in
+          let here : Some (variable_of l) ≡ Some v = sym (ap (option_map variable_of) at) ∙ ap
+          (λ x. option_map variable_of (matrix_literal f x place)) left ∙ ap
+          (λ x. option_map variable_of (matrix_literal f k x)) right ∙ own in
           let variable : variable_of l ≡ v = cc in
           sym same ∙ ap leaf variable)
       | inr old ↦ before k i v out more old own
     ]
 
 -- the literal at a place
-pub literal_there : (clause : List Literal) (i : ℕ) (l : Literal) → i < length clause → l ≡ get_or clause i l → slice_get clause i ≡ Some l
+pub literal_there : (clause : List Literal) (i : ℕ) (l : Literal) → i < length clause → l ≡ get_or clause i l →
+    slice_get clause i ≡ Some l
 literal_there clause i l below is = slice_get_at clause i l below ∙ ap Some (sym is)
 
-pub same_element : (clause : List Literal) (i : ℕ) (k l : Literal) → i < length clause → k ≡ get_or clause i k → l ≡ get_or clause i l → k ≡ l
+pub same_element : (clause : List Literal) (i : ℕ) (k l : Literal) → i < length clause → k ≡ get_or clause i k →
+    l ≡ get_or clause i l → k ≡ l
 same_element clause i k l below is is' = is ∙ get_or_default clause i k l below ∙ sym is'
 
-pub matrix_at : (f : Dqbf) (j i : ℕ) (clause : List Literal) (l : Literal) → j < length f.matrix → clause ≡ get_or f.matrix j [] → slice_get clause i ≡ Some l → matrix_literal f (j + 1) (i + 1) ≡ Some l
+pub matrix_at : (f : Dqbf) (j i : ℕ) (clause : List Literal) (l : Literal) → j < length f.matrix →
+    clause ≡ get_or f.matrix j [] → slice_get clause i ≡ Some l → matrix_literal f (j + 1) (i + 1) ≡ Some l
 matrix_at f j i clause l below is at =
     let one : j + 1 ≡ suc j = omega arith in
     let two : i + 1 ≡ suc i = omega arith in
     ap (λ k. matrix_literal f k (i + 1)) one ∙ ap (λ k. matrix_literal f (suc j) k) two
-    ∙ ap (option_and_then (λ (c : List Literal). slice_get c i)) (slice_get_at f.matrix j [] below ∙ ap Some (sym is)) ∙ at
+    ∙ ap (option_and_then (λ (c : List Literal). slice_get c i))
+    (slice_get_at f.matrix j [] below ∙ ap Some (sym is)) ∙ at
 
 -- a leaf stays one where names are as they were
-pub leaf_stays_leaf : (f : Dqbf) (old new : List Entry) (v : ℕ) (out : Leaf) → ((w : ℕ) → name_of new w ≡ name_of old w) → IsLeafOf f old v out → IsLeafOf f new v out
+pub leaf_stays_leaf : (f : Dqbf) (old new : List Entry) (v : ℕ) (out : Leaf) →
+    ((w : ℕ) → name_of new w ≡ name_of old w) → IsLeafOf f old v out → IsLeafOf f new v out
 leaf_stays_leaf f old new v (Constant b) names h = h
 leaf_stays_leaf f old new v (LeafLiteral l) names h =
     ((λ u. let r = h.0 u in (r.0, names (variable_of l) ∙ r.1)), ap is_circuit_name (names (variable_of l)) ∙ h.1)

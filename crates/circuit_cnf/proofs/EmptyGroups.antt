@@ -17,20 +17,26 @@ abbrev pub IsUnused : ℕ → List Entry → Entry → Type 0
 IsUnused group earlier (Given origin clause) = IsInGroup group clause → ⊥
 IsUnused group earlier _ = Unit {0}
 
-unnamed_before : (es : List Entry) (group w : ℕ) (n : Name) → name_of (Named w n ∷ es) group ≡ None → name_of es group ≡ None
+unnamed_before : (es : List Entry) (group w : ℕ) (n : Name) → name_of (Named w n ∷ es) group ≡ None →
+    name_of es group ≡ None
 unnamed_before es group w n = by (group == w) where
   by : (b : Bool) → cond b (Some n) (name_of es group) ≡ None → name_of es group ≡ None
   by true h = cc
   by false h = h
 
-pub group_is_unused : (group : ℕ) (es : List Entry) → name_of es group ≡ None → Each IsGivenToGroup es → Each (IsUnused group) es
+pub group_is_unused : (group : ℕ) (es : List Entry) → name_of es group ≡ None → Each IsGivenToGroup es →
+    Each (IsUnused group) es
 group_is_unused group [] unnamed grouped = tt
-group_is_unused group (Named w n ∷ es) unnamed grouped = (tt, group_is_unused group es (unnamed_before es group w n unnamed) grouped.1)
+group_is_unused group (Named w n ∷ es) unnamed grouped = (
+  tt,
+  group_is_unused group es (unnamed_before es group w n unnamed) grouped.1,
+)
 group_is_unused group (Given origin c ∷ es) unnamed grouped = (no, group_is_unused group es unnamed grouped.1) where
   no : IsInGroup group c → ⊥
   no inside =
       let of_group : IsOfGroup es c = grouped.0 in
-      let both : negative of_group.group ∷ of_group.rest ≡ negative group ∷ inside.0 = sym of_group.clause_is ∙ inside.1 in
+      let both : negative of_group.group ∷ of_group.rest ≡ negative group ∷ inside.0 =
+      sym of_group.clause_is ∙ inside.1 in
       let same : of_group.group ≡ group = cc in
       let none : None ≡ Some (Selector of_group.group) = sym unnamed ∙ ap (name_of es) (sym same) ∙ of_group.named in
       cc
@@ -39,12 +45,15 @@ group_is_unused group (Answer c h ∷ es) unnamed grouped = (tt, group_is_unused
 group_is_unused group (Round r b j ∷ es) unnamed grouped = (tt, group_is_unused group es unnamed grouped.1)
 group_is_unused group (Begun live ∷ es) unnamed grouped = (tt, group_is_unused group es unnamed grouped.1)
 
-pub not_given_there : (group : ℕ) (es : List Entry) → Each (IsUnused group) es → (origin : Origin) (rest : List Literal) → Contains es (Given origin (negative group ∷ rest)) → ⊥
+pub not_given_there : (group : ℕ) (es : List Entry) → Each (IsUnused group) es →
+    (origin : Origin) (rest : List Literal) → Contains es (Given origin (negative group ∷ rest)) → ⊥
 not_given_there group [] unused origin rest (k, below, is) = absurd (omega arith)
 not_given_there group (e ∷ es) unused origin rest (zero, below, is) = subst (IsUnused group es) is unused.0 (rest, refl)
-not_given_there group (e ∷ es) unused origin rest (suc k, below, is) = not_given_there group es unused.1 origin rest (k, (let b : k < length es = omega arith in b), is)
+not_given_there group (e ∷ es) unused origin rest (suc k, below, is) =
+    not_given_there group es unused.1 origin rest (k, (let b : k < length es = omega arith in b), is)
 
-pub each_weaker : (P Q : List Entry → Entry → Type 0) → ((earlier : List Entry) (e : Entry) → P earlier e → Q earlier e) → (es : List Entry) → Each P es → Each Q es
+pub each_weaker : (P Q : List Entry → Entry → Type 0) → ((earlier : List Entry) (e : Entry) → P earlier e → Q earlier e)
+    → (es : List Entry) → Each P es → Each Q es
 each_weaker P Q weaker [] h = tt
 each_weaker P Q weaker (e ∷ es) h = (weaker es e h.0, each_weaker P Q weaker es h.1)
 
@@ -56,5 +65,7 @@ no_gate_given group earlier (Answer c hints) h = tt
 no_gate_given group earlier (Round row values j) h = tt
 no_gate_given group earlier (Begun live) h = tt
 
-pub no_gates_given : (group : ℕ) (es : List Entry) → name_of es group ≡ None → Each IsGivenToGroup es → Each (IsGateGiven group) es
-no_gates_given group es unnamed grouped = each_weaker (IsUnused group) (IsGateGiven group) (no_gate_given group) es (group_is_unused group es unnamed grouped)
+pub no_gates_given : (group : ℕ) (es : List Entry) → name_of es group ≡ None → Each IsGivenToGroup es →
+    Each (IsGateGiven group) es
+no_gates_given group es unnamed grouped = each_weaker (IsUnused group) (IsGateGiven group) (no_gate_given group) es
+    (group_is_unused group es unnamed grouped)

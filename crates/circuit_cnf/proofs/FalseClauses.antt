@@ -27,33 +27,42 @@ use Rattle.circuit_cnf.specs.Turning.{NamesAreKept, AreFailing}
 use Rattle.circuit_cnf.proofs.GivenGates.{contains_cases}
 
 -- a given clause has an id
-given_id : (es : List Entry) (o : Origin) (c : List Literal) → Contains es (Given o c) → (id : ℕ) × (clause_at es id ≡ Some c)
+given_id : (es : List Entry) (o : Origin) (c : List Literal) → Contains es (Given o c) →
+    (id : ℕ) × (clause_at es id ≡ Some c)
 given_id [] o c (k, lt, at) = absurd (omega (arith, lt))
 given_id (x ∷ es) o c h = elim (contains_cases x (Given o c) es h) [
   | inl here ↦ (
     last_id es + 1,
     subst (λ e. clause_at (e ∷ es) (last_id es + 1) ≡ Some c) (sym here)
-        (ap (λ b. option_and_then clause_of (cond b (Some (Given o c)) (numbered has_id es (last_id es + 1)))) (eq-eqb (last_id es + 1) (last_id es + 1) refl)),
+        (ap (λ b. option_and_then clause_of (cond b (Some (Given o c)) (numbered has_id es (last_id es + 1))))
+        (eq-eqb (last_id es + 1) (last_id es + 1) refl)),
   )
   | inr behind ↦
       (let before = given_id es o c behind in
       let small = small_id es before.0 c before.1 in
       (before.0, past before.0 (has_id x) (before.0 == last_id es + 1) refl small before.1))
 ] where
-  past : (id : ℕ) (a b : Bool) → (id == last_id es + 1) ≡ b → id ≤ last_id es → clause_at es id ≡ Some c → option_and_then clause_of (cond (a && b) (Some x) (numbered has_id es id)) ≡ Some c
+  past : (id : ℕ) (a b : Bool) → (id == last_id es + 1) ≡ b → id ≤ last_id es → clause_at es id ≡ Some c →
+      option_and_then clause_of (cond (a && b) (Some x) (numbered has_id es id)) ≡ Some c
   past id true true same small is = let at = eqb-true id (last_id es + 1) same in absurd (omega (arith, at, small))
   past id true false other small is = is
   past id false b other small is = is
 
 -- the selectors that were assumed are true
-pub switched_on : (values : Assignment) (live : LiveClauses) (g h : Literal) → is_negative g ≡ false → is_negative h ≡ false → IsModelUnder values live (g ∷ h ∷ []) → (values (variable_of g) ≡ true) × (values (variable_of h) ≡ true)
-switched_on values live g h g_plain h_plain m = (on g g_plain (m.assumptions_true 0 g (omega arith)), on h h_plain (m.assumptions_true 1 g (omega arith))) where
+pub switched_on : (values : Assignment) (live : LiveClauses) (g h : Literal) → is_negative g ≡ false →
+    is_negative h ≡ false → IsModelUnder values live (g ∷ h ∷ []) →
+    (values (variable_of g) ≡ true) × (values (variable_of h) ≡ true)
+switched_on values live g h g_plain h_plain m = (
+  on g g_plain (m.assumptions_true 0 g (omega arith)),
+  on h h_plain (m.assumptions_true 1 g (omega arith)),
+) where
   on : (l : Literal) → is_negative l ≡ false → literal_true values l ≡ true → values (variable_of l) ≡ true
   on (positive v) plain is = is
   on (negative v) plain is = cc
 
 -- a group's clause is true by its rest where the group is on
-rest_true : (values : Assignment) (group : ℕ) (rest : List Literal) → values group ≡ true → clause_true values (negative group ∷ rest) ≡ true → clause_true values rest ≡ true
+rest_true : (values : Assignment) (group : ℕ) (rest : List Literal) → values group ≡ true →
+    clause_true values (negative group ∷ rest) ≡ true → clause_true values rest ≡ true
 rest_true values group rest on is = ap (λ b. not b || clause_true values rest) (sym on) ∙ is
 
 opposite_true : (values : Assignment) (l : Literal) → literal_true values (opposite l) ≡ not (literal_true values l)
@@ -64,7 +73,8 @@ opposite_true values (negative v) = twice (values v) where
   twice false = refl
 
 -- a gate's three clauses give it its value
-gate_bit : (v a b : Bool) → (not v || (a || false)) ≡ true → (not v || (b || false)) ≡ true → (v || (not a || (not b || false))) ≡ true → v ≡ (a && b)
+gate_bit : (v a b : Bool) → (not v || (a || false)) ≡ true → (not v || (b || false)) ≡ true →
+    (v || (not a || (not b || false))) ≡ true → v ≡ (a && b)
 gate_bit true true true h k l = refl
 gate_bit true true false h k l = absurd (false≢true k)
 gate_bit true false b h k l = absurd (false≢true h)
@@ -73,17 +83,21 @@ gate_bit false true false h k l = refl
 gate_bit false false b h k l = refl
 
 -- a true clause has a true literal
-true_literal : (values : Assignment) (ls : List Literal) (d : Literal) → clause_true values ls ≡ true → (k : ℕ) × (k < length ls) × (literal_true values (get_or ls k d) ≡ true)
+true_literal : (values : Assignment) (ls : List Literal) (d : Literal) → clause_true values ls ≡ true →
+    (k : ℕ) × (k < length ls) × (literal_true values (get_or ls k d) ≡ true)
 true_literal values [] d h = absurd (false≢true h)
 true_literal values (l ∷ ls) d h = by (literal_true values l) refl h (true_literal values ls d) where
-  by : (b : Bool) → literal_true values l ≡ b → (b || clause_true values ls) ≡ true → (clause_true values ls ≡ true → (k : ℕ) × (k < length ls) × (literal_true values (get_or ls k d) ≡ true)) →
+  by : (b : Bool) → literal_true values l ≡ b → (b || clause_true values ls) ≡ true →
+      (clause_true values ls ≡ true → (k : ℕ) × (k < length ls) × (literal_true values (get_or ls k d) ≡ true)) →
       (k : ℕ) × (k < suc (length ls)) × (literal_true values (get_or (l ∷ ls) k d) ≡ true)
   by true is h later = (0, omega arith, is)
   by false is h later = let r = later h in let below = r.1 in (suc r.0, omega (arith, below), r.2)
 
-all_false : (values : Assignment) (ls : List Literal) → ((i : ℕ) (l : Literal) → slice_get ls i ≡ Some l → literal_true values l ≡ false) → clause_true values ls ≡ false
+all_false : (values : Assignment) (ls : List Literal) → ((i : ℕ) (l : Literal) → slice_get ls i ≡ Some l →
+    literal_true values l ≡ false) → clause_true values ls ≡ false
 all_false values [] each = refl
-all_false values (l ∷ ls) each = ap (λ b. b || clause_true values ls) (each 0 l refl) ∙ all_false values ls (λ i k at. each (suc i) k at)
+all_false values (l ∷ ls) each = ap (λ b. b || clause_true values ls) (each 0 l refl) ∙ all_false values ls
+    (λ i k at. each (suc i) k at)
 
 in_range : {X : Type 0} (xs : List X) (i : ℕ) (x : X) → slice_get xs i ≡ Some x → i < length xs
 in_range [] i x h = cc
@@ -91,34 +105,44 @@ in_range (y ∷ ys) zero x h = omega arith
 in_range (y ∷ ys) (suc i) x h = let below = in_range ys i x h in omega (arith, below)
 
 -- a literal, by its variable's leaf
-signed_leaf_value : (values : Assignment) (s : Bool) (leaf : Leaf) → leaf_value values (leaf_with_sign s leaf) ≡ cond s (not (leaf_value values leaf)) (leaf_value values leaf)
+signed_leaf_value : (values : Assignment) (s : Bool) (leaf : Leaf) →
+    leaf_value values (leaf_with_sign s leaf) ≡ cond s (not (leaf_value values leaf)) (leaf_value values leaf)
 signed_leaf_value values false leaf = refl
 signed_leaf_value values true (Constant b) = refl
 signed_leaf_value values true (LeafLiteral l) = opposite_true values l
 
-under_leaf : (values : Assignment) (leaf : ℕ → Leaf) (l : Literal) → literal_true (λ v. leaf_value values (leaf v)) l ≡ not (leaf_value values (leaf_with_sign (not (is_negative l)) (leaf (variable_of l))))
-under_leaf values leaf (positive v) = twice (leaf_value values (leaf v)) ∙ ap not (sym (signed_leaf_value values true (leaf v))) where
-  twice : (b : Bool) → b ≡ not (not b)
-  twice true = refl
-  twice false = refl
+under_leaf : (values : Assignment) (leaf : ℕ → Leaf) (l : Literal) →
+    literal_true (λ v. leaf_value values (leaf v)) l ≡ not (leaf_value values
+    (leaf_with_sign (not (is_negative l)) (leaf (variable_of l))))
+under_leaf values leaf (positive v) = twice (leaf_value values (leaf v)) ∙ ap not
+    (sym (signed_leaf_value values true (leaf v))) where
+      twice : (b : Bool) → b ≡ not (not b)
+      twice true = refl
+      twice false = refl
 under_leaf values leaf (negative v) = refl
 
 -- a leaf whose clause is true is true
-leaf_true : (values : Assignment) (leaf : Leaf) (tail : List Literal) → leaf_clause leaf ≡ Some tail → clause_true values tail ≡ true → leaf_value values leaf ≡ true
+leaf_true : (values : Assignment) (leaf : Leaf) (tail : List Literal) → leaf_clause leaf ≡ Some tail →
+    clause_true values tail ≡ true → leaf_value values leaf ≡ true
 leaf_true values (Constant true) tail is h = refl
-leaf_true values (Constant false) tail is h = let same : [] ≡ tail = cc in absurd (false≢true (ap (clause_true values) same ∙ h))
-leaf_true values (LeafLiteral l) tail is h = let same : l ∷ [] ≡ tail = cc in or_last (literal_true values l) (ap (clause_true values) same ∙ h) where
-  or_last : (b : Bool) → (b || false) ≡ true → b ≡ true
-  or_last true k = refl
-  or_last false k = absurd (false≢true k)
+leaf_true values (Constant false) tail is h = let same : [] ≡ tail = cc in
+    absurd (false≢true (ap (clause_true values) same ∙ h))
+leaf_true values (LeafLiteral l) tail is h = let same : l ∷ [] ≡ tail = cc in
+    or_last (literal_true values l) (ap (clause_true values) same ∙ h) where
+      or_last : (b : Bool) → (b || false) ≡ true → b ≡ true
+      or_last true k = refl
+      or_last false k = absurd (false≢true k)
 
 leaf_constant : (values : Assignment) (leaf : Leaf) → leaf_clause leaf ≡ None → leaf_value values leaf ≡ true
 leaf_constant values (Constant true) h = refl
 leaf_constant values (Constant false) h = cc
 leaf_constant values (LeafLiteral l) h = cc
 
-pub are_failing : (f : Dqbf) (gates : Gates) (leaf : ℕ → Leaf) (sel : ℕ) (values : Assignment) (old : List Entry) (log new : ProofLog) → Grew IsLearnedEntry log new → MakesTrue values (clause_at new.entries) →
-    values (variable_of gates.group.selector) ≡ true → values sel ≡ true → AreKnown gates log.entries → gates.unfinished ≡ None → NamesAreKept old log.entries → AreGiven f sel leaf log.entries → AreFailing f leaf old values
+pub are_failing : (f : Dqbf) (gates : Gates) (leaf : ℕ → Leaf) (sel : ℕ) (values : Assignment) (old : List Entry)
+    (log new : ProofLog) → Grew IsLearnedEntry log new → MakesTrue values (clause_at new.entries) →
+    values (variable_of gates.group.selector) ≡ true → values sel ≡ true → AreKnown gates log.entries →
+    gates.unfinished ≡ None → NamesAreKept old log.entries → AreGiven f sel leaf log.entries →
+    AreFailing f leaf old values
 are_failing f gates leaf sel values old log new learned model gates_on sel_on known ready names given = record {
   gates = λ v a b is. gate v a b (names v (And a b) is);
   j = j;
@@ -128,28 +152,39 @@ are_failing f gates leaf sel values old log new learned model gates_on sel_on kn
 } where
   true_there : (o : Origin) (c : List Literal) → Contains log.entries (Given o c) → clause_true values c ≡ true
   true_there o c inside =
-      let there = subst (λ es. Contains es (Given o c)) (sym learned.grown) (Contains-append_right learned.more log.entries (Given o c) inside) in
+      let there = subst (λ es. Contains es (Given o c)) (sym learned.grown)
+      (Contains-append_right learned.more log.entries (Given o c) inside) in
       let at = given_id new.entries o c there in
       model at.0 c at.1
 
-  gate : (v : ℕ) (a b : Literal) → name_of log.entries v ≡ Some (And a b) → values v ≡ (literal_true values a && literal_true values b)
+  gate : (v : ℕ) (a b : Literal) → name_of log.entries v ≡ Some (And a b) →
+      values v ≡ (literal_true values a && literal_true values b)
   gate v a b is = elim (known.known a b v is) [
     | inl found ↦ by_clauses (known.clauses a b v found)
     | inr last ↦ (let clash : None ≡ Some last.0 = sym ready ∙ last.1 in cc)
   ] where
-    by_clauses : HasGateClauses log.entries (variable_of gates.group.selector) v a b 3 → values v ≡ (literal_true values a && literal_true values b)
+    by_clauses : HasGateClauses log.entries (variable_of gates.group.selector) v a b 3 →
+        values v ≡ (literal_true values a && literal_true values b)
     by_clauses have =
         let g = variable_of gates.group.selector in
-        let one = rest_true values g (negative v ∷ a ∷ []) gates_on (true_there (Gate v 1) (negative g ∷ negative v ∷ a ∷ []) (have 1 (negative v ∷ a ∷ []) (omega arith) refl)) in
-        let two = rest_true values g (negative v ∷ b ∷ []) gates_on (true_there (Gate v 2) (negative g ∷ negative v ∷ b ∷ []) (have 2 (negative v ∷ b ∷ []) (omega arith) refl)) in
-        let three : (values v || (literal_true values (opposite a) || (literal_true values (opposite b) || false))) ≡ true = rest_true values g (positive v ∷ opposite a ∷ opposite b ∷ []) gates_on
-        (true_there (Gate v 3) (negative g ∷ positive v ∷ opposite a ∷ opposite b ∷ []) (have 3 (positive v ∷ opposite a ∷ opposite b ∷ []) (omega arith) refl)) in
+        let one = rest_true values g (negative v ∷ a ∷ []) gates_on
+        (true_there (Gate v 1) (negative g ∷ negative v ∷ a ∷ [])
+        (have 1 (negative v ∷ a ∷ []) (omega arith) refl)) in
+        let two = rest_true values g (negative v ∷ b ∷ []) gates_on
+        (true_there (Gate v 2) (negative g ∷ negative v ∷ b ∷ [])
+        (have 2 (negative v ∷ b ∷ []) (omega arith) refl)) in
+        let three : (values v || (literal_true values (opposite a) || (literal_true values (opposite b) || false)))
+        ≡ true = rest_true values g (positive v ∷ opposite a ∷ opposite b ∷ []) gates_on
+        (true_there (Gate v 3) (negative g ∷ positive v ∷ opposite a ∷ opposite b ∷ [])
+        (have 3 (positive v ∷ opposite a ∷ opposite b ∷ []) (omega arith) refl)) in
         gate_bit (values v) (literal_true values a) (literal_true values b) one two
         (ap (λ x. values v || (x || (not (literal_true values b) || false))) (sym (opposite_true values a))
-        ∙ ap (λ x. values v || (literal_true values (opposite a) || (x || false))) (sym (opposite_true values b)) ∙ three)
+        ∙ ap (λ x. values v || (literal_true values (opposite a) || (x || false))) (sym (opposite_true values b))
+        ∙ three)
 
   some : (k : ℕ) × (k < length given.bads) × (literal_true values (get_or given.bads k (positive 0)) ≡ true)
-  some = true_literal values given.bads (positive 0) (rest_true values sel given.bads sel_on (true_there (Fault 0 0 (Constant false)) (negative sel ∷ given.bads) given.some))
+  some = true_literal values given.bads (positive 0) (rest_true values sel given.bads sel_on
+      (true_there (Fault 0 0 (Constant false)) (negative sel ∷ given.bads) given.some))
 
   j : ℕ
   j = some.0
@@ -166,11 +201,15 @@ are_failing f gates leaf sel values old log new learned model gates_on sel_on kn
     on (positive v) plain is = is
     on (negative v) plain is = cc
 
-  one_false : (i : ℕ) (l : Literal) → slice_get (get_or f.matrix some.0 []) i ≡ Some l → HasFault sel (variable_of bad) (some.0 + 1) (i + 1) l (leaf (variable_of l)) log.entries →
+  one_false : (i : ℕ) (l : Literal) → slice_get (get_or f.matrix some.0 []) i ≡ Some l →
+      HasFault sel (variable_of bad) (some.0 + 1) (i + 1) l (leaf (variable_of l)) log.entries →
       literal_true (λ v. leaf_value values (leaf v)) l ≡ false
-  one_false i l at (inl none) = under_leaf values leaf l ∙ ap not (leaf_constant values (leaf_with_sign (not (is_negative l)) (leaf (variable_of l))) none)
+  one_false i l at (inl none) = under_leaf values leaf l ∙ ap not
+      (leaf_constant values (leaf_with_sign (not (is_negative l)) (leaf (variable_of l))) none)
   one_false i l at (inr tail) =
       let c = negative sel ∷ negative (variable_of bad) ∷ tail.0 in
-      let whole = rest_true values sel (negative (variable_of bad) ∷ tail.0) sel_on (true_there (Fault (some.0 + 1) (i + 1) (leaf (variable_of l))) c tail.2) in
+      let whole = rest_true values sel (negative (variable_of bad) ∷ tail.0) sel_on
+      (true_there (Fault (some.0 + 1) (i + 1) (leaf (variable_of l))) c tail.2) in
       let rest = rest_true values (variable_of bad) tail.0 bad_true whole in
-      under_leaf values leaf l ∙ ap not (leaf_true values (leaf_with_sign (not (is_negative l)) (leaf (variable_of l))) tail.0 tail.1 rest)
+      under_leaf values leaf l ∙ ap not (leaf_true values (leaf_with_sign (not (is_negative l)) (leaf (variable_of l)))
+      tail.0 tail.1 rest)

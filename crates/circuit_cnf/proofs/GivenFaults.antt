@@ -19,16 +19,21 @@ use Rattle.log_laws.proofs.LargerLogs.{grown_by}
 use Rattle.circuit_cnf.proofs.GivenGates.{selector_is}
 
 -- what is asked of a fault
-pub record IsFaultReady (f : Dqbf) (es : List Entry) (group bad : ℕ) (literal : Literal) (output : Leaf) (clause place : ℕ) : Type 0 where
+pub record IsFaultReady (f : Dqbf) (es : List Entry) (group bad : ℕ) (literal : Literal) (output : Leaf)
+    (clause place : ℕ) : Type 0 where
   pub is_group : name_of es group ≡ Some (Selector group)
   pub from_one : 1 ≤ clause
   pub literal_is : matrix_literal f clause place ≡ Some literal
   pub leaf_is : IsLeafOf f es (variable_of literal) output
   pub bad_is : name_of es bad ≡ Some (Bad group clause)
-  pub few : (rest : List Literal) → length (fault_groups (Given (Fault clause place output) (negative group ∷ rest) ∷ es)) ≤ fault_room es
-  pub one_leaf : (j i v : ℕ) (out : Leaf) (rest : List Literal) → Contains es (Given (Fault j i out) (negative group ∷ rest)) → option_map variable_of (matrix_literal f j i) ≡ Some v → v ≡ variable_of literal → out ≡ output
+  pub few : (rest : List Literal) → length (fault_groups (Given (Fault clause place output)
+      (negative group ∷ rest) ∷ es)) ≤ fault_room es
+  pub one_leaf : (j i v : ℕ) (out : Leaf) (rest : List Literal) →
+      Contains es (Given (Fault j i out) (negative group ∷ rest)) →
+      option_map variable_of (matrix_literal f j i) ≡ Some v → v ≡ variable_of literal → out ≡ output
 
-fault_added : (f : Dqbf) (standing : ℕ) (start es : List Entry) (group bad : ℕ) (literal : Literal) (output : Leaf) (clause place : ℕ) (tail : List Literal) → IsFaultReady f es group bad literal output clause place →
+fault_added : (f : Dqbf) (standing : ℕ) (start es : List Entry) (group bad : ℕ) (literal : Literal) (output : Leaf)
+    (clause place : ℕ) (tail : List Literal) → IsFaultReady f es group bad literal output clause place →
     leaf_clause (leaf_with_sign (not (is_negative literal)) output) ≡ Some tail → name_of start group ≡ None →
     IsGivenBy f circuits standing start es (Fault clause place output) (negative group ∷ negative bad ∷ tail)
 fault_added f standing start es group bad literal output clause place tail ready tail_is unnamed = record {
@@ -44,25 +49,46 @@ fault_added f standing start es group bad literal output clause place tail ready
         let left : clause ≡ j = cc in
         let right : place ≡ i = cc in
         let same : output ≡ leaf = cc in
-        let here : Some (variable_of literal) ≡ Some v = sym (ap (option_map variable_of) ready.literal_is) ∙ ap (λ x. option_map variable_of (matrix_literal f x place)) left ∙ ap (λ x. option_map variable_of (matrix_literal f j x)) right ∙ own in
+        let here : Some (variable_of literal) ≡ Some v = sym (ap (option_map variable_of) ready.literal_is) ∙ ap
+        (λ x. option_map variable_of (matrix_literal f x place)) left ∙ ap
+        (λ x. option_map variable_of (matrix_literal f j x)) right ∙ own in
         let variable : variable_of literal ≡ v = cc in
         sym same ∙ sym (ready.one_leaf k l v other rest inside own' (sym variable));
   };
   not_repeated = record { first = λ h c inside. false≢true (sym h); groups = ready.few (negative bad ∷ tail) };
 } where
-  by_number : (c : ℕ) → 1 ≤ c → matrix_literal f c place ≡ Some literal → name_of es bad ≡ Some (Bad group c) → IsFaultOrSome f es group c place output (negative bad ∷ tail)
+  by_number : (c : ℕ) → 1 ≤ c → matrix_literal f c place ≡ Some literal → name_of es bad ≡ Some (Bad group c) →
+      IsFaultOrSome f es group c place output (negative bad ∷ tail)
   by_number zero one at named = absurd (omega (arith, one))
-  by_number (suc c) one at named = record { literal = literal; bad = bad; tail = tail; literal_is = at; leaf_is = ready.leaf_is; bad_is = named; tail_is = tail_is; rest_is = refl }
+  by_number (suc c) one at named = record {
+    literal = literal;
+    bad = bad;
+    tail = tail;
+    literal_is = at;
+    leaf_is =
+        ready.leaf_is;
+    bad_is = named;
+    tail_is = tail_is;
+    rest_is = refl;
+  }
 
 negated_bad : (bad : Literal) → is_negative bad ≡ false → opposite bad ≡ negative (variable_of bad)
 negated_bad = selector_is
 
-pub fault_grown : (f : Dqbf) (standing : ℕ) (start : List Entry) (g bad literal : Literal) (output : Leaf) (clause place : ℕ) (lits tail : List Literal) (log new : ProofLog) → is_negative g ≡ false → is_negative bad ≡ false →
-    IsFaultReady f log.entries (variable_of g) (variable_of bad) literal output clause place → leaf_clause (leaf_with_sign (not (is_negative literal)) output) ≡ Some tail → lits ≡ opposite bad ∷ tail →
-    new ≡ with_entry log (Given (Fault clause place output) (opposite g ∷ lits)) → name_of start (variable_of g) ≡ None → Grew (IsAddedBy f circuits standing true start) log new
-fault_grown f standing start g bad literal output clause place lits tail log new g_plain bad_plain ready tail_is lits_are added unnamed =
+pub fault_grown : (f : Dqbf) (standing : ℕ) (start : List Entry) (g bad literal : Literal) (output : Leaf)
+    (clause place : ℕ) (lits tail : List Literal) (log new : ProofLog) → is_negative g ≡ false →
+    is_negative bad ≡ false →
+    IsFaultReady f log.entries (variable_of g) (variable_of bad) literal output clause place →
+    leaf_clause (leaf_with_sign (not (is_negative literal)) output) ≡ Some tail → lits ≡ opposite bad ∷ tail →
+    new ≡ with_entry log (Given (Fault clause place output) (opposite g ∷ lits)) →
+    name_of start (variable_of g) ≡ None → Grew (IsAddedBy f circuits standing true start) log new
+fault_grown f standing start g bad literal output clause place lits tail log new g_plain bad_plain ready tail_is
+    lits_are added unnamed =
     let whole : opposite g ∷ lits ≡ negative (variable_of g) ∷ negative (variable_of bad) ∷ tail =
-    ap (λ l. l ∷ lits) (selector_is g g_plain) ∙ ap (λ ls. negative (variable_of g) ∷ ls) (lits_are ∙ ap (λ l. l ∷ tail) (negated_bad bad bad_plain)) in
-    grown_by (IsAddedBy f circuits standing true start) log new (Given (Fault clause place output) (negative (variable_of g) ∷ negative (variable_of bad) ∷ tail))
+    ap (λ l. l ∷ lits) (selector_is g g_plain) ∙ ap (λ ls. negative (variable_of g) ∷ ls)
+    (lits_are ∙ ap (λ l. l ∷ tail) (negated_bad bad bad_plain)) in
+    grown_by (IsAddedBy f circuits standing true start) log new
+    (Given (Fault clause place output) (negative (variable_of g) ∷ negative (variable_of bad) ∷ tail))
     (added ∙ ap (λ c. with_entry log (Given (Fault clause place output) c)) whole)
-    (fault_added f standing start log.entries (variable_of g) (variable_of bad) literal output clause place tail ready tail_is unnamed)
+    (fault_added f standing start log.entries (variable_of g)
+    (variable_of bad) literal output clause place tail ready tail_is unnamed)

@@ -29,7 +29,8 @@ contains_more e x es (k, below, is) = (suc k, (let b : suc k < suc (length es) =
 pub contains_first : (e : Entry) (es : List Entry) → Contains (e ∷ es) e
 contains_first e es = (0, omega arith, refl)
 
-pub gate_added : (f : Dqbf) (old es : List Entry) (group v part : ℕ) (a b : Literal) (rest : List Literal) → IsReady group v a b part es → gate_rest v a b part ≡ Some rest →
+pub gate_added : (f : Dqbf) (old es : List Entry) (group v part : ℕ) (a b : Literal) (rest : List Literal) →
+    IsReady group v a b part es → gate_rest v a b part ≡ Some rest →
     IsGivenBy f circuits group old es (Gate v part) (negative group ∷ rest)
 gate_added f old es group v part a b rest ready is = record {
   own = refl;

@@ -36,55 +36,83 @@ pub record GroupSoFar (f : Dqbf) (group : ℕ) (leaf : ℕ → Leaf) (old log : 
   pub few : AreFewWith group log.entries
   pub one_leaf : HaveOneLeaf f group leaf log.entries
 
-pub after_bads : (f : Dqbf) (group : ℕ) (leaf : ℕ → Leaf) (old new : ProofLog) → ((h : Dqbf) (standing : ℕ) (start : List Entry) → Grew (IsAddedBy h circuits standing true start) old new) →
-    fault_groups new.entries ≡ fault_groups old.entries → IsNamingBads group old.entries new.entries → AreFewWith group old.entries → HaveOneLeaf f group leaf old.entries → GroupSoFar f group leaf old new
+pub after_bads : (f : Dqbf) (group : ℕ) (leaf : ℕ → Leaf) (old new : ProofLog) →
+    ((h : Dqbf) (standing : ℕ) (start : List Entry) → Grew (IsAddedBy h circuits standing true start) old new) →
+    fault_groups new.entries ≡ fault_groups old.entries → IsNamingBads group old.entries new.entries →
+    AreFewWith group old.entries → HaveOneLeaf f group leaf old.entries → GroupSoFar f group leaf old new
 after_bads f group leaf old new grew faults alone few one = record {
   grew = λ standing start unnamed. grew f standing start;
   stay = rest.names;
   names = alone.names;
-  few = λ j i out more. subst (λ gs. length (with_group (negative group ∷ more) gs) ≤ fault_room new.entries) (sym faults)
-      (subst (λ n. length (with_group (negative group ∷ more) (fault_groups old.entries)) ≤ n) (sym rest.room) (few j i out more));
-  one_leaf = λ j i v out more inside own. one j i v out more (alone.givens (Fault j i out) (negative group ∷ more) inside) own;
+  few = λ j i out more. subst (λ gs. length (with_group (negative group ∷ more) gs) ≤ fault_room new.entries)
+      (sym faults)
+      (subst (λ n. length (with_group (negative group ∷ more) (fault_groups old.entries)) ≤ n) (sym rest.room)
+      (few j i out more));
+  one_leaf = λ j i v out more inside own. one j i v out more
+      (alone.givens (Fault j i out) (negative group ∷ more) inside) own;
 } where
   rest : LeavesRest f circuits group true old.entries new.entries
   rest = leaves_rest f circuits group true old new (grew f group old.entries)
 
-pub after_all : (f : Dqbf) (group : ℕ) (leaf : ℕ → Leaf) (old log new : ProofLog) → GroupSoFar f group leaf old log → AreSaid f group leaf log new → GroupSoFar f group leaf old new
+pub after_all : (f : Dqbf) (group : ℕ) (leaf : ℕ → Leaf) (old log new : ProofLog) → GroupSoFar f group leaf old log →
+    AreSaid f group leaf log new → GroupSoFar f group leaf old new
 after_all f group leaf old log new before after = record {
-  grew = λ standing start unnamed. grown_then (IsAddedBy f circuits standing true start) old log new (before.grew standing start unnamed) (after.grew standing start unnamed);
+  grew = λ standing start unnamed. grown_then (IsAddedBy f circuits standing true start) old log new
+      (before.grew standing start unnamed) (after.grew standing start unnamed);
   stay = λ v n is. after.names v ∙ before.stay v n is;
   names = λ v name is. before.names v name (sym (after.names v) ∙ is);
   few = after.few;
   one_leaf = after.one_leaf;
 }
 
-pub some_leaf_more : (f : Dqbf) (group : ℕ) (leaf : ℕ → Leaf) (bads : List Literal) (es : List Entry) → HaveOneLeaf f group leaf es →
+pub some_leaf_more : (f : Dqbf) (group : ℕ) (leaf : ℕ → Leaf) (bads : List Literal) (es : List Entry) →
+    HaveOneLeaf f group leaf es →
     HaveOneLeaf f group leaf (Given (Fault 0 0 (Constant false)) (negative group ∷ bads) ∷ es)
 some_leaf_more f group leaf bads es before j i v out rest inside own =
-    elim (contains_cases (Given (Fault 0 0 (Constant false)) (negative group ∷ bads)) (Given (Fault j i out) (negative group ∷ rest)) es inside) [
-      | inl same ↦ (let left : 0 ≡ j = cc in let none : None ≡ Some v = ap (λ x. option_map variable_of (matrix_literal f x i)) left ∙ own in cc)
+    elim (contains_cases (Given (Fault 0 0 (Constant false)) (negative group ∷ bads))
+    (Given (Fault j i out) (negative group ∷ rest)) es inside) [
+      | inl same ↦ (let left : 0 ≡ j = cc in let none : None ≡ Some v =
+          ap (λ x. option_map variable_of (matrix_literal f x i)) left ∙ own in cc)
       | inr earlier ↦ before j i v out rest earlier own
     ]
 
-pub so_far_is_said : (f : Dqbf) (group : ℕ) (leaf : ℕ → Leaf) (old new : ProofLog) → GroupSoFar f group leaf old new → AreNamedAndSaid f group leaf old new
-so_far_is_said f group leaf old new far = record { grew = far.grew; names = far.names; few = far.few; one_leaf = far.one_leaf }
+pub so_far_is_said : (f : Dqbf) (group : ℕ) (leaf : ℕ → Leaf) (old new : ProofLog) → GroupSoFar f group leaf old new →
+    AreNamedAndSaid f group leaf old new
+so_far_is_said f group leaf old new far = record {
+  grew = far.grew;
+  names = far.names;
+  few = far.few;
+  one_leaf =
+      far.one_leaf;
+}
 
 pub made_stays : (old new : List Entry) (g : Group) → NamesStay old new → IsMade old g → IsMade new g
-made_stays old new g stay made = record { positive = made.positive; named = stay (variable_of g.selector) (Selector (variable_of g.selector)) made.named }
+made_stays old new g stay made = record {
+  positive = made.positive;
+  named =
+      stay (variable_of g.selector) (Selector (variable_of g.selector)) made.named;
+}
 
-circuit_stays : (old new : List Entry) → NamesStay old new → (v : ℕ) → is_circuit_name (name_of old v) ≡ true → is_circuit_name (name_of new v) ≡ true
+circuit_stays : (old new : List Entry) → NamesStay old new → (v : ℕ) → is_circuit_name (name_of old v) ≡ true →
+    is_circuit_name (name_of new v) ≡ true
 circuit_stays old new stay v h = by (name_of old v) refl h where
   by : (o : Option Name) → name_of old v ≡ o → is_circuit_name o ≡ true → is_circuit_name (name_of new v) ≡ true
   by None e is = absurd (false≢true is)
   by (Some n) e is = ap is_circuit_name (stay v n e) ∙ is
 
-pub leaf_of_stays : (f : Dqbf) (old new : List Entry) (v : ℕ) (out : Leaf) → NamesStay old new → IsLeafOf f old v out → IsLeafOf f new v out
+pub leaf_of_stays : (f : Dqbf) (old new : List Entry) (v : ℕ) (out : Leaf) → NamesStay old new → IsLeafOf f old v out →
+    IsLeafOf f new v out
 leaf_of_stays f old new v (Constant b) stay h = h
-leaf_of_stays f old new v (LeafLiteral l) stay h = ((λ u. let r = h.0 u in (r.0, stay (variable_of l) _ r.1)), circuit_stays old new stay (variable_of l) h.1)
+leaf_of_stays f old new v (LeafLiteral l) stay h = (
+  (λ u. let r = h.0 u in (r.0, stay (variable_of l) _ r.1)),
+  circuit_stays old new stay (variable_of l) h.1,
+)
 
 -- the bads by their places
-bad_from : (es : List Entry) (group from : ℕ) (count : ℕ) (bads : List Literal) (j : ℕ) → AreNamedAs es bads (map (bad_name group) (range_with_len from count)) → j < count →
-    (name_of es (variable_of (get_or bads j (positive 0))) ≡ Some (Bad group (j + from))) × (is_negative (get_or bads j (positive 0)) ≡ false)
+bad_from : (es : List Entry) (group from : ℕ) (count : ℕ) (bads : List Literal) (j : ℕ) →
+    AreNamedAs es bads (map (bad_name group) (range_with_len from count)) → j < count →
+    (name_of es (variable_of (get_or bads j (positive 0))) ≡ Some (Bad group (j + from))) ×
+    (is_negative (get_or bads j (positive 0)) ≡ false)
 bad_from es group from zero bads j h below = absurd (omega (arith, below))
 bad_from es group from (suc count) [] j h below = cc
 bad_from es group from (suc count) (l ∷ bads) zero h below =
@@ -98,10 +126,13 @@ bad_from es group from (suc count) (l ∷ bads) (suc j) h below =
     let number : j + (from + 1) ≡ suc j + from = omega arith in
     (r.0 ∙ ap (λ n. Some (Bad group n)) number, r.1)
 
-pub bads_are_at : (es : List Entry) (group count : ℕ) (bads : List Literal) → AreNamedAs es bads (map (bad_name group) (range_with_len 1 count)) → (j : ℕ) → j < count → IsBadAt group j bads es
-bads_are_at es group count bads h j below = let r = bad_from es group 1 count bads j h below in record { named = r.0; positive_literal = r.1 }
+pub bads_are_at : (es : List Entry) (group count : ℕ) (bads : List Literal) →
+    AreNamedAs es bads (map (bad_name group) (range_with_len 1 count)) → (j : ℕ) → j < count → IsBadAt group j bads es
+bads_are_at es group count bads h j below = let r = bad_from es group 1 count bads j h below in
+    record { named = r.0; positive_literal = r.1 }
 
-counted : (es : List Entry) (group from count : ℕ) (bads : List Literal) → AreNamedAs es bads (map (bad_name group) (range_with_len from count)) → length bads ≡ count
+counted : (es : List Entry) (group from count : ℕ) (bads : List Literal) →
+    AreNamedAs es bads (map (bad_name group) (range_with_len from count)) → length bads ≡ count
 counted es group from zero [] h = refl
 counted es group from zero (l ∷ bads) h = cc
 counted es group from (suc count) [] h = cc
@@ -109,22 +140,32 @@ counted es group from (suc count) (l ∷ bads) h =
     let later : AreNamedAs es bads (map (bad_name group) (range_with_len (from + 1) count)) = cc in
     let more = counted es group (from + 1) count bads later in omega (arith, more)
 
-pub bads_count : (es : List Entry) (group count : ℕ) (bads : List Literal) → AreNamedAs es bads (map (bad_name group) (range_with_len 1 count)) → length bads ≡ count
+pub bads_count : (es : List Entry) (group count : ℕ) (bads : List Literal) →
+    AreNamedAs es bads (map (bad_name group) (range_with_len 1 count)) → length bads ≡ count
 bads_count es group count bads h = counted es group 1 count bads h
 
-pub bads_stay : (old new : List Entry) (group count : ℕ) (bads : List Literal) → ((v : ℕ) → name_of new v ≡ name_of old v) → AreNamedAs old bads (map (bad_name group) (range_with_len 1 count)) →
+pub bads_stay : (old new : List Entry) (group count : ℕ) (bads : List Literal) →
+    ((v : ℕ) → name_of new v ≡ name_of old v) → AreNamedAs old bads (map (bad_name group) (range_with_len 1 count)) →
     AreNamedAs new bads (map (bad_name group) (range_with_len 1 count))
-bads_stay old new group count bads names are = named_stay old new (λ v n h. names v ∙ h) bads (map (bad_name group) (range_with_len 1 count)) are
+bads_stay old new group count bads names are = named_stay old new (λ v n h. names v ∙ h) bads
+    (map (bad_name group) (range_with_len 1 count)) are
 
-pub all_given : (f : Dqbf) (group : ℕ) (leaf : ℕ → Leaf) (bads : List Literal) (named log new : ProofLog) → AreNamedAs named.entries bads (map (bad_name group) (range_with_len 1 (length f.matrix))) →
-    ((v : ℕ) → name_of log.entries v ≡ name_of named.entries v) → HaveAllFaults f group bads leaf (length f.matrix) log.entries →
-    new ≡ with_entry log (Given (Fault 0 0 (Constant false)) (negative group ∷ bads)) → AreGiven f group leaf new.entries
-all_given f group leaf bads named log new are names all is = subst (AreGiven f group leaf) (sym (ap (λ (l : ProofLog). l.entries) is)) (record {
-  bads = bads;
-  count = bads_count named.entries group (length f.matrix) bads are;
-  bads_are = bads_are_at (e ∷ log.entries) group (length f.matrix) bads (named_stay named.entries (e ∷ log.entries) (λ v n h. names v ∙ h) bads (map (bad_name group) (range_with_len 1 (length f.matrix))) are);
-  some = contains_first e log.entries;
-  all = λ j below i l small at. fault_stays group (variable_of (get_or bads j (positive 0))) (j + 1) (i + 1) l (leaf (variable_of l)) e log.entries (all j below i l small at);
-}) where
-  e : Entry
-  e = Given (Fault 0 0 (Constant false)) (negative group ∷ bads)
+pub all_given : (f : Dqbf) (group : ℕ) (leaf : ℕ → Leaf) (bads : List Literal) (named log new : ProofLog) →
+    AreNamedAs named.entries bads (map (bad_name group) (range_with_len 1 (length f.matrix))) →
+    ((v : ℕ) → name_of log.entries v ≡ name_of named.entries v) →
+    HaveAllFaults f group bads leaf (length f.matrix) log.entries →
+    new ≡ with_entry log (Given (Fault 0 0 (Constant false)) (negative group ∷ bads)) →
+    AreGiven f group leaf new.entries
+all_given f group leaf bads named log new are names all is =
+    subst (AreGiven f group leaf) (sym (ap (λ (l : ProofLog). l.entries) is)) (record {
+      bads = bads;
+      count = bads_count named.entries group (length f.matrix) bads are;
+      bads_are = bads_are_at (e ∷ log.entries) group (length f.matrix) bads
+          (named_stay named.entries (e ∷ log.entries) (λ v n h. names v ∙ h) bads
+          (map (bad_name group) (range_with_len 1 (length f.matrix))) are);
+      some = contains_first e log.entries;
+      all = λ j below i l small at. fault_stays group (variable_of (get_or bads j (positive 0))) (j + 1) (i + 1) l
+          (leaf (variable_of l)) e log.entries (all j below i l small at);
+    }) where
+      e : Entry
+      e = Given (Fault 0 0 (Constant false)) (negative group ∷ bads)

@@ -27,15 +27,19 @@ use Rattle.circuit_cnf.specs.Turning.{AreTwoGroups, IsHeldBy}
 use Rattle.circuit_cnf.proofs.GivenGates.{contains_cases, contains_first}
 
 -- a literal whose opposite is one of two selectors
-only_selectors : (g h : ℕ) (l : Literal) → holds (positive g ∷ positive h ∷ []) (opposite l) ≡ true → (l ≡ negative g) ⊎ (l ≡ negative h)
+only_selectors : (g h : ℕ) (l : Literal) → holds (positive g ∷ positive h ∷ []) (opposite l) ≡ true →
+    (l ≡ negative g) ⊎ (l ≡ negative h)
 only_selectors g h (positive v) held = cc
-only_selectors g h (negative v) held = elim (or_cases (same_literal (positive v) (positive g)) (holds (positive h ∷ []) (positive v)) held) [
-  | inl e ↦ (let same : positive v ≡ positive g = same-sound (positive v) (positive g) e in let is : v ≡ g = cc in inl (ap negative is))
-  | inr later ↦ elim (or_cases (same_literal (positive v) (positive h)) false later) [
-    | inl e ↦ (let same : positive v ≡ positive h = same-sound (positive v) (positive h) e in let is : v ≡ h = cc in inr (ap negative is))
-    | inr e ↦ absurd (true≢false (sym e))
-  ]
-]
+only_selectors g h (negative v) held = elim (or_cases (same_literal (positive v) (positive g))
+    (holds (positive h ∷ []) (positive v)) held) [
+      | inl e ↦ (let same : positive v ≡ positive g = same-sound (positive v) (positive g) e in let is : v ≡ g = cc in
+          inl (ap negative is))
+      | inr later ↦ elim (or_cases (same_literal (positive v) (positive h)) false later) [
+        | inl e ↦ (let same : positive v ≡ positive h = same-sound (positive v) (positive h) e in let is : v ≡ h = cc in
+            inr (ap negative is))
+        | inr e ↦ absurd (true≢false (sym e))
+      ]
+    ]
 
 refl_literal : (l : Literal) → same_literal l l ≡ true
 refl_literal (positive v) = eq-eqb v v refl
@@ -43,31 +47,37 @@ refl_literal (negative v) = eq-eqb v v refl
 
 all_held : (P : Literal → Type 0) (clause : List Literal) → ((l : Literal) → holds clause l ≡ true → P l) → All P clause
 all_held P [] each = All-nil P
-all_held P (l ∷ ls) each = All-cons P l ls (each l (or_left (same_literal l l) (holds ls l) (refl_literal l))) (all_held P ls (λ k h. each k (or_right (same_literal k l) (holds ls k) h))) where
-  or_left : (a b : Bool) → a ≡ true → (a || b) ≡ true
-  or_left true b h = refl
-  or_left false b h = absurd (true≢false (sym h))
+all_held P (l ∷ ls) each = All-cons P l ls (each l (or_left (same_literal l l) (holds ls l) (refl_literal l)))
+    (all_held P ls (λ k h. each k (or_right (same_literal k l) (holds ls k) h))) where
+      or_left : (a b : Bool) → a ≡ true → (a || b) ≡ true
+      or_left true b h = refl
+      or_left false b h = absurd (true≢false (sym h))
 
-  or_right : (a b : Bool) → b ≡ true → (a || b) ≡ true
-  or_right true b h = refl
-  or_right false b h = h
+      or_right : (a b : Bool) → b ≡ true → (a || b) ≡ true
+      or_right true b h = refl
+      or_right false b h = h
 
-is_selector_here : (es : List Entry) (g : ℕ) (l : Literal) → name_of es g ≡ Some (Selector g) → l ≡ negative g → (l ≡ negative (variable_of l)) × (name_of es (variable_of l) ≡ Some (Selector (variable_of l)))
+is_selector_here : (es : List Entry) (g : ℕ) (l : Literal) → name_of es g ≡ Some (Selector g) → l ≡ negative g →
+    (l ≡ negative (variable_of l)) × (name_of es (variable_of l) ≡ Some (Selector (variable_of l)))
 is_selector_here es g l named h =
     let v : variable_of l ≡ g = ap variable_of h in
     (h ∙ ap negative (sym v), ap (name_of es) v ∙ named ∙ ap (λ w. Some (Selector w)) (sym v))
 
 -- what was learned gives nothing
-learned_givens : (more old : List Entry) → EachOf IsLearnedEntry more old → (origin : Origin) (c : List Literal) → Contains (more ++ old) (Given origin c) → Contains old (Given origin c)
+learned_givens : (more old : List Entry) → EachOf IsLearnedEntry more old → (origin : Origin) (c : List Literal) →
+    Contains (more ++ old) (Given origin c) → Contains old (Given origin c)
 learned_givens [] old h origin c inside = inside
 learned_givens (Named v n ∷ more) old h origin c inside = absurd h.0
 learned_givens (Given o d ∷ more) old h origin c inside = absurd h.0
-learned_givens (Learned d hints ∷ more) old h origin c inside = elim (contains_cases (Learned d hints) (Given origin c) (more ++ old) inside) [ inl is ↦ cc | inr later ↦ learned_givens more old h.1 origin c later ]
+learned_givens (Learned d hints ∷ more) old h origin c inside =
+    elim (contains_cases (Learned d hints) (Given origin c) (more ++ old) inside)
+    [ inl is ↦ cc | inr later ↦ learned_givens more old h.1 origin c later ]
 learned_givens (Answer d hints ∷ more) old h origin c inside = absurd h.0
 learned_givens (Round row values j ∷ more) old h origin c inside = absurd h.0
 learned_givens (Begun live ∷ more) old h origin c inside = absurd h.0
 
-pub learned_names : (more old : List Entry) (v : ℕ) → EachOf IsLearnedEntry more old → name_of (more ++ old) v ≡ name_of old v
+pub learned_names : (more old : List Entry) (v : ℕ) → EachOf IsLearnedEntry more old →
+    name_of (more ++ old) v ≡ name_of old v
 learned_names [] old v h = refl
 learned_names (Named w n ∷ more) old v h = absurd h.0
 learned_names (Given origin c ∷ more) old v h = absurd h.0
@@ -76,7 +86,8 @@ learned_names (Answer c hints ∷ more) old v h = absurd h.0
 learned_names (Round row values j ∷ more) old v h = absurd h.0
 learned_names (Begun live ∷ more) old v h = absurd h.0
 
-learned_gate_given : (group : ℕ) (earlier : List Entry) (e : Entry) → IsLearnedEntry earlier e → IsGateGiven group earlier e
+learned_gate_given : (group : ℕ) (earlier : List Entry) (e : Entry) → IsLearnedEntry earlier e →
+    IsGateGiven group earlier e
 learned_gate_given group earlier (Named v n) h = absurd h
 learned_gate_given group earlier (Given origin c) h = absurd h
 learned_gate_given group earlier (Learned c hints) h = tt
@@ -84,7 +95,8 @@ learned_gate_given group earlier (Answer c hints) h = absurd h
 learned_gate_given group earlier (Round row values j) h = absurd h
 learned_gate_given group earlier (Begun live) h = absurd h
 
-learned_own_given : (f : Dqbf) (group : ℕ) (earlier : List Entry) (e : Entry) → IsLearnedEntry earlier e → IsOwnGiven f circuits group earlier e
+learned_own_given : (f : Dqbf) (group : ℕ) (earlier : List Entry) (e : Entry) → IsLearnedEntry earlier e →
+    IsOwnGiven f circuits group earlier e
 learned_own_given f group earlier (Named v n) h = absurd h
 learned_own_given f group earlier (Given origin c) h = absurd h
 learned_own_given f group earlier (Learned c hints) h = tt
@@ -92,7 +104,8 @@ learned_own_given f group earlier (Answer c hints) h = absurd h
 learned_own_given f group earlier (Round row values j) h = absurd h
 learned_own_given f group earlier (Begun live) h = absurd h
 
-gate_is_circuit : (earlier : List Entry) (group : ℕ) (origin : Origin) (c : List Literal) → IsGateClause earlier origin c → IsCircuitGiven group origin c
+gate_is_circuit : (earlier : List Entry) (group : ℕ) (origin : Origin) (c : List Literal) →
+    IsGateClause earlier origin c → IsCircuitGiven group origin c
 gate_is_circuit earlier group (Instance k j) c h = absurd h
 gate_is_circuit earlier group (Gate v i) c h = tt
 gate_is_circuit earlier group (Fault j i leaf) c h = absurd h
@@ -101,7 +114,8 @@ gate_is_circuit earlier group (Link v i) c h = absurd h
 gate_is_circuit earlier group (TermGate v i) c h = absurd h
 gate_is_circuit earlier group (Differ y leaf part) c h = absurd h
 
-gate_is_origins : (f : Dqbf) (earlier : List Entry) (origin : Origin) (c : List Literal) → IsGateClause earlier origin c → IsOriginsClause f earlier origin c
+gate_is_origins : (f : Dqbf) (earlier : List Entry) (origin : Origin) (c : List Literal) →
+    IsGateClause earlier origin c → IsOriginsClause f earlier origin c
 gate_is_origins f earlier (Instance k j) c h = absurd h
 gate_is_origins f earlier (Gate v i) c h = h f
 gate_is_origins f earlier (Fault j i leaf) c h = absurd h
@@ -110,7 +124,8 @@ gate_is_origins f earlier (Link v i) c h = absurd h
 gate_is_origins f earlier (TermGate v i) c h = absurd h
 gate_is_origins f earlier (Differ y leaf part) c h = absurd h
 
-fault_is_circuit : (group : ℕ) (origin : Origin) (c : List Literal) → origin_engine origin ≡ circuits → IsInGroup group c → IsCircuitGiven group origin c
+fault_is_circuit : (group : ℕ) (origin : Origin) (c : List Literal) → origin_engine origin ≡ circuits →
+    IsInGroup group c → IsCircuitGiven group origin c
 fault_is_circuit group (Instance k j) c h inside = cc
 fault_is_circuit group (Gate v i) c h inside = tt
 fault_is_circuit group (Fault j i leaf) c h inside = inside
@@ -119,19 +134,26 @@ fault_is_circuit group (Link v i) c h inside = cc
 fault_is_circuit group (TermGate v i) c h inside = cc
 fault_is_circuit group (Differ y leaf part) c h inside = cc
 
-pub two_groups_learned : (f : Dqbf) (leaf : ℕ → Leaf) (gates faults : ℕ) (old : List Entry) (log new : ProofLog) → Grew IsLearnedEntry log new → AreTwoGroups f leaf gates faults old log.entries → AreTwoGroups f leaf gates faults old new.entries
-two_groups_learned f leaf gates faults old log new g two = subst (AreTwoGroups f leaf gates faults old) (sym g.grown) (record {
-  gates_named = learned_names g.more log.entries gates g.each ∙ two.gates_named;
-  faults_named = learned_names g.more log.entries faults g.each ∙ two.faults_named;
-  faults_new = two.faults_new;
-  names = λ v n is. learned_names g.more log.entries v g.each ∙ two.names v n is;
-  gates_own = each_grown IsLearnedEntry (IsGateGiven gates) (learned_gate_given gates) g.more log.entries g.each two.gates_own;
-  faults_own = each_grown IsLearnedEntry (IsOwnGiven f circuits faults) (learned_own_given f faults) g.more log.entries g.each two.faults_own;
-  one_leaf = λ j i v out rest inside own. two.one_leaf j i v out rest (learned_givens g.more log.entries g.each (Fault j i out) (negative faults ∷ rest) inside) own;
-})
+pub two_groups_learned : (f : Dqbf) (leaf : ℕ → Leaf) (gates faults : ℕ) (old : List Entry) (log new : ProofLog) →
+    Grew IsLearnedEntry log new → AreTwoGroups f leaf gates faults old log.entries →
+    AreTwoGroups f leaf gates faults old new.entries
+two_groups_learned f leaf gates faults old log new g two = subst (AreTwoGroups f leaf gates faults old) (sym g.grown)
+    (record {
+      gates_named = learned_names g.more log.entries gates g.each ∙ two.gates_named;
+      faults_named = learned_names g.more log.entries faults g.each ∙ two.faults_named;
+      faults_new = two.faults_new;
+      names = λ v n is. learned_names g.more log.entries v g.each ∙ two.names v n is;
+      gates_own = each_grown IsLearnedEntry (IsGateGiven gates) (learned_gate_given gates) g.more log.entries g.each
+          two.gates_own;
+      faults_own = each_grown IsLearnedEntry (IsOwnGiven f circuits faults)
+          (learned_own_given f faults) g.more log.entries g.each two.faults_own;
+      one_leaf = λ j i v out rest inside own. two.one_leaf j i v out rest
+          (learned_givens g.more log.entries g.each (Fault j i out) (negative faults ∷ rest) inside) own;
+    })
 
 -- a given clause that the answer reaches is of one of the groups
-pub held_by : (f : Dqbf) (leaf : ℕ → Leaf) (gates faults : ℕ) (old : List Entry) (log new : ProofLog) (id : ℕ) → AreTwoGroups f leaf gates faults old log.entries → IsSearched new.entries →
+pub held_by : (f : Dqbf) (leaf : ℕ → Leaf) (gates faults : ℕ) (old : List Entry) (log new : ProofLog) (id : ℕ) →
+    AreTwoGroups f leaf gates faults old log.entries → IsSearched new.entries →
     IsRefutedUnder log new (positive gates ∷ positive faults ∷ []) id → IsHeldBy f leaf old new.entries id
 held_by f leaf gates faults old log new id two searched_new r = record {
   clause = r.clause;
@@ -141,9 +163,11 @@ held_by f leaf gates faults old log new id two searched_new r = record {
   last = r.last;
   names = here.names;
   rests = record {
-    selectors = all_held (λ l. (l ≡ negative (variable_of l)) × (name_of es (variable_of l) ≡ Some (Selector (variable_of l)))) r.clause selector;
+    selectors = all_held (λ l. (l ≡ negative (variable_of l)) ×
+        (name_of es (variable_of l) ≡ Some (Selector (variable_of l)))) r.clause selector;
     group = faults;
-    circuit = λ origin c reached. let place = split_at es reached.id (Given origin c) reached.is_given in circuit place.0 place.1 origin c place.2 (mine origin c reached);
+    circuit = λ origin c reached. let place = split_at es reached.id (Given origin c) reached.is_given in
+        circuit place.0 place.1 origin c place.2 (mine origin c reached);
   };
   fresh = two.faults_new;
   outs = λ y out at. outs y out at (mine (Fault at.j at.i out) at.clause at.reached);
@@ -166,16 +190,19 @@ held_by f leaf gates faults old log new id two searched_new r = record {
   here : AreTwoGroups f leaf gates faults old r.before.entries
   here = two_groups_learned f leaf gates faults old log r.before r.learned two
 
-  selector : (l : Literal) → holds r.clause l ≡ true → (l ≡ negative (variable_of l)) × (name_of r.before.entries (variable_of l) ≡ Some (Selector (variable_of l)))
+  selector : (l : Literal) → holds r.clause l ≡ true → (l ≡ negative (variable_of l)) ×
+      (name_of r.before.entries (variable_of l) ≡ Some (Selector (variable_of l)))
   selector l h = elim (only_selectors gates faults l (r.negated l h)) [
     | inl is ↦ is_selector_here r.before.entries gates l here.gates_named is
     | inr is ↦ is_selector_here r.before.entries faults l here.faults_named is
   ]
 
-  mine : (origin : Origin) (c : List Literal) → ReachesGiven r.before.entries r.hints origin c → IsInGroup gates c ⊎ IsInGroup faults c
+  mine : (origin : Origin) (c : List Literal) → ReachesGiven r.before.entries r.hints origin c →
+      IsInGroup gates c ⊎ IsInGroup faults c
   mine origin c reached =
       let place = split_at es reached.id (Given origin c) reached.is_given in
-      let grouped : IsOfGroup place.1 c = each_at IsGivenToGroup place.0 place.1 (Given origin c) (subst (Each IsGivenToGroup) place.2 searched.grouped.1) in
+      let grouped : IsOfGroup place.1 c = each_at IsGivenToGroup place.0 place.1 (Given origin c)
+      (subst (Each IsGivenToGroup) place.2 searched.grouped.1) in
       let there = subst (ReachesGiven es r.hints origin) grouped.clause_is reached in
       let kept = searched.kept.0 origin grouped.group grouped.rest there in
       elim (only_selectors gates faults (negative grouped.group) (r.negated (negative grouped.group) kept)) [
@@ -183,27 +210,41 @@ held_by f leaf gates faults old log new id two searched_new r = record {
         | inr is ↦ inr (grouped.rest, grouped.clause_is ∙ ap (λ l. l ∷ grouped.rest) is)
       ]
 
-  gate_there : (more before : List Entry) (origin : Origin) (c : List Literal) → r.before.entries ≡ more ++ Given origin c ∷ before → IsInGroup gates c → IsGateClause before origin c
-  gate_there more before origin c is inside = each_at (IsGateGiven gates) more before (Given origin c) (subst (Each (IsGateGiven gates)) is here.gates_own) inside
+  gate_there : (more before : List Entry) (origin : Origin) (c : List Literal) →
+      r.before.entries ≡ more ++ Given origin c ∷ before → IsInGroup gates c → IsGateClause before origin c
+  gate_there more before origin c is inside = each_at (IsGateGiven gates) more before (Given origin c)
+      (subst (Each (IsGateGiven gates)) is here.gates_own) inside
 
-  fault_there : (more before : List Entry) (origin : Origin) (c : List Literal) → r.before.entries ≡ more ++ Given origin c ∷ before → IsInGroup faults c →
+  fault_there : (more before : List Entry) (origin : Origin) (c : List Literal) →
+      r.before.entries ≡ more ++ Given origin c ∷ before → IsInGroup faults c →
       (origin_engine origin ≡ circuits) × IsOriginsClause f before origin c
-  fault_there more before origin c is inside = each_at (IsOwnGiven f circuits faults) more before (Given origin c) (subst (Each (IsOwnGiven f circuits faults)) is here.faults_own) inside
+  fault_there more before origin c is inside = each_at (IsOwnGiven f circuits faults) more before (Given origin c)
+      (subst (Each (IsOwnGiven f circuits faults)) is here.faults_own) inside
 
-  circuit : (more before : List Entry) (origin : Origin) (c : List Literal) → r.before.entries ≡ more ++ Given origin c ∷ before → IsInGroup gates c ⊎ IsInGroup faults c → IsCircuitGiven faults origin c
-  circuit more before origin c is (inl inside) = gate_is_circuit before faults origin c (gate_there more before origin c is inside)
-  circuit more before origin c is (inr inside) = fault_is_circuit faults origin c (fault_there more before origin c is inside).0 inside
+  circuit : (more before : List Entry) (origin : Origin) (c : List Literal) →
+      r.before.entries ≡ more ++ Given origin c ∷ before → IsInGroup gates c ⊎ IsInGroup faults c →
+      IsCircuitGiven faults origin c
+  circuit more before origin c is (inl inside) = gate_is_circuit before faults origin c
+      (gate_there more before origin c is inside)
+  circuit more before origin c is (inr inside) = fault_is_circuit faults origin c
+      (fault_there more before origin c is inside).0 inside
 
-  origins : (more before : List Entry) (origin : Origin) (c : List Literal) → r.before.entries ≡ more ++ Given origin c ∷ before → IsInGroup gates c ⊎ IsInGroup faults c → IsOriginsClause f before origin c
-  origins more before origin c is (inl inside) = gate_is_origins f before origin c (gate_there more before origin c is inside)
+  origins : (more before : List Entry) (origin : Origin) (c : List Literal) →
+      r.before.entries ≡ more ++ Given origin c ∷ before → IsInGroup gates c ⊎ IsInGroup faults c →
+      IsOriginsClause f before origin c
+  origins more before origin c is (inl inside) = gate_is_origins f before origin c
+      (gate_there more before origin c is inside)
   origins more before origin c is (inr inside) = (fault_there more before origin c is inside).1
 
-  outs : (y : Existential) (out : Leaf) (at : IsFaultLeaf f r.before.entries r.hints y out) → IsInGroup gates at.clause ⊎ IsInGroup faults at.clause → out ≡ leaf y.variable
+  outs : (y : Existential) (out : Leaf) (at : IsFaultLeaf f r.before.entries r.hints y out) →
+      IsInGroup gates at.clause ⊎ IsInGroup faults at.clause → out ≡ leaf y.variable
   outs y out at (inl inside) =
       let place = split_at es at.reached.id (Given (Fault at.j at.i out) at.clause) at.reached.is_given in
       absurd (gate_there place.0 place.1 (Fault at.j at.i out) at.clause place.2 inside)
   outs y out at (inr inside) =
       let place = split_at es at.reached.id (Given (Fault at.j at.i out) at.clause) at.reached.is_given in
       let e = Given (Fault at.j at.i out) at.clause in
-      let there : Contains es e = subst (λ xs. Contains xs e) (sym place.2) (Contains-append_right place.0 (e ∷ place.1) e (contains_first e place.1)) in
-      here.one_leaf at.j at.i y.variable out inside.0 (subst (λ c. Contains es (Given (Fault at.j at.i out) c)) inside.1 there) at.own
+      let there : Contains es e = subst (λ xs. Contains xs e) (sym place.2)
+      (Contains-append_right place.0 (e ∷ place.1) e (contains_first e place.1)) in
+      here.one_leaf at.j at.i y.variable out inside.0 (subst
+      (λ c. Contains es (Given (Fault at.j at.i out) c)) inside.1 there) at.own

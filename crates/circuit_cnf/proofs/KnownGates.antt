@@ -43,7 +43,8 @@ equal_numbers x y h = by (nat_lt x y) (x == y) refl h where
 
 pub equal_pairs : (p q : ℕ × ℕ) → is_eq (pair_cmp p q) ≡ true → (p.0 ≡ q.0) × (p.1 ≡ q.1)
 equal_pairs p q h = by (nat_cmp p.0 q.0) refl h where
-  by : (o : Ordering) → nat_cmp p.0 q.0 ≡ o → is_eq (ordering_then o (nat_cmp p.1 q.1)) ≡ true → (p.0 ≡ q.0) × (p.1 ≡ q.1)
+  by : (o : Ordering) → nat_cmp p.0 q.0 ≡ o → is_eq (ordering_then o (nat_cmp p.1 q.1)) ≡ true →
+      (p.0 ≡ q.0) × (p.1 ≡ q.1)
   by Less e h = cc
   by Equal e h = (equal_numbers p.0 q.0 (ap is_eq e), equal_numbers p.1 q.1 h)
   by Greater e h = cc
@@ -62,12 +63,14 @@ not_some None none some = absurd (false≢true some)
 not_some (Some n) none some = cc
 
 -- a variable without a name is no gate's
-pub none_given : (es : List Entry) (v i : ℕ) (a b : Literal) (c : List Literal) → ((w k : ℕ) (d : List Literal) → Contains es (Given (Gate w k) d) → IsSome (name_of es w)) → name_of es v ≡ None →
+pub none_given : (es : List Entry) (v i : ℕ) (a b : Literal) (c : List Literal) →
+    ((w k : ℕ) (d : List Literal) → Contains es (Given (Gate w k) d) → IsSome (name_of es w)) → name_of es v ≡ None →
     Contains (Named v (And a b) ∷ es) (Given (Gate v i) c) → ⊥
-none_given es v i a b c of_gates unnamed inside = elim (contains_cases (Named v (And a b)) (Given (Gate v i) c) es inside) [
-  | inl is ↦ cc
-  | inr old ↦ not_some (name_of es v) unnamed (of_gates v i c old)
-]
+none_given es v i a b c of_gates unnamed inside = elim (contains_cases (Named v (And a b))
+    (Given (Gate v i) c) es inside) [
+      | inl is ↦ cc
+      | inr old ↦ not_some (name_of es v) unnamed (of_gates v i c old)
+    ]
 
 -- what a gate's call begins with: a name, and no clause
 abbrev pub unfinished_gate : ℕ → Literal → Literal → ℕ → Unfinished
@@ -83,14 +86,23 @@ some_stays old new stay v some = by (name_of old v) refl some where
   by (Some n) e s = subst IsSome (sym (stay v n e)) refl
 
 -- clauses stay as logs grow
-clauses_stay : (old new : List Entry) → ((x : Entry) → Contains old x → Contains new x) → (group v : ℕ) (a b : Literal) (parts : ℕ) → HasGateClauses old group v a b parts → HasGateClauses new group v a b parts
-clauses_stay old new more group v a b parts have i rest most is = more (Given (Gate v i) (negative group ∷ rest)) (have i rest most is)
+clauses_stay : (old new : List Entry) → ((x : Entry) → Contains old x → Contains new x) →
+    (group v : ℕ) (a b : Literal) (parts : ℕ) → HasGateClauses old group v a b parts →
+    HasGateClauses new group v a b parts
+clauses_stay old new more group v a b parts have i rest most is =
+    more (Given (Gate v i) (negative group ∷ rest)) (have i rest most is)
 
 -- a gate's name more
-pub named_more : (gates : Gates) (es : List Entry) (v : ℕ) (a b : Literal) → AreKnown gates es → gates.unfinished ≡ None → name_of es v ≡ None →
-    get pair_cmp gates.variables (literal_code a, literal_code b) ≡ None → AreKnown (record gates { unfinished = Some (unfinished_gate v a b 0) }) (Named v (And a b) ∷ es)
+pub named_more : (gates : Gates) (es : List Entry) (v : ℕ) (a b : Literal) → AreKnown gates es →
+    gates.unfinished ≡ None → name_of es v ≡ None →
+    get pair_cmp gates.variables (literal_code a, literal_code b) ≡ None →
+    AreKnown (record gates { unfinished = Some (unfinished_gate v a b 0) }) (Named v (And a b) ∷ es)
 named_more gates es v a b before ready unnamed none = record {
-  made = record { positive = before.made.positive; named = stay (variable_of gates.group.selector) (Selector (variable_of gates.group.selector)) before.made.named };
+  made = record {
+    positive = before.made.positive;
+    named = stay (variable_of gates.group.selector)
+        (Selector (variable_of gates.group.selector)) before.made.named;
+  };
   known = λ c d w is. elim (name_cases es v w (And a b) (And c d) is) [
     | inl here ↦ inr (unfinished_gate v a b 0, refl, sym here.0)
     | inr old ↦ elim (before.known c d w old) [
@@ -99,16 +111,21 @@ named_more gates es v a b before ready unnamed none = record {
     ]
   ];
   sound = λ c d w found. stay w (And c d) (before.sound c d w found);
-  clauses = λ c d w found. clauses_stay es (Named v (And a b) ∷ es) more (variable_of gates.group.selector) w c d 3 (before.clauses c d w found);
-  origins = λ w i c inside. elim (contains_cases (Named v (And a b)) (Given (Gate w i) c) es inside) [ inl is ↦ cc | inr old ↦ some_stays es (Named v (And a b) ∷ es) stay w (before.origins w i c old) ];
+  clauses = λ c d w found. clauses_stay es (Named v (And a b) ∷ es) more (variable_of gates.group.selector) w c d 3
+      (before.clauses c d w found);
+  origins = λ w i c inside. elim (contains_cases (Named v (And a b)) (Given (Gate w i) c) es inside)
+      [ inl is ↦ cc | inr old ↦ some_stays es (Named v (And a b) ∷ es) stay w (before.origins w i c old) ];
   own = (tt, before.own);
-  last = λ gate is. let same : unfinished_gate v a b 0 ≡ gate = cc in subst (IsUnfinished (record gates { unfinished = Some (unfinished_gate v a b 0) }) (Named v (And a b) ∷ es)) same (record {
-    named = cond-true (v == v) (Some (And a b)) (name_of es v) (eq-eqb v v refl);
-    few = omega arith;
-    given = λ i rest most is. let zero : i ≡ 0 = omega (arith, most) in absurd (no_part v a b rest (ap (gate_rest v a b) (sym zero) ∙ is));
-    missing = λ i c above inside. none_given es v i a b c before.origins unnamed inside;
-    unknown = none;
-  });
+  last = λ gate is. let same : unfinished_gate v a b 0 ≡ gate = cc in
+      subst (IsUnfinished (record gates { unfinished = Some (unfinished_gate v a b 0) }) (Named v (And a b) ∷ es)) same
+      (record {
+        named = cond-true (v == v) (Some (And a b)) (name_of es v) (eq-eqb v v refl);
+        few = omega arith;
+        given = λ i rest most is. let zero : i ≡ 0 = omega (arith, most) in
+            absurd (no_part v a b rest (ap (gate_rest v a b) (sym zero) ∙ is));
+        missing = λ i c above inside. none_given es v i a b c before.origins unnamed inside;
+        unknown = none;
+      });
 } where
   stay : NamesStay es (Named v (And a b) ∷ es)
   stay = name_stays_by es v (And a b) unnamed
@@ -116,8 +133,10 @@ named_more gates es v a b before ready unnamed none = record {
   more : (x : Entry) → Contains es x → Contains (Named v (And a b) ∷ es) x
   more x inside = contains_more (Named v (And a b)) x es inside
 
-gate_clause : (gates : Gates) (es : List Entry) (gate : Unfinished) (part : ℕ) (rest : List Literal) → AreKnown gates es → name_of es gate.variable ≡ Some (And gate.left gate.right) →
-    gate_rest gate.variable gate.left gate.right part ≡ Some rest → IsGateClause es (Gate gate.variable part) (negative (variable_of gates.group.selector) ∷ rest)
+gate_clause : (gates : Gates) (es : List Entry) (gate : Unfinished) (part : ℕ) (rest : List Literal) →
+    AreKnown gates es → name_of es gate.variable ≡ Some (And gate.left gate.right) →
+    gate_rest gate.variable gate.left gate.right part ≡ Some rest →
+    IsGateClause es (Gate gate.variable part) (negative (variable_of gates.group.selector) ∷ rest)
 gate_clause gates es gate part rest before named is f = record {
   group = variable_of gates.group.selector;
   rest = rest;
@@ -131,32 +150,39 @@ abbrev with_parts : Gates → Unfinished → ℕ → Gates
 with_parts gates gate parts = record gates { unfinished = Some (record gate { parts = parts }) }
 
 -- a clause of it more
-pub part_more : (gates : Gates) (es : List Entry) (gate : Unfinished) (parts : ℕ) (rest : List Literal) → AreKnown gates es → gates.unfinished ≡ Some (record gate { parts = parts }) → parts < 3 →
-    gate_rest gate.variable gate.left gate.right (parts + 1) ≡ Some rest → AreKnown (with_parts gates gate (parts + 1)) (Given (Gate gate.variable (parts + 1)) (negative (variable_of gates.group.selector) ∷ rest) ∷ es)
+pub part_more : (gates : Gates) (es : List Entry) (gate : Unfinished) (parts : ℕ) (rest : List Literal) →
+    AreKnown gates es → gates.unfinished ≡ Some (record gate { parts = parts }) → parts < 3 →
+    gate_rest gate.variable gate.left gate.right (parts + 1) ≡ Some rest →
+    AreKnown (with_parts gates gate (parts + 1)) (Given (Gate gate.variable (parts + 1))
+    (negative (variable_of gates.group.selector) ∷ rest) ∷ es)
 part_more gates es gate parts rest before is_last below rest_is = record {
   made = record { positive = before.made.positive; named = before.made.named };
   known = λ c d w is. elim (before.known c d w is) [
     | inl found ↦ inl found
-    | inr last ↦ (let both : Some (record gate { parts = parts }) ≡ Some last.0 = sym is_last ∙ last.1 in let same : record gate { parts = parts } ≡ last.0 = cc in
+    | inr last ↦ (let both : Some (record gate { parts = parts }) ≡ Some last.0 = sym is_last ∙ last.1 in
+        let same : record gate { parts = parts } ≡ last.0 = cc in
         inr (record gate { parts = parts + 1 }, refl, ap (λ (u : Unfinished). u.variable) same ∙ last.2))
   ];
   sound = before.sound;
   clauses = λ c d w found. clauses_stay es (e ∷ es) more group w c d 3 (before.clauses c d w found);
   origins = λ w i c inside. elim (contains_cases e (Given (Gate w i) c) es inside) [
-    | inl is ↦ (let same : gate.variable ≡ w = cc in subst (λ x. IsSome (name_of es x)) same (subst IsSome (sym here.named) refl))
+    | inl is ↦ (let same : gate.variable ≡ w = cc in subst (λ x. IsSome (name_of es x)) same
+        (subst IsSome (sym here.named) refl))
     | inr old ↦ before.origins w i c old
   ];
   own = ((λ inside. gate_clause gates es gate (parts + 1) rest before here.named rest_is), before.own);
-  last = λ u is. let same : record gate { parts = parts + 1 } ≡ u = cc in subst (IsUnfinished (with_parts gates gate (parts + 1)) (e ∷ es)) same (record {
-    named = here.named;
-    few = omega (arith, below);
-    given = λ i tail most is. given i tail is (below_or_here i (parts + 1) (let m : i < parts + 1 + 1 = omega (arith, most) in m));
-    missing = λ i c above inside. elim (contains_cases e (Given (Gate gate.variable i) c) es inside) [
-      | inl is ↦ (let same : parts + 1 ≡ i = cc in absurd (omega (arith, same, above)))
-      | inr old ↦ here.missing i c (omega (arith, above)) old
-    ];
-    unknown = here.unknown;
-  });
+  last = λ u is. let same : record gate { parts = parts + 1 } ≡ u = cc in
+      subst (IsUnfinished (with_parts gates gate (parts + 1)) (e ∷ es)) same (record {
+        named = here.named;
+        few = omega (arith, below);
+        given = λ i tail most is. given i tail is (below_or_here i (parts + 1)
+            (let m : i < parts + 1 + 1 = omega (arith, most) in m));
+        missing = λ i c above inside. elim (contains_cases e (Given (Gate gate.variable i) c) es inside) [
+          | inl is ↦ (let same : parts + 1 ≡ i = cc in absurd (omega (arith, same, above)))
+          | inr old ↦ here.missing i c (omega (arith, above)) old
+        ];
+        unknown = here.unknown;
+      });
 } where
   group : ℕ
   group = variable_of gates.group.selector
@@ -170,17 +196,23 @@ part_more gates es gate parts rest before is_last below rest_is = record {
   more : (x : Entry) → Contains es x → Contains (e ∷ es) x
   more x inside = contains_more e x es inside
 
-  given : (i : ℕ) (tail : List Literal) → gate_rest gate.variable gate.left gate.right i ≡ Some tail → (i < parts + 1) ⊎ (i ≡ parts + 1) → Contains (e ∷ es) (Given (Gate gate.variable i) (negative group ∷ tail))
-  given i tail is (inl earlier) = more (Given (Gate gate.variable i) (negative group ∷ tail)) (here.given i tail (omega (arith, earlier)) is)
+  given : (i : ℕ) (tail : List Literal) → gate_rest gate.variable gate.left gate.right i ≡ Some tail →
+      (i < parts + 1) ⊎ (i ≡ parts + 1) → Contains (e ∷ es) (Given (Gate gate.variable i) (negative group ∷ tail))
+  given i tail is (inl earlier) = more (Given (Gate gate.variable i) (negative group ∷ tail))
+      (here.given i tail (omega (arith, earlier)) is)
   given i tail is (inr now) =
       let both : Some tail ≡ Some rest = sym is ∙ ap (gate_rest gate.variable gate.left gate.right) now ∙ rest_is in
       let same : tail ≡ rest = cc in
       subst (λ k. Contains (e ∷ es) (Given (Gate gate.variable k) (negative group ∷ tail))) (sym now)
-      (subst (λ t. Contains (e ∷ es) (Given (Gate gate.variable (parts + 1)) (negative group ∷ t))) (sym same) (contains_first e es))
+      (subst (λ t. Contains (e ∷ es) (Given (Gate gate.variable (parts + 1)) (negative group ∷ t))) (sym same)
+      (contains_first e es))
 
 -- it is known by its sides
-pub finished : (gates : Gates) (new : Gates) (es : List Entry) (gate : Unfinished) → AreKnown gates es → gates.unfinished ≡ Some gate → gate.parts ≡ 3 → new.group ≡ gates.group → new.unfinished ≡ None →
-    ((q : ℕ × ℕ) → get pair_cmp new.variables q ≡ cond (is_eq (pair_cmp (literal_code gate.left, literal_code gate.right) q)) (Some gate.variable) (get pair_cmp gates.variables q)) → AreKnown new es
+pub finished : (gates : Gates) (new : Gates) (es : List Entry) (gate : Unfinished) → AreKnown gates es →
+    gates.unfinished ≡ Some gate → gate.parts ≡ 3 → new.group ≡ gates.group → new.unfinished ≡ None →
+    ((q : ℕ × ℕ) → get pair_cmp new.variables q ≡ cond (is_eq
+    (pair_cmp (literal_code gate.left, literal_code gate.right) q)) (Some gate.variable)
+    (get pair_cmp gates.variables q)) → AreKnown new es
 finished gates new es gate before is_last all group_same ready updates = record {
   made = subst (IsMade es) (sym group_same) before.made;
   known = λ c d w is. elim (before.known c d w is) [
@@ -189,18 +221,25 @@ finished gates new es gate before is_last all group_same ready updates = record 
         let variable : gate.variable ≡ w = ap (λ (u : Unfinished). u.variable) same ∙ last.2 in
         let names : Some (And gate.left gate.right) ≡ Some (And c d) = sym here.named ∙ ap (name_of es) variable ∙ is in
         let left : gate.left ≡ c = cc in let right : gate.right ≡ d = cc in
-        inl (subst (λ x. get pair_cmp new.variables (literal_code x, literal_code d) ≡ Some w) left (subst (λ x. get pair_cmp new.variables (literal_code gate.left, literal_code x) ≡ Some w) right (found_here ∙ ap Some variable))))
+        inl (subst (λ x. get pair_cmp new.variables (literal_code x, literal_code d) ≡ Some w) left
+        (subst (λ x. get pair_cmp new.variables (literal_code gate.left, literal_code x) ≡ Some w) right
+        (found_here ∙ ap Some variable))))
   ];
   sound = λ c d w found. elim (cases_found c d w found) [
-    | inl now ↦ (let names = here.named in subst (λ x. name_of es w ≡ Some (And x d)) now.1 (subst (λ x. name_of es w ≡ Some (And gate.left x)) now.2 (subst (λ x. name_of es x ≡ Some (And gate.left gate.right)) now.0 names)))
+    | inl now ↦ (let names = here.named in subst (λ x. name_of es w ≡ Some (And x d)) now.1
+        (subst (λ x. name_of es w ≡ Some (And gate.left x)) now.2
+        (subst (λ x. name_of es x ≡ Some (And gate.left gate.right)) now.0 names)))
     | inr old ↦ before.sound c d w old
   ];
-  clauses = λ c d w found. subst (λ (g : Group). HasGateClauses es (variable_of g.selector) w c d 3) (sym group_same) (elim (cases_found c d w found) [
-    | inl now ↦ (let given = subst (HasGateClauses es (variable_of gates.group.selector) gate.variable gate.left gate.right) all here.given in
-        subst (λ x. HasGateClauses es (variable_of gates.group.selector) w x d 3) now.1 (subst (λ x. HasGateClauses es (variable_of gates.group.selector) w gate.left x 3) now.2
-        (subst (λ x. HasGateClauses es (variable_of gates.group.selector) x gate.left gate.right 3) now.0 given)))
-    | inr old ↦ before.clauses c d w old
-  ]);
+  clauses = λ c d w found. subst (λ (g : Group). HasGateClauses es (variable_of g.selector) w c d 3) (sym group_same)
+      (elim (cases_found c d w found) [
+        | inl now ↦ (let given = subst (HasGateClauses es (variable_of gates.group.selector) gate.variable gate.left
+            gate.right) all here.given in
+            subst (λ x. HasGateClauses es (variable_of gates.group.selector) w x d 3) now.1
+            (subst (λ x. HasGateClauses es (variable_of gates.group.selector) w gate.left x 3) now.2
+            (subst (λ x. HasGateClauses es (variable_of gates.group.selector) x gate.left gate.right 3) now.0 given)))
+        | inr old ↦ before.clauses c d w old
+      ]);
   origins = before.origins;
   own = subst (λ (g : Group). Each (IsGateGiven (variable_of g.selector)) es) (sym group_same) before.own;
   last = λ u is. let none : None ≡ Some u = sym ready ∙ is in cc;
@@ -212,39 +251,60 @@ finished gates new es gate before is_last all group_same ready updates = record 
   here = before.last gate is_last
 
   found_here : get pair_cmp new.variables (literal_code gate.left, literal_code gate.right) ≡ Some gate.variable
-  found_here = updates key ∙ cond-true (is_eq (pair_cmp key key)) (Some gate.variable) (get pair_cmp gates.variables key) (same_pair key)
+  found_here = updates key ∙ cond-true (is_eq (pair_cmp key key)) (Some gate.variable)
+      (get pair_cmp gates.variables key) (same_pair key)
 
-  old_found : (c d : Literal) (w : ℕ) → get pair_cmp gates.variables (literal_code c, literal_code d) ≡ Some w → (e : Bool) → is_eq (pair_cmp key (literal_code c, literal_code d)) ≡ e →
+  old_found : (c d : Literal) (w : ℕ) → get pair_cmp gates.variables (literal_code c, literal_code d) ≡ Some w →
+      (e : Bool) → is_eq (pair_cmp key (literal_code c, literal_code d)) ≡ e →
       get pair_cmp new.variables (literal_code c, literal_code d) ≡ Some w
   old_found c d w found true e =
       let codes = equal_pairs key (literal_code c, literal_code d) e in
       let left = same_code gate.left c codes.0 in let right = same_code gate.right d codes.1 in
-      let both : None ≡ Some w = sym here.unknown ∙ ap (λ x. get pair_cmp gates.variables (literal_code x, literal_code gate.right)) left ∙ ap (λ x. get pair_cmp gates.variables (literal_code c, literal_code x)) right ∙ found in
+      let both : None ≡ Some w = sym here.unknown ∙ ap (λ x. get pair_cmp gates.variables
+      (literal_code x, literal_code gate.right)) left ∙ ap
+      (λ x. get pair_cmp gates.variables (literal_code c, literal_code x)) right ∙ found in
       cc
   old_found c d w found false e =
-      updates (literal_code c, literal_code d) ∙ cond-false (is_eq (pair_cmp key (literal_code c, literal_code d))) (Some gate.variable) (get pair_cmp gates.variables (literal_code c, literal_code d)) e ∙ found
+      updates (literal_code c, literal_code d) ∙ cond-false (is_eq (pair_cmp key (literal_code c, literal_code d)))
+      (Some gate.variable) (get pair_cmp gates.variables (literal_code c, literal_code d)) e ∙ found
 
   cases_found : (c d : Literal) (w : ℕ) → get pair_cmp new.variables (literal_code c, literal_code d) ≡ Some w →
-      ((gate.variable ≡ w) × (gate.left ≡ c) × (gate.right ≡ d)) ⊎ (get pair_cmp gates.variables (literal_code c, literal_code d) ≡ Some w)
-  cases_found c d w found = by (is_eq (pair_cmp key (literal_code c, literal_code d))) refl (sym (updates (literal_code c, literal_code d)) ∙ found) where
-    by : (e : Bool) → is_eq (pair_cmp key (literal_code c, literal_code d)) ≡ e → cond e (Some gate.variable) (get pair_cmp gates.variables (literal_code c, literal_code d)) ≡ Some w →
-        ((gate.variable ≡ w) × (gate.left ≡ c) × (gate.right ≡ d)) ⊎ (get pair_cmp gates.variables (literal_code c, literal_code d) ≡ Some w)
-    by true e is =
-        let codes = equal_pairs key (literal_code c, literal_code d) e in
-        let same : gate.variable ≡ w = cc in
-        inl (same, same_code gate.left c codes.0, same_code gate.right d codes.1)
-    by false e is = inr is
+      ((gate.variable ≡ w) × (gate.left ≡ c) × (gate.right ≡ d)) ⊎
+      (get pair_cmp gates.variables (literal_code c, literal_code d) ≡ Some w)
+  cases_found c d w found = by (is_eq (pair_cmp key (literal_code c, literal_code d))) refl
+      (sym (updates (literal_code c, literal_code d)) ∙ found) where
+        by : (e : Bool) → is_eq (pair_cmp key (literal_code c, literal_code d)) ≡ e →
+            cond e (Some gate.variable) (get pair_cmp gates.variables (literal_code c, literal_code d)) ≡ Some w →
+            ((gate.variable ≡ w) × (gate.left ≡ c) × (gate.right ≡ d)) ⊎
+            (get pair_cmp gates.variables (literal_code c, literal_code d) ≡ Some w)
+        by true e is =
+            let codes = equal_pairs key (literal_code c, literal_code d) e in
+            let same : gate.variable ≡ w = cc in
+            inl (same, same_code gate.left c codes.0, same_code gate.right d codes.1)
+        by false e is = inr is
 
 -- a map with the same entries, as a refused call leaves it
-pub known_as_before : (gates : Gates) (variables : BTreeMap (ℕ × ℕ) ℕ) (es : List Entry) → AreKnown gates es → variables.entries ≡ gates.variables.entries → AreKnown (record gates { variables = variables }) es
+pub known_as_before : (gates : Gates) (variables : BTreeMap (ℕ × ℕ) ℕ) (es : List Entry) → AreKnown gates es →
+    variables.entries ≡ gates.variables.entries → AreKnown (record gates { variables = variables }) es
 known_as_before gates variables es before same = record {
   made = before.made;
-  known = λ a b v is. elim (before.known a b v is) [ inl found ↦ inl (found_same (literal_code a, literal_code b) ∙ found) | inr last ↦ inr last ];
+  known = λ a b v is. elim (before.known a b v is) [
+    | inl found ↦
+        inl (found_same (literal_code a, literal_code b) ∙ found)
+    | inr last ↦ inr last
+  ];
   sound = λ a b v found. before.sound a b v (sym (found_same (literal_code a, literal_code b)) ∙ found);
   clauses = λ a b v found. before.clauses a b v (sym (found_same (literal_code a, literal_code b)) ∙ found);
   origins = before.origins;
   own = before.own;
-  last = λ gate is. let h = before.last gate is in record { named = h.named; few = h.few; given = h.given; missing = h.missing; unknown = found_same (literal_code gate.left, literal_code gate.right) ∙ h.unknown };
+  last = λ gate is. let h = before.last gate is in record {
+    named = h.named;
+    few = h.few;
+    given = h.given;
+    missing =
+        h.missing;
+    unknown = found_same (literal_code gate.left, literal_code gate.right) ∙ h.unknown;
+  };
 } where
   found_same : (q : ℕ × ℕ) → get pair_cmp variables q ≡ get pair_cmp gates.variables q
   found_same q = ap (lookup (is_at (pair_cmp q))) same
@@ -253,24 +313,36 @@ known_as_before gates variables es before same = record {
 pub record LeavesGates (gates : Gates) (old new : List Entry) : Type 0 where
   pub stay : NamesStay old new
   pub ands : (v : ℕ) (a b : Literal) → name_of new v ≡ Some (And a b) → name_of old v ≡ Some (And a b)
-  pub bads : (v group j : ℕ) → name_of new v ≡ Some (Bad group j) → (name_of old v ≡ Some (Bad group j)) ⊎ IsSome (name_of new group)
+  pub bads : (v group j : ℕ) → name_of new v ≡ Some (Bad group j) →
+      (name_of old v ≡ Some (Bad group j)) ⊎ IsSome (name_of new group)
   pub more : (x : Entry) → Contains old x → Contains new x
-  pub origins : (v i : ℕ) (c : List Literal) → Contains new (Given (Gate v i) c) → Contains old (Given (Gate v i) c) ⊎ IsSome (name_of new v)
-  pub own : Each (IsGateGiven (variable_of gates.group.selector)) old → Each (IsGateGiven (variable_of gates.group.selector)) new
-  pub missing : (gate : Unfinished) → gates.unfinished ≡ Some gate → (i : ℕ) (c : List Literal) → Contains new (Given (Gate gate.variable i) c) → Contains old (Given (Gate gate.variable i) c)
+  pub origins : (v i : ℕ) (c : List Literal) → Contains new (Given (Gate v i) c) →
+      Contains old (Given (Gate v i) c) ⊎ IsSome (name_of new v)
+  pub own : Each (IsGateGiven (variable_of gates.group.selector)) old →
+      Each (IsGateGiven (variable_of gates.group.selector)) new
+  pub missing : (gate : Unfinished) → gates.unfinished ≡ Some gate → (i : ℕ) (c : List Literal) →
+      Contains new (Given (Gate gate.variable i) c) → Contains old (Given (Gate gate.variable i) c)
 
-pub known_stay : (gates : Gates) (old new : List Entry) → LeavesGates gates old new → AreKnown gates old → AreKnown gates new
+pub known_stay : (gates : Gates) (old new : List Entry) → LeavesGates gates old new → AreKnown gates old →
+    AreKnown gates new
 known_stay gates old new leaves before = record {
-  made = record { positive = before.made.positive; named = leaves.stay (variable_of gates.group.selector) (Selector (variable_of gates.group.selector)) before.made.named };
+  made = record {
+    positive = before.made.positive;
+    named = leaves.stay (variable_of gates.group.selector)
+        (Selector (variable_of gates.group.selector)) before.made.named;
+  };
   known = λ a b v is. before.known a b v (leaves.ands v a b is);
   sound = λ a b v found. leaves.stay v (And a b) (before.sound a b v found);
-  clauses = λ a b v found. clauses_stay old new leaves.more (variable_of gates.group.selector) v a b 3 (before.clauses a b v found);
-  origins = λ v i c inside. elim (leaves.origins v i c inside) [ inl was ↦ some_stays old new leaves.stay v (before.origins v i c was) | inr some ↦ some ];
+  clauses = λ a b v found. clauses_stay old new leaves.more (variable_of gates.group.selector) v a b 3
+      (before.clauses a b v found);
+  origins = λ v i c inside. elim (leaves.origins v i c inside)
+      [ inl was ↦ some_stays old new leaves.stay v (before.origins v i c was) | inr some ↦ some ];
   own = leaves.own before.own;
   last = λ gate is. let h = before.last gate is in record {
     named = leaves.stay gate.variable (And gate.left gate.right) h.named;
     few = h.few;
-    given = clauses_stay old new leaves.more (variable_of gates.group.selector) gate.variable gate.left gate.right gate.parts h.given;
+    given = clauses_stay old new leaves.more (variable_of gates.group.selector) gate.variable gate.left gate.right
+        gate.parts h.given;
     missing = λ i c above inside. h.missing i c above (leaves.missing gate is i c inside);
     unknown = h.unknown;
   };
@@ -279,15 +351,19 @@ known_stay gates old new leaves before = record {
 abbrev pair : ℕ → ℕ → ℕ × ℕ
 pair x y = (x, y)
 
-pub pair_is : (x y : ℕ) (a b : Literal) → x ≡ literal_code a → y ≡ literal_code b → pair x y ≡ pair (literal_code a) (literal_code b)
+pub pair_is : (x y : ℕ) (a b : Literal) → x ≡ literal_code a → y ≡ literal_code b →
+    pair x y ≡ pair (literal_code a) (literal_code b)
 pair_is x y a b h k = ap (λ z. pair z y) h ∙ ap (λ z. pair (literal_code a) z) k
 
 -- named variables are in range
-pub name_in_range : (es : List Entry) (v : ℕ) (n : Name) → AreLogged es → name_of es v ≡ Some n → (1 ≤ v) × (v < 4611686018427387904)
+pub name_in_range : (es : List Entry) (v : ℕ) (n : Name) → AreLogged es → name_of es v ≡ Some n →
+    (1 ≤ v) × (v < 4611686018427387904)
 name_in_range [] v n logged is = cc
 name_in_range (Named w m ∷ es) v n logged is = by (v == w) refl (name_in_range es v n logged.1) is where
-  by : (b : Bool) → (v == w) ≡ b → (name_of es v ≡ Some n → (1 ≤ v) × (v < 4611686018427387904)) → cond b (Some m) (name_of es v) ≡ Some n → (1 ≤ v) × (v < 4611686018427387904)
-  by true e later is = subst (λ x. (1 ≤ x) × (x < 4611686018427387904)) (sym (eqb-true v w e)) (logged.0.from_one, logged.0.in_range)
+  by : (b : Bool) → (v == w) ≡ b → (name_of es v ≡ Some n → (1 ≤ v) × (v < 4611686018427387904)) →
+      cond b (Some m) (name_of es v) ≡ Some n → (1 ≤ v) × (v < 4611686018427387904)
+  by true e later is = subst (λ x. (1 ≤ x) × (x < 4611686018427387904)) (sym (eqb-true v w e))
+      (logged.0.from_one, logged.0.in_range)
   by false e later is = later is
 name_in_range (Given o c ∷ es) v n logged is = name_in_range es v n logged.1 is
 name_in_range (Learned c h ∷ es) v n logged is = name_in_range es v n logged.1 is

@@ -31,21 +31,25 @@ use Rattle.circuit_cnf.proofs.SideLeaves.{input_at}
 use Rattle.circuit_cnf.proofs.OutputValues.{mapped_long}
 
 -- a name is one variable's
-pub name_once : (es : List Entry) (v w : ℕ) (n : Name) → AreLogged es → name_of es v ≡ Some n → name_of es w ≡ Some n → v ≡ w
+pub name_once : (es : List Entry) (v w : ℕ) (n : Name) → AreLogged es → name_of es v ≡ Some n →
+    name_of es w ≡ Some n → v ≡ w
 name_once [] v w n logged at at' = cc
-name_once (Named u m ∷ es) v w n logged at at' = by (v == u) (w == u) refl refl (name_once es v w n logged.1) at at' where
-  by : (a b : Bool) → (v == u) ≡ a → (w == u) ≡ b → (name_of es v ≡ Some n → name_of es w ≡ Some n → v ≡ w) → cond a (Some m) (name_of es v) ≡ Some n → cond b (Some m) (name_of es w) ≡ Some n → v ≡ w
-  by true true e d later h k = eqb-true v u e ∙ sym (eqb-true w u d)
-  by true false e d later h k = let same : m ≡ n = cc in absurd (logged.0.fresh w (k ∙ ap Some (sym same)))
-  by false true e d later h k = let same : m ≡ n = cc in absurd (logged.0.fresh v (h ∙ ap Some (sym same)))
-  by false false e d later h k = later h k
+name_once (Named u m ∷ es) v w n logged at at' = by (v == u) (w == u) refl refl
+    (name_once es v w n logged.1) at at' where
+      by : (a b : Bool) → (v == u) ≡ a → (w == u) ≡ b → (name_of es v ≡ Some n → name_of es w ≡ Some n → v ≡ w) →
+          cond a (Some m) (name_of es v) ≡ Some n → cond b (Some m) (name_of es w) ≡ Some n → v ≡ w
+      by true true e d later h k = eqb-true v u e ∙ sym (eqb-true w u d)
+      by true false e d later h k = let same : m ≡ n = cc in absurd (logged.0.fresh w (k ∙ ap Some (sym same)))
+      by false true e d later h k = let same : m ≡ n = cc in absurd (logged.0.fresh v (h ∙ ap Some (sym same)))
+      by false false e d later h k = later h k
 name_once (Given o c ∷ es) v w n logged at at' = name_once es v w n logged.1 at at'
 name_once (Learned c h ∷ es) v w n logged at at' = name_once es v w n logged.1 at at'
 name_once (Answer c h ∷ es) v w n logged at at' = name_once es v w n logged.1 at at'
 name_once (Round r b j ∷ es) v w n logged at at' = name_once es v w n logged.1 at at'
 name_once (Begun live ∷ es) v w n logged at at' = name_once es v w n logged.1 at at'
 
-signed : (values : Assignment) (negated : Bool) (v : ℕ) (b : Bool) → b ≡ values v → with_sign negated b ≡ leaf_value values (leaf_with_sign negated (LeafLiteral (positive v)))
+signed : (values : Assignment) (negated : Bool) (v : ℕ) (b : Bool) → b ≡ values v →
+    with_sign negated b ≡ leaf_value values (leaf_with_sign negated (LeafLiteral (positive v)))
 signed values false v b h = h
 signed values true v b h = ap not h
 
@@ -56,25 +60,31 @@ get_at (y ∷ ys) (suc k) x d h = let r = get_at ys k x d h in let below = r.0 i
 
 clause_same : (m n : Assignment) (c : List Literal) → ((v : ℕ) → m v ≡ n v) → clause_true m c ≡ clause_true n c
 clause_same m n [] h = refl
-clause_same m n (l ∷ c) h = ap (λ b. b || clause_true m c) (literal l) ∙ ap (λ b. literal_true n l || b) (clause_same m n c h) where
-  literal : (k : Literal) → literal_true m k ≡ literal_true n k
-  literal (positive v) = h v
-  literal (negative v) = ap not (h v)
+clause_same m n (l ∷ c) h = ap (λ b. b || clause_true m c) (literal l) ∙ ap (λ b. literal_true n l || b)
+    (clause_same m n c h) where
+      literal : (k : Literal) → literal_true m k ≡ literal_true n k
+      literal (positive v) = h v
+      literal (negative v) = ap not (h v)
 
-module _ (f : Dqbf) (graph : AigGraph) (es : List Entry) (inputs : List Literal) (values : Assignment) (logged : AreLogged es) (are : AreInputs f.universals inputs es) (count : length inputs ≡ length f.universals)
-    (gates : (v : ℕ) (a b : Literal) → name_of es v ≡ Some (And a b) → values v ≡ (literal_true values a && literal_true values b)) where
+module _ (f : Dqbf) (graph : AigGraph) (es : List Entry) (inputs : List Literal) (values : Assignment)
+    (logged : AreLogged es) (are : AreInputs f.universals inputs es) (count : length inputs ≡ length f.universals)
+    (gates : (v : ℕ) (a b : Literal) → name_of es v ≡ Some (And a b) →
+    values v ≡ (literal_true values a && literal_true values b)) where
   abbrev row : List Bool
   row = map (λ l. values (variable_of l)) inputs
 
   -- an input has its bit of the row
-  input_bit : (i : ℕ) → i < length f.universals → (x v : ℕ) → get_or f.universals i 0 ≡ x → name_of es v ≡ Some (InputName x) → bit_of row i ≡ values v
+  input_bit : (i : ℕ) → i < length f.universals → (x v : ℕ) → get_or f.universals i 0 ≡ x →
+      name_of es v ≡ Some (InputName x) → bit_of row i ≡ values v
   input_bit i below x v is named =
       let at = input_at es f.universals inputs i are below in
       let same : at.0 ≡ v = name_once es at.0 v (InputName x) logged (at.2 ∙ ap (λ u. Some (InputName u)) is) named in
-      get_or-map (λ l. values (variable_of l)) inputs i (positive 0) false (let inside : i < length inputs = omega (arith, below, count) in inside)
+      get_or-map (λ l. values (variable_of l)) inputs i (positive 0) false
+      (let inside : i < length inputs = omega (arith, below, count) in inside)
       ∙ ap (λ l. values (variable_of l)) at.1 ∙ ap values same
 
-  pub node_is_leaf : (node : Node) (leaf : Leaf) → HasLeaf f graph es node leaf → node_value graph (bit_of row) node ≡ leaf_value values leaf
+  pub node_is_leaf : (node : Node) (leaf : Leaf) → HasLeaf f graph es node leaf →
+      node_value graph (bit_of row) node ≡ leaf_value values leaf
   node_is_leaf node leaf (constant b) = refl
   node_is_leaf node leaf (input i x v negated place named) =
       let at = get_at f.universals i x 0 place in
@@ -86,7 +96,8 @@ module _ (f : Dqbf) (graph : AigGraph) (es : List Entry) (inputs : List Literal)
       ∙ ap (λ x. literal_true values a && x) (node_is_leaf sides.right (LeafLiteral b) on_right)
       ∙ sym (gates v a b named))
 
-  module _ (nodes : List Node) (leaves : List Leaf) (have : AreLeavesOf f graph es nodes leaves) (node_count : length nodes ≡ length f.existentials) where
+  module _ (nodes : List Node) (leaves : List Leaf) (have : AreLeavesOf f graph es nodes leaves)
+      (node_count : length nodes ≡ length f.existentials) where
     abbrev outputs : List Bool
     outputs = map (node_value graph (bit_of row)) nodes
 
@@ -94,27 +105,39 @@ module _ (f : Dqbf) (graph : AigGraph) (es : List Entry) (inputs : List Literal)
     variables_long [] = refl
     variables_long (y ∷ ys) = let e = variables_long ys in omega (arith, e)
 
-    output_bit : (k : ℕ) → k < length nodes → bit_of outputs k ≡ leaf_value values (get_or leaves k (LeafConstant false))
+    output_bit : (k : ℕ) → k < length nodes → bit_of outputs k ≡ leaf_value values
+        (get_or leaves k (LeafConstant false))
     output_bit k below =
         let at = slice_get_at nodes k (Constant false) below in
         let leaf_at = slice_get_at leaves k (LeafConstant false) (let c = have.count in omega (arith, below, c)) in
         get_or-map (node_value graph (bit_of row)) nodes k (Constant false) false below
-        ∙ node_is_leaf (get_or nodes k (Constant false)) (get_or leaves k (LeafConstant false)) (have.each k (get_or nodes k (Constant false)) (get_or leaves k (LeafConstant false)) at leaf_at)
+        ∙ node_is_leaf (get_or nodes k (Constant false)) (get_or leaves k (LeafConstant false))
+        (have.each k (get_or nodes k (Constant false)) (get_or leaves k (LeafConstant false)) at leaf_at)
 
     literal_bit : (i : ℕ) → i < length f.universals → bit_of row i ≡ literal_true values (get_or inputs i (positive 0))
     literal_bit i below =
         let at = input_at es f.universals inputs i are below in
-        get_or-map (λ l. values (variable_of l)) inputs i (positive 0) false (let inside : i < length inputs = omega (arith, below, count) in inside)
+        get_or-map (λ l. values (variable_of l)) inputs i (positive 0) false
+        (let inside : i < length inputs = omega (arith, below, count) in inside)
         ∙ ap (λ l. values (variable_of l)) at.1 ∙ sym (ap (literal_true values) at.1)
 
     same_values : (v : ℕ) → round_assignment f row outputs v ≡ leaf_value values (leaf_of f inputs leaves v)
     same_values v =
         let ys = map (λ y. y.variable) f.existentials in
-        round_is f row outputs v (mapped_long (λ l. values (variable_of l)) inputs ∙ count) (mapped_long (node_value graph (bit_of row)) nodes ∙ node_count)
-        ∙ same_at_places (λ u. u == v) (λ y. y == v) f.universals ys (bit_of row) (λ p. literal_true values (get_or inputs p (positive 0))) (bit_of outputs) (λ p. leaf_value values (get_or leaves p (LeafConstant false)))
-        literal_bit (λ k below. output_bit k (let e = variables_long f.existentials in omega (arith, below, e, node_count)))
+        round_is f row outputs v (mapped_long (λ l. values (variable_of l)) inputs ∙ count)
+        (mapped_long (node_value graph (bit_of row)) nodes ∙ node_count)
+        ∙ same_at_places (λ u. u == v) (λ y. y == v) f.universals ys (bit_of row)
+        (λ p. literal_true values (get_or inputs p (positive 0))) (bit_of outputs)
+        (λ p. leaf_value values (get_or leaves p (LeafConstant false)))
+        literal_bit (λ k below. output_bit k (let e = variables_long f.existentials in
+        omega (arith, below, e, node_count)))
         ∙ sym (leaf_is values inputs leaves (position (λ u. u == v) f.universals) (position (λ y. y == v) ys))
 
     pub falsified : AreFailing f (leaf_of f inputs leaves) es values → HasFalseClause f row outputs
-    falsified failing =
-        (failing.j, failing.among, clause_same (round_assignment f row outputs) (λ v. leaf_value values (leaf_of f inputs leaves v)) (get_or f.matrix failing.j []) same_values ∙ failing.is_false)
+    falsified failing = (
+      failing.j,
+      failing.among,
+      clause_same (round_assignment f row outputs)
+          (λ v. leaf_value values (leaf_of f inputs leaves v)) (get_or f.matrix failing.j []) same_values
+          ∙ failing.is_false,
+    )

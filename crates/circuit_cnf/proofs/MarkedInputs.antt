@@ -21,13 +21,16 @@ some_is : {X : Type 0} {x y : X} → Some x ≡ Some y → x ≡ y
 some_is e = cc
 
 -- nodes on one place read the same
-same_support : (graph : AigGraph) (a b : Node) (p : ℕ) → IsNode graph a → IsNode graph b → place_of graph.inputs a ≡ Some p → place_of graph.inputs b ≡ Some p → node_support graph a ≡ node_support graph b
+same_support : (graph : AigGraph) (a b : Node) (p : ℕ) → IsNode graph a → IsNode graph b →
+    place_of graph.inputs a ≡ Some p → place_of graph.inputs b ≡ Some p → node_support graph a ≡ node_support graph b
 same_support graph (Constant x) b p is_a is_b at_a at_b = cc
 same_support graph (Input i s) (Constant x) p is_a is_b at_a at_b = cc
 same_support graph (Gate g s) (Constant x) p is_a is_b at_a at_b = cc
 same_support graph (Input i s) (Input j t) p is_a is_b at_a at_b = ap (λ k. k ∷ []) (some_is at_a ∙ sym (some_is at_b))
-same_support graph (Input i s) (Gate h t) p is_a is_b at_a at_b = let d = some_is at_a in let e = some_is at_b in absurd (omega (arith, d, e, is_a))
-same_support graph (Gate g s) (Input j t) p is_a is_b at_a at_b = let d = some_is at_a in let e = some_is at_b in absurd (omega (arith, d, e, is_b))
+same_support graph (Input i s) (Gate h t) p is_a is_b at_a at_b = let d = some_is at_a in let e = some_is at_b in
+    absurd (omega (arith, d, e, is_a))
+same_support graph (Gate g s) (Input j t) p is_a is_b at_a at_b = let d = some_is at_a in let e = some_is at_b in
+    absurd (omega (arith, d, e, is_b))
 same_support graph (Gate g s) (Gate h t) p is_a is_b at_a at_b =
     let d = some_is at_a in
     let e = some_is at_b in
@@ -36,43 +39,55 @@ same_support graph (Gate g s) (Gate h t) p is_a is_b at_a at_b =
 
 module _ (graph : AigGraph) (lawful : IsGraph graph) (nodes : List Node) (are : All (IsNode graph) nodes) where
   -- what is read from a place in the cones, one of the nodes reads
-  pub read_from : (p : ℕ) → IsInCone graph nodes p → (x : Node) → IsNode graph x → place_of graph.inputs x ≡ Some p → (i : ℕ) → Contains (node_support graph x) i → IsReadBy graph nodes i
+  pub read_from : (p : ℕ) → IsInCone graph nodes p → (x : Node) → IsNode graph x → place_of graph.inputs x ≡ Some p →
+      (i : ℕ) → Contains (node_support graph x) i → IsReadBy graph nodes i
   read_from _ (root n p among is) x is_x at i has = record {
     node = n;
     among = among;
-    reads = subst (λ xs. Contains xs i) (same_support graph x n p is_x (All-contains (IsNode graph) nodes n are among) at is) has;
+    reads = subst (λ xs. Contains xs i) (same_support graph x n p is_x
+        (All-contains (IsNode graph) nodes n are among) at is) has;
   }
   read_from _ (left g p sides cone there is) x is_x at i has =
       let inside = number_of graph.gates g sides there in
       let of_gate = sides_are graph.inputs graph.gates g sides lawful.gates there in
       let is_side = more_earlier graph.inputs g (length graph.gates) (omega (arith, inside)) sides.left of_gate.left in
       let read = subst (λ xs. Contains xs i) (same_support graph x sides.left p is_x is_side at is) has in
-      let by_gate = subst (λ xs. Contains xs i) (sym (gate_support_at graph.inputs graph.gates g sides lawful.gates there))
+      let by_gate = subst (λ xs. Contains xs i) (sym (gate_support_at graph.inputs graph.gates g sides
+      lawful.gates there))
       (Contains-append_left (node_support graph sides.left) (node_support graph sides.right) i read) in
       read_from (graph.inputs + g) cone (Gate g false) inside refl i by_gate
   read_from _ (right g p sides cone there is) x is_x at i has =
       let inside = number_of graph.gates g sides there in
       let of_gate = sides_are graph.inputs graph.gates g sides lawful.gates there in
-      let is_side = more_earlier graph.inputs g (length graph.gates) (omega (arith, inside)) sides.right of_gate.right in
+      let is_side = more_earlier graph.inputs g (length graph.gates)
+      (omega (arith, inside)) sides.right of_gate.right in
       let read = subst (λ xs. Contains xs i) (same_support graph x sides.right p is_x is_side at is) has in
-      let by_gate = subst (λ xs. Contains xs i) (sym (gate_support_at graph.inputs graph.gates g sides lawful.gates there))
+      let by_gate = subst (λ xs. Contains xs i) (sym (gate_support_at graph.inputs graph.gates g sides
+      lawful.gates there))
       (Contains-append_right (node_support graph sides.left) (node_support graph sides.right) i read) in
       read_from (graph.inputs + g) cone (Gate g false) inside refl i by_gate
 
-pub marked_universals : (f : Dqbf) (graph : AigGraph) (nodes : List Node) (marks : List Bool) → IsGraph graph → All (IsNode graph) nodes → All (ReadsUniversals f graph) nodes → ((p : ℕ) → ((bit_of marks p ≡ true) ↔ IsInCone graph nodes p)) →
+pub marked_universals : (f : Dqbf) (graph : AigGraph) (nodes : List Node) (marks : List Bool) → IsGraph graph →
+    All (IsNode graph) nodes → All (ReadsUniversals f graph) nodes →
+    ((p : ℕ) → ((bit_of marks p ≡ true) ↔ IsInCone graph nodes p)) →
     AreMarkedUniversals f graph marks
 marked_universals f graph nodes marks lawful are read exact i below marked =
-    let r = read_from graph lawful nodes are i ((exact i).0 marked) (Input i false) below refl i (0, omega arith, refl) in
-    All-contains (λ k. k < length f.universals) (node_support graph r.node) i (All-contains (ReadsUniversals f graph) nodes r.node read r.among) r.reads
+    let r = read_from graph lawful nodes are i ((exact i).0 marked) (Input i false) below refl i
+    (0, omega arith, refl) in
+    All-contains (λ k. k < length f.universals) (node_support graph r.node) i
+    (All-contains (ReadsUniversals f graph) nodes r.node read r.among) r.reads
 
 -- a node whose place is marked is over universals
-pub over_universals : (f : Dqbf) (graph : AigGraph) (marks : List Bool) (count : ℕ) → AreMarkedUniversals f graph marks → (n : Node) → IsEarlierNode graph.inputs count n → ((p : ℕ) → place_of graph.inputs n ≡ Some p → bit_of marks p ≡ true) →
+pub over_universals : (f : Dqbf) (graph : AigGraph) (marks : List Bool) (count : ℕ) →
+    AreMarkedUniversals f graph marks → (n : Node) → IsEarlierNode graph.inputs count n →
+    ((p : ℕ) → place_of graph.inputs n ≡ Some p → bit_of marks p ≡ true) →
     IsEarlierNode (length f.universals) count n
 over_universals f graph marks count low (Constant b) earlier marked = earlier
 over_universals f graph marks count low (Input i negated) earlier marked = low i earlier (marked i refl)
 over_universals f graph marks count low (Gate g negated) earlier marked = earlier
 
-pub all_over_universals : (f : Dqbf) (graph : AigGraph) (nodes : List Node) (marks : List Bool) (count : ℕ) → AreMarkedUniversals f graph marks → ((p : ℕ) → ((bit_of marks p ≡ true) ↔ IsInCone graph nodes p)) →
+pub all_over_universals : (f : Dqbf) (graph : AigGraph) (nodes : List Node) (marks : List Bool) (count : ℕ) →
+    AreMarkedUniversals f graph marks → ((p : ℕ) → ((bit_of marks p ≡ true) ↔ IsInCone graph nodes p)) →
     All (IsEarlierNode graph.inputs count) nodes → All (IsEarlierNode (length f.universals) count) nodes
 all_over_universals f graph nodes marks count low exact earlier k d below =
     let n = get_or nodes k d in
@@ -80,12 +95,19 @@ all_over_universals f graph nodes marks count low exact earlier k d below =
     over_universals f graph marks count low n (earlier k d below) (λ p at. (exact p).1 (root n p inside at))
 
 -- and so are the sides of a marked gate
-pub sides_over_universals : (f : Dqbf) (graph : AigGraph) (marks : List Bool) (g : ℕ) → AreMarkedUniversals f graph marks → AreClosed graph marks → bit_of marks (graph.inputs + g) ≡ true → (m n : Node) (negated : Bool) →
-    IsGateLook graph g false (LookGate m n negated) → IsEarlierNode (length f.universals) g m × IsEarlierNode (length f.universals) g n
+pub sides_over_universals : (f : Dqbf) (graph : AigGraph) (marks : List Bool) (g : ℕ) →
+    AreMarkedUniversals f graph marks → AreClosed graph marks → bit_of marks (graph.inputs + g) ≡ true →
+    (m n : Node) (negated : Bool) →
+    IsGateLook graph g false (LookGate m n negated) → IsEarlierNode (length f.universals) g m × IsEarlierNode
+    (length f.universals) g n
 sides_over_universals f graph marks g low closed marked m n negated look =
     let is = look.look_is in
     let left_is : m ≡ look.sides.left = cc in
     let right_is : n ≡ look.sides.right = cc in (
-      subst (IsEarlierNode (length f.universals) g) (sym left_is) (over_universals f graph marks g low look.sides.left look.are_sides.left (λ p at. closed g p look.sides marked look.at (inl at))),
-      subst (IsEarlierNode (length f.universals) g) (sym right_is) (over_universals f graph marks g low look.sides.right look.are_sides.right (λ p at. closed g p look.sides marked look.at (inr at))),
+      subst (IsEarlierNode (length f.universals) g) (sym left_is)
+          (over_universals f graph marks g low look.sides.left look.are_sides.left
+          (λ p at. closed g p look.sides marked look.at (inl at))),
+      subst (IsEarlierNode (length f.universals) g) (sym right_is)
+          (over_universals f graph marks g low look.sides.right look.are_sides.right
+          (λ p at. closed g p look.sides marked look.at (inr at))),
     )

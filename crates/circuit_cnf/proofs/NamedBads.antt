@@ -30,7 +30,8 @@ pub record BadsSoFar (group : ℕ) (old log : ProofLog) (bads : List Literal) (i
   pub named : AreNamedAs log.entries bads (map (bad_name group) (range_with_len 1 i))
   pub names : (v j : ℕ) → name_of log.entries v ≡ Some (Bad group j) → j ≤ i
 
-pub no_bads : (group : ℕ) (old : ProofLog) → ((v j : ℕ) → name_of old.entries v ≡ Some (Bad group j) → ⊥) → BadsSoFar group old old [] 0
+pub no_bads : (group : ℕ) (old : ProofLog) → ((v j : ℕ) → name_of old.entries v ≡ Some (Bad group j) → ⊥) →
+    BadsSoFar group old old [] 0
 no_bads group old fresh = record {
   grew = λ h standing start. grown_by_none (IsAddedBy h circuits standing true start) old old refl;
   faults = refl;
@@ -45,35 +46,47 @@ range_more from (suc count) =
     let e : from + 1 + count ≡ from + suc count = omega arith in
     ap (λ xs. from ∷ xs) (range_more (from + 1) count) ∙ ap (λ x. from ∷ range_with_len (from + 1) count ++ x ∷ []) e
 
-pub bad_more : (group : ℕ) (old log new : ProofLog) (bads : List Literal) (i v : ℕ) → BadsSoFar group old log bads i → name_of log.entries v ≡ None → new ≡ with_entry log (Named v (Bad group (i + 1))) →
+pub bad_more : (group : ℕ) (old log new : ProofLog) (bads : List Literal) (i v : ℕ) → BadsSoFar group old log bads i →
+    name_of log.entries v ≡ None → new ≡ with_entry log (Named v (Bad group (i + 1))) →
     BadsSoFar group old new (bads ++ positive v ∷ []) (i + 1)
-bad_more group old log new bads i v before unnamed is = subst (λ l. BadsSoFar group old l (bads ++ positive v ∷ []) (i + 1)) (sym is) (record {
-  grew = λ h standing start. grown_then (IsAddedBy h circuits standing true start) old log (with_entry log (Named v (Bad group (i + 1)))) (before.grew h standing start)
-      (grown_by (IsAddedBy h circuits standing true start) log (with_entry log (Named v (Bad group (i + 1)))) (Named v (Bad group (i + 1))) refl (record { unnamed = unnamed; own = inr refl; rightly = tt }));
-  faults = before.faults;
-  alone = record {
-    names = λ w name is. elim (name_cases log.entries v w (Bad group (i + 1)) name is) [
-      | inl here ↦ inr (i + 1, sym here.1)
-      | inr earlier ↦ before.alone.names w name earlier
-    ];
-    givens = λ origin c inside. elim (contains_cases (Named v (Bad group (i + 1))) (Given origin c) log.entries inside) [ inl is ↦ cc | inr earlier ↦ before.alone.givens origin c earlier ];
-  };
-  named = whole;
-  names = λ w j named. elim (name_cases log.entries v w (Bad group (i + 1)) (Bad group j) named) [
-    | inl same ↦ (let clash = same.1 in let number : i + 1 ≡ j = cc in omega (arith, number))
-    | inr earlier ↦ (let most = before.names w j earlier in omega (arith, most))
-  ];
-}) where
-  whole : AreNamedAs (Named v (Bad group (i + 1)) ∷ log.entries) (bads ++ positive v ∷ []) (map (bad_name group) (range_with_len 1 (i + 1)))
-  whole =
-      let new_es = Named v (Bad group (i + 1)) ∷ log.entries in
-      let kept = named_stay log.entries new_es (name_stays_by log.entries v (Bad group (i + 1)) unnamed) bads (map (bad_name group) (range_with_len 1 i)) before.named in
-      let here : name_literal new_es (positive v) ≡ Some (bad_name group (i + 1)) = ap (option_map (λ k. named_literal k false)) (cond-true (v == v) (Some (Bad group (i + 1))) (name_of log.entries v) (eq-eqb v v refl)) in
-      let one : i + 1 ≡ suc i = omega arith in
-      let last : 1 + i ≡ i + 1 = omega arith in
-      let range : range_with_len 1 (i + 1) ≡ range_with_len 1 i ++ (i + 1) ∷ [] = ap (range_with_len 1) one ∙ range_more 1 i ∙ ap (λ x. range_with_len 1 i ++ x ∷ []) last in
-      map-append (name_literal new_es) bads (positive v ∷ [])
-      ∙ ap (λ xs. xs ++ name_literal new_es (positive v) ∷ []) kept ∙ ap (λ o. map Some (map (bad_name group) (range_with_len 1 i)) ++ o ∷ []) here
-      ∙ sym (map-append Some (map (bad_name group) (range_with_len 1 i)) (bad_name group (i + 1) ∷ []))
-      ∙ ap (map Some) (sym (map-append (bad_name group) (range_with_len 1 i) ((i + 1) ∷ [])))
-      ∙ ap (λ js. map Some (map (bad_name group) js)) (sym range)
+bad_more group old log new bads i v before unnamed is = subst
+    (λ l. BadsSoFar group old l (bads ++ positive v ∷ []) (i + 1)) (sym is) (record {
+      grew = λ h standing start. grown_then (IsAddedBy h circuits standing true start) old log
+          (with_entry log (Named v (Bad group (i + 1)))) (before.grew h standing start)
+          (grown_by (IsAddedBy h circuits standing true start) log (with_entry log (Named v (Bad group (i + 1))))
+          (Named v (Bad group (i + 1))) refl (record { unnamed = unnamed; own = inr refl; rightly = tt }));
+      faults = before.faults;
+      alone = record {
+        names = λ w name is. elim (name_cases log.entries v w (Bad group (i + 1)) name is) [
+          | inl here ↦ inr (i + 1, sym here.1)
+          | inr earlier ↦ before.alone.names w name earlier
+        ];
+        givens = λ origin c inside. elim (contains_cases (Named v (Bad group (i + 1)))
+            (Given origin c) log.entries inside)
+            [ inl is ↦ cc | inr earlier ↦ before.alone.givens origin c earlier ];
+      };
+      named = whole;
+      names = λ w j named. elim (name_cases log.entries v w (Bad group (i + 1)) (Bad group j) named) [
+        | inl same ↦ (let clash = same.1 in let number : i + 1 ≡ j = cc in omega (arith, number))
+        | inr earlier ↦ (let most = before.names w j earlier in omega (arith, most))
+      ];
+    }) where
+      whole : AreNamedAs (Named v (Bad group (i + 1)) ∷ log.entries) (bads ++ positive v ∷ [])
+          (map (bad_name group) (range_with_len 1 (i + 1)))
+      whole =
+          let new_es = Named v (Bad group (i + 1)) ∷ log.entries in
+          let kept = named_stay log.entries new_es (name_stays_by log.entries v (Bad group (i + 1)) unnamed) bads
+          (map (bad_name group) (range_with_len 1 i)) before.named in
+          let here : name_literal new_es (positive v) ≡ Some (bad_name group (i + 1)) =
+          ap (option_map (λ k. named_literal k false)) (cond-true (v == v) (Some (Bad group (i + 1)))
+          (name_of log.entries v) (eq-eqb v v refl)) in
+          let one : i + 1 ≡ suc i = omega arith in
+          let last : 1 + i ≡ i + 1 = omega arith in
+          let range : range_with_len 1 (i + 1) ≡ range_with_len 1 i ++ (i + 1) ∷ [] =
+          ap (range_with_len 1) one ∙ range_more 1 i ∙ ap (λ x. range_with_len 1 i ++ x ∷ []) last in
+          map-append (name_literal new_es) bads (positive v ∷ [])
+          ∙ ap (λ xs. xs ++ name_literal new_es (positive v) ∷ []) kept ∙ ap
+          (λ o. map Some (map (bad_name group) (range_with_len 1 i)) ++ o ∷ []) here
+          ∙ sym (map-append Some (map (bad_name group) (range_with_len 1 i)) (bad_name group (i + 1) ∷ []))
+          ∙ ap (map Some) (sym (map-append (bad_name group) (range_with_len 1 i) ((i + 1) ∷ [])))
+          ∙ ap (λ js. map Some (map (bad_name group) js)) (sym range)

@@ -40,7 +40,8 @@ pub record InputsSoFar (f : Dqbf) (old log : ProofLog) (inputs : List Literal) (
   pub unnamed : (v : ℕ) → name_of log.entries v ≡ None → name_of old.entries v ≡ None
 
 -- what has no name had none before a further name
-pub unnamed_before : (entries : List Entry) (v w : ℕ) (name : Name) → name_of (Named v name ∷ entries) w ≡ None → name_of entries w ≡ None
+pub unnamed_before : (entries : List Entry) (v w : ℕ) (name : Name) → name_of (Named v name ∷ entries) w ≡ None →
+    name_of entries w ≡ None
 unnamed_before entries v w name is = by_bit (w == v) is where
   by_bit : (b : Bool) → cond b (Some name) (name_of entries w) ≡ None → name_of entries w ≡ None
   by_bit true e = cc
@@ -61,7 +62,9 @@ no_inputs f old none = record {
 }
 
 -- the next universal has none yet
-pub next_is_fresh : (f : Dqbf) (old log : ProofLog) (inputs : List Literal) (i : ℕ) → HasLawfulPrefix f → InputsSoFar f old log inputs i → i < length f.universals → (v : ℕ) → name_of log.entries v ≡ Some (Input (get_or f.universals i 0)) → ⊥
+pub next_is_fresh : (f : Dqbf) (old log : ProofLog) (inputs : List Literal) (i : ℕ) → HasLawfulPrefix f →
+    InputsSoFar f old log inputs i → i < length f.universals → (v : ℕ) →
+    name_of log.entries v ≡ Some (Input (get_or f.universals i 0)) → ⊥
 next_is_fresh f old log inputs i lawful before below v is =
     let us = f.universals in
     let es = map (λ y. y.variable) f.existentials in
@@ -71,51 +74,70 @@ next_is_fresh f old log inputs i lawful before below v is =
     let long = length-take i us in
     let first : k < i = omega (arith, small, long) in
     let inside : k < length us = omega (arith, first, below) in
-    let same : get_or us k 0 ≡ get_or us i 0 = get_or_default us k 0 (get_or us i 0) inside ∙ sym (get_or-take i us k (get_or us i 0) first) ∙ among.2 in
+    let same : get_or us k 0 ≡ get_or us i 0 = get_or_default us k 0 (get_or us i 0) inside ∙ sym
+    (get_or-take i us k (get_or us i 0) first) ∙ among.2 in
     let whole = length-append us es in
-    lawful.declared_once k i 0 first (omega (arith, below, whole)) (get_or_append_left us es 0 k inside ∙ same ∙ sym (get_or_append_left us es 0 i below))
+    lawful.declared_once k i 0 first (omega (arith, below, whole))
+    (get_or_append_left us es 0 k inside ∙ same ∙ sym (get_or_append_left us es 0 i below))
 
-pub input_more : (f : Dqbf) (old log new : ProofLog) (inputs : List Literal) (i v : ℕ) → InputsSoFar f old log inputs i → i < length f.universals → name_of log.entries v ≡ None → new ≡ with_entry log (Named v (Input (get_or f.universals i 0))) →
+pub input_more : (f : Dqbf) (old log new : ProofLog) (inputs : List Literal) (i v : ℕ) →
+    InputsSoFar f old log inputs i → i < length f.universals → name_of log.entries v ≡ None →
+    new ≡ with_entry log (Named v (Input (get_or f.universals i 0))) →
     InputsSoFar f old new (inputs ++ positive v ∷ []) (i + 1)
-input_more f old log new inputs i v before below unnamed is = subst (λ l. InputsSoFar f old l (inputs ++ positive v ∷ []) (i + 1)) (sym is) (record {
-  grew = λ group. grown_then (IsAddedBy f circuits group true old.entries) old log more (before.grew group)
-      (grown_by (IsAddedBy f circuits group true old.entries) log more (Named v (Input x)) refl (record { unnamed = unnamed; own = inr refl; rightly = Contains-get_or us i 0 below }));
-  inputs_are = subst (λ xs. AreInputs xs (inputs ++ positive v ∷ []) more.entries) (sym taken) whole;
-  names = λ w y named. subst (λ xs. Contains xs y) (sym taken) (by_name w y (name_cases log.entries v w (Input x) (Input y) named));
-  none = record {
-    unnamed = λ w a b named. elim (name_cases log.entries v w (Input x) (And a b) named) [ inl same ↦ (let clash = same.1 in cc) | inr old' ↦ before.none.unnamed w a b old' ];
-    no_bads = λ w group j named. elim (name_cases log.entries v w (Input x) (Bad group j) named) [ inl same ↦ (let clash = same.1 in cc) | inr old' ↦ before.none.no_bads w group j old' ];
-    not_given = λ w k c inside. elim (contains_cases (Named v (Input x)) (Given (Gate w k) c) log.entries inside) [ inl same ↦ cc | inr old' ↦ before.none.not_given w k c old' ];
-  };
-  faults = before.faults;
-  unnamed = λ w none. before.unnamed w (unnamed_before log.entries v w (Input x) none);
-}) where
-  us : List ℕ
-  us = f.universals
+input_more f old log new inputs i v before below unnamed is =
+    subst (λ l. InputsSoFar f old l (inputs ++ positive v ∷ []) (i + 1)) (sym is) (record {
+      grew = λ group. grown_then (IsAddedBy f circuits group true old.entries) old log more (before.grew group)
+          (grown_by (IsAddedBy f circuits group true old.entries) log more (Named v (Input x)) refl
+          (record { unnamed = unnamed; own = inr refl; rightly = Contains-get_or us i 0 below }));
+      inputs_are = subst (λ xs. AreInputs xs (inputs ++ positive v ∷ []) more.entries) (sym taken) whole;
+      names = λ w y named. subst (λ xs. Contains xs y) (sym taken)
+          (by_name w y (name_cases log.entries v w (Input x) (Input y) named));
+      none = record {
+        unnamed = λ w a b named. elim (name_cases log.entries v w (Input x) (And a b) named)
+            [ inl same ↦ (let clash = same.1 in cc) | inr old' ↦ before.none.unnamed w a b old' ];
+        no_bads = λ w group j named. elim (name_cases log.entries v w (Input x) (Bad group j) named)
+            [ inl same ↦ (let clash = same.1 in cc) | inr old' ↦ before.none.no_bads w group j old' ];
+        not_given = λ w k c inside. elim (contains_cases (Named v (Input x)) (Given (Gate w k) c) log.entries inside)
+            [ inl same ↦ cc | inr old' ↦ before.none.not_given w k c old' ];
+      };
+      faults = before.faults;
+      unnamed = λ w none. before.unnamed w (unnamed_before log.entries v w (Input x) none);
+    }) where
+      us : List ℕ
+      us = f.universals
 
-  x : ℕ
-  x = get_or f.universals i 0
+      x : ℕ
+      x = get_or f.universals i 0
 
-  more : ProofLog
-  more = with_entry log (Named v (Input (get_or f.universals i 0)))
+      more : ProofLog
+      more = with_entry log (Named v (Input (get_or f.universals i 0)))
 
-  taken : take (i + 1) f.universals ≡ take i f.universals ++ get_or f.universals i 0 ∷ []
-  taken = take_more f.universals i 0 below
+      taken : take (i + 1) f.universals ≡ take i f.universals ++ get_or f.universals i 0 ∷ []
+      taken = take_more f.universals i 0 below
 
-  whole : AreInputs (take i f.universals ++ get_or f.universals i 0 ∷ []) (inputs ++ positive v ∷ []) (with_entry log (Named v (Input (get_or f.universals i 0)))).entries
-  whole =
-      let es = Named v (Input (get_or f.universals i 0)) ∷ log.entries in
-      let g : ℕ → NamedLiteral = λ y. named_literal (Input y) false in
-      let old' = named_stay log.entries es (name_stays_by log.entries v (Input (get_or f.universals i 0)) unnamed) inputs (map g (take i f.universals)) before.inputs_are in
-      let here : name_literal es (positive v) ≡ Some (g (get_or f.universals i 0)) =
-      ap (option_map (λ k. named_literal k false)) (cond-true (v == v) (Some (Input (get_or f.universals i 0))) (name_of log.entries v) (eq-eqb v v refl)) in
-      map-append (name_literal es) inputs (positive v ∷ [])
-      ∙ ap (λ xs. xs ++ name_literal es (positive v) ∷ []) old' ∙ ap (λ o. map Some (map g (take i f.universals)) ++ o ∷ []) here
-      ∙ sym (map-append Some (map g (take i f.universals)) (g (get_or f.universals i 0) ∷ [])) ∙ ap (map Some) (sym (map-append g (take i f.universals) (get_or f.universals i 0 ∷ [])))
+      whole : AreInputs (take i f.universals ++ get_or f.universals i 0 ∷ []) (inputs ++ positive v ∷ [])
+          (with_entry log (Named v (Input (get_or f.universals i 0)))).entries
+      whole =
+          let es = Named v (Input (get_or f.universals i 0)) ∷ log.entries in
+          let g : ℕ → NamedLiteral = λ y. named_literal (Input y) false in
+          let old' = named_stay log.entries es (name_stays_by log.entries v (Input (get_or f.universals i 0)) unnamed)
+          inputs (map g (take i f.universals)) before.inputs_are in
+          let here : name_literal es (positive v) ≡ Some (g (get_or f.universals i 0)) =
+          ap (option_map (λ k. named_literal k false)) (cond-true (v == v) (Some (Input (get_or f.universals i 0)))
+          (name_of log.entries v) (eq-eqb v v refl)) in
+          map-append (name_literal es) inputs (positive v ∷ [])
+          ∙ ap (λ xs. xs ++ name_literal es (positive v) ∷ []) old' ∙ ap
+          (λ o. map Some (map g (take i f.universals)) ++ o ∷ []) here
+          ∙ sym (map-append Some (map g (take i f.universals)) (g (get_or f.universals i 0) ∷ [])) ∙ ap (map Some)
+          (sym (map-append g (take i f.universals) (get_or f.universals i 0 ∷ [])))
 
-  by_name : (w y : ℕ) → ((w ≡ v) × (Input (get_or f.universals i 0) ≡ Input y)) ⊎ (name_of log.entries w ≡ Some (Input y)) → Contains (take i f.universals ++ get_or f.universals i 0 ∷ []) y
-  by_name w y (inl same) = let clash = same.1 in let is' : get_or f.universals i 0 ≡ y = cc in subst (Contains (take i f.universals ++ get_or f.universals i 0 ∷ [])) is' (Contains-push (take i f.universals) (get_or f.universals i 0))
-  by_name w y (inr old') = Contains-append_left (take i f.universals) (get_or f.universals i 0 ∷ []) y (before.names w y old')
+      by_name : (w y : ℕ) → ((w ≡ v) × (Input (get_or f.universals i 0) ≡ Input y)) ⊎
+          (name_of log.entries w ≡ Some (Input y)) → Contains (take i f.universals ++ get_or f.universals i 0 ∷ []) y
+      by_name w y (inl same) = let clash = same.1 in let is' : get_or f.universals i 0 ≡ y = cc in
+          subst (Contains (take i f.universals ++ get_or f.universals i 0 ∷ [])) is'
+          (Contains-push (take i f.universals) (get_or f.universals i 0))
+      by_name w y (inr old') = Contains-append_left (take i f.universals) (get_or f.universals i 0 ∷ []) y
+          (before.names w y old')
 
 take_past : {X : Type 0} (n : ℕ) (xs : List X) → length xs ≤ n → take n xs ≡ xs
 take_past n [] h = take-nil n where
@@ -125,49 +147,67 @@ take_past n [] h = take-nil n where
 take_past zero (x ∷ xs) h = absurd (omega (arith, h))
 take_past (suc n) (x ∷ xs) h = let most : length xs ≤ n = omega (arith, h) in ap (λ ys. x ∷ ys) (take_past n xs most)
 
-pub all_inputs : (f : Dqbf) (old log : ProofLog) (inputs : List Literal) (i : ℕ) → length f.universals ≤ i → InputsSoFar f old log inputs i → AreInputs f.universals inputs log.entries
-all_inputs f old log inputs i most so_far = subst (λ xs. AreInputs xs inputs log.entries) (take_past i f.universals most) so_far.inputs_are
+pub all_inputs : (f : Dqbf) (old log : ProofLog) (inputs : List Literal) (i : ℕ) → length f.universals ≤ i →
+    InputsSoFar f old log inputs i → AreInputs f.universals inputs log.entries
+all_inputs f old log inputs i most so_far = subst (λ xs. AreInputs xs inputs log.entries)
+    (take_past i f.universals most) so_far.inputs_are
 
 -- a checker without gates
-pub new_checker : (f : Dqbf) (log new : ProofLog) (checker : Checker) → HasNoGates log.entries → AreInputs f.universals checker.inputs.items log.entries → IsMade new.entries checker.gates.group →
-    name_of log.entries (variable_of checker.gates.group.selector) ≡ None → new ≡ with_entry log (Named (variable_of checker.gates.group.selector) (Selector (variable_of checker.gates.group.selector))) →
+pub new_checker : (f : Dqbf) (log new : ProofLog) (checker : Checker) → HasNoGates log.entries →
+    AreInputs f.universals checker.inputs.items log.entries → IsMade new.entries checker.gates.group →
+    name_of log.entries (variable_of checker.gates.group.selector) ≡ None →
+    new ≡ with_entry log (Named (variable_of checker.gates.group.selector)
+    (Selector (variable_of checker.gates.group.selector))) →
     checker.gates.variables.entries ≡ [] → checker.gates.unfinished ≡ None →
     Each IsGivenToGroup log.entries → IsChecker f checker new.entries
-new_checker f log new checker none inputs made unnamed is empty ready grouped = record { gates = gates; inputs = kept; bads = bads } where
-  entries_are : new.entries ≡ Named (variable_of checker.gates.group.selector) (Selector (variable_of checker.gates.group.selector)) ∷ log.entries
-  entries_are = ap (λ (l : ProofLog). l.entries) is
+new_checker f log new checker none inputs made unnamed is empty ready grouped =
+    record { gates = gates; inputs = kept; bads = bads } where
+      entries_are : new.entries ≡ Named (variable_of checker.gates.group.selector)
+          (Selector (variable_of checker.gates.group.selector)) ∷ log.entries
+      entries_are = ap (λ (l : ProofLog). l.entries) is
 
-  no_name : (v : ℕ) (a b : Literal) → name_of new.entries v ≡ Some (And a b) → ⊥
-  no_name v a b named =
-      elim (name_cases log.entries (variable_of checker.gates.group.selector) v (Selector (variable_of checker.gates.group.selector)) (And a b) (ap (λ es. name_of es v) (sym entries_are) ∙ named)) [
-        | inl same ↦ (let clash = same.1 in cc)
-        | inr old' ↦ none.unnamed v a b old'
-      ]
+      no_name : (v : ℕ) (a b : Literal) → name_of new.entries v ≡ Some (And a b) → ⊥
+      no_name v a b named =
+          elim (name_cases log.entries (variable_of checker.gates.group.selector) v
+          (Selector (variable_of checker.gates.group.selector)) (And a b)
+          (ap (λ es. name_of es v) (sym entries_are) ∙ named)) [
+            | inl same ↦ (let clash = same.1 in cc)
+            | inr old' ↦ none.unnamed v a b old'
+          ]
 
-  bads : (v group j : ℕ) → name_of new.entries v ≡ Some (Bad group j) → IsSome (name_of new.entries group)
-  bads v group j named =
-      elim (name_cases log.entries (variable_of checker.gates.group.selector) v (Selector (variable_of checker.gates.group.selector)) (Bad group j) (ap (λ es. name_of es v) (sym entries_are) ∙ named)) [
-        | inl same ↦ (let clash = same.1 in cc)
-        | inr old' ↦ absurd (none.no_bads v group j old')
-      ]
+      bads : (v group j : ℕ) → name_of new.entries v ≡ Some (Bad group j) → IsSome (name_of new.entries group)
+      bads v group j named =
+          elim (name_cases log.entries (variable_of checker.gates.group.selector) v
+          (Selector (variable_of checker.gates.group.selector)) (Bad group j)
+          (ap (λ es. name_of es v) (sym entries_are) ∙ named)) [
+            | inl same ↦ (let clash = same.1 in cc)
+            | inr old' ↦ absurd (none.no_bads v group j old')
+          ]
 
-  not_found : (p : ℕ × ℕ) (v : ℕ) → get pair_cmp checker.gates.variables p ≡ Some v → ⊥
-  not_found p v found = let nothing : None ≡ Some v = ap (lookup (is_at (pair_cmp p))) (sym empty) ∙ found in cc
+      not_found : (p : ℕ × ℕ) (v : ℕ) → get pair_cmp checker.gates.variables p ≡ Some v → ⊥
+      not_found p v found = let nothing : None ≡ Some v = ap (lookup (is_at (pair_cmp p))) (sym empty) ∙ found in cc
 
-  gates : AreKnown checker.gates new.entries
-  gates = record {
-    made = made;
-    known = λ a b v named. absurd (no_name v a b named);
-    sound = λ a b v found. absurd (not_found (literal_code a, literal_code b) v found);
-    clauses = λ a b v found. absurd (not_found (literal_code a, literal_code b) v found);
-    origins = λ v i c inside. elim (contains_cases (Named (variable_of checker.gates.group.selector) (Selector (variable_of checker.gates.group.selector))) (Given (Gate v i) c) log.entries (subst (λ es. Contains es (Given (Gate v i) c)) entries_are inside)) [
-      | inl same ↦ cc
-      | inr old' ↦ absurd (none.not_given v i c old')
-    ];
-    own = subst (Each (IsGateGiven (variable_of checker.gates.group.selector))) (sym entries_are) (tt, no_gates_given (variable_of checker.gates.group.selector) log.entries unnamed grouped);
-    last = λ gate is. let clash : None ≡ Some gate = sym ready ∙ is in cc;
-  }
+      gates : AreKnown checker.gates new.entries
+      gates = record {
+        made = made;
+        known = λ a b v named. absurd (no_name v a b named);
+        sound = λ a b v found. absurd (not_found (literal_code a, literal_code b) v found);
+        clauses = λ a b v found. absurd (not_found (literal_code a, literal_code b) v found);
+        origins = λ v i c inside. elim (contains_cases (Named (variable_of checker.gates.group.selector)
+            (Selector (variable_of checker.gates.group.selector))) (Given (Gate v i) c) log.entries
+            (subst (λ es. Contains es (Given (Gate v i) c)) entries_are inside)) [
+              | inl same ↦ cc
+              | inr old' ↦ absurd (none.not_given v i c old')
+            ];
+        own = subst (Each (IsGateGiven (variable_of checker.gates.group.selector))) (sym entries_are)
+            (tt, no_gates_given (variable_of checker.gates.group.selector) log.entries unnamed grouped);
+        last = λ gate is. let clash : None ≡ Some gate = sym ready ∙ is in cc;
+      }
 
-  kept : AreInputs f.universals checker.inputs.items new.entries
-  kept = subst (AreInputs f.universals checker.inputs.items) (sym entries_are)
-      (named_stay log.entries (Named (variable_of checker.gates.group.selector) (Selector (variable_of checker.gates.group.selector)) ∷ log.entries) (name_stays_by log.entries (variable_of checker.gates.group.selector) (Selector (variable_of checker.gates.group.selector)) unnamed) checker.inputs.items (map (λ x. named_literal (Input x) false) f.universals) inputs)
+      kept : AreInputs f.universals checker.inputs.items new.entries
+      kept = subst (AreInputs f.universals checker.inputs.items) (sym entries_are)
+          (named_stay log.entries (Named (variable_of checker.gates.group.selector)
+          (Selector (variable_of checker.gates.group.selector)) ∷ log.entries)
+          (name_stays_by log.entries (variable_of checker.gates.group.selector)
+          (Selector (variable_of checker.gates.group.selector)) unnamed) checker.inputs.items
+          (map (λ x. named_literal (Input x) false) f.universals) inputs)

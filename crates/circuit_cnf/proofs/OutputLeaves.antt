@@ -28,32 +28,44 @@ use Rattle.circuit_cnf.specs.Turning.{AreLeavesOf}
 use Rattle.circuit_cnf.proofs.KnownGates.{some_stays}
 use Rattle.circuit_cnf.proofs.SideLeaves.{side_has_leaf}
 
-pub few_same : (group : ℕ) (old new : ProofLog) → GrewByGates group old new → fault_groups new.entries ≡ fault_groups old.entries → length (fault_groups old.entries) < fault_room old.entries →
+pub few_same : (group : ℕ) (old new : ProofLog) → GrewByGates group old new →
+    fault_groups new.entries ≡ fault_groups old.entries → length (fault_groups old.entries) < fault_room old.entries →
     length (fault_groups new.entries) < fault_room new.entries
 few_same group old new grew faults few =
-    let rest = leaves_rest (record { variables = 0; universals = []; existentials = []; matrix = [] }) circuits group true old new (grew (record { variables = 0; universals = []; existentials = []; matrix = [] }) old.entries) in
+    let rest = leaves_rest (record { variables = 0; universals = []; existentials = []; matrix = [] }) circuits group
+    true old new (grew (record { variables = 0; universals = []; existentials = []; matrix = [] }) old.entries) in
     let room = rest.room in
     subst (λ gs. length gs < fault_room new.entries) (sym faults) (omega (arith, few, room))
 
-pub few_by_gates : (group : ℕ) (old new : ProofLog) → GrewByGates group old new → fault_groups new.entries ≡ fault_groups old.entries → length (fault_groups old.entries) < fault_room old.entries →
+pub few_by_gates : (group : ℕ) (old new : ProofLog) → GrewByGates group old new →
+    fault_groups new.entries ≡ fault_groups old.entries → length (fault_groups old.entries) < fault_room old.entries →
     length (fault_groups new.entries) ≤ fault_room new.entries
 few_by_gates group old new grew faults few = let same = few_same group old new grew faults few in omega (arith, same)
 
-pub cone_checker : (f : Dqbf) (checker : Checker) (gates : Gates) (group : ℕ) (old log new : ProofLog) → IsChecker f checker old.entries → ((v : ℕ) → name_of log.entries v ≡ name_of old.entries v) → GrewByGates group log new →
-    AreBadsStill log.entries new.entries → AreKnown gates new.entries → IsChecker f (record checker { gates = gates }) new.entries
+pub cone_checker : (f : Dqbf) (checker : Checker) (gates : Gates) (group : ℕ) (old log new : ProofLog) →
+    IsChecker f checker old.entries → ((v : ℕ) → name_of log.entries v ≡ name_of old.entries v) →
+    GrewByGates group log new →
+    AreBadsStill log.entries new.entries → AreKnown gates new.entries →
+    IsChecker f (record checker { gates = gates }) new.entries
 cone_checker f checker gates group old log new before names grew bads known = record {
   gates = known;
-  inputs = named_stay old.entries new.entries (λ v n is. rest.names v n (names v ∙ is)) checker.inputs.items (map (λ x. named_literal (InputName x) false) f.universals) before.inputs;
-  bads = λ v g j is. some_stays old.entries new.entries (λ w n at. rest.names w n (names w ∙ at)) g (before.bads v g j (sym (names v) ∙ bads v g j is));
+  inputs = named_stay old.entries new.entries (λ v n is. rest.names v n (names v ∙ is)) checker.inputs.items
+      (map (λ x. named_literal (InputName x) false) f.universals) before.inputs;
+  bads = λ v g j is. some_stays old.entries new.entries (λ w n at. rest.names w n (names w ∙ at)) g
+      (before.bads v g j (sym (names v) ∙ bads v g j is));
 } where
   rest : LeavesRest f circuits group true log.entries new.entries
   rest = leaves_rest f circuits group true log new (grew f log.entries)
 
-pub cones_are_closed : (graph : AigGraph) (nodes : List Node) (marks : List Bool) → ((p : ℕ) → ((bit_of marks p ≡ true) ↔ IsInCone graph nodes p)) → AreClosed graph marks
-cones_are_closed graph nodes marks exact g p sides marked at (inl is) = (exact p).1 (left g p sides ((exact (graph.inputs + g)).0 marked) at is)
-cones_are_closed graph nodes marks exact g p sides marked at (inr is) = (exact p).1 (right g p sides ((exact (graph.inputs + g)).0 marked) at is)
+pub cones_are_closed : (graph : AigGraph) (nodes : List Node) (marks : List Bool) →
+    ((p : ℕ) → ((bit_of marks p ≡ true) ↔ IsInCone graph nodes p)) → AreClosed graph marks
+cones_are_closed graph nodes marks exact g p sides marked at (inl is) =
+    (exact p).1 (left g p sides ((exact (graph.inputs + g)).0 marked) at is)
+cones_are_closed graph nodes marks exact g p sides marked at (inr is) =
+    (exact p).1 (right g p sides ((exact (graph.inputs + g)).0 marked) at is)
 
-mapped : {X Y : Type 0} (h : X → Y) (xs : List X) (k : ℕ) (x : X) (y : Y) → slice_get xs k ≡ Some x → slice_get (map h xs) k ≡ Some y → y ≡ h x
+mapped : {X Y : Type 0} (h : X → Y) (xs : List X) (k : ℕ) (x : X) (y : Y) → slice_get xs k ≡ Some x →
+    slice_get (map h xs) k ≡ Some y → y ≡ h x
 mapped h [] k x y at is = cc
 mapped h (z ∷ zs) zero x y at is = let same : z ≡ x = cc in let here : h z ≡ y = cc in sym here ∙ ap h same
 mapped h (z ∷ zs) (suc k) x y at is = mapped h zs k x y at is
@@ -62,14 +74,18 @@ long : {X Y : Type 0} (h : X → Y) (xs : List X) → length (map h xs) ≡ leng
 long h [] = refl
 long h (x ∷ xs) = let e = long h xs in omega (arith, e)
 
-pub are_leaves : (f : Dqbf) (graph : AigGraph) (es : List Entry) (inputs literals : List Literal) (marks : List Bool) (nodes : List Node) (leaves : List Leaf) → AreMarkedUniversals f graph marks → AreInputs f.universals inputs es →
-    HaveLeaves f graph marks literals es → ((p : ℕ) → ((bit_of marks p ≡ true) ↔ IsInCone graph nodes p)) → All (IsEarlierNode graph.inputs (length literals)) nodes → leaves ≡ map (leaf_by inputs literals) nodes → AreLeavesOf f graph es nodes leaves
+pub are_leaves : (f : Dqbf) (graph : AigGraph) (es : List Entry) (inputs literals : List Literal) (marks : List Bool)
+    (nodes : List Node) (leaves : List Leaf) → AreMarkedUniversals f graph marks → AreInputs f.universals inputs es →
+    HaveLeaves f graph marks literals es → ((p : ℕ) → ((bit_of marks p ≡ true) ↔ IsInCone graph nodes p)) →
+    All (IsEarlierNode graph.inputs (length literals)) nodes → leaves ≡ map (leaf_by inputs literals) nodes →
+    AreLeavesOf f graph es nodes leaves
 are_leaves f graph es inputs literals marks nodes leaves low are have exact earlier is = record {
   count = ap length is ∙ long (leaf_by inputs literals) nodes;
   each = λ k node leaf at leaf_at.
       let inside : Contains nodes node = numbered_among nodes (suc k) node at in
       let same = mapped (leaf_by inputs literals) nodes k node leaf at (ap (λ ls. slice_get ls k) (sym is) ∙ leaf_at) in
       subst (HasLeaf f graph es node) (sym same)
-      (side_has_leaf f graph es inputs literals marks low are have node (All-contains (IsEarlierNode graph.inputs (length literals)) nodes node earlier inside)
+      (side_has_leaf f graph es inputs literals marks low are have node
+      (All-contains (IsEarlierNode graph.inputs (length literals)) nodes node earlier inside)
       (λ p place. (exact p).1 (root node p inside place)));
 }

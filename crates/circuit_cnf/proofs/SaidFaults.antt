@@ -22,19 +22,27 @@ use Rattle.circuit_cnf.proofs.GivenGates.{selector_is}
 use Rattle.circuit_cnf.proofs.GroupFaults.{some_leaf_more}
 use Rattle.circuit_cnf.proofs.SomeFault.{some_grown}
 
-pub said_then : (f : Dqbf) (group : ℕ) (leaf : ℕ → Leaf) (old log new : ProofLog) → AreSaid f group leaf old log → AreSaid f group leaf log new → AreSaid f group leaf old new
+pub said_then : (f : Dqbf) (group : ℕ) (leaf : ℕ → Leaf) (old log new : ProofLog) → AreSaid f group leaf old log →
+    AreSaid f group leaf log new → AreSaid f group leaf old new
 said_then f group leaf old log new before after = record {
-  grew = λ standing start unnamed. grown_then (IsAddedBy f circuits standing true start) old log new (before.grew standing start unnamed) (after.grew standing start unnamed);
+  grew = λ standing start unnamed. grown_then (IsAddedBy f circuits standing true start) old log new
+      (before.grew standing start unnamed) (after.grew standing start unnamed);
   names = λ v. after.names v ∙ before.names v;
   few = after.few;
   one_leaf = after.one_leaf;
 }
 
-fault_in_more : (group bad j i : ℕ) (l : Literal) (out : Leaf) (more es : List Entry) → HasFault group bad j i l out es → HasFault group bad j i l out (more ++ es)
+fault_in_more : (group bad j i : ℕ) (l : Literal) (out : Leaf) (more es : List Entry) →
+    HasFault group bad j i l out es → HasFault group bad j i l out (more ++ es)
 fault_in_more group bad j i l out more es (inl none) = inl none
-fault_in_more group bad j i l out more es (inr some) = inr (some.0, some.1, Contains-append_right more es (Given (Fault j i out) (negative group ∷ negative bad ∷ some.0)) some.2)
+fault_in_more group bad j i l out more es (inr some) = inr (
+  some.0,
+  some.1,
+  Contains-append_right more es (Given (Fault j i out) (negative group ∷ negative bad ∷ some.0)) some.2,
+)
 
-faults_then : (f : Dqbf) (group bad j : ℕ) (leaf : ℕ → Leaf) (clause : List Literal) (i : ℕ) (log new : ProofLog) → AreSaid f group leaf log new →
+faults_then : (f : Dqbf) (group bad j : ℕ) (leaf : ℕ → Leaf) (clause : List Literal) (i : ℕ) (log new : ProofLog) →
+    AreSaid f group leaf log new →
     HaveFaults f group bad j leaf clause i log.entries → HaveFaults f group bad j leaf clause i new.entries
 faults_then f group bad j leaf clause i log new said before k l below at =
     let grown = said.grew 0 [] refl in
@@ -42,42 +50,59 @@ faults_then f group bad j leaf clause i log new said before k l below at =
     (fault_in_more group bad j (k + 1) l (leaf (variable_of l)) grown.more log.entries (before k l below at))
 
 -- the first literals of a clause have their faults
-pub record FaultsSoFar (f : Dqbf) (group bad j : ℕ) (leaf : ℕ → Leaf) (clause : List Literal) (old log : ProofLog) (i : ℕ) : Type 0 where
+pub record FaultsSoFar (f : Dqbf) (group bad j : ℕ) (leaf : ℕ → Leaf) (clause : List Literal) (old log : ProofLog)
+    (i : ℕ) : Type 0 where
   pub said : AreSaid f group leaf old log
   pub given : HaveFaults f group bad j leaf clause i log.entries
 
-pub next_fault : (f : Dqbf) (group bad j : ℕ) (leaf : ℕ → Leaf) (clause : List Literal) (old log new : ProofLog) (i : ℕ) (l : Literal) → FaultsSoFar f group bad j leaf clause old log i →
-    AreSaid f group leaf log new → slice_get clause i ≡ Some l → HasFault group bad j (i + 1) l (leaf (variable_of l)) new.entries → FaultsSoFar f group bad j leaf clause old new (i + 1)
+pub next_fault : (f : Dqbf) (group bad j : ℕ) (leaf : ℕ → Leaf) (clause : List Literal) (old log new : ProofLog) (i : ℕ)
+    (l : Literal) → FaultsSoFar f group bad j leaf clause old log i →
+    AreSaid f group leaf log new → slice_get clause i ≡ Some l →
+    HasFault group bad j (i + 1) l (leaf (variable_of l)) new.entries →
+    FaultsSoFar f group bad j leaf clause old new (i + 1)
 next_fault f group bad j leaf clause old log new i l before said at here = record {
   said = said_then f group leaf old log new before.said said;
   given = λ k m below is. by k m is (below_or_here k i below);
 } where
-  by : (k : ℕ) (m : Literal) → slice_get clause k ≡ Some m → (k < i) ⊎ (k ≡ i) → HasFault group bad j (k + 1) m (leaf (variable_of m)) new.entries
+  by : (k : ℕ) (m : Literal) → slice_get clause k ≡ Some m → (k < i) ⊎ (k ≡ i) →
+      HasFault group bad j (k + 1) m (leaf (variable_of m)) new.entries
   by k m is (inl below) = faults_then f group bad j leaf clause i log new said before.given k m below is
   by k m is (inr same) =
       let both : Some l ≡ Some m = sym at ∙ ap (slice_get clause) (sym same) ∙ is in
       let literal : l ≡ m = cc in
-      subst (λ x. HasFault group bad j (x + 1) m (leaf (variable_of m)) new.entries) (sym same) (subst (λ x. HasFault group bad j (i + 1) x (leaf (variable_of x)) new.entries) literal here)
+      subst (λ x. HasFault group bad j (x + 1) m (leaf (variable_of m)) new.entries) (sym same)
+      (subst (λ x. HasFault group bad j (i + 1) x (leaf (variable_of x)) new.entries) literal here)
 
 -- the first clauses have their faults
-pub record AllSoFar (f : Dqbf) (group : ℕ) (bads : List Literal) (leaf : ℕ → Leaf) (old log : ProofLog) (j : ℕ) : Type 0 where
+pub record AllSoFar (f : Dqbf) (group : ℕ) (bads : List Literal) (leaf : ℕ → Leaf) (old log : ProofLog)
+    (j : ℕ) : Type 0 where
   pub said : AreSaid f group leaf old log
   pub given : HaveAllFaults f group bads leaf j log.entries
 
-pub next_clause : (f : Dqbf) (group : ℕ) (bads : List Literal) (leaf : ℕ → Leaf) (old log new : ProofLog) (j : ℕ) → AllSoFar f group bads leaf old log j → AreSaid f group leaf log new →
-    HaveFaults f group (variable_of (get_or bads j (positive 0))) (j + 1) leaf (get_or f.matrix j []) (length (get_or f.matrix j [])) new.entries → AllSoFar f group bads leaf old new (j + 1)
+pub next_clause : (f : Dqbf) (group : ℕ) (bads : List Literal) (leaf : ℕ → Leaf) (old log new : ProofLog) (j : ℕ) →
+    AllSoFar f group bads leaf old log j → AreSaid f group leaf log new →
+    HaveFaults f group (variable_of (get_or bads j (positive 0))) (j + 1) leaf (get_or f.matrix j [])
+    (length (get_or f.matrix j [])) new.entries → AllSoFar f group bads leaf old new (j + 1)
 next_clause f group bads leaf old log new j before said here = record {
   said = said_then f group leaf old log new before.said said;
   given = λ k below. by k (below_or_here k j below);
 } where
-  by : (k : ℕ) → (k < j) ⊎ (k ≡ j) → HaveFaults f group (variable_of (get_or bads k (positive 0))) (k + 1) leaf (get_or f.matrix k []) (length (get_or f.matrix k [])) new.entries
+  by : (k : ℕ) → (k < j) ⊎ (k ≡ j) → HaveFaults f group (variable_of (get_or bads k (positive 0))) (k + 1) leaf
+      (get_or f.matrix k []) (length (get_or f.matrix k [])) new.entries
   by k (inl below) =
-      faults_then f group (variable_of (get_or bads k (positive 0))) (k + 1) leaf (get_or f.matrix k []) (length (get_or f.matrix k [])) log new said (before.given k below)
-  by k (inr is) = subst (λ n. HaveFaults f group (variable_of (get_or bads n (positive 0))) (n + 1) leaf (get_or f.matrix n []) (length (get_or f.matrix n [])) new.entries) (sym is) here
+      faults_then f group (variable_of (get_or bads k (positive 0))) (k + 1) leaf (get_or f.matrix k [])
+      (length (get_or f.matrix k [])) log new said (before.given k below)
+  by k (inr is) = subst (λ n. HaveFaults f group (variable_of (get_or bads n (positive 0))) (n + 1) leaf
+      (get_or f.matrix n []) (length (get_or f.matrix n [])) new.entries) (sym is) here
 
 module _ (s : Faults) (log : ProofLog) (may : MaySay s log.entries) where
   pub nothing_said : AreSaid s.f.now (selector_in s) (leaf_in s) log log
-  nothing_said = record { grew = λ standing start unnamed. record { more = []; grown = refl; each = tt; limit = refl }; names = λ v. refl; few = may.few; one_leaf = may.one_leaf }
+  nothing_said = record {
+    grew = λ standing start unnamed. record { more = []; grown = refl; each = tt; limit = refl };
+    names = λ v. refl;
+    few = may.few;
+    one_leaf = may.one_leaf;
+  }
 
   pub same_said : (new : ProofLog) → new ≡ log → AreSaid s.f.now (selector_in s) (leaf_in s) log new
   same_said new same = subst (AreSaid s.f.now (selector_in s) (leaf_in s) log) (sym same) nothing_said
@@ -87,20 +112,27 @@ module _ (s : Faults) (log : ProofLog) (may : MaySay s log.entries) where
     made = record { positive = may.made.positive; named = said.names (selector_in s) ∙ may.made.named };
     inputs = may.inputs;
     outputs = may.outputs;
-    leaves = λ v inside. leaf_stays_leaf s.f.now log.entries new.entries v (leaf_in s v) said.names (may.leaves v inside);
+    leaves = λ v inside. leaf_stays_leaf s.f.now log.entries new.entries v (leaf_in s v) said.names
+        (may.leaves v inside);
     bound = may.bound;
     few = said.few;
     one_leaf = said.one_leaf;
   }
 
   -- the fault of a literal is given
-  pub fault_is_said : (bad literal : Literal) (out : Leaf) (clause place : ℕ) (lits tail : List Literal) (new : ProofLog) → 1 ≤ clause → matrix_literal s.f.now clause place ≡ Some literal →
-      Contains (declared s.f.now) (variable_of literal) → out ≡ leaf_in s (variable_of literal) → name_of log.entries (variable_of bad) ≡ Some (Bad (selector_in s) clause) → is_negative bad ≡ false →
+  pub fault_is_said : (bad literal : Literal) (out : Leaf) (clause place : ℕ) (lits tail : List Literal)
+      (new : ProofLog) → 1 ≤ clause → matrix_literal s.f.now clause place ≡ Some literal →
+      Contains (declared s.f.now) (variable_of literal) → out ≡ leaf_in s (variable_of literal) →
+      name_of log.entries (variable_of bad) ≡ Some (Bad (selector_in s) clause) → is_negative bad ≡ false →
       leaf_clause (leaf_with_sign (not (is_negative literal)) out) ≡ Some tail → lits ≡ opposite bad ∷ tail →
-      new ≡ with_entry log (Given (Fault clause place out) (opposite s.group.now.selector ∷ lits)) → AreSaid s.f.now (selector_in s) (leaf_in s) log new
-  fault_is_said bad literal out clause place lits tail new from_one literal_is inside leaf_is bad_is plain tail_is lits_are added =
+      new ≡ with_entry log (Given (Fault clause place out) (opposite s.group.now.selector ∷ lits)) →
+      AreSaid s.f.now (selector_in s) (leaf_in s) log new
+  fault_is_said bad literal out clause place lits tail new from_one literal_is inside leaf_is bad_is plain tail_is
+      lits_are added =
       let sel = s.group.now.selector in
-      let is_leaf : IsLeafOf s.f.now log.entries (variable_of literal) out = subst (IsLeafOf s.f.now log.entries (variable_of literal)) (sym leaf_is) (may.leaves (variable_of literal) inside) in
+      let is_leaf : IsLeafOf s.f.now log.entries (variable_of literal) out =
+      subst (IsLeafOf s.f.now log.entries (variable_of literal)) (sym leaf_is)
+      (may.leaves (variable_of literal) inside) in
       let ready : IsFaultReady s.f.now log.entries (selector_in s) (variable_of bad) literal out clause place = record {
         is_group = may.made.named;
         from_one = from_one;
@@ -108,28 +140,40 @@ module _ (s : Faults) (log : ProofLog) (may : MaySay s log.entries) where
         leaf_is = is_leaf;
         bad_is = bad_is;
         few = may.few clause place out;
-        one_leaf = λ j i v o rest within own same. may.one_leaf j i v o rest within own ∙ ap (leaf_in s) same ∙ sym leaf_is;
+        one_leaf = λ j i v o rest within own same. may.one_leaf j i v o rest within own ∙ ap (leaf_in s) same
+            ∙ sym leaf_is;
       } in
-      let e : new.entries ≡ Given (Fault clause place (leaf_in s (variable_of literal))) (negative (selector_in s) ∷ lits) ∷ log.entries =
-      ap (λ (l : ProofLog). l.entries) added ∙ ap (λ l. Given (Fault clause place out) (l ∷ lits) ∷ log.entries) (selector_is sel may.made.positive)
+      let e : new.entries ≡ Given (Fault clause place (leaf_in s (variable_of literal)))
+      (negative (selector_in s) ∷ lits) ∷ log.entries =
+      ap (λ (l : ProofLog). l.entries) added ∙ ap (λ l. Given (Fault clause place out) (l ∷ lits) ∷ log.entries)
+      (selector_is sel may.made.positive)
       ∙ ap (λ o. Given (Fault clause place o) (negative (selector_in s) ∷ lits) ∷ log.entries) leaf_is in
       record {
-        grew = λ standing start unnamed. fault_grown s.f.now standing start sel bad literal out clause place lits tail log new may.made.positive plain ready tail_is lits_are added unnamed;
+        grew = λ standing start unnamed. fault_grown s.f.now standing start sel bad literal out clause place lits tail
+            log new may.made.positive plain ready tail_is lits_are added unnamed;
         names = λ v. ap (λ xs. name_of xs v) e;
-        few = subst (AreFewWith (selector_in s)) (sym e) (few_more (selector_in s) clause place (leaf_in s (variable_of literal)) lits log.entries may.few);
-        one_leaf = subst (HaveOneLeaf s.f.now (selector_in s) (leaf_in s)) (sym e) (one_leaf_more s.f.now (selector_in s) clause place (leaf_in s) literal lits log.entries literal_is may.one_leaf);
+        few = subst (AreFewWith (selector_in s)) (sym e) (few_more (selector_in s) clause place
+            (leaf_in s (variable_of literal)) lits log.entries may.few);
+        one_leaf = subst (HaveOneLeaf s.f.now (selector_in s) (leaf_in s)) (sym e)
+            (one_leaf_more s.f.now (selector_in s) clause place
+            (leaf_in s) literal lits log.entries literal_is may.one_leaf);
       }
 
   -- that some clause is false is given
   pub some_is_said : (bads : List Literal) (new : ProofLog) → AreBads s.f.now (selector_in s) bads log.entries →
-      new ≡ with_entry log (Given (Fault 0 0 (Constant false)) (opposite s.group.now.selector ∷ bads)) → AreSaid s.f.now (selector_in s) (leaf_in s) log new
+      new ≡ with_entry log (Given (Fault 0 0 (Constant false)) (opposite s.group.now.selector ∷ bads)) →
+      AreSaid s.f.now (selector_in s) (leaf_in s) log new
   some_is_said bads new named added =
       let sel = s.group.now.selector in
       let e : new.entries ≡ Given (Fault 0 0 (Constant false)) (negative (selector_in s) ∷ bads) ∷ log.entries =
-      ap (λ (l : ProofLog). l.entries) added ∙ ap (λ l. Given (Fault 0 0 (Constant false)) (l ∷ bads) ∷ log.entries) (selector_is sel may.made.positive) in
+      ap (λ (l : ProofLog). l.entries) added ∙ ap (λ l. Given (Fault 0 0 (Constant false)) (l ∷ bads) ∷ log.entries)
+      (selector_is sel may.made.positive) in
       record {
-        grew = λ standing start unnamed. some_grown s.f.now standing start sel bads log new may.made.positive may.made.named named may.few added unnamed;
+        grew = λ standing start unnamed. some_grown s.f.now standing start sel bads log new may.made.positive
+            may.made.named named may.few added unnamed;
         names = λ v. ap (λ xs. name_of xs v) e;
-        few = subst (AreFewWith (selector_in s)) (sym e) (few_more (selector_in s) 0 0 (Constant false) bads log.entries may.few);
-        one_leaf = subst (HaveOneLeaf s.f.now (selector_in s) (leaf_in s)) (sym e) (some_leaf_more s.f.now (selector_in s) (leaf_in s) bads log.entries may.one_leaf);
+        few = subst (AreFewWith (selector_in s)) (sym e) (few_more (selector_in s) 0 0
+            (Constant false) bads log.entries may.few);
+        one_leaf = subst (HaveOneLeaf s.f.now (selector_in s) (leaf_in s)) (sym e)
+            (some_leaf_more s.f.now (selector_in s) (leaf_in s) bads log.entries may.one_leaf);
       }

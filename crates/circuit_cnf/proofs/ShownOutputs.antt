@@ -19,8 +19,10 @@ outputs_hold solve values f graph nodes earlier clause hints well sound shows m 
     (λ k d below leaf fault.
     let y = get_or f.existentials k d in
     ap (circuit_value earlier m) (shows.outs k d below leaf fault)
-    ∙ sym (values f graph earlier (output_node f nodes y) (shows.leaf y) sound.logged (shows.named k d below) m (λ _. false))) in
-    λ k d below. clause_same f m (by_bits f m bit) (declared_bit f m bit follows) (get_or f.matrix k d) (well.bound k d below) ∙ truth k d below
+    ∙ sym (values f graph earlier (output_node f nodes y) (shows.leaf y) sound.logged (shows.named k d below) m
+    (λ _. false))) in
+    λ k d below. clause_same f m (by_bits f m bit) (declared_bit f m bit follows) (get_or f.matrix k d)
+    (well.bound k d below) ∙ truth k d below
 
 pub outputs_decide : LeavesReadNodesCones → ShownOutputsDecide
 outputs_decide reads f graph nodes earlier clause hints shows declared = record {
@@ -28,6 +30,7 @@ outputs_decide reads f graph nodes earlier clause hints shows declared = record 
   reads = λ k d below leaf fault x read.
       let y = get_or f.existentials k d in
       let same = shows.outs k d below leaf fault in
-      let inside = reads f graph earlier (output_node f nodes y) (shows.leaf y) (shows.named k d below) x (subst (λ l. LeafReads earlier l x) same read) in
+      let inside = reads f graph earlier (output_node f nodes y) (shows.leaf y) (shows.named k d below) x
+      (subst (λ l. LeafReads earlier l x) same read) in
       All-contains (Contains y.sees) (outputs_of f graph nodes y).support x (declared k d below) inside;
 }

@@ -23,20 +23,27 @@ use Rattle.circuit_cnf.specs.Faults.{AreFewWith}
 use Rattle.circuit_cnf.proofs.NamedBads.{bad_name}
 use Rattle.circuit_cnf.proofs.GivenGates.{selector_is}
 
-plain_each : (es : List Entry) (group : ℕ) (ls : List Literal) (js : List ℕ) → AreNamedAs es ls (map (bad_name group) js) → AllByRecursion (IsPlain es) ls
+plain_each : (es : List Entry) (group : ℕ) (ls : List Literal) (js : List ℕ) →
+    AreNamedAs es ls (map (bad_name group) js) → AllByRecursion (IsPlain es) ls
 plain_each es group [] js h = tt
 plain_each es group (l ∷ ls) [] h = cc
 plain_each es group (l ∷ ls) (j ∷ js) h =
     let here : name_literal es l ≡ Some (bad_name group j) = cc in
     let later : map (name_literal es) ls ≡ map Some (map (bad_name group) js) = cc in
-    let n = named_variable es l (Bad group j) false (name_of es (variable_of l)) refl here in
-    (record { named = subst IsSome (sym n.0) refl; no_selector = ap is_selector_name n.0 }, plain_each es group ls js later)
+    let n = named_variable es l (Bad group j) false (name_of es (variable_of l)) refl here in (
+      record { named = subst IsSome (sym n.0) refl; no_selector = ap is_selector_name n.0 },
+      plain_each es group ls js later,
+    )
 
-pub bads_are_plain : (es : List Entry) (group : ℕ) (ls : List Literal) (js : List ℕ) → AreNamedAs es ls (map (bad_name group) js) → All (IsPlain es) ls
+pub bads_are_plain : (es : List Entry) (group : ℕ) (ls : List Literal) (js : List ℕ) →
+    AreNamedAs es ls (map (bad_name group) js) → All (IsPlain es) ls
 bads_are_plain es group ls js h = All-from_recursion (IsPlain es) ls (plain_each es group ls js h)
 
-some_added : (f : Dqbf) (standing : ℕ) (start es : List Entry) (group : ℕ) (bads : List Literal) → name_of es group ≡ Some (Selector group) → AreNamedAs es bads (map (bad_name group) (range_with_len 1 (length f.matrix))) → AreFewWith group es →
-    name_of start group ≡ None → IsGivenBy f circuits standing start es (Fault 0 0 (Constant false)) (negative group ∷ bads)
+some_added : (f : Dqbf) (standing : ℕ) (start es : List Entry) (group : ℕ) (bads : List Literal) →
+    name_of es group ≡ Some (Selector group) → AreNamedAs es bads
+    (map (bad_name group) (range_with_len 1 (length f.matrix))) → AreFewWith group es →
+    name_of start group ≡ None → IsGivenBy f circuits standing start es (Fault 0 0 (Constant false))
+    (negative group ∷ bads)
 some_added f standing start es group bads is_group named few unnamed = record {
   own = refl;
   in_group = (group, (bads, refl), inr unnamed);
@@ -46,16 +53,23 @@ some_added f standing start es group bads is_group named few unnamed = record {
     clause_is = refl;
     is_group = is_group;
     rest_is = (refl, named);
-    one_leaf = λ v j i k l leaf other rest is inside own own'. (let left : 0 ≡ j = cc in let right : 0 ≡ i = cc in absurd (nothing v j i left right own));
+    one_leaf = λ v j i k l leaf other rest is inside own own'.
+        (let left : 0 ≡ j = cc in let right : 0 ≡ i = cc in absurd (nothing v j i left right own));
   };
   not_repeated = record { first = λ h c inside. false≢true (sym h); groups = few 0 0 (Constant false) bads };
 } where
   nothing : (v j i : ℕ) → 0 ≡ j → 0 ≡ i → option_map variable_of (matrix_literal f j i) ≡ Some v → ⊥
-  nothing v j i left right own = let none : None ≡ Some v = ap (λ x. option_map variable_of (matrix_literal f x 0)) left ∙ ap (λ x. option_map variable_of (matrix_literal f j x)) right ∙ own in cc
+  nothing v j i left right own = let none : None ≡ Some v = ap (λ x. option_map variable_of (matrix_literal f x 0)) left
+      ∙ ap (λ x. option_map variable_of (matrix_literal f j x)) right ∙ own in cc
 
-pub some_grown : (f : Dqbf) (standing : ℕ) (start : List Entry) (g : Literal) (bads : List Literal) (log new : ProofLog) → is_negative g ≡ false → name_of log.entries (variable_of g) ≡ Some (Selector (variable_of g)) →
-    AreNamedAs log.entries bads (map (bad_name (variable_of g)) (range_with_len 1 (length f.matrix))) → AreFewWith (variable_of g) log.entries → new ≡ with_entry log (Given (Fault 0 0 (Constant false)) (opposite g ∷ bads)) →
+pub some_grown : (f : Dqbf) (standing : ℕ) (start : List Entry) (g : Literal) (bads : List Literal) (log new : ProofLog)
+    → is_negative g ≡ false → name_of log.entries (variable_of g) ≡ Some (Selector (variable_of g)) →
+    AreNamedAs log.entries bads (map (bad_name (variable_of g)) (range_with_len 1 (length f.matrix))) →
+    AreFewWith (variable_of g) log.entries → new ≡ with_entry log
+    (Given (Fault 0 0 (Constant false)) (opposite g ∷ bads)) →
     name_of start (variable_of g) ≡ None → Grew (IsAddedBy f circuits standing true start) log new
 some_grown f standing start g bads log new plain is_group named few added unnamed =
-    grown_by (IsAddedBy f circuits standing true start) log new (Given (Fault 0 0 (Constant false)) (negative (variable_of g) ∷ bads))
-    (added ∙ ap (λ l. with_entry log (Given (Fault 0 0 (Constant false)) (l ∷ bads))) (selector_is g plain)) (some_added f standing start log.entries (variable_of g) bads is_group named few unnamed)
+    grown_by (IsAddedBy f circuits standing true start) log new
+    (Given (Fault 0 0 (Constant false)) (negative (variable_of g) ∷ bads))
+    (added ∙ ap (λ l. with_entry log (Given (Fault 0 0 (Constant false)) (l ∷ bads))) (selector_is g plain))
+    (some_added f standing start log.entries (variable_of g) bads is_group named few unnamed)

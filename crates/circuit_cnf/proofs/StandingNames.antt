@@ -12,7 +12,8 @@ use Rattle.circuit_cnf.proofs.GivenGates.{contains_more, contains_first}
 pub named_contains : (es : List Entry) (v : ℕ) (n : Name) → name_of es v ≡ Some n → Contains es (Named v n)
 named_contains [] v n is = cc
 named_contains (Named w m ∷ es) v n is = by (v == w) refl (named_contains es v n) is where
-  by : (b : Bool) → (v == w) ≡ b → (name_of es v ≡ Some n → Contains es (Named v n)) → cond b (Some m) (name_of es v) ≡ Some n → Contains (Named w m ∷ es) (Named v n)
+  by : (b : Bool) → (v == w) ≡ b → (name_of es v ≡ Some n → Contains es (Named v n)) →
+      cond b (Some m) (name_of es v) ≡ Some n → Contains (Named w m ∷ es) (Named v n)
   by true e later is =
       let same : m ≡ n = cc in
       let here : Named w m ≡ Named v n = ap (λ x. Named x m) (sym (eqb-true v w e)) ∙ ap (Named v) same in

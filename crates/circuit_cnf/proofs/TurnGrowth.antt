@@ -18,7 +18,8 @@ use Rattle.oracle.specs.Calls.{IsLearnedEntry, IsRefutedUnder}
 use Rattle.circuit_cnf.specs.Faults.{AreFewWith}
 
 module _ (f : Dqbf) (engine : Engine) (group : ℕ) (silent : Bool) (start : List Entry) where
-  quieter : (earlier : List Entry) (e : Entry) → IsAddedBy f engine group true start earlier e → IsAddedBy f engine group silent start earlier e
+  quieter : (earlier : List Entry) (e : Entry) → IsAddedBy f engine group true start earlier e →
+      IsAddedBy f engine group silent start earlier e
   quieter earlier (Named v n) h = h
   quieter earlier (Given origin c) h = h
   quieter earlier (Learned c hints) h = h
@@ -26,7 +27,8 @@ module _ (f : Dqbf) (engine : Engine) (group : ℕ) (silent : Bool) (start : Lis
   quieter earlier (Round row values j) h = h
   quieter earlier (Begun live) h = h
 
-  learned_is_added : (earlier : List Entry) (e : Entry) → IsLearnedEntry earlier e → IsAddedBy f engine group silent start earlier e
+  learned_is_added : (earlier : List Entry) (e : Entry) → IsLearnedEntry earlier e →
+      IsAddedBy f engine group silent start earlier e
   learned_is_added earlier (Named v n) h = absurd h
   learned_is_added earlier (Given origin c) h = absurd h
   learned_is_added earlier (Learned c hints) h = tt
@@ -35,23 +37,28 @@ module _ (f : Dqbf) (engine : Engine) (group : ℕ) (silent : Bool) (start : Lis
   learned_is_added earlier (Begun live) h = absurd h
 
   -- a silent growth is one that may decide
-  pub any_silence : (old new : ProofLog) → Grew (IsAddedBy f engine group true start) old new → Grew (IsAddedBy f engine group silent start) old new
+  pub any_silence : (old new : ProofLog) → Grew (IsAddedBy f engine group true start) old new →
+      Grew (IsAddedBy f engine group silent start) old new
   any_silence old new g = record {
     more = g.more;
     grown = g.grown;
-    each = each_of_weaker (IsAddedBy f engine group true start) (IsAddedBy f engine group silent start) quieter g.more old.entries g.each;
+    each = each_of_weaker (IsAddedBy f engine group true start)
+        (IsAddedBy f engine group silent start) quieter g.more old.entries g.each;
     limit = g.limit;
   }
 
-  pub learned_grew : (old new : ProofLog) → Grew IsLearnedEntry old new → Grew (IsAddedBy f engine group silent start) old new
+  pub learned_grew : (old new : ProofLog) → Grew IsLearnedEntry old new →
+      Grew (IsAddedBy f engine group silent start) old new
   learned_grew old new g = record {
     more = g.more;
     grown = g.grown;
-    each = each_of_weaker IsLearnedEntry (IsAddedBy f engine group silent start) learned_is_added g.more old.entries g.each;
+    each = each_of_weaker IsLearnedEntry (IsAddedBy f engine group silent start) learned_is_added g.more
+        old.entries g.each;
     limit = g.limit;
   }
 
-  pub answered_grew : silent ≡ false → (assumptions : List Literal) (old new : ProofLog) (id : ℕ) → IsRefutedUnder old new assumptions id → Grew (IsAddedBy f engine group silent start) old new
+  pub answered_grew : silent ≡ false → (assumptions : List Literal) (old new : ProofLog) (id : ℕ) →
+      IsRefutedUnder old new assumptions id → Grew (IsAddedBy f engine group silent start) old new
   answered_grew loud assumptions old new id r =
       let g = learned_grew old r.before r.learned in
       record {
@@ -61,29 +68,37 @@ module _ (f : Dqbf) (engine : Engine) (group : ℕ) (silent : Bool) (start : Lis
         limit = ap (λ (l : ProofLog). l.limit) r.answered ∙ g.limit;
       }
 
-  pub group_grew : (sel : ℕ) (old new : ProofLog) → name_of old.entries sel ≡ None → new ≡ with_entry old (Named sel (Selector sel)) → Grew (IsAddedBy f engine group silent start) old new
+  pub group_grew : (sel : ℕ) (old new : ProofLog) → name_of old.entries sel ≡ None →
+      new ≡ with_entry old (Named sel (Selector sel)) → Grew (IsAddedBy f engine group silent start) old new
   group_grew sel old new unnamed is =
-      let named : IsNamedBy f engine old.entries sel (Selector sel) = record { unnamed = unnamed; own = inl refl; rightly = tt } in
+      let named : IsNamedBy f engine old.entries sel (Selector sel) =
+      record { unnamed = unnamed; own = inl refl; rightly = tt } in
       grown_by (IsAddedBy f engine group silent start) old new (Named sel (Selector sel)) is named
 
 -- what has no name later had none earlier
-unnamed_earlier : (first start : List Entry) → NamesStay first start → (v : ℕ) → name_of start v ≡ None → name_of first v ≡ None
+unnamed_earlier : (first start : List Entry) → NamesStay first start → (v : ℕ) → name_of start v ≡ None →
+    name_of first v ≡ None
 unnamed_earlier first start stay v unnamed = by (name_of first v) refl where
   by : (o : Option Name) → name_of first v ≡ o → o ≡ None
   by None e = refl
   by (Some n) e = let both : None ≡ Some n = sym unnamed ∙ stay v n e in cc
 
-pub unnamed_before_gates : (f : Dqbf) (group : ℕ) (old log : ProofLog) → ((h : Dqbf) (start : List Entry) → Grew (IsAddedBy h circuits group true start) old log) → (v : ℕ) → name_of log.entries v ≡ None
+pub unnamed_before_gates : (f : Dqbf) (group : ℕ) (old log : ProofLog) →
+    ((h : Dqbf) (start : List Entry) → Grew (IsAddedBy h circuits group true start) old log) → (v : ℕ) →
+    name_of log.entries v ≡ None
     → name_of old.entries v ≡ None
-unnamed_before_gates f group old log gates = unnamed_earlier old.entries log.entries (leaves_rest f circuits group true old log (gates f old.entries)).names
+unnamed_before_gates f group old log gates = unnamed_earlier old.entries log.entries
+    (leaves_rest f circuits group true old log (gates f old.entries)).names
 
 -- what goes into a group made since a later log goes into one made since an earlier log
-module _ (f : Dqbf) (engine : Engine) (group : ℕ) (silent : Bool) (first start : List Entry) (stay : NamesStay first start) where
+module _ (f : Dqbf) (engine : Engine) (group : ℕ) (silent : Bool) (first start : List Entry)
+    (stay : NamesStay first start) where
   new_before : (g : ℕ) → (g ≡ group) ⊎ (name_of start g ≡ None) → (g ≡ group) ⊎ (name_of first g ≡ None)
   new_before g (inl is) = inl is
   new_before g (inr unnamed) = inr (unnamed_earlier first start stay g unnamed)
 
-  earlier_start : (earlier : List Entry) (e : Entry) → IsAddedBy f engine group silent start earlier e → IsAddedBy f engine group silent first earlier e
+  earlier_start : (earlier : List Entry) (e : Entry) → IsAddedBy f engine group silent start earlier e →
+      IsAddedBy f engine group silent first earlier e
   earlier_start earlier (Named v n) h = h
   earlier_start earlier (Given origin c) h = record {
     own = h.own;
@@ -96,24 +111,31 @@ module _ (f : Dqbf) (engine : Engine) (group : ℕ) (silent : Bool) (first start
   earlier_start earlier (Round row values j) h = h
   earlier_start earlier (Begun live) h = h
 
-  pub grew_since : (old new : ProofLog) → Grew (IsAddedBy f engine group silent start) old new → Grew (IsAddedBy f engine group silent first) old new
+  pub grew_since : (old new : ProofLog) → Grew (IsAddedBy f engine group silent start) old new →
+      Grew (IsAddedBy f engine group silent first) old new
   grew_since old new g = record {
     more = g.more;
     grown = g.grown;
-    each = each_of_weaker (IsAddedBy f engine group silent start) (IsAddedBy f engine group silent first) earlier_start g.more old.entries g.each;
+    each = each_of_weaker (IsAddedBy f engine group silent start)
+        (IsAddedBy f engine group silent first) earlier_start g.more old.entries g.each;
     limit = g.limit;
   }
 
 -- a turn's growth: gates, and then what the search adds
-pub turn_grew : (f : Dqbf) (group other : ℕ) (silent : Bool) (old log new : ProofLog) → ((h : Dqbf) (start : List Entry) → Grew (IsAddedBy h circuits group true start) old log) → other ≡ group →
-    Grew (IsAddedBy f circuits other silent log.entries) log new → Grew (IsAddedBy f circuits group silent old.entries) old new
+pub turn_grew : (f : Dqbf) (group other : ℕ) (silent : Bool) (old log new : ProofLog) →
+    ((h : Dqbf) (start : List Entry) → Grew (IsAddedBy h circuits group true start) old log) → other ≡ group →
+    Grew (IsAddedBy f circuits other silent log.entries) log new →
+    Grew (IsAddedBy f circuits group silent old.entries) old new
 turn_grew f group other silent old log new gates same searched =
     let stay = (leaves_rest f circuits group true old log (gates f old.entries)).names in
-    grown_then (IsAddedBy f circuits group silent old.entries) old log new (any_silence f circuits group silent old.entries old log (gates f old.entries))
-    (grew_since f circuits group silent old.entries log.entries stay log new (subst (λ g. Grew (IsAddedBy f circuits g silent log.entries) log new) same searched))
+    grown_then (IsAddedBy f circuits group silent old.entries) old log new
+    (any_silence f circuits group silent old.entries old log (gates f old.entries))
+    (grew_since f circuits group silent old.entries log.entries stay log new
+    (subst (λ g. Grew (IsAddedBy f circuits g silent log.entries) log new) same searched))
 
 -- faults stay as they were
-pub learned_faults : (more old : List Entry) → EachOf IsLearnedEntry more old → (fault_groups (more ++ old) ≡ fault_groups old) × (fault_room (more ++ old) ≡ fault_room old)
+pub learned_faults : (more old : List Entry) → EachOf IsLearnedEntry more old →
+    (fault_groups (more ++ old) ≡ fault_groups old) × (fault_room (more ++ old) ≡ fault_room old)
 learned_faults [] old h = (refl, refl)
 learned_faults (Named v n ∷ more) old h = absurd h.0
 learned_faults (Given origin c ∷ more) old h = absurd h.0
@@ -125,16 +147,22 @@ learned_faults (Begun live ∷ more) old h = absurd h.0
 abbrev pub AreFewFaults : List Entry → Type 0
 AreFewFaults entries = length (fault_groups entries) ≤ fault_room entries
 
-pub few_learned : (old new : ProofLog) → Grew IsLearnedEntry old new → AreFewFaults old.entries → AreFewFaults new.entries
+pub few_learned : (old new : ProofLog) → Grew IsLearnedEntry old new → AreFewFaults old.entries →
+    AreFewFaults new.entries
 few_learned old new g few =
     let same = learned_faults g.more old.entries g.each in
-    subst AreFewFaults (sym g.grown) (subst (λ gs. length gs ≤ fault_room (g.more ++ old.entries)) (sym same.0) (subst (λ n. length (fault_groups old.entries) ≤ n) (sym same.1) few))
+    subst AreFewFaults (sym g.grown) (subst (λ gs. length gs ≤ fault_room (g.more ++ old.entries)) (sym same.0)
+    (subst (λ n. length (fault_groups old.entries) ≤ n) (sym same.1) few))
 
-pub few_answered : (assumptions : List Literal) (old new : ProofLog) (id : ℕ) → IsRefutedUnder old new assumptions id → AreFewFaults old.entries → AreFewFaults new.entries
-few_answered assumptions old new id r few = subst (λ (l : ProofLog). AreFewFaults l.entries) (sym r.answered) (few_learned old r.before r.learned few)
+pub few_answered : (assumptions : List Literal) (old new : ProofLog) (id : ℕ) → IsRefutedUnder old new assumptions id →
+    AreFewFaults old.entries → AreFewFaults new.entries
+few_answered assumptions old new id r few = subst (λ (l : ProofLog). AreFewFaults l.entries) (sym r.answered)
+    (few_learned old r.before r.learned few)
 
 pub few_without : (group : ℕ) (es : List Entry) → AreFewWith group es → AreFewFaults es
-few_without group es few = by (list_any (λ g. same_literal (negative g) (negative group)) (fault_groups es)) (few 0 0 (Constant false) []) where
-  by : (b : Bool) → length (cond b (fault_groups es) (group ∷ fault_groups es)) ≤ fault_room es → length (fault_groups es) ≤ fault_room es
-  by true h = h
-  by false h = omega (arith, h)
+few_without group es few = by (list_any (λ g. same_literal (negative g) (negative group)) (fault_groups es))
+    (few 0 0 (Constant false) []) where
+      by : (b : Bool) → length (cond b (fault_groups es) (group ∷ fault_groups es)) ≤ fault_room es →
+          length (fault_groups es) ≤ fault_room es
+      by true h = h
+      by false h = omega (arith, h)

@@ -38,7 +38,8 @@ pub record IsGroupMade (f : Dqbf) (checker : Checker) (old log : ProofLog) (grou
   pub grouped : Each IsGivenToGroup old.entries
   pub few : length (fault_groups old.entries) < fault_room old.entries
 
-unused_own : (f : Dqbf) (group : ℕ) (earlier : List Entry) (e : Entry) → IsUnused group earlier e → IsOwnGiven f circuits group earlier e
+unused_own : (f : Dqbf) (group : ℕ) (earlier : List Entry) (e : Entry) → IsUnused group earlier e →
+    IsOwnGiven f circuits group earlier e
 unused_own f group earlier (Named v n) h = tt
 unused_own f group earlier (Given origin c) h = λ inside. absurd (h inside)
 unused_own f group earlier (Learned c hints) h = tt
@@ -46,7 +47,8 @@ unused_own f group earlier (Answer c hints) h = tt
 unused_own f group earlier (Round row values j) h = tt
 unused_own f group earlier (Begun live) h = tt
 
-added_own : (f : Dqbf) (standing : ℕ) (start : List Entry) (group : ℕ) (earlier : List Entry) (e : Entry) → IsAddedBy f circuits standing true start earlier e → IsOwnGiven f circuits group earlier e
+added_own : (f : Dqbf) (standing : ℕ) (start : List Entry) (group : ℕ) (earlier : List Entry) (e : Entry) →
+    IsAddedBy f circuits standing true start earlier e → IsOwnGiven f circuits group earlier e
 added_own f standing start group earlier (Named v n) h = tt
 added_own f standing start group earlier (Given origin c) h = λ inside. (h.own, h.matches_origin)
 added_own f standing start group earlier (Learned c hints) h = tt
@@ -54,7 +56,8 @@ added_own f standing start group earlier (Answer c hints) h = tt
 added_own f standing start group earlier (Round row values j) h = absurd h
 added_own f standing start group earlier (Begun live) h = absurd h
 
-module _ (f : Dqbf) (checker : Checker) (leaf : ℕ → Leaf) (old first : ProofLog) (group : Group) (m : IsGroupMade f checker old first group) where
+module _ (f : Dqbf) (checker : Checker) (leaf : ℕ → Leaf) (old first : ProofLog) (group : Group)
+    (m : IsGroupMade f checker old first group) where
   abbrev sel : ℕ
   sel = variable_of group.selector
 
@@ -65,18 +68,21 @@ module _ (f : Dqbf) (checker : Checker) (leaf : ℕ → Leaf) (old first : Proof
   unused = (tt, group_is_unused sel old.entries m.unnamed m.grouped)
 
   apart : group_of checker ≢ sel
-  apart same = let none : None ≡ Some (Selector (group_of checker)) = sym m.unnamed ∙ ap (name_of old.entries) (sym same) ∙ m.before.gates.made.named in cc
+  apart same = let none : None ≡ Some (Selector (group_of checker)) =
+      sym m.unnamed ∙ ap (name_of old.entries) (sym same) ∙ m.before.gates.made.named in cc
 
   stay_first : NamesStay old.entries first.entries
   stay_first = subst (NamesStay old.entries) (sym entries_are) (name_stays_by old.entries sel (Selector sel) m.unnamed)
 
   pub group_checker : IsChecker f checker first.entries
   group_checker = checker_stays f checker old.entries first.entries
-      (subst (LeavesGates checker.gates old.entries) (sym entries_are) (leaves_elsewhere checker.gates old.entries (Named sel (Selector sel)) (m.unnamed, refl))) m.before
+      (subst (LeavesGates checker.gates old.entries) (sym entries_are)
+      (leaves_elsewhere checker.gates old.entries (Named sel (Selector sel)) (m.unnamed, refl))) m.before
 
   pub group_one_leaf : HaveOneLeaf f sel leaf first.entries
   group_one_leaf j i v out rest inside own =
-      absurd (not_given_there sel (Named sel (Selector sel) ∷ old.entries) unused (Fault j i out) rest (subst (λ es. Contains es (Given (Fault j i out) (negative sel ∷ rest))) entries_are inside))
+      absurd (not_given_there sel (Named sel (Selector sel) ∷ old.entries) unused (Fault j i out) rest
+      (subst (λ es. Contains es (Given (Fault j i out) (negative sel ∷ rest))) entries_are inside))
 
   module _ (log : ProofLog) (s : AreNamedAndSaid f sel leaf first log) where
     -- the same growth, with what stood before the group
@@ -84,16 +90,20 @@ module _ (f : Dqbf) (checker : Checker) (leaf : ℕ → Leaf) (old first : Proof
     since = s.grew sel old.entries m.unnamed
 
     stay_then : NamesStay first.entries log.entries
-    stay_then = subst (NamesStay first.entries) (sym since.grown) (added_stay f circuits sel true old.entries since.more first.entries since.each)
+    stay_then = subst (NamesStay first.entries) (sym since.grown)
+        (added_stay f circuits sel true old.entries since.more first.entries since.each)
 
     pub faults_checker : IsChecker f checker log.entries
     faults_checker = checker_stays f checker first.entries log.entries
-        (group_leaves f circuits sel true old.entries checker.gates (Selector (group_of checker)) first log since m.before.gates.made.named apart stay_then s.names (subst IsSome (sym m.made.named) refl) m.ready) group_checker
+        (group_leaves f circuits sel true old.entries checker.gates
+        (Selector (group_of checker)) first log since m.before.gates.made.named apart stay_then s.names
+        (subst IsSome (sym m.made.named) refl) m.ready) group_checker
 
     pub faults_grew : (silent : Bool) → Grew (IsAddedBy f circuits (group_of checker) silent old.entries) old log
     faults_grew silent = grown_then (IsAddedBy f circuits (group_of checker) silent old.entries) old first log
         (group_grew f circuits (group_of checker) silent old.entries sel old first m.unnamed m.is)
-        (any_silence f circuits (group_of checker) silent old.entries first log (s.grew (group_of checker) old.entries m.unnamed))
+        (any_silence f circuits (group_of checker) silent old.entries first log
+        (s.grew (group_of checker) old.entries m.unnamed))
 
     pub faults_made : IsMade log.entries group
     faults_made = record { positive = m.made.positive; named = stay_then sel (Selector sel) m.made.named }
@@ -106,41 +116,58 @@ module _ (f : Dqbf) (checker : Checker) (leaf : ℕ → Leaf) (old first : Proof
       names = λ v n is. stay_then v n (stay_first v n is);
       gates_own = faults_checker.gates.own;
       faults_own = subst (Each (IsOwnGiven f circuits sel)) (sym since.grown)
-          (each_grown (IsAddedBy f circuits sel true old.entries) (IsOwnGiven f circuits sel) (added_own f sel old.entries sel) since.more first.entries since.each
-          (subst (Each (IsOwnGiven f circuits sel)) (sym entries_are) (each_weaker (IsUnused sel) (IsOwnGiven f circuits sel) (unused_own f sel) (Named sel (Selector sel) ∷ old.entries) unused)));
+          (each_grown (IsAddedBy f circuits sel true old.entries) (IsOwnGiven f circuits sel)
+          (added_own f sel old.entries sel) since.more first.entries since.each
+          (subst (Each (IsOwnGiven f circuits sel)) (sym entries_are)
+          (each_weaker (IsUnused sel) (IsOwnGiven f circuits sel) (unused_own f sel)
+          (Named sel (Selector sel) ∷ old.entries) unused)));
       one_leaf = s.one_leaf;
     }
 
     pub faults_turned : (silent : Bool) → HasTurned f checker checker silent old log
-    faults_turned silent = record { checker = faults_checker; group = refl; grew = faults_grew silent; few = few_without sel log.entries s.few }
+    faults_turned silent = record {
+      checker = faults_checker;
+      group = refl;
+      grew = faults_grew silent;
+      few =
+          few_without sel log.entries s.few;
+    }
 
     pub faults_grouped : AreGiven f sel leaf log.entries → HaveFaultGroup f checker leaf old.entries log.entries group
     faults_grouped given = record { made = faults_made; two = faults_two_groups; given = given }
 
 -- a search that learns, and perhaps answers
-module _ (f : Dqbf) (checker : Checker) (old log new : ProofLog) (turned : HasTurned f checker checker true old log) where
+module _ (f : Dqbf) (checker : Checker) (old log new : ProofLog)
+    (turned : HasTurned f checker checker true old log) where
   pub learned_turned : Grew IsLearnedEntry log new → HasTurned f checker checker true old new
   learned_turned g = record {
     checker = checker_stays f checker log.entries new.entries (learned_leaves checker.gates log new g) turned.checker;
     group = refl;
-    grew = grown_then (IsAddedBy f circuits (group_of checker) true old.entries) old log new turned.grew (learned_grew f circuits (group_of checker) true old.entries log new g);
+    grew = grown_then (IsAddedBy f circuits (group_of checker) true old.entries) old log new turned.grew
+        (learned_grew f circuits (group_of checker) true old.entries log new g);
     few = few_learned log new g turned.few;
   }
 
-  pub answered_turned : (assumptions : List Literal) (id : ℕ) → IsRefutedUnder log new assumptions id → HasTurned f checker checker false old new
+  pub answered_turned : (assumptions : List Literal) (id : ℕ) → IsRefutedUnder log new assumptions id →
+      HasTurned f checker checker false old new
   answered_turned assumptions id r = record {
     checker = subst (λ (l : ProofLog). IsChecker f checker l.entries) (sym r.answered)
         (checker_stays f checker log.entries (Answer r.clause r.hints ∷ r.before.entries)
-        (leaves_then checker.gates log.entries r.before.entries (Answer r.clause r.hints ∷ r.before.entries) (learned_leaves checker.gates log r.before r.learned) (leaves_elsewhere checker.gates r.before.entries (Answer r.clause r.hints) tt)) turned.checker);
+        (leaves_then checker.gates log.entries r.before.entries (Answer r.clause r.hints ∷ r.before.entries)
+        (learned_leaves checker.gates log r.before r.learned)
+        (leaves_elsewhere checker.gates r.before.entries (Answer r.clause r.hints) tt)) turned.checker);
     group = refl;
-    grew = grown_then (IsAddedBy f circuits (group_of checker) false old.entries) old log new (any_silence f circuits (group_of checker) false old.entries old log turned.grew)
+    grew = grown_then (IsAddedBy f circuits (group_of checker) false old.entries) old log new
+        (any_silence f circuits (group_of checker) false old.entries old log turned.grew)
         (answered_grew f circuits (group_of checker) false old.entries refl assumptions log new id r);
     few = few_answered assumptions log new id r turned.few;
   }
 
 -- the gates of the outputs, and then a search
-pub leaves_turned : (f : Dqbf) (before after : Checker) (old new : ProofLog) → IsChecker f after new.entries → group_of after ≡ group_of before → GrewByGates (group_of before) old new →
-    fault_groups new.entries ≡ fault_groups old.entries → length (fault_groups old.entries) < fault_room old.entries → HasTurned f before after true old new
+pub leaves_turned : (f : Dqbf) (before after : Checker) (old new : ProofLog) → IsChecker f after new.entries →
+    group_of after ≡ group_of before → GrewByGates (group_of before) old new →
+    fault_groups new.entries ≡ fault_groups old.entries → length (fault_groups old.entries) < fault_room old.entries →
+    HasTurned f before after true old new
 leaves_turned f before after old new checker same grew faults few = record {
   checker = checker;
   group = same;
@@ -148,7 +175,8 @@ leaves_turned f before after old new checker same grew faults few = record {
   few = few_by_gates (group_of before) old new grew faults few;
 }
 
-pub turn_turned : (f : Dqbf) (before after : Checker) (silent : Bool) (old log new : ProofLog) → group_of after ≡ group_of before → GrewByGates (group_of before) old log →
+pub turn_turned : (f : Dqbf) (before after : Checker) (silent : Bool) (old log new : ProofLog) →
+    group_of after ≡ group_of before → GrewByGates (group_of before) old log →
     HasTurned f after after silent log new → HasTurned f before after silent old new
 turn_turned f before after silent old log new same grew turned = record {
   checker = turned.checker;
@@ -157,7 +185,8 @@ turn_turned f before after silent old log new same grew turned = record {
   few = turned.few;
 }
 
-pub quiet_turned : (f : Dqbf) (before after : Checker) (silent : Bool) (old new : ProofLog) → HasTurned f before after true old new → HasTurned f before after silent old new
+pub quiet_turned : (f : Dqbf) (before after : Checker) (silent : Bool) (old new : ProofLog) →
+    HasTurned f before after true old new → HasTurned f before after silent old new
 quiet_turned f before after silent old new turned = record {
   checker = turned.checker;
   group = turned.group;

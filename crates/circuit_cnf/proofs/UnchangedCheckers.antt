@@ -27,24 +27,39 @@ use Rattle.circuit_cnf.specs.Gates.{IsGateGiven}
 use Rattle.circuit_cnf.proofs.GivenGates.{contains_cases, contains_more}
 use Rattle.circuit_cnf.proofs.KnownGates.{LeavesGates, known_stay, some_stays}
 
-pub checker_stays : (f : Dqbf) (checker : Checker) (old new : List Entry) → LeavesGates checker.gates old new → IsChecker f checker old → IsChecker f checker new
+pub checker_stays : (f : Dqbf) (checker : Checker) (old new : List Entry) → LeavesGates checker.gates old new →
+    IsChecker f checker old → IsChecker f checker new
 checker_stays f checker old new leaves before = record {
   gates = known_stay checker.gates old new leaves before.gates;
-  inputs = named_stay old new leaves.stay checker.inputs.items (map (λ x. named_literal (Input x) false) f.universals) before.inputs;
-  bads = λ v group j is. elim (leaves.bads v group j is) [ inl was ↦ some_stays old new leaves.stay group (before.bads v group j was) | inr some ↦ some ];
+  inputs = named_stay old new leaves.stay checker.inputs.items
+      (map (λ x. named_literal (Input x) false) f.universals) before.inputs;
+  bads = λ v group j is. elim (leaves.bads v group j is) [
+    | inl was ↦
+        some_stays old new leaves.stay group (before.bads v group j was)
+    | inr some ↦ some
+  ];
 }
 
-pub leaves_then : (gates : Gates) (a b c : List Entry) → LeavesGates gates a b → LeavesGates gates b c → LeavesGates gates a c
+pub leaves_then : (gates : Gates) (a b c : List Entry) → LeavesGates gates a b → LeavesGates gates b c →
+    LeavesGates gates a c
 leaves_then gates a b c first second = record {
   stay = λ v n is. second.stay v n (first.stay v n is);
   ands = λ v x y is. first.ands v x y (second.ands v x y is);
   bads = λ v group j is. elim (second.bads v group j is) [
-    | inl was ↦ elim (first.bads v group j was) [ inl before ↦ inl before | inr some ↦ inr (some_stays b c second.stay group some) ]
+    | inl was ↦ elim (first.bads v group j was) [
+      | inl before ↦ inl before
+      | inr some ↦
+          inr (some_stays b c second.stay group some)
+    ]
     | inr some ↦ inr some
   ];
   more = λ x inside. second.more x (first.more x inside);
   origins = λ v i d inside. elim (second.origins v i d inside) [
-    | inl was ↦ elim (first.origins v i d was) [ inl before ↦ inl before | inr some ↦ inr (some_stays b c second.stay v some) ]
+    | inl was ↦ elim (first.origins v i d was) [
+      | inl before ↦ inl before
+      | inr some ↦
+          inr (some_stays b c second.stay v some)
+    ]
     | inr some ↦ inr some
   ];
   own = λ h. second.own (first.own h);
@@ -69,8 +84,10 @@ IsElsewhere group earlier (Given origin c) = (is_own circuits (Given origin c) �
 IsElsewhere group earlier _ = Unit {0}
 
 -- an entry that isn't named and isn't given
-leaves_plain : (gates : Gates) (es : List Entry) (e : Entry) → ((v : ℕ) → name_of (e ∷ es) v ≡ name_of es v) → ((origin : Origin) (c : List Literal) → (e ≡ Given origin c) → ⊥) →
-    (Each (IsGateGiven (variable_of gates.group.selector)) es → Each (IsGateGiven (variable_of gates.group.selector)) (e ∷ es)) → LeavesGates gates es (e ∷ es)
+leaves_plain : (gates : Gates) (es : List Entry) (e : Entry) → ((v : ℕ) → name_of (e ∷ es) v ≡ name_of es v) →
+    ((origin : Origin) (c : List Literal) → (e ≡ Given origin c) → ⊥) →
+    (Each (IsGateGiven (variable_of gates.group.selector)) es →
+    Each (IsGateGiven (variable_of gates.group.selector)) (e ∷ es)) → LeavesGates gates es (e ∷ es)
 leaves_plain gates es e names no_given own = record {
   stay = λ v n is. names v ∙ is;
   ands = λ v a b is. sym (names v) ∙ is;
@@ -81,20 +98,26 @@ leaves_plain gates es e names no_given own = record {
   missing = λ gate is i c inside. only gate.variable i c inside;
 } where
   only : (v i : ℕ) (c : List Literal) → Contains (e ∷ es) (Given (Gate v i) c) → Contains es (Given (Gate v i) c)
-  only v i c inside = elim (contains_cases e (Given (Gate v i) c) es inside) [ inl is ↦ absurd (no_given (Gate v i) c is) | inr later ↦ later ]
+  only v i c inside = elim (contains_cases e (Given (Gate v i) c) es inside)
+      [ inl is ↦ absurd (no_given (Gate v i) c is) | inr later ↦ later ]
 
-pub leaves_elsewhere : (gates : Gates) (es : List Entry) (e : Entry) → IsElsewhere (variable_of gates.group.selector) es e → LeavesGates gates es (e ∷ es)
+pub leaves_elsewhere : (gates : Gates) (es : List Entry) (e : Entry) →
+    IsElsewhere (variable_of gates.group.selector) es e → LeavesGates gates es (e ∷ es)
 leaves_elsewhere gates es (Named v n) h = record {
   stay = name_stays_by es v n h.0;
-  ands = λ w a b is. elim (name_cases es v w n (And a b) is) [ inl here ↦ absurd (false≢true (sym h.1 ∙ ap (λ x. is_own circuits (Named v x)) here.1)) | inr old ↦ old ];
-  bads = λ w group j is. elim (name_cases es v w n (Bad group j) is) [ inl here ↦ absurd (false≢true (sym h.1 ∙ ap (λ x. is_own circuits (Named v x)) here.1)) | inr old ↦ inl old ];
+  ands = λ w a b is. elim (name_cases es v w n (And a b) is)
+      [ inl here ↦ absurd (false≢true (sym h.1 ∙ ap (λ x. is_own circuits (Named v x)) here.1)) | inr old ↦ old ];
+  bads = λ w group j is. elim (name_cases es v w n (Bad group j) is)
+      [ inl here ↦ absurd (false≢true (sym h.1 ∙ ap (λ x. is_own circuits (Named v x)) here.1)) | inr old ↦ inl old ];
   more = λ x inside. contains_more (Named v n) x es inside;
   origins = λ w i c inside. inl (only w i c inside);
   own = λ own. (tt, own);
   missing = λ gate is i c inside. only gate.variable i c inside;
 } where
-  only : (w i : ℕ) (c : List Literal) → Contains (Named v n ∷ es) (Given (Gate w i) c) → Contains es (Given (Gate w i) c)
-  only w i c inside = elim (contains_cases (Named v n) (Given (Gate w i) c) es inside) [ inl is ↦ cc | inr later ↦ later ]
+  only : (w i : ℕ) (c : List Literal) → Contains (Named v n ∷ es) (Given (Gate w i) c) →
+      Contains es (Given (Gate w i) c)
+  only w i c inside = elim (contains_cases (Named v n) (Given (Gate w i) c) es inside)
+      [ inl is ↦ cc | inr later ↦ later ]
 leaves_elsewhere gates es (Given origin d) h = record {
   stay = λ v n is. is;
   ands = λ v a b is. is;
@@ -104,21 +127,29 @@ leaves_elsewhere gates es (Given origin d) h = record {
   own = λ own. ((λ inside. absurd (h.1 inside)), own);
   missing = λ gate is i c inside. only gate.variable i c inside;
 } where
-  only : (v i : ℕ) (c : List Literal) → Contains (Given origin d ∷ es) (Given (Gate v i) c) → Contains es (Given (Gate v i) c)
+  only : (v i : ℕ) (c : List Literal) → Contains (Given origin d ∷ es) (Given (Gate v i) c) →
+      Contains es (Given (Gate v i) c)
   only v i c inside = elim (contains_cases (Given origin d) (Given (Gate v i) c) es inside) [
     | inl is ↦ absurd (false≢true (sym h.0 ∙ ap (is_own circuits) is))
     | inr later ↦ later
   ]
-leaves_elsewhere gates es (Learned c hints) h = leaves_plain gates es (Learned c hints) (λ v. refl) (λ origin d is. cc) (λ own. (tt, own))
-leaves_elsewhere gates es (Answer c hints) h = leaves_plain gates es (Answer c hints) (λ v. refl) (λ origin d is. cc) (λ own. (tt, own))
-leaves_elsewhere gates es (Round row values j) h = leaves_plain gates es (Round row values j) (λ v. refl) (λ origin d is. cc) (λ own. (tt, own))
-leaves_elsewhere gates es (Begun live) h = leaves_plain gates es (Begun live) (λ v. refl) (λ origin d is. cc) (λ own. (tt, own))
+leaves_elsewhere gates es (Learned c hints) h = leaves_plain gates es (Learned c hints) (λ v. refl) (λ origin d is. cc)
+    (λ own. (tt, own))
+leaves_elsewhere gates es (Answer c hints) h = leaves_plain gates es (Answer c hints) (λ v. refl) (λ origin d is. cc)
+    (λ own. (tt, own))
+leaves_elsewhere gates es (Round row values j) h = leaves_plain gates es (Round row values j) (λ v. refl)
+    (λ origin d is. cc) (λ own. (tt, own))
+leaves_elsewhere gates es (Begun live) h = leaves_plain gates es (Begun live) (λ v. refl) (λ origin d is. cc)
+    (λ own. (tt, own))
 
-pub all_elsewhere : (gates : Gates) (more old : List Entry) → EachOf (IsElsewhere (variable_of gates.group.selector)) more old → LeavesGates gates old (more ++ old)
+pub all_elsewhere : (gates : Gates) (more old : List Entry) →
+    EachOf (IsElsewhere (variable_of gates.group.selector)) more old → LeavesGates gates old (more ++ old)
 all_elsewhere gates [] old h = leaves_none gates old
-all_elsewhere gates (e ∷ more) old h = leaves_then gates old (more ++ old) (e ∷ more ++ old) (all_elsewhere gates more old h.1) (leaves_elsewhere gates (more ++ old) e h.0)
+all_elsewhere gates (e ∷ more) old h = leaves_then gates old (more ++ old) (e ∷ more ++ old)
+    (all_elsewhere gates more old h.1) (leaves_elsewhere gates (more ++ old) e h.0)
 
-learned_elsewhere : (group : ℕ) (earlier : List Entry) (e : Entry) → IsLearnedEntry earlier e → IsElsewhere group earlier e
+learned_elsewhere : (group : ℕ) (earlier : List Entry) (e : Entry) → IsLearnedEntry earlier e →
+    IsElsewhere group earlier e
 learned_elsewhere group earlier (Named v n) h = absurd h
 learned_elsewhere group earlier (Given origin c) h = absurd h
 learned_elsewhere group earlier (Learned c hints) h = tt
@@ -126,15 +157,20 @@ learned_elsewhere group earlier (Answer c hints) h = absurd h
 learned_elsewhere group earlier (Round row values j) h = absurd h
 learned_elsewhere group earlier (Begun live) h = absurd h
 
-pub learned_leaves : (gates : Gates) (old new : ProofLog) → Grew IsLearnedEntry old new → LeavesGates gates old.entries new.entries
+pub learned_leaves : (gates : Gates) (old new : ProofLog) → Grew IsLearnedEntry old new →
+    LeavesGates gates old.entries new.entries
 learned_leaves gates old new g = subst (LeavesGates gates old.entries) (sym g.grown)
-    (all_elsewhere gates g.more old.entries (each_of_weaker IsLearnedEntry (IsElsewhere (variable_of gates.group.selector)) (learned_elsewhere (variable_of gates.group.selector)) g.more old.entries g.each))
+    (all_elsewhere gates g.more old.entries (each_of_weaker IsLearnedEntry
+    (IsElsewhere (variable_of gates.group.selector)) (learned_elsewhere (variable_of gates.group.selector)) g.more
+    old.entries g.each))
 
 in_one_group : (g mine : ℕ) (c : List Literal) → IsInGroup mine c → IsInGroup g c → mine ≡ g
 in_one_group g mine c a b = let e : negative mine ∷ a.0 ≡ negative g ∷ b.0 = sym a.1 ∙ b.1 in cc
 
 -- a clause that goes into this group or into one that was made since is in no third one
-not_in : (group mine : ℕ) (n : Name) (start : List Entry) (c : List Literal) → mine ≢ group → name_of start mine ≡ Some n → (g : ℕ) → IsInGroup g c → (g ≡ group) ⊎ (name_of start g ≡ None) → IsInGroup mine c → ⊥
+not_in : (group mine : ℕ) (n : Name) (start : List Entry) (c : List Literal) → mine ≢ group →
+    name_of start mine ≡ Some n → (g : ℕ) → IsInGroup g c → (g ≡ group) ⊎ (name_of start g ≡ None) →
+    IsInGroup mine c → ⊥
 not_in group mine n start c apart named g there (inl is) inside = apart (in_one_group g mine c inside there ∙ is)
 not_in group mine n start c apart named g there (inr unnamed) inside =
     let none : None ≡ Some n = sym unnamed ∙ ap (name_of start) (sym (in_one_group g mine c inside there)) ∙ named in cc
@@ -143,21 +179,29 @@ module _ (f : Dqbf) (engine : Engine) (group : ℕ) (silent : Bool) (start : Lis
   abbrev Added : List Entry → Entry → Type 0
   Added earlier e = IsAddedBy f engine group silent start earlier e
 
-  own_name : (o : Option Engine) → same_engine circuits engine ≡ false → (o ≡ None) ⊎ (o ≡ Some engine) → is_engine circuits o ≡ false
+  own_name : (o : Option Engine) → same_engine circuits engine ≡ false → (o ≡ None) ⊎ (o ≡ Some engine) →
+      is_engine circuits o ≡ false
   own_name o differ (inl none) = ap (is_engine circuits) none
   own_name o differ (inr some) = ap (is_engine circuits) some ∙ differ
 
-  pub others_elsewhere : (mine : ℕ) (n : Name) → same_engine circuits engine ≡ false → mine ≢ group → name_of start mine ≡ Some n → (earlier : List Entry) (e : Entry) → Added earlier e → IsElsewhere mine earlier e
+  pub others_elsewhere : (mine : ℕ) (n : Name) → same_engine circuits engine ≡ false → mine ≢ group →
+      name_of start mine ≡ Some n → (earlier : List Entry) (e : Entry) → Added earlier e → IsElsewhere mine earlier e
   others_elsewhere mine n differ apart named earlier (Named v m) h = (h.unnamed, own_name (name_engine m) differ h.own)
-  others_elsewhere mine n differ apart named earlier (Given origin c) h = (ap (same_engine circuits) h.own ∙ differ, not_in group mine n start c apart named h.in_group.0 h.in_group.1 h.in_group.2)
+  others_elsewhere mine n differ apart named earlier (Given origin c) h = (
+    ap (same_engine circuits) h.own ∙ differ,
+    not_in group mine n start c apart named h.in_group.0 h.in_group.1
+        h.in_group.2,
+  )
   others_elsewhere mine n differ apart named earlier (Learned c hints) h = tt
   others_elsewhere mine n differ apart named earlier (Answer c hints) h = tt
   others_elsewhere mine n differ apart named earlier (Round row values j) h = absurd h
   others_elsewhere mine n differ apart named earlier (Begun live) h = absurd h
 
-  no_gates_given : (mine : ℕ) (n : Name) → mine ≢ group → name_of start mine ≡ Some n → (earlier : List Entry) (e : Entry) → Added earlier e → IsGateGiven mine earlier e
+  no_gates_given : (mine : ℕ) (n : Name) → mine ≢ group → name_of start mine ≡ Some n →
+      (earlier : List Entry) (e : Entry) → Added earlier e → IsGateGiven mine earlier e
   no_gates_given mine n apart named earlier (Named v m) h = tt
-  no_gates_given mine n apart named earlier (Given origin c) h = λ inside. absurd (not_in group mine n start c apart named h.in_group.0 h.in_group.1 h.in_group.2 inside)
+  no_gates_given mine n apart named earlier (Given origin c) h =
+      λ inside. absurd (not_in group mine n start c apart named h.in_group.0 h.in_group.1 h.in_group.2 inside)
   no_gates_given mine n apart named earlier (Learned c hints) h = tt
   no_gates_given mine n apart named earlier (Answer c hints) h = tt
   no_gates_given mine n apart named earlier (Round row values j) h = absurd h
@@ -175,7 +219,8 @@ module _ (f : Dqbf) (engine : Engine) (group : ℕ) (silent : Bool) (start : Lis
   added_stay [] old h = λ v n is. is
   added_stay (e ∷ more) old h = λ v n is. step_stays (more ++ old) e h.0 v n (added_stay more old h.1 v n is)
 
-  gate_is_named : (es : List Entry) (e : Entry) (v i : ℕ) (c : List Literal) → Added es e → e ≡ Given (Gate v i) c → IsSome (name_of (e ∷ es) v)
+  gate_is_named : (es : List Entry) (e : Entry) (v i : ℕ) (c : List Literal) → Added es e → e ≡ Given (Gate v i) c →
+      IsSome (name_of (e ∷ es) v)
   gate_is_named es e v i c h is = by (subst (Added es) is h) where
     by : Added es (Given (Gate v i) c) → IsSome (name_of (e ∷ es) v)
     by given =
@@ -183,27 +228,39 @@ module _ (f : Dqbf) (engine : Engine) (group : ℕ) (silent : Bool) (start : Lis
         let gate : IsGateRest es v i origin.rest = origin.rest_is in
         subst (λ x. IsSome (name_of (x ∷ es) v)) (sym is) (subst IsSome (sym gate.named) refl)
 
-  pub gates_are_named : (more old : List Entry) → EachOf Added more old → (v i : ℕ) (c : List Literal) → Contains (more ++ old) (Given (Gate v i) c) → Contains old (Given (Gate v i) c) ⊎ IsSome (name_of (more ++ old) v)
+  pub gates_are_named : (more old : List Entry) → EachOf Added more old → (v i : ℕ) (c : List Literal) →
+      Contains (more ++ old) (Given (Gate v i) c) → Contains old (Given (Gate v i) c) ⊎ IsSome (name_of (more ++ old) v)
   gates_are_named [] old h v i c inside = inl inside
   gates_are_named (e ∷ more) old h v i c inside = elim (contains_cases e (Given (Gate v i) c) (more ++ old) inside) [
     | inl is ↦ inr (gate_is_named (more ++ old) e v i c h.0 is)
-    | inr later ↦ elim (gates_are_named more old h.1 v i c later) [ inl was ↦ inl was | inr some ↦ inr (some_stays (more ++ old) (e ∷ more ++ old) (step_stays (more ++ old) e h.0) v some) ]
+    | inr later ↦ elim (gates_are_named more old h.1 v i c later) [
+      | inl was ↦ inl was
+      | inr some ↦ inr (some_stays (more ++ old) (e ∷ more ++ old)
+          (step_stays (more ++ old) e h.0) v some)
+    ]
   ]
 
-  pub group_leaves : (gates : Gates) (n : Name) (old new : ProofLog) → Grew Added old new → name_of start (variable_of gates.group.selector) ≡ Some n → (variable_of gates.group.selector) ≢ group →
-      NamesStay old.entries new.entries → NamesBadsAlone group old.entries new.entries → IsSome (name_of old.entries group) → gates.unfinished ≡ None → LeavesGates gates old.entries new.entries
+  pub group_leaves : (gates : Gates) (n : Name) (old new : ProofLog) → Grew Added old new →
+      name_of start (variable_of gates.group.selector) ≡ Some n → (variable_of gates.group.selector) ≢ group →
+      NamesStay old.entries new.entries → NamesBadsAlone group old.entries new.entries →
+      IsSome (name_of old.entries group) → gates.unfinished ≡ None → LeavesGates gates old.entries new.entries
   group_leaves gates n old new g named apart stay names made ready = record {
     stay = stay;
     ands = λ v a b is. elim (names v (And a b) is) [ inl was ↦ was | inr bad ↦ (let clash = bad.1 in cc) ];
     bads = λ v other j is. elim (names v (Bad other j) is) [
       | inl was ↦ inl was
-      | inr bad ↦ (let clash = bad.1 in let same : other ≡ group = cc in inr (subst (λ x. IsSome (name_of new.entries x)) (sym same) (some_stays old.entries new.entries stay group made)))
+      | inr bad ↦ (let clash = bad.1 in let same : other ≡ group = cc in
+          inr (subst (λ x. IsSome (name_of new.entries x)) (sym same)
+          (some_stays old.entries new.entries stay group made)))
     ];
     more = λ x inside. subst (λ es. Contains es x) (sym g.grown) (Contains-append_right g.more old.entries x inside);
-    origins = λ v i c inside. subst (λ es. Contains old.entries (Given (Gate v i) c) ⊎ IsSome (name_of es v)) (sym g.grown)
-        (gates_are_named g.more old.entries g.each v i c (subst (λ es. Contains es (Given (Gate v i) c)) g.grown inside));
+    origins = λ v i c inside. subst (λ es. Contains old.entries (Given (Gate v i) c) ⊎ IsSome (name_of es v))
+        (sym g.grown)
+        (gates_are_named g.more old.entries g.each v i c (subst
+        (λ es. Contains es (Given (Gate v i) c)) g.grown inside));
     own = λ own. subst (Each (IsGateGiven (variable_of gates.group.selector))) (sym g.grown)
-        (each_grown Added (IsGateGiven (variable_of gates.group.selector)) (no_gates_given (variable_of gates.group.selector) n apart named) g.more old.entries g.each own);
+        (each_grown Added (IsGateGiven (variable_of gates.group.selector))
+        (no_gates_given (variable_of gates.group.selector) n apart named) g.more old.entries g.each own);
     missing = λ gate is. (let none : None ≡ Some gate = sym ready ∙ is in cc);
   }
 
@@ -213,7 +270,12 @@ others_leave_checkers f checker engine group silent old new differ apart grew be
     let named = before.gates.made.named in
     checker_stays f checker old.entries new.entries (subst (LeavesGates checker.gates old.entries) (sym grew.grown)
     (all_elsewhere checker.gates grew.more old.entries
-    (each_of_weaker (IsAddedBy f engine group silent old.entries) (IsElsewhere mine) (others_elsewhere f engine group silent old.entries mine (Selector mine) differ apart named) grew.more old.entries grew.each))) before
+    (each_of_weaker (IsAddedBy f engine group silent old.entries) (IsElsewhere mine)
+    (others_elsewhere f engine group silent old.entries mine (Selector mine) differ apart named) grew.more
+    old.entries grew.each))) before
 
-pub round_leaves_checkers : (f : Dqbf) (checker : Checker) (entries : List Entry) (row values : List Bool) (j : ℕ) → IsChecker f checker entries → IsChecker f checker (Round row values j ∷ entries)
-round_leaves_checkers f checker entries row values j before = checker_stays f checker entries (Round row values j ∷ entries) (leaves_elsewhere checker.gates entries (Round row values j) tt) before
+pub round_leaves_checkers : (f : Dqbf) (checker : Checker) (entries : List Entry) (row values : List Bool) (j : ℕ) →
+    IsChecker f checker entries → IsChecker f checker (Round row values j ∷ entries)
+round_leaves_checkers f checker entries row values j before =
+    checker_stays f checker entries (Round row values j ∷ entries)
+    (leaves_elsewhere checker.gates entries (Round row values j) tt) before

@@ -25,13 +25,15 @@ other_bits : (values : List (List ℕ)) (v u : ℕ) (lanes : List ℕ) (l b : �
 other_bits values v u lanes l b other = ap (λ x. lane_bit x l b) (get_or-set_other values v u lanes [] other)
 
 -- the inputs before a place have their bits, and the constant is false
-pub record PatternsWritten (net : Netlist) (places : List ℕ) (first : ℕ) (old values : List (List ℕ)) (n : ℕ) : Type 0 where
+pub record PatternsWritten (net : Netlist) (places : List ℕ) (first : ℕ) (old values : List (List ℕ))
+    (n : ℕ) : Type 0 where
   pub long : length values ≡ length old
   pub constant : (l b : ℕ) → l < 4 → b < 64 → block_bits values l b 0 ≡ false
   pub inputs : (k l b : ℕ) → k < n → l < 4 → b < 64
       → block_bits values l b (slice_index net.inputs k) ≡ placed_bits places (row_number first l b) k
 
-pub patterns_give : (net : Netlist) (places : List ℕ) (first : ℕ) (old values : List (List ℕ)) (n : ℕ) → length net.inputs ≤ n
+pub patterns_give : (net : Netlist) (places : List ℕ) (first : ℕ) (old values : List (List ℕ)) (n : ℕ) →
+    length net.inputs ≤ n
     → PatternsWritten net places first old values n → (l b : ℕ) → l < 4 → b < 64
     → GivesValues net (placed_bits places (row_number first l b)) (block_bits values l b) []
 patterns_give net places first old values n all_in written l b l_below b_below v settled =
@@ -47,14 +49,16 @@ patterns_give net places first old values n all_in written l b l_below b_below v
     ]
 
 -- a map that gives a further gate its value, and the others what they had
-give_gate : (net : Netlist) (bits old new : ℕ → Bool) (places : List ℕ) (p : ℕ) → p < length net.gates → IsReady net places (gate_at net p)
+give_gate : (net : Netlist) (bits old new : ℕ → Bool) (places : List ℕ) (p : ℕ) → p < length net.gates →
+    IsReady net places (gate_at net p)
     → new (gate_at net p).variable ≡ (literal_bit old (gate_at net p).left && literal_bit old (gate_at net p).right)
     → ((v : ℕ) → v ≢ (gate_at net p).variable → new v ≡ old v)
     → GivesValues net bits old places → GivesValues net bits new (places ++ p ∷ [])
 give_gate net bits old new places p p_in ready is others gives v settled =
     let g : Gate = gate_at net p in
     let value : HasValue net bits g.variable (new g.variable) =
-    subst (λ (x : Bool). HasValue net bits g.variable x) (sym is) (gate g (gate_at_member net p p_in) (gives _ ready.0) (gives _ ready.1)) in
+    subst (λ (x : Bool). HasValue net bits g.variable x) (sym is)
+    (gate g (gate_at_member net p p_in) (gives _ ready.0) (gives _ ready.1)) in
     elim (cases_eq v g.variable) [
       | inl same ↦ subst (λ (x : ℕ). HasValue net bits x (new x)) (sym same) value
       | inr other ↦
@@ -71,14 +75,17 @@ pub record LanesWritten (net : Netlist) (order : List ℕ) (old values : List (L
       → GivesValues net bits (block_bits values l b) (take n order)
 
 -- the turn of the loop over the order; g is the gate read, and `new` what is left of the block
-pub write_lanes : (net : Netlist) (order places : List ℕ) (gates : List Gate) (old values new : List (List ℕ)) (n : ℕ) (g : Gate) (lanes : List ℕ)
-    → IsNetlist net → IsOrder net order → net.max_var < length old → places ≡ order → net.gates ≡ gates → n < length places
+pub write_lanes : (net : Netlist) (order places : List ℕ) (gates : List Gate) (old values new : List (List ℕ)) (n : ℕ)
+    (g : Gate) (lanes : List ℕ)
+    → IsNetlist net → IsOrder net order → net.max_var < length old → places ≡ order → net.gates ≡ gates →
+    n < length places
     → g ≡ get_or gates (get_or places n 0) g
     → ((l b : ℕ) → l < 4 → b < 64
     → lane_bit lanes l b ≡ (literal_bit (block_bits values l b) g.left && literal_bit (block_bits values l b) g.right))
     → new ≡ set values g.variable lanes
     → LanesWritten net order old values n → LanesWritten net order old new (n + 1)
-write_lanes net order places gates old values new n g lanes kept ordered room same_places same_gates below read is after so_far =
+write_lanes net order places gates old values new n g lanes kept ordered room same_places same_gates below read is after
+    so_far =
     let n_in : n < length order = rw same_places at below in
     let p : ℕ = get_or places n 0 in
     let e : p ≡ slice_index order n = ap (λ (xs : List ℕ). get_or xs n 0) same_places in
@@ -94,9 +101,11 @@ write_lanes net order places gates old values new n g lanes kept ordered room sa
     record {
       long = ap length new_is ∙ (length-set values _ lanes ∙ so_far.long);
       gives = λ l b l_below b_below bits given.
-          rw (next, new_is) (give_gate net bits (block_bits values l b) (block_bits (set values (gate_at net p).variable lanes) l b) (take n order) p p_in ready
+          rw (next, new_is) (give_gate net bits (block_bits values l b)
+          (block_bits (set values (gate_at net p).variable lanes) l b) (take n order) p p_in ready
           (written_bits values (gate_at net p).variable lanes l b (omega (arith, fits.variable.1, so_far.long, room))
-          ∙ subst (λ (x : Gate). lane_bit lanes l b ≡ (literal_bit (block_bits values l b) x.left && literal_bit (block_bits values l b) x.right)) gate_is
+          ∙ subst (λ (x : Gate). lane_bit lanes l b ≡ (literal_bit (block_bits values l b) x.left && literal_bit
+          (block_bits values l b) x.right)) gate_is
           (is l b l_below b_below))
           (λ v other. other_bits values (gate_at net p).variable v lanes l b other)
           (so_far.gives l b l_below b_below bits given));
@@ -118,12 +127,14 @@ placed_in_order n k i few below =
     (get_or-take n in_order i 0 below ∙ eqb-true _ _ (each_below is_own_place 20 own_places i (omega arith)))
 
 module _ (net : Netlist) (n k : ℕ) (few : n ≤ 20) (is : n ≡ length net.inputs) where
-  pub value_in_order : (v : ℕ) (b : Bool) → HasValue net (placed_bits (take n in_order) k) v b → HasValue net (number_bits k) v b
+  pub value_in_order : (v : ℕ) (b : Bool) → HasValue net (placed_bits (take n in_order) k) v b →
+      HasValue net (number_bits k) v b
   value_in_order v b h =
       value_follows_reach net (placed_bits (take n in_order) k) (number_bits k) h
       (λ i i_in _. placed_in_order n k i few (omega arith))
 
-  pub valuation_in_order : (m : ℕ → Bool) → IsValuation net (placed_bits (take n in_order) k) m → IsValuation net (number_bits k) m
+  pub valuation_in_order : (m : ℕ → Bool) → IsValuation net (placed_bits (take n in_order) k) m →
+      IsValuation net (number_bits k) m
   valuation_in_order m h = record {
     constant = h.constant;
     inputs = λ i i_in. h.inputs i i_in ∙ placed_in_order n k i few (omega arith);

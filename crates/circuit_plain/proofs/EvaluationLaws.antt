@@ -29,7 +29,8 @@ pub record InputsWritten (net : Netlist) (row values : List Bool) (n : ℕ) : Ty
   pub constant : bit_of values 0 ≡ false
   pub inputs : (k : ℕ) → k < n → bit_of values (slice_index net.inputs k) ≡ bit_of row k
 
-pub inputs_give : (net : Netlist) (row values : List Bool) (n : ℕ) → length net.inputs ≤ n → InputsWritten net row values n
+pub inputs_give : (net : Netlist) (row values : List Bool) (n : ℕ) → length net.inputs ≤ n →
+    InputsWritten net row values n
     → GivesValues net (bit_of row) (bit_of values) []
 inputs_give net row values n all_in written v settled =
     elim settled [
@@ -42,7 +43,8 @@ inputs_give net row values n all_in written v settled =
     ]
 
 -- what is settled by the first places of a list is settled by all of them
-pub settled_take : (net : Netlist) (places : List ℕ) (n v : ℕ) → IsSettled net (take n places) v → IsSettled net places v
+pub settled_take : (net : Netlist) (places : List ℕ) (n v : ℕ) → IsSettled net (take n places) v →
+    IsSettled net places v
 settled_take net places n v settled =
     elim settled [
       | inl z ↦ inl z
@@ -59,13 +61,15 @@ settled_cases net places p v settled =
       | inr (inl i) ↦ inl (inr (inl i))
       | inr (inr among) ↦
           let pushed = rw map_push at among in
-          elim (Contains-push_cases (map (λ q. variable_of_gate (gate_at net q)) places) (variable_of_gate (gate_at net p)) v pushed) [
+          elim (Contains-push_cases (map (λ q. variable_of_gate (gate_at net q)) places)
+          (variable_of_gate (gate_at net p)) v pushed) [
             | inl before ↦ inl (inr (inr before))
             | inr here ↦ inr here
           ]
     ]
 
-pub give_gate : (net : Netlist) (bits : ℕ → Bool) (values : List Bool) (places : List ℕ) (p : ℕ) (bit : Bool) → IsNetlist net
+pub give_gate : (net : Netlist) (bits : ℕ → Bool) (values : List Bool) (places : List ℕ) (p : ℕ) (bit : Bool) →
+    IsNetlist net
     → length values ≡ net.max_var + 1 → p < length net.gates → IsReady net places (gate_at net p)
     → bit ≡ (literal_bit (bit_of values) (gate_at net p).left && literal_bit (bit_of values) (gate_at net p).right)
     → GivesValues net bits (bit_of values) places
@@ -78,7 +82,8 @@ give_gate net bits values places p bit kept long p_in ready is gives v settled =
     let value : HasValue net bits g.variable bit =
     subst (λ (b : Bool). HasValue net bits g.variable b) (sym is) (gate g member (gives _ ready.0) (gives _ ready.1)) in
     let at_gate : HasValue net bits g.variable (bit_of (set values g.variable bit) g.variable) =
-    subst (λ (b : Bool). HasValue net bits g.variable b) (sym (get_or-set_same values g.variable bit false g_in)) value in
+    subst (λ (b : Bool). HasValue net bits g.variable b) (sym (get_or-set_same values g.variable bit false g_in))
+    value in
     elim (cases_eq g.variable v) [
       | inl same ↦ subst (λ (x : ℕ). HasValue net bits x (bit_of (set values g.variable bit) x)) same at_gate
       | inr other ↦
@@ -94,7 +99,8 @@ give_gate net bits values places p bit kept long p_in ready is gives v settled =
 -- the gates before a place of the order have their values, wherever the inputs have theirs
 pub record GatesWritten (net : Netlist) (order : List ℕ) (old values : List Bool) (n : ℕ) : Type 0 where
   pub long : length values ≡ net.max_var + 1
-  pub gives : (bits : ℕ → Bool) → GivesValues net bits (bit_of old) [] → GivesValues net bits (bit_of values) (take n order)
+  pub gives : (bits : ℕ → Bool) → GivesValues net bits (bit_of old) [] →
+      GivesValues net bits (bit_of values) (take n order)
 
 -- a gate that was read at a place
 pub gate_read : (net : Netlist) (gates : List Gate) (g : Gate) (p : ℕ) → net.gates ≡ gates → p < length net.gates
@@ -104,13 +110,15 @@ gate_read net gates g p same p_in read =
     here ∙ get_or_default net.gates p g _ p_in
 
 -- the turn of the loop over the order; g is the gate read, and `new` what is left of the row
-pub write_gate : (net : Netlist) (order places : List ℕ) (gates : List Gate) (old values new : List Bool) (n : ℕ) (g : Gate) (bit : Bool)
+pub write_gate : (net : Netlist) (order places : List ℕ) (gates : List Gate) (old values new : List Bool) (n : ℕ)
+    (g : Gate) (bit : Bool)
     → IsNetlist net → IsOrder net order → places ≡ order → net.gates ≡ gates → n < length places
     → g ≡ get_or gates (get_or places n 0) g
     → bit ≡ (literal_bit (bit_of values) g.left && literal_bit (bit_of values) g.right)
     → new ≡ set values g.variable bit
     → GatesWritten net order old values n → GatesWritten net order old new (n + 1)
-write_gate net order places gates old values new n g bit kept ordered same_places same_gates below read is after so_far =
+write_gate net order places gates old values new n g bit kept ordered same_places same_gates below read is after
+    so_far =
     let n_in : n < length order = rw same_places at below in
     let p : ℕ = get_or places n 0 in
     let e : p ≡ slice_index order n = ap (λ (xs : List ℕ). get_or xs n 0) same_places in
@@ -120,14 +128,17 @@ write_gate net order places gates old values new n g bit kept ordered same_place
     subst (λ (x : ℕ). IsReady net (take n order) (gate_at net x)) (sym e) (ordered.follows n n_in) in
     let next : take (n + 1) order ≡ take n order ++ p ∷ [] =
     take_more order n 0 n_in ∙ ap (λ (x : ℕ). take n order ++ x ∷ []) (sym e) in
-    let bit_is : bit ≡ (literal_bit (bit_of values) (gate_at net p).left && literal_bit (bit_of values) (gate_at net p).right) =
-    subst (λ (x : Gate). bit ≡ (literal_bit (bit_of values) x.left && literal_bit (bit_of values) x.right)) gate_is is in
+    let bit_is : bit ≡ (literal_bit (bit_of values) (gate_at net p).left && literal_bit (bit_of values)
+    (gate_at net p).right) =
+    subst (λ (x : Gate). bit ≡ (literal_bit (bit_of values) x.left && literal_bit (bit_of values) x.right))
+    gate_is is in
     let new_is : new ≡ set values (gate_at net p).variable bit =
     subst (λ (x : Gate). new ≡ set values x.variable bit) gate_is after in
     record {
       long = ap length new_is ∙ (length-set values _ bit ∙ so_far.long);
       gives = λ bits given.
-          rw (next, new_is) (give_gate net bits values (take n order) p bit kept so_far.long p_in ready bit_is (so_far.gives bits given));
+          rw (next, new_is) (give_gate net bits values (take n order) p bit kept so_far.long p_in ready bit_is
+          (so_far.gives bits given));
     }
 
 -- an element of a list, by a function of it
@@ -135,7 +146,8 @@ pub Contains-map : (f : ℕ → ℕ) (xs : List ℕ) (x y : ℕ) → Contains xs
 Contains-map f xs x y (k, k_in, is) e =
     (k, rw length-map k_in, get_or-map f xs k x y k_in ∙ (ap f is ∙ e))
 
-gate_variable_at : (net : Netlist) (p v : ℕ) → p < length net.gates → get_or (gate_variables net) p v ≡ v → (gate_at net p).variable ≡ v
+gate_variable_at : (net : Netlist) (p v : ℕ) → p < length net.gates → get_or (gate_variables net) p v ≡ v →
+    (gate_at net p).variable ≡ v
 gate_variable_at net p v p_in is =
     let none : Gate = record { variable = 0; left = 0; right = 0 } in
     sym (get_or-map variable_of_gate net.gates p none v p_in) ∙ is
@@ -154,10 +166,12 @@ gate_equation net bits m order p kept ordered gives p_in =
     (settled_take net order found.0 _ follows.0, settled_take net order found.0 _ follows.1) in
     let settled : IsSettled net order g.variable =
     inr (inr (Contains-map (λ q. variable_of_gate (gate_at net q)) order p g.variable found refl)) in
-    unique_value net bits kept (gives g.variable settled) _ (gate g (gate_at_member net p p_in) (gives _ ready.0) (gives _ ready.1))
+    unique_value net bits kept (gives g.variable settled) _ (gate g (gate_at_member net p p_in) (gives _ ready.0)
+    (gives _ ready.1))
 
 -- with values for the whole order, each defined variable is settled
-pub settled_defined : (net : Netlist) (order : List ℕ) (v : ℕ) → IsOrder net order → (v ≡ 0) ⊎ IsDefined net v → IsSettled net order v
+pub settled_defined : (net : Netlist) (order : List ℕ) (v : ℕ) → IsOrder net order → (v ≡ 0) ⊎ IsDefined net v →
+    IsSettled net order v
 settled_defined net order v ordered h =
     elim h [
       | inl z ↦ inl z

@@ -60,12 +60,14 @@ flipped p s p_bit s_bit =
     ]
 
 pub signed_bits : (x : List ℕ) (literal l b : ℕ) → length x ≡ 4 → l < 4 → b < 64
-    → lane_bit (zip2 bit_xor x (replicate 4 (literal % 2 * 18446744073709551615))) l b ≡ signed_bit literal (lane_bit x l b)
+    → lane_bit (zip2 bit_xor x (replicate 4 (literal % 2 * 18446744073709551615))) l b ≡ signed_bit literal
+    (lane_bit x l b)
 signed_bits x literal l b four below b_below =
     let w = literal % 2 * 18446744073709551615 in
     let p = get_or x l 0 in
     let s_bit : literal % 2 < 2 = omega arith in
     ap (λ n. bit_at n b == 1)
-    (get_or-zip2 bit_xor x (replicate 4 w) l 0 0 0 (omega arith) below ∙ ap (bit_xor p) (get_or-replicate 4 l w 0 below))
+    (get_or-zip2 bit_xor x (replicate 4 w) l 0 0 0 (omega arith) below ∙ ap (bit_xor p)
+    (get_or-replicate 4 l w 0 below))
     ∙ ap (λ n. n == 1) (bit_at_xor p w b ∙ ap (λ n. (bit_at p b + n) % 2) (splat_bit (literal % 2) b s_bit b_below))
     ∙ flipped (bit_at p b) (literal % 2) (bit_at-lt p b) s_bit

@@ -52,10 +52,12 @@ module _ (net : Netlist) (kept : IsNetlist net) where
   -- no input is a gate
   pub input_apart : (v : ℕ) (g : Gate) → Contains net.inputs v → Contains net.gates g → v ≡ g.variable → ⊥
   input_apart v g v_in g_in e =
-      All-contains (λ h. v ≢ h.variable) net.gates g (All-contains (λ x. All (λ h. x ≢ h.variable) net.gates) net.inputs v kept.apart v_in) g_in e
+      All-contains (λ h. v ≢ h.variable) net.gates g (All-contains
+      (λ x. All (λ h. x ≢ h.variable) net.gates) net.inputs v kept.apart v_in) g_in e
 
 -- a gate's variable is defined, and a defined variable of the gates is some gate's
-pub gate_defined : (net : Netlist) (i : ℕ) (d : Gate) → i < length net.gates → Contains (gate_variables net) (get_or net.gates i d).variable
+pub gate_defined : (net : Netlist) (i : ℕ) (d : Gate) → i < length net.gates →
+    Contains (gate_variables net) (get_or net.gates i d).variable
 gate_defined net i d i_in =
     (i, rw length-map i_in, get_or-map variable_of_gate net.gates i d _ i_in)
 
@@ -71,7 +73,8 @@ keeps_input net v kept fits fresh = record {
       (λ k d k_in e. fresh (inl (k, k_in, get_or_default net.inputs k v d k_in ∙ e)));
   gates_once = kept.gates_once;
   apart = All-push (λ x. All (λ g. x ≢ g.variable) net.gates) net.inputs v kept.apart
-      (λ k d k_in e. fresh (inr (subst (λ (x : ℕ). Contains (gate_variables net) x) (sym e) (gate_defined net k d k_in))));
+      (λ k d k_in e. fresh (inr (subst (λ (x : ℕ). Contains (gate_variables net) x) (sym e)
+      (gate_defined net k d k_in))));
 }
 
 pub keeps_output : (net : Netlist) (l : ℕ) → IsNetlist net → IsLiteral net.max_var l
@@ -118,8 +121,12 @@ found_gate net v gates same = (
   λ on.
       let (k, g, k_in, is, e) = Any-from_list_any (λ h. h.variable == v) gates on in
       let k_below : k < length net.gates = rw same k_in in
-      let here : get_or net.gates k g ≡ g = rw same is in
-      (k, rw length-map k_below, get_or-map variable_of_gate net.gates k g v k_below ∙ (ap variable_of_gate here ∙ eqb-true g.variable v e)),
+      let here : get_or net.gates k g ≡ g = rw same is in (
+        k,
+        rw length-map k_below,
+        get_or-map variable_of_gate net.gates k g v k_below ∙
+            (ap variable_of_gate here ∙ eqb-true g.variable v e),
+      ),
   λ (k, k_in, is).
       let k_below : k < length net.gates = rw length-map at k_in in
       let none : Gate = record { variable = 0; left = 0; right = 0 } in

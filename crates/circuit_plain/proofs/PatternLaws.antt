@@ -41,7 +41,8 @@ word_bits = refl
 
 word_bit : (i b : ℕ) → i < 6 → b < 64 → bit_at (get_or words i 0) b ≡ bit_at b i
 word_bit i b i_below b_below =
-    eqb-true _ _ (each_below (is_word_bit i) 64 (each_below (λ i. all_below (is_word_bit i) 64) 6 word_bits i i_below) b b_below)
+    eqb-true _ _ (each_below (is_word_bit i) 64 (each_below (λ i. all_below (is_word_bit i) 64) 6 word_bits i i_below) b
+    b_below)
 
 low_bit : (q b i : ℕ) → b < 64 → i < 6 → bit_at (64 * q + b) i ≡ bit_at b i
 low_bit q b zero b_below i_below = omega arith
@@ -75,10 +76,12 @@ module _ (first l b : ℕ) (whole : first % 256 ≡ 0) (l_below : l < 4) (b_belo
       let same : 64 * (first / 64 + l) + b ≡ first + 64 * l + b = omega arith in
       ap (λ w. bit_at w b == 1) (get_or-replicate 4 l (get_or words place 0) 0 l_below)
       ∙ ap (λ n. n == 1)
-      (word_bit place b below b_below ∙ sym (low_bit (first / 64 + l) b place b_below below) ∙ ap (λ n. bit_at n place) same)
+      (word_bit place b below b_below ∙ sym (low_bit (first / 64 + l) b place b_below below) ∙ ap
+      (λ n. bit_at n place) same)
 
   pub high_pattern : (place : ℕ) → 8 ≤ place
-      → lane_bit (replicate 4 (first / 2 ^ place % 2 * 18446744073709551615)) l b ≡ (bit_at (first + 64 * l + b) place == 1)
+      → lane_bit (replicate 4 (first / 2 ^ place % 2 * 18446744073709551615)) l b ≡
+      (bit_at (first + 64 * l + b) place == 1)
   high_pattern place high =
       let k : ℕ = place - 8 in
       let sum : 8 + k ≡ place = omega arith in
@@ -91,13 +94,15 @@ module _ (first l b : ℕ) (whole : first % 256 ≡ 0) (l_below : l < 4) (b_belo
       ∙ ap (λ n. n == 1) (splat_bit s b (bit_at-lt first place) b_below ∙ ap (λ n. n % 2) bit)
 
   pub parity_pattern : (place : ℕ) → place ≡ 6
-      → lane_bit (0 ∷ 18446744073709551615 ∷ 0 ∷ 18446744073709551615 ∷ []) l b ≡ (bit_at (first + 64 * l + b) place == 1)
+      → lane_bit (0 ∷ 18446744073709551615 ∷ 0 ∷ 18446744073709551615 ∷ []) l b ≡
+      (bit_at (first + 64 * l + b) place == 1)
   parity_pattern place is =
       let bit : l % 2 ≡ bit_at (first + 64 * l + b) 6 = omega arith in
       lane_parity l b l_below b_below ∙ ap (λ n. n == 1) (bit ∙ ap (bit_at (first + 64 * l + b)) (sym is))
 
   pub half_pattern : (place : ℕ) → place ≡ 7
-      → lane_bit (0 ∷ 0 ∷ 18446744073709551615 ∷ 18446744073709551615 ∷ []) l b ≡ (bit_at (first + 64 * l + b) place == 1)
+      → lane_bit (0 ∷ 0 ∷ 18446744073709551615 ∷ 18446744073709551615 ∷ []) l b ≡
+      (bit_at (first + 64 * l + b) place == 1)
   half_pattern place is =
       let bit : l / 2 ≡ bit_at (first + 64 * l + b) 7 = omega arith in
       lane_half l b l_below b_below ∙ ap (λ n. n == 1) (bit ∙ ap (bit_at (first + 64 * l + b)) (sym is))

@@ -42,11 +42,13 @@ record IsEarlier (net : Netlist) (order : List ℕ) (n v : ℕ) : Type 0 where
   in_range : at < length order
   is : (gate_at net (slice_index order at)).variable ≡ v
 
-earlier : (net : Netlist) (order : List ℕ) (n v : ℕ) → Contains (map (λ p. variable_of_gate (gate_at net p)) (take n order)) v → IsEarlier net order n v
+earlier : (net : Netlist) (order : List ℕ) (n v : ℕ) → Contains
+    (map (λ p. variable_of_gate (gate_at net p)) (take n order)) v → IsEarlier net order n v
 earlier net order n v (j, j_in, is) =
     let f : ℕ → ℕ = λ p. variable_of_gate (gate_at net p) in
     let short : j < length (take n order) = rw length-map at j_in in
-    let bounds : length (take n order) ≤ n × length (take n order) ≤ length order = (rw length-take (omega arith), rw length-take (omega arith)) in
+    let bounds : length (take n order) ≤ n × length (take n order) ≤ length order =
+    (rw length-take (omega arith), rw length-take (omega arith)) in
     let value : f (get_or (take n order) j 0) ≡ v = sym (get_or-map f (take n order) j 0 v short) ∙ is in
     let moved : get_or (take n order) j 0 ≡ slice_index order j = get_or-take n order j 0 (omega arith) in
     record { at = j; before = omega arith; in_range = omega arith; is = ap f (sym moved) ∙ value }
@@ -92,7 +94,8 @@ pub record Spreads (marks new : ℕ → Bool) (x y : ℕ) : Type 0 where
   pub right_on : new y ≡ true
   pub only : (v : ℕ) → new v ≡ true → (v ≡ y) ⊎ ((v ≡ x) ⊎ (marks v ≡ true))
 
-pub set_spreads : (marks new : List Bool) (x y : ℕ) → x < length marks → y < length marks → new ≡ set (set marks x true) y true
+pub set_spreads : (marks new : List Bool) (x y : ℕ) → x < length marks → y < length marks →
+    new ≡ set (set marks x true) y true
     → Spreads (bit_of marks) (bit_of new) x y
 set_spreads marks new x y x_in y_marks after =
     let y_in : y < length (set marks x true) = rw length-set y_marks in
@@ -108,10 +111,12 @@ set_spreads marks new x y x_in y_marks after =
     }
 
 -- one gate, before the gates that were walked
-module _ (net : Netlist) (order : List ℕ) (old marks : ℕ → Bool) (n : ℕ) (kept : IsNetlist net) (ordered : IsOrder net order)
+module _ (net : Netlist) (order : List ℕ) (old marks : ℕ → Bool) (n : ℕ) (kept : IsNetlist net)
+    (ordered : IsOrder net order)
     (n_in : n < length order) (so_far : SidesMarked net order old marks (n + 1)) where
   pub mark_gate : (new : ℕ → Bool) → marks (gate_at net (slice_index order n)).variable ≡ true
-      → Spreads marks new (literal_variable (gate_at net (slice_index order n)).left) (literal_variable (gate_at net (slice_index order n)).right)
+      → Spreads marks new (literal_variable (gate_at net (slice_index order n)).left)
+      (literal_variable (gate_at net (slice_index order n)).right)
       → SidesMarked net order old new n
   mark_gate new on spreads =
       let g : Gate = gate_at net (slice_index order n) in
@@ -123,14 +128,20 @@ module _ (net : Netlist) (order : List ℕ) (old marks : ℕ → Bool) (n : ℕ)
         sound = λ v new_on.
             elim (spreads.only v new_on) [
               | inl same ↦ (source.0, source.1, reach_trans source.2 (right g member (to_itself net _ v (sym same))))
-              | inr (inl same) ↦ (source.0, source.1, reach_trans source.2 (left g member (to_itself net _ v (sym same))))
+              | inr (inl same) ↦ (
+                source.0,
+                source.1,
+                reach_trans source.2
+                    (left g member (to_itself net _ v (sym same))),
+              )
               | inr (inr before) ↦ so_far.sound v before
             ];
         closed = λ k above k_in new_on.
             let h : Gate = gate_at net (slice_index order k) in
             elim (cases_eq k n) [
               | inl same ↦
-                  let e : gate_at net (slice_index order n) ≡ h = ap (λ (j : ℕ). gate_at net (slice_index order j)) (sym same) in (
+                  let e : gate_at net (slice_index order n) ≡ h =
+                  ap (λ (j : ℕ). gate_at net (slice_index order j)) (sym same) in (
                     subst (λ (z : Gate). new (literal_variable z.left) ≡ true) e spreads.left_on,
                     subst (λ (z : Gate). new (literal_variable z.right) ≡ true) e spreads.right_on,
                   )
@@ -148,14 +159,16 @@ module _ (net : Netlist) (order : List ℕ) (old marks : ℕ → Bool) (n : ℕ)
       }
 
   -- where it isn't marked, nothing changes
-  pub pass_gate : (new : ℕ → Bool) → marks (gate_at net (slice_index order n)).variable ≡ false → ((v : ℕ) → new v ≡ marks v)
+  pub pass_gate : (new : ℕ → Bool) → marks (gate_at net (slice_index order n)).variable ≡ false →
+      ((v : ℕ) → new v ≡ marks v)
       → SidesMarked net order old new n
   pass_gate new off same = record {
     kept = λ u old_on. same u ∙ so_far.kept u old_on;
     sound = λ v new_on. so_far.sound v (sym (same v) ∙ new_on);
     closed = λ k above k_in new_on.
         elim (cases_eq k n) [
-          | inl here ↦ absurd (false≢true (sym off ∙ ap (λ (j : ℕ). marks (gate_at net (slice_index order j)).variable) (sym here) ∙ sym (same _) ∙ new_on))
+          | inl here ↦ absurd (false≢true (sym off ∙ ap (λ (j : ℕ). marks (gate_at net (slice_index order j)).variable)
+              (sym here) ∙ sym (same _) ∙ new_on))
           | inr other ↦
               let sides = so_far.closed k (omega arith) k_in (sym (same _) ∙ new_on) in
               (same _ ∙ sides.0, same _ ∙ sides.1)
@@ -177,7 +190,8 @@ module _ (net : Netlist) (order places : List ℕ) (gates : List Gate) (n : ℕ)
   pub sides_within : (m : ℕ) → m ≡ net.max_var + 1 → (literal_variable g.left < m) × (literal_variable g.right < m)
   sides_within m long =
       let at = walked_gate in
-      let fits = gate_fits net kept (gate_at net (slice_index order n)) (gate_at_member net (slice_index order n) (ordered.in_range n 0 at.0)) in (
+      let fits = gate_fits net kept (gate_at net (slice_index order n))
+      (gate_at_member net (slice_index order n) (ordered.in_range n 0 at.0)) in (
         subst (λ (z : Gate). literal_variable z.left < m) (sym at.1) (literal_in_row net.max_var _ m fits.left long),
         subst (λ (z : Gate). literal_variable z.right < m) (sym at.1) (literal_in_row net.max_var _ m fits.right long),
       )
@@ -187,7 +201,8 @@ module _ (net : Netlist) (order places : List ℕ) (gates : List Gate) (n : ℕ)
   walk_on old marks new so_far on spreads =
       mark_gate net order old marks n kept ordered walked_gate.0 so_far new
       (subst (λ (z : Gate). marks z.variable ≡ true) walked_gate.1 on)
-      (subst (λ (z : Gate). Spreads marks new (literal_variable z.left) (literal_variable z.right)) walked_gate.1 spreads)
+      (subst (λ (z : Gate). Spreads marks new (literal_variable z.left) (literal_variable z.right)) walked_gate.1
+      spreads)
 
   pub walk_past : (old marks new : ℕ → Bool) → SidesMarked net order old marks (n + 1) → marks g.variable ≡ false
       → ((v : ℕ) → new v ≡ marks v) → SidesMarked net order old new n
@@ -196,7 +211,8 @@ module _ (net : Netlist) (order places : List ℕ) (gates : List Gate) (n : ℕ)
       (subst (λ (z : Gate). marks z.variable ≡ false) walked_gate.1 off) same
 
 -- at the end of the walk
-closed_gate : (net : Netlist) (order : List ℕ) (old marks : ℕ → Bool) (g : Gate) → IsOrder net order → SidesMarked net order old marks 0
+closed_gate : (net : Netlist) (order : List ℕ) (old marks : ℕ → Bool) (g : Gate) → IsOrder net order →
+    SidesMarked net order old marks 0
     → Contains net.gates g → marks g.variable ≡ true
     → (marks (literal_variable g.left) ≡ true) × (marks (literal_variable g.right) ≡ true)
 closed_gate net order old marks g ordered done (p, p_in, is) on =
@@ -204,12 +220,14 @@ closed_gate net order old marks g ordered done (p, p_in, is) on =
     let here : slice_index order found.0 ≡ p = get_or_default order found.0 0 p found.1 ∙ found.2 in
     let gate_is : gate_at net (slice_index order found.0) ≡ g =
     ap (gate_at net) here ∙ (get_or_default net.gates p _ g p_in ∙ is) in
-    let sides = done.closed found.0 (omega arith) found.1 (subst (λ (z : Gate). marks z.variable ≡ true) (sym gate_is) on) in (
+    let sides = done.closed found.0 (omega arith) found.1 (subst (λ (z : Gate). marks z.variable ≡ true)
+    (sym gate_is) on) in (
       subst (λ (z : Gate). marks (literal_variable z.left) ≡ true) gate_is sides.0,
       subst (λ (z : Gate). marks (literal_variable z.right) ≡ true) gate_is sides.1,
     )
 
-closed_reach : (net : Netlist) (order : List ℕ) (old marks : ℕ → Bool) → IsOrder net order → SidesMarked net order old marks 0
+closed_reach : (net : Netlist) (order : List ℕ) (old marks : ℕ → Bool) → IsOrder net order →
+    SidesMarked net order old marks 0
     → {u v : ℕ} → Reaches net u v → marks u ≡ true → marks v ≡ true
 closed_reach net order old marks ordered done itself on = on
 closed_reach net order old marks ordered done (left g g_in r) on =
@@ -217,7 +235,8 @@ closed_reach net order old marks ordered done (left g g_in r) on =
 closed_reach net order old marks ordered done (right g g_in r) on =
     closed_reach net order old marks ordered done r (closed_gate net order old marks g ordered done g_in on).1
 
-pub marks_reach : (net : Netlist) (order : List ℕ) (old marks : ℕ → Bool) → IsOrder net order → SidesMarked net order old marks 0
+pub marks_reach : (net : Netlist) (order : List ℕ) (old marks : ℕ → Bool) → IsOrder net order →
+    SidesMarked net order old marks 0
     → MarksReach net old marks
 marks_reach net order old marks ordered done v =
     (done.sound v, λ w. closed_reach net order old marks ordered done w.2 (done.kept w.0 w.1))

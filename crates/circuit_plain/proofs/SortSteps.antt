@@ -99,23 +99,27 @@ settled_more net places p v settled =
           inr (inr (rw map_push (Contains-append_left (map (λ q. variable_of_gate (gate_at net q)) places) _ v among)))
     ]
 
-settled_last : (net : Netlist) (places : List ℕ) (p v : ℕ) → (gate_at net p).variable ≡ v → IsSettled net (places ++ p ∷ []) v
+settled_last : (net : Netlist) (places : List ℕ) (p v : ℕ) → (gate_at net p).variable ≡ v →
+    IsSettled net (places ++ p ∷ []) v
 settled_last net places p v e =
     inr (inr (Contains-map (λ q. variable_of_gate (gate_at net q)) (places ++ p ∷ []) p v (Contains-push places p) e))
 
 partial_push : (net : Netlist) (places : List ℕ) (p : ℕ) → p < length net.gates → IsPartialOrder net places
-    → ¬ IsSettled net places (gate_at net p).variable → IsReady net places (gate_at net p) → IsPartialOrder net (places ++ p ∷ [])
+    → ¬ IsSettled net places (gate_at net p).variable → IsReady net places (gate_at net p) →
+    IsPartialOrder net (places ++ p ∷ [])
 partial_push net places p p_in partial fresh ready = record {
   in_range = All-push (λ q. q < length net.gates) places p partial.in_range p_in;
   each_once = all_pairs_push (λ a b. a ≢ b) places p partial.each_once
       (λ k d k_in same. fresh (inr (inr
-      (Contains-map (λ q. variable_of_gate (gate_at net q)) places p _ (k, k_in, get_or_default places k p d k_in ∙ same) refl))));
+      (Contains-map (λ q. variable_of_gate (gate_at net q)) places p _
+      (k, k_in, get_or_default places k p d k_in ∙ same) refl))));
   follows = λ k k_in.
       let long : length (places ++ p ∷ []) ≡ length places + 1 = length_push places p in
       elim (cases_lt k (length places)) [
         | inl below ↦
             let front : take k (places ++ p ∷ []) ≡ take k places = take-append-le k places (p ∷ []) (omega arith) in
-            let at : slice_index (places ++ p ∷ []) k ≡ slice_index places k = get_or_append_left places (p ∷ []) 0 k below in
+            let at : slice_index (places ++ p ∷ []) k ≡ slice_index places k =
+            get_or_append_left places (p ∷ []) 0 k below in
             rw (front, at) (partial.follows k below)
         | inr above ↦
             let last : length places ≡ k = omega arith in
@@ -135,13 +139,22 @@ draft_push net places after settled new p v p_in is draft off ready after_is upd
       partial = partial_push net places p p_in draft.partial fresh ready;
       exact = λ w.
           let h = inserted settled new v (IsSettled net places) updates draft.exact w in (
-            λ on. elim (h.0 on) [ inl before ↦ settled_more net places p w before | inr here ↦ settled_last net places p w (sym is ∙ here) ],
-            λ s. elim (settled_cases net places p w s) [ inl before ↦ h.1 (inl before) | inr here ↦ h.1 (inr (is ∙ here)) ],
+            λ on. elim (h.0 on) [
+              | inl before ↦ settled_more net places p w before
+              | inr here ↦
+                  settled_last net places p w (sym is ∙ here)
+            ],
+            λ s. elim (settled_cases net places p w s) [
+              | inl before ↦ h.1 (inl before)
+              | inr here ↦
+                  h.1 (inr (is ∙ here))
+            ],
           );
     })
 
 -- a try of one gate; g is the gate read
-module _ (net : Netlist) (gates : List Gate) (places : List ℕ) (settled : ℕ → Bool) (g : Gate) (p : ℕ) (same : net.gates ≡ gates)
+module _ (net : Netlist) (gates : List Gate) (places : List ℕ) (settled : ℕ → Bool) (g : Gate) (p : ℕ)
+    (same : net.gates ≡ gates)
     (p_in : p < length net.gates) (read : g ≡ get_or gates p g) (draft : IsDraft net places settled) where
   pub stuck_gate : (settled (literal_variable g.left) && settled (literal_variable g.right)) ≡ false
       → IsPassed net places p
@@ -189,7 +202,13 @@ pub round_grown : (net : Netlist) (start places after : List ℕ) (settled new :
     → RoundSoFar net start after new true (n + 1)
 round_grown net start places after settled new added n so_far draft longer =
     let no_less = so_far.no_less in
-    record { draft = draft; no_less = omega arith; grown = λ _. omega arith; still = λ off. absurd (false≢true (sym off)) }
+    record {
+      draft = draft;
+      no_less = omega arith;
+      grown = λ _. omega arith;
+      still =
+          λ off. absurd (false≢true (sym off));
+    }
 
 pub round_passed : (net : Netlist) (start places after : List ℕ) (settled new : ℕ → Bool) (added : Bool) (n : ℕ)
     → RoundSoFar net start places settled added n → IsDraft net after new → after ≡ places → IsPassed net places n
@@ -215,7 +234,8 @@ put_place net places p kept partial p_in settled =
           let short : k < length places = rw length-map at k_in in
           let q : ℕ = slice_index places k in
           let value : f q ≡ f p = sym (get_or-map f places k 0 _ short) ∙ is in
-          let same : q ≡ p = same_place variable_of_gate net.gates q p _ kept.gates_once (partial.in_range k 0 short) p_in value in
+          let same : q ≡ p = same_place variable_of_gate net.gates q p _ kept.gates_once
+          (partial.in_range k 0 short) p_in value in
           (k, short, get_or_default places k p 0 short ∙ same)
     ]
 
@@ -233,24 +253,29 @@ item_variable : (net : Netlist) (items : List Gate) (n : ℕ) (none : Gate) → 
     → (get_or items n none).variable ≡ (gate_at net n).variable
 item_variable net items n none same n_in =
     let n_below : n < length net.gates = rw same at n_in in
-    ap (λ (gs : List Gate). (get_or gs n none).variable) same ∙ ap variable_of_gate (get_or_default net.gates n none _ n_below)
+    ap (λ (gs : List Gate). (get_or gs n none).variable) same ∙ ap variable_of_gate
+    (get_or_default net.gates n none _ n_below)
 
 -- a gate whose variable the set does not hold
-pub not_put : (net : Netlist) (items : List Gate) (places : List ℕ) (settled : ℕ → Bool) (n : ℕ) (none : Gate) → items ≡ net.gates
+pub not_put : (net : Netlist) (items : List Gate) (places : List ℕ) (settled : ℕ → Bool) (n : ℕ) (none : Gate) →
+    items ≡ net.gates
     → n < length items → IsDraft net places settled → settled (get_or items n none).variable ≡ false
     → ¬ IsSettled net places (gate_at net n).variable
 not_put net items places settled n none same n_in draft off h =
     let e : (get_or items n none).variable ≡ (gate_at net n).variable = item_variable net items n none same n_in in
     both_ways (settled (get_or items n none).variable) off ((draft.exact _).1 (subst (IsSettled net places) (sym e) h))
 
-pub is_put : (net : Netlist) (items : List Gate) (places : List ℕ) (settled : ℕ → Bool) (n : ℕ) (none : Gate) → items ≡ net.gates
+pub is_put : (net : Netlist) (items : List Gate) (places : List ℕ) (settled : ℕ → Bool) (n : ℕ) (none : Gate) →
+    items ≡ net.gates
     → n < length items → IsDraft net places settled → settled (get_or items n none).variable ≡ true
     → IsSettled net places (gate_at net n).variable
 is_put net items places settled n none same n_in draft on =
     subst (IsSettled net places) (item_variable net items n none same n_in) ((draft.exact _).0 on)
 
-pub first_outside : (net : Netlist) (places : List ℕ) (n : ℕ) → IsPartialOrder net places → IsClosed net places → n < length net.gates
-    → ((p : ℕ) → p < n → IsSettled net places (gate_at net p).variable) → ¬ IsSettled net places (gate_at net n).variable
+pub first_outside : (net : Netlist) (places : List ℕ) (n : ℕ) → IsPartialOrder net places → IsClosed net places →
+    n < length net.gates
+    → ((p : ℕ) → p < n → IsSettled net places (gate_at net p).variable) →
+    ¬ IsSettled net places (gate_at net n).variable
     → IsFirstUngrounded net n
 first_outside net places n partial closed n_in settled missing = record {
   in_range = n_in;

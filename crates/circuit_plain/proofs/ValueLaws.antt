@@ -43,26 +43,34 @@ module _ (net : Netlist) (bits : ℕ → Bool) (kept : IsNetlist net) where
   constant_once b h =
       elim (value_cases h) [
         | inl (z, e) ↦ e
-        | inr (inl w) ↦ absurd (omega (arith, (input_fits net kept 0 (Contains-place net.inputs w.place 0 w.in_range w.is)).0))
+        | inr (inl w) ↦ absurd (omega (
+          arith,
+          (input_fits net kept 0
+              (Contains-place net.inputs w.place 0 w.in_range w.is)).0,
+        ))
         | inr (inr w) ↦ absurd (omega (arith, (gate_fits net kept w.by w.member).variable.0, w.is))
       ]
 
-  input_once : (i : ℕ) (v : ℕ) (b : Bool) → i < length net.inputs → slice_index net.inputs i ≡ v → HasValue net bits v b → b ≡ bits i
+  input_once : (i : ℕ) (v : ℕ) (b : Bool) → i < length net.inputs → slice_index net.inputs i ≡ v →
+      HasValue net bits v b → b ≡ bits i
   input_once i v b i_in e h =
       let v_in : Contains net.inputs v = Contains-place net.inputs i v i_in e in
       elim (value_cases h) [
         | inl (z, _) ↦ absurd (omega (arith, (input_fits net kept v v_in).0))
         | inr (inl w) ↦
-            let same : w.place ≡ i = same_place (λ x. x) net.inputs w.place i 0 kept.inputs_once w.in_range i_in (w.is ∙ sym e) in
+            let same : w.place ≡ i = same_place (λ x. x) net.inputs w.place i 0 kept.inputs_once w.in_range i_in
+            (w.is ∙ sym e) in
             w.bit ∙ ap bits same
         | inr (inr w) ↦ absurd (input_apart net kept v w.by v_in w.member w.is)
       ]
 
-  gate_once : (g : Gate) (b : Bool) → Contains net.gates g → HasValue net bits g.variable b → IsGateValue net bits g.variable b
+  gate_once : (g : Gate) (b : Bool) → Contains net.gates g → HasValue net bits g.variable b →
+      IsGateValue net bits g.variable b
   gate_once g b g_in h =
       elim (value_cases h) [
         | inl (z, _) ↦ absurd (omega (arith, (gate_fits net kept g g_in).variable.0))
-        | inr (inl w) ↦ absurd (input_apart net kept g.variable g (Contains-place net.inputs w.place g.variable w.in_range w.is) g_in refl)
+        | inr (inl w) ↦ absurd (input_apart net kept g.variable g
+            (Contains-place net.inputs w.place g.variable w.in_range w.is) g_in refl)
         | inr (inr w) ↦ w
       ]
 
@@ -73,8 +81,10 @@ module _ (net : Netlist) (bits : ℕ → Bool) (kept : IsNetlist net) where
   gate_value_is g a c b g_in on_left on_right h =
       let w = gate_once g b g_in h in
       let same : w.by ≡ g = same_gate net kept w.by g w.member g_in (sym w.is) in
-      let left_is : a ≡ w.a = on_left w.a (subst (λ (x : Gate). HasValue net bits (literal_variable x.left) w.a) same w.on_left) in
-      let right_is : c ≡ w.c = on_right w.c (subst (λ (x : Gate). HasValue net bits (literal_variable x.right) w.c) same w.on_right) in
+      let left_is : a ≡ w.a = on_left w.a (subst (λ (x : Gate). HasValue net bits (literal_variable x.left) w.a) same
+      w.on_left) in
+      let right_is : c ≡ w.c = on_right w.c (subst (λ (x : Gate). HasValue net bits (literal_variable x.right) w.c) same
+      w.on_right) in
       let bit = w.bit in
       cc
 
@@ -90,7 +100,10 @@ values_are_unique net bits v a b kept h k = unique_value net bits kept h b k
 
 pub grounded_value : (net : Netlist) (bits : ℕ → Bool) {v : ℕ} → IsGrounded net v → (b : Bool) × HasValue net bits v b
 grounded_value net bits ground_constant = (false, constant)
-grounded_value net bits (ground_input {v} (i, i_in, e)) = (bits i, input i i_in (get_or_default net.inputs i 0 v i_in ∙ e))
+grounded_value net bits (ground_input {v} (i, i_in, e)) = (
+  bits i,
+  input i i_in (get_or_default net.inputs i 0 v i_in ∙ e),
+)
 grounded_value net bits (ground_gate g g_in p q) =
     let on_left = grounded_value net bits p in
     let on_right = grounded_value net bits q in
@@ -104,7 +117,8 @@ pub value_follows_reach : (net : Netlist) (bits others : ℕ → Bool) {v : ℕ}
     → HasValue net others v b
 value_follows_reach net bits others constant agree = constant
 value_follows_reach net bits others (input {v} i i_in e) agree =
-    let here : Reaches net v (slice_index net.inputs i) = subst (λ (x : ℕ). Reaches net x (slice_index net.inputs i)) e itself in
+    let here : Reaches net v (slice_index net.inputs i) = subst
+    (λ (x : ℕ). Reaches net x (slice_index net.inputs i)) e itself in
     subst (λ (x : Bool). HasValue net others v x) (sym (agree i i_in here)) (input i i_in e)
 value_follows_reach net bits others (gate g g_in p q) agree =
     gate g g_in
@@ -114,7 +128,8 @@ value_follows_reach net bits others (gate g g_in p q) agree =
 pub values_follow_reach : ValuesFollowReach
 values_follow_reach net bits others v b agree h = value_follows_reach net bits others h agree
 
-pub valuation_agrees : (net : Netlist) (bits m : ℕ → Bool) → IsValuation net bits m → {v : ℕ} {b : Bool} → HasValue net bits v b → m v ≡ b
+pub valuation_agrees : (net : Netlist) (bits m : ℕ → Bool) → IsValuation net bits m → {v : ℕ} {b : Bool} →
+    HasValue net bits v b → m v ≡ b
 valuation_agrees net bits m meets constant = meets.constant
 valuation_agrees net bits m meets (input i i_in e) = ap m (sym e) ∙ meets.inputs i i_in
 valuation_agrees net bits m meets (gate g g_in p q) =

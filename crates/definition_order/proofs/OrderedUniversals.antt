@@ -13,7 +13,8 @@ abbrev Rises : List ℕ → List ℕ → Type 0
 Rises us xs = AllPairs (λ v w. place us v < place us w) xs
 
 rises : (us xs : List ℕ) → IsDistinct eqb us → Kept us xs → Rises us xs
-rises us xs distinct kept = subst (Rises us) (sym kept) (AllPairs-filter (λ v w. place us v < place us w) (has xs) us (λ i j d before below.
+rises us xs distinct kept = subst (Rises us) (sym kept) (AllPairs-filter (λ v w. place us v < place us w) (has xs) us
+    (λ i j d before below.
     let a = place-get_or us i d distinct (omega (arith, before, below)) in
     let b = place-get_or us j d distinct below in
     omega (arith, a, b, before)))
@@ -23,22 +24,27 @@ pub record IsPassed (xs ys : List ℕ) (i at : ℕ) : Type 0 where
   pub found : All (Contains ys) (take i xs)
   pub passed : (k j : ℕ) → k < at → i ≤ j → j < length xs → get_or ys k 0 ≢ get_or xs j 0
 
-pub passed_more : (us xs ys : List ℕ) (i at p x : ℕ) → IsDistinct eqb us → Kept us xs → Kept us ys → IsPassed xs ys i at → i < length xs → get_or xs i 0 ≡ x → p < length ys → get_or ys p 0 ≡ x
+pub passed_more : (us xs ys : List ℕ) (i at p x : ℕ) → IsDistinct eqb us → Kept us xs → Kept us ys →
+    IsPassed xs ys i at → i < length xs → get_or xs i 0 ≡ x → p < length ys → get_or ys p 0 ≡ x
     → IsPassed xs ys (i + 1) (p + 1)
 passed_more us xs ys i at p x distinct kept_xs kept_ys before l is within here = record {
   found = subst (All (Contains ys)) (sym (take_more xs i 0 l))
-      (All-push (Contains ys) (take i xs) (get_or xs i 0) before.found (p, within, get_or_default ys p (get_or xs i 0) 0 within ∙ here ∙ sym is));
+      (All-push (Contains ys) (take i xs) (get_or xs i 0) before.found
+      (p, within, get_or_default ys p (get_or xs i 0) 0 within ∙ here ∙ sym is));
   passed = λ k j less le end same.
       let later = rises us xs distinct kept_xs i j 0 (omega (arith, le)) end in
       let one = ap (place us) (here ∙ sym is) in
       let other = ap (place us) same in
       elim (cases_lt k p) [
-        | inl lt ↦ (let sooner = rises us ys distinct kept_ys k p 0 lt within in omega (arith, later, one, other, sooner))
-        | inr ge ↦ (let e : k ≡ p = omega (arith, less, ge) in let there = ap (λ q. place us (get_or ys q 0)) e in omega (arith, later, one, other, there))
+        | inl lt ↦ (let sooner = rises us ys distinct kept_ys k p 0 lt within in
+            omega (arith, later, one, other, sooner))
+        | inr ge ↦ (let e : k ≡ p = omega (arith, less, ge) in let there = ap (λ q. place us (get_or ys q 0)) e in
+            omega (arith, later, one, other, there))
       ];
 }
 
-pub none_among : (xs ys : List ℕ) (i at x : ℕ) → IsPassed xs ys i at → i < length xs → get_or xs i 0 ≡ x → ((k : ℕ) → at ≤ k → k < length ys → get_or ys k 0 ≢ x) → IsTrue false ↔ All (Contains ys) xs
+pub none_among : (xs ys : List ℕ) (i at x : ℕ) → IsPassed xs ys i at → i < length xs → get_or xs i 0 ≡ x →
+    ((k : ℕ) → at ≤ k → k < length ys → get_or ys k 0 ≢ x) → IsTrue false ↔ All (Contains ys) xs
 none_among xs ys i at x before l is nowhere = (
   (λ t. absurd cc),
   (λ all.

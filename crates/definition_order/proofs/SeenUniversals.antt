@@ -12,9 +12,14 @@ first_within us m n few k d below =
     let x = get_or (take m us) k d in
     let inside : k < m = omega (arith, below, long) in
     let within : k < length us = omega (arith, below, long) in
-    let more : k < n = omega (arith, inside, few) in
-    (k, omega (arith, within, more, longer), get_or-take n us k x more ∙ get_or_default us k x d within ∙ sym (get_or-take m us k d inside))
+    let more : k < n = omega (arith, inside, few) in (
+      k,
+      omega (arith, within, more, longer),
+      get_or-take n us k x more ∙ get_or_default us k x d within ∙ sym
+          (get_or-take m us k d inside),
+    )
 
 -- the universals that are seen, by the sets
-pub seen_as : (f : Dqbf) (y : ℕ) (xs : List ℕ) → IfSome (existential_of f y) (λ z. xs ≡ z.sees) → (e : Existential) → existential_of f y ≡ Some e → xs ≡ e.sees
+pub seen_as : (f : Dqbf) (y : ℕ) (xs : List ℕ) → IfSome (existential_of f y) (λ z. xs ≡ z.sees) → (e : Existential) →
+    existential_of f y ≡ Some e → xs ≡ e.sees
 seen_as f y xs h e known = subst (λ o. IfSome o (λ z. xs ≡ z.sees)) known h

@@ -28,7 +28,8 @@ opened_clauses old new is arranged =
 pub opened_arranged : (old new : Blocks) → IsOpened old new → AreArranged old → AreArranged new
 opened_arranged old new is arranged =
     let exists : 0 < length (blocks_of old) = omega (arith, length-append (before old) (old.current.items ∷ [])) in
-    rw (is.places, opened_blocks old new is) (ArePlaces-open (before old) old.current.items 0 0 old.places.items is.some exists arranged)
+    rw (is.places, opened_blocks old new is) (ArePlaces-open
+    (before old) old.current.items 0 0 old.places.items is.some exists arranged)
 
 pub record IsPut (old new : Blocks) (clause : List Literal) (place : Place) : Type 0 where
   pub full : new.full ≡ old.full
@@ -38,13 +39,23 @@ pub record IsPut (old new : Blocks) (clause : List Literal) (place : Place) : Ty
   pub places_room : vec_capacity old.places ≤ vec_capacity new.places
   pub literals_room : vec_capacity old.current ≤ vec_capacity new.current
 
-pub are_put : (old new : Blocks) (clause : List Literal) (place : Place) → IsPut old new clause place → AreArranged old → ArePut old new (clause ∷ []) (length clause)
+pub are_put : (old new : Blocks) (clause : List Literal) (place : Place) → IsPut old new clause place →
+    AreArranged old → ArePut old new (clause ∷ []) (length clause)
 are_put old new clause place is arranged = record {
-  clauses = rw (is.full, is.places, is.current) (clauses_at-put (before old) old.current.items clause place 0 0 old.places.items is.at arranged);
-  arranged = rw (is.full, is.places, is.current) (ArePlaces-put (before old) old.current.items clause place 0 0 old.places.items is.at (stands_first (before old) old.current.items) arranged);
+  clauses = rw (is.full, is.places, is.current) (clauses_at-put
+      (before old) old.current.items clause place 0 0 old.places.items is.at arranged);
+  arranged = rw (is.full, is.places, is.current) (ArePlaces-put
+      (before old) old.current.items clause place 0 0 old.places.items is.at
+      (stands_first (before old) old.current.items) arranged);
   room = λ more most before had. record {
     places = omega (arith, had.places, is.places_room, ap length is.places, length_push old.places.items place);
-    literals = omega (arith, had.literals, is.literals_room, ap length is.current, length-append old.current.items clause);
+    literals = omega (
+      arith,
+      had.literals,
+      is.literals_room,
+      ap length is.current,
+      length-append old.current.items clause,
+    );
     starts = omega (arith, had.starts, ap length is.current, length-append old.current.items clause);
   };
 }
@@ -64,15 +75,17 @@ put_none b arranged = record {
   };
 }
 
-pub put_both : (a b c : Blocks) (xs ys : List (List Literal)) (s t : ℕ) → ArePut a b xs s → ArePut b c ys t → ArePut a c (xs ++ ys) (s + t)
+pub put_both : (a b c : Blocks) (xs ys : List (List Literal)) (s t : ℕ) → ArePut a b xs s → ArePut b c ys t →
+    ArePut a c (xs ++ ys) (s + t)
 put_both a b c xs ys s t first second = record {
   clauses = second.clauses ∙ ap (λ cs. cs ++ ys) first.clauses ∙ append_assoc (clauses_of a) xs ys;
   arranged = second.arranged;
-  room = λ more most before had. second.room more most before (first.room (length ys + more) (t + most) (t + before) (record {
-    places = omega (arith, had.places, length-append xs ys);
-    literals = omega (arith, had.literals);
-    starts = omega (arith, had.starts);
-  }));
+  room = λ more most before had. second.room more most before
+      (first.room (length ys + more) (t + most) (t + before) (record {
+        places = omega (arith, had.places, length-append xs ys);
+        literals = omega (arith, had.literals);
+        starts = omega (arith, had.starts);
+      }));
 }
 
 pub put_less : (a b : Blocks) (xs : List (List Literal)) (s t : ℕ) → s ≤ t → ArePut a b xs s → ArePut a b xs t

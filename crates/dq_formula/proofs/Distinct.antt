@@ -18,7 +18,8 @@ apart : (a b : ℕ) → eqb a b ≡ false → a ≢ b
 apart a b e same = true≢false (sym (eq-eqb a b same) ∙ e)
 
 -- two lists of distinct numbers with none in common
-pub AllPairs-append : (us vs : List ℕ) → IsDistinct eqb us → IsDistinct eqb vs → All (λ v. has us v ≡ false) vs → AllPairs (λ v w. v ≢ w) (us ++ vs)
+pub AllPairs-append : (us vs : List ℕ) → IsDistinct eqb us → IsDistinct eqb vs → All (λ v. has us v ≡ false) vs →
+    AllPairs (λ v w. v ≢ w) (us ++ vs)
 AllPairs-append us vs first second disjoint i j d l m = ⊎_elim early late (cases_lt j (length us))
   where
     size : length (us ++ vs) ≡ length us + length vs
@@ -28,15 +29,21 @@ AllPairs-append us vs first second disjoint i j d l m = ⊎_elim early late (cas
     Goal = get_or (us ++ vs) i d ≢ get_or (us ++ vs) j d
 
     early : j < length us → Goal
-    early a = rw (get_or_append_left us vs d i (omega arith), get_or_append_left us vs d j a) (apart (get_or us i d) (get_or us j d) (apart_from_distinct eqb us i j d first l a))
+    early a = rw (get_or_append_left us vs d i (omega arith), get_or_append_left us vs d j a)
+        (apart (get_or us i d) (get_or us j d) (apart_from_distinct eqb us i j d first l a))
 
     across : length us ≤ j → i < length us → Goal
     across b a = rw (get_or_append_left us vs d i a, get_or-append_right us vs (length us) j d refl b) (λ e.
-        true≢false (sym (has-contains us (get_or us i d) (Contains-get_or us i d a)) ∙ ap (has us) e ∙ disjoint (j - length us) d (omega (arith, size))))
+        true≢false (sym (has-contains us (get_or us i d) (Contains-get_or us i d a)) ∙ ap (has us) e ∙ disjoint
+        (j - length us) d (omega (arith, size))))
 
     both : length us ≤ i → Goal
-    both a = rw (get_or-append_right us vs (length us) i d refl a, get_or-append_right us vs (length us) j d refl (omega arith))
-        (apart (get_or vs (i - length us) d) (get_or vs (j - length us) d) (apart_from_distinct eqb vs (i - length us) (j - length us) d second (omega arith) (omega (arith, size))))
+    both a = rw (
+      get_or-append_right us vs (length us) i d refl a,
+      get_or-append_right us vs (length us) j d refl (omega arith),
+    )
+        (apart (get_or vs (i - length us) d) (get_or vs (j - length us) d)
+        (apart_from_distinct eqb vs (i - length us) (j - length us) d second (omega arith) (omega (arith, size))))
 
     late : length us ≤ j → Goal
     late b = ⊎_elim (across b) both (cases_lt i (length us))
@@ -48,7 +55,8 @@ All-take_contains n us k d l =
     rw (get_or-take n us k d (omega (arith, size, l))) (Contains-get_or us k d (omega (arith, size, l)))
 
 -- an element is among the first n where its place is below n
-pub contains-take : (n : ℕ) (us : List ℕ) (x : ℕ) → IsDistinct eqb us → n ≤ length us → Contains (take n us) x → place us x < n
+pub contains-take : (n : ℕ) (us : List ℕ) (x : ℕ) → IsDistinct eqb us → n ≤ length us → Contains (take n us) x →
+    place us x < n
 contains-take n us x distinct le m =
     let size = length-take n us in
     let below : m.0 < n = omega (arith, size, m.1) in
@@ -57,7 +65,8 @@ contains-take n us x distinct le m =
     let at' : place us x ≡ m.0 = sym (ap (place us) here) ∙ at in
     omega arith
 
-pub take-contains : (n : ℕ) (us : List ℕ) (x : ℕ) → n ≤ length us → has us x ≡ true → place us x < n → Contains (take n us) x
+pub take-contains : (n : ℕ) (us : List ℕ) (x : ℕ) → n ≤ length us → has us x ≡ true → place us x < n →
+    Contains (take n us) x
 take-contains n us x le among l =
     let size = length-take n us in
     (place us x, omega (arith, size), get_or-take n us (place us x) x l ∙ get_or-place us x x among)
@@ -68,7 +77,8 @@ All-dependencies us (FirstOf n) form = All-take_contains n us
 All-dependencies us (Listed vs) form = All-kept us vs form
 
 -- and are so many
-pub length-dependencies : (us : List ℕ) (deps : Deps) → IsDependencySet us deps → length (dependencies us deps) ≡ dependency_count deps
+pub length-dependencies : (us : List ℕ) (deps : Deps) → IsDependencySet us deps →
+    length (dependencies us deps) ≡ dependency_count deps
 length-dependencies us (FirstOf n) form = length-take-le n us form
 length-dependencies us (Listed vs) form = refl
 
@@ -80,29 +90,39 @@ found-at : (us : List ℕ) (x i : ℕ) → position (eqb x) us ≡ Some i → (p
 found-at us x i h = place-found us x i (sym (ap (λ p. position p us) (flip x)) ∙ h)
 
 -- whether a set sees a variable that is no universal
-pub sees-none : (us : List ℕ) (deps : Deps) (sees : List ℕ) (x : ℕ) → IsDependencySet us deps → dependencies us deps ≡ sees → position (eqb x) us ≡ None → IsTrue false ↔ Contains sees x
+pub sees-none : (us : List ℕ) (deps : Deps) (sees : List ℕ) (x : ℕ) → IsDependencySet us deps →
+    dependencies us deps ≡ sees → position (eqb x) us ≡ None → IsTrue false ↔ Contains sees x
 sees-none us deps sees x form same none = (
   (λ h. absurd (true≢false (sym h))),
-  (λ m. let member : Contains us x = All-contains (Contains us) sees x (subst (All (Contains us)) same (All-dependencies us deps form)) m in
+  (λ m. let member : Contains us x = All-contains (Contains us) sees x
+      (subst (All (Contains us)) same (All-dependencies us deps form)) m in
       let below = place-below us x (has-contains us x member) in
-      let past = place-absent (λ u. eqb u x) us (sym (ap (λ p. position p us) (flip x)) ∙ none) in absurd (omega arith)),
+      let past = place-absent (λ u. eqb u x) us (sym (ap (λ p. position p us) (flip x)) ∙ none) in
+      absurd (omega arith)),
 )
 
 -- a universal, by its place, where the set is the first n
-pub sees-first : (us : List ℕ) (n : ℕ) (sees : List ℕ) (x i : ℕ) → IsDistinct eqb us → n ≤ length us → take n us ≡ sees → position (eqb x) us ≡ Some i → IsTrue (ltb i n) ↔ Contains sees x
+pub sees-first : (us : List ℕ) (n : ℕ) (sees : List ℕ) (x i : ℕ) → IsDistinct eqb us → n ≤ length us →
+    take n us ≡ sees → position (eqb x) us ≡ Some i → IsTrue (ltb i n) ↔ Contains sees x
 sees-first us n sees x i distinct le same h =
     let at = found-at us x i h in (
-      (λ t. let l : i < n = ltb-true i n t in subst (λ s. Contains s x) same (take-contains n us x le at.1 (omega (arith, at.0)))),
-      (λ m. let l = contains-take n us x distinct le (subst (λ s. Contains s x) (sym same) m) in lt-ltb i n (omega (arith, at.0))),
+      (λ t. let l : i < n = ltb-true i n t in subst (λ s. Contains s x) same
+          (take-contains n us x le at.1 (omega (arith, at.0)))),
+      (λ m. let l = contains-take n us x distinct le (subst (λ s. Contains s x) (sym same) m) in
+          lt-ltb i n (omega (arith, at.0))),
     )
 
 -- and by a search where they are listed
-pub sees-listed : (us vs sees : List ℕ) (x i : ℕ) (r : Result ℕ ℕ) → IsDistinct eqb us → vs ≡ listed_universals us vs → vs ≡ sees → position (eqb x) us ≡ Some i
-    → IsSearchInRange r (length vs) → IsBinarySearchResult (λ v. nat_cmp (place us v) i) vs r → IsTrue (is_ok r) ↔ Contains sees x
+pub sees-listed : (us vs sees : List ℕ) (x i : ℕ) (r : Result ℕ ℕ) → IsDistinct eqb us → vs ≡ listed_universals us vs →
+    vs ≡ sees → position (eqb x) us ≡ Some i
+    → IsSearchInRange r (length vs) → IsBinarySearchResult (λ v. nat_cmp (place us v) i) vs r →
+    IsTrue (is_ok r) ↔ Contains sees x
 sees-listed us vs sees x i r distinct kept same h range result =
     let at = found-at us x i h in
     let result' : IsBinarySearchResult (λ v. nat_cmp (place us v) (place us x)) vs r = rw at.0 result in
     subst (λ s. IsTrue (is_ok r) ↔ Contains s x) same (found us vs x r distinct kept at.1 range result')
 
-pub place-listed : (us vs : List ℕ) (i x : ℕ) → vs ≡ listed_universals us vs → i < length vs → x ≡ get_or vs i x → place us x < length us
-place-listed us vs i x kept l at = place-below us x (has-contains us x (subst (Contains us) (sym at) (All-kept us vs kept i x l)))
+pub place-listed : (us vs : List ℕ) (i x : ℕ) → vs ≡ listed_universals us vs → i < length vs → x ≡ get_or vs i x →
+    place us x < length us
+place-listed us vs i x kept l at = place-below us x (has-contains us x
+    (subst (Contains us) (sym at) (All-kept us vs kept i x l)))

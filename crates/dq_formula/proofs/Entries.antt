@@ -15,27 +15,38 @@ pub eqb-flip : (a b : ℕ) → eqb a b ≡ eqb b a
 eqb-flip a b = grind (arith, nat_tests)
 
 module _ (universals : List ℕ) where
-  pub map-variable : (entries : List (ℕ × Deps)) → map (λ (y : Existential). y.variable) (map (existential universals) entries) ≡ keys_of entries
+  pub map-variable : (entries : List (ℕ × Deps)) → map (λ (y : Existential). y.variable)
+      (map (existential universals) entries) ≡ keys_of entries
   map-variable [] = refl
   map-variable (entry ∷ entries) = ap (λ vs. entry.0 ∷ vs) (map-variable entries)
 
-  pub find-existential : (y : ℕ) (entries : List (ℕ × Deps)) → find (λ (e : Existential). eqb e.variable y) (map (existential universals) entries) ≡ option_map (λ d. existential universals (y, d)) (lookup (eqb y) entries)
+  pub find-existential : (y : ℕ) (entries : List (ℕ × Deps)) →
+      find (λ (e : Existential). eqb e.variable y) (map (existential universals) entries) ≡ option_map
+      (λ d. existential universals (y, d)) (lookup (eqb y) entries)
   find-existential y [] = refl
   find-existential y (entry ∷ entries) = by (find-existential y entries) (eqb entry.0 y) refl
     where
-      by : find (λ (e : Existential). eqb e.variable y) (map (existential universals) entries) ≡ option_map (λ d. existential universals (y, d)) (lookup (eqb y) entries) → (b : Bool) → eqb entry.0 y ≡ b → cond (eqb entry.0 y) (Some (existential universals entry)) (find (λ (e : Existential). eqb e.variable y) (map (existential universals) entries)) ≡ option_map (λ d. existential universals (y, d)) (cond (eqb y entry.0) (Some entry.1) (lookup (eqb y) entries))
-      by rest true e = rw (e, sym (eqb-flip entry.0 y) ∙ e) (ap (λ k. Some (existential universals (k, entry.1))) (eqb-true entry.0 y e))
+      by : find (λ (e : Existential). eqb e.variable y) (map (existential universals) entries) ≡ option_map
+          (λ d. existential universals (y, d)) (lookup (eqb y) entries) → (b : Bool) → eqb entry.0 y ≡ b →
+          cond (eqb entry.0 y) (Some (existential universals entry))
+          (find (λ (e : Existential). eqb e.variable y) (map (existential universals) entries)) ≡ option_map
+          (λ d. existential universals (y, d)) (cond (eqb y entry.0) (Some entry.1)
+          (lookup (eqb y) entries))
+      by rest true e = rw (e, sym (eqb-flip entry.0 y) ∙ e) (ap (λ k. Some (existential universals (k, entry.1)))
+          (eqb-true entry.0 y e))
       by rest false e = rw (e, sym (eqb-flip entry.0 y) ∙ e) rest
 
 pub is_some-find : {X : Type 0} (p : X → Bool) (xs : List X) → is_some (find p xs) ≡ list_any p xs
 is_some-find p [] = refl
 is_some-find p (x ∷ xs) = by (is_some-find p xs) (p x) refl
   where
-    by : is_some (find p xs) ≡ list_any p xs → (b : Bool) → p x ≡ b → is_some (cond (p x) (Some x) (find p xs)) ≡ (p x || list_any p xs)
+    by : is_some (find p xs) ≡ list_any p xs → (b : Bool) → p x ≡ b →
+        is_some (cond (p x) (Some x) (find p xs)) ≡ (p x || list_any p xs)
     by rest true e = rw e refl
     by rest false e = rw e rest
 
-pub list_any-map : {X Y : Type 0} (p : Y → Bool) (f : X → Y) (xs : List X) → list_any p (map f xs) ≡ list_any (λ x. p (f x)) xs
+pub list_any-map : {X Y : Type 0} (p : Y → Bool) (f : X → Y) (xs : List X) →
+    list_any p (map f xs) ≡ list_any (λ x. p (f x)) xs
 list_any-map p f [] = refl
 list_any-map p f (x ∷ xs) = ap (λ b. p (f x) || b) (list_any-map p f xs)
 
@@ -47,4 +58,5 @@ is_some-option_map f (Some x) = refl
 pub is_declared-parts : (f : Dqbf) (v : ℕ) → is_declared f v ≡ (is_universal f v || is_some (existential_of f v))
 is_declared-parts f v =
     list_any-append (λ x. eqb x v) f.universals (map (λ (y : Existential). y.variable) f.existentials)
-    ∙ ap (λ b. is_universal f v || b) (list_any-map (λ x. eqb x v) (λ (y : Existential). y.variable) f.existentials ∙ sym (is_some-find (λ (y : Existential). eqb y.variable v) f.existentials))
+    ∙ ap (λ b. is_universal f v || b) (list_any-map (λ x. eqb x v) (λ (y : Existential). y.variable) f.existentials
+    ∙ sym (is_some-find (λ (y : Existential). eqb y.variable v) f.existentials))

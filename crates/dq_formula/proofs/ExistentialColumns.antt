@@ -24,20 +24,26 @@ onward : (vs : List Deps) (v : Deps) (n : ℕ) → slice_get (v ∷ vs) (1 + n) 
 onward vs v n = let e : 1 + n ≡ suc n = omega arith in ap (slice_get (v ∷ vs)) e
 
 -- the set of a variable stands where the variable does
-pub set_there : (y : ℕ) (es : List (ℕ × Deps)) → lookup (eqb y) es ≡ slice_get (values_of es) (position_or_len (λ k. eqb k y) (keys_of es))
+pub set_there : (y : ℕ) (es : List (ℕ × Deps)) → lookup (eqb y) es ≡ slice_get (values_of es)
+    (position_or_len (λ k. eqb k y) (keys_of es))
 set_there y [] = refl
 set_there y (e ∷ es) = by (set_there y es) (eqb e.0 y) refl
   where
-    by : lookup (eqb y) es ≡ slice_get (values_of es) (position_or_len (λ k. eqb k y) (keys_of es)) → (b : Bool) → eqb e.0 y ≡ b
-        → cond (eqb y e.0) (Some e.1) (lookup (eqb y) es) ≡ slice_get (e.1 ∷ values_of es) (position_or_len (λ k. eqb k y) (e.0 ∷ keys_of es))
+    by : lookup (eqb y) es ≡ slice_get (values_of es) (position_or_len (λ k. eqb k y) (keys_of es)) → (b : Bool) →
+        eqb e.0 y ≡ b
+        → cond (eqb y e.0) (Some e.1) (lookup (eqb y) es) ≡ slice_get (e.1 ∷ values_of es)
+        (position_or_len (λ k. eqb k y) (e.0 ∷ keys_of es))
     by rest true h = rw (h, sym (eqb-flip e.0 y) ∙ h) refl
-    by rest false h = rw (h, sym (eqb-flip e.0 y) ∙ h) (rest ∙ sym (onward (values_of es) e.1 (position_or_len (λ k. eqb k y) (keys_of es))))
+    by rest false h = rw (h, sym (eqb-flip e.0 y) ∙ h) (rest ∙ sym
+        (onward (values_of es) e.1 (position_or_len (λ k. eqb k y) (keys_of es))))
 
-pub zip-append : (ks : List ℕ) (vs : List Deps) (more : List ℕ) (sets : List Deps) → length vs ≡ length ks → zip (ks ++ more) (vs ++ sets) ≡ zip ks vs ++ zip more sets
+pub zip-append : (ks : List ℕ) (vs : List Deps) (more : List ℕ) (sets : List Deps) → length vs ≡ length ks →
+    zip (ks ++ more) (vs ++ sets) ≡ zip ks vs ++ zip more sets
 zip-append [] [] more sets as_many = refl
 zip-append [] (v ∷ vs) more sets as_many = cc
 zip-append (k ∷ ks) [] more sets as_many = cc
-zip-append (k ∷ ks) (v ∷ vs) more sets as_many = ap (λ rest. (k, v) ∷ rest) (zip-append ks vs more sets (omega (arith, as_many)))
+zip-append (k ∷ ks) (v ∷ vs) more sets as_many = ap (λ rest. (k, v) ∷ rest)
+    (zip-append ks vs more sets (omega (arith, as_many)))
 
 pub zip-unseeing : (more : List ℕ) → zip more (replicate (length more) (FirstOf 0)) ≡ map unseeing_entry more
 zip-unseeing [] = refl
@@ -63,7 +69,8 @@ middle P (y ∷ xs) x rest all = middle P xs x rest all.1
 pub new_here : (xs : List ℕ) (x : ℕ) (rest : List ℕ) → IsDistinct eqb (xs ++ x ∷ rest) → has_number xs x ≡ false
 new_here [] x rest distinct = refl
 new_here (y ∷ xs) x rest distinct =
-    let apart : eqb y x ≡ false = middle (λ w. eqb y w ≡ false) xs x rest (IsDistinct-head eqb y (xs ++ x ∷ rest) distinct) in
+    let apart : eqb y x ≡ false = middle (λ w. eqb y w ≡ false) xs x rest
+    (IsDistinct-head eqb y (xs ++ x ∷ rest) distinct) in
     rw apart (new_here xs x rest (IsDistinct-tail eqb y (xs ++ x ∷ rest) distinct))
 
 front : (P : ℕ → Type 0) (xs ys : List ℕ) → AllByRecursion P (xs ++ ys) → AllByRecursion P xs

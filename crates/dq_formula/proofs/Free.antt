@@ -26,49 +26,65 @@ IsDistinct-range_with_len a n = IsDistinct-from_apart eqb (range_with_len a n) (
     ne-false (get_or (range_with_len a n) i d) (get_or (range_with_len a n) j d) (λ e. absurd (omega arith)))
 
 -- each number stands at its own place in a range
-at-range_with_len : (low n high : ℕ) (ps : List ℕ) → Rise high (low + n) ps → low ≤ high → at (range_with_len low n) low ps ≡ ps
+at-range_with_len : (low n high : ℕ) (ps : List ℕ) → Rise high (low + n) ps → low ≤ high →
+    at (range_with_len low n) low ps ≡ ps
 at-range_with_len low n high [] h le = refl
 at-range_with_len low n high (p ∷ ps) h le =
-    let here : get_or (range_with_len low n) (p - low) 0 ≡ p = get_or-range_with_len low n (p - low) 0 (omega (arith, h.0, h.1)) ∙ (let e : low + (p - low) ≡ p = omega (arith, h.0) in e) in
+    let here : get_or (range_with_len low n) (p - low) 0 ≡ p =
+    get_or-range_with_len low n (p - low) 0 (omega (arith, h.0, h.1)) ∙
+    (let e : low + (p - low) ≡ p = omega (arith, h.0) in e) in
     rw (here, at-range_with_len low n (p + 1) ps h.2 (omega (arith, h.0))) refl
 
 -- distinct numbers of a range, sorted, are those of the range that are among them
-pub range-filter : (low n : ℕ) (vs sorted : List ℕ) → All (λ v. (low ≤ v) × (v < low + n)) vs → IsDistinct eqb vs → IsPermutation vs sorted → IsSorted nat_cmp sorted
+pub range-filter : (low n : ℕ) (vs sorted : List ℕ) → All (λ v. (low ≤ v) × (v < low + n)) vs → IsDistinct eqb vs →
+    IsPermutation vs sorted → IsSorted nat_cmp sorted
     → sorted ≡ filter (has vs) (range_with_len low n)
 range-filter low n vs sorted within distinct moved order =
     let us = range_with_len low n in
-    let below : All (λ p. (low ≤ p) × (p < low + n)) sorted = All-permutation (λ p. (low ≤ p) × (p < low + n)) vs sorted moved within in
+    let below : All (λ p. (low ≤ p) × (p < low + n)) sorted =
+    All-permutation (λ p. (low ≤ p) × (p < low + n)) vs sorted moved within in
     let apart : IsDistinct eqb sorted = IsDistinct-IsPermutation eqb eqb-flip vs sorted moved distinct in
     let up = IsStrictlyIncreasing-from_distinct sorted (IsNonDecreasingBy-from_sort (λ x. x) sorted order) apart in
     let rise : Rise low (low + n) sorted = Rise-from_increasing low (low + n) sorted up below in
     let size : low + n ≡ low + length us = ap (λ k. low + k) (sym (length-range_with_len low n)) in
-    let picked : at us low sorted ≡ filter (has (at us low sorted)) us = at-filter us low sorted (IsDistinct-range_with_len low n) (subst (λ k. Rise low k sorted) size rise) in
+    let picked : at us low sorted ≡ filter (has (at us low sorted)) us =
+    at-filter us low sorted (IsDistinct-range_with_len low n) (subst (λ k. Rise low k sorted) size rise) in
     let plain : at us low sorted ≡ sorted = at-range_with_len low n low sorted rise (omega arith) in
     let kept : sorted ≡ filter (has sorted) us = subst (λ qs. qs ≡ filter (has qs) us) plain picked in
     kept ∙ filter_agree (has sorted) (has vs) (λ u. sym (list_any-IsPermutation (λ x. eqb x u) vs sorted moved)) us
 
 -- the undeclared variables that occur, sorted
-pub free-variables : (f : Dqbf) (vs sorted : List ℕ) → AreUndeclaredIn f f.matrix vs → IsPermutation vs sorted → IsSorted nat_cmp sorted → sorted ≡ free_variables f
+pub free-variables : (f : Dqbf) (vs sorted : List ℕ) → AreUndeclaredIn f f.matrix vs → IsPermutation vs sorted →
+    IsSorted nat_cmp sorted → sorted ≡ free_variables f
 free-variables f vs sorted are moved order =
-    range-filter 1 f.variables vs sorted (λ k d l. let h = are.in_range k d l in (h.0, omega (arith, h.1))) are.distinct moved order
-    ∙ filter_agree (has vs) (λ v. not (is_declared f v) && occurs f.matrix v) are.complete (range_with_len 1 f.variables)
+    range-filter 1 f.variables vs sorted (λ k d l. let h = are.in_range k d l in (h.0, omega (arith, h.1))) are.distinct
+    moved order
+    ∙ filter_agree (has vs) (λ v. not (is_declared f v) && occurs f.matrix v) are.complete
+    (range_with_len 1 f.variables)
 
 -- no clause, and an empty one more
 pub none_undeclared : (f : Dqbf) → AreUndeclaredIn f [] []
-none_undeclared f = record { distinct = IsDistinct-from_apart eqb [] (λ i j d l m. absurd (omega (arith, m))); in_range = All-nil (λ v. (1 ≤ v) × (v ≤ f.variables)); complete = λ v. sym (and-false (not (is_declared f v))) }
+none_undeclared f = record {
+  distinct = IsDistinct-from_apart eqb [] (λ i j d l m. absurd (omega (arith, m)));
+  in_range = All-nil (λ v. (1 ≤ v) × (v ≤ f.variables));
+  complete = λ v. sym (and-false (not (is_declared f v)));
+}
   where
     and-false : (b : Bool) → (b && false) ≡ false
     and-false true = refl
     and-false false = refl
 
-occurs-push : (clauses : List (List Literal)) (c : List Literal) (v : ℕ) → occurs (clauses ++ c ∷ []) v ≡ (occurs clauses v || (list_any (λ l. eqb (variable_of l) v) c || false))
+occurs-push : (clauses : List (List Literal)) (c : List Literal) (v : ℕ) →
+    occurs (clauses ++ c ∷ []) v ≡ (occurs clauses v || (list_any (λ l. eqb (variable_of l) v) c || false))
 occurs-push clauses c v = list_any-append (list_any (λ l. eqb (variable_of l) v)) clauses (c ∷ [])
 
-pub empty_clause_undeclared : (f : Dqbf) (clauses : List (List Literal)) (vs : List ℕ) → AreUndeclaredIn f clauses vs → AreUndeclaredIn f (clauses ++ [] ∷ []) vs
+pub empty_clause_undeclared : (f : Dqbf) (clauses : List (List Literal)) (vs : List ℕ) → AreUndeclaredIn f clauses vs →
+    AreUndeclaredIn f (clauses ++ [] ∷ []) vs
 empty_clause_undeclared f clauses vs are = record {
   distinct = are.distinct;
   in_range = are.in_range;
-  complete = λ v. are.complete v ∙ ap (λ b. not (is_declared f v) && b) (sym (occurs-push clauses [] v ∙ or-false (occurs clauses v)));
+  complete = λ v. are.complete v ∙ ap (λ b. not (is_declared f v) && b)
+      (sym (occurs-push clauses [] v ∙ or-false (occurs clauses v)));
 }
   where
     or-false : (b : Bool) → (b || (false || false)) ≡ b
@@ -76,7 +92,8 @@ empty_clause_undeclared f clauses vs are = record {
     or-false false = refl
 
 -- a literal more in the last clause
-occurs-literal : (clauses : List (List Literal)) (c : List Literal) (l : Literal) (v : ℕ) → occurs (clauses ++ (c ++ l ∷ []) ∷ []) v ≡ (occurs (clauses ++ c ∷ []) v || eqb (variable_of l) v)
+occurs-literal : (clauses : List (List Literal)) (c : List Literal) (l : Literal) (v : ℕ) →
+    occurs (clauses ++ (c ++ l ∷ []) ∷ []) v ≡ (occurs (clauses ++ c ∷ []) v || eqb (variable_of l) v)
 occurs-literal clauses c l v =
     occurs-push clauses (c ++ l ∷ []) v
     ∙ ap (λ b. occurs clauses v || (b || false)) (list_any-append (λ k. eqb (variable_of k) v) c (l ∷ []))
@@ -90,12 +107,14 @@ occurs-literal clauses c l v =
     regroup false false false = refl
 
 -- on a declared variable
-pub declared_literal : (f : Dqbf) (clauses : List (List Literal)) (c : List Literal) (l : Literal) (vs : List ℕ) → is_declared f (variable_of l) ≡ true
+pub declared_literal : (f : Dqbf) (clauses : List (List Literal)) (c : List Literal) (l : Literal) (vs : List ℕ) →
+    is_declared f (variable_of l) ≡ true
     → AreUndeclaredIn f (clauses ++ c ∷ []) vs → AreUndeclaredIn f (clauses ++ (c ++ l ∷ []) ∷ []) vs
 declared_literal f clauses c l vs declared are = record {
   distinct = are.distinct;
   in_range = are.in_range;
-  complete = λ v. are.complete v ∙ same v (eqb (variable_of l) v) refl ∙ ap (λ b. not (is_declared f v) && b) (sym (occurs-literal clauses c l v));
+  complete = λ v. are.complete v ∙ same v (eqb (variable_of l) v) refl ∙ ap (λ b. not (is_declared f v) && b)
+      (sym (occurs-literal clauses c l v));
 }
   where
     absorbed : (d o : Bool) → d ≡ true → (not d && o) ≡ (not d && (o || true))
@@ -106,8 +125,10 @@ declared_literal f clauses c l vs declared are = record {
     or-no true = refl
     or-no false = refl
 
-    same : (v : ℕ) (e : Bool) → eqb (variable_of l) v ≡ e → (not (is_declared f v) && occurs (clauses ++ c ∷ []) v) ≡ (not (is_declared f v) && (occurs (clauses ++ c ∷ []) v || eqb (variable_of l) v))
-    same v true e = rw e (absorbed (is_declared f v) (occurs (clauses ++ c ∷ []) v) (ap (is_declared f) (sym (eqb-true (variable_of l) v e)) ∙ declared))
+    same : (v : ℕ) (e : Bool) → eqb (variable_of l) v ≡ e → (not (is_declared f v) && occurs (clauses ++ c ∷ []) v) ≡
+        (not (is_declared f v) && (occurs (clauses ++ c ∷ []) v || eqb (variable_of l) v))
+    same v true e = rw e (absorbed (is_declared f v) (occurs (clauses ++ c ∷ []) v)
+        (ap (is_declared f) (sym (eqb-true (variable_of l) v e)) ∙ declared))
     same v false e = rw e (ap (λ b. not (is_declared f v) && b) (or-no (occurs (clauses ++ c ∷ []) v)))
 
 -- on an undeclared one
@@ -134,16 +155,20 @@ distinct-insert vs w distinct = by (has vs w) refl
     by true h = rw h distinct
     by false h = rw h (IsDistinct-push nat_eq_equiv vs w distinct (ap (λ p. list_any p vs) (flip w) ∙ h))
 
-pub undeclared_literal : (f : Dqbf) (clauses : List (List Literal)) (c : List Literal) (l : Literal) (vs vs' : List ℕ) → is_declared f (variable_of l) ≡ false → 1 ≤ variable_of l → variable_of l ≤ f.variables
-    → vs' ≡ with_number vs (variable_of l) → AreUndeclaredIn f (clauses ++ c ∷ []) vs → AreUndeclaredIn f (clauses ++ (c ++ l ∷ []) ∷ []) vs'
+pub undeclared_literal : (f : Dqbf) (clauses : List (List Literal)) (c : List Literal) (l : Literal) (vs vs' : List ℕ) →
+    is_declared f (variable_of l) ≡ false → 1 ≤ variable_of l → variable_of l ≤ f.variables
+    → vs' ≡ with_number vs (variable_of l) → AreUndeclaredIn f (clauses ++ c ∷ []) vs →
+    AreUndeclaredIn f (clauses ++ (c ++ l ∷ []) ∷ []) vs'
 undeclared_literal f clauses c l vs vs' undeclared low high inserted are = record {
   distinct = subst (IsDistinct eqb) (sym inserted) (distinct-insert vs (variable_of l) are.distinct);
   in_range = subst (All (λ v. (1 ≤ v) × (v ≤ f.variables))) (sym inserted) (within (has vs (variable_of l)) refl);
-  complete = λ v. ap (λ ks. has ks v) inserted ∙ has-insert vs (variable_of l) v ∙ ap (λ b. b || eqb (variable_of l) v) (are.complete v)
+  complete = λ v. ap (λ ks. has ks v) inserted ∙ has-insert vs (variable_of l) v ∙ ap (λ b. b || eqb (variable_of l) v)
+      (are.complete v)
       ∙ same v (eqb (variable_of l) v) refl ∙ ap (λ b. not (is_declared f v) && b) (sym (occurs-literal clauses c l v));
 }
   where
-    within : (b : Bool) → has vs (variable_of l) ≡ b → All (λ v. (1 ≤ v) × (v ≤ f.variables)) (with_number vs (variable_of l))
+    within : (b : Bool) → has vs (variable_of l) ≡ b → All (λ v. (1 ≤ v) × (v ≤ f.variables))
+        (with_number vs (variable_of l))
     within true h = rw h are.in_range
     within false h = rw h (All-push (λ v. (1 ≤ v) × (v ≤ f.variables)) vs (variable_of l) are.in_range (low, high))
 
@@ -156,18 +181,23 @@ undeclared_literal f clauses c l vs vs' undeclared low high inserted are = recor
     old true o = refl
     old false o = refl
 
-    same : (v : ℕ) (e : Bool) → eqb (variable_of l) v ≡ e → ((not (is_declared f v) && occurs (clauses ++ c ∷ []) v) || eqb (variable_of l) v) ≡ (not (is_declared f v) && (occurs (clauses ++ c ∷ []) v || eqb (variable_of l) v))
-    same v true e = rw e (new (is_declared f v) (occurs (clauses ++ c ∷ []) v) (ap (is_declared f) (sym (eqb-true (variable_of l) v e)) ∙ undeclared))
+    same : (v : ℕ) (e : Bool) → eqb (variable_of l) v ≡ e → ((not (is_declared f v) && occurs (clauses ++ c ∷ []) v) ||
+        eqb (variable_of l) v) ≡ (not (is_declared f v) && (occurs (clauses ++ c ∷ []) v || eqb (variable_of l) v))
+    same v true e = rw e (new (is_declared f v) (occurs (clauses ++ c ∷ []) v)
+        (ap (is_declared f) (sym (eqb-true (variable_of l) v e)) ∙ undeclared))
     same v false e = rw e (old (is_declared f v) (occurs (clauses ++ c ∷ []) v))
 
 pub IsDistinct-filter : (p : ℕ → Bool) (xs : List ℕ) → IsDistinct eqb xs → IsDistinct eqb (filter p xs)
 IsDistinct-filter p [] d = d
 IsDistinct-filter p (x ∷ xs) d = by (IsDistinct-filter p xs (IsDistinct-tail eqb x xs d)) (p x) refl
   where
-    kept : (ys : List ℕ) → AllByRecursion (λ y. eqb x y ≡ false) ys → AllByRecursion (λ y. eqb x y ≡ false) (filter p ys)
-    kept ys h = recursion_from_All (λ y. eqb x y ≡ false) (filter p ys) (All-filter p (λ y. eqb x y ≡ false) ys (All-from_recursion (λ y. eqb x y ≡ false) ys h))
+    kept : (ys : List ℕ) → AllByRecursion (λ y. eqb x y ≡ false) ys →
+        AllByRecursion (λ y. eqb x y ≡ false) (filter p ys)
+    kept ys h = recursion_from_All (λ y. eqb x y ≡ false) (filter p ys)
+        (All-filter p (λ y. eqb x y ≡ false) ys (All-from_recursion (λ y. eqb x y ≡ false) ys h))
 
-    by : IsDistinct eqb (filter p xs) → (b : Bool) → p x ≡ b → IsDistinct eqb (cond (p x) (x ∷ filter p xs) (filter p xs))
+    by : IsDistinct eqb (filter p xs) → (b : Bool) → p x ≡ b →
+        IsDistinct eqb (cond (p x) (x ∷ filter p xs) (filter p xs))
     by rest true e = rw e (IsDistinct-cons eqb x (filter p xs) (kept xs (IsDistinct-head eqb x xs d)) rest)
     by rest false e = rw e rest
 

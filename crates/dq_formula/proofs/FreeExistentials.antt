@@ -29,13 +29,15 @@ AreNew-step : (variables : ℕ) (us : List ℕ) (es : List (ℕ × Deps)) (v : �
 AreNew-step variables us es v deps vs new =
     let keys : keys_of (es ++ (v, deps) ∷ []) ≡ keys_of es ++ v ∷ [] = map_push (λ (e : ℕ × Deps). e.0) es (v, deps) in
     let rest : All (λ w. has (keys_of es) w ≡ false) vs = All-tail (λ w. has (keys_of es) w ≡ false) v vs new.no_keys in
-    let apart : All (λ w. eqb v w ≡ false) vs = All-from_recursion (λ w. eqb v w ≡ false) vs (IsDistinct-head eqb v vs new.distinct) in
+    let apart : All (λ w. eqb v w ≡ false) vs = All-from_recursion (λ w. eqb v w ≡ false) vs
+    (IsDistinct-head eqb v vs new.distinct) in
     record {
       in_range = All-tail (IsInRange variables) v vs new.in_range;
       distinct = IsDistinct-tail eqb v vs new.distinct;
       no_universals = All-tail (λ w. has us w ≡ false) v vs new.no_universals;
       no_keys = subst (λ ks. All (λ w. has ks w ≡ false) vs) (sym keys)
-          (λ k d l. list_any-append (λ x. eqb x (get_or vs k d)) (keys_of es) (v ∷ []) ∙ rw (rest k d l, apart k d l) refl);
+          (λ k d l. list_any-append (λ x. eqb x (get_or vs k d)) (keys_of es) (v ∷ []) ∙ rw
+          (rest k d l, apart k d l) refl);
     }
 
 no-declaration : (variables : ℕ) (us : List ℕ) (es : List (ℕ × Deps)) (matrix : List (List Literal)) (v : ℕ)
@@ -55,16 +57,20 @@ kept-unseeing variables us matrix (v ∷ vs) es kept new =
     let range = All-head (IsInRange variables) v vs new.in_range in
     let form : IsDependencySet us (FirstOf 0) = omega arith in
     let kept' : IsKept variables us es' matrix =
-    IsKept-existential variables us es matrix v (FirstOf 0) kept range.0 range.1 (no-declaration variables us es matrix v no-universal no-key) form in
+    IsKept-existential variables us es matrix v (FirstOf 0) kept range.0 range.1
+    (no-declaration variables us es matrix v no-universal no-key) form in
     let rest = kept-unseeing variables us matrix vs es' kept' (AreNew-step variables us es v (FirstOf 0) vs new) in
-    let whole : es' ++ map unseeing_entry vs ≡ es ++ unseeing_entry v ∷ map unseeing_entry vs = append_assoc es (unseeing_entry v ∷ []) (map unseeing_entry vs) in
+    let whole : es' ++ map unseeing_entry vs ≡ es ++ unseeing_entry v ∷ map unseeing_entry vs =
+    append_assoc es (unseeing_entry v ∷ []) (map unseeing_entry vs) in
     subst (λ all. IsKept variables us all matrix) whole rest
 
 -- so the variables of old and new ones are distinct
-pub distinct-unseeing : (variables : ℕ) (us : List ℕ) (matrix : List (List Literal)) (vs : List ℕ) (es : List (ℕ × Deps))
+pub distinct-unseeing : (variables : ℕ) (us : List ℕ) (matrix : List (List Literal)) (vs : List ℕ)
+    (es : List (ℕ × Deps))
     → IsKept variables us (es ++ map unseeing_entry vs) matrix → IsDistinct eqb (keys_of es ++ vs)
 distinct-unseeing variables us matrix vs es kept =
-    subst (IsDistinct eqb) (map-append (λ (e : ℕ × Deps). e.0) es (map unseeing_entry vs) ∙ ap (λ ks. keys_of es ++ ks) (each vs)) kept.distinct_existentials
+    subst (IsDistinct eqb) (map-append (λ (e : ℕ × Deps). e.0) es (map unseeing_entry vs) ∙ ap (λ ks. keys_of es ++ ks)
+    (each vs)) kept.distinct_existentials
   where
     each : (ks : List ℕ) → keys_of (map unseeing_entry ks) ≡ ks
     each [] = refl
@@ -78,9 +84,14 @@ AreNew-free variables us es matrix =
     let test : ℕ → Bool = λ v. not (is_declared f v) && occurs f.matrix v in
     let numbers = range_with_len 1 variables in
     let passed : All (λ v. test v ≡ true) (filter test numbers) = filter_passes test numbers in
-    let range : All (λ v. (1 ≤ v) × (v < 1 + variables)) (filter test numbers) = All-filter test (λ v. (1 ≤ v) × (v < 1 + variables)) numbers (All-range 1 variables) in
-    let parts : (k d : ℕ) → k < length (filter test numbers) → (has us (get_or (filter test numbers) k d) ≡ false) × (has (keys_of es) (get_or (filter test numbers) k d) ≡ false) =
-    λ k d l. undeclared-keys variables us es matrix (get_or (filter test numbers) k d) (first (is_declared f (get_or (filter test numbers) k d)) (occurs f.matrix (get_or (filter test numbers) k d)) (passed k d l)) in
+    let range : All (λ v. (1 ≤ v) × (v < 1 + variables)) (filter test numbers) =
+    All-filter test (λ v. (1 ≤ v) × (v < 1 + variables)) numbers (All-range 1 variables) in
+    let parts : (k d : ℕ) → k < length (filter test numbers) →
+    (has us (get_or (filter test numbers) k d) ≡ false) ×
+    (has (keys_of es) (get_or (filter test numbers) k d) ≡ false) =
+    λ k d l. undeclared-keys variables us es matrix (get_or (filter test numbers) k d)
+    (first (is_declared f (get_or (filter test numbers) k d)) (occurs f.matrix (get_or (filter test numbers) k d))
+    (passed k d l)) in
     record {
       in_range = λ k d l. let h = range k d l in (h.0, omega (arith, h.1));
       distinct = IsDistinct-filter test numbers (IsDistinct-range_with_len 1 variables);
@@ -93,10 +104,14 @@ AreNew-free variables us es matrix =
     first false b h = refl
 
 -- and the formula then has them as existentials that see nothing
-pub formula_of-unseeing : (variables : ℕ) (us : List ℕ) (es : List (ℕ × Deps)) (matrix : List (List Literal)) (vs : List ℕ)
+pub formula_of-unseeing : (variables : ℕ) (us : List ℕ) (es : List (ℕ × Deps)) (matrix : List (List Literal))
+    (vs : List ℕ)
     → formula_of variables us (es ++ map unseeing_entry vs) matrix
     ≡ record (formula_of variables us es matrix) { existentials = map (existential us) es ++ map unseeing vs }
-formula_of-unseeing variables us es matrix vs = rw (map-append (existential us) es (map unseeing_entry vs), each vs) refl
+formula_of-unseeing variables us es matrix vs = rw (
+  map-append (existential us) es (map unseeing_entry vs),
+  each vs,
+) refl
   where
     each : (vs : List ℕ) → map (existential us) (map unseeing_entry vs) ≡ map unseeing vs
     each [] = refl

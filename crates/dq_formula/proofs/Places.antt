@@ -26,7 +26,9 @@ flip x = λ i u. eqb-flip x u i
 pub place-absent : (p : ℕ → Bool) (xs : List ℕ) → position p xs ≡ None → position_or_len p xs ≡ length xs
 place-absent p xs none =
     let bound : position_or_len p xs ≤ length xs = prefix_len-le-length (λ u. not (p u)) xs in
-    ⊎_elim (λ l. let t : ltb (position_or_len p xs) (length xs) ≡ true = lt-ltb (position_or_len p xs) (length xs) l in absurd (apart (position_or_len p xs) (rw t at none))) (λ ge. omega arith) (cases_lt (position_or_len p xs) (length xs))
+    ⊎_elim (λ l. let t : ltb (position_or_len p xs) (length xs) ≡ true = lt-ltb (position_or_len p xs) (length xs) l in
+    absurd (apart (position_or_len p xs) (rw t at none))) (λ ge. omega arith)
+    (cases_lt (position_or_len p xs) (length xs))
   where
     apart : (k : ℕ) → Some k ≡ None → ⊥
     apart k e = cc
@@ -73,7 +75,8 @@ has-none [] u h = refl
 has-none (x ∷ xs) u h = rw (eqb-flip x u, h.0) (has-none xs u h.1)
 
 -- a test that only a list without the element decides
-pub filter-cons_other : (u : ℕ) (vs xs : List ℕ) → AllByRecursion (λ y. eqb u y ≡ false) xs → filter (has (u ∷ vs)) xs ≡ filter (has vs) xs
+pub filter-cons_other : (u : ℕ) (vs xs : List ℕ) → AllByRecursion (λ y. eqb u y ≡ false) xs →
+    filter (has (u ∷ vs)) xs ≡ filter (has vs) xs
 filter-cons_other u vs [] h = refl
 filter-cons_other u vs (x ∷ xs) h = rw (h.0, filter-cons_other u vs xs h.1) refl
 
@@ -81,45 +84,57 @@ filter-cons_other u vs (x ∷ xs) h = rw (h.0, filter-cons_other u vs xs h.1) re
 abbrev pub at : List ℕ → ℕ → List ℕ → List ℕ
 at us low ps = map (λ p. get_or us (p - low) 0) ps
 
-at-shift : (u : ℕ) (us : List ℕ) (low high : ℕ) (ps : List ℕ) → Rise (low + 1) high ps → at (u ∷ us) low ps ≡ at us (low + 1) ps
+at-shift : (u : ℕ) (us : List ℕ) (low high : ℕ) (ps : List ℕ) → Rise (low + 1) high ps →
+    at (u ∷ us) low ps ≡ at us (low + 1) ps
 at-shift u us low high [] h = refl
 at-shift u us low high (p ∷ ps) h =
     let e : p - low ≡ suc (p - (low + 1)) = omega (arith, h.0) in
     let rest = at-shift u us low high ps (Rise-earlier (p + 1) (low + 1) high ps (omega (arith, h.0)) h.2) in
     rw (e, rest) refl
 
-at-apart : (u : ℕ) (us : List ℕ) (low : ℕ) (ps : List ℕ) → AllByRecursion (λ y. eqb u y ≡ false) us → Rise low (low + length us) ps → AllByRecursion (λ y. eqb u y ≡ false) (at us low ps)
+at-apart : (u : ℕ) (us : List ℕ) (low : ℕ) (ps : List ℕ) → AllByRecursion (λ y. eqb u y ≡ false) us →
+    Rise low (low + length us) ps → AllByRecursion (λ y. eqb u y ≡ false) (at us low ps)
 at-apart u us low [] a h = tt
-at-apart u us low (p ∷ ps) a h =
-    (All-from_recursion (λ y. eqb u y ≡ false) us a (p - low) 0 (omega (arith, h.0, h.1)), at-apart u us low ps a (Rise-earlier (p + 1) low (low + length us) ps (omega (arith, h.0)) h.2))
+at-apart u us low (p ∷ ps) a h = (
+  All-from_recursion (λ y. eqb u y ≡ false) us a (p - low) 0 (omega (arith, h.0, h.1)),
+  at-apart u us low ps a (Rise-earlier (p + 1) low (low + length us) ps (omega (arith, h.0)) h.2),
+)
 
 -- the elements at rising places are those that are among them, in order
-pub at-filter : (us : List ℕ) (low : ℕ) (ps : List ℕ) → IsDistinct eqb us → Rise low (low + length us) ps → at us low ps ≡ filter (has (at us low ps)) us
+pub at-filter : (us : List ℕ) (low : ℕ) (ps : List ℕ) → IsDistinct eqb us → Rise low (low + length us) ps →
+    at us low ps ≡ filter (has (at us low ps)) us
 at-filter [] low [] d h = refl
 at-filter [] low (p ∷ ps) d h = absurd (omega (arith, h.0, h.1))
 at-filter (u ∷ us) low [] d h = at-filter us (low + 1) [] (IsDistinct-tail eqb u us d) tt
-at-filter (u ∷ us) low (p ∷ ps) d h = by (eqb p low) refl (at-filter us (low + 1) ps (IsDistinct-tail eqb u us d)) (at-filter us (low + 1) (p ∷ ps) (IsDistinct-tail eqb u us d))
+at-filter (u ∷ us) low (p ∷ ps) d h = by (eqb p low) refl (at-filter us (low + 1) ps (IsDistinct-tail eqb u us d))
+    (at-filter us (low + 1) (p ∷ ps) (IsDistinct-tail eqb u us d))
   where
     by : (b : Bool) → eqb p low ≡ b
         → (Rise (low + 1) (low + 1 + length us) ps → at us (low + 1) ps ≡ filter (has (at us (low + 1) ps)) us)
-        → (Rise (low + 1) (low + 1 + length us) (p ∷ ps) → at us (low + 1) (p ∷ ps) ≡ filter (has (at us (low + 1) (p ∷ ps))) us)
+        → (Rise (low + 1) (low + 1 + length us) (p ∷ ps) → at us (low + 1) (p ∷ ps) ≡ filter
+        (has (at us (low + 1) (p ∷ ps))) us)
         → at (u ∷ us) low (p ∷ ps) ≡ filter (has (at (u ∷ us) low (p ∷ ps))) (u ∷ us)
     by true e here later =
         let same = eqb-true p low e in
         let size : low + length (u ∷ us) ≡ low + 1 + length us = omega arith in
-        let rise : Rise (low + 1) (low + 1 + length us) ps = subst (λ n. Rise (low + 1) n ps) size (Rise-earlier (p + 1) (low + 1) (low + length (u ∷ us)) ps (omega (arith, same)) h.2) in
+        let rise : Rise (low + 1) (low + 1 + length us) ps =
+        subst (λ n. Rise (low + 1) n ps) size (Rise-earlier (p + 1) (low + 1) (low + length (u ∷ us)) ps
+        (omega (arith, same)) h.2) in
         let shift = at-shift u us low (low + 1 + length us) ps rise in
         let first : p - low ≡ 0 = omega (arith, same) in
         let whole : at (u ∷ us) low (p ∷ ps) ≡ u ∷ at us (low + 1) ps = rw (first, shift) refl in
         let kept : u ∷ at us (low + 1) ps ≡ filter (has (u ∷ at us (low + 1) ps)) (u ∷ us) =
-        rw (eq-eqb u u refl, filter-cons_other u (at us (low + 1) ps) us (IsDistinct-head eqb u us d)) (ap (λ vs. u ∷ vs) (here rise)) in
+        rw (eq-eqb u u refl, filter-cons_other u (at us (low + 1) ps) us (IsDistinct-head eqb u us d))
+        (ap (λ vs. u ∷ vs) (here rise)) in
         subst (λ vs. vs ≡ filter (has vs) (u ∷ us)) (sym whole) kept
     by false e here later =
         let other = false-ne p low e in
         let size : low + length (u ∷ us) ≡ low + 1 + length us = omega arith in
-        let rise : Rise (low + 1) (low + 1 + length us) (p ∷ ps) = (omega (arith, h.0, other), omega (arith, h.1, size), subst (λ n. Rise (p + 1) n ps) size h.2) in
+        let rise : Rise (low + 1) (low + 1 + length us) (p ∷ ps) =
+        (omega (arith, h.0, other), omega (arith, h.1, size), subst (λ n. Rise (p + 1) n ps) size h.2) in
         let shift = at-shift u us low (low + 1 + length us) (p ∷ ps) rise in
-        let none = has-none (at us (low + 1) (p ∷ ps)) u (at-apart u us (low + 1) (p ∷ ps) (IsDistinct-head eqb u us d) rise) in
+        let none = has-none (at us (low + 1) (p ∷ ps)) u (at-apart u us (low + 1) (p ∷ ps)
+        (IsDistinct-head eqb u us d) rise) in
         let kept : at us (low + 1) (p ∷ ps) ≡ filter (has (at us (low + 1) (p ∷ ps))) (u ∷ us) = rw none (later rise) in
         subst (λ vs. vs ≡ filter (has vs) (u ∷ us)) (sym shift) kept
 
@@ -127,7 +142,8 @@ pub length-filter-le : (p : ℕ → Bool) (xs : List ℕ) → length (filter p x
 length-filter-le p [] = omega arith
 length-filter-le p (x ∷ xs) = by (length-filter-le p xs) (p x) refl
   where
-    by : length (filter p xs) ≤ length xs → (b : Bool) → p x ≡ b → length (cond (p x) (x ∷ filter p xs) (filter p xs)) ≤ length (x ∷ xs)
+    by : length (filter p xs) ≤ length xs → (b : Bool) → p x ≡ b →
+        length (cond (p x) (x ∷ filter p xs) (filter p xs)) ≤ length (x ∷ xs)
     by rest true e = rw e (omega (arith, rest))
     by rest false e = rw e (omega (arith, rest))
 

@@ -8,18 +8,21 @@ use Rattle.dq_lits.specs.Row.{bit_of, assignment_of}
 use Rattle.dq_formula.specs.Dependencies.{padded}
 use Rattle.dq_lits.specs.Henkin.{same_bit, same_bits}
 
-pub assignment_of-place : (us : List ℕ) (row : List Bool) (x : ℕ) → length row ≡ length us → get_or row (place us x) false ≡ assignment_of us row x
+pub assignment_of-place : (us : List ℕ) (row : List Bool) (x : ℕ) → length row ≡ length us →
+    get_or row (place us x) false ≡ assignment_of us row x
 assignment_of-place [] [] x e = refl
 assignment_of-place [] (b ∷ bits) x e = absurd (omega (arith, e))
 assignment_of-place (u ∷ us) [] x e = absurd (omega (arith, e))
 assignment_of-place (u ∷ us) (b ∷ bits) x e = by (assignment_of-place us bits x (omega (arith, e))) (eqb u x) refl
   where
-    by : get_or bits (place us x) false ≡ assignment_of us bits x → (t : Bool) → eqb u x ≡ t → get_or (b ∷ bits) (cond (not (eqb u x)) (1 + place us x) 0) false ≡ cond (eqb u x) b (assignment_of us bits x)
+    by : get_or bits (place us x) false ≡ assignment_of us bits x → (t : Bool) → eqb u x ≡ t →
+        get_or (b ∷ bits) (cond (not (eqb u x)) (1 + place us x) 0) false ≡ cond (eqb u x) b (assignment_of us bits x)
     by rest true h = rw h refl
     by rest false h = let one : 1 + place us x ≡ suc (place us x) = omega arith in rw (h, one) rest
 
 -- lists that agree at each place
-pub same_bits-from_places : (xs ys : List Bool) → length xs ≡ length ys → ((k : ℕ) → k < length xs → get_or xs k false ≡ get_or ys k false) → same_bits xs ys ≡ true
+pub same_bits-from_places : (xs ys : List Bool) → length xs ≡ length ys →
+    ((k : ℕ) → k < length xs → get_or xs k false ≡ get_or ys k false) → same_bits xs ys ≡ true
 same_bits-from_places [] [] e h = refl
 same_bits-from_places [] (y ∷ ys) e h = absurd (omega (arith, e))
 same_bits-from_places (x ∷ xs) [] e h = absurd (omega (arith, e))
@@ -32,7 +35,8 @@ same_bits-from_places (x ∷ xs) (y ∷ ys) e h =
     self false = refl
 
 -- lists that differ at a place
-pub same_bits-from_difference : (xs ys : List Bool) (k : ℕ) → (get_or xs k false ≡ get_or ys k false → ⊥) → same_bits xs ys ≡ false
+pub same_bits-from_difference : (xs ys : List Bool) (k : ℕ) → (get_or xs k false ≡ get_or ys k false → ⊥) →
+    same_bits xs ys ≡ false
 same_bits-from_difference [] [] k h = absurd (h refl)
 same_bits-from_difference [] (y ∷ ys) k h = refl
 same_bits-from_difference (x ∷ xs) [] k h = refl
@@ -59,18 +63,26 @@ bit_of-padded n [] i = none (n - 0) i
     none (suc k) (suc i) = none k i
 bit_of-padded zero (b ∷ bits) zero = refl
 bit_of-padded (suc n) (b ∷ bits) zero = refl
-bit_of-padded n (b ∷ bits) (suc i) = let e : n - length (b ∷ bits) ≡ (n - 1) - length bits = omega arith in rw e (bit_of-padded (n - 1) bits i)
+bit_of-padded n (b ∷ bits) (suc i) = let e : n - length (b ∷ bits) ≡ (n - 1) - length bits = omega arith in
+    rw e (bit_of-padded (n - 1) bits i)
 
 pub length-padded : (n : ℕ) (bits : List Bool) → length bits ≤ n → length (padded n bits) ≡ n
-length-padded n bits le = omega (arith, length-append bits (replicate (n - length bits) false), length-replicate (n - length bits) false)
+length-padded n bits le = omega (
+  arith,
+  length-append bits (replicate (n - length bits) false),
+  length-replicate (n - length bits) false,
+)
 
 -- a list of that length with those bits
-pub padded-is : (n : ℕ) (bits out : List Bool) → length out ≡ n → length bits ≤ n → ((k : ℕ) → k < n → bit_of out k ≡ bit_of bits k) → out ≡ padded n bits
+pub padded-is : (n : ℕ) (bits out : List Bool) → length out ≡ n → length bits ≤ n →
+    ((k : ℕ) → k < n → bit_of out k ≡ bit_of bits k) → out ≡ padded n bits
 padded-is n bits out size le same =
-    ext_get_or false out (padded n bits) (size ∙ sym (length-padded n bits le)) (λ k l. same k (omega (arith, size, l)) ∙ sym (bit_of-padded n bits k))
+    ext_get_or false out (padded n bits) (size ∙ sym (length-padded n bits le))
+    (λ k l. same k (omega (arith, size, l)) ∙ sym (bit_of-padded n bits k))
 
 -- the bits that a set of the first n universals sees
-pub bit-first : (us : List ℕ) (row : List Bool) (n i : ℕ) → IsDistinct eqb us → length row ≡ length us → n ≤ length us → i < n
+pub bit-first : (us : List ℕ) (row : List Bool) (n i : ℕ) → IsDistinct eqb us → length row ≡ length us →
+    n ≤ length us → i < n
     → bit_of row i ≡ bit_of (map (assignment_of us row) (take n us)) i
 bit-first us row n i distinct size le l =
     let short : i < length (take n us) = omega (arith, length-take n us) in
@@ -80,9 +92,11 @@ bit-first us row n i distinct size le l =
     ∙ ap (bit_of row) (place-get_or us i 0 distinct (omega arith)))
 
 -- and those that a listed set sees
-pub bit-listed : (us vs : List ℕ) (row : List Bool) (i x : ℕ) → length row ≡ length us → i < length vs → x ≡ get_or vs i x
+pub bit-listed : (us vs : List ℕ) (row : List Bool) (i x : ℕ) → length row ≡ length us → i < length vs →
+    x ≡ get_or vs i x
     → bit_of row (place us x) ≡ bit_of (map (assignment_of us row) vs) i
-bit-listed us vs row i x size l at = assignment_of-place us row x size ∙ ap (assignment_of us row) at ∙ sym (get_or-map (assignment_of us row) vs i x false l)
+bit-listed us vs row i x size l at = assignment_of-place us row x size ∙ ap (assignment_of us row) at ∙ sym
+    (get_or-map (assignment_of us row) vs i x false l)
 
 -- `!=` on bits
 pub differs : (a b : Bool) → not (beq a b) ≡ true → a ≡ b → ⊥

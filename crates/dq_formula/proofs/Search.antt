@@ -25,23 +25,31 @@ abbrev pub Kept : List ℕ → List ℕ → Type 0
 Kept us vs = vs ≡ filter (has vs) us
 
 pub All-kept : (us vs : List ℕ) → Kept us vs → All (Contains us) vs
-All-kept us vs kept = subst (All (Contains us)) (sym kept) (All-filter (has vs) (Contains us) us (All-contains_itself us))
+All-kept us vs kept = subst (All (Contains us)) (sym kept) (All-filter (has vs) (Contains us) us
+    (All-contains_itself us))
 
 -- a search by place, among elements in the order of the list, finds just its members
 pub found : (us vs : List ℕ) (x : ℕ) (r : Result ℕ ℕ) → IsDistinct eqb us → Kept us vs → has us x ≡ true
-    → IsSearchInRange r (length vs) → IsBinarySearchResult (λ y. nat_cmp (place us y) (place us x)) vs r → IsTrue (is_ok r) ↔ Contains vs x
+    → IsSearchInRange r (length vs) → IsBinarySearchResult (λ y. nat_cmp (place us y) (place us x)) vs r →
+    IsTrue (is_ok r) ↔ Contains vs x
 found us vs x (Ok i) distinct kept among range result =
-    let same : place us (get_or vs i x) ≡ place us x = same-from_equal (place us (get_or vs i x)) (place us x) (result x) in
+    let same : place us (get_or vs i x) ≡ place us x = same-from_equal (place us (get_or vs i x)) (place us x)
+    (result x) in
     let member : has us (get_or vs i x) ≡ true = has-contains us (get_or vs i x) (All-kept us vs kept i x range) in
-    let here : get_or vs i x ≡ x = sym (get_or-place us (get_or vs i x) x member) ∙ ap (λ p. get_or us p x) same ∙ get_or-place us x x among in
+    let here : get_or vs i x ≡ x = sym (get_or-place us (get_or vs i x) x member) ∙ ap (λ p. get_or us p x) same
+    ∙ get_or-place us x x among in
     ((λ _. (i, range, here)), (λ _. refl))
 found us vs x (Err i) distinct kept among range result =
-    let rises : IsNonDecreasingBy (place us) vs = subst (IsNonDecreasingBy (place us)) (sym kept) (IsNonDecreasingBy-filter (place us) (has vs) us (place-rises us distinct)) in
-    let parts = result (λ a b d le l. index-rises (place us (get_or vs a d)) (place us (get_or vs b d)) (place us x) (rises a b d le l)) in
+    let rises : IsNonDecreasingBy (place us) vs = subst (IsNonDecreasingBy (place us)) (sym kept)
+    (IsNonDecreasingBy-filter (place us) (has vs) us (place-rises us distinct)) in
+    let parts = result (λ a b d le l. index-rises (place us (get_or vs a d)) (place us (get_or vs b d)) (place us x)
+    (rises a b d le l)) in
     ((λ h. absurd (true≢false (sym h))), (λ m. absurd (no m parts)))
   where
     at-member : (m : Contains vs x) → nat_cmp (place us (get_or vs m.0 x)) (place us x) ≡ Equal
     at-member m = rw m.2 (equal-from_same (place us x))
 
-    no : Contains vs x → AllWithin (λ y. nat_cmp (place us y) (place us x) ≡ Less) vs 0 i × AllWithin (λ y. nat_cmp (place us y) (place us x) ≡ Greater) vs i (length vs) → ⊥
-    no m parts = ⊎_elim (λ l. let a = parts.0 m.0 x (omega arith) l in let b = at-member m in cc) (λ l. let a = parts.1 m.0 x l m.1 in let b = at-member m in cc) (cases_lt m.0 i)
+    no : Contains vs x → AllWithin (λ y. nat_cmp (place us y) (place us x) ≡ Less) vs 0 i × AllWithin
+        (λ y. nat_cmp (place us y) (place us x) ≡ Greater) vs i (length vs) → ⊥
+    no m parts = ⊎_elim (λ l. let a = parts.0 m.0 x (omega arith) l in let b = at-member m in cc)
+        (λ l. let a = parts.1 m.0 x l m.1 in let b = at-member m in cc) (cases_lt m.0 i)

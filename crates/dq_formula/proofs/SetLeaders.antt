@@ -15,18 +15,21 @@ use Rattle.dq_formula.specs.Sets.{IsLeader}
 nobody : Existential
 nobody = record { variable = 0; sees = [] }
 
-module _ (f : Dqbf) (named : All (λ y. existential_of f y.variable ≡ Some y) f.existentials) (ys : List ℕ) (same : ys ≡ existential_variables f) where
+module _ (f : Dqbf) (named : All (λ y. existential_of f y.variable ≡ Some y) f.existentials) (ys : List ℕ)
+    (same : ys ≡ existential_variables f) where
   -- an existential is found by its variable
   found : (p : ℕ) → p < length f.existentials → existential_of f (get_or ys p 0) ≡ Some (get_or f.existentials p nobody)
   found p below =
-      ap (λ xs. existential_of f (get_or xs p 0)) same ∙ ap (existential_of f) (get_or-map (λ y. y.variable) f.existentials p nobody 0 below) ∙ named p nobody below
+      ap (λ xs. existential_of f (get_or xs p 0)) same ∙ ap (existential_of f)
+      (get_or-map (λ y. y.variable) f.existentials p nobody 0 below) ∙ named p nobody below
 
   pub is_existential : (p : ℕ) → p < length f.existentials → IsSome (existential_of f (get_or ys p 0))
   is_existential p below = subst IsSome (sym (found p below)) refl
 
 -- one with the same set stands for another
 pub leads : (f : Dqbf) (leader place : ℕ) (b : Bool) → leader < place → place < length f.existentials → b ≡ true
-    → ((d e : Existential) → slice_get f.existentials leader ≡ Some d → slice_get f.existentials place ≡ Some e → IsTrue b ↔ (d.sees ≡ e.sees)) → IsLeader f leader place
+    → ((d e : Existential) → slice_get f.existentials leader ≡ Some d → slice_get f.existentials place ≡ Some e →
+    IsTrue b ↔ (d.sees ≡ e.sees)) → IsLeader f leader place
 leads f leader place b before below is test =
     let low : leader < length f.existentials = omega (arith, before, below) in
     let z = get_or f.existentials leader nobody in
@@ -37,9 +40,11 @@ leads f leader place b before below is test =
     }
 
 -- a leader has the set of the one that it stands for
-module _ (f : Dqbf) (named : All (λ y. existential_of f y.variable ≡ Some y) f.existentials) (ys : List ℕ) (same : ys ≡ existential_variables f) where
+module _ (f : Dqbf) (named : All (λ y. existential_of f y.variable ≡ Some y) f.existentials) (ys : List ℕ)
+    (same : ys ≡ existential_variables f) where
   pub one_set : (leader place : ℕ) → place < length f.existentials → IsLeader f leader place
-      → option_map (λ (e : Existential). e.sees) (existential_of f (get_or ys leader 0)) ≡ option_map (λ (e : Existential). e.sees) (existential_of f (get_or ys place 0))
+      → option_map (λ (e : Existential). e.sees) (existential_of f (get_or ys leader 0)) ≡ option_map
+      (λ (e : Existential). e.sees) (existential_of f (get_or ys place 0))
   one_set leader place below is =
       let low : leader < length f.existentials = omega (arith, is.not_behind, below) in
       let led = is.same_set (get_or f.existentials place nobody) (slice_get-get_or f.existentials place nobody below) in
@@ -49,7 +54,8 @@ module _ (f : Dqbf) (named : All (λ y. existential_of f y.variable ≡ Some y) 
       ∙ sym (ap (option_map (λ (e : Existential). e.sees)) (found f named ys same place below))
 
 -- a leader more
-pub leaders_more : (f : Dqbf) (leaders : List ℕ) (leader : ℕ) → ((k : ℕ) → k < length leaders → IsLeader f (get_or leaders k 0) k) → IsLeader f leader (length leaders)
+pub leaders_more : (f : Dqbf) (leaders : List ℕ) (leader : ℕ) →
+    ((k : ℕ) → k < length leaders → IsLeader f (get_or leaders k 0) k) → IsLeader f leader (length leaders)
     → (k : ℕ) → k < length leaders + 1 → IsLeader f (get_or (leaders ++ leader ∷ []) k 0) k
 leaders_more f leaders leader each last k below = ⊎_elim
     (λ l. rw (get_or_append_left leaders (leader ∷ []) 0 k l) (each k l))
@@ -57,14 +63,17 @@ leaders_more f leaders leader each last k below = ⊎_elim
     (cases_lt k (length leaders))
   where
     at-end : get_or (leaders ++ leader ∷ []) (length leaders) 0 ≡ leader
-    at-end = get_or-append_right leaders (leader ∷ []) (length leaders) (length leaders) 0 refl (omega arith) ∙ (let e : length leaders - length leaders ≡ 0 = omega arith in rw e refl)
+    at-end = get_or-append_right leaders (leader ∷ []) (length leaders) (length leaders) 0 refl (omega arith) ∙
+        (let e : length leaders - length leaders ≡ 0 = omega arith in rw e refl)
 
 -- what holds of all dependency sets holds of the one at a place
-pub set_at : (P : Deps → Type 0) (entries : List (ℕ × Deps)) (place : ℕ) (entry : ℕ × Deps) → slice_get entries place ≡ Some entry
+pub set_at : (P : Deps → Type 0) (entries : List (ℕ × Deps)) (place : ℕ) (entry : ℕ × Deps) →
+    slice_get entries place ≡ Some entry
     → place < length entries → All P (values_of entries) → P entry.1
 set_at P entries place entry is below all =
     let none : ℕ × Deps = (0, FirstOf 0) in
     let size = length-map entries (λ (e : ℕ × Deps). e.1) in
     subst P
-    (get_or-map (λ (e : ℕ × Deps). e.1) entries place none (FirstOf 0) below ∙ ap (λ (e : ℕ × Deps). e.1) (get_or_from_slice_get entries place entry none is))
+    (get_or-map (λ (e : ℕ × Deps). e.1) entries place none (FirstOf 0) below ∙ ap (λ (e : ℕ × Deps). e.1)
+    (get_or_from_slice_get entries place entry none is))
     (all place (FirstOf 0) (omega (arith, size, below)))

@@ -14,12 +14,14 @@ use Rattle.dq_formula.proofs.Entries.{list_any-map}
 use Rattle.dq_formula.proofs.Places.{place, has, has-contains, Rise, at, at-filter}
 
 -- numbers that rise strictly, from their first one on
-pub Rise-from_increasing : (low high : ℕ) (ps : List ℕ) → IsStrictlyIncreasing ps → All (λ p. (low ≤ p) × (p < high)) ps → Rise low high ps
+pub Rise-from_increasing : (low high : ℕ) (ps : List ℕ) → IsStrictlyIncreasing ps →
+    All (λ p. (low ≤ p) × (p < high)) ps → Rise low high ps
 Rise-from_increasing low high [] up a = tt
 Rise-from_increasing low high (p ∷ []) up a = let h = a 0 0 (omega arith) in (h.0, h.1, tt)
 Rise-from_increasing low high (p ∷ q ∷ ps) up a =
     let h = a 0 0 (omega arith) in
-    let rest = Rise-from_increasing low high (q ∷ ps) (λ k l. simp unary_clauses (simp unary_clauses at (up (k + 1) (omega arith)))) (All-tail (λ p. (low ≤ p) × (p < high)) p (q ∷ ps) a) in
+    let rest = Rise-from_increasing low high (q ∷ ps) (λ k l. simp unary_clauses
+    (simp unary_clauses at (up (k + 1) (omega arith)))) (All-tail (λ p. (low ≤ p) × (p < high)) p (q ∷ ps) a) in
     let step : p < q = up 0 (omega arith) in
     (h.0, h.1, (omega (arith, step), rest.1, rest.2))
 
@@ -28,8 +30,10 @@ dedup_from-any : (p : ℕ → Bool) (k : ℕ) (xs : List ℕ) → list_any p (de
 dedup_from-any p k [] = refl
 dedup_from-any p k (x ∷ xs) = by (dedup_from-any p k xs) (dedup_from-any p x xs) (eqb x k) refl
   where
-    by : list_any p (dedup_from eqb k xs) ≡ (p k || list_any p xs) → list_any p (dedup_from eqb x xs) ≡ (p x || list_any p xs)
-        → (b : Bool) → eqb x k ≡ b → list_any p (cond (eqb x k) (dedup_from eqb k xs) (k ∷ dedup_from eqb x xs)) ≡ (p k || (p x || list_any p xs))
+    by : list_any p (dedup_from eqb k xs) ≡ (p k || list_any p xs) →
+        list_any p (dedup_from eqb x xs) ≡ (p x || list_any p xs)
+        → (b : Bool) → eqb x k ≡ b → list_any p (cond (eqb x k) (dedup_from eqb k xs) (k ∷ dedup_from eqb x xs)) ≡
+        (p k || (p x || list_any p xs))
     by here later true e = rw e (here ∙ twice (p k) (p x) (list_any p xs) (ap p (sym (eqb-true x k e))))
       where
         twice : (a b c : Bool) → a ≡ b → (a || c) ≡ (a || (b || c))
@@ -43,9 +47,13 @@ dedup-any p [] = refl
 dedup-any p (x ∷ xs) = dedup_from-any p x xs
 
 -- tests that agree on each element
-pub list_any-agree : {X : Type 0} (p q : X → Bool) (xs : List X) → All (λ x. p x ≡ q x) xs → list_any p xs ≡ list_any q xs
+pub list_any-agree : {X : Type 0} (p q : X → Bool) (xs : List X) → All (λ x. p x ≡ q x) xs →
+    list_any p xs ≡ list_any q xs
 list_any-agree p q [] h = refl
-list_any-agree p q (x ∷ xs) h = rw (All-head (λ x. p x ≡ q x) x xs h, list_any-agree p q xs (All-tail (λ x. p x ≡ q x) x xs h)) refl
+list_any-agree p q (x ∷ xs) h = rw (
+  All-head (λ x. p x ≡ q x) x xs h,
+  list_any-agree p q xs (All-tail (λ x. p x ≡ q x) x xs h),
+) refl
 
 sub-zero : (n : ℕ) → n - 0 ≡ n
 sub-zero n = omega arith
@@ -58,7 +66,8 @@ pub place-below : (us : List ℕ) (x : ℕ) → has us x ≡ true → place us x
 place-below [] x h = absurd (true≢false (sym h))
 place-below (u ∷ us) x h = by (place-below us x) (eqb u x) refl
   where
-    by : (has us x ≡ true → place us x < length us) → (b : Bool) → eqb u x ≡ b → cond (not (eqb u x)) (1 + place us x) 0 < length (u ∷ us)
+    by : (has us x ≡ true → place us x < length us) → (b : Bool) → eqb u x ≡ b →
+        cond (not (eqb u x)) (1 + place us x) 0 < length (u ∷ us)
     by rest true e = rw e (omega arith)
     by rest false e = rw e (let r : place us x < length us = rest (rw e at h) in omega arith)
 
@@ -66,19 +75,24 @@ pub get_or-place : (us : List ℕ) (x d : ℕ) → has us x ≡ true → get_or 
 get_or-place [] x d h = absurd (true≢false (sym h))
 get_or-place (u ∷ us) x d h = by (get_or-place us x d) (eqb u x) refl
   where
-    by : (has us x ≡ true → get_or us (place us x) d ≡ x) → (b : Bool) → eqb u x ≡ b → get_or (u ∷ us) (cond (not (eqb u x)) (1 + place us x) 0) d ≡ x
+    by : (has us x ≡ true → get_or us (place us x) d ≡ x) → (b : Bool) → eqb u x ≡ b →
+        get_or (u ∷ us) (cond (not (eqb u x)) (1 + place us x) 0) d ≡ x
     by rest true e = rw e (eqb-true u x e)
     by rest false e = let one : 1 + place us x ≡ suc (place us x) = omega arith in rw (e, one) (rest (rw e at h))
 
 -- the places of listed elements, sorted and without repeats, are those of the elements that are listed
-pub in_order : (us xs sorted : List ℕ) → IsDistinct eqb us → AllAmong us xs → IsPermutation (map (place us) xs) sorted → IsSorted nat_cmp sorted
+pub in_order : (us xs sorted : List ℕ) → IsDistinct eqb us → AllAmong us xs → IsPermutation (map (place us) xs) sorted →
+    IsSorted nat_cmp sorted
     → map (λ p. get_or us p 0) (dedup eqb sorted) ≡ filter (has xs) us
 in_order us xs sorted distinct among moved order =
     let ps = dedup eqb sorted in
     let below : All (λ p. (0 ≤ p) × (p < length us)) ps =
-    All-dedup eqb (λ p. (0 ≤ p) × (p < length us)) sorted (All-permutation (λ p. (0 ≤ p) × (p < length us)) (map (place us) xs) sorted moved
-    (All-map (λ p. (0 ≤ p) × (p < length us)) (place us) xs (λ k d l. (omega arith, place-below us (get_or xs k d) (among k d l))))) in
-    let rise : Rise 0 (0 + length us) ps = rw zero-add (Rise-from_increasing 0 (length us) ps (IsStrictlyIncreasing-dedup sorted order) below) in
+    All-dedup eqb (λ p. (0 ≤ p) × (p < length us)) sorted (All-permutation (λ p. (0 ≤ p) × (p < length us))
+    (map (place us) xs) sorted moved
+    (All-map (λ p. (0 ≤ p) × (p < length us)) (place us) xs (λ k d l.
+    (omega arith, place-below us (get_or xs k d) (among k d l))))) in
+    let rise : Rise 0 (0 + length us) ps = rw zero-add (Rise-from_increasing 0 (length us) ps
+    (IsStrictlyIncreasing-dedup sorted order) below) in
     let picked : at us 0 ps ≡ filter (has (at us 0 ps)) us = at-filter us 0 ps distinct rise in
     let plain : at us 0 ps ≡ map (λ p. get_or us p 0) ps = at-zero us ps in
     let same : (u : ℕ) → has (at us 0 ps) u ≡ has xs u = λ u.
@@ -86,7 +100,8 @@ in_order us xs sorted distinct among moved order =
     ∙ dedup-any (λ p. eqb (get_or us (p - 0) 0) u) sorted
     ∙ sym (list_any-IsPermutation (λ p. eqb (get_or us (p - 0) 0) u) (map (place us) xs) sorted moved)
     ∙ list_any-map (λ p. eqb (get_or us (p - 0) 0) u) (place us) xs
-    ∙ list_any-agree (λ x. eqb (get_or us (place us x - 0) 0) u) (λ x. eqb x u) xs (λ k d l. ap (λ n. eqb n u) (rw sub-zero (get_or-place us (get_or xs k d) 0 (among k d l)))) in
+    ∙ list_any-agree (λ x. eqb (get_or us (place us x - 0) 0) u) (λ x. eqb x u) xs
+    (λ k d l. ap (λ n. eqb n u) (rw sub-zero (get_or-place us (get_or xs k d) 0 (among k d l)))) in
     sym plain ∙ picked ∙ filter_agree (has (at us 0 ps)) (has xs) same us
   where
     at-zero : (us ps : List ℕ) → at us 0 ps ≡ map (λ p. get_or us p 0) ps
@@ -94,21 +109,26 @@ in_order us xs sorted distinct among moved order =
     at-zero us (p ∷ ps) = rw (sub-zero, at-zero us ps) refl
 
 -- and they are places of the list
-pub places-below : (us xs sorted : List ℕ) → AllAmong us xs → IsPermutation (map (place us) xs) sorted → All (λ p. p < length us) (dedup eqb sorted)
+pub places-below : (us xs sorted : List ℕ) → AllAmong us xs → IsPermutation (map (place us) xs) sorted →
+    All (λ p. p < length us) (dedup eqb sorted)
 places-below us xs sorted among moved =
     All-dedup eqb (λ p. p < length us) sorted (All-permutation (λ p. p < length us) (map (place us) xs) sorted moved
     (All-map (λ p. p < length us) (place us) xs (λ k d l. place-below us (get_or xs k d) (among k d l))))
 
 filter-agree : (p q : ℕ → Bool) (us : List ℕ) → All (λ u. p u ≡ q u) us → filter p us ≡ filter q us
 filter-agree p q [] h = refl
-filter-agree p q (u ∷ us) h = rw (All-head (λ u. p u ≡ q u) u us h, filter-agree p q us (All-tail (λ u. p u ≡ q u) u us h)) refl
+filter-agree p q (u ∷ us) h = rw (
+  All-head (λ u. p u ≡ q u) u us h,
+  filter-agree p q us (All-tail (λ u. p u ≡ q u) u us h),
+) refl
 
 -- a filter keeps its members
 pub filter-members : (p : ℕ → Bool) (us : List ℕ) → filter p us ≡ filter (has (filter p us)) us
 filter-members p us = filter-agree p (has (filter p us)) us (λ k d l.
     let u = get_or us k d in
     let member : has us u ≡ true = has-contains us u (Contains-get_or us k d l) in
-    let kept : has (filter p us) u ≡ (p u && has us u) = any-filter_same (λ x. eqb x u) p (p u) (λ x e. ap p (eqb-true x u e)) us in
+    let kept : has (filter p us) u ≡ (p u && has us u) = any-filter_same (λ x. eqb x u) p (p u)
+    (λ x e. ap p (eqb-true x u e)) us in
     sym (kept ∙ rw member (and-true (p u))))
   where
     and-true : (b : Bool) → (b && true) ≡ b

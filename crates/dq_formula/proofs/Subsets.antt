@@ -29,7 +29,8 @@ none_contained xs v none among =
 -- the places of elements that stand in the order of a list ascend
 pub places_ascend : (us vs : List ℕ) → IsDistinct eqb us → Kept us vs → IsNonDecreasing (map (place us) vs)
 places_ascend us vs distinct kept i j d le l =
-    let rises : IsNonDecreasingBy (place us) vs = subst (IsNonDecreasingBy (place us)) (sym kept) (IsNonDecreasingBy-filter (place us) (has vs) us (place-rises us distinct)) in
+    let rises : IsNonDecreasingBy (place us) vs = subst (IsNonDecreasingBy (place us)) (sym kept)
+    (IsNonDecreasingBy-filter (place us) (has vs) us (place-rises us distinct)) in
     let below : j < length vs = omega (arith, l, length-map vs (place us)) in
     let above : i < length vs = omega (arith, below, le) in
     rw (get_or-map (place us) vs i 0 d above, get_or-map (place us) vs j 0 d below) (rises i j 0 le below)
@@ -47,16 +48,24 @@ pub record IsFirstFrom (ys : List ℕ) (from result x : ℕ) : Type 0 where
   pub below : (k : ℕ) → from ≤ k → k < result → get_or ys k 0 < x
   pub here : result < length ys → x ≤ get_or ys result 0
 
-all_below : (xs ys : List ℕ) (i at result x : ℕ) → IsWalked xs ys i at → IsFirstFrom ys at result x → i < length xs → get_or xs i 0 ≡ x → (k : ℕ) → k < result → get_or ys k 0 < x
-all_below xs ys i at result x walked first l is k less = ⊎_elim (λ a. subst (λ y. get_or ys k 0 < y) is (walked.passed k i a (omega arith) l)) (λ a. first.below k a less) (cases_lt k at)
+all_below : (xs ys : List ℕ) (i at result x : ℕ) → IsWalked xs ys i at → IsFirstFrom ys at result x → i < length xs →
+    get_or xs i 0 ≡ x → (k : ℕ) → k < result → get_or ys k 0 < x
+all_below xs ys i at result x walked first l is k less = ⊎_elim
+    (λ a. subst (λ y. get_or ys k 0 < y) is (walked.passed k i a (omega arith) l)) (λ a. first.below k a less)
+    (cases_lt k at)
 
-pub walked_more : (xs ys : List ℕ) (i at result x : ℕ) → IsNonDecreasing xs → IsWalked xs ys i at → IsFirstFrom ys at result x → i < length xs → get_or xs i 0 ≡ x → slice_get ys result ≡ Some x
+pub walked_more : (xs ys : List ℕ) (i at result x : ℕ) → IsNonDecreasing xs → IsWalked xs ys i at →
+    IsFirstFrom ys at result x → i < length xs → get_or xs i 0 ≡ x → slice_get ys result ≡ Some x
     → IsWalked xs ys (i + 1) result
 walked_more xs ys i at result x ascend walked first l is stands = record {
   within = first.end;
   found =
       let e : i + 1 ≡ suc i = omega arith in
-      let member : Contains ys x = (result, slice_get_within ys result x stands, get_or_from_slice_get ys result x x stands) in
+      let member : Contains ys x = (
+        result,
+        slice_get_within ys result x stands,
+        get_or_from_slice_get ys result x x stands,
+      ) in
       rw (e, take-suc xs i 0 l, is) (All-push (Contains ys) (take i xs) x walked.found member);
   passed = λ k j less le end.
       let a = all_below xs ys i at result x walked first l is k less in
@@ -64,7 +73,8 @@ walked_more xs ys i at result x ascend walked first l is stands = record {
       omega (arith, a, b, is);
 }
 
-pub not_contained : (xs ys : List ℕ) (i at result x : ℕ) → IsNonDecreasing ys → IsWalked xs ys i at → IsFirstFrom ys at result x → i < length xs → get_or xs i 0 ≡ x
+pub not_contained : (xs ys : List ℕ) (i at result x : ℕ) → IsNonDecreasing ys → IsWalked xs ys i at →
+    IsFirstFrom ys at result x → i < length xs → get_or xs i 0 ≡ x
     → (slice_get ys result ≡ Some x → ⊥) → All (Contains ys) xs → ⊥
 not_contained xs ys i at result x ascend walked first l is stands all =
     let m = subst (Contains ys) is (all i 0 l) in
@@ -87,4 +97,7 @@ distinct_universals f prefix =
     IsDistinct-from_apart eqb us (λ i j d less below.
     let low : i < length us = omega (arith, less, below) in
     let whole : j < length (us ++ others) = omega (arith, below, length-append us others) in
-    ne-false (get_or us i d) (get_or us j d) (rw (get_or_append_left us others d i low, get_or_append_left us others d j below) at (prefix.declared_once i j d less whole)))
+    ne-false (get_or us i d) (get_or us j d) (rw (
+      get_or_append_left us others d i low,
+      get_or_append_left us others d j below,
+    ) at (prefix.declared_once i j d less whole)))

@@ -40,12 +40,15 @@ same_bit false b = not b
 
 both_lists : (m : Assignment) (xs ys : List (List Literal)) → all_true m (xs ++ ys) ≡ (all_true m xs && all_true m ys)
 both_lists m [] ys = refl
-both_lists m (x ∷ xs) ys = ap (λ b. clause_true m x && b) (both_lists m xs ys) ∙ regroup (clause_true m x) (all_true m xs) (all_true m ys)
+both_lists m (x ∷ xs) ys = ap (λ b. clause_true m x && b) (both_lists m xs ys) ∙ regroup (clause_true m x)
+    (all_true m xs) (all_true m ys)
 
 -- with a true literal behind, every clause is true; with a false one, what it was
-longer : (m : Assignment) (clause : List Literal) (l : Literal) → clause_true m (clause ++ l ∷ []) ≡ (clause_true m clause || literal_true m l)
+longer : (m : Assignment) (clause : List Literal) (l : Literal) →
+    clause_true m (clause ++ l ∷ []) ≡ (clause_true m clause || literal_true m l)
 longer m [] l = last (literal_true m l)
-longer m (k ∷ ks) l = ap (λ b. literal_true m k || b) (longer m ks l) ∙ regroup_or (literal_true m k) (clause_true m ks) (literal_true m l)
+longer m (k ∷ ks) l = ap (λ b. literal_true m k || b) (longer m ks l) ∙ regroup_or (literal_true m k) (clause_true m ks)
+    (literal_true m l)
 
 with_last : (m : Assignment) (l : Literal) (b : Bool) → literal_true m l ≡ b → (clauses : List (List Literal)) →
     all_true m (map (λ clause. clause ++ l ∷ []) clauses) ≡ (b || all_true m clauses)
@@ -60,7 +63,8 @@ swapped true false c = refl
 swapped false true c = refl
 swapped false false c = refl
 
-two_parts : (b even odd : Bool) → ((b || same_bit even odd) && (not b || same_bit (not even) odd)) ≡ same_bit even (differ b odd)
+two_parts : (b even odd : Bool) → ((b || same_bit even odd) && (not b || same_bit (not even) odd)) ≡ same_bit even
+    (differ b odd)
 two_parts true true true = refl
 two_parts true true false = refl
 two_parts true false true = refl
@@ -77,11 +81,13 @@ negated m (negative v) = sym (twice (m v))
 parity_step : (m : Assignment) (l : Literal) (before : List Literal) (even : Bool) →
     all_true m (parity_clauses even before) ≡ same_bit even (xor_true m before) →
     all_true m (parity_clauses (not even) before) ≡ same_bit (not even) (xor_true m before) →
-    all_true m (map (λ clause. clause ++ l ∷ []) (parity_clauses even before) ++ map (λ clause. clause ++ opposite l ∷ []) (parity_clauses (not even) before))
+    all_true m (map (λ clause. clause ++ l ∷ []) (parity_clauses even before) ++ map
+    (λ clause. clause ++ opposite l ∷ []) (parity_clauses (not even) before))
     ≡ same_bit even (xor_true m (l ∷ before))
 parity_step m l before even h k =
     let b = literal_true m l in
-    both_lists m (map (λ clause. clause ++ l ∷ []) (parity_clauses even before)) (map (λ clause. clause ++ opposite l ∷ []) (parity_clauses (not even) before))
+    both_lists m (map (λ clause. clause ++ l ∷ []) (parity_clauses even before))
+    (map (λ clause. clause ++ opposite l ∷ []) (parity_clauses (not even) before))
     ∙ ap₂ (λ x y. x && y)
     (with_last m l b refl (parity_clauses even before) ∙ ap (λ v. b || v) h)
     (with_last m (opposite l) (not b) (negated m l) (parity_clauses (not even) before) ∙ ap (λ v. not b || v) k)
@@ -92,16 +98,21 @@ pub parity_holds : (m : Assignment) (before : List Literal) (even : Bool) →
     all_true m (parity_clauses even before) ≡ same_bit even (xor_true m before)
 parity_holds m [] true = refl
 parity_holds m [] false = refl
-parity_holds m (l ∷ before) true = parity_step m l before true (parity_holds m before true) (parity_holds m before false)
-parity_holds m (l ∷ before) false = parity_step m l before false (parity_holds m before false) (parity_holds m before true)
+parity_holds m (l ∷ before) true = parity_step m l before true (parity_holds m before true)
+    (parity_holds m before false)
+parity_holds m (l ∷ before) false = parity_step m l before false (parity_holds m before false)
+    (parity_holds m before true)
 
-appended : (m : Assignment) (ls : List Literal) (l : Literal) → xor_true m (ls ++ l ∷ []) ≡ differ (literal_true m l) (xor_true m ls)
+appended : (m : Assignment) (ls : List Literal) (l : Literal) →
+    xor_true m (ls ++ l ∷ []) ≡ differ (literal_true m l) (xor_true m ls)
 appended m [] l = refl
-appended m (k ∷ ks) l = ap (differ (literal_true m k)) (appended m ks l) ∙ swapped (literal_true m k) (literal_true m l) (xor_true m ks)
+appended m (k ∷ ks) l = ap (differ (literal_true m k)) (appended m ks l) ∙ swapped (literal_true m k) (literal_true m l)
+    (xor_true m ks)
 
 pub reversed : (m : Assignment) (ls : List Literal) → xor_true m (reverse ls) ≡ xor_true m ls
 reversed m [] = refl
-reversed m (l ∷ ls) = ap (xor_true m) (reverse-append (l ∷ []) ls) ∙ appended m (reverse ls) l ∙ ap (differ (literal_true m l)) (reversed m ls)
+reversed m (l ∷ ls) = ap (xor_true m) (reverse-append (l ∷ []) ls) ∙ appended m (reverse ls) l ∙ ap
+    (differ (literal_true m l)) (reversed m ls)
 
 -- the law: under every assignment an XOR line's clauses are all true exactly where the line is
 pub xor_clauses_are_exact : XorIsItsClauses
@@ -114,18 +125,25 @@ example : xor_clauses (positive 3 ∷ positive 1 ∷ positive 2 ∷ [])
 example = refl
 
 -- how many clauses there are
-one-more : (even : Bool) (l : Literal) (before : List Literal) → length (parity_clauses even (l ∷ before)) ≡ length (parity_clauses even before) + length (parity_clauses (not even) before)
+one-more : (even : Bool) (l : Literal) (before : List Literal) →
+    length (parity_clauses even (l ∷ before)) ≡ length (parity_clauses even before) + length
+    (parity_clauses (not even) before)
 one-more even l before =
-    length-append (map (λ clause. clause ++ l ∷ []) (parity_clauses even before)) (map (λ clause. clause ++ opposite l ∷ []) (parity_clauses (not even) before))
-    ∙ ap₂ (λ x y. x + y) (length-map (parity_clauses even before) (λ clause. clause ++ l ∷ [])) (length-map (parity_clauses (not even) before) (λ clause. clause ++ opposite l ∷ []))
+    length-append (map (λ clause. clause ++ l ∷ []) (parity_clauses even before))
+    (map (λ clause. clause ++ opposite l ∷ []) (parity_clauses (not even) before))
+    ∙ ap₂ (λ x y. x + y) (length-map (parity_clauses even before) (λ clause. clause ++ l ∷ []))
+    (length-map (parity_clauses (not even) before) (λ clause. clause ++ opposite l ∷ []))
 
-halves : (l : Literal) (before : List Literal) (even : Bool) → length (parity_clauses even before) + length (parity_clauses (not even) before) ≡ 2 ^ length before
+halves : (l : Literal) (before : List Literal) (even : Bool) →
+    length (parity_clauses even before) + length (parity_clauses (not even) before) ≡ 2 ^ length before
     → length (parity_clauses (not even) before) + length (parity_clauses (not (not even)) before) ≡ 2 ^ length before
-    → length (parity_clauses even (l ∷ before)) + length (parity_clauses (not even) (l ∷ before)) ≡ 2 ^ suc (length before)
+    → length (parity_clauses even (l ∷ before)) + length (parity_clauses (not even) (l ∷ before)) ≡ 2 ^ suc
+    (length before)
 halves l before even a b = let e : 2 ^ length before + 2 ^ length before ≡ 2 ^ suc (length before) = grind arith in
     ap₂ (λ x y. x + y) (one-more even l before ∙ a) (one-more (not even) l before ∙ b) ∙ e
 
-both-parities : (even : Bool) (literals : List Literal) → length (parity_clauses even literals) + length (parity_clauses (not even) literals) ≡ 2 ^ length literals
+both-parities : (even : Bool) (literals : List Literal) → length (parity_clauses even literals) + length
+    (parity_clauses (not even) literals) ≡ 2 ^ length literals
 both-parities true [] = refl
 both-parities false [] = refl
 both-parities true (l ∷ before) = halves l before true (both-parities true before) (both-parities false before)
@@ -139,48 +157,69 @@ few-power (suc (suc (suc zero))) le = omega arith
 few-power (suc (suc (suc (suc zero)))) le = omega arith
 few-power (suc (suc (suc (suc (suc n))))) le = absurd (omega (arith, le))
 
-pub few-parity : (even : Bool) (literals : List Literal) → length literals ≤ 5 → length (parity_clauses even literals) ≤ 16
+pub few-parity : (even : Bool) (literals : List Literal) → length literals ≤ 5 →
+    length (parity_clauses even literals) ≤ 16
 few-parity true [] few = omega arith
 few-parity false [] few = omega arith
-few-parity even (l ∷ before) few = omega (arith, one-more even l before, both-parities even before, few-power (length before) (omega (arith, few)))
+few-parity even (l ∷ before) few = omega (
+  arith,
+  one-more even l before,
+  both-parities even before,
+  few-power (length before) (omega (arith, few)),
+)
 
 -- the clauses stand on the literals' variables
-pub All-parity : (v : ℕ) (even : Bool) (literals : List Literal) → All (λ l. variable_of l ≤ v) literals → All (All (λ l. variable_of l ≤ v)) (parity_clauses even literals)
-All-parity v true [] h = All-cons (All (λ l. variable_of l ≤ v)) [] [] (All-nil (λ l. variable_of l ≤ v)) (All-nil (All (λ l. variable_of l ≤ v)))
+pub All-parity : (v : ℕ) (even : Bool) (literals : List Literal) → All (λ l. variable_of l ≤ v) literals →
+    All (All (λ l. variable_of l ≤ v)) (parity_clauses even literals)
+All-parity v true [] h = All-cons (All (λ l. variable_of l ≤ v)) [] [] (All-nil (λ l. variable_of l ≤ v))
+    (All-nil (All (λ l. variable_of l ≤ v)))
 All-parity v false [] h = All-nil (All (λ l. variable_of l ≤ v))
 All-parity v even (l ∷ before) h =
     let rest = All-tail (λ l. variable_of l ≤ v) l before h in
     let low : variable_of l ≤ v = All-head (λ l. variable_of l ≤ v) l before h in
-    All-append (All (λ l. variable_of l ≤ v)) (map (λ clause. clause ++ l ∷ []) (parity_clauses even before)) (map (λ clause. clause ++ opposite l ∷ []) (parity_clauses (not even) before))
+    All-append (All (λ l. variable_of l ≤ v)) (map (λ clause. clause ++ l ∷ []) (parity_clauses even before))
+    (map (λ clause. clause ++ opposite l ∷ []) (parity_clauses (not even) before))
     (with-literal l low (parity_clauses even before) (All-parity v even before rest))
-    (with-literal (opposite l) (negated-below l low) (parity_clauses (not even) before) (All-parity v (not even) before rest))
+    (with-literal (opposite l) (negated-below l low) (parity_clauses (not even) before)
+    (All-parity v (not even) before rest))
   where
     negated-below : (l : Literal) → variable_of l ≤ v → variable_of (opposite l) ≤ v
     negated-below (positive w) h = h
     negated-below (negative w) h = h
 
-    with-literal : (l : Literal) → variable_of l ≤ v → (clauses : List (List Literal)) → All (All (λ l. variable_of l ≤ v)) clauses → All (All (λ l. variable_of l ≤ v)) (map (λ clause. clause ++ l ∷ []) clauses)
-    with-literal l low clauses h = All-map (All (λ l. variable_of l ≤ v)) (λ clause. clause ++ l ∷ []) clauses (λ k d less. All-push (λ l. variable_of l ≤ v) (get_or clauses k d) l (h k d less) low)
+    with-literal : (l : Literal) → variable_of l ≤ v → (clauses : List (List Literal)) →
+        All (All (λ l. variable_of l ≤ v)) clauses → All (All (λ l. variable_of l ≤ v))
+        (map (λ clause. clause ++ l ∷ []) clauses)
+    with-literal l low clauses h = All-map (All (λ l. variable_of l ≤ v)) (λ clause. clause ++ l ∷ []) clauses
+        (λ k d less. All-push (λ l. variable_of l ≤ v) (get_or clauses k d) l (h k d less) low)
 
-pub All-xor : (v : ℕ) (literals : List Literal) → All (λ l. variable_of l ≤ v) literals → All (All (λ l. variable_of l ≤ v)) (xor_clauses literals)
+pub All-xor : (v : ℕ) (literals : List Literal) → All (λ l. variable_of l ≤ v) literals →
+    All (All (λ l. variable_of l ≤ v)) (xor_clauses literals)
 All-xor v literals h = All-parity v true (reverse literals) (All-reverse literals h)
   where
     All-reverse : (ls : List Literal) → All (λ l. variable_of l ≤ v) ls → All (λ l. variable_of l ≤ v) (reverse ls)
     All-reverse [] h = h
-    All-reverse (l ∷ ls) h = rw (reverse-append (l ∷ []) ls) (All-push (λ l. variable_of l ≤ v) (reverse ls) l (All-reverse ls (All-tail (λ l. variable_of l ≤ v) l ls h)) (All-head (λ l. variable_of l ≤ v) l ls h))
+    All-reverse (l ∷ ls) h = rw (reverse-append (l ∷ []) ls)
+        (All-push (λ l. variable_of l ≤ v) (reverse ls) l (All-reverse ls (All-tail (λ l. variable_of l ≤ v) l ls h))
+        (All-head (λ l. variable_of l ≤ v) l ls h))
 
 -- a literal more in front
 pub parity-step : (even : Bool) (literals : List Literal) (m : ℕ) (d : Literal) → m < length literals
     → first_parity_clauses even literals (suc m)
     ≡ map (λ clause. clause ++ get_or literals m d ∷ []) (first_parity_clauses even literals m)
     ++ map (λ clause. clause ++ opposite (get_or literals m d) ∷ []) (first_parity_clauses (not even) literals m)
-parity-step even literals m d l = rw (take-suc literals m d l, reverse-append (take m literals) (get_or literals m d ∷ [])) refl
+parity-step even literals m d l = rw (
+  take-suc literals m d l,
+  reverse-append (take m literals) (get_or literals m d ∷ []),
+) refl
 
-append-behind : (k : Literal) (rest : List Literal) (clauses : List (List Literal)) → map (λ c. c ++ rest) (map (λ c. c ++ k ∷ []) clauses) ≡ map (λ c. c ++ k ∷ rest) clauses
+append-behind : (k : Literal) (rest : List Literal) (clauses : List (List Literal)) →
+    map (λ c. c ++ rest) (map (λ c. c ++ k ∷ []) clauses) ≡ map (λ c. c ++ k ∷ rest) clauses
 append-behind k rest [] = refl
 append-behind k rest (c ∷ cs) = ap₂ (λ x y. x ∷ y) (append_assoc c (k ∷ []) rest) (append-behind k rest cs)
 
-pub both_signs : (even : Bool) (literals : List Literal) (m : ℕ) (d : Literal) (rest : List Literal) → m < length literals
+pub both_signs : (even : Bool) (literals : List Literal) (m : ℕ) (d : Literal) (rest : List Literal) →
+    m < length literals
     → map (λ c. c ++ rest) (first_parity_clauses even literals (suc m))
     ≡ map (λ c. c ++ get_or literals m d ∷ rest) (first_parity_clauses even literals m)
     ++ map (λ c. c ++ opposite (get_or literals m d) ∷ rest) (first_parity_clauses (not even) literals m)

@@ -27,7 +27,8 @@ abbrev all_bits : ℕ → List (List Bool)
 all_bits zero = [] ∷ []
 all_bits (suc n) = map (λ bits. true ∷ bits) (all_bits n) ++ map (λ bits. false ∷ bits) (all_bits n)
 
-same_under : (b : Bool) (bits : List Bool) (xs : List (List Bool)) → list_any (same_bits (b ∷ bits)) (map (λ zs. b ∷ zs) xs) ≡ list_any (same_bits bits) xs
+same_under : (b : Bool) (bits : List Bool) (xs : List (List Bool)) →
+    list_any (same_bits (b ∷ bits)) (map (λ zs. b ∷ zs) xs) ≡ list_any (same_bits bits) xs
 same_under b bits [] = refl
 same_under true bits (x ∷ xs) = ap (λ r. same_bits bits x || r) (same_under true bits xs)
 same_under false bits (x ∷ xs) = ap (λ r. same_bits bits x || r) (same_under false bits xs)
@@ -41,14 +42,17 @@ all_bits-complete [] = refl
 all_bits-complete (true ∷ bits) =
     let rest = all_bits (length bits) in
     list_any-append (same_bits (true ∷ bits)) (map (λ zs. true ∷ zs) rest) (map (λ zs. false ∷ zs) rest)
-    ∙ ap (λ r. r || list_any (same_bits (true ∷ bits)) (map (λ zs. false ∷ zs) rest)) (same_under true bits rest ∙ all_bits-complete bits)
+    ∙ ap (λ r. r || list_any (same_bits (true ∷ bits)) (map (λ zs. false ∷ zs) rest))
+    (same_under true bits rest ∙ all_bits-complete bits)
 all_bits-complete (false ∷ bits) =
     let rest = all_bits (length bits) in
     list_any-append (same_bits (false ∷ bits)) (map (λ zs. true ∷ zs) rest) (map (λ zs. false ∷ zs) rest)
-    ∙ ap (λ r. list_any (same_bits (false ∷ bits)) (map (λ zs. true ∷ zs) rest) || r) (same_under false bits rest ∙ all_bits-complete bits)
+    ∙ ap (λ r. list_any (same_bits (false ∷ bits)) (map (λ zs. true ∷ zs) rest) || r)
+    (same_under false bits rest ∙ all_bits-complete bits)
     ∙ or-true _
 
-list_any-cond : (p : List Bool → Bool) (b : Bool) (x : List Bool) (xs : List (List Bool)) → list_any p (cond b (x ∷ xs) xs) ≡ cond b (p x || list_any p xs) (list_any p xs)
+list_any-cond : (p : List Bool → Bool) (b : Bool) (x : List Bool) (xs : List (List Bool)) →
+    list_any p (cond b (x ∷ xs) xs) ≡ cond b (p x || list_any p xs) (list_any p xs)
 list_any-cond p true x xs = refl
 list_any-cond p false x xs = refl
 
@@ -62,12 +66,14 @@ kept_step false r true gb same = refl
 kept_step false r false gb same = refl
 
 -- among the lists that pass a test
-kept : (g : List Bool → Bool) (bits : List Bool) (xs : List (List Bool)) → list_any (same_bits bits) (filter g xs) ≡ (list_any (same_bits bits) xs && g bits)
+kept : (g : List Bool → Bool) (bits : List Bool) (xs : List (List Bool)) →
+    list_any (same_bits bits) (filter g xs) ≡ (list_any (same_bits bits) xs && g bits)
 kept g bits [] = refl
 kept g bits (x ∷ xs) =
     list_any-cond (same_bits bits) (g x) x (filter g xs)
     ∙ ap (λ r. cond (g x) (same_bits bits x || r) r) (kept g bits xs)
-    ∙ kept_step (same_bits bits x) (list_any (same_bits bits) xs) (g x) (g bits) (λ e. ap g (sym (same_bits-sound bits x e)))
+    ∙ kept_step (same_bits bits x) (list_any (same_bits bits) xs) (g x) (g bits)
+    (λ e. ap g (sym (same_bits-sound bits x e)))
 
 -- the choice that holds these functions
 abbrev pub choice_of : (Existential → List Bool → Bool) → HenkinChoice
@@ -78,4 +84,5 @@ pub choice_of-value : (values : Existential → List Bool → Bool) (y : Existen
 choice_of-value values y m =
     let bits = restriction y m in
     kept (values y) bits (all_bits (length y.sees))
-    ∙ ap (λ r. r && values y bits) (ap (λ n. list_any (same_bits bits) (all_bits n)) (sym (length-map y.sees m)) ∙ all_bits-complete bits)
+    ∙ ap (λ r. r && values y bits) (ap (λ n. list_any (same_bits bits) (all_bits n)) (sym (length-map y.sees m))
+    ∙ all_bits-complete bits)

@@ -15,8 +15,10 @@ not_false m trues all (l ∷ ls) =
     let shorter = not_false m trues all ls in
     elim (cases_Bool (holds trues (opposite l))) [
       | inl is_false ↦
-          let falsity : literal_true m l ≡ false = not-true (literal_true m l) (sym (literal_true-opposite m l) ∙ holds-true m trues (opposite l) all is_false) in
-          ap (λ b. clause_true m (cond (not b) (l ∷ rest) rest)) is_false ∙ shorter ∙ ap (λ b. b || clause_true m ls) (sym falsity)
+          let falsity : literal_true m l ≡ false = not-true (literal_true m l)
+          (sym (literal_true-opposite m l) ∙ holds-true m trues (opposite l) all is_false) in
+          ap (λ b. clause_true m (cond (not b) (l ∷ rest) rest)) is_false ∙ shorter ∙ ap (λ b. b || clause_true m ls)
+          (sym falsity)
       | inr open' ↦
           ap (λ b. clause_true m (cond (not b) (l ∷ rest) rest)) open' ∙ ap (λ b. literal_true m l || b) shorter
     ]
@@ -39,7 +41,8 @@ open_step m trues (l ∷ rest) place hints next truth h =
 
 step_goes_on : (m : Assignment) (trues : List Literal) → AllTrue m trues → (clause : Option (List Literal)) →
     ((c : List Literal) → clause ≡ Some c → clause_true m c ≡ true) →
-    (place : ℕ) (hints : List ℕ) (next : Literal → Option ℕ) → fault_by (status_of trues clause) place hints next ≡ None →
+    (place : ℕ) (hints : List ℕ) (next : Literal → Option ℕ) →
+    fault_by (status_of trues clause) place hints next ≡ None →
     (l : Literal) × (literal_true m l ≡ true) × (next l ≡ None)
 step_goes_on m trues all None truth place hints next h = cc
 step_goes_on m trues all (Some clause) truth place hints next h =
@@ -47,11 +50,13 @@ step_goes_on m trues all (Some clause) truth place hints next h =
     (not_false m trues all clause ∙ truth clause refl) h
 
 -- hints that don't fail contradict the clauses
-pub hints_refute : (m : Assignment) (live : LiveClauses) → MakesTrue m live → (hints : List ℕ) (trues : List Literal) (place : ℕ) →
+pub hints_refute : (m : Assignment) (live : LiveClauses) → MakesTrue m live →
+    (hints : List ℕ) (trues : List Literal) (place : ℕ) →
     AllTrue m trues → hint_fault live trues place hints ≡ None → ⊥
 hints_refute m live truth [] trues place all h = cc
 hints_refute m live truth (hint ∷ hints) trues place all h =
-    let r = step_goes_on m trues all (live hint) (truth hint) place hints (λ l. hint_fault live (l ∷ trues) (place + 1) hints) h in
+    let r = step_goes_on m trues all (live hint) (truth hint) place hints
+    (λ l. hint_fault live (l ∷ trues) (place + 1) hints) h in
     hints_refute m live truth hints (r.0 ∷ trues) (place + 1) (r.1, all) r.2
 
 no_tautology : (b : Bool) (rest : Option ℕ) → cond b (Some 0) rest ≡ None → rest ≡ None
@@ -59,16 +64,19 @@ no_tautology true rest h = cc
 no_tautology false rest h = h
 
 -- a derived line is true wherever the clauses are
-pub derived_line_true : (live : LiveClauses) (literals : List Literal) (hints : List ℕ) → IsDerived live literals hints →
+pub derived_line_true : (live : LiveClauses) (literals : List Literal) (hints : List ℕ) →
+    IsDerived live literals hints →
     (m : Assignment) → MakesTrue m live → clause_true m literals ≡ true
 derived_line_true live literals hints derived m truth =
     elim (cases_Bool (clause_true m literals)) [
       | inl is_true ↦ is_true
-      | inr is_false ↦ absurd (hints_refute m live truth hints (map opposite literals) 1 (opposites-true m literals is_false)
+      | inr is_false ↦ absurd (hints_refute m live truth hints (map opposite literals) 1
+          (opposites-true m literals is_false)
           (no_tautology (is_tautology literals) (hint_fault live (map opposite literals) 1 hints) derived))
     ]
 
-one_of_two : (m : Assignment) (b : Bool) (clause c : List Literal) (other : Option (List Literal)) → clause_true m clause ≡ true →
+one_of_two : (m : Assignment) (b : Bool) (clause c : List Literal) (other : Option (List Literal)) →
+    clause_true m clause ≡ true →
     (other ≡ Some c → clause_true m c ≡ true) → cond b (Some clause) other ≡ Some c → clause_true m c ≡ true
 one_of_two m true clause c other here there h = let same : clause ≡ c = cc in ap (clause_true m) (sym same) ∙ here
 one_of_two m false clause c other here there h = there h
@@ -77,7 +85,8 @@ with_clause-true : (m : Assignment) (live : LiveClauses) → MakesTrue m live �
     clause_true m clause ≡ true → MakesTrue m (with_clause live id clause)
 with_clause-true m live truth id clause here i c h = one_of_two m (i == id) clause c (live i) here (truth i c) h
 
-no_step_fault : (o : Option ℕ) (id : ℕ) (rest : Option ProofFault) → fault_of_step o id rest ≡ None → (o ≡ None) × (rest ≡ None)
+no_step_fault : (o : Option ℕ) (id : ℕ) (rest : Option ProofFault) → fault_of_step o id rest ≡ None →
+    (o ≡ None) × (rest ≡ None)
 no_step_fault (Some _) id rest h = cc
 no_step_fault None id rest h = (refl, h)
 
@@ -100,5 +109,6 @@ steps_refute m (step ∷ steps) finished live truth before h =
     (with_clause-true m live truth step.id step.literals here) (empty_is_false m step.literals here) r.1
 
 -- clauses that derive the empty clause can't all be true
-pub derivation_refutes : (live : LiveClauses) (steps : List ProofStep) → Derives live steps → (m : Assignment) → MakesTrue m live → ⊥
+pub derivation_refutes : (live : LiveClauses) (steps : List ProofStep) → Derives live steps → (m : Assignment) →
+    MakesTrue m live → ⊥
 derivation_refutes live steps derives m truth = steps_refute m steps false live truth (λ h. cc) derives

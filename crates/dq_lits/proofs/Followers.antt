@@ -13,10 +13,12 @@ abbrev pub variable : Existential → ℕ
 variable y = y.variable
 
 -- the first existential with a variable is the one that declares it
-pub find_own : (ys : List Existential) (k : ℕ) (d : Existential) → k < length ys → AllPairs (λ v w. v ≢ w) (map variable ys) →
+pub find_own : (ys : List Existential) (k : ℕ) (d : Existential) → k < length ys →
+    AllPairs (λ v w. v ≢ w) (map variable ys) →
     find (λ z. z.variable == (get_or ys k d).variable) ys ≡ Some (get_or ys k d)
 find_own [] k d below once = absurd (omega arith)
-find_own (y ∷ ys) zero d below once = cond-true (y.variable == y.variable) (Some y) _ (eq-eqb y.variable y.variable refl)
+find_own (y ∷ ys) zero d below once = cond-true (y.variable == y.variable) (Some y) _
+    (eq-eqb y.variable y.variable refl)
 find_own (y ∷ ys) (suc k) d below once =
     let here : k < length ys = omega arith in
     let v = get_or ys k d in
@@ -58,9 +60,11 @@ declared_apart us ys once k d below j inside e =
     let left : get_or (us ++ es) k 0 ≡ get_or us k 0 = get_or-append us es 0 k below in
     let right : get_or (us ++ es) (length us + j) 0 ≡ get_or es j 0 = get_or-append-add us es j 0 in
     let same : get_or us k 0 ≡ get_or us k d = get_or_default us k 0 d below in
-    once k (length us + j) 0 (omega arith) (omega (arith, in_map, length-append us es)) (left ∙ same ∙ sym e ∙ sym right)
+    once k (length us + j) 0 (omega arith) (omega (arith, in_map, length-append us es))
+    (left ∙ same ∙ sym e ∙ sym right)
 
-pub existentials_once : (us : List ℕ) (ys : List Existential) → AllPairs (λ v w. v ≢ w) (us ++ map variable ys) → AllPairs (λ v w. v ≢ w) (map variable ys)
+pub existentials_once : (us : List ℕ) (ys : List Existential) → AllPairs (λ v w. v ≢ w) (us ++ map variable ys) →
+    AllPairs (λ v w. v ≢ w) (map variable ys)
 existentials_once us ys once i j d order inside e =
     let es = map variable ys in
     once (length us + i) (length us + j) d (omega arith) (omega (arith, length-append us es))
@@ -70,7 +74,8 @@ pub follower_keeps_universals : (f : Dqbf) → HasLawfulPrefix f → (choice : H
     All (λ x. follower f choice m x ≡ m x) f.universals
 follower_keeps_universals f lawful choice m k d below =
     let x = get_or f.universals k d in
-    ap (value_or choice m x) (find_none f.existentials x (declared_apart f.universals f.existentials lawful.declared_once k d below))
+    ap (value_or choice m x) (find_none f.existentials x (declared_apart f.universals f.existentials
+    lawful.declared_once k d below))
 
 pub follower_follows : (f : Dqbf) → HasLawfulPrefix f → (choice : HenkinChoice) (m : Assignment) →
     Follows f choice (follower f choice m)
@@ -80,7 +85,8 @@ follower_follows f lawful choice m k d below =
     let own = find_own f.existentials k d below (existentials_once f.universals f.existentials lawful.declared_once) in
     let kept : All (λ x. m x ≡ n x) y.sees =
     All-weaker (Contains f.universals) (λ x. m x ≡ n x)
-    (λ x inside. sym (All-contains (λ z. n z ≡ m z) f.universals x (follower_keeps_universals f lawful choice m) inside))
+    (λ x inside. sym (All-contains (λ z. n z ≡ m z) f.universals x
+    (follower_keeps_universals f lawful choice m) inside))
     y.sees (lawful.sees_universals k d below) in
     ap (value_or choice m y.variable) own
     ∙ ap (λ bits. list_any (same_bits bits) (choice y)) (map-agree m n y.sees kept)

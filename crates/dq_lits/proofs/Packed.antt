@@ -9,7 +9,8 @@ use Rattle.std.proofs.lemmas.List.FromFn.{length-map-range_with_len, get_or-map-
 use Rattle.dq_lits.specs.PackedRow.{packed_bit, unpacked}
 
 -- lists of bits that agree at each place
-pub same_by_place : (xs ys : List Bool) → length xs ≡ length ys → ((i : ℕ) → i < length xs → get_or xs i false ≡ get_or ys i false) → xs ≡ ys
+pub same_by_place : (xs ys : List Bool) → length xs ≡ length ys →
+    ((i : ℕ) → i < length xs → get_or xs i false ≡ get_or ys i false) → xs ≡ ys
 same_by_place [] [] len agree = refl
 same_by_place [] (y ∷ ys) len agree = absurd (omega arith)
 same_by_place (x ∷ xs) [] len agree = absurd (omega arith)
@@ -21,7 +22,8 @@ pub length-unpacked : (len : ℕ) (words : List ℕ) → length (unpacked len wo
 unfolding unpacked
 length-unpacked len words = length-map-range_with_len (packed_bit words) 0 len
 
-pub get_or-unpacked : (len : ℕ) (words : List ℕ) (i : ℕ) (d : Bool) → i < len → get_or (unpacked len words) i d ≡ packed_bit words i
+pub get_or-unpacked : (len : ℕ) (words : List ℕ) (i : ℕ) (d : Bool) → i < len →
+    get_or (unpacked len words) i d ≡ packed_bit words i
 unfolding unpacked
 get_or-unpacked len words i d below = get_or-map-range_with_len (packed_bit words) 0 len i i d below (omega arith)
 
@@ -38,11 +40,14 @@ unpacked-set len words more i b below here others =
     let in_new : j < len = rw (length-unpacked len more) at j_below in
     get_or-unpacked len more j false in_new
     ∙ elim (cases_eq j i) [
-      | inl same ↦ ap (packed_bit more) same ∙ here ∙ sym (ap (λ k. get_or (set old i b) k false) same ∙ get_or-set_same old i b false inside)
-      | inr other ↦ others j other ∙ sym (get_or-unpacked len words j false in_new) ∙ sym (get_or-set_other old i j b false other)
+      | inl same ↦ ap (packed_bit more) same ∙ here ∙ sym (ap (λ k. get_or (set old i b) k false) same
+          ∙ get_or-set_same old i b false inside)
+      | inr other ↦ others j other ∙ sym (get_or-unpacked len words j false in_new) ∙ sym
+          (get_or-set_other old i j b false other)
     ])
 
-pub unpacked-none : (len : ℕ) (words : List ℕ) → ((i : ℕ) → i < len → packed_bit words i ≡ false) → unpacked len words ≡ replicate len false
+pub unpacked-none : (len : ℕ) (words : List ℕ) → ((i : ℕ) → i < len → packed_bit words i ≡ false) →
+    unpacked len words ≡ replicate len false
 unpacked-none len words none =
     same_by_place (unpacked len words) (replicate len false)
     (length-unpacked len words ∙ sym (length-replicate len false))
@@ -51,8 +56,10 @@ unpacked-none len words none =
     get_or-unpacked len words i false below ∙ none i below ∙ sym (get_or-replicate len i false false below))
 
 -- a word written in place of another changes the bits where the words differ
-pub packed_bit-set_here : (words : List ℕ) (i word : ℕ) → i / 64 < length words → packed_bit (set words (i / 64) word) i ≡ (bit_at word (i % 64) == 1)
-packed_bit-set_here words i word inside = ap (λ w. bit_at w (i % 64) == 1) (get_or-set_same words (i / 64) word 0 inside)
+pub packed_bit-set_here : (words : List ℕ) (i word : ℕ) → i / 64 < length words →
+    packed_bit (set words (i / 64) word) i ≡ (bit_at word (i % 64) == 1)
+packed_bit-set_here words i word inside = ap (λ w. bit_at w (i % 64) == 1)
+    (get_or-set_same words (i / 64) word 0 inside)
 
 pub packed_bit-set_other : (words : List ℕ) (i word j : ℕ) → i / 64 < length words → j ≢ i →
     ((k : ℕ) → k < 64 → k ≢ i % 64 → bit_at word k ≡ bit_at (get_or words (i / 64) 0) k) →
@@ -61,14 +68,17 @@ packed_bit-set_other words i word j inside other kept =
     elim (cases_eq (j / 64) (i / 64)) [
       | inl same ↦
           let apart : j % 64 ≢ i % 64 = λ e. other (omega (arith, same, e)) in
-          ap (λ w. bit_at w (j % 64) == 1) (ap (λ q. get_or (set words (i / 64) word) q 0) same ∙ get_or-set_same words (i / 64) word 0 inside)
-          ∙ ap (λ n. n == 1) (kept (j % 64) (omega arith) apart ∙ ap (λ q. bit_at (get_or words q 0) (j % 64)) (sym same))
+          ap (λ w. bit_at w (j % 64) == 1) (ap (λ q. get_or (set words (i / 64) word) q 0) same ∙ get_or-set_same words
+          (i / 64) word 0 inside)
+          ∙ ap (λ n. n == 1) (kept (j % 64) (omega arith) apart ∙ ap (λ q. bit_at (get_or words q 0) (j % 64))
+          (sym same))
       | inr elsewhere ↦ ap (λ w. bit_at w (j % 64) == 1) (get_or-set_other words (i / 64) (j / 64) word 0 elsewhere)
     ]
 
 -- a bit written into its word
 pub unpacked-set_word : (len : ℕ) (words : List ℕ) (i word : ℕ) (b : Bool) → i < len → i / 64 < length words →
-    (bit_at word (i % 64) == 1) ≡ b → ((k : ℕ) → k < 64 → k ≢ i % 64 → bit_at word k ≡ bit_at (get_or words (i / 64) 0) k) →
+    (bit_at word (i % 64) == 1) ≡ b → ((k : ℕ) → k < 64 → k ≢ i % 64 →
+    bit_at word k ≡ bit_at (get_or words (i / 64) 0) k) →
     unpacked len (set words (i / 64) word) ≡ set (unpacked len words) i b
 unpacked-set_word len words i word b below there here kept =
     unpacked-set len words (set words (i / 64) word) i b below
@@ -82,4 +92,5 @@ zero_word (suc n) (suc q) = zero_word n q
 
 -- words without a bit
 pub unpacked-zero : (len n : ℕ) → unpacked len (replicate n 0) ≡ replicate len false
-unpacked-zero len n = unpacked-none len (replicate n 0) (λ i below. ap (λ w. bit_at w (i % 64) == 1) (zero_word n (i / 64)) ∙ ap (λ k. k == 1) (bit_at-zero (i % 64)))
+unpacked-zero len n = unpacked-none len (replicate n 0) (λ i below. ap (λ w. bit_at w (i % 64) == 1)
+    (zero_word n (i / 64)) ∙ ap (λ k. k == 1) (bit_at-zero (i % 64)))

@@ -11,14 +11,16 @@ use Rattle.dq_lits.specs.Skolem.{OutputFunction, IsSupported, AreSkolemFunctions
 use Rattle.dq_lits.proofs.Choices.{choice_of, choice_of-value}
 
 -- an assignment is what its bits at these variables say of them
-at_index : (xs : List ℕ) (m : Assignment) (k d : ℕ) → k < length xs → assignment_of xs (map m xs) (get_or xs k d) ≡ m (get_or xs k d)
+at_index : (xs : List ℕ) (m : Assignment) (k d : ℕ) → k < length xs →
+    assignment_of xs (map m xs) (get_or xs k d) ≡ m (get_or xs k d)
 at_index [] m k d below = absurd (omega arith)
 at_index (x ∷ xs) m zero d below = cond-true (x == x) (m x) (assignment_of xs (map m xs) x) (eq-eqb x x refl)
 at_index (x ∷ xs) m (suc k) d below =
     let v = get_or xs k d in
     elim (cases_eq x v) [
       | inl same ↦ cond-true (x == v) (m x) (assignment_of xs (map m xs) v) (eq-eqb x v same) ∙ ap m same
-      | inr other ↦ cond-false (x == v) (m x) (assignment_of xs (map m xs) v) (ne_eqb x v other) ∙ at_index xs m k d (omega arith)
+      | inr other ↦ cond-false (x == v) (m x) (assignment_of xs (map m xs) v) (ne_eqb x v other) ∙ at_index xs m k d
+          (omega arith)
     ]
 
 pub assignment_of-map : (xs : List ℕ) (m : Assignment) (x : ℕ) → Contains xs x → assignment_of xs (map m xs) x ≡ m x
@@ -32,9 +34,11 @@ seen_value output y bits = (output y).value (assignment_of y.sees bits)
 value_is_seen : (o : OutputFunction) (sees : List ℕ) (m : Assignment) → IsSupported o → All (Contains sees) o.support →
     o.value (assignment_of sees (map m sees)) ≡ o.value m
 value_is_seen o sees m supported reads =
-    supported _ _ (All-weaker (Contains sees) (λ x. assignment_of sees (map m sees) x ≡ m x) (assignment_of-map sees m) o.support reads)
+    supported _ _ (All-weaker (Contains sees) (λ x. assignment_of sees (map m sees) x ≡ m x)
+    (assignment_of-map sees m) o.support reads)
 
-pub skolem_functions_solve : (f : Dqbf) (output : Existential → OutputFunction) → AreSkolemFunctions f output → IsTrueFormula f
+pub skolem_functions_solve : (f : Dqbf) (output : Existential → OutputFunction) → AreSkolemFunctions f output →
+    IsTrueFormula f
 skolem_functions_solve f output h = (
   choice_of (seen_value output),
   λ m follows. h.holds m (λ k d below.
@@ -57,7 +61,8 @@ same_map m n (x ∷ xs) same =
 choice_supported : (choice : HenkinChoice) (y : Existential) → IsSupported (choice_output choice y)
 choice_supported choice y m n same = ap (λ bits. list_any (same_bits bits) (choice y)) (same_map m n y.sees same)
 
-pub true_formula_has_functions : (f : Dqbf) → IsTrueFormula f → (output : Existential → OutputFunction) × AreSkolemFunctions f output
+pub true_formula_has_functions : (f : Dqbf) → IsTrueFormula f →
+    (output : Existential → OutputFunction) × AreSkolemFunctions f output
 true_formula_has_functions f (choice, solves) = (
   choice_output choice,
   record {

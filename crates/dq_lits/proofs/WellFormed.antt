@@ -10,11 +10,14 @@ use Rattle.dq_lits.specs.Literal.{variable_of}
 use Rattle.dq_lits.specs.Formula.{Dqbf, declared, IsWellFormed}
 
 -- what a test shows of each element
-each : {X : Type 0} (p : X → Bool) (P : X → Type 0) → ((x : X) → p x ≡ true → P x) → (xs : List X) → list_all p xs ≡ true → AllByRecursion P xs
+each : {X : Type 0} (p : X → Bool) (P : X → Type 0) → ((x : X) → p x ≡ true → P x) → (xs : List X) →
+    list_all p xs ≡ true → AllByRecursion P xs
 each p P shows [] h = tt
-each p P shows (x ∷ xs) h = let parts = and_parts (p x) (list_all p xs) h in (shows x parts.0, each p P shows xs parts.1)
+each p P shows (x ∷ xs) h = let parts = and_parts (p x) (list_all p xs) h in
+    (shows x parts.0, each p P shows xs parts.1)
 
-all : {X : Type 0} (p : X → Bool) (P : X → Type 0) → ((x : X) → p x ≡ true → P x) → (xs : List X) → list_all p xs ≡ true → All P xs
+all : {X : Type 0} (p : X → Bool) (P : X → Type 0) → ((x : X) → p x ≡ true → P x) → (xs : List X) →
+    list_all p xs ≡ true → All P xs
 all p P shows xs h = All-from_recursion P xs (each p P shows xs h)
 
 abbrev is_declared : List ℕ → ℕ → Bool
@@ -49,11 +52,14 @@ well_formed_by f h =
     record {
       prefix = record {
         in_range = all (in_range f) (λ v. (1 ≤ v) × (v ≤ f.variables))
-            (λ v test. let parts = and_parts (nat_le 1 v) (nat_le v f.variables) test in (leb-true 1 v parts.0, leb-true v f.variables parts.1))
+            (λ v test. let parts = and_parts (nat_le 1 v) (nat_le v f.variables) test in
+            (leb-true 1 v parts.0, leb-true v f.variables parts.1))
             (declared f) range.0;
         declared_once = AllPairs-from_IsDistinct Decides-eqb (declared f) (distinct_by (declared f) once.0);
-        sees_universals = all (λ y. list_all (is_declared f.universals) y.sees) (λ y. All (Contains f.universals) y.sees)
-            (λ y. all (is_declared f.universals) (Contains f.universals) (λ x. Contains-from_any eqb-true x f.universals) y.sees)
+        sees_universals = all (λ y. list_all (is_declared f.universals) y.sees)
+            (λ y. All (Contains f.universals) y.sees)
+            (λ y. all (is_declared f.universals) (Contains f.universals)
+            (λ x. Contains-from_any eqb-true x f.universals) y.sees)
             f.existentials seen.0;
       };
       bound = all (λ clause. list_all (λ l. is_declared (declared f) (variable_of l)) clause)

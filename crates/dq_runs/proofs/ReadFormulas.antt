@@ -17,7 +17,8 @@ use Rattle.dq_runs.specs.declared.formulas.FormulaStop.TheVariants.{Memory, Said
 use Rattle.dq_runs.specs.declared.formulas.NoFormula.TheVariants.{Unreadable, TooLong, Refused}
 
 -- a text that was read is the file's
-told_text : (holding : Holding) (text : List ℕ) → ((bytes : List ℕ) → holding ≡ Holds bytes → text ≡ bytes) → (holding ≡ Absent → ⊥) → IsTextOf holding text
+told_text : (holding : Holding) (text : List ℕ) → ((bytes : List ℕ) → holding ≡ Holds bytes → text ≡ bytes) →
+    (holding ≡ Absent → ⊥) → IsTextOf holding text
 told_text Untold text is there = tt
 told_text Absent text is there = there refl
 told_text (Holds bytes) text is there = is bytes refl
@@ -25,7 +26,8 @@ told_text (Holds bytes) text is there = is bytes refl
 -- a text that wasn't told to be too long
 is_short : (limit given count : ℕ) → given ≡ count → (limit < given → ⊥) → count ≤ limit
 is_short limit given count same not_long =
-    let h : count < limit + 1 = lt_of_not-le {n = limit + 1} {m = count} (λ more. not_long (omega (arith, more, same))) in omega (arith, h)
+    let h : count < limit + 1 = lt_of_not-le {n = limit + 1} {m = count}
+    (λ more. not_long (omega (arith, more, same))) in omega (arith, h)
 
 -- what was fed of a file that was read to its end is its text
 pub record IsFed (now : List ℕ → Type 0) (holding : Holding) : Type 0 where
@@ -33,24 +35,32 @@ pub record IsFed (now : List ℕ → Type 0) (holding : Holding) : Type 0 where
   pub stands : now text
   pub read : IsShortText max_formula holding text
 
-pub whole_was_fed : {E : Type 0} (before now : List ℕ → Type 0) (holding : Holding) (given : ℕ) (result : Result (Unit {0}) E) → WasFed before now holding given result →
+pub whole_was_fed : {E : Type 0} (before now : List ℕ → Type 0) (holding : Holding) (given : ℕ)
+    (result : Result (Unit {0}) E) → WasFed before now holding given result →
     before [] → (u : Unit {0}) → result ≡ Ok u → (holding ≡ Absent → ⊥) → (max_formula < given → ⊥) → IsFed now holding
 whole_was_fed before now holding given (Ok u) fed empty v is there not_long = record {
   text = fed.fed;
   stands = fed.stands [] empty;
-  read = record { is = told_text holding fed.fed fed.whole there; short = is_short max_formula given (length fed.fed) (sym fed.counted) not_long };
+  read = record {
+    is = told_text holding fed.fed fed.whole there;
+    short =
+        is_short max_formula given (length fed.fed) (sym fed.counted) not_long;
+  };
 }
 whole_was_fed before now holding given (Err e) fed empty v is there not_long = cc
 
-pub read_of : (before now : FilesState) (name : List ℕ) (r : Result Dqbf FormulaStop) (text : List ℕ) → IsShortText max_formula (before.held name) text →
+pub read_of : (before now : FilesState) (name : List ℕ) (r : Result Dqbf FormulaStop) (text : List ℕ) →
+    IsShortText max_formula (before.held name) text →
     IsTextRead text r → PickedOnce before now → IsFormulaRead before now name r
 read_of before now name (Ok f) text short (spelled, well_formed) once =
     (record { text = text; read = short; spelled = spelled; well_formed = well_formed }, once)
 read_of before now name (Err Memory) text short is once = tt
 read_of before now name (Err (Said Unreadable)) text short is once = absurd is
 read_of before now name (Err (Said TooLong)) text short is once = absurd is
-read_of before now name (Err (Said (Refused line fault))) text short is once = (record { text = text; read = short; is_first = is }, once)
+read_of before now name (Err (Said (Refused line fault))) text short is once =
+    (record { text = text; read = short; is_first = is }, once)
 
-pub refused_of : (read : Result Dqbf TextFault) (stop : ReadStop) (line : ℕ) (name : FormulaFault) → stop ≡ RefusedText line name → IsReading read (Err stop) →
+pub refused_of : (read : Result Dqbf TextFault) (stop : ReadStop) (line : ℕ) (name : FormulaFault) →
+    stop ≡ RefusedText line name → IsReading read (Err stop) →
     read ≡ Err (record { line = line; name = name })
 refused_of read stop line name is reads = subst (λ s. IsReading read (Err s)) is reads

@@ -9,22 +9,26 @@ abbrev NoFeed : ℕ → Type 0
 NoFeed byte = byte ≢ 10
 
 before_feed : (number : ℕ) (text others : List ℕ) → All NoFeed text →
-    lines_from number (text ++ (10 ∷ others)) ≡ record { text = text; number = number; behind = others } ∷ lines_from (number + 1) others
+    lines_from number (text ++ (10 ∷ others)) ≡ record { text = text; number = number; behind = others } ∷ lines_from
+    (number + 1) others
 before_feed number [] others free = refl
 before_feed number (byte ∷ text) others free =
     let bytes = text ++ (10 ∷ others) in
-    ap (λ b. cond b (record { text = []; number = number; behind = bytes } ∷ lines_from (number + 1) bytes) (extend_line byte number (lines_from number bytes)))
+    ap (λ b. cond b (record { text = []; number = number; behind = bytes } ∷ lines_from (number + 1) bytes)
+    (extend_line byte number (lines_from number bytes)))
     (ne_eqb byte 10 (All-head NoFeed byte text free))
     ∙ ap (extend_line byte number) (before_feed number text others (All-tail NoFeed byte text free))
 
 at_end : (number byte : ℕ) (text : List ℕ) → All NoFeed (byte ∷ text) →
     lines_from number (byte ∷ text) ≡ record { text = byte ∷ text; number = number; behind = [] } ∷ []
 at_end number byte [] free =
-    ap (λ b. cond b (record { text = []; number = number; behind = [] } ∷ lines_from (number + 1) []) (extend_line byte number []))
+    ap (λ b. cond b (record { text = []; number = number; behind = [] } ∷ lines_from (number + 1) [])
+    (extend_line byte number []))
     (ne_eqb byte 10 (All-head NoFeed byte [] free))
 at_end number byte (next ∷ text) free =
     let bytes = next ∷ text in
-    ap (λ b. cond b (record { text = []; number = number; behind = bytes } ∷ lines_from (number + 1) bytes) (extend_line byte number (lines_from number bytes)))
+    ap (λ b. cond b (record { text = []; number = number; behind = bytes } ∷ lines_from (number + 1) bytes)
+    (extend_line byte number (lines_from number bytes)))
     (ne_eqb byte 10 (All-head NoFeed byte bytes free))
     ∙ ap (extend_line byte number) (at_end number next text (All-tail NoFeed byte bytes free))
 
@@ -41,5 +45,6 @@ first_of_lines number bytes text others first some =
       | inr alone ↦
           ap (lines_from number) alone.0
           ∙ last_line_alone number text first.one_line (λ none. some (alone.0 ∙ none))
-          ∙ ap (λ rest. record { text = text; number = number; behind = rest } ∷ lines_from (number + 1) rest) (sym alone.1)
+          ∙ ap (λ rest. record { text = text; number = number; behind = rest } ∷ lines_from (number + 1) rest)
+          (sym alone.1)
     ]

@@ -15,11 +15,13 @@ abbrev extend_text : ℕ → List (List ℕ) → List (List ℕ)
 extend_text byte [] = (byte ∷ []) ∷ []
 extend_text byte (line ∷ lines) = (byte ∷ line) ∷ lines
 
-extended_texts : (byte number : ℕ) (lines : List TextLine) → texts_of (extend_line byte number lines) ≡ extend_text byte (texts_of lines)
+extended_texts : (byte number : ℕ) (lines : List TextLine) →
+    texts_of (extend_line byte number lines) ≡ extend_text byte (texts_of lines)
 extended_texts byte number [] = refl
 extended_texts byte number (line ∷ lines) = refl
 
-put_texts : (feed : Bool) (byte n m : ℕ) (bytes : List ℕ) (next_n next_m here_n here_m : List TextLine) → texts_of next_n ≡ texts_of next_m → texts_of here_n ≡ texts_of here_m →
+put_texts : (feed : Bool) (byte n m : ℕ) (bytes : List ℕ) (next_n next_m here_n here_m : List TextLine) →
+    texts_of next_n ≡ texts_of next_m → texts_of here_n ≡ texts_of here_m →
     texts_of (cond feed (record { text = []; number = n; behind = bytes } ∷ next_n) (extend_line byte n here_n))
     ≡ texts_of (cond feed (record { text = []; number = m; behind = bytes } ∷ next_m) (extend_line byte m here_m))
 put_texts true byte n m bytes next_n next_m here_n here_m next here = ap (λ ls. [] ∷ ls) next
@@ -30,23 +32,27 @@ put_texts false byte n m bytes next_n next_m here_n here_m next here =
 pub texts_by_any_number : (bytes : List ℕ) (n m : ℕ) → texts_of (lines_from n bytes) ≡ texts_of (lines_from m bytes)
 texts_by_any_number [] n m = refl
 texts_by_any_number (byte ∷ bytes) n m =
-    put_texts (byte == 10) byte n m bytes (lines_from (n + 1) bytes) (lines_from (m + 1) bytes) (lines_from n bytes) (lines_from m bytes)
+    put_texts (byte == 10) byte n m bytes (lines_from (n + 1) bytes) (lines_from (m + 1) bytes) (lines_from n bytes)
+    (lines_from m bytes)
     (texts_by_any_number bytes (n + 1) (m + 1)) (texts_by_any_number bytes n m)
 
 -- with one more byte in front
 front_feed : (bytes : List ℕ) → line_texts (10 ∷ bytes) ≡ [] ∷ line_texts bytes
 front_feed bytes = ap (λ ls. [] ∷ ls) (texts_by_any_number bytes 2 1)
 
-front_other : (byte : ℕ) (bytes : List ℕ) → NoFeed byte → line_texts (byte ∷ bytes) ≡ extend_text byte (line_texts bytes)
+front_other : (byte : ℕ) (bytes : List ℕ) → NoFeed byte → line_texts (byte ∷ bytes) ≡ extend_text byte
+    (line_texts bytes)
 front_other byte bytes other =
-    ap (λ b. texts_of (cond b (record { text = []; number = 1; behind = bytes } ∷ lines_from 2 bytes) (extend_line byte 1 (lines_from 1 bytes)))) (ne_eqb byte 10 other)
+    ap (λ b. texts_of (cond b (record { text = []; number = 1; behind = bytes } ∷ lines_from 2 bytes)
+    (extend_line byte 1 (lines_from 1 bytes)))) (ne_eqb byte 10 other)
     ∙ extended_texts byte 1 (lines_from 1 bytes)
 
 nothing : (lines : List (List ℕ)) → lines ≡ continued [] lines
 nothing [] = refl
 nothing (line ∷ lines) = refl
 
-extended : (byte : ℕ) (before : List ℕ) (lines : List (List ℕ)) → extend_text byte (continued before lines) ≡ continued (byte ∷ before) lines
+extended : (byte : ℕ) (before : List ℕ) (lines : List (List ℕ)) →
+    extend_text byte (continued before lines) ≡ continued (byte ∷ before) lines
 extended byte before (line ∷ lines) = refl
 extended byte [] [] = refl
 extended byte (first ∷ before) [] = refl
@@ -67,7 +73,8 @@ twice (x ∷ xs) [] [] = ap (λ l. l ∷ []) (sym (append-nil (x ∷ xs)))
 twice (x ∷ xs) (y ∷ ys) [] = refl
 
 -- what stands behind the last LF
-pub last_part : (unfinished rest bytes : List ℕ) → HasNoEnd rest → lines_to_come unfinished (rest ++ bytes) ≡ lines_to_come (unfinished ++ rest) bytes
+pub last_part : (unfinished rest bytes : List ℕ) → HasNoEnd rest →
+    lines_to_come unfinished (rest ++ bytes) ≡ lines_to_come (unfinished ++ rest) bytes
 last_part unfinished rest bytes free =
     ap (continued unfinished) (goes_on rest bytes free) ∙ twice unfinished rest (line_texts bytes)
 

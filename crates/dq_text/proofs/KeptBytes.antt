@@ -23,13 +23,15 @@ begun_stays (Two a b) byte = refl
 begun_stays (Three a b c) byte = refl
 begun_stays Longer byte = refl
 
-minus_stays : (bytes : List ℕ) (token : TokenSummary) → is_begun token.head ≡ true → (grown_by token bytes).minus ≡ token.minus
+minus_stays : (bytes : List ℕ) (token : TokenSummary) → is_begun token.head ≡ true →
+    (grown_by token bytes).minus ≡ token.minus
 minus_stays [] token begun = refl
 minus_stays (byte ∷ bytes) token begun =
     minus_stays bytes (grown token byte) (begun_stays token.head byte)
     ∙ ap (λ b. if b then token.minus else byte == 45) begun
 
-digits_go_on : (bytes : List ℕ) (token : TokenSummary) → is_begun token.head ≡ true → (grown_by token bytes).digits ≡ digits_by token.digits bytes
+digits_go_on : (bytes : List ℕ) (token : TokenSummary) → is_begun token.head ≡ true →
+    (grown_by token bytes).digits ≡ digits_by token.digits bytes
 digits_go_on [] token begun = refl
 digits_go_on (byte ∷ bytes) token begun =
     digits_go_on bytes (grown token byte) (begun_stays token.head byte)
@@ -85,7 +87,8 @@ natural_from : (are small : Bool) (value : ℕ) → nat_lt value (10 ^ 18) ≡ s
 natural_from false small value h = refl
 natural_from true true value h =
     let below : min value (10 ^ 18) ≡ value = omega (arith, ltb-true _ _ h) in
-    ap (λ v. if nat_lt v (10 ^ 18) then Int (pos v) else TooBig) below ∙ ap (λ b. if b then Int (pos value) else TooBig) h
+    ap (λ v. if nat_lt v (10 ^ 18) then Int (pos v) else TooBig) below ∙ ap
+    (λ b. if b then Int (pos value) else TooBig) h
 natural_from true false value h =
     let above : min value (10 ^ 18) ≡ 10 ^ 18 = omega (arith, ltb-false _ _ h) in
     ap (λ v. if nat_lt v (10 ^ 18) then Int (pos v) else TooBig) above
@@ -108,14 +111,19 @@ behind_minus : (bytes : List ℕ) → number_from true (digits_by NoDigit bytes)
 behind_minus [] = refl
 behind_minus (byte ∷ bytes) =
     ap (number_from true) (first_run byte bytes)
-    ∙ negative_from (are_digits (byte ∷ bytes)) (nat_lt (decimal_value (byte ∷ bytes)) (10 ^ 18)) (decimal_value (byte ∷ bytes) == 0) (decimal_value (byte ∷ bytes)) refl refl
+    ∙ negative_from (are_digits (byte ∷ bytes)) (nat_lt (decimal_value (byte ∷ bytes)) (10 ^ 18))
+    (decimal_value (byte ∷ bytes) == 0) (decimal_value (byte ∷ bytes)) refl refl
 
-behind_digit : (byte : ℕ) (bytes : List ℕ) → number_from false (digits_by (value_with 0 byte) bytes) ≡ unsigned_of (byte ∷ bytes)
+behind_digit : (byte : ℕ) (bytes : List ℕ) → number_from false (digits_by (value_with 0 byte) bytes) ≡ unsigned_of
+    (byte ∷ bytes)
 behind_digit byte bytes =
     ap (number_from false) (first_run byte bytes)
-    ∙ natural_from (are_digits (byte ∷ bytes)) (nat_lt (decimal_value (byte ∷ bytes)) (10 ^ 18)) (decimal_value (byte ∷ bytes)) refl
+    ∙ natural_from (are_digits (byte ∷ bytes)) (nat_lt (decimal_value (byte ∷ bytes)) (10 ^ 18))
+    (decimal_value (byte ∷ bytes)) refl
 
-by_sign : (is : Bool) (byte : ℕ) (bytes : List ℕ) → number_from is (digits_by (if is then NoDigit else digits_with NoDigit byte) bytes) ≡ (if is then negative_of bytes else unsigned_of (byte ∷ bytes))
+by_sign : (is : Bool) (byte : ℕ) (bytes : List ℕ) → number_from is
+    (digits_by (if is then NoDigit else digits_with NoDigit byte) bytes) ≡
+    (if is then negative_of bytes else unsigned_of (byte ∷ bytes))
 by_sign true byte bytes = behind_minus bytes
 by_sign false byte bytes = behind_digit byte bytes
 

@@ -15,9 +15,11 @@ IsWord [] = ⊥
 IsWord (byte ∷ bytes) = (kind_of byte ≡ Other) × AreOther bytes
 
 pub first_byte : (byte : ℕ) (bytes : List ℕ) → kind_of byte ≡ Other →
-    line_tokens (byte ∷ bytes) ≡ (if goes_on bytes then extend_token byte (line_tokens bytes) else (byte ∷ []) ∷ line_tokens bytes)
+    line_tokens (byte ∷ bytes) ≡ (if goes_on bytes then extend_token byte (line_tokens bytes) else
+    (byte ∷ []) ∷ line_tokens bytes)
 first_byte byte bytes other =
-    ap (λ kind. if is_separator kind then line_tokens bytes else if goes_on bytes then extend_token byte (line_tokens bytes) else (byte ∷ []) ∷ line_tokens bytes) other
+    ap (λ kind. if is_separator kind then line_tokens bytes else if goes_on bytes then extend_token byte
+    (line_tokens bytes) else (byte ∷ []) ∷ line_tokens bytes) other
 
 word_space : (byte : ℕ) (word rest : List ℕ) → kind_of byte ≡ Other → AreOther word →
     line_tokens (byte ∷ (word ++ 32 ∷ rest)) ≡ (byte ∷ word) ∷ line_tokens rest
@@ -28,11 +30,13 @@ word_space byte (next ∷ word) rest other others =
     else (byte ∷ []) ∷ line_tokens (next ∷ (word ++ 32 ∷ rest))) others.0
     ∙ ap (extend_token byte) (word_space next word rest others.0 others.1)
 
-word_end : (byte : ℕ) (word : List ℕ) → kind_of byte ≡ Other → AreOther word → line_tokens (byte ∷ word) ≡ (byte ∷ word) ∷ []
+word_end : (byte : ℕ) (word : List ℕ) → kind_of byte ≡ Other → AreOther word →
+    line_tokens (byte ∷ word) ≡ (byte ∷ word) ∷ []
 word_end byte [] other others = first_byte byte [] other
 word_end byte (next ∷ word) other others =
     first_byte byte (next ∷ word) other
-    ∙ ap (λ kind. if not (is_separator kind) then extend_token byte (line_tokens (next ∷ word)) else (byte ∷ []) ∷ line_tokens (next ∷ word)) others.0
+    ∙ ap (λ kind. if not (is_separator kind) then extend_token byte (line_tokens (next ∷ word)) else
+    (byte ∷ []) ∷ line_tokens (next ∷ word)) others.0
     ∙ ap (extend_token byte) (word_end next word others.0 others.1)
 
 -- words, each with a space behind it
@@ -42,15 +46,18 @@ spaced words = flat_map (λ word. word ++ 32 ∷ []) words
 abbrev pub AreWords : List (List ℕ) → Type 0
 AreWords words = AllByRecursion IsWord words
 
-spaced_word : (word : List ℕ) (rest : List ℕ) → IsWord word → line_tokens ((word ++ 32 ∷ []) ++ rest) ≡ word ∷ line_tokens rest
+spaced_word : (word : List ℕ) (rest : List ℕ) → IsWord word →
+    line_tokens ((word ++ 32 ∷ []) ++ rest) ≡ word ∷ line_tokens rest
 spaced_word [] rest is = absurd is
-spaced_word (byte ∷ word) rest is = ap line_tokens (append_assoc (byte ∷ word) (32 ∷ []) rest) ∙ word_space byte word rest is.0 is.1
+spaced_word (byte ∷ word) rest is = ap line_tokens (append_assoc (byte ∷ word) (32 ∷ []) rest)
+    ∙ word_space byte word rest is.0 is.1
 
 last_word : (word : List ℕ) → IsWord word → line_tokens word ≡ word ∷ []
 last_word [] is = absurd is
 last_word (byte ∷ word) is = word_end byte word is.0 is.1
 
-pub words_tokens : (words : List (List ℕ)) (last : List ℕ) → AreWords words → IsWord last → line_tokens (spaced words ++ last) ≡ words ++ last ∷ []
+pub words_tokens : (words : List (List ℕ)) (last : List ℕ) → AreWords words → IsWord last →
+    line_tokens (spaced words ++ last) ≡ words ++ last ∷ []
 words_tokens [] last are is = last_word last is
 words_tokens (word ∷ words) last are is =
     ap line_tokens (append_assoc (word ++ 32 ∷ []) (spaced words) last)
@@ -88,7 +95,8 @@ both_no_feed (x ∷ xs) ys left right = (left.0, both_no_feed xs ys left.1 right
 pub words_no_feed : (words : List (List ℕ)) → AreWords words → AreNoFeed (spaced words)
 words_no_feed [] are = tt
 words_no_feed (word ∷ words) are =
-    both_no_feed (word ++ 32 ∷ []) (spaced words) (both_no_feed word (32 ∷ []) (word_no_feed word are.0) (refl, tt)) (words_no_feed words are.1)
+    both_no_feed (word ++ 32 ∷ []) (spaced words) (both_no_feed word (32 ∷ []) (word_no_feed word are.0) (refl, tt))
+    (words_no_feed words are.1)
 
 pub digits_word : (ds : List ℕ) → 0 < length ds → AreDigits ds → IsWord ds
 digits_word [] some are = absurd (omega (arith, some))

@@ -11,7 +11,8 @@ use Rattle.dq_text.specs.LongestRuns.{IsSeparator, IsVisible, AreLongestRuns}
 some_byte : (byte : ℕ) (bytes : List ℕ) → byte ∷ bytes ≢ []
 some_byte byte bytes = λ none. cc
 
-separated : (byte : ℕ) (bytes : List ℕ) (tokens : List (List ℕ)) → IsSeparator byte → AreLongestRuns bytes tokens → AreLongestRuns (byte ∷ bytes) tokens
+separated : (byte : ℕ) (bytes : List ℕ) (tokens : List (List ℕ)) → IsSeparator byte → AreLongestRuns bytes tokens →
+    AreLongestRuns (byte ∷ bytes) tokens
 separated byte bytes [] is are = All-cons IsSeparator byte bytes is are
 separated byte bytes (token ∷ tokens) is are =
     let first = are.1 in (
@@ -37,7 +38,8 @@ not_all : (bytes : List ℕ) → goes_on bytes ≡ true → All IsSeparator byte
 not_all [] goes are = true≢false (sym goes)
 not_all (byte ∷ bytes) goes are = true≢false (sym goes ∙ ap not (All-head IsSeparator byte bytes are))
 
-extended : (byte : ℕ) (bytes : List ℕ) (tokens : List (List ℕ)) → IsVisible byte → goes_on bytes ≡ true → AreLongestRuns bytes tokens →
+extended : (byte : ℕ) (bytes : List ℕ) (tokens : List (List ℕ)) → IsVisible byte → goes_on bytes ≡ true →
+    AreLongestRuns bytes tokens →
     AreLongestRuns (byte ∷ bytes) (extend_token byte tokens)
 extended byte bytes [] is goes are = absurd (not_all bytes goes are)
 extended byte bytes (token ∷ tokens) is goes are =
@@ -56,7 +58,8 @@ extended byte bytes (token ∷ tokens) is goes are =
       are.2,
     )
 
-begun : (byte : ℕ) (bytes : List ℕ) (tokens : List (List ℕ)) → IsVisible byte → goes_on bytes ≡ false → AreLongestRuns bytes tokens →
+begun : (byte : ℕ) (bytes : List ℕ) (tokens : List (List ℕ)) → IsVisible byte → goes_on bytes ≡ false →
+    AreLongestRuns bytes tokens →
     AreLongestRuns (byte ∷ bytes) ((byte ∷ []) ∷ tokens)
 begun byte bytes tokens is ends are = (
   bytes,
@@ -71,16 +74,20 @@ begun byte bytes tokens is ends are = (
   are,
 )
 
-visible_put : (byte : ℕ) (bytes : List ℕ) (goes : Bool) (tokens : List (List ℕ)) → IsVisible byte → goes_on bytes ≡ goes → AreLongestRuns bytes tokens →
+visible_put : (byte : ℕ) (bytes : List ℕ) (goes : Bool) (tokens : List (List ℕ)) → IsVisible byte →
+    goes_on bytes ≡ goes → AreLongestRuns bytes tokens →
     AreLongestRuns (byte ∷ bytes) (cond goes (extend_token byte tokens) ((byte ∷ []) ∷ tokens))
 visible_put byte bytes true tokens is goes are = extended byte bytes tokens is goes are
 visible_put byte bytes false tokens is ends are = begun byte bytes tokens is ends are
 
-put : (byte : ℕ) (bytes : List ℕ) (separator : Bool) (tokens : List (List ℕ)) → is_separator (kind_of byte) ≡ separator → AreLongestRuns bytes tokens →
-    AreLongestRuns (byte ∷ bytes) (cond separator tokens (cond (goes_on bytes) (extend_token byte tokens) ((byte ∷ []) ∷ tokens)))
+put : (byte : ℕ) (bytes : List ℕ) (separator : Bool) (tokens : List (List ℕ)) →
+    is_separator (kind_of byte) ≡ separator → AreLongestRuns bytes tokens →
+    AreLongestRuns (byte ∷ bytes) (cond separator tokens (cond (goes_on bytes) (extend_token byte tokens)
+    ((byte ∷ []) ∷ tokens)))
 put byte bytes true tokens is are = separated byte bytes tokens is are
 put byte bytes false tokens is are = visible_put byte bytes (goes_on bytes) tokens is refl are
 
 pub tokens_are_longest : (bytes : List ℕ) → AreLongestRuns bytes (line_tokens bytes)
 tokens_are_longest [] = All-nil IsSeparator
-tokens_are_longest (byte ∷ bytes) = put byte bytes (is_separator (kind_of byte)) (line_tokens bytes) refl (tokens_are_longest bytes)
+tokens_are_longest (byte ∷ bytes) = put byte bytes (is_separator (kind_of byte)) (line_tokens bytes) refl
+    (tokens_are_longest bytes)

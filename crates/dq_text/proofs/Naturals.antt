@@ -7,7 +7,8 @@ use Rattle.dq_text.specs.declared.numbers.Number.TheVariants.{Int, NotANumber, T
 pub natural_taken : (token : List ℕ) (n : ℕ) → number_of token ≡ Int (pos n) → natural_of token ≡ Some n
 natural_taken token n is = ap (natural_number (begins_with_minus token)) is
 
-natural_is : (minus : Bool) (number : Number) (n : ℕ) → natural_number minus number ≡ Some n → n < 10 ^ 18 → number ≡ Int (pos n)
+natural_is : (minus : Bool) (number : Number) (n : ℕ) → natural_number minus number ≡ Some n → n < 10 ^ 18 →
+    number ≡ Int (pos n)
 natural_is minus NotANumber n h small = cc
 natural_is true TooBig n h small = cc
 natural_is false TooBig n h small = let e : 10 ^ 18 ≡ n = cc in absurd (omega arith)

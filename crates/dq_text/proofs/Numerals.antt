@@ -32,19 +32,24 @@ folds : FoldsDigits (λ start digits. fold (λ value digit. value * 10 + (digit 
 folds = record { empty = λ n. refl; more = λ n c cs k. refl }
 
 model : IsNumeralModel AreDigits decimal_value
-model = numerals_by_fold AreDigits tells (λ start digits. fold (λ value digit. value * 10 + (digit - 48)) start digits) folds
+model = numerals_by_fold AreDigits tells (λ start digits. fold
+    (λ value digit. value * 10 + (digit - 48)) start digits) folds
 
 digit_kind : (d : ℕ) → 48 ≤ d → d ≤ 57 → kind_of d ≡ Other
 digit_kind d low high =
-    ap (λ b. if b || (d == 9 || d == 13) then Blank else if d == 10 then LineFeed else if d == 99 then LetterC else Other) (ne_eqb d 32 (λ h. omega arith))
-    ∙ ap (λ b. if b || d == 13 then Blank else if d == 10 then LineFeed else if d == 99 then LetterC else Other) (ne_eqb d 9 (λ h. omega arith))
-    ∙ ap (λ b. if b then Blank else if d == 10 then LineFeed else if d == 99 then LetterC else Other) (ne_eqb d 13 (λ h. omega arith))
+    ap (λ b. if b || (d == 9 || d == 13) then Blank else if d == 10 then LineFeed else if d == 99 then LetterC else
+    Other) (ne_eqb d 32 (λ h. omega arith))
+    ∙ ap (λ b. if b || d == 13 then Blank else if d == 10 then LineFeed else if d == 99 then LetterC else Other)
+    (ne_eqb d 9 (λ h. omega arith))
+    ∙ ap (λ b. if b then Blank else if d == 10 then LineFeed else if d == 99 then LetterC else Other)
+    (ne_eqb d 13 (λ h. omega arith))
     ∙ ap (λ b. if b then LineFeed else if d == 99 then LetterC else Other) (ne_eqb d 10 (λ h. omega arith))
     ∙ ap (λ b. if b then LetterC else Other) (ne_eqb d 99 (λ h. omega arith))
 
 pub digits_other : (ds : List ℕ) → AreDigits ds → AreOther ds
 digits_other [] are = tt
-digits_other (d ∷ ds) are = let range = tells.parts d ds are in (digit_kind d range.0.0 range.0.1, digits_other ds range.1)
+digits_other (d ∷ ds) are = let range = tells.parts d ds are in
+    (digit_kind d range.0.0 range.0.1, digits_other ds range.1)
 
 -- what is known of the digits of a number
 pub record AreDigitsOf (n : ℕ) (digits : List ℕ) : Type 0 where
@@ -61,9 +66,11 @@ decimal_digits n small =
       value = digits_value-decimal model n wide;
     }
 
-natural_value : (digits : List ℕ) (n : ℕ) → are_digits digits ≡ true → decimal_value digits ≡ n → n < 10 ^ 18 → unsigned_of digits ≡ Int (pos n)
+natural_value : (digits : List ℕ) (n : ℕ) → are_digits digits ≡ true → decimal_value digits ≡ n → n < 10 ^ 18 →
+    unsigned_of digits ≡ Int (pos n)
 natural_value digits n are is small =
-    ap (λ b. if not b then NotANumber else if nat_lt (decimal_value digits) (10 ^ 18) then Int (pos (decimal_value digits)) else TooBig) are
+    ap (λ b. if not b then NotANumber else if nat_lt (decimal_value digits) (10 ^ 18) then Int
+    (pos (decimal_value digits)) else TooBig) are
     ∙ ap (λ v. if nat_lt v (10 ^ 18) then Int (pos v) else TooBig) is
     ∙ ap (λ b. if b then Int (pos n) else TooBig) (lt-ltb n (10 ^ 18) small)
 
@@ -77,7 +84,8 @@ digits_number (d ∷ ds) n small of =
 pub natural_is_read : (n : ℕ) → n < 10 ^ 18 → number_of (decimal n) ≡ Int (pos n)
 natural_is_read n small = digits_number (decimal n) n small (decimal_digits n small)
 
-pub negative_value : (digits : List ℕ) (n : ℕ) → are_digits digits ≡ true → decimal_value digits ≡ suc n → suc n < 10 ^ 18 →
+pub negative_value : (digits : List ℕ) (n : ℕ) → are_digits digits ≡ true → decimal_value digits ≡ suc n →
+    suc n < 10 ^ 18 →
     negative_of digits ≡ Int (negsuc n)
 negative_value digits n are is small =
     ap (λ b. if not b || (decimal_value digits == 0) then NotANumber

@@ -11,7 +11,8 @@ use Rattle.dq_text.specs.Token.{is_separator, line_after, line_feeds, last_line_
 use Rattle.dq_text.specs.declared.bytes.ByteKind.{ByteKind}
 use Rattle.dq_text.specs.declared.bytes.ByteKind.TheVariants.{Blank, LineFeed, LetterC, Other}
 
-pub unless_feed : (blank letter : Bool) (line : ℕ) → line_after (if blank then Blank else if letter then LetterC else Other) line ≡ line
+pub unless_feed : (blank letter : Bool) (line : ℕ) → line_after
+    (if blank then Blank else if letter then LetterC else Other) line ≡ line
 unless_feed true letter line = refl
 unless_feed false true line = refl
 unless_feed false false line = refl
@@ -23,7 +24,8 @@ counted byte line =
       | inr other ↦
           let none = ne_eqb byte 10 other in
           let zero_more : line ≡ line + 0 = omega arith in
-          ap (λ b. line_after (if byte == 32 || (byte == 9 || byte == 13) then Blank else if b then LineFeed else if byte == 99 then LetterC else Other) line) none
+          ap (λ b. line_after (if byte == 32 || (byte == 9 || byte == 13) then Blank else if b then LineFeed else if
+          byte == 99 then LetterC else Other) line) none
           ∙ unless_feed (byte == 32 || (byte == 9 || byte == 13)) (byte == 99) line
           ∙ zero_more
           ∙ ap (λ b. line + cond b 1 0) (sym none)
@@ -35,7 +37,8 @@ by_feeds (byte ∷ bytes) line =
     let step = counted byte line in
     let front = sum_by-cons (λ b. cond (b == 10) 1 0) byte bytes in
     let behind = by_feeds bytes (line_after (kind_of byte) line) in
-    let sum : line + cond (byte == 10) 1 0 + line_feeds bytes ≡ line + (cond (byte == 10) 1 0 + line_feeds bytes) = omega arith in
+    let sum : line + cond (byte == 10) 1 0 + line_feeds bytes ≡ line + (cond (byte == 10) 1 0 + line_feeds bytes) =
+    omega arith in
     behind ∙ ap (λ n. n + line_feeds bytes) step ∙ sum ∙ ap (λ n. line + n) (sym front)
 
 pub last_line_is : (text : List ℕ) → line_behind 1 text ≡ last_line_of text
@@ -48,7 +51,8 @@ visible_line LetterC line h = refl
 visible_line Other line h = refl
 
 -- a token holds no LF
-pub line_behind_token : (text rest : List ℕ) (line : ℕ) → All IsVisible text → line_behind line (text ++ rest) ≡ line_behind line rest
+pub line_behind_token : (text rest : List ℕ) (line : ℕ) → All IsVisible text →
+    line_behind line (text ++ rest) ≡ line_behind line rest
 line_behind_token [] rest line visible = refl
 line_behind_token (byte ∷ text) rest line visible =
     ap (λ l. line_behind l (text ++ rest)) (visible_line (kind_of byte) line (All-head IsVisible byte text visible))

@@ -18,11 +18,13 @@ use Rattle.dq_text.specs.declared.summaries.TokenSummary.{TokenSummary}
 use Rattle.dq_text.specs.declared.token_pieces.TokenPieces.{TokenPieces}
 use Rattle.dq_text.proofs.PiecedLines.{line_behind_token}
 
-grown_behind : (token : TokenSummary) (text : List ℕ) (byte : ℕ) → grown_by token (text ++ byte ∷ []) ≡ grown (grown_by token text) byte
+grown_behind : (token : TokenSummary) (text : List ℕ) (byte : ℕ) →
+    grown_by token (text ++ byte ∷ []) ≡ grown (grown_by token text) byte
 grown_behind token [] byte = refl
 grown_behind token (first ∷ text) byte = grown_behind (grown token first) text byte
 
-begun_by : (token : TokenSummary) (text : List ℕ) → is_begun token.head ≡ true → is_begun (grown_by token text).head ≡ true
+begun_by : (token : TokenSummary) (text : List ℕ) → is_begun token.head ≡ true →
+    is_begun (grown_by token text).head ≡ true
 begun_by token [] begun = begun
 begun_by token (byte ∷ text) begun = begun_by (grown token byte) text (begun_with token.head byte)
   where
@@ -76,17 +78,21 @@ begins false line at byte rest = refl
 -- one more
 goes : (on : Bool) (first : ℕ) (before : List ℕ) (line at byte : ℕ) (rest : List TextToken) →
     map summarized (joined (first ∷ (before ++ byte ∷ [])) line on rest)
-    ≡ map summarized (joined (first ∷ before) line true (cond on (extend byte line at rest) (record { text = byte ∷ []; line = line; at = at } ∷ rest)))
+    ≡ map summarized (joined (first ∷ before) line true (cond on (extend byte line at rest)
+    (record { text = byte ∷ []; line = line; at = at } ∷ rest)))
 goes true first before line at byte [] = refl
 goes true first before line at byte (t ∷ ts) =
-    ap (λ text. record { summary = summary_of (first ∷ text); line = line } ∷ map summarized ts) (append_assoc before (byte ∷ []) t.text)
+    ap (λ text. record { summary = summary_of (first ∷ text); line = line } ∷ map summarized ts)
+    (append_assoc before (byte ∷ []) t.text)
 goes false first before line at byte rest = refl
 
-ends : (first : ℕ) (before : List ℕ) (line : ℕ) (rest : List SummarizedToken) (tokens : List TextToken) → rest ≡ map summarized tokens →
+ends : (first : ℕ) (before : List ℕ) (line : ℕ) (rest : List SummarizedToken) (tokens : List TextToken) →
+    rest ≡ map summarized tokens →
     ended (summary_of (first ∷ before)) line rest
     ≡ map summarized (record { text = first ∷ before; line = line; at = 0 } ∷ tokens)
 ends first before line rest tokens h =
-    ap (λ b. cond b (record { summary = summary_of (first ∷ before); line = line } ∷ rest) rest) (begun_by (summary_of (first ∷ [])) before refl)
+    ap (λ b. cond b (record { summary = summary_of (first ∷ before); line = line } ∷ rest) rest)
+    (begun_by (summary_of (first ∷ [])) before refl)
     ∙ ap (λ ls. record { summary = summary_of (first ∷ before); line = line } ∷ ls) h
 
 begin_step : (line at byte : ℕ) (bytes : List ℕ) → Behind (at + 1) bytes →
@@ -97,13 +103,15 @@ begin_step line at byte bytes next =
 
 go_step : (first : ℕ) (before : List ℕ) (line at byte : ℕ) (bytes : List ℕ) → Behind (at + 1) bytes →
     tokens_behind (grown (summary_of (first ∷ before)) byte) InLine line bytes
-    ≡ map summarized (joined (first ∷ before) line true (put_byte byte line at bytes (tokens_from InLine line (at + 1) bytes)))
+    ≡ map summarized (joined (first ∷ before) line true (put_byte byte line at bytes
+    (tokens_from InLine line (at + 1) bytes)))
 go_step first before line at byte bytes next =
     ap (λ s. tokens_behind s InLine line bytes) (sym (grown_behind no_bytes (first ∷ before) byte))
     ∙ next (first ∷ (before ++ byte ∷ [])) InLine line tt
     ∙ goes (goes_on bytes) first before line at byte (tokens_from InLine line (at + 1) bytes)
 
-same_by : (kind : ByteKind) (before : List ℕ) (place : LinePlace) (line at byte : ℕ) (bytes : List ℕ) → Fits before place →
+same_by : (kind : ByteKind) (before : List ℕ) (place : LinePlace) (line at byte : ℕ) (bytes : List ℕ) →
+    Fits before place →
     Behind (at + 1) bytes → SameBy kind before place line at byte bytes
 same_by Blank [] place line at byte bytes fits next = next [] place line tt
 same_by LineFeed [] place line at byte bytes fits next = next [] LineStart (line + 1) tt
@@ -132,7 +140,8 @@ same [] at before place line fits = at_end before place line at
 same (byte ∷ bytes) at before place line fits =
     same_by (kind_of byte) before place line at byte bytes fits (same bytes (at + 1))
 
-pub pieced_tokens : (text : List ℕ) → tokens_behind no_bytes LineStart 1 text ≡ map summarized (tokens_from LineStart 1 0 text)
+pub pieced_tokens : (text : List ℕ) → tokens_behind no_bytes LineStart 1 text ≡ map summarized
+    (tokens_from LineStart 1 0 text)
 pieced_tokens text = same text 0 [] LineStart 1 tt
 
 -- Where a token stands whole in a piece.
@@ -143,14 +152,16 @@ visible_goes_on LineFeed h = cc
 visible_goes_on LetterC h = refl
 visible_goes_on Other h = refl
 
-in_line_step : (kind : ByteKind) (token : TokenSummary) (line byte : ℕ) (next : TokenSummary → LinePlace → ℕ → List SummarizedToken) →
+in_line_step : (kind : ByteKind) (token : TokenSummary) (line byte : ℕ)
+    (next : TokenSummary → LinePlace → ℕ → List SummarizedToken) →
     is_separator kind ≡ false → tokens_by kind token InLine line byte next ≡ next (grown token byte) InLine line
 in_line_step Blank token line byte next h = cc
 in_line_step LineFeed token line byte next h = cc
 in_line_step LetterC token line byte next h = refl
 in_line_step Other token line byte next h = refl
 
-first_step : (kind : ByteKind) (token : TokenSummary) (place : LinePlace) (line byte : ℕ) (next : TokenSummary → LinePlace → ℕ → List SummarizedToken) →
+first_step : (kind : ByteKind) (token : TokenSummary) (place : LinePlace) (line byte : ℕ)
+    (next : TokenSummary → LinePlace → ℕ → List SummarizedToken) →
     is_in_token kind place ≡ true → tokens_by kind token place line byte next ≡ next (grown token byte) InLine line
 first_step Blank token place line byte next h = cc
 first_step LineFeed token place line byte next h = cc
@@ -162,8 +173,10 @@ first_step Other token InLine line byte next h = refl
 first_step Other token InComment line byte next h = cc
 
 -- a separator ends a token
-separator_step : (kind : ByteKind) (token : TokenSummary) (line byte : ℕ) (next : TokenSummary → LinePlace → ℕ → List SummarizedToken) →
-    is_separator kind ≡ true → tokens_by kind token InLine line byte next ≡ ended token line (next no_bytes (place_after kind InLine) (line_after kind line))
+separator_step : (kind : ByteKind) (token : TokenSummary) (line byte : ℕ)
+    (next : TokenSummary → LinePlace → ℕ → List SummarizedToken) →
+    is_separator kind ≡ true → tokens_by kind token InLine line byte next ≡ ended token line
+    (next no_bytes (place_after kind InLine) (line_after kind line))
 separator_step Blank token line byte next h = refl
 separator_step LineFeed token line byte next h = refl
 separator_step LetterC token line byte next h = cc
@@ -173,7 +186,8 @@ run_in_line : (text rest : List ℕ) (token : TokenSummary) (line : ℕ) → All
     tokens_behind token InLine line (text ++ rest) ≡ tokens_behind (grown_by token text) InLine line rest
 run_in_line [] rest token line visible = refl
 run_in_line (byte ∷ text) rest token line visible =
-    in_line_step (kind_of byte) token line byte (λ t p l. tokens_behind t p l (text ++ rest)) (All-head IsVisible byte text visible)
+    in_line_step (kind_of byte) token line byte (λ t p l. tokens_behind t p l (text ++ rest))
+    (All-head IsVisible byte text visible)
     ∙ run_in_line text rest (grown token byte) line (All-tail IsVisible byte text visible)
 
 pub none_begun : (head : Head) → is_begun head ≡ false → head ≡ Empty
@@ -199,28 +213,36 @@ ends_whole (byte ∷ behind) bytes token fresh line ends begun none =
     separator_step (kind_of byte) token line byte next ends
     ∙ ap (λ b. cond b (record { summary = token; line = line } ∷ rest) rest) begun
     ∙ ap (λ ts. record { summary = token; line = line } ∷ ts)
-    (sym (separator_step (kind_of byte) fresh line byte next ends ∙ ap (λ b. cond b (record { summary = fresh; line = line } ∷ rest) rest) none))
+    (sym (separator_step (kind_of byte) fresh line byte next ends ∙ ap
+    (λ b. cond b (record { summary = fresh; line = line } ∷ rest) rest) none))
 
-whole_text : (text behind bytes : List ℕ) (token : TokenSummary) (place : LinePlace) (line : ℕ) → is_begun token.head ≡ false →
+whole_text : (text behind bytes : List ℕ) (token : TokenSummary) (place : LinePlace) (line : ℕ) →
+    is_begun token.head ≡ false →
     begins_token place (text ++ behind) → 0 < length text → All IsVisible text → begins_with_separator behind ≡ true →
     tokens_behind token place line (text ++ (behind ++ bytes))
     ≡ record { summary = summary_of text; line = line } ∷ tokens_behind token InLine line (behind ++ bytes)
 whole_text [] behind bytes token place line fresh begins some visible ends = absurd (omega (arith, some))
 whole_text (byte ∷ text) behind bytes token place line fresh begins some visible ends =
     first_step (kind_of byte) token place line byte (λ t p l. tokens_behind t p l (text ++ (behind ++ bytes))) begins
-    ∙ ap (λ t. tokens_behind t InLine line (text ++ (behind ++ bytes))) (first_grown token byte (none_begun token.head fresh))
+    ∙ ap (λ t. tokens_behind t InLine line (text ++ (behind ++ bytes)))
+    (first_grown token byte (none_begun token.head fresh))
     ∙ run_in_line text (behind ++ bytes) (grown no_bytes byte) line (All-tail IsVisible byte text visible)
-    ∙ ends_whole behind bytes (summary_of (byte ∷ text)) token line ends (begun_by (summary_of (byte ∷ [])) text refl) fresh
+    ∙ ends_whole behind bytes (summary_of (byte ∷ text)) token line ends
+    (begun_by (summary_of (byte ∷ [])) text refl) fresh
 
-pub whole_token_to_come : (pieces : TokenPieces) (bytes text behind more : List ℕ) → IsWholeToken pieces bytes text behind →
+pub whole_token_to_come : (pieces : TokenPieces) (bytes text behind more : List ℕ) →
+    IsWholeToken pieces bytes text behind →
     tokens_to_come pieces (bytes ++ more)
-    ≡ record { summary = summary_of text; line = pieces.line } ∷ tokens_behind pieces.token InLine pieces.line (behind ++ more)
+    ≡ record { summary = summary_of text; line = pieces.line } ∷ tokens_behind pieces.token InLine pieces.line
+    (behind ++ more)
 whole_token_to_come pieces bytes text behind more is =
     ap (λ xs. tokens_to_come pieces (xs ++ more)) is.parts
     ∙ ap (λ xs. tokens_to_come pieces xs) (append_assoc text behind more)
-    ∙ whole_text text behind more pieces.token pieces.place pieces.line is.start.fresh (subst (λ xs. begins_token pieces.place xs) is.parts is.start.begins) is.some is.visible is.ends
+    ∙ whole_text text behind more pieces.token pieces.place pieces.line is.start.fresh
+    (subst (λ xs. begins_token pieces.place xs) is.parts is.start.begins) is.some is.visible is.ends
 
-pub whole_token_line : (pieces : TokenPieces) (bytes text behind more : List ℕ) → IsWholeToken pieces bytes text behind →
+pub whole_token_line : (pieces : TokenPieces) (bytes text behind more : List ℕ) →
+    IsWholeToken pieces bytes text behind →
     last_line_to_come pieces (bytes ++ more) ≡ line_behind pieces.line (behind ++ more)
 whole_token_line pieces bytes text behind more is =
     ap (λ xs. line_behind pieces.line (xs ++ more)) is.parts

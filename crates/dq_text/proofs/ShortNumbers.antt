@@ -43,7 +43,8 @@ word_ends byte (next ∷ word) rest other others ends =
     else (byte ∷ []) ∷ line_tokens (next ∷ (word ++ rest))) others.0
     ∙ ap (extend_token byte) (word_ends next word rest others.0 others.1 ends)
 
-word_cut : (word rest : List ℕ) → IsWord word → goes_on rest ≡ false → line_tokens (word ++ rest) ≡ word ∷ line_tokens rest
+word_cut : (word rest : List ℕ) → IsWord word → goes_on rest ≡ false →
+    line_tokens (word ++ rest) ≡ word ∷ line_tokens rest
 word_cut [] rest is ends = absurd is
 word_cut (byte ∷ word) rest is ends = word_ends byte word rest is.0 is.1 ends
 
@@ -55,7 +56,8 @@ pub natural_begins : (bytes left : List ℕ) (n : ℕ) → BeginsWithNatural byt
 natural_begins bytes left n b =
     ap (λ text. map number_of (line_tokens text)) b.parts
     ∙ ap (map number_of) (word_cut b.digits b.others (digits_word b.digits b.some b.are) b.ends)
-    ∙ ap (λ number. number ∷ map number_of (line_tokens b.others)) (digits_number b.digits n b.small (digits_of bytes left n b))
+    ∙ ap (λ number. number ∷ map number_of (line_tokens b.others))
+    (digits_number b.digits n b.small (digits_of bytes left n b))
     ∙ ap (λ tokens. Int (pos n) ∷ map number_of tokens) (sym b.same)
 
 minus_word : (ds : List ℕ) → IsWord ds → IsWord (45 ∷ ds)
@@ -66,8 +68,10 @@ negative_begins_suc : (bytes left : List ℕ) (n : ℕ) → BeginsWithNatural by
     map number_of (line_tokens (45 ∷ bytes)) ≡ Int (negsuc n) ∷ map number_of (line_tokens left)
 negative_begins_suc bytes left n b =
     ap (λ text. map number_of (line_tokens (45 ∷ text))) b.parts
-    ∙ ap (map number_of) (word_cut (45 ∷ b.digits) b.others (minus_word b.digits (digits_word b.digits b.some b.are)) b.ends)
-    ∙ ap (λ number. number ∷ map number_of (line_tokens b.others)) (negative_value b.digits n (are_some b.digits b.some b.are) b.value_is b.small)
+    ∙ ap (map number_of) (word_cut (45 ∷ b.digits) b.others (minus_word b.digits
+    (digits_word b.digits b.some b.are)) b.ends)
+    ∙ ap (λ number. number ∷ map number_of (line_tokens b.others))
+    (negative_value b.digits n (are_some b.digits b.some b.are) b.value_is b.small)
     ∙ ap (λ tokens. Int (negsuc n) ∷ map number_of tokens) (sym b.same)
 
 pub negative_begins : (bytes left : List ℕ) (n : ℕ) → 1 ≤ n → BeginsWithNatural bytes n left →
@@ -76,7 +80,8 @@ negative_begins bytes left zero some b = absurd (omega (arith, some))
 negative_begins bytes left (suc n) some b = negative_begins_suc bytes left n b
 
 -- all bytes are digits
-pub leading_whole : (bytes : List ℕ) (i value : ℕ) → length bytes ≡ i → length bytes ≤ 18 → list_all is_ascii_digit (take i bytes) ≡ true →
+pub leading_whole : (bytes : List ℕ) (i value : ℕ) → length bytes ≡ i → length bytes ≤ 18 →
+    list_all is_ascii_digit (take i bytes) ≡ true →
     value ≡ decimal_value (take i bytes) → value < 10 ^ i → IsLeadingValue bytes value (length bytes)
 leading_whole bytes i value whole few are is below =
     record {
@@ -87,8 +92,10 @@ leading_whole bytes i value whole few are is below =
     }
 
 -- what is behind the digits
-pub natural_found : (bytes first rest left : List ℕ) (value count : ℕ) → first ≡ take 18 bytes → IsLeadingValue first value count → 1 ≤ count →
-    rest ≡ drop count bytes → goes_on rest ≡ false → line_tokens left ≡ line_tokens rest → BeginsWithNatural bytes value left
+pub natural_found : (bytes first rest left : List ℕ) (value count : ℕ) → first ≡ take 18 bytes →
+    IsLeadingValue first value count → 1 ≤ count →
+    rest ≡ drop count bytes → goes_on rest ≡ false → line_tokens left ≡ line_tokens rest →
+    BeginsWithNatural bytes value left
 natural_found bytes first rest left value count first_is leading some rest_is ends left_is =
     let few : count ≤ 18 = omega (arith, leading.within, ap length first_is, length-take 18 bytes) in
     let inside : count ≤ length bytes = omega (arith, leading.within, ap length first_is, length-take 18 bytes) in
@@ -105,7 +112,8 @@ natural_found bytes first rest left value count first_is leading some rest_is en
       same = left_is;
     }
 
-pub all_behind : (bytes : List ℕ) (n count : ℕ) → length bytes ≡ n → take (n - count) (drop count bytes) ≡ drop count bytes
+pub all_behind : (bytes : List ℕ) (n count : ℕ) → length bytes ≡ n →
+    take (n - count) (drop count bytes) ≡ drop count bytes
 all_behind bytes n count long = take_all (n - count) (drop count bytes) (omega (arith, length-drop count bytes, long))
 
 pub below_limit : (n : ℤ) (v : ℕ) → v < 10 ^ 18 → n ≡ pos v → to_z w64 (of_z w64 n) ≡ pos v
@@ -119,7 +127,8 @@ pub above_limit : (n : ℤ) (v : ℕ) → v < 10 ^ 18 → n ≡ neg_ℤ (pos v) 
 above_limit n v small is = ap (λ k. to_z w64 (of_z w64 k)) is ∙ negated_inside v small
 
 -- the first bytes are digits, and these are all
-pub whole_value : (bytes : List ℕ) (value count : ℕ) → IsLeadingValue bytes value count → 0 < count → count ≡ length bytes → AreFewDigits bytes value
+pub whole_value : (bytes : List ℕ) (value count : ℕ) → IsLeadingValue bytes value count → 0 < count →
+    count ≡ length bytes → AreFewDigits bytes value
 whole_value bytes value count leading some whole =
     let all : take count bytes ≡ bytes = take_all count bytes (omega (arith, whole)) in
     record {

@@ -27,10 +27,12 @@ abbrev NoFeed : ℕ → Type 0
 NoFeed byte = byte ≢ 10
 
 abbrev kind_by : ℕ → Bool → ByteKind
-kind_by byte feed = if byte == 32 || (byte == 9 || byte == 13) then Blank else if feed then LineFeed else if byte == 99 then LetterC else Other
+kind_by byte feed = if byte == 32 || (byte == 9 || byte == 13) then Blank else if feed then LineFeed else if byte == 99
+    then LetterC else Other
 
 comment_by : (blank letter : Bool) (line byte : ℕ) (next : Next) →
-    tokens_by (if blank then Blank else if letter then LetterC else Other) no_bytes InComment line byte next ≡ next no_bytes InComment line
+    tokens_by (if blank then Blank else if letter then LetterC else Other) no_bytes InComment line byte next
+    ≡ next no_bytes InComment line
 comment_by true letter line byte next = refl
 comment_by false true line byte next = refl
 comment_by false false line byte next = refl
@@ -53,7 +55,8 @@ comment_tokens (byte ∷ before) rest line free =
     comment_step line byte (λ t p l. tokens_behind t p l (before ++ rest)) (All-head NoFeed byte before free)
     ∙ comment_tokens before rest line (All-tail NoFeed byte before free)
 
-comment_lines : (before rest : List ℕ) (line : ℕ) → All NoFeed before → line_behind line (before ++ rest) ≡ line_behind line rest
+comment_lines : (before rest : List ℕ) (line : ℕ) → All NoFeed before →
+    line_behind line (before ++ rest) ≡ line_behind line rest
 comment_lines [] rest line free = refl
 comment_lines (byte ∷ before) rest line free =
     ap (λ l. line_behind l (before ++ rest)) (comment_line line byte (All-head NoFeed byte before free))
@@ -63,7 +66,8 @@ dropped : (xs ys : List ℕ) → drop (length xs) (xs ++ ys) ≡ ys
 dropped [] ys = refl
 dropped (x ∷ xs) ys = dropped xs ys
 
-behind_line : (bytes text rest : List ℕ) → bytes ≡ text ++ rest → All NoFeed text → IsBehindLine bytes (drop (length text) bytes)
+behind_line : (bytes text rest : List ℕ) → bytes ≡ text ++ rest → All NoFeed text →
+    IsBehindLine bytes (drop (length text) bytes)
 behind_line bytes text rest parts free = record {
   before = text;
   parts = parts ∙ ap (λ ys. text ++ ys) (sym (ap (drop (length text)) parts ∙ dropped text rest));
@@ -76,7 +80,8 @@ pub line_cut : (bytes text others : List ℕ) → IsFirstLine bytes text others 
 line_cut bytes text others first =
     let rest = drop (length text) bytes in
     let short = length-drop (length text) bytes in
-    let whole : take (length bytes - length text) rest ≡ rest = take_all (length bytes - length text) rest (omega (arith, short)) in
+    let whole : take (length bytes - length text) rest ≡ rest =
+    take_all (length bytes - length text) rest (omega (arith, short)) in
     let behind : IsBehindLine bytes rest =
     elim first.parts [
       | inl with_feed ↦ behind_line bytes text (10 ∷ others) with_feed first.one_line
@@ -90,8 +95,10 @@ comment_end_tokens InComment line bytes left more ends =
     ap (λ xs. tokens_behind no_bytes InComment line (xs ++ more)) ends.parts
     ∙ ap (tokens_behind no_bytes InComment line) (append_assoc ends.before left more)
     ∙ comment_tokens ends.before (left ++ more) line ends.one_line
-comment_end_tokens LineStart line bytes left more ends = ap (λ xs. tokens_behind no_bytes LineStart line (xs ++ more)) (sym ends)
-comment_end_tokens InLine line bytes left more ends = ap (λ xs. tokens_behind no_bytes InLine line (xs ++ more)) (sym ends)
+comment_end_tokens LineStart line bytes left more ends = ap (λ xs. tokens_behind no_bytes LineStart line (xs ++ more))
+    (sym ends)
+comment_end_tokens InLine line bytes left more ends = ap (λ xs. tokens_behind no_bytes InLine line (xs ++ more))
+    (sym ends)
 
 comment_end_line : (place : LinePlace) (line : ℕ) (bytes left more : List ℕ) → EndsComment place bytes left →
     line_behind line (bytes ++ more) ≡ line_behind line (left ++ more)
@@ -105,7 +112,8 @@ comment_end_line InLine line bytes left more ends = ap (λ xs. line_behind line 
 -- Between tokens.
 
 between_step : (place : LinePlace) (line byte : ℕ) (xs : List ℕ) → is_in_token (kind_of byte) place ≡ false →
-    tokens_behind no_bytes place line (byte ∷ xs) ≡ tokens_behind no_bytes (place_after (kind_of byte) place) (line_after (kind_of byte) line) xs
+    tokens_behind no_bytes place line (byte ∷ xs) ≡ tokens_behind no_bytes (place_after (kind_of byte) place)
+    (line_after (kind_of byte) line) xs
 between_step place line byte xs between =
     let p = place_after (kind_of byte) place in
     let l = line_after (kind_of byte) line in
@@ -132,7 +140,8 @@ passed old new byte behind left old_fresh new_fresh between place line shorter e
 pub nothing_skipped : (pieces : TokenPieces) (bytes : List ℕ) → Skips pieces pieces bytes bytes
 nothing_skipped pieces bytes = record { shorter = omega arith; tokens = λ more. refl; lines = λ more. refl }
 
-pub skipped_on : (old middle new : TokenPieces) (bytes rest left : List ℕ) → Skips old middle bytes rest → Skips middle new rest left → Skips old new bytes left
+pub skipped_on : (old middle new : TokenPieces) (bytes rest left : List ℕ) → Skips old middle bytes rest →
+    Skips middle new rest left → Skips old new bytes left
 skipped_on old middle new bytes rest left first second =
     let a = first.shorter in
     let b = second.shorter in
@@ -150,13 +159,17 @@ kept_nothing token place line (byte ∷ bytes) fresh =
     let p = place_after (kind_of byte) place in
     let l = line_after (kind_of byte) line in
     let rest = tokens_behind no_bytes p l bytes in
-    ap (λ t. cond (is_in_token (kind_of byte) place) (tokens_behind t p l bytes) (ended token line rest)) (first_grown token byte (none_begun token.head fresh))
-    ∙ ap (λ b. cond (is_in_token (kind_of byte) place) (tokens_behind (grown no_bytes byte) p l bytes) (cond b (record { summary = token; line = line } ∷ rest) rest)) fresh
+    ap (λ t. cond (is_in_token (kind_of byte) place) (tokens_behind t p l bytes) (ended token line rest))
+    (first_grown token byte (none_begun token.head fresh))
+    ∙ ap (λ b. cond (is_in_token (kind_of byte) place) (tokens_behind (grown no_bytes byte) p l bytes)
+    (cond b (record { summary = token; line = line } ∷ rest) rest)) fresh
 
-pub shorter_on : (old new : TokenPieces) (bytes left : List ℕ) (n : ℕ) → length bytes < n → Skips old new bytes left → length left < n
+pub shorter_on : (old new : TokenPieces) (bytes left : List ℕ) (n : ℕ) → length bytes < n → Skips old new bytes left →
+    length left < n
 shorter_on old new bytes left n short skips = let s = skips.shorter in omega (arith, short, s)
 
-pub skipped_fresh : (old fresh new : TokenPieces) (bytes left : List ℕ) → is_begun old.token.head ≡ false → fresh.token ≡ no_bytes →
+pub skipped_fresh : (old fresh new : TokenPieces) (bytes left : List ℕ) → is_begun old.token.head ≡ false →
+    fresh.token ≡ no_bytes →
     fresh.place ≡ old.place → fresh.line ≡ old.line → Skips fresh new bytes left → Skips old new bytes left
 skipped_fresh old fresh new bytes left none is_fresh place line skips = record {
   shorter = skips.shorter;

@@ -41,11 +41,13 @@ visible_step LetterC byte line at bytes h = refl
 visible_step Other byte line at bytes h = refl
 
 abbrev cut_at : ℕ → ℕ → ℕ → List ℕ → List TextToken
-cut_at n line at bytes = record { text = take n bytes; line = line; at = at } ∷ tokens_from InLine line (at + n) (drop n bytes)
+cut_at n line at bytes = record { text = take n bytes; line = line; at = at } ∷ tokens_from InLine line (at + n)
+    (drop n bytes)
 
 put_run : (byte line at : ℕ) (bytes : List ℕ) →
     (goes_on bytes ≡ true → tokens_from InLine line (at + 1) bytes ≡ cut_at (run bytes) line (at + 1) bytes) →
-    put_byte byte line at bytes (tokens_from InLine line (at + 1) bytes) ≡ cut_at (suc (run bytes)) line at (byte ∷ bytes)
+    put_byte byte line at bytes (tokens_from InLine line (at + 1) bytes) ≡ cut_at (suc (run bytes)) line at
+    (byte ∷ bytes)
 put_run byte line at bytes more =
     let n = run bytes in
     let tokens = tokens_from InLine line (at + 1) bytes in
@@ -55,7 +57,8 @@ put_run byte line at bytes more =
       | inl goes ↦
           ap (λ b. cond b (extend byte line at tokens) one) goes
           ∙ ap (extend byte line at) (more goes)
-          ∙ ap (λ p. record { text = byte ∷ take n bytes; line = line; at = at } ∷ tokens_from InLine line p (drop n bytes)) places
+          ∙ ap (λ p. record { text = byte ∷ take n bytes; line = line; at = at } ∷ tokens_from InLine line p
+          (drop n bytes)) places
       | inr ends ↦
           let none = run-none bytes ends in
           let here : at + 1 ≡ at + suc 0 = omega arith in
@@ -65,10 +68,12 @@ put_run byte line at bytes more =
     ]
 
 pub run-more : (byte : ℕ) (bytes : List ℕ) → is_separator (kind_of byte) ≡ false → run (byte ∷ bytes) ≡ suc (run bytes)
-run-more byte bytes h = let next : 1 + run bytes ≡ suc (run bytes) = omega arith in ap (λ b. cond (not b) (1 + run bytes) 0) h ∙ next
+run-more byte bytes h = let next : 1 + run bytes ≡ suc (run bytes) = omega arith in
+    ap (λ b. cond (not b) (1 + run bytes) 0) h ∙ next
 
 -- in a line, the bytes up to the first separator are the first token
-cut_in_line : (bytes : List ℕ) (line at : ℕ) → goes_on bytes ≡ true → tokens_from InLine line at bytes ≡ cut_at (run bytes) line at bytes
+cut_in_line : (bytes : List ℕ) (line at : ℕ) → goes_on bytes ≡ true →
+    tokens_from InLine line at bytes ≡ cut_at (run bytes) line at bytes
 cut_in_line [] line at h = cc
 cut_in_line (byte ∷ bytes) line at h =
     let visible = not-true (is_separator (kind_of byte)) h in
@@ -76,13 +81,15 @@ cut_in_line (byte ∷ bytes) line at h =
     ∙ put_run byte line at bytes (λ goes. cut_in_line bytes line (at + 1) goes)
     ∙ ap (λ k. cut_at k line at (byte ∷ bytes)) (sym (run-more byte bytes visible))
 
-pub token_byte_visible : (kind : ByteKind) (place : LinePlace) → is_in_token kind place ≡ true → is_separator kind ≡ false
+pub token_byte_visible : (kind : ByteKind) (place : LinePlace) → is_in_token kind place ≡ true →
+    is_separator kind ≡ false
 token_byte_visible Blank place h = cc
 token_byte_visible LineFeed place h = cc
 token_byte_visible LetterC place h = refl
 token_byte_visible Other place h = refl
 
-first_as_in_line : (kind : ByteKind) (place : LinePlace) (byte line at : ℕ) (bytes : List ℕ) → is_in_token kind place ≡ true →
+first_as_in_line : (kind : ByteKind) (place : LinePlace) (byte line at : ℕ) (bytes : List ℕ) →
+    is_in_token kind place ≡ true →
     cond (is_in_token kind place)
     (put_byte byte line at bytes (tokens_from (place_after kind place) (line_after kind line) (at + 1) bytes))
     (tokens_from (place_after kind place) (line_after kind line) (at + 1) bytes)
@@ -129,24 +136,31 @@ line_feeds-cut (byte ∷ bytes) =
           ∙ sym (sum_by-cons (λ b. cond (b == 10) 1 0) byte bytes)
     ]
 
-choose : (p : ℕ → Bool) (xs : List ℕ) (b : Bool) → nat_lt (position_or_len p xs) (length xs) ≡ b → position_or_len p xs ≤ length xs →
+choose : (p : ℕ → Bool) (xs : List ℕ) (b : Bool) → nat_lt (position_or_len p xs) (length xs) ≡ b →
+    position_or_len p xs ≤ length xs →
     unwrap_or (cond b (Some (position_or_len p xs)) None) (length xs) ≡ position_or_len p xs
 choose p xs true found within = refl
 choose p xs false past within = let far = ltb-false (position_or_len p xs) (length xs) past in omega arith
 
 -- the place found, or the end
-pub unwrap_position : (bytes : List ℕ) → unwrap_or (position (λ byte. is_separator (kind_of byte)) bytes) (length bytes) ≡ run bytes
-unwrap_position bytes = choose (λ byte. is_separator (kind_of byte)) bytes (nat_lt (run bytes) (length bytes)) refl (run-le bytes)
+pub unwrap_position : (bytes : List ℕ) → unwrap_or (position (λ byte. is_separator (kind_of byte)) bytes) (length bytes)
+    ≡ run bytes
+unwrap_position bytes = choose (λ byte. is_separator (kind_of byte)) bytes (nat_lt (run bytes) (length bytes)) refl
+    (run-le bytes)
 
 -- the same, for the parts that a split gives
-pub cut_parts : (place : LinePlace) (line at : ℕ) (bytes front back : List ℕ) (n m : ℕ) → begins_token place bytes → bytes ≢ [] →
+pub cut_parts : (place : LinePlace) (line at : ℕ) (bytes front back : List ℕ) (n m : ℕ) → begins_token place bytes →
+    bytes ≢ [] →
     n ≡ run bytes → front ≡ take n bytes → back ≡ drop n bytes → m ≡ n →
-    tokens_from place line at bytes ≡ record { text = front; line = line; at = at } ∷ tokens_from InLine line (at + m) back
+    tokens_from place line at bytes ≡ record { text = front; line = line; at = at } ∷ tokens_from InLine line
+    (at + m) back
 cut_parts place line at bytes front back n m begins some is front_is back_is long =
     cut_token place line at bytes begins some
     ∙ ap (λ k. cut_at k line at bytes) (sym is)
-    ∙ ap (λ text. record { text = text; line = line; at = at } ∷ tokens_from InLine line (at + n) (drop n bytes)) (sym front_is)
-    ∙ ap (λ k. record { text = front; line = line; at = at } ∷ tokens_from InLine line (at + k) (drop n bytes)) (sym long)
+    ∙ ap (λ text. record { text = text; line = line; at = at } ∷ tokens_from InLine line (at + n) (drop n bytes))
+    (sym front_is)
+    ∙ ap (λ k. record { text = front; line = line; at = at } ∷ tokens_from InLine line (at + k) (drop n bytes))
+    (sym long)
     ∙ ap (λ rest. record { text = front; line = line; at = at } ∷ tokens_from InLine line (at + m) rest) (sym back_is)
 
 pub token_step : (separator : Bool) (byte : ℕ) (bytes : List ℕ) (tokens : List (List ℕ)) → separator ≡ false →
@@ -175,7 +189,8 @@ cut_line_token (byte ∷ bytes) h =
     ]
     ∙ ap (λ k. line_cut_at k (byte ∷ bytes)) (sym (run-more byte bytes visible))
 
-pub line_cut_parts : (bytes front back : List ℕ) (n : ℕ) → goes_on bytes ≡ true → n ≡ run bytes → front ≡ take n bytes → back ≡ drop n bytes →
+pub line_cut_parts : (bytes front back : List ℕ) (n : ℕ) → goes_on bytes ≡ true → n ≡ run bytes → front ≡ take n bytes →
+    back ≡ drop n bytes →
     line_tokens bytes ≡ front ∷ line_tokens back
 line_cut_parts bytes front back n goes is front_is back_is =
     cut_line_token bytes goes

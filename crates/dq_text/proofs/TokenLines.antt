@@ -51,13 +51,15 @@ either_head false byte n l others lines h = extended_head byte n lines
 line_head : (n : ℕ) (bytes : List ℕ) → HeadIs n (lines_from n bytes)
 line_head n [] = tt
 line_head n (byte ∷ bytes) =
-    either_head (byte == 10) byte n (record { text = []; number = n; behind = bytes }) (lines_from (n + 1) bytes) (lines_from n bytes) refl
+    either_head (byte == 10) byte n (record { text = []; number = n; behind = bytes }) (lines_from (n + 1) bytes)
+    (lines_from n bytes) refl
 
 abbrev first_text : List TextLine → List ℕ
 first_text [] = []
 first_text (l ∷ _) = l.text
 
-extended_goes : (byte n : ℕ) (lines : List TextLine) → goes_on (first_text (extend_line byte n lines)) ≡ not (is_separator (kind_of byte))
+extended_goes : (byte n : ℕ) (lines : List TextLine) → goes_on (first_text (extend_line byte n lines)) ≡ not
+    (is_separator (kind_of byte))
 extended_goes byte n [] = refl
 extended_goes byte n (l ∷ lines) = refl
 
@@ -68,10 +70,12 @@ front_goes n (byte ∷ bytes) =
     let l : TextLine = record { text = []; number = n; behind = bytes } in
     elim (cases_eq byte 10) [
       | inl same ↦
-          ap (λ b. goes_on (first_text (cond (b == 10) (l ∷ lines_from (n + 1) bytes) (extend_line byte n (lines_from n bytes))))) same
+          ap (λ b. goes_on (first_text (cond (b == 10) (l ∷ lines_from (n + 1) bytes)
+          (extend_line byte n (lines_from n bytes))))) same
           ∙ sym (ap (λ b. not (is_separator (kind_of b))) same)
       | inr other ↦
-          ap (λ b. goes_on (first_text (cond b (l ∷ lines_from (n + 1) bytes) (extend_line byte n (lines_from n bytes))))) (ne_eqb byte 10 other)
+          ap (λ b. goes_on (first_text (cond b (l ∷ lines_from (n + 1) bytes)
+          (extend_line byte n (lines_from n bytes))))) (ne_eqb byte 10 other)
           ∙ extended_goes byte n (lines_from n bytes)
     ]
 
@@ -83,7 +87,8 @@ blank_tokens byte bytes h =
 blank_comment : (byte : ℕ) (bytes : List ℕ) → kind_of byte ≡ Blank → is_comment (byte ∷ bytes) ≡ is_comment bytes
 blank_comment byte bytes h = ap (λ k. begins_comment k (is_comment bytes)) h
 
-inside_comment : (byte n : ℕ) (lines : List TextLine) → by_place InComment (extend_line byte n lines) ≡ by_place InComment lines
+inside_comment : (byte n : ℕ) (lines : List TextLine) → by_place InComment (extend_line byte n lines)
+    ≡ by_place InComment lines
 inside_comment byte n [] = refl
 inside_comment byte n (l ∷ lines) = refl
 
@@ -92,7 +97,8 @@ blank_front : (place : LinePlace) (byte n : ℕ) (lines : List TextLine) → kin
 blank_front LineStart byte n [] h head =
     ap₂ (λ c ts. cond c [] (number_all n ts) ++ []) (blank_comment byte [] h) (blank_tokens byte [] h)
 blank_front LineStart byte n (l ∷ lines) h head =
-    ap₂ (λ c ts. cond c [] (number_all n ts) ++ of_lines lines) (blank_comment byte l.text h) (blank_tokens byte l.text h)
+    ap₂ (λ c ts. cond c [] (number_all n ts) ++ of_lines lines) (blank_comment byte l.text h)
+    (blank_tokens byte l.text h)
     ∙ sym (ap (λ k. cond (is_comment l.text) [] (number_all k (line_tokens l.text)) ++ of_lines lines) head)
 blank_front InLine byte n [] h head = ap (λ ts. number_all n ts ++ []) (blank_tokens byte [] h)
 blank_front InLine byte n (l ∷ lines) h head =
@@ -104,24 +110,28 @@ comment_front : (byte n : ℕ) (lines : List TextLine) → kind_of byte ≡ Lett
     by_place LineStart (extend_line byte n lines) ≡ by_place InComment lines
 comment_front byte n [] h = ap (λ k. cond (begins_comment k false) [] (number_all n (line_tokens (byte ∷ []))) ++ []) h
 comment_front byte n (l ∷ lines) h =
-    ap (λ k. cond (begins_comment k (is_comment l.text)) [] (number_all n (line_tokens (byte ∷ l.text))) ++ of_lines lines) h
+    ap (λ k. cond (begins_comment k (is_comment l.text)) [] (number_all n (line_tokens (byte ∷ l.text))) ++ of_lines
+    lines) h
 
 other_front : (byte n : ℕ) (lines : List TextLine) → kind_of byte ≡ Other →
     by_place LineStart (extend_line byte n lines) ≡ by_place InLine (extend_line byte n lines)
 other_front byte n [] h = ap (λ k. cond (begins_comment k false) [] (number_all n (line_tokens (byte ∷ []))) ++ []) h
 other_front byte n (l ∷ lines) h =
-    ap (λ k. cond (begins_comment k (is_comment l.text)) [] (number_all n (line_tokens (byte ∷ l.text))) ++ of_lines lines) h
+    ap (λ k. cond (begins_comment k (is_comment l.text)) [] (number_all n (line_tokens (byte ∷ l.text))) ++ of_lines
+    lines) h
 
 -- a byte in front of the first token
 abbrev extend_first : ℕ → ℕ → List Numbered → List Numbered
 extend_first byte n [] = []
 extend_first byte n (t ∷ ts) = (n, byte ∷ t.1) ∷ ts
 
-extended : (byte n at : ℕ) (tokens : List TextToken) → map numbered (extend byte n at tokens) ≡ extend_first byte n (map numbered tokens)
+extended : (byte n at : ℕ) (tokens : List TextToken) → map numbered (extend byte n at tokens) ≡ extend_first byte n
+    (map numbered tokens)
 extended byte n at [] = refl
 extended byte n at (t ∷ ts) = refl
 
-extend_front : (byte n m : ℕ) (tokens : List (List ℕ)) (t : List ℕ) (ts : List (List ℕ)) (others : List Numbered) → tokens ≡ t ∷ ts → m ≡ n →
+extend_front : (byte n m : ℕ) (tokens : List (List ℕ)) (t : List ℕ) (ts : List (List ℕ)) (others : List Numbered) →
+    tokens ≡ t ∷ ts → m ≡ n →
     extend_first byte n (number_all m tokens ++ others) ≡ number_all n (extend_token byte tokens) ++ others
 extend_front byte n m tokens t ts others is same =
     ap (λ xs. extend_first byte n (number_all m xs ++ others)) is
@@ -135,15 +145,18 @@ line_step byte bytes goes visible is =
     token_step (is_separator (kind_of byte)) byte bytes tokens visible
     ∙ ap (λ b. cond b (extend_token byte tokens) ((byte ∷ []) ∷ tokens)) is
 
-token_front : (byte n at : ℕ) (bytes : List ℕ) (tokens : List TextToken) (lines : List TextLine) → is_separator (kind_of byte) ≡ false →
+token_front : (byte n at : ℕ) (bytes : List ℕ) (tokens : List TextToken) (lines : List TextLine) →
+    is_separator (kind_of byte) ≡ false →
     goes_on (first_text lines) ≡ goes_on bytes → HeadIs n lines → map numbered tokens ≡ by_place InLine lines →
     map numbered (put_byte byte n at bytes tokens) ≡ by_place InLine (extend_line byte n lines)
 token_front byte n at bytes tokens [] visible same head told =
-    ap (λ g. map numbered (cond g (extend byte n at tokens) (record { text = byte ∷ []; line = n; at = at } ∷ tokens))) (sym same)
+    ap (λ g. map numbered (cond g (extend byte n at tokens) (record { text = byte ∷ []; line = n; at = at } ∷ tokens)))
+    (sym same)
     ∙ ap (λ rest. (n, byte ∷ []) ∷ rest) told
     ∙ sym (ap (λ ts. number_all n ts ++ []) (line_step byte [] false visible refl))
 token_front byte n at bytes tokens (l ∷ lines) visible same head told =
-    let put : Bool → List Numbered = λ g. map numbered (cond g (extend byte n at tokens) (record { text = byte ∷ []; line = n; at = at } ∷ tokens)) in
+    let put : Bool → List Numbered = λ g. map numbered (cond g (extend byte n at tokens)
+    (record { text = byte ∷ []; line = n; at = at } ∷ tokens)) in
     let here = line_tokens l.text in
     elim (cases_Bool (goes_on l.text)) [
       | inl goes ↦
@@ -182,28 +195,41 @@ feed_is byte =
 
 -- the tokens of the bytes behind, wherever they stand
 abbrev AreTold : List ℕ → Type 0
-AreTold bytes = (place : LinePlace) (n at : ℕ) → map numbered (tokens_from place n at bytes) ≡ by_place place (lines_from n bytes)
+AreTold bytes = (place : LinePlace) (n at : ℕ) → map numbered (tokens_from place n at bytes) ≡ by_place place
+    (lines_from n bytes)
 
-byte_step : (kind : ByteKind) (place : LinePlace) (byte n at : ℕ) (bytes : List ℕ) → kind_of byte ≡ kind → AreTold bytes →
+byte_step : (kind : ByteKind) (place : LinePlace) (byte n at : ℕ) (bytes : List ℕ) → kind_of byte ≡ kind →
+    AreTold bytes →
     map numbered
-    (cond (is_in_token kind place) (put_byte byte n at bytes (tokens_from (place_after kind place) (line_after kind n) (at + 1) bytes))
+    (cond (is_in_token kind place) (put_byte byte n at bytes
     (tokens_from (place_after kind place) (line_after kind n) (at + 1) bytes))
-    ≡ by_place place (cond (is_feed kind) (record { text = []; number = n; behind = bytes } ∷ lines_from (n + 1) bytes) (extend_line byte n (lines_from n bytes)))
-byte_step LineFeed LineStart byte n at bytes is told = told LineStart (n + 1) (at + 1) ∙ at_start (lines_from (n + 1) bytes)
-byte_step LineFeed InLine byte n at bytes is told = told LineStart (n + 1) (at + 1) ∙ at_start (lines_from (n + 1) bytes)
-byte_step LineFeed InComment byte n at bytes is told = told LineStart (n + 1) (at + 1) ∙ at_start (lines_from (n + 1) bytes)
+    (tokens_from (place_after kind place) (line_after kind n) (at + 1) bytes))
+    ≡ by_place place (cond (is_feed kind) (record { text = []; number = n; behind = bytes } ∷ lines_from (n + 1) bytes)
+    (extend_line byte n (lines_from n bytes)))
+byte_step LineFeed LineStart byte n at bytes is told = told LineStart (n + 1) (at + 1) ∙ at_start
+    (lines_from (n + 1) bytes)
+byte_step LineFeed InLine byte n at bytes is told = told LineStart (n + 1) (at + 1) ∙ at_start
+    (lines_from (n + 1) bytes)
+byte_step LineFeed InComment byte n at bytes is told = told LineStart (n + 1) (at + 1) ∙ at_start
+    (lines_from (n + 1) bytes)
 byte_step Blank place byte n at bytes is told =
     told place n (at + 1) ∙ sym (blank_front place byte n (lines_from n bytes) is (line_head n bytes))
-byte_step LetterC LineStart byte n at bytes is told = told InComment n (at + 1) ∙ sym (comment_front byte n (lines_from n bytes) is)
+byte_step LetterC LineStart byte n at bytes is told = told InComment n (at + 1) ∙ sym
+    (comment_front byte n (lines_from n bytes) is)
 byte_step LetterC InLine byte n at bytes is told =
-    token_front byte n at bytes (tokens_from InLine n (at + 1) bytes) (lines_from n bytes) (ap is_separator is) (front_goes n bytes) (line_head n bytes) (told InLine n (at + 1))
-byte_step LetterC InComment byte n at bytes is told = told InComment n (at + 1) ∙ sym (inside_comment byte n (lines_from n bytes))
+    token_front byte n at bytes (tokens_from InLine n (at + 1) bytes) (lines_from n bytes) (ap is_separator is)
+    (front_goes n bytes) (line_head n bytes) (told InLine n (at + 1))
+byte_step LetterC InComment byte n at bytes is told = told InComment n (at + 1) ∙ sym
+    (inside_comment byte n (lines_from n bytes))
 byte_step Other LineStart byte n at bytes is told =
-    token_front byte n at bytes (tokens_from InLine n (at + 1) bytes) (lines_from n bytes) (ap is_separator is) (front_goes n bytes) (line_head n bytes) (told InLine n (at + 1))
+    token_front byte n at bytes (tokens_from InLine n (at + 1) bytes) (lines_from n bytes) (ap is_separator is)
+    (front_goes n bytes) (line_head n bytes) (told InLine n (at + 1))
     ∙ sym (other_front byte n (lines_from n bytes) is)
 byte_step Other InLine byte n at bytes is told =
-    token_front byte n at bytes (tokens_from InLine n (at + 1) bytes) (lines_from n bytes) (ap is_separator is) (front_goes n bytes) (line_head n bytes) (told InLine n (at + 1))
-byte_step Other InComment byte n at bytes is told = told InComment n (at + 1) ∙ sym (inside_comment byte n (lines_from n bytes))
+    token_front byte n at bytes (tokens_from InLine n (at + 1) bytes) (lines_from n bytes) (ap is_separator is)
+    (front_goes n bytes) (line_head n bytes) (told InLine n (at + 1))
+byte_step Other InComment byte n at bytes is told = told InComment n (at + 1) ∙ sym
+    (inside_comment byte n (lines_from n bytes))
 
 at_end : (place : LinePlace) (n at : ℕ) → map numbered (tokens_from place n at []) ≡ by_place place (lines_from n [])
 at_end LineStart n at = refl
@@ -214,8 +240,10 @@ told : (bytes : List ℕ) → AreTold bytes
 told [] = at_end
 told (byte ∷ bytes) = λ place n at.
     byte_step (kind_of byte) place byte n at bytes refl (told bytes)
-    ∙ sym (ap (λ feed. by_place place (cond feed (record { text = []; number = n; behind = bytes } ∷ lines_from (n + 1) bytes) (extend_line byte n (lines_from n bytes)))) (feed_is byte))
+    ∙ sym (ap (λ feed. by_place place (cond feed (record { text = []; number = n; behind = bytes } ∷ lines_from
+    (n + 1) bytes) (extend_line byte n (lines_from n bytes)))) (feed_is byte))
 
 -- the tokens of a text are those of its lines that aren't comments, in order
-pub tokens_of_lines : (bytes : List ℕ) → map numbered (tokens_from LineStart 1 0 bytes) ≡ flat_map numbered_tokens (lines_from 1 bytes)
+pub tokens_of_lines : (bytes : List ℕ) → map numbered (tokens_from LineStart 1 0 bytes) ≡ flat_map numbered_tokens
+    (lines_from 1 bytes)
 tokens_of_lines bytes = told bytes LineStart 1 0 ∙ at_start (lines_from 1 bytes)

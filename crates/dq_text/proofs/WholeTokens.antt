@@ -15,15 +15,18 @@ visible_run : (bytes : List ℕ) → All IsVisible (take (run bytes) bytes)
 visible_run [] = All-nil IsVisible
 visible_run (byte ∷ bytes) =
     elim (cases_Bool (is_separator (kind_of byte))) [
-      | inl separator ↦ subst (λ n. All IsVisible (take n (byte ∷ bytes))) (sym (run-none (byte ∷ bytes) (ap not separator))) (All-nil IsVisible)
-      | inr visible ↦ subst (λ n. All IsVisible (take n (byte ∷ bytes))) (sym (run-more byte bytes visible)) (All-cons IsVisible byte (take (run bytes) bytes) visible (visible_run bytes))
+      | inl separator ↦ subst (λ n. All IsVisible (take n (byte ∷ bytes)))
+          (sym (run-none (byte ∷ bytes) (ap not separator))) (All-nil IsVisible)
+      | inr visible ↦ subst (λ n. All IsVisible (take n (byte ∷ bytes))) (sym (run-more byte bytes visible))
+          (All-cons IsVisible byte (take (run bytes) bytes) visible (visible_run bytes))
     ]
 
 separator_behind : (bytes : List ℕ) → run bytes < length bytes → begins_with_separator (drop (run bytes) bytes) ≡ true
 separator_behind [] short = absurd (omega (arith, short))
 separator_behind (byte ∷ bytes) short =
     elim (cases_Bool (is_separator (kind_of byte))) [
-      | inl separator ↦ ap (λ n. begins_with_separator (drop n (byte ∷ bytes))) (run-none (byte ∷ bytes) (ap not separator)) ∙ separator
+      | inl separator ↦ ap (λ n. begins_with_separator (drop n (byte ∷ bytes)))
+          (run-none (byte ∷ bytes) (ap not separator)) ∙ separator
       | inr visible ↦
           let more = run-more byte bytes visible in
           ap (λ n. begins_with_separator (drop n (byte ∷ bytes))) more
@@ -36,7 +39,8 @@ some_run pieces (byte ∷ bytes) start =
     let more = run-more byte bytes (token_byte_visible (kind_of byte) pieces.place start.begins) in
     omega (arith, more)
 
-pub cut_whole : (pieces : TokenPieces) (bytes front back : List ℕ) (n : ℕ) → IsAtStart pieces bytes → n ≡ run bytes → n < length bytes →
+pub cut_whole : (pieces : TokenPieces) (bytes front back : List ℕ) (n : ℕ) → IsAtStart pieces bytes → n ≡ run bytes →
+    n < length bytes →
     front ≡ take n bytes → back ≡ drop n bytes → length front ≡ n → IsWholeToken pieces bytes front back
 cut_whole pieces bytes front back n start is short front_is back_is long =
     let run_short : run bytes < length bytes = omega (arith, is, short) in

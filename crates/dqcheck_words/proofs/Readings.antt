@@ -30,7 +30,8 @@ later : (word : Text) (words : List Text) → AreNoOptions (word ∷ words) → 
 later word words all k d lt = all (suc k) d (omega arith)
 
 -- names stand before what the words behind them give
-among_names : (names words : List Text) → AreNoOptions names → names_among (names ++ words) ≡ option_map (λ more. names ++ more) (names_among words)
+among_names : (names words : List Text) → AreNoOptions names →
+    names_among (names ++ words) ≡ option_map (λ more. names ++ more) (names_among words)
 among_names [] words all = go (names_among words)
   where
     go : (o : Option (List Text)) → o ≡ option_map (λ more. more) o
@@ -41,25 +42,30 @@ among_names (name ∷ names) words all =
     among_ordinary name (names ++ words) (no_separator name not_option) not_option
     ∙ ap (option_map (λ more. name ∷ more)) (among_names names words (later name names all)) ∙ go (names_among words)
   where
-    go : (o : Option (List Text)) → option_map (λ more. name ∷ more) (option_map (λ more. names ++ more) o) ≡ option_map (λ more. name ∷ (names ++ more)) o
+    go : (o : Option (List Text)) → option_map (λ more. name ∷ more) (option_map (λ more. names ++ more) o) ≡ option_map
+        (λ more. name ∷ (names ++ more)) o
     go None = refl
     go (Some more) = refl
 
 abbrev named : Option (List Text) → Option Command
 named = option_and_then command_named
 
-pub names_taken : (program : Text) (names : List Text) → AreNoOptions names → command_of (program ∷ names) ≡ command_named names
+pub names_taken : (program : Text) (names : List Text) → AreNoOptions names →
+    command_of (program ∷ names) ≡ command_named names
 names_taken program names all = command_is_spelled (program ∷ names)
     ∙ ap (λ words. named (names_among words)) (sym (append-nil names)) ∙ ap named (among_names names [] all)
     ∙ ap command_named (append-nil names)
 
-pub names_behind_separator : (program word : Text) (before names : List Text) → AreNoOptions before → is_separator word ≡ true
+pub names_behind_separator : (program word : Text) (before names : List Text) → AreNoOptions before →
+    is_separator word ≡ true
     → command_of (program ∷ before ++ word ∷ names) ≡ command_named (before ++ names)
 names_behind_separator program word before names all dashes = command_is_spelled (program ∷ before ++ word ∷ names)
     ∙ ap named (among_names before (word ∷ names) all)
-    ∙ ap (λ b. named (option_map (λ more. before ++ more) (cond b (Some names) (cond (is_option word) None (option_map (λ more. word ∷ more) (names_among names)))))) dashes
+    ∙ ap (λ b. named (option_map (λ more. before ++ more) (cond b (Some names)
+    (cond (is_option word) None (option_map (λ more. word ∷ more) (names_among names)))))) dashes
 
-pub option_refused : (program word : Text) (before behind : List Text) → AreNoOptions before → is_option word ≡ true → is_separator word ≡ false
+pub option_refused : (program word : Text) (before behind : List Text) → AreNoOptions before → is_option word ≡ true →
+    is_separator word ≡ false
     → command_of (program ∷ before ++ word ∷ behind) ≡ None
 option_refused program word before behind all minus dashes = command_is_spelled (program ∷ before ++ word ∷ behind)
     ∙ ap named (among_names before (word ∷ behind) all)

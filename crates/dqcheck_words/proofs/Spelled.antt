@@ -42,7 +42,14 @@ rows_at w words = finished rules (end_of w words).held
 
 -- the matches of the two names
 abbrev row : Text → Text → Row
-row id name = record { id = id; values = name ∷ []; count = None; source = Some CommandLine; reading = reading.AsWritten }
+row id name = record {
+  id = id;
+  values = name ∷ [];
+  count = None;
+  source = Some CommandLine;
+  reading =
+      reading.AsWritten;
+}
 
 abbrev pub rows_of_names : Command → List Row
 rows_of_names names = row (codes "FORMULA") names.formula ∷ row (codes "CERT") names.certificate ∷ []
@@ -55,17 +62,23 @@ Gives fault passes rows (Some names) = (fault ≡ []) × (passes ≡ true) × (r
 abbrev GivesAt : Walk → List Text → Option Command → Type 0
 GivesAt w words given = Gives (fault_at w words) (passes_at w words) (rows_at w words) given
 
-gives_as : (a b : Kinds) (p q : Bool) (r s : List Row) (given : Option Command) → a ≡ b → p ≡ q → r ≡ s → Gives b q s given → Gives a p r given
-gives_as a b p q r s given e f g h = subst (λ k. Gives k p r given) (sym e) (subst (λ k. Gives b k r given) (sym f) (subst (λ k. Gives b q k given) (sym g) h))
+gives_as : (a b : Kinds) (p q : Bool) (r s : List Row) (given : Option Command) → a ≡ b → p ≡ q → r ≡ s →
+    Gives b q s given → Gives a p r given
+gives_as a b p q r s given e f g h = subst (λ k. Gives k p r given) (sym e)
+    (subst (λ k. Gives b k r given) (sym f) (subst (λ k. Gives b q k given) (sym g) h))
 
 -- a word that passes
-step : (w after : Walk) (word : Text) (words : List Text) (given : Option Command) → turn_fault top [] w word ≡ [] → turn_passes top [] w word ≡ true
+step : (w after : Walk) (word : Text) (words : List Text) (given : Option Command) → turn_fault top [] w word ≡ [] →
+    turn_passes top [] w word ≡ true
     → walked rules [] w word ≡ after → GivesAt after words given → GivesAt w (word ∷ words) given
 unfolding walk_fault walk_passes
 step w after word words given fault passes is h =
-    gives_as (fault_at w (word ∷ words)) (fault_at after words) (passes_at w (word ∷ words)) (passes_at after words) (rows_at w (word ∷ words)) (rows_at after words) given
-    (ap (λ k. fault_from (or_else k (walk_fault top [] (walked rules [] w word) words)) (end_of (walked rules [] w word) words)) fault ∙ ap (λ v. fault_at v words) is)
-    (ap (λ b. passes_from (b && walk_passes top [] (walked rules [] w word) words) (end_of (walked rules [] w word) words)) passes ∙ ap (λ v. passes_at v words) is)
+    gives_as (fault_at w (word ∷ words)) (fault_at after words) (passes_at w (word ∷ words)) (passes_at after words)
+    (rows_at w (word ∷ words)) (rows_at after words) given
+    (ap (λ k. fault_from (or_else k (walk_fault top [] (walked rules [] w word) words))
+    (end_of (walked rules [] w word) words)) fault ∙ ap (λ v. fault_at v words) is)
+    (ap (λ b. passes_from (b && walk_passes top [] (walked rules [] w word) words)
+    (end_of (walked rules [] w word) words)) passes ∙ ap (λ v. passes_at v words) is)
     (ap (λ v. rows_at v words) is) h
 
 fails_anyway : (a : Bool) → (a && false) ≡ false
@@ -73,19 +86,28 @@ fails_anyway true = refl
 fails_anyway false = refl
 
 -- a word that is refused
-stop : (w : Walk) (word : Text) (words : List Text) → turn_fault top [] w word ≡ unknown → turn_passes top [] w word ≡ false → GivesAt w (word ∷ words) None
+stop : (w : Walk) (word : Text) (words : List Text) → turn_fault top [] w word ≡ unknown →
+    turn_passes top [] w word ≡ false → GivesAt w (word ∷ words) None
 unfolding walk_fault walk_passes
 stop w word words fault passes = (
   λ none. let is : fault_at w (word ∷ words) ≡ fault_from unknown (end_of (walked rules [] w word) words) =
-      ap (λ k. fault_from (or_else k (walk_fault top [] (walked rules [] w word) words)) (end_of (walked rules [] w word) words)) fault in cc,
-  ap (λ b. passes_from (b && walk_passes top [] (walked rules [] w word) words) (end_of (walked rules [] w word) words)) passes
+      ap (λ k. fault_from (or_else k (walk_fault top [] (walked rules [] w word) words))
+      (end_of (walked rules [] w word) words)) fault in cc,
+  ap (λ b. passes_from (b && walk_passes top [] (walked rules [] w word) words)
+      (end_of (walked rules [] w word) words)) passes
       ∙ fails_anyway (entered_passes app (end_of (walked rules [] w word) words).stopped),
 )
 
 -- ---- the places of the walk
 
 abbrev place : Held → ℕ → Bool → Walk
-place h position is_trailing = record { held = h; waiting = idle; position = position; is_trailing = is_trailing; stopped = None }
+place h position is_trailing = record {
+  held = h;
+  waiting = idle;
+  position = position;
+  is_trailing = is_trailing;
+  stopped = None;
+}
 
 abbrev begun : Bool → Walk
 begun = place nothing_held 1
@@ -94,27 +116,40 @@ abbrev with_formula : Text → Bool → Walk
 with_formula f = place (record { rows = []; pending = Some (codes "FORMULA", f ∷ []); skip = 0 }) 2
 
 abbrev with_both : Text → Text → Bool → Walk
-with_both f c = place (record { rows = row (codes "FORMULA") f ∷ []; pending = Some (codes "CERT", c ∷ []); skip = 0 }) 3
+with_both f c = place (record {
+  rows = row (codes "FORMULA") f ∷ [];
+  pending = Some (codes "CERT", c ∷ []);
+  skip = 0;
+}) 3
 
 -- ---- one word at a place before `--`
 
-plain_turn : (h : Held) (position : ℕ) (word : Text) → h.skip ≡ 0 → IsPlain word → turn_fault top [] (place h position false) word ≡ step_fault top position h value
+plain_turn : (h : Held) (position : ℕ) (word : Text) → h.skip ≡ 0 → IsPlain word →
+    turn_fault top [] (place h position false) word ≡ step_fault top position h value
 plain_turn h position word none plain =
-    ap₂ (λ (k : Kinds) (m : Held × Step). or_else k (step_fault top position m.0 m.1)) (plain.fault h none) (plain.met h position none)
+    ap₂ (λ (k : Kinds) (m : Held × Step). or_else k (step_fault top position m.0 m.1)) (plain.fault h none)
+    (plain.met h position none)
 
-plain_passes : (h : Held) (position : ℕ) (word : Text) → h.skip ≡ 0 → IsPlain word → turn_passes top [] (place h position false) word ≡ step_passes top position h value
+plain_passes : (h : Held) (position : ℕ) (word : Text) → h.skip ≡ 0 → IsPlain word →
+    turn_passes top [] (place h position false) word ≡ step_passes top position h value
 plain_passes h position word none plain =
-    ap₂ (λ (b : Bool) (m : Held × Step). b && step_passes top position m.0 m.1) (plain.passes h none) (plain.met h position none)
+    ap₂ (λ (b : Bool) (m : Held × Step). b && step_passes top position m.0 m.1) (plain.passes h none)
+    (plain.met h position none)
 
 plain_walk : (h : Held) (position : ℕ) (word : Text) → h.skip ≡ 0 → IsPlain word
-    → walked rules [] (place h position false) word ≡ to_positional rules (arg_by_index rules position) word (place h position false) h
+    → walked rules [] (place h position false) word ≡ to_positional rules (arg_by_index rules position) word
+    (place h position false) h
 unfolding walked
-plain_walk h position word none plain = ap (λ (m : Held × Step). after_step rules word (place h position false) m.0 m.1) (plain.met h position none)
+plain_walk h position word none plain = ap (λ (m : Held × Step). after_step rules word (place h position false) m.0 m.1)
+    (plain.met h position none)
 
-refused_here : (h : Held) (position : ℕ) (word : Text) (words : List Text) → h.skip ≡ 0 → IsRefused word → GivesAt (place h position false) (word ∷ words) None
+refused_here : (h : Held) (position : ℕ) (word : Text) (words : List Text) → h.skip ≡ 0 → IsRefused word →
+    GivesAt (place h position false) (word ∷ words) None
 refused_here h position word words none bad = stop (place h position false) word words
-    (ap (λ (k : Kinds). or_else k (let m = word_met rules [] false idle position word h in step_fault top position m.0 m.1)) (bad.fault h none))
-    (ap (λ (b : Bool). b && (let m = word_met rules [] false idle position word h in step_passes top position m.0 m.1)) (bad.passes h none))
+    (ap (λ (k : Kinds). or_else k (let m = word_met rules [] false idle position word h in
+    step_fault top position m.0 m.1)) (bad.fault h none))
+    (ap (λ (b : Bool). b && (let m = word_met rules [] false idle position word h in step_passes top position m.0 m.1))
+    (bad.passes h none))
 
 -- ---- the words to come, behind `--`
 
@@ -126,7 +161,8 @@ trailing_both f c (word ∷ words) = stop (with_both f c true) word words refl r
 trailing_formula : (f : Text) (words : List Text) → GivesAt (with_formula f true) words (command_named (f ∷ words))
 unfolding clap_on_literals
 trailing_formula f [] = ((λ e. cc), refl)
-trailing_formula f (c ∷ words) = step (with_formula f true) (with_both f c true) c words _ refl refl refl (trailing_both f c words)
+trailing_formula f (c ∷ words) = step (with_formula f true) (with_both f c true) c words _ refl refl refl
+    (trailing_both f c words)
 
 trailing_begun : (words : List Text) → GivesAt (begun true) words (command_named words)
 unfolding clap_on_literals
@@ -138,12 +174,14 @@ trailing_begun (f ∷ words) = step (begun true) (with_formula f true) f words _
 abbrev behind : Text → Option (List Text) → Option (List Text)
 behind word = option_map (λ names. word ∷ names)
 
-pub among_refused : (word : Text) (words : List Text) → is_separator word ≡ false → is_option word ≡ true → names_among (word ∷ words) ≡ None
+pub among_refused : (word : Text) (words : List Text) → is_separator word ≡ false → is_option word ≡ true →
+    names_among (word ∷ words) ≡ None
 among_refused word words dashes minus =
     ap (λ b. cond b (Some words) (cond (is_option word) None (behind word (names_among words)))) dashes
     ∙ ap (λ b. cond b None (behind word (names_among words))) minus
 
-pub among_ordinary : (word : Text) (words : List Text) → is_separator word ≡ false → is_option word ≡ false → names_among (word ∷ words) ≡ behind word (names_among words)
+pub among_ordinary : (word : Text) (words : List Text) → is_separator word ≡ false → is_option word ≡ false →
+    names_among (word ∷ words) ≡ behind word (names_among words)
 among_ordinary word words dashes minus =
     ap (λ b. cond b (Some words) (cond (is_option word) None (behind word (names_among words)))) dashes
     ∙ ap (λ b. cond b None (behind word (names_among words))) minus
@@ -168,26 +206,34 @@ at_both : (f c : Text) (words : List Text) → GivesAt (with_both f c false) wor
 unfolding clap_on_literals
 at_both f c [] = (refl, refl, refl)
 at_both f c (word ∷ words) = elim (kind_of_word word) [
-  | separator is ↦ subst (λ z. GivesAt (with_both f c false) (z ∷ words) (after_both f c (names_among (z ∷ words)))) (sym is)
+  | separator is ↦ subst (λ z. GivesAt (with_both f c false) (z ∷ words) (after_both f c (names_among (z ∷ words))))
+      (sym is)
       (step (with_both f c false) (with_both f c true) (45 ∷ 45 ∷ []) words _ refl refl refl (trailing_both f c words))
-  | refused dashes minus bad ↦ given_as (with_both f c false) (word ∷ words) _ _ (ap (after_both f c) (among_refused word words dashes minus))
+  | refused dashes minus bad ↦ given_as (with_both f c false) (word ∷ words) _ _
+      (ap (after_both f c) (among_refused word words dashes minus))
       (refused_here (with_both f c false).held 3 word words refl bad)
   | ordinary dashes minus plain ↦ given_as (with_both f c false) (word ∷ words) _ _
       (ap (after_both f c) (among_ordinary word words dashes minus) ∙ a_third f c word (names_among words))
-      (stop (with_both f c false) word words (plain_turn (with_both f c false).held 3 word refl plain) (plain_passes (with_both f c false).held 3 word refl plain))
+      (stop (with_both f c false) word words (plain_turn (with_both f c false).held 3 word refl plain)
+      (plain_passes (with_both f c false).held 3 word refl plain))
 ]
 
 at_formula : (f : Text) (words : List Text) → GivesAt (with_formula f false) words (after_formula f (names_among words))
 unfolding clap_on_literals
 at_formula f [] = ((λ e. cc), refl)
 at_formula f (word ∷ words) = elim (kind_of_word word) [
-  | separator is ↦ subst (λ z. GivesAt (with_formula f false) (z ∷ words) (after_formula f (names_among (z ∷ words)))) (sym is)
-      (step (with_formula f false) (with_formula f true) (45 ∷ 45 ∷ []) words _ refl refl refl (trailing_formula f words))
-  | refused dashes minus bad ↦ given_as (with_formula f false) (word ∷ words) _ _ (ap (after_formula f) (among_refused word words dashes minus))
+  | separator is ↦ subst (λ z. GivesAt (with_formula f false) (z ∷ words) (after_formula f (names_among (z ∷ words))))
+      (sym is)
+      (step (with_formula f false) (with_formula f true) (45 ∷ 45 ∷ []) words _ refl refl refl
+      (trailing_formula f words))
+  | refused dashes minus bad ↦ given_as (with_formula f false) (word ∷ words) _ _
+      (ap (after_formula f) (among_refused word words dashes minus))
       (refused_here (with_formula f false).held 2 word words refl bad)
-  | ordinary dashes minus plain ↦ given_as (with_formula f false) (word ∷ words) _ _ (ap (after_formula f) (among_ordinary word words dashes minus))
+  | ordinary dashes minus plain ↦ given_as (with_formula f false) (word ∷ words) _ _
+      (ap (after_formula f) (among_ordinary word words dashes minus))
       (step (with_formula f false) (with_both f word false) word words _
-      (plain_turn (with_formula f false).held 2 word refl plain) (plain_passes (with_formula f false).held 2 word refl plain)
+      (plain_turn (with_formula f false).held 2 word refl plain)
+      (plain_passes (with_formula f false).held 2 word refl plain)
       (plain_walk (with_formula f false).held 2 word refl plain) (at_both f word words))
 ]
 
@@ -197,9 +243,11 @@ at_begun [] = ((λ e. cc), refl)
 at_begun (word ∷ words) = elim (kind_of_word word) [
   | separator is ↦ subst (λ z. GivesAt (begun false) (z ∷ words) (after_none (names_among (z ∷ words)))) (sym is)
       (step (begun false) (begun true) (45 ∷ 45 ∷ []) words _ refl refl refl (trailing_begun words))
-  | refused dashes minus bad ↦ given_as (begun false) (word ∷ words) _ _ (ap after_none (among_refused word words dashes minus))
+  | refused dashes minus bad ↦ given_as (begun false) (word ∷ words) _ _
+      (ap after_none (among_refused word words dashes minus))
       (refused_here nothing_held 1 word words refl bad)
-  | ordinary dashes minus plain ↦ given_as (begun false) (word ∷ words) _ _ (ap after_none (among_ordinary word words dashes minus))
+  | ordinary dashes minus plain ↦ given_as (begun false) (word ∷ words) _ _
+      (ap after_none (among_ordinary word words dashes minus))
       (step (begun false) (with_formula word false) word words _
       (plain_turn nothing_held 1 word refl plain) (plain_passes nothing_held 1 word refl plain)
       (plain_walk nothing_held 1 word refl plain) (at_formula word words))
@@ -207,7 +255,8 @@ at_begun (word ∷ words) = elim (kind_of_word word) [
 
 -- ---- all the words
 
-words_give : (words : List Text) → Gives (fault_of checker_app words) (takes checker_app words) (matches_of checker_app words) (spelled_command words)
+words_give : (words : List Text) → Gives (fault_of checker_app words) (takes checker_app words)
+    (matches_of checker_app words) (spelled_command words)
 words_give [] = at_begun []
 words_give (program ∷ words) = at_begun words
 
@@ -218,7 +267,8 @@ command_by fault passes rows (Some names) h = ap₂ (λ (b : Bool) (r : List Row
 
 pub command_is_spelled : (words : List Text) → command_of words ≡ spelled_command words
 unfolding command_of
-command_is_spelled words = command_by (fault_of checker_app words) (takes checker_app words) (matches_of checker_app words) (spelled_command words) (words_give words)
+command_is_spelled words = command_by (fault_of checker_app words) (takes checker_app words)
+    (matches_of checker_app words) (spelled_command words) (words_give words)
 
 -- where no step of the parse fails, the command takes the words, and its matches are two names
 pub record AreNames (words : List Text) : Type 0 where
@@ -230,6 +280,7 @@ pub names_without_fault : (words : List Text) → fault_of checker_app words ≡
 names_without_fault words none = go (spelled_command words) (command_is_spelled words) (words_give words)
   where
     go : (given : Option Command) → command_of words ≡ given
-        → Gives (fault_of checker_app words) (takes checker_app words) (matches_of checker_app words) given → AreNames words
+        → Gives (fault_of checker_app words) (takes checker_app words) (matches_of checker_app words) given →
+        AreNames words
     go None is h = absurd (h.0 none)
     go (Some names) is h = record { names = names; command = is; matches = h.2 }

@@ -58,20 +58,25 @@ no_flag word dashes long short = record {
 
 -- ---- a minus and no character behind it
 
-no_bundle : (n : ℕ) (flags : Text) (h : Held) → slice_get (chars flags) 0 ≡ None → bundle_met rules n flags 0 plain h ≡ (h, plain)
+no_bundle : (n : ℕ) (flags : Text) (h : Held) → slice_get (chars flags) 0 ≡ None →
+    bundle_met rules n flags 0 plain h ≡ (h, plain)
 unfolding bundle_met
 no_bundle zero flags h none = refl
 no_bundle (suc n) flags h none = ap (λ o. (bundle_step rules o flags 0 plain h (bundle_met rules n))) none
 
-no_bundle_fault : (n : ℕ) (flags : Text) (h : Held) → slice_get (chars flags) 0 ≡ None → flags_fault rules false n flags 0 h ≡ []
+no_bundle_fault : (n : ℕ) (flags : Text) (h : Held) → slice_get (chars flags) 0 ≡ None →
+    flags_fault rules false n flags 0 h ≡ []
 unfolding flags_fault
 no_bundle_fault zero flags h none = refl
-no_bundle_fault (suc n) flags h none = ap (λ o. bundle_step_fault rules false o flags 0 h (flags_fault rules false n)) none
+no_bundle_fault (suc n) flags h none = ap (λ o. bundle_step_fault rules false o flags 0 h
+    (flags_fault rules false n)) none
 
-no_bundle_passes : (n : ℕ) (flags : Text) (h : Held) → slice_get (chars flags) 0 ≡ None → flags_pass rules false n flags 0 h ≡ true
+no_bundle_passes : (n : ℕ) (flags : Text) (h : Held) → slice_get (chars flags) 0 ≡ None →
+    flags_pass rules false n flags 0 h ≡ true
 unfolding flags_pass
 no_bundle_passes zero flags h none = refl
-no_bundle_passes (suc n) flags h none = ap (λ o. bundle_step_passes rules false o flags 0 h (flags_pass rules false n)) none
+no_bundle_passes (suc n) flags h none = ap (λ o. bundle_step_passes rules false o flags 0 h
+    (flags_pass rules false n)) none
 
 -- with no flag to pass over
 abbrev rested : Held → Held
@@ -80,12 +85,16 @@ rested h = record h { skip = 0 }
 as_rested : (h : Held) → h.skip ≡ 0 → h ≡ rested h
 as_rested h none = λ i. record h { skip = none i }
 
-empty_flag : (word flags : Text) → is_separator word ≡ false → long_of word ≡ None → short_of word ≡ Some flags → slice_get (chars flags) 0 ≡ None → IsPlain word
+empty_flag : (word flags : Text) → is_separator word ≡ false → long_of word ≡ None → short_of word ≡ Some flags →
+    slice_get (chars flags) 0 ≡ None → IsPlain word
 empty_flag word flags dashes long short none = record {
-  met = λ h position unskipped. subst (λ k. word_met rules [] false idle position word k ≡ (k, value)) (sym (as_rested h unskipped))
+  met = λ h position unskipped. subst (λ k. word_met rules [] false idle position word k ≡ (k, value))
+      (sym (as_rested h unskipped))
       (ap (λ b. cond b (rested h, trailing position) (long_or_other rules idle word (long_of word) (rested h))) dashes
-      ∙ ap (λ o. long_or_other rules idle word o (rested h)) long ∙ ap (λ o. short_or_plain rules idle word o (rested h)) short
-      ∙ ap (λ (p : Held × Outcome). after_flag rules idle word p.0 p.1) (no_bundle (length flags) flags (rested h) none));
+      ∙ ap (λ o. long_or_other rules idle word o (rested h)) long ∙ ap
+      (λ o. short_or_plain rules idle word o (rested h)) short
+      ∙ ap (λ (p : Held × Outcome). after_flag rules idle word p.0 p.1)
+      (no_bundle (length flags) flags (rested h) none));
   fault = λ h unskipped. subst (λ k. word_fault top [] false idle word k ≡ []) (sym (as_rested h unskipped))
       (ap (λ b. cond b [] (flag_word_fault rules false (long_of word) word (rested h))) dashes
       ∙ ap (λ o. flag_word_fault rules false o word (rested h)) long
@@ -110,15 +119,18 @@ long_flag word p dashes long = record {
       ∙ ap (λ o. flag_word_passes rules false o word h) long;
 }
 
-first_fault : (n : ℕ) (flags : Text) (first : ℕ) (h : Held) → slice_get (chars flags) 0 ≡ Some first → flags_fault rules false (suc n) flags 0 h ≡ unknown
+first_fault : (n : ℕ) (flags : Text) (first : ℕ) (h : Held) → slice_get (chars flags) 0 ≡ Some first →
+    flags_fault rules false (suc n) flags 0 h ≡ unknown
 unfolding flags_fault
 first_fault n flags first h is = ap (λ o. bundle_step_fault rules false o flags 0 h (flags_fault rules false n)) is
 
-first_fails : (n : ℕ) (flags : Text) (first : ℕ) (h : Held) → slice_get (chars flags) 0 ≡ Some first → flags_pass rules false (suc n) flags 0 h ≡ false
+first_fails : (n : ℕ) (flags : Text) (first : ℕ) (h : Held) → slice_get (chars flags) 0 ≡ Some first →
+    flags_pass rules false (suc n) flags 0 h ≡ false
 unfolding flags_pass
 first_fails n flags first h is = ap (λ o. bundle_step_passes rules false o flags 0 h (flags_pass rules false n)) is
 
-short_flag : (word rest : Text) (x first : ℕ) → is_separator word ≡ false → long_of word ≡ None → short_of word ≡ Some (x ∷ rest)
+short_flag : (word rest : Text) (x first : ℕ) → is_separator word ≡ false → long_of word ≡ None →
+    short_of word ≡ Some (x ∷ rest)
     → slice_get (chars (x ∷ rest)) 0 ≡ Some first → IsRefused word
 short_flag word rest x first dashes long short is = record {
   fault = λ h unskipped. subst (λ k. word_fault top [] false idle word k ≡ unknown) (sym (as_rested h unskipped))

@@ -17,9 +17,14 @@ use Rattle.dqdimacs_reader.proofs.CanonicalParts.{IsVariable, IsKnown, IsDeclara
 
 pub by_recursion : {X : Type 0} (Q : X → Type 0) (xs : List X) → All Q xs → AllByRecursion Q xs
 by_recursion Q [] all = tt
-by_recursion Q (x ∷ xs) all = (all 0 x (omega arith), by_recursion Q xs (λ k d below. all (suc k) d (omega (arith, below))))
+by_recursion Q (x ∷ xs) all = (
+  all 0 x (omega arith),
+  by_recursion Q xs
+      (λ k d below. all (suc k) d (omega (arith, below))),
+)
 
-pub each : {X : Type 0} (P Q : X → Type 0) → ((x : X) → P x → Q x) → (xs : List X) → AllByRecursion P xs → AllByRecursion Q xs
+pub each : {X : Type 0} (P Q : X → Type 0) → ((x : X) → P x → Q x) → (xs : List X) → AllByRecursion P xs →
+    AllByRecursion Q xs
 each P Q step [] all = tt
 each P Q step (x ∷ xs) all = (step x all.0, each P Q step xs all.1)
 
@@ -44,13 +49,15 @@ not_same : (b : Bool) → (b ≡ true → ⊥) → b ≡ false
 not_same true h = absurd (h refl)
 not_same false h = refl
 
-no_earlier_literal : (front back : List Literal) (l : Literal) → AreDifferent (front ++ l ∷ back) → list_any (same_literal l) front ≡ false
+no_earlier_literal : (front back : List Literal) (l : Literal) → AreDifferent (front ++ l ∷ back) →
+    list_any (same_literal l) front ≡ false
 no_earlier_literal [] back l pairs = refl
 no_earlier_literal (k ∷ front) back l pairs =
     let differs : k ≢ l = λ h.
     pairs 0 (suc (length front)) l (omega arith) (omega (arith, length-append front (l ∷ back)))
     (h ∙ sym (at_front front back l l)) in
-    ap (λ b. b || list_any (same_literal l) front) (not_same (same_literal l k) (λ h. differs (sym (same_literal-sound l k h))))
+    ap (λ b. b || list_any (same_literal l) front) (not_same (same_literal l k)
+    (λ h. differs (sym (same_literal-sound l k h))))
     ∙ no_earlier_literal front back l (tail_different k (front ++ l ∷ back) pairs)
 
 added : (done rest : List Literal) → AreDifferent (done ++ rest) → fold add_literal done rest ≡ done ++ rest
@@ -68,11 +75,13 @@ clauses_added f (ls ∷ clauses) are =
     ∙ clauses_added (add_clause f ls) clauses are.1
     ∙ ap (λ matrix. record f { matrix = matrix }) (append_assoc f.matrix (ls ∷ []) clauses)
 
-plain_lexemes : (clauses : List (List Literal)) → flat_map constraint_lexemes (map plain clauses) ≡ flat_map clause_lexemes clauses
+plain_lexemes : (clauses : List (List Literal)) → flat_map constraint_lexemes (map plain clauses)
+    ≡ flat_map clause_lexemes clauses
 plain_lexemes [] = refl
 plain_lexemes (ls ∷ clauses) = ap (λ zs. clause_lexemes ls ++ zs) (plain_lexemes clauses)
 
-plain_lawful : (variables : ℕ) (clauses : List (List Literal)) → AllByRecursion (AllByRecursion (InRange variables)) clauses → AreLawfulConstraints variables (map plain clauses)
+plain_lawful : (variables : ℕ) (clauses : List (List Literal)) →
+    AllByRecursion (AllByRecursion (InRange variables)) clauses → AreLawfulConstraints variables (map plain clauses)
 plain_lawful variables [] are = tt
 plain_lawful variables (ls ∷ clauses) are = (are.0, plain_lawful variables clauses are.1)
 
@@ -120,7 +129,8 @@ nothing_passes : (p : ℕ → Bool) → ((v : ℕ) → p v ≡ false) → (vs : 
 nothing_passes p h [] = refl
 nothing_passes p h (v ∷ vs) = ap (λ b. if b then v ∷ filter p vs else filter p vs) (h v) ∙ nothing_passes p h vs
 
-none_free : (f : Dqbf) → AllByRecursion (AllByRecursion (λ l. Contains (declared f) (variable_of l))) f.matrix → free_variables f ≡ []
+none_free : (f : Dqbf) → AllByRecursion (AllByRecursion (λ l. Contains (declared f) (variable_of l))) f.matrix →
+    free_variables f ≡ []
 none_free f are =
     nothing_passes (λ v. not (is_declared f v) && occurs f.matrix v)
     (λ v. free_no (is_declared f v) f v refl (λ undeclared. clause_elsewhere (declared f) v f.matrix undeclared are))
@@ -153,7 +163,8 @@ back_of : {X : Type 0} (Q : X → Type 0) (xs ys : List X) → AllByRecursion Q 
 back_of Q [] ys all = all
 back_of Q (x ∷ xs) ys all = back_of Q xs ys all.1
 
-of_variables : (Q : ℕ → Type 0) (es : List Existential) → AllByRecursion Q (map variable es) → AllByRecursion (λ y. Q y.variable) es
+of_variables : (Q : ℕ → Type 0) (es : List Existential) → AllByRecursion Q (map variable es) →
+    AllByRecursion (λ y. Q y.variable) es
 of_variables Q [] all = tt
 of_variables Q (y ∷ es) all = (all.0, of_variables Q es all.1)
 
@@ -166,11 +177,13 @@ module _ (f : Dqbf) (is : IsSpellable f) where
 
   existentials_in_range : AllByRecursion (λ y. IsVariable f.variables y.variable) f.existentials
   existentials_in_range =
-      of_variables (IsVariable f.variables) f.existentials (back_of (IsVariable f.variables) f.universals (map variable f.existentials) in_range)
+      of_variables (IsVariable f.variables) f.existentials (back_of (IsVariable f.variables) f.universals
+      (map variable f.existentials) in_range)
 
   known : (x : ℕ) → Contains f.universals x → IsKnown f.variables f.universals x
   known x among =
-      let range = All-contains (IsVariable f.variables) f.universals x (all_of f.universals universals_in_range) among in
+      let range = All-contains (IsVariable f.variables) f.universals x
+      (all_of f.universals universals_in_range) among in
       (range.0, range.1, contains_any f.universals x among)
     where
       all_of : (xs : List ℕ) → AllByRecursion (IsVariable f.variables) xs → All (IsVariable f.variables) xs
@@ -178,7 +191,8 @@ module _ (f : Dqbf) (is : IsSpellable f) where
       all_of (x ∷ xs) are zero d below = are.0
       all_of (x ∷ xs) are (suc k) d below = all_of xs are.1 k d (omega (arith, below))
 
-  whole : (y : Existential) → y.sees ≡ listed_universals f.universals y.sees → length y.sees ≡ length f.universals → y.sees ≡ f.universals
+  whole : (y : Existential) → y.sees ≡ listed_universals f.universals y.sees → length y.sees ≡ length f.universals →
+      y.sees ≡ f.universals
   whole y ordered same =
       ordered ∙ all_pass (λ u. list_any (λ x. x == u) y.sees) f.universals (sym (ap length ordered) ∙ same)
 
@@ -193,7 +207,8 @@ module _ (f : Dqbf) (is : IsSpellable f) where
             (by_recursion (Contains f.universals) y.sees (is.lawful.prefix.sees_universals k d below));
       }
     where
-      at : (es : List Existential) → AllByRecursion (λ y. IsVariable f.variables y.variable) es → (k : ℕ) (d : Existential) → k < length es →
+      at : (es : List Existential) → AllByRecursion (λ y. IsVariable f.variables y.variable) es →
+          (k : ℕ) (d : Existential) → k < length es →
           IsVariable f.variables (get_or es k d).variable
       at [] are k d below = absurd (omega (arith, below))
       at (y ∷ es) are zero d below = are.0
@@ -204,7 +219,8 @@ module _ (f : Dqbf) (is : IsSpellable f) where
 
   bound : AllByRecursion (AllByRecursion (λ l. Contains (declared f) (variable_of l))) f.matrix
   bound =
-      each (All (λ l. Contains (declared f) (variable_of l))) (AllByRecursion (λ l. Contains (declared f) (variable_of l)))
+      each (All (λ l. Contains (declared f) (variable_of l)))
+      (AllByRecursion (λ l. Contains (declared f) (variable_of l)))
       (λ ls all. by_recursion (λ l. Contains (declared f) (variable_of l)) ls all) f.matrix
       (by_recursion (All (λ l. Contains (declared f) (variable_of l))) f.matrix is.well_formed.bound)
 
@@ -212,7 +228,8 @@ module _ (f : Dqbf) (is : IsSpellable f) where
   literals_in_range =
       each (AllByRecursion (λ l. Contains (declared f) (variable_of l))) (AllByRecursion (InRange f.variables))
       (λ ls all. each (λ l. Contains (declared f) (variable_of l)) (InRange f.variables)
-      (λ l among. All-contains (IsVariable f.variables) (declared f) (variable_of l) is.lawful.prefix.in_range among) ls all)
+      (λ l among. All-contains (IsVariable f.variables) (declared f)
+      (variable_of l) is.lawful.prefix.in_range among) ls all)
       f.matrix bound
 
   different : AllByRecursion AreDifferent f.matrix
@@ -224,11 +241,13 @@ module _ (f : Dqbf) (is : IsSpellable f) where
       record {
         variables = omega (arith, few);
         clauses = omega (arith, is.lawful.few_clauses);
-        universals = each (IsVariable f.variables) (λ n. n < 10 ^ 18) (λ v range. omega (arith, range.1, few)) f.universals universals_in_range;
+        universals = each (IsVariable f.variables) (λ n. n < 10 ^ 18)
+            (λ v range. omega (arith, range.1, few)) f.universals universals_in_range;
         existentials = each (IsDeclarable f.variables f.universals) IsSmall
             (λ y is_one. record {
               variable = omega (arith, is_one.is_variable.1, few);
-              sees = each (IsKnown f.variables f.universals) (λ n. n < 10 ^ 18) (λ x one. omega (arith, one.1, few)) y.sees is_one.known;
+              sees = each (IsKnown f.variables f.universals) (λ n. n < 10 ^ 18)
+                  (λ x one. omega (arith, one.1, few)) y.sees is_one.known;
             }) f.existentials are_declarable;
         literals = each (AllByRecursion (InRange f.variables)) (AllByRecursion IsNumbered)
             (λ ls all. each (InRange f.variables) IsNumbered (λ l range. (range.0, omega (arith, range.1, few))) ls all)
@@ -236,9 +255,11 @@ module _ (f : Dqbf) (is : IsSpellable f) where
       }
 
   -- what the canonical text's parts and clauses make up
-  made_up : with_free (fold add_constraint (fold declare (empty_formula f.variables) (parts_of f)) (map plain f.matrix)) ≡ f
+  made_up : with_free (fold add_constraint (fold declare (empty_formula f.variables) (parts_of f))
+      (map plain f.matrix)) ≡ f
   made_up =
-      ap (λ g. with_free (fold add_constraint g (map plain f.matrix))) (all_declared f.variables f.universals f.existentials are_declarable)
+      ap (λ g. with_free (fold add_constraint g (map plain f.matrix)))
+      (all_declared f.variables f.universals f.existentials are_declarable)
       ∙ ap with_free (clauses_added (prefix f.variables f.universals f.existentials) f.matrix different)
       ∙ ap (λ vs. record f { existentials = f.existentials ++ map unseeing vs }) (none_free f bound)
       ∙ ap (λ es. record f { existentials = es }) (append-nil f.existentials)
@@ -248,12 +269,15 @@ module _ (f : Dqbf) (is : IsSpellable f) where
     parts = parts_of f;
     constraints = map plain f.matrix;
     spelling = canonical_lexemes f small
-        ∙ ap (λ n. header f.variables n ++ (flat_map part_lexemes (parts_of f) ++ flat_map clause_lexemes f.matrix)) (sym (length-map f.matrix plain))
-        ∙ ap (λ zs. header f.variables (length (map plain f.matrix)) ++ (flat_map part_lexemes (parts_of f) ++ zs)) (sym (plain_lexemes f.matrix));
+        ∙ ap (λ n. header f.variables n ++ (flat_map part_lexemes (parts_of f) ++ flat_map clause_lexemes f.matrix))
+        (sym (length-map f.matrix plain))
+        ∙ ap (λ zs. header f.variables (length (map plain f.matrix)) ++ (flat_map part_lexemes (parts_of f) ++ zs))
+        (sym (plain_lexemes f.matrix));
     few_variables = is.lawful.few_variables;
     few_constraints = omega (arith, is.lawful.few_clauses, length-map f.matrix plain);
     few_clauses = is.lawful.few_clauses;
-    lawful_parts = all_lawful f.variables f.universals f.existentials universals_in_range are_declarable is.lawful.prefix.declared_once;
+    lawful_parts = all_lawful f.variables f.universals f.existentials universals_in_range are_declarable
+        is.lawful.prefix.declared_once;
     lawful_constraints = plain_lawful f.variables f.matrix literals_in_range;
     formula = sym made_up;
   }

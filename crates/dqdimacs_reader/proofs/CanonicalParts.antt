@@ -37,20 +37,23 @@ prefix variables universals existentials =
 abbrev pub IsVariable : ℕ → ℕ → Type 0
 IsVariable variables v = (1 ≤ v) × (v ≤ variables)
 
-universals_new : (variables : ℕ) (done rest : List ℕ) → AllByRecursion (IsVariable variables) rest → AreDistinct (done ++ rest) →
+universals_new : (variables : ℕ) (done rest : List ℕ) → AllByRecursion (IsVariable variables) rest →
+    AreDistinct (done ++ rest) →
     AreNew add_universal (prefix variables done []) rest
 universals_new variables done [] are pairs = tt
 universals_new variables done (v ∷ rest) are pairs =
     let undeclared = ap (list_any (λ x. x == v)) (append-nil done) ∙ no_earlier done rest v pairs in (
       record { from_one = are.0.0; in_range = are.0.1; undeclared = undeclared },
-      universals_new variables (done ++ v ∷ []) rest are.1 (subst AreDistinct (sym (append_assoc done (v ∷ []) rest)) pairs),
+      universals_new variables (done ++ v ∷ []) rest are.1 (subst AreDistinct
+          (sym (append_assoc done (v ∷ []) rest)) pairs),
     )
 
 universals_declared : (variables : ℕ) (done rest : List ℕ) →
     fold add_universal (prefix variables done []) rest ≡ prefix variables (done ++ rest) []
 universals_declared variables done [] = ap (λ us. prefix variables us []) (sym (append-nil done))
 universals_declared variables done (v ∷ rest) =
-    universals_declared variables (done ++ v ∷ []) rest ∙ ap (λ us. prefix variables us []) (append_assoc done (v ∷ []) rest)
+    universals_declared variables (done ++ v ∷ []) rest ∙ ap (λ us. prefix variables us [])
+    (append_assoc done (v ∷ []) rest)
 
 -- an existential whose set is of the formula's universals, in order of declaration
 pub record IsOrdered (universals : List ℕ) (y : Existential) : Type 0 where
@@ -77,7 +80,8 @@ existentials_declared : (variables : ℕ) (us : List ℕ) (done rest : List Exis
     fold declare (prefix variables us done) (map (part_of us) rest) ≡ prefix variables us (done ++ rest)
 existentials_declared variables us done [] ordered = ap (prefix variables us) (sym (append-nil done))
 existentials_declared variables us done (y ∷ rest) ordered =
-    ap (λ f. fold declare f (map (part_of us) rest)) (declares_one (length y.sees == length us) variables us done y refl ordered.0)
+    ap (λ f. fold declare f (map (part_of us) rest)) (declares_one
+    (length y.sees == length us) variables us done y refl ordered.0)
     ∙ existentials_declared variables us (done ++ y ∷ []) rest ordered.1
     ∙ ap (prefix variables us) (append_assoc done (y ∷ []) rest)
 
@@ -100,15 +104,18 @@ distinct_behind : (us : List ℕ) (done rest : List Existential) (y : Existentia
     AreDistinct ((us ++ map variable done) ++ map variable (y ∷ rest)) →
     AreDistinct ((us ++ map variable (done ++ y ∷ [])) ++ map variable rest)
 distinct_behind us done rest y pairs =
-    let here = ap (λ vs. (us ++ vs) ++ map variable rest) (map-append variable done (y ∷ [])) ∙ moved us (map variable done) y.variable (map variable rest) in
+    let here = ap (λ vs. (us ++ vs) ++ map variable rest) (map-append variable done (y ∷ [])) ∙ moved us
+    (map variable done) y.variable (map variable rest) in
     subst AreDistinct (sym here) pairs
 
 lawful_part : (whole : Bool) (variables : ℕ) (us : List ℕ) (done : List Existential) (y : Existential) →
-    IsNew (prefix variables us done) y.variable → IsDeclarable variables us y → IsLawfulPart (prefix variables us done) (part_by whole y)
+    IsNew (prefix variables us done) y.variable → IsDeclarable variables us y →
+    IsLawfulPart (prefix variables us done) (part_by whole y)
 lawful_part true variables us done y new is = (new, tt)
 lawful_part false variables us done y new is = (new, is.known)
 
-parts_lawful : (variables : ℕ) (us : List ℕ) (done rest : List Existential) → AllByRecursion (IsDeclarable variables us) rest →
+parts_lawful : (variables : ℕ) (us : List ℕ) (done rest : List Existential) →
+    AllByRecursion (IsDeclarable variables us) rest →
     AreDistinct ((us ++ map variable done) ++ map variable rest) →
     AreLawfulParts (prefix variables us done) (map (part_of us) rest)
 parts_lawful variables us done [] are pairs = tt
@@ -120,7 +127,8 @@ parts_lawful variables us done (y ∷ rest) are pairs =
       undeclared = no_earlier (us ++ map variable done) (map variable rest) y.variable pairs;
     } in (
       lawful_part whole variables us done y new are.0,
-      subst (λ f. AreLawfulParts f (map (part_of us) rest)) (sym (declares_one whole variables us done y refl are.0.ordered))
+      subst (λ f. AreLawfulParts f (map (part_of us) rest)) (sym
+          (declares_one whole variables us done y refl are.0.ordered))
           (parts_lawful variables us (done ++ y ∷ []) rest are.1 (distinct_behind us done rest y pairs)),
     )
 
@@ -133,7 +141,8 @@ all_lawful variables (x ∷ xs) es in_range are pairs =
     let us = x ∷ xs in (
       universals_new variables [] us in_range (front_distinct us (map variable es) pairs),
       subst (λ f. AreLawfulParts f (map (part_of us) es)) (sym (universals_declared variables [] us))
-          (parts_lawful variables us [] es are (subst (λ vs. AreDistinct (vs ++ map variable es)) (sym (append-nil us)) pairs)),
+          (parts_lawful variables us [] es are (subst (λ vs. AreDistinct (vs ++ map variable es))
+          (sym (append-nil us)) pairs)),
     )
   where
     front_distinct : (front back : List ℕ) → AreDistinct (front ++ back) → AreDistinct front
@@ -142,11 +151,13 @@ all_lawful variables (x ∷ xs) es in_range are pairs =
         let second = get_or_append_left front back d j below in
         λ h. distinct i j d before (omega (arith, below, length-append front back)) (first ∙ h ∙ sym second)
 
-ordered_of : (variables : ℕ) (us : List ℕ) (es : List Existential) → AllByRecursion (IsDeclarable variables us) es → AreOrdered us es
+ordered_of : (variables : ℕ) (us : List ℕ) (es : List Existential) → AllByRecursion (IsDeclarable variables us) es →
+    AreOrdered us es
 ordered_of variables us [] are = tt
 ordered_of variables us (y ∷ es) are = (are.0.ordered, ordered_of variables us es are.1)
 
-pub all_declared : (variables : ℕ) (us : List ℕ) (es : List Existential) → AllByRecursion (IsDeclarable variables us) es →
+pub all_declared : (variables : ℕ) (us : List ℕ) (es : List Existential) →
+    AllByRecursion (IsDeclarable variables us) es →
     fold declare (empty_formula variables) (universal_parts us ++ map (part_of us) es) ≡ prefix variables us es
 all_declared variables [] es are = existentials_declared variables [] [] es (ordered_of variables [] es are)
 all_declared variables (x ∷ xs) es are =

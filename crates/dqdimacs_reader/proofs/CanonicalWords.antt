@@ -58,7 +58,8 @@ natural_line n rest small =
     ∙ ap (map lexeme_of) (digits_line InLine (decimal n) rest tt of.some of.are)
     ∙ ap (λ lexeme. lexeme ∷ lexemes LineStart rest) (natural_word n small)
 
-end_lexemes : (place : LinePlace) (rest : List ℕ) → IsOpen place → lexemes place (line_end ++ rest) ≡ Natural 0 ∷ lexemes LineStart rest
+end_lexemes : (place : LinePlace) (rest : List ℕ) → IsOpen place →
+    lexemes place (line_end ++ rest) ≡ Natural 0 ∷ lexemes LineStart rest
 end_lexemes place rest start = ap (map lexeme_of) (word_line place 48 [] rest start refl tt)
 
 abbrev pub AreSmall : List ℕ → Type 0
@@ -73,7 +74,8 @@ numbers_lexemes (n ∷ ns) rest small =
     ∙ ap (λ more. Natural n ∷ more) (numbers_lexemes ns rest small.1)
 
 line_lexemes : (letter : ℕ) (ns rest : List ℕ) → kind_of letter ≡ Other → AreSmall ns →
-    lexemes LineStart (numbers_line letter ns ++ rest) ≡ lexeme_of (letter ∷ []) ∷ (numbers ns ++ lexemes LineStart rest)
+    lexemes LineStart (numbers_line letter ns ++ rest) ≡ lexeme_of (letter ∷ []) ∷
+    (numbers ns ++ lexemes LineStart rest)
 line_lexemes letter ns rest other small =
     ap (λ bytes. lexemes LineStart (letter ∷ 32 ∷ bytes)) (append_assoc (flat_map number_text ns) line_end rest)
     ∙ ap (map lexeme_of) (word_space LineStart letter [] (flat_map number_text ns ++ (line_end ++ rest)) tt other tt)
@@ -83,7 +85,8 @@ header_lexemes : (f : Dqbf) (rest : List ℕ) → f.variables < 10 ^ 18 → leng
     lexemes LineStart (header_text f ++ rest) ≡ header f.variables (length f.matrix) ++ lexemes LineStart rest
 header_lexemes f rest few_variables few_clauses =
     let behind = decimal (length f.matrix) ++ 10 ∷ [] in
-    ap (map lexeme_of) (word_space LineStart 112 [] (99 ∷ 110 ∷ 102 ∷ 32 ∷ ((number_text f.variables ++ behind) ++ rest)) tt refl tt)
+    ap (map lexeme_of) (word_space LineStart 112 [] (99 ∷ 110 ∷ 102 ∷ 32 ∷
+    ((number_text f.variables ++ behind) ++ rest)) tt refl tt)
     ∙ ap (λ bytes. LetterP ∷ Cnf ∷ lexemes InLine bytes) (append_assoc (number_text f.variables) behind rest)
     ∙ ap (λ more. LetterP ∷ Cnf ∷ more) (natural_space InLine f.variables (behind ++ rest) tt few_variables)
     ∙ ap (λ more. LetterP ∷ Cnf ∷ Natural f.variables ∷ more) (natural_line (length f.matrix) rest few_clauses)
@@ -102,7 +105,8 @@ literal_space place (negative (suc n)) rest start is =
     ∙ ap (map lexeme_of) (word_space place 45 (decimal (suc n)) rest start refl (digits_other (decimal (suc n)) of.are))
     ∙ ap (λ lexeme. lexeme ∷ lexemes InLine rest) (negative_word n is.1)
 
-clause_lexemes_of : (place : LinePlace) (ls : List Literal) (rest : List ℕ) → IsOpen place → AllByRecursion IsNumbered ls →
+clause_lexemes_of : (place : LinePlace) (ls : List Literal) (rest : List ℕ) → IsOpen place →
+    AllByRecursion IsNumbered ls →
     lexemes place (flat_map literal_text ls ++ (line_end ++ rest)) ≡ clause_lexemes ls ++ lexemes LineStart rest
 clause_lexemes_of place [] rest start are = end_lexemes place rest start
 clause_lexemes_of place (l ∷ ls) rest start are =
@@ -131,7 +135,8 @@ pub record IsSmall (y : Existential) : Type 0 where
   pub sees : AreSmall y.sees
 
 existential_lexemes : (all : Bool) (y : Existential) (rest : List ℕ) → IsSmall y →
-    lexemes LineStart ((if all then numbers_line 101 (y.variable ∷ []) else numbers_line 100 (y.variable ∷ y.sees)) ++ rest)
+    lexemes LineStart ((if all then numbers_line 101 (y.variable ∷ []) else numbers_line 100 (y.variable ∷ y.sees))
+    ++ rest)
     ≡ part_lexemes (part_by all y) ++ lexemes LineStart rest
 existential_lexemes true y rest small = line_lexemes 101 (y.variable ∷ []) rest refl (small.variable, tt)
 existential_lexemes false y rest small = line_lexemes 100 (y.variable ∷ y.sees) rest refl (small.variable, small.sees)
@@ -145,7 +150,8 @@ existentials_lexemes universals (y ∷ es) rest are =
     ap (lexemes LineStart) (append_assoc (existential_text universals y) more rest)
     ∙ existential_lexemes (length y.sees == length universals) y (more ++ rest) are.0
     ∙ ap (λ behind. part_lexemes (part_of universals y) ++ behind) (existentials_lexemes universals es rest are.1)
-    ∙ sym (append_assoc (part_lexemes (part_of universals y)) (flat_map part_lexemes (map (part_of universals) es)) (lexemes LineStart rest))
+    ∙ sym (append_assoc (part_lexemes (part_of universals y)) (flat_map part_lexemes (map (part_of universals) es))
+    (lexemes LineStart rest))
 
 -- the parts of a formula's canonical text
 abbrev pub universal_parts : List ℕ → List Part
@@ -156,7 +162,8 @@ abbrev pub parts_of : Dqbf → List Part
 parts_of f = universal_parts f.universals ++ map (part_of f.universals) f.existentials
 
 universals_lexemes : (us rest : List ℕ) → AreSmall us →
-    lexemes LineStart (universals_text us ++ rest) ≡ flat_map part_lexemes (universal_parts us) ++ lexemes LineStart rest
+    lexemes LineStart (universals_text us ++ rest) ≡ flat_map part_lexemes
+    (universal_parts us) ++ lexemes LineStart rest
 universals_lexemes [] rest small = refl
 universals_lexemes (x ∷ xs) rest small =
     line_lexemes 97 (x ∷ xs) rest refl small
@@ -185,4 +192,5 @@ canonical_lexemes f small =
     ∙ ap (λ more. head ++ (front ++ more)) (existentials_lexemes f.universals f.existentials cs small.existentials)
     ∙ ap (λ more. head ++ (front ++ (behind ++ more))) (clauses_lexemes f.matrix small.literals)
     ∙ ap (λ more. head ++ more) (sym (append_assoc front behind matrix))
-    ∙ ap (λ more. head ++ (more ++ matrix)) (sym (flat_map-append part_lexemes (universal_parts f.universals) (map (part_of f.universals) f.existentials)))
+    ∙ ap (λ more. head ++ (more ++ matrix)) (sym (flat_map-append part_lexemes (universal_parts f.universals)
+    (map (part_of f.universals) f.existentials)))

@@ -13,13 +13,15 @@ pub variable_at : (f : Dqbf) (i : ℕ) → i < length f.existentials →
     get_or (existential_variables f) i 0 ≡ (existential_at f i).variable
 variable_at f i below = get_or-map (λ y. y.variable) f.existentials i (unseeing 0) 0 below
 
-pub named_at : (f : Dqbf) (i : ℕ) → All (λ y. existential_of f y.variable ≡ Some y) f.existentials → i < length f.existentials →
+pub named_at : (f : Dqbf) (i : ℕ) → All (λ y. existential_of f y.variable ≡ Some y) f.existentials →
+    i < length f.existentials →
     existential_of f (get_or (existential_variables f) i 0) ≡ Some (existential_at f i)
 named_at f i named below =
     ap (existential_of f) (variable_at f i below)
     ∙ All-get_or (λ y. existential_of f y.variable ≡ Some y) f.existentials i (unseeing 0) below named
 
-pub below_existentials : (f : Dqbf) (vars : List ℕ) (i : ℕ) → vars ≡ existential_variables f → i < length vars → i < length f.existentials
+pub below_existentials : (f : Dqbf) (vars : List ℕ) (i : ℕ) → vars ≡ existential_variables f → i < length vars →
+    i < length f.existentials
 below_existentials f vars i are below = omega (arith, below, ap length are, length-map f.existentials (λ y. y.variable))
 
 pub named_in : (f : Dqbf) (vars : List ℕ) (i : ℕ) → All (λ y. existential_of f y.variable ≡ Some y) f.existentials →
@@ -36,7 +38,8 @@ pub is_some : {X : Type 0} (x : Option X) (y : X) → x ≡ Some y → IsSome x
 is_some x y is = subst IsSome (sym is) refl
 
 -- an element's bytes move in front of those of the elements behind it
-pub one_more : {X : Type 0} (bytes_of : X → List ℕ) (xs : List X) (i : ℕ) (d : X) (old new start : List ℕ) → i < length xs →
+pub one_more : {X : Type 0} (bytes_of : X → List ℕ) (xs : List X) (i : ℕ) (d : X) (old new start : List ℕ) →
+    i < length xs →
     new ≡ old ++ bytes_of (get_or xs i d) → old ++ flat_map bytes_of (drop i xs) ≡ start →
     new ++ flat_map bytes_of (drop (i + 1) xs) ≡ start
 one_more bytes_of xs i d old new start below grown so_far =

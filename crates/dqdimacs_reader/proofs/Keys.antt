@@ -20,7 +20,8 @@ key_same (positive v) (negative w) = ne_eqb (2 * v) (2 * w + 1) (λ e. omega ari
 key_same (negative v) (positive w) = ne_eqb (2 * v + 1) (2 * w) (λ e. omega arith)
 key_same (negative v) (negative w) = same_test (2 * v + 1) (2 * w + 1) w v (λ e. omega arith) (λ e. omega arith)
 
-keys_tell : (l : Literal) (literals : List Literal) → list_any (λ k. k == literal_key l) (map literal_key literals) ≡ list_any (same_literal l) literals
+keys_tell : (l : Literal) (literals : List Literal) → list_any (λ k. k == literal_key l) (map literal_key literals)
+    ≡ list_any (same_literal l) literals
 keys_tell l [] = refl
 keys_tell l (k ∷ literals) =
     ap (λ b. b || list_any (λ j. j == literal_key l) (map literal_key literals)) (key_same k l)
@@ -35,7 +36,8 @@ or_assoc true b c = refl
 or_assoc false b c = refl
 
 one_more : (l : Literal) (literals : List Literal) (n : ℕ)
-    → has_number (map literal_key (literals ++ l ∷ [])) n ≡ (has_number (map literal_key literals) n || (literal_key l == n))
+    → has_number (map literal_key (literals ++ l ∷ [])) n ≡ (has_number (map literal_key literals) n ||
+    (literal_key l == n))
 one_more l [] n = or_false (literal_key l == n)
 one_more l (k ∷ literals) n =
     ap (λ b. (literal_key k == n) || b) (one_more l literals n)

@@ -15,26 +15,31 @@ other_word d w ds ws differs = ap (λ b. b && bytes_eq ds ws) (ne_eqb d w differ
 
 -- a word that begins with another byte than the letters is what it is as a number
 abbrev pub behind_letters : Bool → Bool → Bool → Bool → Bool → Bool → Lexeme → Lexeme
-behind_letters p c a d e x rest = if p then LetterP else if c then Cnf else if a then A else if d then D else if e then E else if x then X else rest
+behind_letters p c a d e x rest = if p then LetterP else if c then Cnf else if a then A else if d then D else if e then
+    E else if x then X else rest
 
-pub no_letter : (p c a d e x : Bool) (rest : Lexeme) → p ≡ false → c ≡ false → a ≡ false → d ≡ false → e ≡ false → x ≡ false → behind_letters p c a d e x rest ≡ rest
+pub no_letter : (p c a d e x : Bool) (rest : Lexeme) → p ≡ false → c ≡ false → a ≡ false → d ≡ false → e ≡ false →
+    x ≡ false → behind_letters p c a d e x rest ≡ rest
 no_letter p c a d e x rest hp hc ha hd he hx =
     ap (λ b. behind_letters b c a d e x rest) hp ∙ ap (λ b. behind_letters false b a d e x rest) hc
     ∙ ap (λ b. behind_letters false false b d e x rest) ha ∙ ap (λ b. behind_letters false false false b e x rest) hd
-    ∙ ap (λ b. behind_letters false false false false b x rest) he ∙ ap (λ b. behind_letters false false false false false b rest) hx
+    ∙ ap (λ b. behind_letters false false false false b x rest) he ∙ ap
+    (λ b. behind_letters false false false false false b rest) hx
 
 pub no_word : (d : ℕ) (ds : List ℕ) (rest : Lexeme) → d < 97 → word_or (d ∷ ds) rest ≡ rest
 no_word d ds rest small =
     no_letter (bytes_eq (d ∷ ds) (112 ∷ [])) (bytes_eq (d ∷ ds) (99 ∷ 110 ∷ 102 ∷ [])) (bytes_eq (d ∷ ds) (97 ∷ []))
     (bytes_eq (d ∷ ds) (100 ∷ [])) (bytes_eq (d ∷ ds) (101 ∷ [])) (bytes_eq (d ∷ ds) (120 ∷ [])) rest
     (other_word d 112 ds [] (λ h. omega arith)) (other_word d 99 ds (110 ∷ 102 ∷ []) (λ h. omega arith))
-    (other_word d 97 ds [] (λ h. omega arith)) (other_word d 100 ds [] (λ h. omega arith)) (other_word d 101 ds [] (λ h. omega arith))
+    (other_word d 97 ds [] (λ h. omega arith)) (other_word d 100 ds [] (λ h. omega arith))
+    (other_word d 101 ds [] (λ h. omega arith))
     (other_word d 120 ds [] (λ h. omega arith))
 
 number_first : (d : ℕ) (ds : List ℕ) → d < 97 → lexeme_of (d ∷ ds) ≡ number_lexeme (d == 45) (number_of (d ∷ ds))
 number_first d ds small = no_word d ds (number_lexeme (d == 45) (number_of (d ∷ ds))) small
 
-digits_lexeme : (ds : List ℕ) (n : ℕ) → 0 < length ds → AreDigits ds → number_of ds ≡ Int (pos n) → lexeme_of ds ≡ Natural n
+digits_lexeme : (ds : List ℕ) (n : ℕ) → 0 < length ds → AreDigits ds → number_of ds ≡ Int (pos n) →
+    lexeme_of ds ≡ Natural n
 digits_lexeme [] n some are is = absurd (omega (arith, some))
 digits_lexeme (d ∷ ds) n some are is =
     let range = tells.parts d ds are in
@@ -43,7 +48,9 @@ digits_lexeme (d ∷ ds) n some are is =
     ∙ ap (number_lexeme false) is
 
 pub natural_word : (n : ℕ) → n < 10 ^ 18 → lexeme_of (decimal n) ≡ Natural n
-natural_word n small = let of = decimal_digits n small in digits_lexeme (decimal n) n of.some of.are (natural_is_read n small)
+natural_word n small = let of = decimal_digits n small in digits_lexeme (decimal n) n of.some of.are
+    (natural_is_read n small)
 
 pub negative_word : (n : ℕ) → suc n < 10 ^ 18 → lexeme_of (45 ∷ decimal (suc n)) ≡ Negative (suc n)
-negative_word n small = number_first 45 (decimal (suc n)) (omega arith) ∙ ap (number_lexeme true) (negative_is_read n small)
+negative_word n small = number_first 45 (decimal (suc n)) (omega arith) ∙ ap (number_lexeme true)
+    (negative_is_read n small)

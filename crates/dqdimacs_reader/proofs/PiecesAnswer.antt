@@ -28,8 +28,10 @@ not_cnf false q r = refl
 longer_word : (a b c d : ℕ) (bytes : List ℕ) (rest : Lexeme) → word_or (a ∷ b ∷ c ∷ d ∷ bytes) rest ≡ rest
 longer_word a b c d bytes rest =
     let text = a ∷ b ∷ c ∷ d ∷ bytes in
-    no_letter (bytes_eq text (codes "p")) (bytes_eq text (codes "cnf")) (bytes_eq text (codes "a")) (bytes_eq text (codes "d")) (bytes_eq text (codes "e")) (bytes_eq text (codes "x")) rest
-    (never (a == 112)) (not_cnf (a == 99) (b == 110) (c == 102)) (never (a == 97)) (never (a == 100)) (never (a == 101)) (never (a == 120))
+    no_letter (bytes_eq text (codes "p")) (bytes_eq text (codes "cnf")) (bytes_eq text (codes "a"))
+    (bytes_eq text (codes "d")) (bytes_eq text (codes "e")) (bytes_eq text (codes "x")) rest
+    (never (a == 112)) (not_cnf (a == 99) (b == 110) (c == 102)) (never (a == 97)) (never (a == 100)) (never (a == 101))
+    (never (a == 120))
 
 head_word : (text : List ℕ) (rest : Lexeme) → head_or (head_of text) rest ≡ word_or text rest
 head_word [] rest = refl
@@ -52,14 +54,18 @@ summary_is tells text =
     ∙ ap (λ n. head_or (head_of text) (number_lexeme (begins_with_minus text) n)) (tells.number text)
     ∙ head_word text (number_lexeme (begins_with_minus text) (number_of text))
 
-read_tokens : Tells → (tokens : List TextToken) (state : State) (last_line : ℕ) → read_summaries state (map summarized tokens) last_line ≡ read_from state tokens last_line
+read_tokens : Tells → (tokens : List TextToken) (state : State) (last_line : ℕ) →
+    read_summaries state (map summarized tokens) last_line ≡ read_from state tokens last_line
 read_tokens tells [] state last_line = refl
 read_tokens tells (token ∷ tokens) state last_line =
-    ap (λ l. unless_fault (check state l) token.line (read_summaries (advance state l) (map summarized tokens) last_line)) (summary_is tells token.text)
-    ∙ ap (unless_fault (check state (lexeme_of token.text)) token.line) (read_tokens tells tokens (advance state (lexeme_of token.text)) last_line)
+    ap (λ l. unless_fault (check state l) token.line (read_summaries (advance state l)
+    (map summarized tokens) last_line)) (summary_is tells token.text)
+    ∙ ap (unless_fault (check state (lexeme_of token.text)) token.line)
+    (read_tokens tells tokens (advance state (lexeme_of token.text)) last_line)
 
 -- what is read of a text's summarized tokens is read of the text
-pub whole_is_read : Tells → (text : List ℕ) (tokens : List SummarizedToken) (last_line : ℕ) → tokens ≡ map summarized (tokens_of text) → last_line ≡ last_line_of text →
+pub whole_is_read : Tells → (text : List ℕ) (tokens : List SummarizedToken) (last_line : ℕ) →
+    tokens ≡ map summarized (tokens_of text) → last_line ≡ last_line_of text →
     read_summaries before_header tokens last_line ≡ reading text
 whole_is_read tells text tokens last_line same ends =
     ap (λ ts. read_summaries before_header ts last_line) same
@@ -69,27 +75,33 @@ whole_is_read tells text tokens last_line same ends =
 -- a step backwards: what may be answered behind a token may be answered before it
 pub before_token : (state : State) (lexeme : Lexeme) (line : ℕ) (next : Progress) → goes_to state lexeme line next →
     (token : SummarizedToken) (tokens : List SummarizedToken) (last : ℕ) (answer : Result Dqbf ReadStop) →
-    summary_lexeme token.summary ≡ lexeme → token.line ≡ line → may_answer next tokens last answer → may_answer (goes_on state) (token ∷ tokens) last answer
+    summary_lexeme token.summary ≡ lexeme → token.line ≡ line → may_answer next tokens last answer →
+    may_answer (goes_on state) (token ∷ tokens) last answer
 before_token state lexeme line (goes_on following) goes token tokens last answer is at may =
     let l = summary_lexeme token.summary in
-    let same : unless_fault (check state l) token.line (read_summaries (advance state l) tokens last) ≡ read_summaries following tokens last =
+    let same : unless_fault (check state l) token.line (read_summaries (advance state l) tokens last)
+    ≡ read_summaries following tokens last =
     ap (λ k. unless_fault (check state k) token.line (read_summaries (advance state k) tokens last)) is
     ∙ ap (λ o. unless_fault o token.line (read_summaries (advance state lexeme) tokens last)) goes.0
     ∙ ap (λ s. read_summaries s tokens last) (sym goes.1) in
     subst (λ r. IsReading r answer) (sym same) may
 before_token state lexeme line (has_stopped (Refused number name)) goes token tokens last answer is at may =
     let l = summary_lexeme token.summary in
-    let same : unless_fault (check state l) token.line (read_summaries (advance state l) tokens last) ≡ Err (record { line = number; name = name }) =
+    let same : unless_fault (check state l) token.line (read_summaries (advance state l) tokens last) ≡ Err
+    (record { line = number; name = name }) =
     ap (λ k. unless_fault (check state k) token.line (read_summaries (advance state k) tokens last)) is
     ∙ ap (λ o. unless_fault o token.line (read_summaries (advance state lexeme) tokens last)) goes.0
     ∙ ap (λ n. Err (record { line = n; name = name })) (at ∙ sym goes.1) in
-    subst (λ a. IsReading (unless_fault (check state l) token.line (read_summaries (advance state l) tokens last)) a) (sym may) same
+    subst (λ a. IsReading (unless_fault (check state l) token.line (read_summaries (advance state l) tokens last)) a)
+    (sym may) same
 before_token state lexeme line (has_stopped Memory) goes token tokens last answer is at may =
     let l = summary_lexeme token.summary in
-    subst (λ a. IsReading (unless_fault (check state l) token.line (read_summaries (advance state l) tokens last)) a) (sym may) tt
+    subst (λ a. IsReading (unless_fault (check state l) token.line (read_summaries (advance state l) tokens last)) a)
+    (sym may) tt
 
 -- once it has stopped, its answer rests on no token
-pub stays : (progress : Progress) → has_ended progress ≡ true → (tokens others : List SummarizedToken) (last other : ℕ) (answer : Result Dqbf ReadStop) →
+pub stays : (progress : Progress) → has_ended progress ≡ true →
+    (tokens others : List SummarizedToken) (last other : ℕ) (answer : Result Dqbf ReadStop) →
     may_answer progress tokens last answer → may_answer progress others other answer
 stays (goes_on state) ended tokens others last other answer may = cc
 stays (has_stopped stop) ended tokens others last other answer may = may

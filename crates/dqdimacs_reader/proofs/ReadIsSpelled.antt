@@ -40,7 +40,8 @@ record Completes (r : Reading) (lexemes : List Lexeme) (f : Dqbf) : Type 0 where
   formula : f ≡ with_free (fold add_constraint (fold declare r.formula parts) constraints)
 
 -- numbers that a list of variables ends with, and what completes the reading behind them
-record CompletesList (new : List ℕ → Type 0) (then_reading : List ℕ → Reading) (lexemes : List Lexeme) (f : Dqbf) : Type 0 where
+record CompletesList (new : List ℕ → Type 0) (then_reading : List ℕ → Reading) (lexemes : List Lexeme)
+    (f : Dqbf) : Type 0 where
   vs : List ℕ
   rest : List Lexeme
   spelling : lexemes ≡ numbers vs ++ rest
@@ -67,7 +68,8 @@ record CompletesDependent (r : Reading) (lexemes : List Lexeme) (f : Dqbf) : Typ
   rest : List Lexeme
   spelling : lexemes ≡ Natural y ∷ rest
   new : IsNew r.formula y
-  completed : CompletesList (AllByRecursion (IsSeen r.formula)) (λ xs. with_formula r (add_listed r.formula y xs)) rest f
+  completed : CompletesList (AllByRecursion (IsSeen r.formula))
+      (λ xs. with_formula r (add_listed r.formula y xs)) rest f
 
 abbrev CompletesState : State → List Lexeme → Dqbf → Type 0
 CompletesState before_header lexemes f = Unit {0}
@@ -75,11 +77,14 @@ CompletesState before_format lexemes f = Unit {0}
 CompletesState before_variables lexemes f = Unit {0}
 CompletesState (before_clauses _) lexemes f = Unit {0}
 CompletesState (at_part r) lexemes f = Completes r lexemes f
-CompletesState (in_universals r) lexemes f = CompletesList (AreNew add_universal r.formula) (λ vs. with_formula r (fold add_universal r.formula vs)) lexemes f
-CompletesState (in_existentials r) lexemes f = CompletesList (AreNew add_first r.formula) (λ vs. with_formula r (fold add_first r.formula vs)) lexemes f
+CompletesState (in_universals r) lexemes f = CompletesList (AreNew add_universal r.formula)
+    (λ vs. with_formula r (fold add_universal r.formula vs)) lexemes f
+CompletesState (in_existentials r) lexemes f = CompletesList (AreNew add_first r.formula)
+    (λ vs. with_formula r (fold add_first r.formula vs)) lexemes f
 CompletesState (at_dependent r) lexemes f = CompletesDependent r lexemes f
 CompletesState (in_dependencies r y before) lexemes f =
-    CompletesList (AllByRecursion (IsSeen r.formula)) (λ xs. with_formula r (add_listed r.formula y (before ++ xs))) lexemes f
+    CompletesList (AllByRecursion (IsSeen r.formula)) (λ xs. with_formula r (add_listed r.formula y (before ++ xs)))
+    lexemes f
 CompletesState (in_clause r clause) lexemes f = CompletesClause r clause lexemes f
 CompletesState (in_xor r before) lexemes f = CompletesXor r before lexemes f
 
@@ -108,24 +113,28 @@ IsCounted (in_dependencies r _ _) = IsWithin r
 IsCounted (in_clause r _) = IsDue r
 IsCounted (in_xor r literals) = IsDue r × IsXorLine literals
 
-no_fault_parts : (b : Bool) (name : FormulaFault) (rest : Option FormulaFault) → fault_if b name rest ≡ None → (b ≡ false) × (rest ≡ None)
+no_fault_parts : (b : Bool) (name : FormulaFault) (rest : Option FormulaFault) → fault_if b name rest ≡ None →
+    (b ≡ false) × (rest ≡ None)
 no_fault_parts true name rest h = cc
 no_fault_parts false name rest h = (refl, h)
 
-in_range_is : (r : Reading) (v : ℕ) (rest : Option FormulaFault) → check_range r v rest ≡ None → (v ≤ r.formula.variables) × (rest ≡ None)
+in_range_is : (r : Reading) (v : ℕ) (rest : Option FormulaFault) → check_range r v rest ≡ None →
+    (v ≤ r.formula.variables) × (rest ≡ None)
 in_range_is r v rest h =
     let parts = no_fault_parts (nat_lt r.formula.variables v) VarRange rest h in
     (ltb-false r.formula.variables v parts.0, parts.1)
 
 -- zero ends, other numbers go on
-ends_or_goes_on : (Q : State → Type 0) (v : ℕ) (ended more : State) → Q (cond (v == 0) ended more) → ((v ≡ 0) × Q ended) ⊎ ((v ≢ 0) × Q more)
+ends_or_goes_on : (Q : State → Type 0) (v : ℕ) (ended more : State) → Q (cond (v == 0) ended more) →
+    ((v ≡ 0) × Q ended) ⊎ ((v ≢ 0) × Q more)
 ends_or_goes_on Q v ended more h =
     elim (cases_eq v 0) [
       | inl zero ↦ inl (zero, subst (λ b. Q (cond b ended more)) (eq-eqb v 0 zero) h)
       | inr other ↦ inr (other, subst (λ b. Q (cond b ended more)) (ne_eqb v 0 other) h)
     ]
 
-either_state : (Q : State → Type 0) (v : ℕ) (ended more : State) → (v ≡ 0 → Q ended) → (v ≢ 0 → Q more) → Q (cond (v == 0) ended more)
+either_state : (Q : State → Type 0) (v : ℕ) (ended more : State) → (v ≡ 0 → Q ended) → (v ≢ 0 → Q more) →
+    Q (cond (v == 0) ended more)
 either_state Q v ended more here there =
     elim (cases_eq v 0) [
       | inl zero ↦ subst (λ b. Q (cond b ended more)) (sym (eq-eqb v 0 zero)) (here zero)
@@ -134,7 +143,8 @@ either_state Q v ended more here there =
 
 has_room : (r : Reading) (more : ℕ) → check_room r more ≡ None → length r.formula.matrix + more ≤ max_clauses
 has_room r more passed =
-    ltb-false max_clauses (length r.formula.matrix + more) (no_fault_parts (nat_lt max_clauses (length r.formula.matrix + more)) Limit None passed).0
+    ltb-false max_clauses (length r.formula.matrix + more) (no_fault_parts
+    (nat_lt max_clauses (length r.formula.matrix + more)) Limit None passed).0
 
 -- where a check has two branches, on zero and on other numbers
 at_zero : (v : ℕ) (here there : Option FormulaFault) → v ≡ 0 → cond (v == 0) here there ≡ None → here ≡ None
@@ -143,38 +153,61 @@ at_zero v here there zero passed = ap (λ b. cond b here there) (sym (eq-eqb v 0
 at_more : (v : ℕ) (here there : Option FormulaFault) → v ≢ 0 → cond (v == 0) here there ≡ None → there ≡ None
 at_more v here there other passed = ap (λ b. cond b here there) (sym (ne_eqb v 0 other)) ∙ passed
 
-grown_line : (r : Reading) (literals : List Literal) (v : ℕ) (l : Literal) → variable_of l ≡ v → IsXorLine literals → Goes r literals v → IsXorLine (literals ++ l ∷ [])
+grown_line : (r : Reading) (literals : List Literal) (v : ℕ) (l : Literal) → variable_of l ≡ v → IsXorLine literals →
+    Goes r literals v → IsXorLine (literals ++ l ∷ [])
 grown_line r literals v l on line g = record {
   few = omega (arith, g.room, length-append literals (l ∷ []));
   apart = stays_apart literals l line.apart (subst (λ w. list_any (stands_on w) literals ≡ false) (sym on) g.none);
 }
 
 counted_end : (r : Reading) (clause : List Literal) (v : ℕ) (l : Literal) → IsDue r → check_literal r v ≡ None →
-    IsCounted (cond (v == 0) (at_part (with_constraint r (add_clause r.formula clause))) (in_clause r (add_literal clause l)))
+    IsCounted (cond (v == 0) (at_part (with_constraint r (add_clause r.formula clause)))
+    (in_clause r (add_literal clause l)))
 counted_end r clause v l is passed =
-    either_state IsCounted v (at_part (with_constraint r (add_clause r.formula clause))) (in_clause r (add_literal clause l))
+    either_state IsCounted v (at_part (with_constraint r (add_clause r.formula clause)))
+    (in_clause r (add_literal clause l))
     (λ zero. record {
       counted = omega (arith, is.counted);
-      few = omega (arith, has_room r 1 (at_zero v (check_room r 1) (check_range r v None) zero passed), length-append r.formula.matrix (clause ∷ []));
+      few = omega (
+        arith,
+        has_room r 1 (at_zero v (check_room r 1) (check_range r v None) zero passed),
+        length-append r.formula.matrix (clause ∷ []),
+      );
     })
     (λ other. is)
 
-counted_xor_end : (r : Reading) (literals : List Literal) (v : ℕ) (l : Literal) → variable_of l ≡ v → IsDue r → IsXorLine literals →
+counted_xor_end : (r : Reading) (literals : List Literal) (v : ℕ) (l : Literal) → variable_of l ≡ v → IsDue r →
+    IsXorLine literals →
     cond (v == 0) (check_xor_end r literals) (check_xor_literal r literals v) ≡ None →
     IsCounted (cond (v == 0) (at_part (with_constraint r (add_xor r.formula literals))) (in_xor r (literals ++ l ∷ [])))
 counted_xor_end r literals v l on is line passed =
     either_state IsCounted v (at_part (with_constraint r (add_xor r.formula literals))) (in_xor r (literals ++ l ∷ []))
     (λ zero.
     let ends = at_zero v (check_xor_end r literals) (check_xor_literal r literals v) zero passed in
-    let room = has_room r (length (xor_clauses literals)) (no_fault_parts (length literals == 0) XorSize (check_room r (length (xor_clauses literals))) ends).1 in
-    record { counted = omega (arith, is.counted); few = omega (arith, room, length-append r.formula.matrix (xor_clauses literals)) })
-    (λ other. (is, grown_line r literals v l on line (goes r literals v (at_more v (check_xor_end r literals) (check_xor_literal r literals v) other passed))))
-
-is_due : (r : Reading) (rest : Option FormulaFault) → IsWithin r → fault_if (r.constraints == r.clauses) TooManyClauses rest ≡ None → IsDue r
-is_due r rest within passed =
-    let apart = eqb-false r.constraints r.clauses (no_fault_parts (r.constraints == r.clauses) TooManyClauses rest passed).0 in
+    let room = has_room r (length (xor_clauses literals)) (no_fault_parts (length literals == 0) XorSize
+    (check_room r (length (xor_clauses literals))) ends).1 in
     record {
-      counted = elim (cases_eq r.constraints r.clauses) [ inl same ↦ absurd (apart same) | inr other ↦ omega (arith, other, within.counted) ];
+      counted = omega (arith, is.counted);
+      few = omega
+          (arith, room, length-append r.formula.matrix (xor_clauses literals));
+    })
+    (λ other. (
+      is,
+      grown_line r literals v l on line (goes r literals v
+          (at_more v (check_xor_end r literals) (check_xor_literal r literals v) other passed)),
+    ))
+
+is_due : (r : Reading) (rest : Option FormulaFault) → IsWithin r →
+    fault_if (r.constraints == r.clauses) TooManyClauses rest ≡ None → IsDue r
+is_due r rest within passed =
+    let apart = eqb-false r.constraints r.clauses (no_fault_parts
+    (r.constraints == r.clauses) TooManyClauses rest passed).0 in
+    record {
+      counted = elim (cases_eq r.constraints r.clauses) [
+        | inl same ↦ absurd (apart same)
+        | inr other ↦
+            omega (arith, other, within.counted)
+      ];
       few = within.few;
     }
 
@@ -182,7 +215,8 @@ choose_state : (Q : State → Type 0) (b : Bool) (s t : State) → Q s → Q t �
 choose_state Q true s t here there = here
 choose_state Q false s t here there = there
 
-natural_or_is : (Q : State → Type 0) (other : State) (l : Lexeme) (next : ℕ → State) → Q other → ((n : ℕ) → Q (next n)) → Q (natural_or other l next)
+natural_or_is : (Q : State → Type 0) (other : State) (l : Lexeme) (next : ℕ → State) → Q other →
+    ((n : ℕ) → Q (next n)) → Q (natural_or other l next)
 natural_or_is Q other P next here there = here
 natural_or_is Q other Cnf next here there = here
 natural_or_is Q other A next here there = here
@@ -195,7 +229,8 @@ natural_or_is Q other Large next here there = here
 natural_or_is Q other NegativeLarge next here there = here
 natural_or_is Q other Other next here there = here
 
-counted_clause : (r : Reading) (clause : List Literal) (l : Lexeme) → IsDue r → check (in_clause r clause) l ≡ None → IsCounted (inside_clause r clause l)
+counted_clause : (r : Reading) (clause : List Literal) (l : Lexeme) → IsDue r → check (in_clause r clause) l ≡ None →
+    IsCounted (inside_clause r clause l)
 counted_clause r clause P is passed = is
 counted_clause r clause Cnf is passed = is
 counted_clause r clause A is passed = is
@@ -208,7 +243,8 @@ counted_clause r clause Large is passed = is
 counted_clause r clause NegativeLarge is passed = is
 counted_clause r clause Other is passed = is
 
-counted_xor : (r : Reading) (literals : List Literal) (l : Lexeme) → IsDue r → IsXorLine literals → check (in_xor r literals) l ≡ None → IsCounted (inside_xor r literals l)
+counted_xor : (r : Reading) (literals : List Literal) (l : Lexeme) → IsDue r → IsXorLine literals →
+    check (in_xor r literals) l ≡ None → IsCounted (inside_xor r literals l)
 counted_xor r literals P is line passed = (is, line)
 counted_xor r literals Cnf is line passed = (is, line)
 counted_xor r literals A is line passed = (is, line)
@@ -232,9 +268,11 @@ counted_part r D within passed = within
 counted_part r E within passed = within
 counted_part r X within passed = (is_due r None within passed, no_line)
 counted_part r (Natural v) within passed =
-    counted_end r [] v (positive v) (is_due r (check_literal r v) within passed) (no_fault_parts (r.constraints == r.clauses) TooManyClauses (check_literal r v) passed).1
+    counted_end r [] v (positive v) (is_due r (check_literal r v) within passed)
+    (no_fault_parts (r.constraints == r.clauses) TooManyClauses (check_literal r v) passed).1
 counted_part r (Negative v) within passed =
-    counted_end r [] v (negative v) (is_due r (check_literal r v) within passed) (no_fault_parts (r.constraints == r.clauses) TooManyClauses (check_literal r v) passed).1
+    counted_end r [] v (negative v) (is_due r (check_literal r v) within passed)
+    (no_fault_parts (r.constraints == r.clauses) TooManyClauses (check_literal r v) passed).1
 counted_part r Large within passed = within
 counted_part r NegativeLarge within passed = within
 counted_part r Other within passed = within
@@ -243,17 +281,22 @@ counted_step : (s : State) (l : Lexeme) → IsCounted s → check s l ≡ None �
 counted_step before_header l counted passed = tt
 counted_step before_format l counted passed = tt
 counted_step before_variables l counted passed = natural_or_is IsCounted before_variables l before_clauses tt (λ n. tt)
-counted_step (before_clauses v) l counted passed = natural_or_is IsCounted (before_clauses v) l _ tt (λ n. record { counted = omega arith; few = omega arith })
+counted_step (before_clauses v) l counted passed = natural_or_is IsCounted (before_clauses v) l _ tt
+    (λ n. record { counted = omega arith; few = omega arith })
 counted_step (at_part r) l counted passed = counted_part r l counted passed
-counted_step (in_universals r) l counted passed = natural_or_is IsCounted (in_universals r) l _ counted (λ n. choose_state IsCounted (n == 0) _ _ counted counted)
-counted_step (in_existentials r) l counted passed = natural_or_is IsCounted (in_existentials r) l _ counted (λ n. choose_state IsCounted (n == 0) _ _ counted counted)
+counted_step (in_universals r) l counted passed = natural_or_is IsCounted (in_universals r) l _ counted
+    (λ n. choose_state IsCounted (n == 0) _ _ counted counted)
+counted_step (in_existentials r) l counted passed = natural_or_is IsCounted (in_existentials r) l _ counted
+    (λ n. choose_state IsCounted (n == 0) _ _ counted counted)
 counted_step (at_dependent r) l counted passed = natural_or_is IsCounted (at_dependent r) l _ counted (λ n. counted)
-counted_step (in_dependencies r y xs) l counted passed = natural_or_is IsCounted (in_dependencies r y xs) l _ counted (λ n. choose_state IsCounted (n == 0) _ _ counted counted)
+counted_step (in_dependencies r y xs) l counted passed = natural_or_is IsCounted (in_dependencies r y xs) l _ counted
+    (λ n. choose_state IsCounted (n == 0) _ _ counted counted)
 counted_step (in_clause r clause) l counted passed = counted_clause r clause l counted passed
 counted_step (in_xor r literals) l counted passed = counted_xor r literals l counted.0 counted.1 passed
 
 -- what passes the checks of a natural number, of an entry and of a signed number
-natural_is : (l : Lexeme) (k : ℕ → Option FormulaFault) → check_natural l k ≡ None → (n : ℕ) × (l ≡ Natural n) × (k n ≡ None)
+natural_is : (l : Lexeme) (k : ℕ → Option FormulaFault) → check_natural l k ≡ None →
+    (n : ℕ) × (l ≡ Natural n) × (k n ≡ None)
 natural_is P k h = cc
 natural_is Cnf k h = cc
 natural_is A k h = cc
@@ -266,7 +309,8 @@ natural_is Large k h = cc
 natural_is NegativeLarge k h = cc
 natural_is Other k h = cc
 
-entry_is : (l : Lexeme) (k : ℕ → Option FormulaFault) → check_entry l k ≡ None → (n : ℕ) × (l ≡ Natural n) × (k n ≡ None)
+entry_is : (l : Lexeme) (k : ℕ → Option FormulaFault) → check_entry l k ≡ None →
+    (n : ℕ) × (l ≡ Natural n) × (k n ≡ None)
 entry_is P k h = cc
 entry_is Cnf k h = cc
 entry_is A k h = cc
@@ -280,7 +324,8 @@ entry_is NegativeLarge k h = cc
 entry_is Other k h = cc
 
 -- an entry of a list, and what completes the list behind it
-list_step : (new : List ℕ → Type 0) (then_reading : List ℕ → Reading) (v : ℕ) (ls : List Lexeme) (f : Dqbf) (rest_new : List ℕ → Type 0) →
+list_step : (new : List ℕ → Type 0) (then_reading : List ℕ → Reading) (v : ℕ) (ls : List Lexeme) (f : Dqbf)
+    (rest_new : List ℕ → Type 0) →
     ((vs : List ℕ) → rest_new vs → new (v ∷ vs)) →
     CompletesList rest_new (λ vs. then_reading (v ∷ vs)) ls f → CompletesList new then_reading (Natural v ∷ ls) f
 list_step new then_reading v ls f rest_new grows c = record {
@@ -291,23 +336,41 @@ list_step new then_reading v ls f rest_new grows c = record {
   completed = c.completed;
 }
 
-list_end : (new : List ℕ → Type 0) (then_reading : List ℕ → Reading) (v : ℕ) (ls : List Lexeme) (f : Dqbf) → v ≡ 0 → new [] →
+list_end : (new : List ℕ → Type 0) (then_reading : List ℕ → Reading) (v : ℕ) (ls : List Lexeme) (f : Dqbf) → v ≡ 0 →
+    new [] →
     Completes (then_reading []) ls f → CompletesList new then_reading (Natural v ∷ ls) f
-list_end new then_reading v ls f zero lawful c = record { vs = []; rest = ls; spelling = ap (λ n. Natural n ∷ ls) zero; lawful = lawful; completed = c }
+list_end new then_reading v ls f zero lawful c = record {
+  vs = [];
+  rest = ls;
+  spelling = ap (λ n. Natural n ∷ ls) zero;
+  lawful = lawful;
+  completed = c;
+}
 
 declared_is : (r : Reading) (v : ℕ) → v ≢ 0 → check_declared r v ≡ None → IsNew r.formula v
 declared_is r v more passed =
     let rest = fault_if (is_declared r.formula v) DeclaredTwice None in
-    let behind : check_range r v rest ≡ None = ap (λ b. cond b None (check_range r v rest)) (sym (ne_eqb v 0 more)) ∙ passed in
+    let behind : check_range r v rest ≡ None = ap (λ b. cond b None (check_range r v rest)) (sym (ne_eqb v 0 more))
+    ∙ passed in
     let range = in_range_is r v rest behind in
-    record { from_one = omega arith; in_range = range.0; undeclared = (no_fault_parts (is_declared r.formula v) DeclaredTwice None range.1).0 }
+    record {
+      from_one = omega arith;
+      in_range = range.0;
+      undeclared =
+          (no_fault_parts (is_declared r.formula v) DeclaredTwice None range.1).0;
+    }
 
 seen_is : (r : Reading) (x : ℕ) → x ≢ 0 → check_dependency r x ≡ None → IsSeen r.formula x
 seen_is r x more passed =
     let rest = fault_if (not (is_universal r.formula x)) NotUniversal None in
-    let behind : check_range r x rest ≡ None = ap (λ b. cond b None (check_range r x rest)) (sym (ne_eqb x 0 more)) ∙ passed in
-    let range = in_range_is r x rest behind in
-    (omega arith, range.0, not-false (is_universal r.formula x) (no_fault_parts (not (is_universal r.formula x)) NotUniversal None range.1).0)
+    let behind : check_range r x rest ≡ None = ap (λ b. cond b None (check_range r x rest)) (sym (ne_eqb x 0 more))
+    ∙ passed in
+    let range = in_range_is r x rest behind in (
+      omega arith,
+      range.0,
+      not-false (is_universal r.formula x)
+          (no_fault_parts (not (is_universal r.formula x)) NotUniversal None range.1).0,
+    )
 
 universals_step : (r : Reading) (l : Lexeme) (ls : List Lexeme) (f : Dqbf) → check (in_universals r) l ≡ None →
     CompletesState (advance (in_universals r) l) ls f → CompletesState (in_universals r) (l ∷ ls) f
@@ -322,7 +385,8 @@ universals_step r l ls f passed next =
     subst (λ k. CompletesList New then_reading (k ∷ ls) f) (sym entry.1)
     (elim (ends_or_goes_on Q v (at_part r) more behind) [
       | inl (zero, c) ↦ list_end New then_reading v ls f zero tt c
-      | inr (other, c) ↦ list_step New then_reading v ls f (AreNew add_universal (add_universal r.formula v)) (λ vs news. (declared_is r v other entry.2, news)) c
+      | inr (other, c) ↦ list_step New then_reading v ls f (AreNew add_universal (add_universal r.formula v))
+          (λ vs news. (declared_is r v other entry.2, news)) c
     ])
 
 existentials_step : (r : Reading) (l : Lexeme) (ls : List Lexeme) (f : Dqbf) → check (in_existentials r) l ≡ None →
@@ -338,11 +402,14 @@ existentials_step r l ls f passed next =
     subst (λ k. CompletesList New then_reading (k ∷ ls) f) (sym entry.1)
     (elim (ends_or_goes_on Q v (at_part r) more behind) [
       | inl (zero, c) ↦ list_end New then_reading v ls f zero tt c
-      | inr (other, c) ↦ list_step New then_reading v ls f (AreNew add_first (add_first r.formula v)) (λ vs news. (declared_is r v other entry.2, news)) c
+      | inr (other, c) ↦ list_step New then_reading v ls f (AreNew add_first (add_first r.formula v))
+          (λ vs news. (declared_is r v other entry.2, news)) c
     ])
 
-dependencies_step : (r : Reading) (y : ℕ) (before : List ℕ) (l : Lexeme) (ls : List Lexeme) (f : Dqbf) → check (in_dependencies r y before) l ≡ None →
-    CompletesState (advance (in_dependencies r y before) l) ls f → CompletesState (in_dependencies r y before) (l ∷ ls) f
+dependencies_step : (r : Reading) (y : ℕ) (before : List ℕ) (l : Lexeme) (ls : List Lexeme) (f : Dqbf) →
+    check (in_dependencies r y before) l ≡ None →
+    CompletesState (advance (in_dependencies r y before) l) ls f →
+    CompletesState (in_dependencies r y before) (l ∷ ls) f
 dependencies_step r y before l ls f passed next =
     let Q : State → Type 0 = λ s. CompletesState s ls f in
     let entry = entry_is l (check_dependency r) passed in
@@ -361,7 +428,8 @@ dependencies_step r y before l ls f passed next =
         rest = c.rest;
         spelling = ap (λ zs. Natural x ∷ zs) c.spelling;
         lawful = (seen_is r x other entry.2, c.lawful);
-        completed = subst (λ zs. Completes (with_formula r (add_listed r.formula y zs)) c.rest f) (append_assoc before (x ∷ []) c.vs) c.completed;
+        completed = subst (λ zs. Completes (with_formula r (add_listed r.formula y zs)) c.rest f)
+            (append_assoc before (x ∷ []) c.vs) c.completed;
       }
     ])
 
@@ -378,19 +446,33 @@ dependent_step r l ls f passed next =
       y = y;
       rest = ls;
       spelling = ap (λ k. k ∷ ls) entry.1;
-      new = record { from_one = omega arith; in_range = range.0; undeclared = (no_fault_parts (is_declared r.formula y) DeclaredTwice None range.1).0 };
+      new = record {
+        from_one = omega arith;
+        in_range = range.0;
+        undeclared =
+            (no_fault_parts (is_declared r.formula y) DeclaredTwice None range.1).0;
+      };
       completed = subst (λ k. CompletesState (advance (at_dependent r) k) ls f) entry.1 next;
     }
 
 -- a literal or the end of a clause
-literal_step : (r : Reading) (clause : List Literal) (v : ℕ) (q : Literal) (ls : List Lexeme) (f : Dqbf) → variable_of q ≡ v →
+literal_step : (r : Reading) (clause : List Literal) (v : ℕ) (q : Literal) (ls : List Lexeme) (f : Dqbf) →
+    variable_of q ≡ v →
     (v ≡ 0 → literal_lexeme q ≡ Natural 0) → check_literal r v ≡ None →
-    CompletesState (cond (v == 0) (at_part (with_constraint r (add_clause r.formula clause))) (in_clause r (add_literal clause q))) ls f →
+    CompletesState (cond (v == 0) (at_part (with_constraint r (add_clause r.formula clause)))
+    (in_clause r (add_literal clause q))) ls f →
     CompletesClause r clause (literal_lexeme q ∷ ls) f
 literal_step r clause v q ls f stands ends passed next =
     let Q : State → Type 0 = λ s. CompletesState s ls f in
-    elim (ends_or_goes_on Q v (at_part (with_constraint r (add_clause r.formula clause))) (in_clause r (add_literal clause q)) next) [
-      | inl (zero, c) ↦ record { literals = []; rest = ls; spelling = ap (λ k. k ∷ ls) (ends zero); in_range = tt; completed = c }
+    elim (ends_or_goes_on Q v (at_part (with_constraint r (add_clause r.formula clause)))
+    (in_clause r (add_literal clause q)) next) [
+      | inl (zero, c) ↦ record {
+        literals = [];
+        rest = ls;
+        spelling = ap (λ k. k ∷ ls) (ends zero);
+        in_range = tt;
+        completed = c;
+      }
       | inr (other, c) ↦
           let high = (in_range_is r v None (at_more v (check_room r 1) (check_range r v None) other passed)).0 in
           let low : 1 ≤ variable_of q = omega arith in
@@ -405,16 +487,21 @@ literal_step r clause v q ls f stands ends passed next =
     ]
 
 -- a literal or the end of an XOR line
-xor_literal_step : (r : Reading) (before : List Literal) (v : ℕ) (q : Literal) (ls : List Lexeme) (f : Dqbf) → variable_of q ≡ v →
-    (v ≡ 0 → literal_lexeme q ≡ Natural 0) → IsXorLine before → cond (v == 0) (check_xor_end r before) (check_xor_literal r before v) ≡ None →
-    CompletesState (cond (v == 0) (at_part (with_constraint r (add_xor r.formula before))) (in_xor r (before ++ q ∷ []))) ls f →
+xor_literal_step : (r : Reading) (before : List Literal) (v : ℕ) (q : Literal) (ls : List Lexeme) (f : Dqbf) →
+    variable_of q ≡ v →
+    (v ≡ 0 → literal_lexeme q ≡ Natural 0) → IsXorLine before →
+    cond (v == 0) (check_xor_end r before) (check_xor_literal r before v) ≡ None →
+    CompletesState (cond (v == 0) (at_part (with_constraint r (add_xor r.formula before)))
+    (in_xor r (before ++ q ∷ []))) ls f →
     CompletesXor r before (literal_lexeme q ∷ ls) f
 xor_literal_step r before v q ls f stands ends line passed next =
     let Q : State → Type 0 = λ s. CompletesState s ls f in
-    elim (ends_or_goes_on Q v (at_part (with_constraint r (add_xor r.formula before))) (in_xor r (before ++ q ∷ [])) next) [
+    elim (ends_or_goes_on Q v (at_part (with_constraint r (add_xor r.formula before)))
+    (in_xor r (before ++ q ∷ [])) next) [
       | inl (zero, c) ↦
           let room = check_room r (length (xor_clauses before)) in
-          let some = eqb-false (length before) 0 (no_fault_parts (length before == 0) XorSize room (at_zero v (check_xor_end r before) (check_xor_literal r before v) zero passed)).0 in
+          let some = eqb-false (length before) 0 (no_fault_parts (length before == 0) XorSize room
+          (at_zero v (check_xor_end r before) (check_xor_literal r before v) zero passed)).0 in
           let whole = sym (append-nil before) in
           record {
             literals = [];
@@ -455,20 +542,24 @@ IsLexeme NegativeLarge = Unit {0}
 IsLexeme Other = Unit {0}
 
 clause_step : (r : Reading) (clause : List Literal) (l : Lexeme) (ls : List Lexeme) (f : Dqbf) → IsLexeme l →
-    check (in_clause r clause) l ≡ None → CompletesState (inside_clause r clause l) ls f → CompletesClause r clause (l ∷ ls) f
+    check (in_clause r clause) l ≡ None → CompletesState (inside_clause r clause l) ls f →
+    CompletesClause r clause (l ∷ ls) f
 clause_step r clause P ls f is passed next = cc
 clause_step r clause Cnf ls f is passed next = cc
 clause_step r clause A ls f is passed next = cc
 clause_step r clause D ls f is passed next = cc
 clause_step r clause E ls f is passed next = cc
 clause_step r clause X ls f is passed next = cc
-clause_step r clause (Natural v) ls f is passed next = literal_step r clause v (positive v) ls f refl (ap Natural) passed next
-clause_step r clause (Negative v) ls f is passed next = literal_step r clause v (negative v) ls f refl (λ zero. absurd (is zero)) passed next
+clause_step r clause (Natural v) ls f is passed next = literal_step r clause v (positive v) ls f refl
+    (ap Natural) passed next
+clause_step r clause (Negative v) ls f is passed next = literal_step r clause v (negative v) ls f refl
+    (λ zero. absurd (is zero)) passed next
 clause_step r clause Large ls f is passed next = cc
 clause_step r clause NegativeLarge ls f is passed next = cc
 clause_step r clause Other ls f is passed next = cc
 
-xor_step : (r : Reading) (before : List Literal) (l : Lexeme) (ls : List Lexeme) (f : Dqbf) → IsLexeme l → IsXorLine before →
+xor_step : (r : Reading) (before : List Literal) (l : Lexeme) (ls : List Lexeme) (f : Dqbf) → IsLexeme l →
+    IsXorLine before →
     check (in_xor r before) l ≡ None → CompletesState (inside_xor r before l) ls f → CompletesXor r before (l ∷ ls) f
 xor_step r before P ls f is line passed next = cc
 xor_step r before Cnf ls f is line passed next = cc
@@ -476,47 +567,65 @@ xor_step r before A ls f is line passed next = cc
 xor_step r before D ls f is line passed next = cc
 xor_step r before E ls f is line passed next = cc
 xor_step r before X ls f is line passed next = cc
-xor_step r before (Natural v) ls f is line passed next = xor_literal_step r before v (positive v) ls f refl (ap Natural) line passed next
-xor_step r before (Negative v) ls f is line passed next = xor_literal_step r before v (negative v) ls f refl (λ zero. absurd (is zero)) line passed next
+xor_step r before (Natural v) ls f is line passed next = xor_literal_step r before v (positive v) ls f refl
+    (ap Natural) line passed next
+xor_step r before (Negative v) ls f is line passed next = xor_literal_step r before v (negative v) ls f refl
+    (λ zero. absurd (is zero)) line passed next
 xor_step r before Large ls f is line passed next = cc
 xor_step r before NegativeLarge ls f is line passed next = cc
 xor_step r before Other ls f is line passed next = cc
 
 -- a clause or an XOR line in front, behind which no part stands
-constraint_completes : (constraint : Constraint) (r : Reading) (rest : List Lexeme) (f : Dqbf) → IsLawfulConstraint r.formula.variables constraint →
-    Completes (with_constraint r (add_constraint r.formula constraint)) rest f → Completes r (constraint_lexemes constraint ++ rest) f
+constraint_completes : (constraint : Constraint) (r : Reading) (rest : List Lexeme) (f : Dqbf) →
+    IsLawfulConstraint r.formula.variables constraint →
+    Completes (with_constraint r (add_constraint r.formula constraint)) rest f →
+    Completes r (constraint_lexemes constraint ++ rest) f
 constraint_completes constraint r rest f lawful after =
     let next = add_constraint r.formula constraint in
     let no_parts : after.parts ≡ [] = after.prefix_first (ne_eqb (r.constraints + 1) 0 (λ e. omega arith)) in
     record {
       parts = [];
       constraints = constraint ∷ after.constraints;
-      spelling = ap (λ zs. constraint_lexemes constraint ++ zs) (after.spelling ∙ ap (λ ps. flat_map part_lexemes ps ++ flat_map constraint_lexemes after.constraints) no_parts);
+      spelling = ap (λ zs. constraint_lexemes constraint ++ zs)
+          (after.spelling ∙ ap (λ ps. flat_map part_lexemes ps ++ flat_map constraint_lexemes after.constraints)
+          no_parts);
       lawful = tt;
-      lawful_constraints = (lawful, subst (λ v. AreLawfulConstraints v after.constraints) (constraint_keeps_variables r.formula constraint) after.lawful_constraints);
+      lawful_constraints = (
+        lawful,
+        subst (λ v. AreLawfulConstraints v after.constraints)
+            (constraint_keeps_variables r.formula constraint) after.lawful_constraints,
+      );
       counted = omega (arith, after.counted);
       few = after.few;
       prefix_first = λ _. refl;
-      formula = after.formula ∙ ap (λ ps. with_free (fold add_constraint (fold declare next ps) after.constraints)) no_parts;
+      formula = after.formula ∙ ap (λ ps. with_free (fold add_constraint (fold declare next ps) after.constraints))
+          no_parts;
     }
 
-clause_completes : (r : Reading) (lexemes : List Lexeme) (f : Dqbf) → CompletesClause r [] lexemes f → Completes r lexemes f
+clause_completes : (r : Reading) (lexemes : List Lexeme) (f : Dqbf) → CompletesClause r [] lexemes f →
+    Completes r lexemes f
 clause_completes r lexemes f c =
-    subst (λ zs. Completes r zs f) (sym c.spelling) (constraint_completes (plain c.literals) r c.rest f c.in_range c.completed)
+    subst (λ zs. Completes r zs f) (sym c.spelling) (constraint_completes
+    (plain c.literals) r c.rest f c.in_range c.completed)
 
-xor_completes : (r : Reading) (lexemes : List Lexeme) (f : Dqbf) → CompletesXor r [] lexemes f → Completes r (X ∷ lexemes) f
+xor_completes : (r : Reading) (lexemes : List Lexeme) (f : Dqbf) → CompletesXor r [] lexemes f →
+    Completes r (X ∷ lexemes) f
 xor_completes r lexemes f c =
-    subst (λ zs. Completes r (X ∷ zs) f) (sym c.spelling) (constraint_completes (xor c.literals) r c.rest f (c.in_range, c.is_xor) c.completed)
+    subst (λ zs. Completes r (X ∷ zs) f) (sym c.spelling) (constraint_completes (xor c.literals) r c.rest f
+    (c.in_range, c.is_xor) c.completed)
 
 -- a part in front
-part_completes : (part : Part) (r : Reading) (rest : List Lexeme) (f : Dqbf) → (r.constraints == 0) ≡ true → IsLawfulPart r.formula part →
+part_completes : (part : Part) (r : Reading) (rest : List Lexeme) (f : Dqbf) → (r.constraints == 0) ≡ true →
+    IsLawfulPart r.formula part →
     Completes (with_formula r (declare r.formula part)) rest f → Completes r (part_lexemes part ++ rest) f
 part_completes part r rest f first lawful c =
     let kept = declare-keeps part r.formula in
     record {
       parts = part ∷ c.parts;
       constraints = c.constraints;
-      spelling = ap (λ zs. part_lexemes part ++ zs) c.spelling ∙ sym (append_assoc (part_lexemes part) (flat_map part_lexemes c.parts) (flat_map constraint_lexemes c.constraints));
+      spelling = ap (λ zs. part_lexemes part ++ zs) c.spelling ∙ sym
+          (append_assoc (part_lexemes part) (flat_map part_lexemes c.parts)
+          (flat_map constraint_lexemes c.constraints));
       lawful = (lawful, c.lawful);
       lawful_constraints = subst (λ v. AreLawfulConstraints v c.constraints) kept.variables c.lawful_constraints;
       counted = c.counted;
@@ -544,14 +653,17 @@ part_step r E ls f is passed next =
     (part_completes (existentials next.vs) r next.rest f (letter_first r passed) next.lawful next.completed)
 part_step r X ls f is passed next = xor_completes r ls f next
 part_step r (Natural v) ls f is passed next =
-    clause_completes r (Natural v ∷ ls) f (clause_step r [] (Natural v) ls f is (no_fault_parts (r.constraints == r.clauses) TooManyClauses (check_literal r v) passed).1 next)
+    clause_completes r (Natural v ∷ ls) f (clause_step r [] (Natural v) ls f is
+    (no_fault_parts (r.constraints == r.clauses) TooManyClauses (check_literal r v) passed).1 next)
 part_step r (Negative v) ls f is passed next =
-    clause_completes r (Negative v ∷ ls) f (clause_step r [] (Negative v) ls f is (no_fault_parts (r.constraints == r.clauses) TooManyClauses (check_literal r v) passed).1 next)
+    clause_completes r (Negative v ∷ ls) f (clause_step r [] (Negative v) ls f is
+    (no_fault_parts (r.constraints == r.clauses) TooManyClauses (check_literal r v) passed).1 next)
 part_step r Large ls f is passed next = cc
 part_step r NegativeLarge ls f is passed next = cc
 part_step r Other ls f is passed next = cc
 
-step_completes : (s : State) (l : Lexeme) (ls : List Lexeme) (f : Dqbf) → IsLexeme l → IsCounted s → check s l ≡ None → CompletesState (advance s l) ls f → CompletesState s (l ∷ ls) f
+step_completes : (s : State) (l : Lexeme) (ls : List Lexeme) (f : Dqbf) → IsLexeme l → IsCounted s → check s l ≡ None →
+    CompletesState (advance s l) ls f → CompletesState s (l ∷ ls) f
 step_completes before_header l ls f is counted passed next = tt
 step_completes before_format l ls f is counted passed next = tt
 step_completes before_variables l ls f is counted passed next = tt
@@ -595,7 +707,8 @@ end_completes (in_dependencies r y xs) f counted h = cc
 end_completes (in_clause r clause) f counted h = cc
 end_completes (in_xor r literals) f counted h = cc
 
-completes : (lexemes : List Lexeme) (s : State) (f : Dqbf) → AllByRecursion IsLexeme lexemes → IsCounted s → run s lexemes ≡ Some f → CompletesState s lexemes f
+completes : (lexemes : List Lexeme) (s : State) (f : Dqbf) → AllByRecursion IsLexeme lexemes → IsCounted s →
+    run s lexemes ≡ Some f → CompletesState s lexemes f
 completes [] s f are counted h = end_completes s f counted h
 completes (l ∷ ls) s f are counted h =
     let r = run_step s l ls f h in
@@ -668,43 +781,58 @@ record CompletesHeader (lexemes : List Lexeme) (f : Dqbf) : Type 0 where
 few : (limit n : ℕ) → check_limit limit n ≡ None → n ≤ limit
 few limit n h = ltb-false limit n (no_fault_parts (nat_lt limit n) Limit None h).0
 
-header_clauses : (v : ℕ) (lexemes : List Lexeme) (f : Dqbf) → AllByRecursion IsLexeme lexemes → run (before_clauses v) lexemes ≡ Some f →
-    (c : ℕ) × (rest : List Lexeme) × (lexemes ≡ Natural c ∷ rest) × (c ≤ max_clauses) × Completes (record { clauses = c; constraints = 0; formula = empty_formula v }) rest f
+header_clauses : (v : ℕ) (lexemes : List Lexeme) (f : Dqbf) → AllByRecursion IsLexeme lexemes →
+    run (before_clauses v) lexemes ≡ Some f →
+    (c : ℕ) × (rest : List Lexeme) × (lexemes ≡ Natural c ∷ rest) × (c ≤ max_clauses) × Completes
+    (record { clauses = c; constraints = 0; formula = empty_formula v }) rest f
 header_clauses v [] f are h = cc
 header_clauses v (l ∷ ls) f are h =
     let r = run_step (before_clauses v) l ls f h in
     let n = natural_is l (check_limit max_clauses) r.0 in
-    let goes_on : run (advance (before_clauses v) (Natural n.0)) ls ≡ Some f = ap (λ k. run (advance (before_clauses v) k) ls) (sym n.1) ∙ r.1 in (
+    let goes_on : run (advance (before_clauses v) (Natural n.0)) ls ≡ Some f =
+    ap (λ k. run (advance (before_clauses v) k) ls) (sym n.1) ∙ r.1 in (
       n.0,
       ls,
       ap (λ k. k ∷ ls) n.1,
       few max_clauses n.0 n.2,
-      completes ls (at_part (record { clauses = n.0; constraints = 0; formula = empty_formula v })) f are.1 (record { counted = omega arith; few = omega arith }) goes_on,
+      completes ls (at_part (record { clauses = n.0; constraints = 0; formula = empty_formula v })) f are.1
+          (record { counted = omega arith; few = omega arith }) goes_on,
     )
 
-header_variables : (lexemes : List Lexeme) (f : Dqbf) → AllByRecursion IsLexeme lexemes → run before_variables lexemes ≡ Some f →
-    (v : ℕ) × (rest : List Lexeme) × (lexemes ≡ Natural v ∷ rest) × (v ≤ max_variables) × AllByRecursion IsLexeme rest × (run (before_clauses v) rest ≡ Some f)
+header_variables : (lexemes : List Lexeme) (f : Dqbf) → AllByRecursion IsLexeme lexemes →
+    run before_variables lexemes ≡ Some f →
+    (v : ℕ) × (rest : List Lexeme) × (lexemes ≡ Natural v ∷ rest) × (v ≤ max_variables) × AllByRecursion IsLexeme rest ×
+    (run (before_clauses v) rest ≡ Some f)
 header_variables [] f are h = cc
 header_variables (l ∷ ls) f are h =
     let r = run_step before_variables l ls f h in
-    let n = natural_is l (check_limit max_variables) r.0 in
-    (n.0, ls, ap (λ k. k ∷ ls) n.1, few max_variables n.0 n.2, are.1, ap (λ k. run (advance before_variables k) ls) (sym n.1) ∙ r.1)
+    let n = natural_is l (check_limit max_variables) r.0 in (
+      n.0,
+      ls,
+      ap (λ k. k ∷ ls) n.1,
+      few max_variables n.0 n.2,
+      are.1,
+      ap (λ k. run (advance before_variables k) ls) (sym n.1) ∙ r.1,
+    )
 
-header_format : (lexemes : List Lexeme) (f : Dqbf) → AllByRecursion IsLexeme lexemes → run before_format lexemes ≡ Some f →
+header_format : (lexemes : List Lexeme) (f : Dqbf) → AllByRecursion IsLexeme lexemes →
+    run before_format lexemes ≡ Some f →
     (rest : List Lexeme) × (lexemes ≡ Cnf ∷ rest) × AllByRecursion IsLexeme rest × (run before_variables rest ≡ Some f)
 header_format [] f are h = cc
 header_format (l ∷ ls) f are h =
     let r = run_step before_format l ls f h in
     (ls, ap (λ k. k ∷ ls) (cnf_is l (wanted_is (is_cnf l) r.0)), are.1, r.1)
 
-header_word : (lexemes : List Lexeme) (f : Dqbf) → AllByRecursion IsLexeme lexemes → run before_header lexemes ≡ Some f →
+header_word : (lexemes : List Lexeme) (f : Dqbf) → AllByRecursion IsLexeme lexemes →
+    run before_header lexemes ≡ Some f →
     (rest : List Lexeme) × (lexemes ≡ P ∷ rest) × AllByRecursion IsLexeme rest × (run before_format rest ≡ Some f)
 header_word [] f are h = cc
 header_word (l ∷ ls) f are h =
     let r = run_step before_header l ls f h in
     (ls, ap (λ k. k ∷ ls) (p_is l (wanted_is (is_p l) r.0)), are.1, r.1)
 
-header_completes : (lexemes : List Lexeme) (f : Dqbf) → AllByRecursion IsLexeme lexemes → run before_header lexemes ≡ Some f → CompletesHeader lexemes f
+header_completes : (lexemes : List Lexeme) (f : Dqbf) → AllByRecursion IsLexeme lexemes →
+    run before_header lexemes ≡ Some f → CompletesHeader lexemes f
 header_completes lexemes f are h =
     let word = header_word lexemes f are h in
     let format = header_format word.0 f word.2 word.3 in
@@ -715,25 +843,31 @@ header_completes lexemes f are h =
       clauses = clauses.0;
       rest = clauses.1;
       spelling = word.1
-          ∙ ap (λ zs. P ∷ zs) (format.1 ∙ ap (λ zs. Cnf ∷ zs) (variables.2 ∙ ap (λ zs. Natural variables.0 ∷ zs) clauses.2));
+          ∙ ap (λ zs. P ∷ zs) (format.1 ∙ ap (λ zs. Cnf ∷ zs)
+          (variables.2 ∙ ap (λ zs. Natural variables.0 ∷ zs) clauses.2));
       few_variables = variables.3;
       few_clauses = clauses.3;
       completed = clauses.4;
     }
 
-constraints_keep_variables : (constraints : List Constraint) (g : Dqbf) → (fold add_constraint g constraints).variables ≡ g.variables
+constraints_keep_variables : (constraints : List Constraint) (g : Dqbf) →
+    (fold add_constraint g constraints).variables ≡ g.variables
 constraints_keep_variables [] g = refl
-constraints_keep_variables (c ∷ cs) g = constraints_keep_variables cs (add_constraint g c) ∙ constraint_keeps_variables g c
+constraints_keep_variables (c ∷ cs) g = constraints_keep_variables cs (add_constraint g c)
+    ∙ constraint_keeps_variables g c
 
 pub read_is_spelled : (text : List ℕ) (f : Dqbf) → reading text ≡ Ok f → SpellsFormula text f
 read_is_spelled text f h =
     let tokens = tokens_of text in
-    let c = header_completes (lexemes_of tokens) f (are_lexemes tokens) (run_from_reading tokens before_header (last_line_of text) f h) in
+    let c = header_completes (lexemes_of tokens) f (are_lexemes tokens)
+    (run_from_reading tokens before_header (last_line_of text) f h) in
     let done = c.completed in
     let prefix = fold declare (empty_formula c.variables) done.parts in
     let variables : c.variables ≡ f.variables = sym
-    (ap (λ (g : Dqbf). g.variables) done.formula ∙ constraints_keep_variables done.constraints prefix ∙ (declares-keep done.parts (empty_formula c.variables)).variables) in
-    let own = subst (λ v. Completes (record { clauses = c.clauses; constraints = 0; formula = empty_formula v }) c.rest f) variables done in
+    (ap (λ (g : Dqbf). g.variables) done.formula ∙ constraints_keep_variables done.constraints prefix ∙
+    (declares-keep done.parts (empty_formula c.variables)).variables) in
+    let own = subst (λ v. Completes (record { clauses = c.clauses; constraints = 0; formula = empty_formula v }) c.rest
+    f) variables done in
     let counted : length own.constraints ≡ c.clauses = omega (arith, own.counted) in
     record {
       parts = own.parts;

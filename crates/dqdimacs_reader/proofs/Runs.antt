@@ -31,11 +31,13 @@ end_run : (r : Result Dqbf FormulaFault) (line : ℕ) (f : Dqbf) → formula_or_
 end_run (Ok g) line f h = let same : g ≡ f = cc in ap Ok same
 end_run (Err e) line f h = cc
 
-step_read : (o : Option FormulaFault) (line : ℕ) (rest : Result Dqbf TextFault) (f : Dqbf) → unless_fault o line rest ≡ Ok f → (o ≡ None) × (rest ≡ Ok f)
+step_read : (o : Option FormulaFault) (line : ℕ) (rest : Result Dqbf TextFault) (f : Dqbf) →
+    unless_fault o line rest ≡ Ok f → (o ≡ None) × (rest ≡ Ok f)
 step_read (Some name) line rest f h = cc
 step_read None line rest f h = (refl, h)
 
-step_run : (o : Option FormulaFault) (rest : Option Dqbf) (f : Dqbf) → unless o rest ≡ Some f → (o ≡ None) × (rest ≡ Some f)
+step_run : (o : Option FormulaFault) (rest : Option Dqbf) (f : Dqbf) → unless o rest ≡ Some f →
+    (o ≡ None) × (rest ≡ Some f)
 step_run (Some name) rest f h = cc
 step_run None rest f h = (refl, h)
 
@@ -57,10 +59,12 @@ reading_from_run (token ∷ tokens) state last_line f h =
     ap (λ o. unless_fault o token.line (read_from (advance state lexeme) tokens last_line)) r.0
     ∙ reading_from_run tokens (advance state lexeme) last_line f r.1
 
-pub run_step : (state : State) (lexeme : Lexeme) (lexemes : List Lexeme) (f : Dqbf) → run state (lexeme ∷ lexemes) ≡ Some f →
+pub run_step : (state : State) (lexeme : Lexeme) (lexemes : List Lexeme) (f : Dqbf) →
+    run state (lexeme ∷ lexemes) ≡ Some f →
     (check state lexeme ≡ None) × (run (advance state lexeme) lexemes ≡ Some f)
 run_step state lexeme lexemes f h = step_run (check state lexeme) (run (advance state lexeme) lexemes) f h
 
 -- a lexeme that passes its checks is one step
-pub run_pass : (state : State) (lexeme : Lexeme) (lexemes : List Lexeme) → check state lexeme ≡ None → run state (lexeme ∷ lexemes) ≡ run (advance state lexeme) lexemes
+pub run_pass : (state : State) (lexeme : Lexeme) (lexemes : List Lexeme) → check state lexeme ≡ None →
+    run state (lexeme ∷ lexemes) ≡ run (advance state lexeme) lexemes
 run_pass state lexeme lexemes h = ap (λ o. unless o (run (advance state lexeme) lexemes)) h

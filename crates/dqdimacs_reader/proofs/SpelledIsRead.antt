@@ -25,12 +25,15 @@ no_fault false name rest h = refl
 not_zero : (v : ℕ) → 1 ≤ v → (v == 0) ≡ false
 not_zero v low = ne_eqb v 0 (λ e. omega arith)
 
-in_range_passes : (r : Reading) (v : ℕ) (rest : Option FormulaFault) → v ≤ r.formula.variables → check_range r v rest ≡ rest
-in_range_passes r v rest high = no_fault (nat_lt r.formula.variables v) VarRange rest (le-ltb r.formula.variables v high)
+in_range_passes : (r : Reading) (v : ℕ) (rest : Option FormulaFault) → v ≤ r.formula.variables →
+    check_range r v rest ≡ rest
+in_range_passes r v rest high = no_fault (nat_lt r.formula.variables v) VarRange rest
+    (le-ltb r.formula.variables v high)
 
 new_passes : (r : Reading) (v : ℕ) → IsNew r.formula v → check_declared r v ≡ None
 new_passes r v new =
-    ap (λ b. cond b None (check_range r v (fault_if (is_declared r.formula v) DeclaredTwice None))) (not_zero v new.from_one)
+    ap (λ b. cond b None (check_range r v (fault_if (is_declared r.formula v) DeclaredTwice None)))
+    (not_zero v new.from_one)
     ∙ in_range_passes r v (fault_if (is_declared r.formula v) DeclaredTwice None) new.in_range
     ∙ no_fault (is_declared r.formula v) DeclaredTwice None new.undeclared
 
@@ -62,13 +65,16 @@ seen_passes r x seen =
     ∙ in_range_passes r x rest seen.1
     ∙ ap (λ b. fault_if (not b) NotUniversal None) seen.2
 
-read_dependencies : (xs : List ℕ) (r : Reading) (y : ℕ) (before : List ℕ) (rest : List Lexeme) → AllByRecursion (IsSeen r.formula) xs →
-    run (in_dependencies r y before) (numbers xs ++ rest) ≡ run (at_part (with_formula r (add_listed r.formula y (before ++ xs)))) rest
+read_dependencies : (xs : List ℕ) (r : Reading) (y : ℕ) (before : List ℕ) (rest : List Lexeme) →
+    AllByRecursion (IsSeen r.formula) xs →
+    run (in_dependencies r y before) (numbers xs ++ rest) ≡ run
+    (at_part (with_formula r (add_listed r.formula y (before ++ xs)))) rest
 read_dependencies [] r y before rest seen =
     ap (λ zs. run (at_part (with_formula r (add_listed r.formula y zs))) rest) (sym (append-nil before))
 read_dependencies (x ∷ xs) r y before rest seen =
     run_pass (in_dependencies r y before) (Natural x) (numbers xs ++ rest) (seen_passes r x seen.0)
-    ∙ ap (λ s. run s (numbers xs ++ rest)) (goes_on_set x (at_part (with_formula r (add_listed r.formula y before))) (in_dependencies r y (before ++ x ∷ [])) seen.0.0)
+    ∙ ap (λ s. run s (numbers xs ++ rest)) (goes_on_set x (at_part (with_formula r (add_listed r.formula y before)))
+    (in_dependencies r y (before ++ x ∷ [])) seen.0.0)
     ∙ read_dependencies xs r y (before ++ x ∷ []) rest seen.1
     ∙ ap (λ zs. run (at_part (with_formula r (add_listed r.formula y zs))) rest) (append_assoc before (x ∷ []) xs)
 
@@ -99,7 +105,8 @@ pub record Keeps (f g : Dqbf) : Type 0 where
   pub variables : g.variables ≡ f.variables
   pub matrix : g.matrix ≡ f.matrix
 
-keeps_fold : (add : Dqbf → ℕ → Dqbf) → ((f : Dqbf) (v : ℕ) → Keeps f (add f v)) → (vs : List ℕ) (f : Dqbf) → Keeps f (fold add f vs)
+keeps_fold : (add : Dqbf → ℕ → Dqbf) → ((f : Dqbf) (v : ℕ) → Keeps f (add f v)) → (vs : List ℕ) (f : Dqbf) →
+    Keeps f (fold add f vs)
 keeps_fold add kept [] f = record { variables = refl; matrix = refl }
 keeps_fold add kept (v ∷ vs) f =
     let here = kept f v in
@@ -111,8 +118,10 @@ declare-keeps (universals vs) f = keeps_fold add_universal (λ g v. record { var
 declare-keeps (existentials ys) f = keeps_fold add_first (λ g v. record { variables = refl; matrix = refl }) ys f
 declare-keeps (dependent y xs) f = record { variables = refl; matrix = refl }
 
-read_parts : (parts : List Part) (r : Reading) (rest : List Lexeme) → r.constraints ≡ 0 → AreLawfulParts r.formula parts →
-    run (at_part r) (flat_map part_lexemes parts ++ rest) ≡ run (at_part (with_formula r (fold declare r.formula parts))) rest
+read_parts : (parts : List Part) (r : Reading) (rest : List Lexeme) → r.constraints ≡ 0 →
+    AreLawfulParts r.formula parts →
+    run (at_part r) (flat_map part_lexemes parts ++ rest) ≡ run
+    (at_part (with_formula r (fold declare r.formula parts))) rest
 read_parts [] r rest none lawful = refl
 read_parts (part ∷ parts) r rest none lawful =
     ap (run (at_part r)) (append_assoc (part_lexemes part) (flat_map part_lexemes parts) rest)
@@ -123,7 +132,8 @@ clause_literal_passes : (r : Reading) (v : ℕ) → 1 ≤ v → v ≤ r.formula.
 clause_literal_passes r v low high =
     ap (λ b. cond b (check_room r 1) (check_range r v None)) (not_zero v low) ∙ in_range_passes r v None high
 
-literal_passes : (r : Reading) (clause : List Literal) (l : Literal) → InRange r.formula.variables l → check (in_clause r clause) (literal_lexeme l) ≡ None
+literal_passes : (r : Reading) (clause : List Literal) (l : Literal) → InRange r.formula.variables l →
+    check (in_clause r clause) (literal_lexeme l) ≡ None
 literal_passes r clause (positive v) range = clause_literal_passes r v range.0 range.1
 literal_passes r clause (negative v) range = clause_literal_passes r v range.0 range.1
 
@@ -137,10 +147,13 @@ abbrev HasRoom : Reading → ℕ → Type 0
 HasRoom r more = length r.formula.matrix + more ≤ max_clauses
 
 room_passes : (r : Reading) (more : ℕ) → HasRoom r more → check_room r more ≡ None
-room_passes r more room = no_fault (nat_lt max_clauses (length r.formula.matrix + more)) Limit None (le-ltb max_clauses (length r.formula.matrix + more) room)
+room_passes r more room = no_fault (nat_lt max_clauses (length r.formula.matrix + more)) Limit None
+    (le-ltb max_clauses (length r.formula.matrix + more) room)
 
-read_literals : (literals : List Literal) (r : Reading) (clause : List Literal) (rest : List Lexeme) → HasRoom r 1 → AllByRecursion (InRange r.formula.variables) literals →
-    run (in_clause r clause) (clause_lexemes literals ++ rest) ≡ run (at_part (with_constraint r (add_clause r.formula (fold add_literal clause literals)))) rest
+read_literals : (literals : List Literal) (r : Reading) (clause : List Literal) (rest : List Lexeme) → HasRoom r 1 →
+    AllByRecursion (InRange r.formula.variables) literals →
+    run (in_clause r clause) (clause_lexemes literals ++ rest) ≡ run
+    (at_part (with_constraint r (add_clause r.formula (fold add_literal clause literals)))) rest
 read_literals [] r clause rest room range = run_pass (in_clause r clause) (Natural 0) rest (room_passes r 1 room)
 read_literals (l ∷ ls) r clause rest room range =
     run_pass (in_clause r clause) (literal_lexeme l) (clause_lexemes ls ++ rest) (literal_passes r clause l range.0)
@@ -148,27 +161,35 @@ read_literals (l ∷ ls) r clause rest room range =
     ∙ read_literals ls r (add_literal clause l) rest room range.1
 
 -- a clause or an XOR line is due
-due_passes : (r : Reading) (rest : Option FormulaFault) → r.constraints < r.clauses → fault_if (r.constraints == r.clauses) TooManyClauses rest ≡ rest
-due_passes r rest due = no_fault (r.constraints == r.clauses) TooManyClauses rest (ne_eqb r.constraints r.clauses (λ e. omega arith))
+due_passes : (r : Reading) (rest : Option FormulaFault) → r.constraints < r.clauses →
+    fault_if (r.constraints == r.clauses) TooManyClauses rest ≡ rest
+due_passes r rest due = no_fault (r.constraints == r.clauses) TooManyClauses rest
+    (ne_eqb r.constraints r.clauses (λ e. omega arith))
 
-first_passes : (r : Reading) (l : Literal) → r.constraints < r.clauses → InRange r.formula.variables l → check (at_part r) (literal_lexeme l) ≡ None
+first_passes : (r : Reading) (l : Literal) → r.constraints < r.clauses → InRange r.formula.variables l →
+    check (at_part r) (literal_lexeme l) ≡ None
 first_passes r (positive v) due range = due_passes r (check_literal r v) due ∙ clause_literal_passes r v range.0 range.1
 first_passes r (negative v) due range = due_passes r (check_literal r v) due ∙ clause_literal_passes r v range.0 range.1
 
-first_goes_on : (r : Reading) (l : Literal) → InRange r.formula.variables l → advance (at_part r) (literal_lexeme l) ≡ in_clause r (add_literal [] l)
+first_goes_on : (r : Reading) (l : Literal) → InRange r.formula.variables l →
+    advance (at_part r) (literal_lexeme l) ≡ in_clause r (add_literal [] l)
 first_goes_on r (positive v) range = goes_on_set v _ _ range.0
 first_goes_on r (negative v) range = goes_on_set v _ _ range.0
 
-read_clause : (literals : List Literal) (r : Reading) (rest : List Lexeme) → r.constraints < r.clauses → HasRoom r 1 → AllByRecursion (InRange r.formula.variables) literals →
-    run (at_part r) (clause_lexemes literals ++ rest) ≡ run (at_part (with_constraint r (add_clause r.formula (distinct literals)))) rest
-read_clause [] r rest due room range = run_pass (at_part r) (Natural 0) rest (due_passes r (check_literal r 0) due ∙ room_passes r 1 room)
+read_clause : (literals : List Literal) (r : Reading) (rest : List Lexeme) → r.constraints < r.clauses → HasRoom r 1 →
+    AllByRecursion (InRange r.formula.variables) literals →
+    run (at_part r) (clause_lexemes literals ++ rest) ≡ run (at_part
+    (with_constraint r (add_clause r.formula (distinct literals)))) rest
+read_clause [] r rest due room range = run_pass (at_part r) (Natural 0) rest
+    (due_passes r (check_literal r 0) due ∙ room_passes r 1 room)
 read_clause (l ∷ ls) r rest due room range =
     run_pass (at_part r) (literal_lexeme l) (clause_lexemes ls ++ rest) (first_passes r l due range.0)
     ∙ ap (λ s. run s (clause_lexemes ls ++ rest)) (first_goes_on r l range.0)
     ∙ read_literals ls r (add_literal [] l) rest room range.1
 
 -- inside an XOR line
-xor_number_passes : (r : Reading) (before : List Literal) (v : ℕ) → 1 ≤ v → v ≤ r.formula.variables → length before < max_xor →
+xor_number_passes : (r : Reading) (before : List Literal) (v : ℕ) → 1 ≤ v → v ≤ r.formula.variables →
+    length before < max_xor →
     list_any (stands_on v) before ≡ false → cond (v == 0) (check_xor_end r before) (check_xor_literal r before v) ≡ None
 xor_number_passes r before v low high few none =
     let repeat = fault_if (list_any (stands_on v) before) XorRepeat None in
@@ -178,7 +199,8 @@ xor_number_passes r before v low high few none =
     ∙ ap (λ b. fault_if (not b) XorSize repeat) (lt-ltb (length before) max_xor few)
     ∙ no_fault (list_any (stands_on v) before) XorRepeat None none
 
-xor_passes : (r : Reading) (before : List Literal) (l : Literal) → InRange r.formula.variables l → length before < max_xor →
+xor_passes : (r : Reading) (before : List Literal) (l : Literal) → InRange r.formula.variables l →
+    length before < max_xor →
     list_any (stands_on (variable_of l)) before ≡ false → check (in_xor r before) (literal_lexeme l) ≡ None
 xor_passes r before (positive v) range few none = xor_number_passes r before v range.0 range.1 few none
 xor_passes r before (negative v) range few none = xor_number_passes r before v range.0 range.1 few none
@@ -188,14 +210,18 @@ xor_goes_on : (r : Reading) (before : List Literal) (l : Literal) → InRange r.
 xor_goes_on r before (positive v) range = goes_on_set v _ _ range.0
 xor_goes_on r before (negative v) range = goes_on_set v _ _ range.0
 
-xor_end_passes : (r : Reading) (literals : List Literal) → IsXor literals → HasRoom r (length (xor_clauses literals)) → check_xor_end r literals ≡ None
+xor_end_passes : (r : Reading) (literals : List Literal) → IsXor literals → HasRoom r (length (xor_clauses literals)) →
+    check_xor_end r literals ≡ None
 xor_end_passes r literals is room =
-    no_fault (length literals == 0) XorSize (check_room r (length (xor_clauses literals))) (ne_eqb (length literals) 0 (λ e. omega (arith, is.some)))
+    no_fault (length literals == 0) XorSize (check_room r (length (xor_clauses literals)))
+    (ne_eqb (length literals) 0 (λ e. omega (arith, is.some)))
     ∙ room_passes r (length (xor_clauses literals)) room
 
-read_xor_literals : (literals : List Literal) (r : Reading) (before all : List Literal) (rest : List Lexeme) → before ++ literals ≡ all →
+read_xor_literals : (literals : List Literal) (r : Reading) (before all : List Literal) (rest : List Lexeme) →
+    before ++ literals ≡ all →
     IsXor all → HasRoom r (length (xor_clauses all)) → AllByRecursion (InRange r.formula.variables) literals →
-    run (in_xor r before) (clause_lexemes literals ++ rest) ≡ run (at_part (with_constraint r (add_xor r.formula all))) rest
+    run (in_xor r before) (clause_lexemes literals ++ rest) ≡ run
+    (at_part (with_constraint r (add_xor r.formula all))) rest
 read_xor_literals [] r before all rest whole is room range =
     let same : before ≡ all = sym (append-nil before) ∙ whole in
     run_pass (in_xor r before) (Natural 0) rest (ap (check_xor_end r) same ∙ xor_end_passes r all is room)
@@ -212,19 +238,28 @@ abbrev pub clauses_of : Constraint → List (List Literal)
 clauses_of (plain literals) = distinct literals ∷ []
 clauses_of (xor literals) = xor_clauses literals
 
-pub with_clauses : (f : Dqbf) (constraint : Constraint) → (add_constraint f constraint).matrix ≡ f.matrix ++ clauses_of constraint
+pub with_clauses : (f : Dqbf) (constraint : Constraint) → (add_constraint f constraint).matrix
+    ≡ f.matrix ++ clauses_of constraint
 with_clauses f (plain literals) = refl
 with_clauses f (xor literals) = refl
 
-pub constraint_keeps_variables : (f : Dqbf) (constraint : Constraint) → (add_constraint f constraint).variables ≡ f.variables
+pub constraint_keeps_variables : (f : Dqbf) (constraint : Constraint) →
+    (add_constraint f constraint).variables ≡ f.variables
 constraint_keeps_variables f (plain literals) = refl
 constraint_keeps_variables f (xor literals) = refl
 
-matrix_grows : (constraints : List Constraint) (f : Dqbf) → length f.matrix ≤ length (fold add_constraint f constraints).matrix
+matrix_grows : (constraints : List Constraint) (f : Dqbf) → length f.matrix ≤ length
+    (fold add_constraint f constraints).matrix
 matrix_grows [] f = omega arith
-matrix_grows (c ∷ cs) f = omega (arith, matrix_grows cs (add_constraint f c), ap length (with_clauses f c), length-append f.matrix (clauses_of c))
+matrix_grows (c ∷ cs) f = omega (
+  arith,
+  matrix_grows cs (add_constraint f c),
+  ap length (with_clauses f c),
+  length-append f.matrix (clauses_of c),
+)
 
-read_constraint : (c : Constraint) (r : Reading) (rest : List Lexeme) → r.constraints < r.clauses → HasRoom r (length (clauses_of c)) → IsLawfulConstraint r.formula.variables c →
+read_constraint : (c : Constraint) (r : Reading) (rest : List Lexeme) → r.constraints < r.clauses →
+    HasRoom r (length (clauses_of c)) → IsLawfulConstraint r.formula.variables c →
     run (at_part r) (constraint_lexemes c ++ rest) ≡ run (at_part (with_constraint r (add_constraint r.formula c))) rest
 read_constraint (plain literals) r rest due room lawful = read_clause literals r rest due room lawful
 read_constraint (xor literals) r rest due room lawful =
@@ -232,14 +267,23 @@ read_constraint (xor literals) r rest due room lawful =
     ∙ read_xor_literals literals r [] literals rest refl lawful.1 room lawful.0
 
 read_constraints : (constraints : List Constraint) (r : Reading) → r.constraints + length constraints ≡ r.clauses →
-    length (fold add_constraint r.formula constraints).matrix ≤ max_clauses → AreLawfulConstraints r.formula.variables constraints →
-    run (at_part r) (flat_map constraint_lexemes constraints) ≡ Some (with_free (fold add_constraint r.formula constraints))
+    length (fold add_constraint r.formula constraints).matrix ≤ max_clauses →
+    AreLawfulConstraints r.formula.variables constraints →
+    run (at_part r) (flat_map constraint_lexemes constraints) ≡ Some
+    (with_free (fold add_constraint r.formula constraints))
 read_constraints [] r counted few lawful =
-    ap (λ b. formula_or_none (cond b (Err TooFewClauses) (Ok (with_free r.formula)))) (le-ltb r.constraints r.clauses (omega (arith, counted)))
+    ap (λ b. formula_or_none (cond b (Err TooFewClauses) (Ok (with_free r.formula))))
+    (le-ltb r.constraints r.clauses (omega (arith, counted)))
 read_constraints (c ∷ cs) r counted few lawful =
     let next = with_constraint r (add_constraint r.formula c) in
     let room : HasRoom r (length (clauses_of c)) =
-    omega (arith, few, matrix_grows cs next.formula, ap length (with_clauses r.formula c), length-append r.formula.matrix (clauses_of c)) in
+    omega (
+      arith,
+      few,
+      matrix_grows cs next.formula,
+      ap length (with_clauses r.formula c),
+      length-append r.formula.matrix (clauses_of c),
+    ) in
     let variables = sym (constraint_keeps_variables r.formula c) in
     read_constraint c r (flat_map constraint_lexemes cs) (omega (arith, counted)) room lawful.0
     ∙ read_constraints cs next (omega (arith, counted)) few (subst (λ v. AreLawfulConstraints v cs) variables lawful.1)
@@ -255,11 +299,13 @@ within : (limit n : ℕ) → n ≤ limit → check_limit limit n ≡ None
 within limit n h = no_fault (nat_lt limit n) Limit None (le-ltb limit n h)
 
 read_header : (variables clauses : ℕ) (rest : List Lexeme) → variables ≤ max_variables → clauses ≤ max_clauses →
-    run before_header (header variables clauses ++ rest) ≡ run (at_part (record { clauses = clauses; constraints = 0; formula = empty_formula variables })) rest
+    run before_header (header variables clauses ++ rest) ≡ run
+    (at_part (record { clauses = clauses; constraints = 0; formula = empty_formula variables })) rest
 read_header variables clauses rest few_variables few_clauses =
     run_pass before_header P (Cnf ∷ Natural variables ∷ Natural clauses ∷ rest) refl
     ∙ run_pass before_format Cnf (Natural variables ∷ Natural clauses ∷ rest) refl
-    ∙ run_pass before_variables (Natural variables) (Natural clauses ∷ rest) (within max_variables variables few_variables)
+    ∙ run_pass before_variables (Natural variables) (Natural clauses ∷ rest)
+    (within max_variables variables few_variables)
     ∙ run_pass (before_clauses variables) (Natural clauses) rest (within max_clauses clauses few_clauses)
 
 pub spelled_is_read : (text : List ℕ) (f : Dqbf) → SpellsFormula text f → reading text ≡ Ok f

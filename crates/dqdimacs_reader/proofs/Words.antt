@@ -24,7 +24,8 @@ words_from place (byte ∷ bytes) =
     let rest = words_from (place_after (kind_of byte) place) bytes in
     if is_in_token (kind_of byte) place then put_in_word byte bytes rest else rest
 
-extended : (byte line at : ℕ) (tokens : List TextToken) → map text_of (extend byte line at tokens) ≡ extend_word byte (map text_of tokens)
+extended : (byte line at : ℕ) (tokens : List TextToken) → map text_of (extend byte line at tokens) ≡ extend_word byte
+    (map text_of tokens)
 extended byte line at [] = refl
 extended byte line at (token ∷ tokens) = refl
 
@@ -41,7 +42,8 @@ chosen true byte line at bytes tokens =
     put (goes_on bytes) byte line at tokens (record { text = byte ∷ []; line = line; at = at }) refl
 chosen false byte line at bytes tokens = refl
 
-pub words_are : (place : LinePlace) (line at : ℕ) (bytes : List ℕ) → map text_of (tokens_from place line at bytes) ≡ words_from place bytes
+pub words_are : (place : LinePlace) (line at : ℕ) (bytes : List ℕ) →
+    map text_of (tokens_from place line at bytes) ≡ words_from place bytes
 words_are place line at [] = refl
 words_are place line at (byte ∷ bytes) =
     let kind = kind_of byte in
@@ -58,7 +60,8 @@ IsOpen InComment = ⊥
 first_byte : (place : LinePlace) (byte : ℕ) (bytes : List ℕ) → IsOpen place → kind_of byte ≡ Other →
     words_from place (byte ∷ bytes) ≡ put_in_word byte bytes (words_from InLine bytes)
 first_byte LineStart byte bytes start other =
-    ap (λ kind. if is_in_token kind LineStart then put_in_word byte bytes (words_from (place_after kind LineStart) bytes)
+    ap (λ kind. if is_in_token kind LineStart then put_in_word byte bytes
+    (words_from (place_after kind LineStart) bytes)
     else words_from (place_after kind LineStart) bytes) other
 first_byte InLine byte bytes start other =
     ap (λ kind. if is_in_token kind InLine then put_in_word byte bytes (words_from (place_after kind InLine) bytes)
@@ -66,7 +69,8 @@ first_byte InLine byte bytes start other =
 first_byte InComment byte bytes start other = elim start [ ]
 
 -- a word in front, cut by a space
-pub word_space : (place : LinePlace) (byte : ℕ) (word rest : List ℕ) → IsOpen place → kind_of byte ≡ Other → AreOther word →
+pub word_space : (place : LinePlace) (byte : ℕ) (word rest : List ℕ) → IsOpen place → kind_of byte ≡ Other →
+    AreOther word →
     words_from place (byte ∷ word ++ 32 ∷ rest) ≡ (byte ∷ word) ∷ words_from InLine rest
 word_space place byte [] rest start other others = first_byte place byte (32 ∷ rest) start other
 word_space place byte (next ∷ word) rest start other others =
@@ -76,7 +80,8 @@ word_space place byte (next ∷ word) rest start other others =
     ∙ ap (extend_word byte) (word_space InLine next word rest tt others.0 others.1)
 
 -- and by the end of the line
-pub word_line : (place : LinePlace) (byte : ℕ) (word rest : List ℕ) → IsOpen place → kind_of byte ≡ Other → AreOther word →
+pub word_line : (place : LinePlace) (byte : ℕ) (word rest : List ℕ) → IsOpen place → kind_of byte ≡ Other →
+    AreOther word →
     words_from place (byte ∷ word ++ 10 ∷ rest) ≡ (byte ∷ word) ∷ words_from LineStart rest
 word_line place byte [] rest start other others = first_byte place byte (10 ∷ rest) start other
 word_line place byte (next ∷ word) rest start other others =

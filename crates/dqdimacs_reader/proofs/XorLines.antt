@@ -64,25 +64,31 @@ both : (vs : List ℕ) (xs ys : List (List Literal)) → AreOver vs xs → AreOv
 both vs [] ys here there = there
 both vs (x ∷ xs) ys here there = (here.0, both vs xs ys here.1 there)
 
-with_last : (vs : List ℕ) (v : ℕ) (l : Literal) → variable_of l ≡ v → (clauses : List (List Literal)) → AreOver vs clauses →
+with_last : (vs : List ℕ) (v : ℕ) (l : Literal) → variable_of l ≡ v → (clauses : List (List Literal)) →
+    AreOver vs clauses →
     AreOver (vs ++ v ∷ []) (map (λ c. c ++ l ∷ []) clauses)
 with_last vs v l stands [] are = tt
-with_last vs v l stands (c ∷ cs) are =
-    (map-append variable_of c (l ∷ []) ∙ ap (λ ws. ws ++ variable_of l ∷ []) are.0 ∙ ap (λ w. vs ++ w ∷ []) stands, with_last vs v l stands cs are.1)
+with_last vs v l stands (c ∷ cs) are = (
+  map-append variable_of c (l ∷ []) ∙ ap (λ ws. ws ++ variable_of l ∷ []) are.0 ∙ ap (λ w. vs ++ w ∷ []) stands,
+  with_last vs v l stands cs are.1,
+)
 
 parity_step : (even : Bool) (l : Literal) (before : List Literal) →
     AreOver (variables (reverse before)) (parity_clauses even before) →
     AreOver (variables (reverse before)) (parity_clauses (not even) before) →
     AreOver (variables (reverse (l ∷ before)))
-    (map (λ c. c ++ l ∷ []) (parity_clauses even before) ++ map (λ c. c ++ opposite l ∷ []) (parity_clauses (not even) before))
+    (map (λ c. c ++ l ∷ []) (parity_clauses even before) ++ map (λ c. c ++ opposite l ∷ [])
+    (parity_clauses (not even) before))
 parity_step even l before here there =
     let vs = variables (reverse before) in
     let v = variable_of l in
     let whole : variables (reverse (l ∷ before)) ≡ vs ++ v ∷ [] =
     ap variables (reverse-append (l ∷ []) before) ∙ map-append variable_of (reverse before) (l ∷ []) in
-    subst (λ ws. AreOver ws (map (λ c. c ++ l ∷ []) (parity_clauses even before) ++ map (λ c. c ++ opposite l ∷ []) (parity_clauses (not even) before)))
+    subst (λ ws. AreOver ws (map (λ c. c ++ l ∷ []) (parity_clauses even before) ++ map (λ c. c ++ opposite l ∷ [])
+    (parity_clauses (not even) before)))
     (sym whole)
-    (both (vs ++ v ∷ []) (map (λ c. c ++ l ∷ []) (parity_clauses even before)) (map (λ c. c ++ opposite l ∷ []) (parity_clauses (not even) before))
+    (both (vs ++ v ∷ []) (map (λ c. c ++ l ∷ []) (parity_clauses even before))
+    (map (λ c. c ++ opposite l ∷ []) (parity_clauses (not even) before))
     (with_last vs v l refl (parity_clauses even before) here)
     (with_last vs v (opposite l) (opposite_stands l) (parity_clauses (not even) before) there))
 
@@ -107,7 +113,8 @@ to_literals : (n : ℕ) (ls : List Literal) → AllByRecursion (IsVariable n) (v
 to_literals n [] are = tt
 to_literals n (l ∷ ls) are = (are.0, to_literals n ls are.1)
 
-pub same_range : (n : ℕ) (ls c : List Literal) → variables c ≡ variables ls → AllByRecursion (InRange n) ls → AllByRecursion (InRange n) c
+pub same_range : (n : ℕ) (ls c : List Literal) → variables c ≡ variables ls → AllByRecursion (InRange n) ls →
+    AllByRecursion (InRange n) c
 same_range n ls c same are = to_literals n c (subst (AllByRecursion (IsVariable n)) (sym same) (of_literals n ls are))
 
 abbrev pub AreApart : List Literal → Type 0
@@ -137,28 +144,34 @@ or_false : (a b : Bool) → (a || b) ≡ false → (a ≡ false) × (b ≡ false
 or_false true b h = cc
 or_false false b h = (refl, h)
 
-none_same : (ls : List Literal) (l : Literal) → list_any (stands_on (variable_of l)) ls ≡ false → list_any (same_literal l) ls ≡ false
+none_same : (ls : List Literal) (l : Literal) → list_any (stands_on (variable_of l)) ls ≡ false →
+    list_any (same_literal l) ls ≡ false
 none_same [] l none = refl
 none_same (k ∷ ks) l none =
     let parts = or_false (variable_of k == variable_of l) (list_any (stands_on (variable_of l)) ks) none in
     ap (λ b. b || list_any (same_literal l) ks) (same_stands k l (eqb-false (variable_of k) (variable_of l) parts.0))
     ∙ none_same ks l parts.1
 
-pub added_behind : (ls : List Literal) (l : Literal) → list_any (stands_on (variable_of l)) ls ≡ false → add_literal ls l ≡ ls ++ l ∷ []
+pub added_behind : (ls : List Literal) (l : Literal) → list_any (stands_on (variable_of l)) ls ≡ false →
+    add_literal ls l ≡ ls ++ l ∷ []
 added_behind ls l none = ap (λ b. cond b ls (ls ++ l ∷ [])) (none_same ls l none)
 
-apart_from : (ls : List Literal) (l : Literal) → list_any (stands_on (variable_of l)) ls ≡ false → (k : ℕ) (d : Literal) → k < length ls → variable_of (get_or ls k d) ≢ variable_of l
+apart_from : (ls : List Literal) (l : Literal) → list_any (stands_on (variable_of l)) ls ≡ false →
+    (k : ℕ) (d : Literal) → k < length ls → variable_of (get_or ls k d) ≢ variable_of l
 apart_from ls l none k d below same =
-    true≢false (sym (list_any_at (stands_on (variable_of l)) ls k d below (eq-eqb (variable_of (get_or ls k d)) (variable_of l) same)) ∙ none)
+    true≢false (sym (list_any_at (stands_on (variable_of l)) ls k d below
+    (eq-eqb (variable_of (get_or ls k d)) (variable_of l) same)) ∙ none)
 
-pub stays_apart : (ls : List Literal) (l : Literal) → AreApart ls → list_any (stands_on (variable_of l)) ls ≡ false → AreApart (ls ++ l ∷ [])
+pub stays_apart : (ls : List Literal) (l : Literal) → AreApart ls → list_any (stands_on (variable_of l)) ls ≡ false →
+    AreApart (ls ++ l ∷ [])
 stays_apart ls l apart none = all_pairs_push (λ k m. variable_of k ≢ variable_of m) ls l apart (apart_from ls l none)
 
 at_front : (front back : List Literal) (l d : Literal) → get_or (front ++ l ∷ back) (length front) d ≡ l
 at_front [] back l d = refl
 at_front (k ∷ front) back l d = at_front front back l d
 
-pub none_before : (front back : List Literal) (l : Literal) → AreApart (front ++ l ∷ back) → list_any (stands_on (variable_of l)) front ≡ false
+pub none_before : (front back : List Literal) (l : Literal) → AreApart (front ++ l ∷ back) →
+    list_any (stands_on (variable_of l)) front ≡ false
 none_before [] back l apart = refl
 none_before (k ∷ front) back l apart =
     let differs : variable_of k ≢ variable_of l = λ h.
@@ -173,7 +186,8 @@ pub record Goes (r : Reading) (ls : List Literal) (v : ℕ) : Type 0 where
   pub room : length ls < max_xor
   pub none : list_any (stands_on v) ls ≡ false
 
-checked : (b : Bool) (name : FormulaFault) (rest : Option FormulaFault) → fault_if b name rest ≡ None → (b ≡ false) × (rest ≡ None)
+checked : (b : Bool) (name : FormulaFault) (rest : Option FormulaFault) → fault_if b name rest ≡ None →
+    (b ≡ false) × (rest ≡ None)
 checked true name rest h = cc
 checked false name rest h = (refl, h)
 

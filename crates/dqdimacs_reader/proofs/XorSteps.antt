@@ -23,20 +23,31 @@ record Grown (r : Reading) (ls : List Literal) (l : Literal) : Type 0 where
   clause : IsClause r (ls ++ l ∷ [])
   line : IsXorLine (ls ++ l ∷ [])
 
-grown : (r : Reading) (ls : List Literal) (v : ℕ) (l : Literal) → variable_of l ≡ v → Goes r ls v → IsClause r ls → IsXorLine ls → Grown r ls l
+grown : (r : Reading) (ls : List Literal) (v : ℕ) (l : Literal) → variable_of l ≡ v → Goes r ls v → IsClause r ls →
+    IsXorLine ls → Grown r ls l
 grown r ls v l on g is line =
     let none = subst (λ w. list_any (stands_on w) ls ≡ false) (sym on) g.none in
     record {
       added = added_behind ls l none;
-      clause = record { due = is.due; in_range = All-push (λ k. variable_of k ≤ r.formula.variables) ls l is.in_range (omega (arith, on, g.in_range)) };
-      line = record { few = omega (arith, g.room, length-append ls (l ∷ [])); apart = stays_apart ls l line.apart none };
+      clause = record {
+        due = is.due;
+        in_range = All-push (λ k. variable_of k ≤ r.formula.variables) ls l is.in_range
+            (omega (arith, on, g.in_range));
+      };
+      line = record {
+        few = omega (arith, g.room, length-append ls (l ∷ []));
+        apart =
+            stays_apart ls l line.apart none;
+      };
     }
 
 passes : (r : Reading) (ls : List Literal) (v : ℕ) → (v == 0) ≡ false →
     cond (v == 0) (check_xor_end r ls) (check_xor_literal r ls v) ≡ None → check_xor_literal r ls v ≡ None
 passes r ls v more passed = ap (λ b. cond b (check_xor_end r ls) (check_xor_literal r ls v)) (sym more) ∙ passed
 
-module _ (s : Stage) (r : Reading) (y : ℕ) (xs : List ℕ) (ls new : List Literal) (v : ℕ) (k l : Literal) (same : k ≡ l) (at : s ≡ Xor) (on : variable_of l ≡ v) (other : v ≢ 0) (passed : cond (v == 0) (check_xor_end r ls) (check_xor_literal r ls v) ≡ None) (ready : IsReadyAt s r y xs ls) where
+module _ (s : Stage) (r : Reading) (y : ℕ) (xs : List ℕ) (ls new : List Literal) (v : ℕ) (k l : Literal) (same : k ≡ l)
+    (at : s ≡ Xor) (on : variable_of l ≡ v) (other : v ≢ 0) (passed : cond (v == 0) (check_xor_end r ls)
+    (check_xor_literal r ls v) ≡ None) (ready : IsReadyAt s r y xs ls) where
   more : (v == 0) ≡ false
   more = ne_eqb v 0 other
 
@@ -46,15 +57,18 @@ module _ (s : Stage) (r : Reading) (y : ℕ) (xs : List ℕ) (ls new : List Lite
   step : Grown r ls l
   step = grown r ls v l on (goes r ls v (passes r ls v more passed)) here.0 here.1
 
-  pub xor_state : (res : Result (Unit {0}) Memory) → OnOk res (new ≡ add_literal ls k) → OnOk res (state_at s r y xs new ≡ xor_literal_or_end r ls v l)
+  pub xor_state : (res : Result (Unit {0}) Memory) → OnOk res (new ≡ add_literal ls k) →
+      OnOk res (state_at s r y xs new ≡ xor_literal_or_end r ls v l)
   xor_state (Ok u) added =
       ap (λ t. state_at t r y xs new) at
       ∙ ap (in_xor r) (added ∙ ap (add_literal ls) same ∙ step.added)
       ∙ ap (λ b. cond b (at_part (with_constraint r (add_xor r.formula ls))) (in_xor r (ls ++ l ∷ []))) (sym more)
   xor_state (Err e) added = tt
 
-  pub xor_ready : (res : Result (Unit {0}) Memory) → OnOk res (new ≡ add_literal ls k) → OnOk res (IsReadyAt s r y xs new)
+  pub xor_ready : (res : Result (Unit {0}) Memory) → OnOk res (new ≡ add_literal ls k) →
+      OnOk res (IsReadyAt s r y xs new)
   xor_ready (Ok u) added =
       subst (λ t. IsReadyAt t r y xs new) (sym at)
-      (subst (λ ms. IsReadyAt Xor r y xs ms) (sym (added ∙ ap (add_literal ls) same ∙ step.added)) (step.clause, step.line))
+      (subst (λ ms. IsReadyAt Xor r y xs ms) (sym (added ∙ ap (add_literal ls) same ∙ step.added))
+      (step.clause, step.line))
   xor_ready (Err e) added = tt

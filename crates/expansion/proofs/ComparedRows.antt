@@ -18,20 +18,25 @@ use Rattle.expansion.specs.FirstRows.{sees_of, bits_cmp}
 use Rattle.expansion.proofs.Firsts.{same_bits-sound}
 
 -- a universal's bit, by its place
-pub bit_there : (f : Dqbf) (row : List Bool) (x at : ℕ) (bit : Bool) → length row ≡ length f.universals → position (λ u. u == x) f.universals ≡ Some at → bit ≡ get_or row at false
+pub bit_there : (f : Dqbf) (row : List Bool) (x at : ℕ) (bit : Bool) → length row ≡ length f.universals →
+    position (λ u. u == x) f.universals ≡ Some at → bit ≡ get_or row at false
     → bit ≡ row_assignment f row x
-bit_there f row x at bit whole found is = is ∙ ap (λ k. get_or row k false) (sym (place-found f.universals x at found).0) ∙ assignment_of-place f.universals row x whole
+bit_there f row x at bit whole found is = is ∙ ap (λ k. get_or row k false)
+    (sym (place-found f.universals x at found).0) ∙ assignment_of-place f.universals row x whole
 
-pub bit_nowhere : (f : Dqbf) (row : List Bool) (x : ℕ) → length row ≡ length f.universals → position (λ u. u == x) f.universals ≡ None → false ≡ row_assignment f row x
+pub bit_nowhere : (f : Dqbf) (row : List Bool) (x : ℕ) → length row ≡ length f.universals →
+    position (λ u. u == x) f.universals ≡ None → false ≡ row_assignment f row x
 bit_nowhere f row x whole none =
     let end = place-absent (λ u. u == x) f.universals none in
-    sym (get_or_past row (position_or_len (λ u. u == x) f.universals) false (omega (arith, end, whole))) ∙ assignment_of-place f.universals row x whole
+    sym (get_or_past row (position_or_len (λ u. u == x) f.universals) false (omega (arith, end, whole)))
+    ∙ assignment_of-place f.universals row x whole
 
 -- the universals are distinct
 first_part_distinct : (us vs : List ℕ) → AllPairs (λ v w. v ≢ w) (us ++ vs) → AllPairs (λ v w. v ≢ w) us
 first_part_distinct us vs once i j d order inside e =
     let more = length-append us vs in
-    once i j d order (omega (arith, inside, more)) (get_or-append us vs d i (omega (arith, order, inside)) ∙ e ∙ sym (get_or-append us vs d j inside))
+    once i j d order (omega (arith, inside, more)) (get_or-append us vs d i (omega (arith, order, inside)) ∙ e ∙ sym
+    (get_or-append us vs d j inside))
 
 pub distinct_universals : (us vs : List ℕ) → AllPairs (λ v w. v ≢ w) (us ++ vs) → IsDistinct eqb us
 distinct_universals us vs once = IsDistinct-from_AllPairs Decides-eqb us (first_part_distinct us vs once)
@@ -60,11 +65,14 @@ cmp_equal (false ∷ xs) (true ∷ ys) e = cc
 cmp_equal (false ∷ xs) (false ∷ ys) e = ap (λ zs. false ∷ zs) (cmp_equal xs ys e)
 
 -- lists that agree at every place
-pub cmp_from_places : (xs ys : List Bool) → length xs ≡ length ys → ((k : ℕ) → k < length xs → get_or xs k false ≡ get_or ys k false) → Equal ≡ bits_cmp xs ys
-cmp_from_places xs ys long same = sym (ap (bits_cmp xs) (sym (same_bits-sound xs ys (same_bits-from_places xs ys long same))) ∙ cmp_self xs)
+pub cmp_from_places : (xs ys : List Bool) → length xs ≡ length ys →
+    ((k : ℕ) → k < length xs → get_or xs k false ≡ get_or ys k false) → Equal ≡ bits_cmp xs ys
+cmp_from_places xs ys long same = sym (ap (bits_cmp xs) (sym
+    (same_bits-sound xs ys (same_bits-from_places xs ys long same))) ∙ cmp_self xs)
 
 -- the first place where they differ decides
-pub cmp_from_difference : (xs ys : List Bool) (i : ℕ) → i < length xs → i < length ys → ((k : ℕ) → k < i → get_or xs k false ≡ get_or ys k false)
+pub cmp_from_difference : (xs ys : List Bool) (i : ℕ) → i < length xs → i < length ys →
+    ((k : ℕ) → k < i → get_or xs k false ≡ get_or ys k false)
     → (get_or xs i false ≡ get_or ys i false → ⊥) → bool_cmp (get_or xs i false) (get_or ys i false) ≡ bits_cmp xs ys
 cmp_from_difference [] ys i low low' same other = absurd (omega (arith, low))
 cmp_from_difference (x ∷ xs) [] i low low' same other = absurd (omega (arith, low'))
@@ -76,7 +84,8 @@ cmp_from_difference (x ∷ xs) (y ∷ ys) zero low low' same other = by x y othe
     by false true e = refl
     by false false e = absurd (e refl)
 cmp_from_difference (x ∷ xs) (y ∷ ys) (suc i) low low' same other =
-    cmp_from_difference xs ys i (omega (arith, low)) (omega (arith, low')) (λ k lt. same (suc k) (omega (arith, lt))) other ∙ by x y (same zero (omega arith))
+    cmp_from_difference xs ys i (omega (arith, low)) (omega (arith, low'))
+    (λ k lt. same (suc k) (omega (arith, lt))) other ∙ by x y (same zero (omega arith))
   where
     by : (a b : Bool) → a ≡ b → bits_cmp xs ys ≡ ordering_then (bool_cmp a b) (bits_cmp xs ys)
     by true true e = refl

@@ -19,12 +19,18 @@ none_below true n o h = cc
 none_below false n o h = h
 
 -- a group without a name has no clause
-not_given : (f : Dqbf) (engine : Engine) (g : ℕ) (es : List Entry) → AreLogged es → name_of es g ≡ None → Each (IsOwnGiven f engine g) es
+not_given : (f : Dqbf) (engine : Engine) (g : ℕ) (es : List Entry) → AreLogged es → name_of es g ≡ None →
+    Each (IsOwnGiven f engine g) es
 not_given f engine g [] lawful none = tt
-not_given f engine g (Named w n ∷ es) lawful none = (tt, not_given f engine g es lawful.1 (none_below (g == w) n (name_of es g) none))
+not_given f engine g (Named w n ∷ es) lawful none = (
+  tt,
+  not_given f engine g es lawful.1
+      (none_below (g == w) n (name_of es g) none),
+)
 not_given f engine g (Given origin c ∷ es) lawful none = (
   λ inside.
-      let named = All-head (λ l. IsSome (name_of es (variable_of l))) (negative g) inside.0 (subst (All (λ l. IsSome (name_of es (variable_of l)))) inside.1 lawful.0) in
+      let named = All-head (λ l. IsSome (name_of es (variable_of l))) (negative g) inside.0
+      (subst (All (λ l. IsSome (name_of es (variable_of l)))) inside.1 lawful.0) in
       absurd (no_some (name_of es g) none named),
   not_given f engine g es lawful.1 none,
 )
@@ -37,7 +43,8 @@ not_given f engine g (Answer c hints ∷ es) lawful none = (tt, not_given f engi
 not_given f engine g (Round row values j ∷ es) lawful none = (tt, not_given f engine g es lawful.1 none)
 not_given f engine g (Begun live ∷ es) lawful none = (tt, not_given f engine g es lawful.1 none)
 
-pub group_grew : (f : Dqbf) (engine : Engine) (group g : ℕ) (old new : ProofLog) → name_of old.entries g ≡ None → new ≡ with_entry old (Named g (Selector g)) →
+pub group_grew : (f : Dqbf) (engine : Engine) (group g : ℕ) (old new : ProofLog) → name_of old.entries g ≡ None →
+    new ≡ with_entry old (Named g (Selector g)) →
     Grew (IsAddedBy f engine group true old.entries) old new
 group_grew f engine group g old new unnamed is = record {
   more = Named g (Selector g) ∷ [];
@@ -52,14 +59,17 @@ no_part engine [] none = refl
 no_part engine (e ∷ es) none =
     elim (cases_Bool (is_own engine e)) [
       | inl own ↦ absurd (none e own (0, omega arith, refl))
-      | inr foreign ↦ ap (λ b. cond b (e ∷ part engine es) (part engine es)) foreign ∙ no_part engine es (λ x own has. none x own (later x has))
+      | inr foreign ↦ ap (λ b. cond b (e ∷ part engine es) (part engine es)) foreign ∙ no_part engine es
+          (λ x own has. none x own (later x has))
     ]
   where
     later : (x : Entry) → Contains es x → Contains (e ∷ es) x
     later x (k, lt, at) = (suc k, omega (arith, lt), at)
 
-pub no_rows : (f : Dqbf) (g : ℕ) (variables : List ℕ) (index : RowIndex) (old new : ProofLog) → AreLogged old.entries → HasNone instances old.entries → name_of old.entries g ≡ None →
-    new ≡ with_entry old (Named g (Selector g)) → variables ≡ map (λ y. y.variable) f.existentials → IsRowIndex f [] index
+pub no_rows : (f : Dqbf) (g : ℕ) (variables : List ℕ) (index : RowIndex) (old new : ProofLog) → AreLogged old.entries →
+    HasNone instances old.entries → name_of old.entries g ≡ None →
+    new ≡ with_entry old (Named g (Selector g)) → variables ≡ map (λ y. y.variable) f.existentials →
+    IsRowIndex f [] index
     → IsTable f (record { group = g; existentials = variables; rows = []; pairs = []; first_rows = index }) new.entries
 no_rows f g variables index old new lawful none unnamed is variables_are first_rows =
     let t : TableState = record { group = g; existentials = variables; rows = []; pairs = []; first_rows = index } in

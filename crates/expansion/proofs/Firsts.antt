@@ -35,22 +35,27 @@ same_bits-sound (false ∷ xs) (true ∷ ys) h = cc
 same_bits-sound (false ∷ xs) (false ∷ ys) h = ap (λ zs. false ∷ zs) (same_bits-sound xs ys h)
 
 -- a row agrees with itself, so that rows behind it don't matter
-pub same_arbiter : (f : Dqbf) (rows more : List (List Bool)) (k : ℕ) (row : List Bool) (y : Existential) → slice_get rows k ≡ Some row → arbiter f rows row y ≡ arbiter f (rows ++ more) row y
+pub same_arbiter : (f : Dqbf) (rows more : List (List Bool)) (k : ℕ) (row : List Bool) (y : Existential) →
+    slice_get rows k ≡ Some row → arbiter f rows row y ≡ arbiter f (rows ++ more) row y
 same_arbiter f rows more k row y is =
     let at = get_or_from_slice_get rows k row [] is in
-    let here : agree_on f y row (get_or rows k []) ≡ true = ap (agree_on f y row) at ∙ same_bits-refl (restriction y (row_assignment f row)) in
+    let here : agree_on f y row (get_or rows k []) ≡ true = ap (agree_on f y row) at ∙ same_bits-refl
+    (restriction y (row_assignment f row)) in
     let found = position_small (agree_on f y row) rows k [] (slice_get_within rows k row is) here in
     ap (λ p. Pair (p + 1) y.variable) (sym (position_append (agree_on f y row) rows more found))
 
 -- where the first row that agrees is an old one, it has the same arbiter
-pub arbiter_of_first : (f : Dqbf) (rows more : List (List Bool)) (row first : List Bool) (y : Existential) → agree_on f y row first ≡ true
+pub arbiter_of_first : (f : Dqbf) (rows more : List (List Bool)) (row first : List Bool) (y : Existential) →
+    agree_on f y row first ≡ true
     → arbiter f (rows ++ more) first y ≡ arbiter f (rows ++ more) row y
 arbiter_of_first f rows more row first y agrees =
-    ap (λ bits. Pair (position_or_len (λ r. same_bits bits (restriction y (row_assignment f r))) (rows ++ more) + 1) y.variable)
+    ap (λ bits. Pair (position_or_len (λ r. same_bits bits (restriction y (row_assignment f r))) (rows ++ more) + 1)
+    y.variable)
     (sym (same_bits-sound (restriction y (row_assignment f row)) (restriction y (row_assignment f first)) agrees))
 
 -- where none agrees, the new row is the first itself
-pub arbiter_of_new : (f : Dqbf) (rows : List (List Bool)) (row : List Bool) (y : Existential) (first : ℕ) → first ≡ position_or_len (agree_on f y row) rows → length rows ≤ first
+pub arbiter_of_new : (f : Dqbf) (rows : List (List Bool)) (row : List Bool) (y : Existential) (first : ℕ) →
+    first ≡ position_or_len (agree_on f y row) rows → length rows ≤ first
     → first ≤ length rows → arbiter f (rows ++ row ∷ []) row y ≡ Pair (length rows + 1) y.variable
 arbiter_of_new f rows row y first first_is past within =
     let n = length rows in
@@ -58,13 +63,16 @@ arbiter_of_new f rows row y first first_is past within =
     let self : agree_on f y row row ≡ true = same_bits-refl (restriction y (row_assignment f row)) in
     ap (λ p. Pair (p + 1) y.variable)
     (position_or_len_push (agree_on f y row) rows row
-    ∙ ap (λ b. cond b (n + cond (agree_on f y row row) 0 1) (position_or_len (agree_on f y row) rows)) (eq-eqb (position_or_len (agree_on f y row) rows) n place)
+    ∙ ap (λ b. cond b (n + cond (agree_on f y row row) 0 1) (position_or_len (agree_on f y row) rows))
+    (eq-eqb (position_or_len (agree_on f y row) rows) n place)
     ∙ ap (λ b. n + cond b 0 1) self ∙ omega arith)
 
-first_or_later : (p : List Bool → Bool) (r : List Bool) (rs : List (List Bool)) (n : ℕ) (b : Bool) → p r ≡ b → (n < length rs → p (get_or rs n []) ≡ true)
+first_or_later : (p : List Bool → Bool) (r : List Bool) (rs : List (List Bool)) (n : ℕ) (b : Bool) → p r ≡ b →
+    (n < length rs → p (get_or rs n []) ≡ true)
     → cond (not b) (1 + n) 0 < suc (length rs) → p (get_or (r ∷ rs) (cond (not b) (1 + n) 0) []) ≡ true
 first_or_later p r rs n true here later h = here
-first_or_later p r rs n false here later h = let next : 1 + n ≡ suc n = omega arith in rw next (later (omega (arith, h)))
+first_or_later p r rs n false here later h = let next : 1 + n ≡ suc n = omega arith in
+    rw next (later (omega (arith, h)))
 
 pub position_within : (p : List Bool → Bool) (rs : List (List Bool)) → position_or_len p rs ≤ length rs
 position_within p [] = omega arith
@@ -75,12 +83,14 @@ position_within p (r ∷ rs) = by (p r) (position_within p rs)
     by false le = omega (arith, le)
 
 -- the first row that passes a test passes it
-pub passes_there : (p : List Bool → Bool) (rs : List (List Bool)) → position_or_len p rs < length rs → p (get_or rs (position_or_len p rs) []) ≡ true
+pub passes_there : (p : List Bool → Bool) (rs : List (List Bool)) → position_or_len p rs < length rs →
+    p (get_or rs (position_or_len p rs) []) ≡ true
 passes_there p [] lt = absurd (omega (arith, lt))
 passes_there p (r ∷ rs) lt = first_or_later p r rs (position_or_len p rs) (p r) refl (passes_there p rs) lt
 
 -- lists of names go by the names alone
-pub names_same : (g h : Existential → Name) → ((y : Existential) → g y ≡ h y) → (ys : List Existential) → map (λ y. Some (g y)) ys ≡ map (λ y. Some (h y)) ys
+pub names_same : (g h : Existential → Name) → ((y : Existential) → g y ≡ h y) → (ys : List Existential) →
+    map (λ y. Some (g y)) ys ≡ map (λ y. Some (h y)) ys
 names_same g h same [] = refl
 names_same g h same (y ∷ ys) = ap2 (same y) (names_same g h same ys)
   where
@@ -93,14 +103,20 @@ pub instance_same : (f : Dqbf) (g h : Existential → Name) → ((y : Existentia
 instance_same f g h same [] = refl
 instance_same f g h same (l ∷ clause) = step (existential_of f (variable_of l)) (instance_same f g h same clause)
   where
-    step : (o : Option Existential) → {ns ms : List NamedLiteral} → ns ≡ ms → cons_option (option_map (λ y. named_literal (g y) (is_negative l)) o) ns ≡ cons_option (option_map (λ y. named_literal (h y) (is_negative l)) o) ms
+    step : (o : Option Existential) → {ns ms : List NamedLiteral} → ns ≡ ms →
+        cons_option (option_map (λ y. named_literal (g y) (is_negative l)) o) ns ≡ cons_option
+        (option_map (λ y. named_literal (h y) (is_negative l)) o) ms
     step None rest = rest
-    step (Some y) rest = let e : named_literal (g y) (is_negative l) ≡ named_literal (h y) (is_negative l) = ap (λ n. named_literal n (is_negative l)) (same y) in cc
+    step (Some y) rest = let e : named_literal (g y) (is_negative l) ≡ named_literal (h y) (is_negative l) =
+        ap (λ n. named_literal n (is_negative l)) (same y) in cc
 
-pub first_is : (p : List Bool → Bool) (rows : List (List Bool)) (i : ℕ) → i < length rows → ((k : ℕ) → k < i → p (get_or rows k []) ≡ false) → p (get_or rows i []) ≡ true
+pub first_is : (p : List Bool → Bool) (rows : List (List Bool)) (i : ℕ) → i < length rows →
+    ((k : ℕ) → k < i → p (get_or rows k []) ≡ false) → p (get_or rows i []) ≡ true
     → i ≡ position_or_len p rows
 first_is p rows i lt before here = sym (position_or_len_is p rows i [] (omega (arith, lt)) before (λ _. here))
 
-pub none_is : (p : List Bool → Bool) (rows : List (List Bool)) (i : ℕ) → length rows ≤ i → ((k : ℕ) → k < i → p (get_or rows k []) ≡ false) → length rows ≡ position_or_len p rows
+pub none_is : (p : List Bool → Bool) (rows : List (List Bool)) (i : ℕ) → length rows ≤ i →
+    ((k : ℕ) → k < i → p (get_or rows k []) ≡ false) → length rows ≡ position_or_len p rows
 none_is p rows i past before =
-    sym (position_or_len_is p rows (length rows) [] (omega arith) (λ k lt. before k (omega (arith, lt, past))) (λ lt. absurd (omega (arith, lt))))
+    sym (position_or_len_is p rows (length rows) [] (omega arith) (λ k lt. before k (omega (arith, lt, past)))
+    (λ lt. absurd (omega (arith, lt))))

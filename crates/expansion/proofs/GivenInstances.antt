@@ -34,7 +34,8 @@ rounds_are_rows (Named v n ∷ es) = rounds_are_rows es
 rounds_are_rows (Given o c ∷ es) = rounds_are_rows es
 rounds_are_rows (Learned c hs ∷ es) = rounds_are_rows es
 rounds_are_rows (Answer c hs ∷ es) = rounds_are_rows es
-rounds_are_rows (Round r b j ∷ es) = let before = rounds_are_rows es in let many = length-append (rows_of es) (r ∷ []) in omega (arith, before, many)
+rounds_are_rows (Round r b j ∷ es) = let before = rounds_are_rows es in let many =
+    length-append (rows_of es) (r ∷ []) in omega (arith, before, many)
 rounds_are_rows (Begun live ∷ es) = rounds_are_rows es
 
 last_same : {X : Type 0} (xs ys : List X) (x y : X) → xs ++ x ∷ [] ≡ ys ++ y ∷ [] → (xs ≡ ys) × (x ≡ y)
@@ -51,24 +52,30 @@ last_same (z ∷ xs) (w ∷ ys) x y e =
     let behind = last_same xs ys x y tail in
     (ap (λ v. v ∷ xs) head ∙ ap (λ vs. w ∷ vs) behind.0, behind.1)
 
-newest_row : (es : List Entry) (rows : List (List Bool)) (row : List Bool) → rows_of es ≡ rows ++ row ∷ [] → row_at es (length rows + 1) ≡ Some row
-newest_row [] rows row is = let many = length-append rows (row ∷ []) in let none = ap length is in absurd (omega (arith, many, none))
+newest_row : (es : List Entry) (rows : List (List Bool)) (row : List Bool) → rows_of es ≡ rows ++ row ∷ [] →
+    row_at es (length rows + 1) ≡ Some row
+newest_row [] rows row is = let many = length-append rows (row ∷ []) in let none = ap length is in
+    absurd (omega (arith, many, none))
 newest_row (Named v n ∷ es) rows row is = newest_row es rows row is
 newest_row (Given o c ∷ es) rows row is = newest_row es rows row is
 newest_row (Learned c hs ∷ es) rows row is = newest_row es rows row is
 newest_row (Answer c hs ∷ es) rows row is = newest_row es rows row is
 newest_row (Round r b j ∷ es) rows row is =
     let same = last_same (rows_of es) rows r row is in
-    let counted : length rows + 1 ≡ rounds_of es + 1 = let before = rounds_are_rows es in let many = ap length same.0 in omega (arith, before, many) in
-    ap (λ t. option_and_then row_of (cond t (Some (Round r b j)) (numbered is_round es (length rows + 1)))) (eq-eqb (length rows + 1) (rounds_of es + 1) counted) ∙ ap Some same.1
+    let counted : length rows + 1 ≡ rounds_of es + 1 = let before = rounds_are_rows es in let many = ap length same.0 in
+    omega (arith, before, many) in
+    ap (λ t. option_and_then row_of (cond t (Some (Round r b j)) (numbered is_round es (length rows + 1))))
+    (eq-eqb (length rows + 1) (rounds_of es + 1) counted) ∙ ap Some same.1
 newest_row (Begun live ∷ es) rows row is = newest_row es rows row is
 
 -- what is the table's is in its part
-pub own_contains : (es : List Entry) (e : Entry) → is_own instances e ≡ true → Contains es e → Contains (part instances es) e
+pub own_contains : (es : List Entry) (e : Entry) → is_own instances e ≡ true → Contains es e →
+    Contains (part instances es) e
 own_contains [] e mine (k, lt, at) = absurd (omega (arith, lt))
 own_contains (x ∷ es) e mine has =
     elim (head_or_tail e x es has) [
-      | inl here ↦ subst (λ b. Contains (cond b (x ∷ part instances es) (part instances es)) e) (sym (ap (is_own instances) here ∙ mine)) (0, omega arith, here)
+      | inl here ↦ subst (λ b. Contains (cond b (x ∷ part instances es) (part instances es)) e)
+          (sym (ap (is_own instances) here ∙ mine)) (0, omega arith, here)
       | inr behind ↦ past (is_own instances x) (own_contains es e mine behind)
     ]
   where
@@ -81,8 +88,10 @@ pub named_range : (es : List Entry) (v : ℕ) (n : Name) → AreLogged es → na
 named_range [] v n logged is = cc
 named_range (Named w m ∷ es) v n logged is = by (v == w) refl (named_range es v n logged.1) is
   where
-    by : (b : Bool) → (v == w) ≡ b → (name_of es v ≡ Some n → (1 ≤ v) × (v < 2 ^ 62)) → cond b (Some m) (name_of es v) ≡ Some n → (1 ≤ v) × (v < 2 ^ 62)
-    by true same before h = subst (λ u. (1 ≤ u) × (u < 2 ^ 62)) (sym (eqb-true v w same)) (logged.0.from_one, logged.0.in_range)
+    by : (b : Bool) → (v == w) ≡ b → (name_of es v ≡ Some n → (1 ≤ v) × (v < 2 ^ 62)) →
+        cond b (Some m) (name_of es v) ≡ Some n → (1 ≤ v) × (v < 2 ^ 62)
+    by true same before h = subst (λ u. (1 ≤ u) × (u < 2 ^ 62)) (sym (eqb-true v w same))
+        (logged.0.from_one, logged.0.in_range)
     by false other before h = before h
 named_range (Given o c ∷ es) v n logged is = named_range es v n logged.1 is
 named_range (Learned c hs ∷ es) v n logged is = named_range es v n logged.1 is
@@ -90,7 +99,8 @@ named_range (Answer c hs ∷ es) v n logged is = named_range es v n logged.1 is
 named_range (Round r b j ∷ es) v n logged is = named_range es v n logged.1 is
 named_range (Begun live ∷ es) v n logged is = named_range es v n logged.1 is
 
-pub arbiters_in_range : (es : List Entry) (g : Existential → Name) (vs : List ℕ) (ys : List Existential) → AreLogged es → map (name_of (part instances es)) vs ≡ map (λ y. Some (g y)) ys → AreInRange vs
+pub arbiters_in_range : (es : List Entry) (g : Existential → Name) (vs : List ℕ) (ys : List Existential) →
+    AreLogged es → map (name_of (part instances es)) vs ≡ map (λ y. Some (g y)) ys → AreInRange vs
 arbiters_in_range es g [] ys logged are k d below = absurd (omega (arith, below))
 arbiters_in_range es g (v ∷ vs) [] logged are k d below = cc
 arbiters_in_range es g (v ∷ vs) (y ∷ ys) logged are zero d below =
@@ -102,13 +112,18 @@ arbiters_in_range es g (v ∷ vs) (y ∷ ys) logged are (suc k) d below =
 
 -- literals of pairs are no selectors
 module _ (f : Dqbf) (es : List Entry) (logged : AreLogged es) (rows : List (List Bool)) (row : List Bool) where
-  pub pairs_plain : (clause lits : List Literal) → AreNamedAs (part instances es) lits (filter_map (on_arbiter f rows row) clause) → All (IsPlain es) lits
+  pub pairs_plain : (clause lits : List Literal) → AreNamedAs (part instances es) lits
+      (filter_map (on_arbiter f rows row) clause) → All (IsPlain es) lits
   pairs_plain [] [] is = λ k d below. absurd (omega (arith, below))
   pairs_plain [] (r ∷ lits) is = λ k d below. cc
   pairs_plain (l ∷ clause) lits is = by_option (pairs_plain clause) (existential_of f (variable_of l)) lits is
     where
-      by_option : ((lits : List Literal) → AreNamedAs (part instances es) lits (filter_map (on_arbiter f rows row) clause) → All (IsPlain es) lits) → (o : Option Existential) → (lits : List Literal)
-          → map (name_literal (part instances es)) lits ≡ map Some (cons_option (option_map (λ y. named_literal (arbiter f rows row y) (is_negative l)) o) (filter_map (on_arbiter f rows row) clause))
+      by_option : ((lits : List Literal) → AreNamedAs (part instances es) lits
+          (filter_map (on_arbiter f rows row) clause) → All (IsPlain es) lits) → (o : Option Existential) →
+          (lits : List Literal)
+          → map (name_literal (part instances es)) lits ≡ map Some
+          (cons_option (option_map (λ y. named_literal (arbiter f rows row y) (is_negative l)) o)
+          (filter_map (on_arbiter f rows row) clause))
           → All (IsPlain es) lits
       by_option behind None lits is = behind lits is
       by_option behind (Some y) [] is = λ k d below. absurd (omega (arith, below))
@@ -120,7 +135,8 @@ module _ (f : Dqbf) (es : List Entry) (logged : AreLogged es) (rows : List (List
           plain : IsPlain es r
           plain =
               let here : name_literal (part instances es) r ≡ Some (named_literal n (is_negative l)) = cc in
-              let named = named_variable (part instances es) r n (is_negative l) (name_of (part instances es) (variable_of r)) refl here in
+              let named = named_variable (part instances es) r n (is_negative l)
+              (name_of (part instances es) (variable_of r)) refl here in
               let there = own_name instances es (variable_of r) n logged named.0 in
               record { named = subst IsSome (sym there) refl; no_selector = ap is_selector_name there }
 
@@ -129,16 +145,20 @@ module _ (f : Dqbf) (es : List Entry) (logged : AreLogged es) (rows : List (List
 
 -- the instance of the next clause
 given_more : (f : Dqbf) (t : TableState) (row : List Bool) (named given : ℕ) (c : List Literal) (own : List Entry)
-    → ((clause : List Literal) → slice_get f.matrix given ≡ Some clause → list_any (universal_literal_true f row) clause ≡ false
-    → HasInstance f t.group (with_row t row) (Given (Instance (length t.rows + 1) (given + 1)) c ∷ own) (length t.rows) given row clause)
-    → IsAddingPart f t row named given own → IsAddingPart f t row named (given + 1) (Given (Instance (length t.rows + 1) (given + 1)) c ∷ own)
+    → ((clause : List Literal) → slice_get f.matrix given ≡ Some clause →
+    list_any (universal_literal_true f row) clause ≡ false
+    → HasInstance f t.group (with_row t row) (Given (Instance (length t.rows + 1) (given + 1)) c ∷ own)
+    (length t.rows) given row clause)
+    → IsAddingPart f t row named given own → IsAddingPart f t row named (given + 1)
+    (Given (Instance (length t.rows + 1) (given + 1)) c ∷ own)
 given_more f t row named given c own here p = record {
   whole = p.whole;
   pairs_long = p.pairs_long;
   names = p.names;
   given_before = λ k j d has. by_entry k j (head_or_tail (Given (Instance k j) d) e own has);
   arbiters = p.arbiters;
-  complete = λ k j r clause row_is clause_is live. instance_kept f t.group (with_row t row) own after keeps (more_keeps own e) k j r clause (p.complete k j r clause row_is clause_is live);
+  complete = λ k j r clause row_is clause_is live. instance_kept f t.group (with_row t row) own after keeps
+      (more_keeps own e) k j r clause (p.complete k j r clause row_is clause_is live);
   complete_so_far = λ j clause lt clause_is live. by_place j clause clause_is live (below_or_here j given lt);
 }
   where
@@ -151,23 +171,29 @@ given_more f t row named given c own here p = record {
     keeps : KeepsNames own after
     keeps v n is = is
 
-    by_entry : (k j : ℕ) {d : List Literal} → (e ≡ Given (Instance k j) d) ⊎ Contains own (Given (Instance k j) d) → (k ≤ length t.rows) ⊎ ((k ≡ length t.rows + 1) × (j ≤ given + 1))
+    by_entry : (k j : ℕ) {d : List Literal} → (e ≡ Given (Instance k j) d) ⊎ Contains own (Given (Instance k j) d) →
+        (k ≤ length t.rows) ⊎ ((k ≡ length t.rows + 1) × (j ≤ given + 1))
     by_entry k j (inl is) =
         let number : length t.rows + 1 ≡ k = cc in
         let place : given + 1 ≡ j = cc in
         inr (sym number, omega (arith, place))
     by_entry k j (inr behind) = weaker (p.given_before k j _ behind)
       where
-        weaker : (k ≤ length t.rows) ⊎ ((k ≡ length t.rows + 1) × (j ≤ given)) → (k ≤ length t.rows) ⊎ ((k ≡ length t.rows + 1) × (j ≤ given + 1))
+        weaker : (k ≤ length t.rows) ⊎ ((k ≡ length t.rows + 1) × (j ≤ given)) →
+            (k ≤ length t.rows) ⊎ ((k ≡ length t.rows + 1) × (j ≤ given + 1))
         weaker (inl old) = inl old
         weaker (inr (new, le)) = inr (new, omega (arith, le))
 
-    by_place : (j : ℕ) (clause : List Literal) → slice_get f.matrix j ≡ Some clause → list_any (universal_literal_true f row) clause ≡ false → (j < given) ⊎ (j ≡ given)
+    by_place : (j : ℕ) (clause : List Literal) → slice_get f.matrix j ≡ Some clause →
+        list_any (universal_literal_true f row) clause ≡ false → (j < given) ⊎ (j ≡ given)
         → HasInstance f t.group (with_row t row) after (length t.rows) j row clause
-    by_place j clause clause_is live (inl before) = instance_kept f t.group (with_row t row) own after keeps (more_keeps own e) (length t.rows) j row clause (p.complete_so_far j clause before clause_is live)
-    by_place j clause clause_is live (inr now) = subst (λ i. HasInstance f t.group (with_row t row) after (length t.rows) i row clause) (sym now) (here clause (ap (slice_get f.matrix) (sym now) ∙ clause_is) live)
+    by_place j clause clause_is live (inl before) = instance_kept f t.group (with_row t row) own after keeps
+        (more_keeps own e) (length t.rows) j row clause (p.complete_so_far j clause before clause_is live)
+    by_place j clause clause_is live (inr now) = subst (λ i. HasInstance f t.group (with_row t row) after
+        (length t.rows) i row clause) (sym now) (here clause (ap (slice_get f.matrix) (sym now) ∙ clause_is) live)
 
-module _ (f : Dqbf) (t : TableState) (row : List Bool) (j : ℕ) (log : ProofLog) (adding : IsAdding f t row (length f.existentials) j log.entries) (clause : List Literal)
+module _ (f : Dqbf) (t : TableState) (row : List Bool) (j : ℕ) (log : ProofLog)
+    (adding : IsAdding f t row (length f.existentials) j log.entries) (clause : List Literal)
     (below : j < length f.matrix) (clause_is : clause ≡ get_or f.matrix j []) where
   abbrev mine : List Entry
   mine = part instances log.entries
@@ -179,7 +205,8 @@ module _ (f : Dqbf) (t : TableState) (row : List Bool) (j : ℕ) (log : ProofLog
   same_clause other is = let both : Some clause ≡ Some other = sym there ∙ is in cc
 
   -- a clause that a universal makes true has no instance
-  pub passed_next : (new : ProofLog) → list_any (universal_literal_true f row) clause ≡ true → new ≡ log → IsGivenNext f t row j log new
+  pub passed_next : (new : ProofLog) → list_any (universal_literal_true f row) clause ≡ true → new ≡ log →
+      IsGivenNext f t row j log new
   passed_next new done same = subst (IsGivenNext f t row j log) (sym same) (record {
     grew = λ start. grown_by_none (IsAddedBy f instances t.group true start) log log refl;
     adding = record {
@@ -189,18 +216,23 @@ module _ (f : Dqbf) (t : TableState) (row : List Bool) (j : ℕ) (log : ProofLog
       rows = adding.rows;
       faults = adding.faults;
       own = one_more_done f t row (length f.existentials) j mine
-          (λ other other_is live. absurd (true≢false (sym done ∙ ap (list_any (universal_literal_true f row)) (same_clause other other_is) ∙ live))) adding.own;
+          (λ other other_is live. absurd (true≢false (sym done ∙ ap (list_any (universal_literal_true f row))
+          (same_clause other other_is) ∙ live))) adding.own;
     };
     variables = λ vs are. are;
   })
 
-  pub given_next : (sel : Literal) (lits : List Literal) (new : ProofLog) → AreLogged log.entries → is_negative sel ≡ false → variable_of sel ≡ t.group → list_any (universal_literal_true f row) clause ≡ false
-      → AreNamedAs mine lits (filter_map (on_arbiter f (with_row t row) row) clause) → new ≡ with_entry log (Given (Instance (length t.rows + 1) (j + 1)) (opposite sel ∷ lits)) → IsGivenNext f t row j log new
+  pub given_next : (sel : Literal) (lits : List Literal) (new : ProofLog) → AreLogged log.entries →
+      is_negative sel ≡ false → variable_of sel ≡ t.group → list_any (universal_literal_true f row) clause ≡ false
+      → AreNamedAs mine lits (filter_map (on_arbiter f (with_row t row) row) clause) →
+      new ≡ with_entry log (Given (Instance (length t.rows + 1) (j + 1)) (opposite sel ∷ lits)) →
+      IsGivenNext f t row j log new
   given_next sel lits new logged plain sel_is live named added =
       let n = length t.rows + 1 in
       let c : List Literal = negative t.group ∷ lits in
       let e : Entry = Given (Instance n (j + 1)) c in
-      let entry : new ≡ with_entry log e = added ∙ ap (λ s. with_entry log (Given (Instance n (j + 1)) (opposite s ∷ lits))) (switch_is sel t.group plain sel_is) in
+      let entry : new ≡ with_entry log e = added ∙ ap (λ s. with_entry log
+      (Given (Instance n (j + 1)) (opposite s ∷ lits))) (switch_is sel t.group plain sel_is) in
       let keeps : KeepsNames mine log.entries = λ v m is. own_name instances log.entries v m logged is in
       let in_log : AreNamedAs log.entries lits (filter_map (on_arbiter f (rows_of log.entries) row) clause) =
       subst (λ rs. AreNamedAs log.entries lits (filter_map (on_arbiter f rs row) clause)) (sym adding.rows)
@@ -222,11 +254,13 @@ module _ (f : Dqbf) (t : TableState) (row : List Bool) (j : ℕ) (log : ProofLog
         one_leaf = λ v a i a' i' leaf leaf' rest' is. cc;
       } in
       let not_yet : (d : List Literal) → Contains log.entries (Given (Instance n (j + 1)) d) → ⊥ =
-      λ d has. nowhere (adding.own.given_before n (j + 1) d (own_contains log.entries (Given (Instance n (j + 1)) d) refl has)) in
+      λ d has. nowhere (adding.own.given_before n (j + 1) d (own_contains log.entries
+      (Given (Instance n (j + 1)) d) refl has)) in
       let here : HasInstance f t.group (with_row t row) (e ∷ mine) (length t.rows) j row clause = record {
         rest = lits;
         given = (0, omega arith, refl);
-        named = literals_kept mine (e ∷ mine) (λ v m is. is) lits (filter_map (on_arbiter f (with_row t row) row) clause) named;
+        named = literals_kept mine (e ∷ mine) (λ v m is. is) lits
+            (filter_map (on_arbiter f (with_row t row) row) clause) named;
       } in
       subst (IsGivenNext f t row j log) (sym entry) (record {
         grew = λ start. grown_by (IsAddedBy f instances t.group true start) log (with_entry log e) e refl (record {
@@ -242,7 +276,8 @@ module _ (f : Dqbf) (t : TableState) (row : List Bool) (j : ℕ) (log : ProofLog
           rows = adding.rows;
           faults = adding.faults;
           own = given_more f t row (length f.existentials) j c mine
-              (λ other other_is live'. subst (HasInstance f t.group (with_row t row) (e ∷ mine) (length t.rows) j row) (same_clause other other_is) here) adding.own;
+              (λ other other_is live'. subst (HasInstance f t.group (with_row t row) (e ∷ mine) (length t.rows) j row)
+              (same_clause other other_is) here) adding.own;
         };
         variables = λ vs are. are;
       })
@@ -252,15 +287,18 @@ module _ (f : Dqbf) (t : TableState) (row : List Bool) (j : ℕ) (log : ProofLog
       nowhere (inr (same, old)) = omega (arith, old)
 
 -- the instances of the first so many clauses were given
-pub record AreGivenSoFar (f : Dqbf) (t : TableState) (row : List Bool) (vs : List ℕ) (j : ℕ) (old new : ProofLog) : Type 0 where
+pub record AreGivenSoFar (f : Dqbf) (t : TableState) (row : List Bool) (vs : List ℕ) (j : ℕ)
+    (old new : ProofLog) : Type 0 where
   pub grew : (first : List Entry) → Grew (IsAddedBy f instances t.group true first) old new
   pub adding : IsAdding f t row (length f.existentials) j new.entries
   pub variables : AreNewArbiters f t row new.entries vs
 
-pub given_so_far : (f : Dqbf) (t : TableState) (row : List Bool) (vs : List ℕ) (j : ℕ) (old log new : ProofLog) → AreGivenSoFar f t row vs j old log → IsGivenNext f t row j log new
+pub given_so_far : (f : Dqbf) (t : TableState) (row : List Bool) (vs : List ℕ) (j : ℕ) (old log new : ProofLog) →
+    AreGivenSoFar f t row vs j old log → IsGivenNext f t row j log new
     → AreGivenSoFar f t row vs (j + 1) old new
 given_so_far f t row vs j old log new before next = record {
-  grew = λ start. grown_then (IsAddedBy f instances t.group true start) old log new (before.grew start) (next.grew start);
+  grew = λ start. grown_then (IsAddedBy f instances t.group true start) old log new (before.grew start)
+      (next.grew start);
   adding = next.adding;
   variables = next.variables vs before.variables;
 }

@@ -16,7 +16,8 @@ use Rattle.expansion.specs.Table.{AreArbiters}
 use Rattle.expansion.specs.Adding.{signed}
 use Rattle.expansion.proofs.NamedArbiters.{nobody, named_at}
 
-find_at : (ys : List Existential) (w i : ℕ) (d : Existential) → i < length ys → ((k : ℕ) → k < i → ((get_or ys k d).variable == w) ≡ false) → ((get_or ys i d).variable == w) ≡ true
+find_at : (ys : List Existential) (w i : ℕ) (d : Existential) → i < length ys →
+    ((k : ℕ) → k < i → ((get_or ys k d).variable == w) ≡ false) → ((get_or ys i d).variable == w) ≡ true
     → find (λ y. y.variable == w) ys ≡ Some (get_or ys i d)
 find_at [] w i d below before here = absurd (omega (arith, below))
 find_at (y ∷ ys) w zero d below before here = ap (λ b. cond b (Some y) (find (λ z. z.variable == w) ys)) here
@@ -24,14 +25,17 @@ find_at (y ∷ ys) w (suc i) d below before here =
     ap (λ b. cond b (Some y) (find (λ z. z.variable == w) ys)) (before zero (omega arith))
     ∙ find_at ys w i d (omega (arith, below)) (λ k lt. before (suc k) (omega (arith, lt))) here
 
-find_none : (ys : List Existential) (w : ℕ) → position_or_len (λ v. v == w) (map variable ys) ≡ length (map variable ys) → find (λ y. y.variable == w) ys ≡ None
+find_none : (ys : List Existential) (w : ℕ) → position_or_len (λ v. v == w) (map variable ys) ≡ length (map variable ys)
+    → find (λ y. y.variable == w) ys ≡ None
 find_none [] w past = refl
 find_none (y ∷ ys) w past = by (y.variable == w) past (find_none ys w)
   where
     P : ℕ
     P = position_or_len (λ v. v == w) (map variable ys)
 
-    by : (b : Bool) → cond (not b) (1 + P) 0 ≡ suc (length (map variable ys)) → (P ≡ length (map variable ys) → find (λ z. z.variable == w) ys ≡ None) → cond b (Some y) (find (λ z. z.variable == w) ys) ≡ None
+    by : (b : Bool) → cond (not b) (1 + P) 0 ≡ suc (length (map variable ys)) →
+        (P ≡ length (map variable ys) → find (λ z. z.variable == w) ys ≡ None) →
+        cond b (Some y) (find (λ z. z.variable == w) ys) ≡ None
     by true e behind = absurd (omega (arith, e))
     by false e behind = behind (omega (arith, e))
 
@@ -48,7 +52,8 @@ found_existential f w i found =
           (ap (λ v. v == w) (sym (get_or-map variable ys i nobody 0 below)) ∙ h.1),
     )
 
-pub no_existential : (f : Dqbf) (w : ℕ) → position (λ v. v == w) (map variable f.existentials) ≡ None → existential_of f w ≡ None
+pub no_existential : (f : Dqbf) (w : ℕ) → position (λ v. v == w) (map variable f.existentials) ≡ None →
+    existential_of f w ≡ None
 no_existential f w none = find_none f.existentials w (place-absent (λ v. v == w) (map variable f.existentials) none)
 
 signed_parts : (b : Bool) (v : ℕ) → (variable_of (signed b v) ≡ v) × (is_negative (signed b v) ≡ b)
@@ -56,7 +61,8 @@ signed_parts true v = (refl, refl)
 signed_parts false v = (refl, refl)
 
 -- a literal of a pair's variable
-named_signed : (own : List Entry) (b : Bool) (v : ℕ) (f : Dqbf) (rows : List (List Bool)) (row : List Bool) (y : Existential) → name_of own v ≡ Some (arbiter f rows row y)
+named_signed : (own : List Entry) (b : Bool) (v : ℕ) (f : Dqbf) (rows : List (List Bool)) (row : List Bool)
+    (y : Existential) → name_of own v ≡ Some (arbiter f rows row y)
     → name_literal own (signed b v) ≡ Some (named_literal (arbiter f rows row y) b)
 named_signed own b v f rows row y named =
     let parts = signed_parts b v in
@@ -64,23 +70,28 @@ named_signed own b v f rows row y named =
     ∙ ap (option_map (λ n. named_literal n (is_negative (signed b v)))) named
     ∙ ap (λ c. Some (named_literal (arbiter f rows row y) c)) parts.1
 
-module _ (f : Dqbf) (own : List Entry) (rows : List (List Bool)) (row : List Bool) (clause : List Literal) (i : ℕ) (l : Literal) (lits : List Literal)
-    (below : i < length clause) (l_is : l ≡ get_or clause i l) (so_far : AreNamedAs own lits (filter_map (on_arbiter f rows row) (take i clause))) where
+module _ (f : Dqbf) (own : List Entry) (rows : List (List Bool)) (row : List Bool) (clause : List Literal) (i : ℕ)
+    (l : Literal) (lits : List Literal)
+    (below : i < length clause) (l_is : l ≡ get_or clause i l)
+    (so_far : AreNamedAs own lits (filter_map (on_arbiter f rows row) (take i clause))) where
   abbrev on : Literal → Option NamedLiteral
   on = on_arbiter f rows row
 
-  next : (o : Option NamedLiteral) → on l ≡ o → filter_map on (take (i + 1) clause) ≡ filter_map on (take i clause) ++ cons_option o []
+  next : (o : Option NamedLiteral) → on l ≡ o → filter_map on (take (i + 1) clause) ≡ filter_map on
+      (take i clause) ++ cons_option o []
   next o is =
       ap (filter_map on) (take_more clause i l below) ∙ filter_map-append on (take i clause) (get_or clause i l ∷ [])
       ∙ ap (λ p. filter_map on (take i clause) ++ cons_option p []) (ap on (sym l_is) ∙ is)
 
-  pub literal_more : (v place : ℕ) (variables : List ℕ) → AreArbiters f own rows row variables → position (λ x. x == variable_of l) (map variable f.existentials) ≡ Some place → v ≡ get_or variables place 0
+  pub literal_more : (v place : ℕ) (variables : List ℕ) → AreArbiters f own rows row variables →
+      position (λ x. x == variable_of l) (map variable f.existentials) ≡ Some place → v ≡ get_or variables place 0
       → AreNamedAs own (lits ++ signed (is_negative l) v ∷ []) (filter_map on (take (i + 1) clause))
   literal_more v place variables are found v_is =
       let y = get_or f.existentials place nobody in
       let at = found_existential f (variable_of l) place found in
       let named : name_of own v ≡ Some (arbiter f rows row y) =
-      ap (name_of own) v_is ∙ named_at own (arbiter f rows row) variables f.existentials place 0 y are (slice_get-get_or f.existentials place nobody at.0) in
+      ap (name_of own) v_is ∙ named_at own (arbiter f rows row) variables f.existentials place 0 y are
+      (slice_get-get_or f.existentials place nobody at.0) in
       let literal = named_signed own (is_negative l) v f rows row y named in
       let it : NamedLiteral = named_literal (arbiter f rows row y) (is_negative l) in
       let on_it : on l ≡ Some it = ap (option_map (λ z. named_literal (arbiter f rows row z) (is_negative l))) at.1 in
@@ -90,11 +101,16 @@ module _ (f : Dqbf) (own : List Entry) (rows : List (List Bool)) (row : List Boo
       ∙ sym (map-append Some (filter_map on (take i clause)) (it ∷ []))
       ∙ sym (ap (map Some) (next (Some it) on_it))
 
-  pub literal_passed : position (λ x. x == variable_of l) (map variable f.existentials) ≡ None → AreNamedAs own lits (filter_map on (take (i + 1) clause))
+  pub literal_passed : position (λ x. x == variable_of l) (map variable f.existentials) ≡ None →
+      AreNamedAs own lits (filter_map on (take (i + 1) clause))
   literal_passed none =
-      let off : on l ≡ None = ap (option_map (λ z. named_literal (arbiter f rows row z) (is_negative l))) (no_existential f (variable_of l) none) in
+      let off : on l ≡ None = ap (option_map (λ z. named_literal (arbiter f rows row z) (is_negative l)))
+      (no_existential f (variable_of l) none) in
       so_far ∙ sym (ap (map Some) (next None off ∙ append-nil (filter_map on (take i clause))))
 
-pub all_literals : (f : Dqbf) (own : List Entry) (rows : List (List Bool)) (row : List Bool) (clause : List Literal) (i : ℕ) (lits : List Literal) → length clause ≤ i
-    → AreNamedAs own lits (filter_map (on_arbiter f rows row) (take i clause)) → AreNamedAs own lits (filter_map (on_arbiter f rows row) clause)
-all_literals f own rows row clause i lits past so_far = so_far ∙ ap (λ ls. map Some (filter_map (on_arbiter f rows row) ls)) (take_all i clause past)
+pub all_literals : (f : Dqbf) (own : List Entry) (rows : List (List Bool)) (row : List Bool) (clause : List Literal)
+    (i : ℕ) (lits : List Literal) → length clause ≤ i
+    → AreNamedAs own lits (filter_map (on_arbiter f rows row) (take i clause)) →
+    AreNamedAs own lits (filter_map (on_arbiter f rows row) clause)
+all_literals f own rows row clause i lits past so_far = so_far ∙ ap
+    (λ ls. map Some (filter_map (on_arbiter f rows row) ls)) (take_all i clause past)

@@ -18,12 +18,14 @@ use Rattle.log_laws.specs.Engines.{Engine, is_own, part}
 use Rattle.log_laws.proofs.Kept.{small_id}
 
 -- a name in an engine's part is a name in the log
-pub own_name : (engine : Engine) (es : List Entry) (v : ℕ) (n : Name) → AreLogged es → name_of (part engine es) v ≡ Some n → name_of es v ≡ Some n
+pub own_name : (engine : Engine) (es : List Entry) (v : ℕ) (n : Name) → AreLogged es →
+    name_of (part engine es) v ≡ Some n → name_of es v ≡ Some n
 own_name engine [] v n logged h = h
 own_name engine (Named w m ∷ es) v n logged h =
     by_own (is_own engine (Named w m)) (own_name engine es v n logged.1) h
   where
-    with_name : (b : Bool) → (v == w) ≡ b → (name_of (part engine es) v ≡ Some n → name_of es v ≡ Some n) → cond b (Some m) (name_of (part engine es) v) ≡ Some n
+    with_name : (b : Bool) → (v == w) ≡ b → (name_of (part engine es) v ≡ Some n → name_of es v ≡ Some n) →
+        cond b (Some m) (name_of (part engine es) v) ≡ Some n
         → cond b (Some m) (name_of es v) ≡ Some n
     with_name true same before is = is
     with_name false other before is = before is
@@ -32,13 +34,15 @@ own_name engine (Named w m ∷ es) v n logged h =
     without true same is = let none : name_of es v ≡ None = ap (name_of es) (eqb-true v w same) ∙ logged.0.unnamed in cc
     without false other is = is
 
-    by_own : (b : Bool) → (name_of (part engine es) v ≡ Some n → name_of es v ≡ Some n) → name_of (cond b (Named w m ∷ part engine es) (part engine es)) v ≡ Some n
+    by_own : (b : Bool) → (name_of (part engine es) v ≡ Some n → name_of es v ≡ Some n) →
+        name_of (cond b (Named w m ∷ part engine es) (part engine es)) v ≡ Some n
         → cond (v == w) (Some m) (name_of es v) ≡ Some n
     by_own true before is = with_name (v == w) refl before is
     by_own false before is = without (v == w) refl (before is)
 own_name engine (Given o c ∷ es) v n logged h = own_name engine es v n logged.1 (past (is_own engine (Given o c)) h)
   where
-    past : (b : Bool) → name_of (cond b (Given o c ∷ part engine es) (part engine es)) v ≡ Some n → name_of (part engine es) v ≡ Some n
+    past : (b : Bool) → name_of (cond b (Given o c ∷ part engine es) (part engine es)) v ≡ Some n →
+        name_of (part engine es) v ≡ Some n
     past true is = is
     past false is = is
 own_name engine (Learned c hs ∷ es) v n logged h = own_name engine es v n logged.1 h
@@ -58,19 +62,23 @@ pub own_entry : (engine : Engine) (es : List Entry) (e : Entry) → Contains (pa
 own_entry engine [] e h = h
 own_entry engine (x ∷ es) e h = by_own (is_own engine x) (own_entry engine es e) h
   where
-    by_own : (b : Bool) → (Contains (part engine es) e → Contains es e) → Contains (cond b (x ∷ part engine es) (part engine es)) e → Contains (x ∷ es) e
-    by_own true before has = elim (head_or_tail e x (part engine es) has) [ inl here ↦ (0, omega arith, here) | inr behind ↦ later e x es (before behind) ]
+    by_own : (b : Bool) → (Contains (part engine es) e → Contains es e) →
+        Contains (cond b (x ∷ part engine es) (part engine es)) e → Contains (x ∷ es) e
+    by_own true before has = elim (head_or_tail e x (part engine es) has)
+        [ inl here ↦ (0, omega arith, here) | inr behind ↦ later e x es (before behind) ]
     by_own false before has = later e x es (before has)
 
 -- a given clause has an id
-pub given_id : (es : List Entry) (o : Origin) (c : List Literal) → Contains es (Given o c) → (id : ℕ) × (clause_at es id ≡ Some c)
+pub given_id : (es : List Entry) (o : Origin) (c : List Literal) → Contains es (Given o c) →
+    (id : ℕ) × (clause_at es id ≡ Some c)
 given_id [] o c (k, lt, at) = absurd (omega (arith, lt))
 given_id (x ∷ es) o c h =
     elim (head_or_tail (Given o c) x es h) [
       | inl here ↦ (
         last_id es + 1,
         subst (λ e. clause_at (e ∷ es) (last_id es + 1) ≡ Some c) (sym here)
-            (ap (λ b. option_and_then clause_of (cond b (Some (Given o c)) (numbered has_id es (last_id es + 1)))) (eq-eqb (last_id es + 1) (last_id es + 1) refl)),
+            (ap (λ b. option_and_then clause_of (cond b (Some (Given o c)) (numbered has_id es (last_id es + 1))))
+            (eq-eqb (last_id es + 1) (last_id es + 1) refl)),
       )
       | inr behind ↦
           (let before = given_id es o c behind in
@@ -108,11 +116,14 @@ is_pair_sound (Term a b) k y h = absurd (true≢false (sym h))
 is_pair_itself : (k y : ℕ) → is_pair (Pair k y) k y ≡ true
 is_pair_itself k y = ap (λ b. b && (y == y)) (eq-eqb k k refl) ∙ eq-eqb y y refl
 
-pub found_variable : (es : List Entry) (v k y : ℕ) → AreLogged es → name_of es v ≡ Some (Pair k y) → variable_for es k y ≡ v
+pub found_variable : (es : List Entry) (v k y : ℕ) → AreLogged es → name_of es v ≡ Some (Pair k y) →
+    variable_for es k y ≡ v
 found_variable [] v k y logged h = cc
-found_variable (Named w n ∷ es) v k y logged h = by (is_pair n k y) refl (v == w) refl (found_variable es v k y logged.1) h
+found_variable (Named w n ∷ es) v k y logged h = by (is_pair n k y) refl (v == w) refl
+    (found_variable es v k y logged.1) h
   where
-    by : (a : Bool) → is_pair n k y ≡ a → (b : Bool) → (v == w) ≡ b → (name_of es v ≡ Some (Pair k y) → variable_for es k y ≡ v)
+    by : (a : Bool) → is_pair n k y ≡ a → (b : Bool) → (v == w) ≡ b →
+        (name_of es v ≡ Some (Pair k y) → variable_for es k y ≡ v)
         → cond b (Some n) (name_of es v) ≡ Some (Pair k y) → cond a w (variable_for es k y) ≡ v
     by true pair true same before is = sym (eqb-true v w same)
     by true pair false other before is =
@@ -145,11 +156,14 @@ pair_variable place v w low high =
 abbrev pub pair_values : Assignment → List Entry → ℕ → Assignment
 pair_values values es v n = values (variable_for es ((n - 1) / v + 1) ((n - 1) % v + 1))
 
-pub arbiter_value : (values : Assignment) (es : List Entry) (f : Dqbf) (rows : List (List Bool)) (row : List Bool) (y : Existential) (v : ℕ) → AreLogged es
-    → 1 ≤ y.variable → y.variable ≤ f.variables → name_of es v ≡ Some (arbiter f rows row y) → values v ≡ pair_values values es f.variables (pair_number f rows row y)
+pub arbiter_value : (values : Assignment) (es : List Entry) (f : Dqbf) (rows : List (List Bool)) (row : List Bool)
+    (y : Existential) (v : ℕ) → AreLogged es
+    → 1 ≤ y.variable → y.variable ≤ f.variables → name_of es v ≡ Some (arbiter f rows row y) →
+    values v ≡ pair_values values es f.variables (pair_number f rows row y)
 arbiter_value values es f rows row y v logged low high named =
     let place = position_or_len (agree_on f y row) rows in
     let found = found_variable es v (place + 1) y.variable logged named in
     ap values (sym found)
-    ∙ sym (ap (λ k. values (variable_for es (k + 1) ((pair_number f rows row y - 1) % f.variables + 1))) (pair_row place f.variables y.variable low high)
+    ∙ sym (ap (λ k. values (variable_for es (k + 1) ((pair_number f rows row y - 1) % f.variables + 1)))
+    (pair_row place f.variables y.variable low high)
     ∙ ap (λ w. values (variable_for es (place + 1) w)) (pair_variable place f.variables y.variable low high))

@@ -33,13 +33,16 @@ no_greater e = cc
 
 -- what stands among the elements of a longer list
 inserted_or_old : (xs : List ℕ) (i y x : ℕ) → Contains (insert xs i y) x → (y ≡ x) ⊎ Contains xs x
-inserted_or_old xs i y x has = head_or_tail x y xs (Contains-permutation (insert xs i y) (y ∷ xs) x (IsPermutation-sym (y ∷ xs) (insert xs i y) (IsPermutation-insert xs i y)) has)
+inserted_or_old xs i y x has = head_or_tail x y xs (Contains-permutation (insert xs i y) (y ∷ xs) x
+    (IsPermutation-sym (y ∷ xs) (insert xs i y) (IsPermutation-insert xs i y)) has)
 
 old_inserted : (xs : List ℕ) (i y x : ℕ) → Contains xs x → Contains (insert xs i y) x
-old_inserted xs i y x has = Contains-permutation (y ∷ xs) (insert xs i y) x (IsPermutation-insert xs i y) (later x y xs has)
+old_inserted xs i y x has = Contains-permutation (y ∷ xs) (insert xs i y) x (IsPermutation-insert xs i y)
+    (later x y xs has)
 
 new_inserted : (xs : List ℕ) (i y : ℕ) → Contains (insert xs i y) y
-new_inserted xs i y = Contains-permutation (y ∷ xs) (insert xs i y) y (IsPermutation-insert xs i y) (0, omega arith, refl)
+new_inserted xs i y = Contains-permutation (y ∷ xs) (insert xs i y) y (IsPermutation-insert xs i y)
+    (0, omega arith, refl)
 
 three_ways : (j at : ℕ) → (j + 1 < at) ⊎ ((j + 1 ≡ at) ⊎ ((j ≡ at) ⊎ (at < j)))
 three_ways zero zero = inr (inr (inl refl))
@@ -48,7 +51,8 @@ three_ways zero (suc (suc at)) = inl (omega arith)
 three_ways (suc j) zero = inr (inr (inr (omega arith)))
 three_ways (suc j) (suc at) = by (three_ways j at)
   where
-    by : (j + 1 < at) ⊎ ((j + 1 ≡ at) ⊎ ((j ≡ at) ⊎ (at < j))) → (suc j + 1 < suc at) ⊎ ((suc j + 1 ≡ suc at) ⊎ ((suc j ≡ suc at) ⊎ (suc at < suc j)))
+    by : (j + 1 < at) ⊎ ((j + 1 ≡ at) ⊎ ((j ≡ at) ⊎ (at < j))) →
+        (suc j + 1 < suc at) ⊎ ((suc j + 1 ≡ suc at) ⊎ ((suc j ≡ suc at) ⊎ (suc at < suc j)))
     by (inl far) = inl (omega (arith, far))
     by (inr (inl near)) = inr (inl (omega (arith, near)))
     by (inr (inr (inl here))) = inr (inr (inl (ap suc here)))
@@ -76,26 +80,33 @@ module _ (f : Dqbf) (sees : List ℕ) (rows : List (List Bool)) (o : RowOrder) (
 
     rises : IsNonDecreasingBy (λ k. ordering_index (against k)) o.places
     rises i j d le below =
-        let at_i = against_is (get_or o.places i d) (in_rows (get_or o.places i d) (in_list o.places i d (omega (arith, le, below)))) in
+        let at_i = against_is (get_or o.places i d) (in_rows (get_or o.places i d)
+        (in_list o.places i d (omega (arith, le, below)))) in
         let at_j = against_is (get_or o.places j d) (in_rows (get_or o.places j d) (in_list o.places j d below)) in
         let up = searchable_from_sorted bits_total key o.places (seen_by f sees row) order.sorted i j d le below in
         subst (λ x. ordering_index x ≤ ordering_index (against (get_or o.places j d))) (sym at_i)
-        (subst (λ x. ordering_index (bits_cmp (key (get_or o.places i d)) (seen_by f sees row)) ≤ ordering_index x) (sym at_j) up)
+        (subst (λ x. ordering_index (bits_cmp (key (get_or o.places i d)) (seen_by f sees row)) ≤ ordering_index x)
+        (sym at_j) up)
 
     -- a row that is found is the first that agrees
-    pub found_key : (at d : ℕ) → at < length o.places → IsBinarySearchResult against o.places (Ok at) → key (get_or o.places at d) ≡ seen_by f sees row
+    pub found_key : (at d : ℕ) → at < length o.places → IsBinarySearchResult against o.places (Ok at) →
+        key (get_or o.places at d) ≡ seen_by f sees row
     found_key at d below equal =
         let k = get_or o.places at d in
         cmp_equal (key k) (seen_by f sees row) (sym (against_is k (in_rows k (in_list o.places at d below))) ∙ equal d)
 
-    pub found_first : (at d : ℕ) → at < length o.places → IsBinarySearchResult against o.places (Ok at) → get_or o.places at d ≡ position_or_len (agrees row) rows
+    pub found_first : (at d : ℕ) → at < length o.places → IsBinarySearchResult against o.places (Ok at) →
+        get_or o.places at d ≡ position_or_len (agrees row) rows
     found_first at d below equal =
         let k = get_or o.places at d in
-        sym (order.firsts k (in_list o.places at d below)).1 ∙ ap (λ bits. position_or_len (λ r. same_bits bits (seen_by f sees r)) rows) (found_key at d below equal)
+        sym (order.firsts k (in_list o.places at d below)).1 ∙ ap
+        (λ bits. position_or_len (λ r. same_bits bits (seen_by f sees r)) rows) (found_key at d below equal)
 
     -- where none is found, no row agrees that was looked at
-    pub none_agrees : (at : ℕ) → IsBinarySearchResult against o.places (Err at) → (j : ℕ) → j < o.learnt → agrees row (row_at rows j) ≡ false
-    none_agrees at parted j learnt = elim (cases_Bool (agrees row (row_at rows j))) [ inl same ↦ absurd (no_one same) | inr other ↦ other ]
+    pub none_agrees : (at : ℕ) → IsBinarySearchResult against o.places (Err at) → (j : ℕ) → j < o.learnt →
+        agrees row (row_at rows j) ≡ false
+    none_agrees at parted j learnt = elim (cases_Bool (agrees row (row_at rows j)))
+        [ inl same ↦ absurd (no_one same) | inr other ↦ other ]
       where
         p : ℕ
         p = (order.whole j learnt).0
@@ -107,7 +118,8 @@ module _ (f : Dqbf) (sees : List ℕ) (rows : List (List Bool)) (o : RowOrder) (
         same_key same =
             let row_is : seen_by f sees row ≡ key j = same_bits-sound (seen_by f sees row) (key j) same in
             let keys : key j ≡ key p = same_bits-sound (key j) (key p) (order.whole j learnt).2 in
-            against_is p (in_rows p there) ∙ ap (λ bits. bits_cmp bits (seen_by f sees row)) (sym (row_is ∙ keys)) ∙ cmp_self (seen_by f sees row)
+            against_is p (in_rows p there) ∙ ap (λ bits. bits_cmp bits (seen_by f sees row)) (sym (row_is ∙ keys))
+            ∙ cmp_self (seen_by f sees row)
 
         no_one : agrees row (row_at rows j) ≡ true → ⊥
         no_one same = by_side (below_or_not there.0 at)
@@ -128,8 +140,10 @@ module _ (f : Dqbf) (sees : List ℕ) (rows : List (List Bool)) (o : RowOrder) (
             by_side (inl low) = no_less (sym ((parted rises).0 there.0 p (omega arith) low) ∙ at_place)
             by_side (inr high) = no_greater (sym ((parted rises).1 there.0 p high there.1) ∙ at_place)
 
-    pub none_first : (at : ℕ) → IsBinarySearchResult against o.places (Err at) → length rows ≤ o.learnt → length rows ≡ position_or_len (agrees row) rows
-    none_first at parted all = none_is (agrees row) rows (length rows) (omega arith) (λ k below. none_agrees at parted k (omega (arith, below, all)))
+    pub none_first : (at : ℕ) → IsBinarySearchResult against o.places (Err at) → length rows ≤ o.learnt →
+        length rows ≡ position_or_len (agrees row) rows
+    none_first at parted all = none_is (agrees row) rows (length rows) (omega arith)
+        (λ k below. none_agrees at parted k (omega (arith, below, all)))
 
   -- one row more is looked at
   module _ (learnt_more : o.learnt < length rows) where
@@ -139,7 +153,8 @@ module _ (f : Dqbf) (sees : List ℕ) (rows : List (List Bool)) (o : RowOrder) (
     abbrev more : List ℕ → RowOrder
     more places = record { places = places; learnt = here + 1 }
 
-    pub found_more : (at d : ℕ) → at < length o.places → IsBinarySearchResult (against (row_at rows here)) o.places (Ok at) → IsRowOrder f sees rows (more o.places)
+    pub found_more : (at d : ℕ) → at < length o.places → IsBinarySearchResult (against (row_at rows here)) o.places
+        (Ok at) → IsRowOrder f sees rows (more o.places)
     found_more at d below equal = record {
       within = omega (arith, learnt_more);
       sorted = order.sorted;
@@ -150,30 +165,38 @@ module _ (f : Dqbf) (sees : List ℕ) (rows : List (List Bool)) (o : RowOrder) (
         found : ℕ
         found = get_or o.places at d
 
-        by_place : (k : ℕ) → (k < here) ⊎ (k ≡ here) → (p : ℕ) × Contains o.places p × (same_bits (key k) (key p) ≡ true)
+        by_place : (k : ℕ) → (k < here) ⊎ (k ≡ here) → (p : ℕ) × Contains o.places p ×
+            (same_bits (key k) (key p) ≡ true)
         by_place k (inl old) = order.whole k old
         by_place k (inr now) = (
           found,
           in_list o.places at d below,
-          subst (λ i. same_bits (key i) (key found) ≡ true) (sym now) (subst (λ bits. same_bits (key here) bits ≡ true) (sym (found_key (row_at rows here) at d below equal)) (same_bits-refl (key here))),
+          subst (λ i. same_bits (key i) (key found) ≡ true) (sym now)
+              (subst (λ bits. same_bits (key here) bits ≡ true) (sym (found_key (row_at rows here) at d below equal))
+              (same_bits-refl (key here))),
         )
 
-    module _ (at : ℕ) (at_most : at ≤ length o.places) (parted : IsBinarySearchResult (against (row_at rows here)) o.places (Err at)) where
+    module _ (at : ℕ) (at_most : at ≤ length o.places) (parted : IsBinarySearchResult
+        (against (row_at rows here)) o.places (Err at)) where
       abbrev places : List ℕ
       places = insert o.places at here
 
       before_less : (j d : ℕ) → j < at → bits_cmp (key (get_or o.places j d)) (key here) ≡ Less
       before_less j d low =
-          sym (against_is (row_at rows here) (get_or o.places j d) (in_rows (get_or o.places j d) (in_list o.places j d (omega (arith, low, at_most)))))
+          sym (against_is (row_at rows here) (get_or o.places j d)
+          (in_rows (get_or o.places j d) (in_list o.places j d (omega (arith, low, at_most)))))
           ∙ (parted (rises (row_at rows here))).0 j d (omega arith) low
 
-      after_greater : (j d : ℕ) → at ≤ j → j < length o.places → bits_cmp (key (get_or o.places j d)) (key here) ≡ Greater
+      after_greater : (j d : ℕ) → at ≤ j → j < length o.places →
+          bits_cmp (key (get_or o.places j d)) (key here) ≡ Greater
       after_greater j d high below =
-          sym (against_is (row_at rows here) (get_or o.places j d) (in_rows (get_or o.places j d) (in_list o.places j d below)))
+          sym (against_is (row_at rows here) (get_or o.places j d)
+          (in_rows (get_or o.places j d) (in_list o.places j d below)))
           ∙ (parted (rises (row_at rows here))).1 j d high below
 
       -- of two neighbours
-      in_order : (j d a b : ℕ) → get_or places j d ≡ a → get_or places (j + 1) d ≡ b → lt b a ≡ false → lt (get_or places (j + 1) d) (get_or places j d) ≡ false
+      in_order : (j d a b : ℕ) → get_or places j d ≡ a → get_or places (j + 1) d ≡ b → lt b a ≡ false →
+          lt (get_or places (j + 1) d) (get_or places j d) ≡ false
       in_order j d a b a_is b_is h = ap (λ x. lt x (get_or places j d)) b_is ∙ ap (λ x. lt b x) a_is ∙ h
 
       sorted_more : IsSortedBy lt places
@@ -182,28 +205,37 @@ module _ (f : Dqbf) (sees : List ℕ) (rows : List (List Bool)) (o : RowOrder) (
           n : length places ≡ length o.places + 1
           n = length-insert o.places at here at_most
 
-          by_place : (j + 1 < at) ⊎ ((j + 1 ≡ at) ⊎ ((j ≡ at) ⊎ (at < j))) → lt (get_or places (j + 1) d) (get_or places j d) ≡ false
+          by_place : (j + 1 < at) ⊎ ((j + 1 ≡ at) ⊎ ((j ≡ at) ⊎ (at < j))) →
+              lt (get_or places (j + 1) d) (get_or places j d) ≡ false
           by_place (inl far) =
-              in_order j d (get_or o.places j d) (get_or o.places (j + 1) d) (get_or-insert_below o.places at here d j (omega (arith, far)) at_most)
-              (get_or-insert_below o.places at here d (j + 1) far at_most) (order.sorted j d (omega arith) (omega (arith, far, at_most)))
+              in_order j d (get_or o.places j d) (get_or o.places (j + 1) d)
+              (get_or-insert_below o.places at here d j (omega (arith, far)) at_most)
+              (get_or-insert_below o.places at here d (j + 1) far at_most)
+              (order.sorted j d (omega arith) (omega (arith, far, at_most)))
           by_place (inr (inl near)) =
-              in_order j d (get_or o.places j d) here (get_or-insert_below o.places at here d j (omega (arith, near)) at_most)
+              in_order j d (get_or o.places j d) here (get_or-insert_below o.places at here d j
+              (omega (arith, near)) at_most)
               (subst (λ i. get_or places i d ≡ here) (sym near) (get_or-insert_at o.places at here d at_most))
-              (not_less (bits_total.antisymm (key here) (key (get_or o.places j d)) ∙ ap ordering_reverse (before_less j d (omega (arith, near)))))
+              (not_less (bits_total.antisymm (key here) (key (get_or o.places j d)) ∙ ap ordering_reverse
+              (before_less j d (omega (arith, near)))))
           by_place (inr (inr (inl same))) =
-              in_order j d here (get_or o.places j d) (subst (λ i. get_or places i d ≡ here) (sym same) (get_or-insert_at o.places at here d at_most))
+              in_order j d here (get_or o.places j d) (subst (λ i. get_or places i d ≡ here) (sym same)
+              (get_or-insert_at o.places at here d at_most))
               (get_or-insert_above o.places at here d j (omega (arith, same)) at_most)
               (not_less (after_greater j d (omega (arith, same)) (omega (arith, below, n))))
           by_place (inr (inr (inr past))) =
               let i = j - 1 in
               let back : i + 1 ≡ j = omega (arith, past) in
               in_order j d (get_or o.places i d) (get_or o.places j d)
-              (subst (λ q. get_or places q d ≡ get_or o.places i d) back (get_or-insert_above o.places at here d i (omega (arith, past)) at_most))
+              (subst (λ q. get_or places q d ≡ get_or o.places i d) back
+              (get_or-insert_above o.places at here d i (omega (arith, past)) at_most))
               (get_or-insert_above o.places at here d j (omega (arith, past)) at_most)
-              (subst (λ q. lt (get_or o.places q d) (get_or o.places i d) ≡ false) back (order.sorted i d (omega arith) (omega (arith, below, n, past))))
+              (subst (λ q. lt (get_or o.places q d) (get_or o.places i d) ≡ false) back
+              (order.sorted i d (omega arith) (omega (arith, below, n, past))))
 
       itself : position_or_len (agrees (row_at rows here)) rows ≡ here
-      itself = sym (first_is (agrees (row_at rows here)) rows here learnt_more (none_agrees (row_at rows here) at parted) (same_bits-refl (key here)))
+      itself = sym (first_is (agrees (row_at rows here)) rows here learnt_more
+          (none_agrees (row_at rows here) at parted) (same_bits-refl (key here)))
 
       pub new_more : IsRowOrder f sees rows (more places)
       new_more = record {
@@ -213,13 +245,20 @@ module _ (f : Dqbf) (sees : List ℕ) (rows : List (List Bool)) (o : RowOrder) (
         whole = λ k lt'. by_place k (below_or_here k here lt');
       }
         where
-          by_element : (k : ℕ) → (here ≡ k) ⊎ Contains o.places k → (k < here + 1) × (position_or_len (agrees (row_at rows k)) rows ≡ k)
-          by_element k (inl now) = subst (λ i. (i < here + 1) × (position_or_len (agrees (row_at rows i)) rows ≡ i)) now (omega arith, itself)
+          by_element : (k : ℕ) → (here ≡ k) ⊎ Contains o.places k →
+              (k < here + 1) × (position_or_len (agrees (row_at rows k)) rows ≡ k)
+          by_element k (inl now) = subst (λ i. (i < here + 1) × (position_or_len (agrees (row_at rows i)) rows ≡ i)) now
+              (omega arith, itself)
           by_element k (inr old) = (let low = (order.firsts k old).0 in omega (arith, low), (order.firsts k old).1)
 
-          by_place : (k : ℕ) → (k < here) ⊎ (k ≡ here) → (p : ℕ) × Contains places p × (same_bits (key k) (key p) ≡ true)
+          by_place : (k : ℕ) → (k < here) ⊎ (k ≡ here) → (p : ℕ) × Contains places p ×
+              (same_bits (key k) (key p) ≡ true)
           by_place k (inl old) = let w = order.whole k old in (w.0, old_inserted o.places at here w.0 w.1, w.2)
-          by_place k (inr now) = (here, new_inserted o.places at here, subst (λ i. same_bits (key i) (key here) ≡ true) (sym now) (same_bits-refl (key here)))
+          by_place k (inr now) = (
+            here,
+            new_inserted o.places at here,
+            subst (λ i. same_bits (key i) (key here) ≡ true) (sym now) (same_bits-refl (key here)),
+          )
 
   -- rows behind those that were looked at don't matter
   module _ (further : List (List Bool)) where
@@ -229,7 +268,8 @@ module _ (f : Dqbf) (sees : List ℕ) (rows : List (List Bool)) (o : RowOrder) (
     key_kept : (k : ℕ) → k < length rows → seen_by f sees (row_at (rows ++ further) k) ≡ key k
     key_kept k below = ap (seen_by f sees) (row_kept k below)
 
-    first_kept : (k : ℕ) → Contains o.places k → position_or_len (λ r. same_bits (seen_by f sees (row_at (rows ++ further) k)) (seen_by f sees r)) (rows ++ further) ≡ k
+    first_kept : (k : ℕ) → Contains o.places k → position_or_len
+        (λ r. same_bits (seen_by f sees (row_at (rows ++ further) k)) (seen_by f sees r)) (rows ++ further) ≡ k
     first_kept k has =
         let first = (order.firsts k has).1 in
         let below = in_rows k has in
@@ -239,40 +279,53 @@ module _ (f : Dqbf) (sees : List ℕ) (rows : List (List Bool)) (o : RowOrder) (
     pub order_kept : IsRowOrder f sees (rows ++ further) o
     order_kept = record {
       within = (let n = length-append rows further in let within = order.within in omega (arith, n, within));
-      sorted = λ j d low below. pair_kept (get_or o.places j d) (get_or o.places (j + 1) d) (in_list o.places j d (omega (arith, below))) (in_list o.places (j + 1) d below) (order.sorted j d low below);
+      sorted = λ j d low below. pair_kept (get_or o.places j d) (get_or o.places (j + 1) d)
+          (in_list o.places j d (omega (arith, below))) (in_list o.places (j + 1) d below) (order.sorted j d low below);
       firsts = λ k has. ((order.firsts k has).0, first_kept k has);
-      whole = λ k learnt. (let w = order.whole k learnt in (w.0, w.1, agree_kept k w.0 (omega (arith, learnt, order.within)) (in_rows w.0 w.1) w.2));
+      whole = λ k learnt. (let w = order.whole k learnt in (
+        w.0,
+        w.1,
+        agree_kept k w.0 (omega (arith, learnt, order.within)) (in_rows w.0 w.1) w.2,
+      ));
     }
       where
         pair_kept : (a b : ℕ) → Contains o.places a → Contains o.places b → lt b a ≡ false
-            → is_lt (bits_cmp (seen_by f sees (row_at (rows ++ further) b)) (seen_by f sees (row_at (rows ++ further) a))) ≡ false
+            → is_lt (bits_cmp (seen_by f sees (row_at (rows ++ further) b))
+            (seen_by f sees (row_at (rows ++ further) a))) ≡ false
         pair_kept a b has_a has_b h =
-            ap (λ x. is_lt (bits_cmp x (seen_by f sees (row_at (rows ++ further) a)))) (key_kept b (in_rows b has_b)) ∙ ap (λ x. is_lt (bits_cmp (key b) x)) (key_kept a (in_rows a has_a)) ∙ h
+            ap (λ x. is_lt (bits_cmp x (seen_by f sees (row_at (rows ++ further) a)))) (key_kept b (in_rows b has_b))
+            ∙ ap (λ x. is_lt (bits_cmp (key b) x)) (key_kept a (in_rows a has_a)) ∙ h
 
         agree_kept : (a b : ℕ) → a < length rows → b < length rows → same_bits (key a) (key b) ≡ true
-            → same_bits (seen_by f sees (row_at (rows ++ further) a)) (seen_by f sees (row_at (rows ++ further) b)) ≡ true
-        agree_kept a b low_a low_b h = ap (λ x. same_bits x (seen_by f sees (row_at (rows ++ further) b))) (key_kept a low_a) ∙ ap (same_bits (key a)) (key_kept b low_b) ∙ h
+            → same_bits (seen_by f sees (row_at (rows ++ further) a))
+            (seen_by f sees (row_at (rows ++ further) b)) ≡ true
+        agree_kept a b low_a low_b h = ap (λ x. same_bits x (seen_by f sees (row_at (rows ++ further) b)))
+            (key_kept a low_a) ∙ ap (same_bits (key a)) (key_kept b low_b) ∙ h
 
 -- the same of places and rows as a search had them
-module _ (f : Dqbf) (sees : List ℕ) (rows : List (List Bool)) (o : RowOrder) (order : IsRowOrder f sees rows o) (places : List ℕ) (same : places ≡ o.places) where
+module _ (f : Dqbf) (sees : List ℕ) (rows : List (List Bool)) (o : RowOrder) (order : IsRowOrder f sees rows o)
+    (places : List ℕ) (same : places ≡ o.places) where
   abbrev Found : List Bool → List ℕ → Result ℕ ℕ → Type 0
   Found row ps r = IsBinarySearchResult (λ i. found_cmp f sees row (slice_get rows i)) ps r
 
-  module _ (row : List Bool) (k : ℕ) (row_is : row ≡ get_or rows k row) (next : k ≡ o.learnt) (below : k < length rows) where
+  module _ (row : List Bool) (k : ℕ) (row_is : row ≡ get_or rows k row) (next : k ≡ o.learnt)
+      (below : k < length rows) where
     next_row : row ≡ row_at rows o.learnt
     next_row = row_is ∙ get_or_default rows k row [] below ∙ ap (row_at rows) next
 
     next_below : o.learnt < length rows
     next_below = subst (λ i. i < length rows) next below
 
-    pub learnt_new : (at : ℕ) → at ≤ length places → Found row places (Err at) → IsRowOrder f sees rows (record { places = insert places at k; learnt = k + 1 })
+    pub learnt_new : (at : ℕ) → at ≤ length places → Found row places (Err at) →
+        IsRowOrder f sees rows (record { places = insert places at k; learnt = k + 1 })
     learnt_new at within found =
         let there = subst (λ r. Found r o.places (Err at)) next_row (subst (λ ps. Found row ps (Err at)) same found) in
         subst (λ ps. IsRowOrder f sees rows (record { places = insert ps at k; learnt = k + 1 })) (sym same)
         (subst (λ j. IsRowOrder f sees rows (record { places = insert o.places at j; learnt = j + 1 })) (sym next)
         (new_more f sees rows o order next_below at (subst (λ ps. at ≤ length ps) same within) there))
 
-    pub learnt_found : (at : ℕ) → at < length places → Found row places (Ok at) → IsRowOrder f sees rows (record { places = places; learnt = k + 1 })
+    pub learnt_found : (at : ℕ) → at < length places → Found row places (Ok at) →
+        IsRowOrder f sees rows (record { places = places; learnt = k + 1 })
     learnt_found at within found =
         let there = subst (λ r. Found r o.places (Ok at)) next_row (subst (λ ps. Found row ps (Ok at)) same found) in
         subst (λ ps. IsRowOrder f sees rows (record { places = ps; learnt = k + 1 })) (sym same)
@@ -280,16 +333,21 @@ module _ (f : Dqbf) (sees : List ℕ) (rows : List (List Bool)) (o : RowOrder) (
         (found_more f sees rows o order next_below at 0 (subst (λ ps. at < length ps) same within) there))
 
   module _ (row : List Bool) where
-    pub first_found : (at d : ℕ) → at < length places → Found row places (Ok at) → get_or places at d ≡ position_or_len (λ r. same_bits (seen_by f sees row) (seen_by f sees r)) rows
+    pub first_found : (at d : ℕ) → at < length places → Found row places (Ok at) →
+        get_or places at d ≡ position_or_len (λ r. same_bits (seen_by f sees row) (seen_by f sees r)) rows
     first_found at d within found =
-        ap (λ ps. get_or ps at d) same ∙ found_first f sees rows o order row at d (subst (λ ps. at < length ps) same within) (subst (λ ps. Found row ps (Ok at)) same found)
+        ap (λ ps. get_or ps at d) same ∙ found_first f sees rows o order row at d
+        (subst (λ ps. at < length ps) same within) (subst (λ ps. Found row ps (Ok at)) same found)
 
-    pub first_none : (at : ℕ) → length rows ≤ o.learnt → Found row places (Err at) → length rows ≡ position_or_len (λ r. same_bits (seen_by f sees row) (seen_by f sees r)) rows
+    pub first_none : (at : ℕ) → length rows ≤ o.learnt → Found row places (Err at) →
+        length rows ≡ position_or_len (λ r. same_bits (seen_by f sees row) (seen_by f sees r)) rows
     first_none at all found = none_first f sees rows o order row at (subst (λ ps. Found row ps (Err at)) same found) all
 
-pub index_kept : (f : Dqbf) (rows further : List (List Bool)) (index : RowIndex) → IsRowIndex f rows index → IsRowIndex f (rows ++ further) index
+pub index_kept : (f : Dqbf) (rows further : List (List Bool)) (index : RowIndex) → IsRowIndex f rows index →
+    IsRowIndex f (rows ++ further) index
 index_kept f rows further index is = record {
   leaders = is.leaders;
   many = is.many;
-  orders = λ place y y_is. order_kept f y.sees rows (get_or index.orders place no_order) (is.orders place y y_is) further;
+  orders = λ place y y_is. order_kept f y.sees rows (get_or index.orders place no_order)
+      (is.orders place y y_is) further;
 }

@@ -18,7 +18,8 @@ other_engine copies circuits e = refl
 other_engine copies instances e = refl
 other_engine copies copies e = e
 
-table_left : (f : Dqbf) (t : TableState) (engine : Engine) (group : ℕ) (silent : Bool) (old new : List Entry) → LeavesRest f engine group silent old new → same_engine engine instances ≡ false
+table_left : (f : Dqbf) (t : TableState) (engine : Engine) (group : ℕ) (silent : Bool) (old new : List Entry) →
+    LeavesRest f engine group silent old new → same_engine engine instances ≡ false
     → t.group ≢ group → IsTable f t old → IsTable f t new
 table_left f t engine group silent old new rest other apart table = record {
   group = rest.names t.group (Selector t.group) table.group;
@@ -36,6 +37,12 @@ tables_left law f t engine group silent old new grew other apart =
 
 pub round_left : RoundsLeaveTables
 round_left f t row values j earlier full = (
-  record { group = full.table.group; existentials = full.table.existentials; own_group = (tt, full.table.own_group); own = full.table.own; first_rows = full.table.first_rows },
+  record {
+    group = full.table.group;
+    existentials = full.table.existentials;
+    own_group = (tt, full.table.own_group);
+    own = full.table.own;
+    first_rows = full.table.first_rows;
+  },
   ap (λ rs. rs ++ row ∷ []) full.rows,
 )

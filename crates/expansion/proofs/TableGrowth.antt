@@ -19,7 +19,8 @@ use Rattle.expansion.proofs.Firsts.{below_or_here}
 use Rattle.expansion.proofs.InstanceModels.{own_name}
 
 -- an arbiter's name is of the table's part
-pub pair_own : (es : List Entry) (v k y : ℕ) → name_of es v ≡ Some (Pair k y) → name_of (part instances es) v ≡ Some (Pair k y)
+pub pair_own : (es : List Entry) (v k y : ℕ) → name_of es v ≡ Some (Pair k y) →
+    name_of (part instances es) v ≡ Some (Pair k y)
 pair_own [] v k y h = h
 pair_own (Named w m ∷ es) v k y h = by_bit (v == w) refl (pair_own es v k y) h
   where
@@ -36,7 +37,8 @@ pair_own (Named w m ∷ es) v k y h = by_bit (v == w) refl (pair_own es v k y) h
     past true other is = ap (λ c. cond c (Some m) (name_of own v)) other ∙ is
     past false other is = is
 
-    by_bit : (b : Bool) → (v == w) ≡ b → (name_of es v ≡ Some P → name_of own v ≡ Some P) → cond b (Some m) (name_of es v) ≡ Some P
+    by_bit : (b : Bool) → (v == w) ≡ b → (name_of es v ≡ Some P → name_of own v ≡ Some P) →
+        cond b (Some m) (name_of es v) ≡ Some P
         → name_of (after (is_engine instances (name_engine m))) v ≡ Some P
     by_bit true e before is =
         let m_is : m ≡ P = cc in
@@ -45,7 +47,8 @@ pair_own (Named w m ∷ es) v k y h = by_bit (v == w) refl (pair_own es v k y) h
     by_bit false e before is = past (is_engine instances (name_engine m)) e (before is)
 pair_own (Given o c ∷ es) v k y h = past (is_own instances (Given o c)) (pair_own es v k y h)
   where
-    past : (b : Bool) → name_of (part instances es) v ≡ Some (Pair k y) → name_of (cond b (Given o c ∷ part instances es) (part instances es)) v ≡ Some (Pair k y)
+    past : (b : Bool) → name_of (part instances es) v ≡ Some (Pair k y) →
+        name_of (cond b (Given o c ∷ part instances es) (part instances es)) v ≡ Some (Pair k y)
     past true is = is
     past false is = is
 pair_own (Learned c hs ∷ es) v k y h = pair_own es v k y h
@@ -71,13 +74,15 @@ pub named_keeps : (own : List Entry) (v : ℕ) (n : Name) → name_of own v ≡ 
 named_keeps own v n none u m is = by_bit (u == v) refl
   where
     by_bit : (b : Bool) → (u == v) ≡ b → cond b (Some n) (name_of own u) ≡ Some m
-    by_bit true e = let same : u ≡ v = eqb-true u v e in let gone : name_of own u ≡ None = ap (name_of own) same ∙ none in cc
+    by_bit true e = let same : u ≡ v = eqb-true u v e in let gone : name_of own u ≡ None =
+        ap (name_of own) same ∙ none in cc
     by_bit false e = is
 
 pub more_keeps : (own : List Entry) (e : Entry) → KeepsEntries own (e ∷ own)
 more_keeps own e x (k, lt, at) = (suc k, omega (arith, lt), at)
 
-pub names_kept : (own after : List Entry) (g : Existential → Name) → KeepsNames own after → (vs : List ℕ) (ys : List Existential) →
+pub names_kept : (own after : List Entry) (g : Existential → Name) → KeepsNames own after →
+    (vs : List ℕ) (ys : List Existential) →
     map (name_of own) vs ≡ map (λ y. Some (g y)) ys → map (name_of after) vs ≡ map (λ y. Some (g y)) ys
 names_kept own after g keeps [] ys is = is
 names_kept own after g keeps (v ∷ vs) [] is = cc
@@ -87,12 +92,15 @@ names_kept own after g keeps (v ∷ vs) (y ∷ ys) is =
     let first = keeps v (g y) head in
     let rest = names_kept own after g keeps vs ys tail in cc
 
-literal_kept : (own after : List Entry) → KeepsNames own after → (l : Literal) (n : NamedLiteral) (o : Option Name) → name_of own (variable_of l) ≡ o
+literal_kept : (own after : List Entry) → KeepsNames own after → (l : Literal) (n : NamedLiteral) (o : Option Name) →
+    name_of own (variable_of l) ≡ o
     → option_map (λ m. named_literal m (is_negative l)) o ≡ Some n → name_literal after l ≡ Some n
 literal_kept own after keeps l n None named is = cc
-literal_kept own after keeps l n (Some m) named is = ap (option_map (λ k. named_literal k (is_negative l))) (keeps (variable_of l) m named) ∙ is
+literal_kept own after keeps l n (Some m) named is = ap (option_map (λ k. named_literal k (is_negative l)))
+    (keeps (variable_of l) m named) ∙ is
 
-pub literals_kept : (own after : List Entry) → KeepsNames own after → (ls : List Literal) (ns : List NamedLiteral) → AreNamedAs own ls ns → AreNamedAs after ls ns
+pub literals_kept : (own after : List Entry) → KeepsNames own after → (ls : List Literal) (ns : List NamedLiteral) →
+    AreNamedAs own ls ns → AreNamedAs after ls ns
 literals_kept own after keeps [] ns is = is
 literals_kept own after keeps (l ∷ ls) [] is = cc
 literals_kept own after keeps (l ∷ ls) (n ∷ ns) is =
@@ -101,7 +109,8 @@ literals_kept own after keeps (l ∷ ls) (n ∷ ns) is =
     let first = literal_kept own after keeps l n (name_of own (variable_of l)) refl head in
     let rest = literals_kept own after keeps ls ns tail in cc
 
-pub instance_kept : (f : Dqbf) (group : ℕ) (rows : List (List Bool)) (own after : List Entry) → KeepsNames own after → KeepsEntries own after → (k j : ℕ) (row : List Bool) (clause : List Literal)
+pub instance_kept : (f : Dqbf) (group : ℕ) (rows : List (List Bool)) (own after : List Entry) → KeepsNames own after →
+    KeepsEntries own after → (k j : ℕ) (row : List Bool) (clause : List Literal)
     → HasInstance f group rows own k j row clause → HasInstance f group rows after k j row clause
 instance_kept f group rows own after names entries k j row clause h = record {
   rest = h.rest;
@@ -110,7 +119,8 @@ instance_kept f group rows own after names entries k j row clause h = record {
 }
 
 -- an existential more has its arbiter's name, which may be an old one
-pub one_more_named : (f : Dqbf) (t : TableState) (row : List Bool) (named given : ℕ) (own : List Entry) → IsAddingPart f t row named given own → IsAddingPart f t row (named + 1) given own
+pub one_more_named : (f : Dqbf) (t : TableState) (row : List Bool) (named given : ℕ) (own : List Entry) →
+    IsAddingPart f t row named given own → IsAddingPart f t row (named + 1) given own
 one_more_named f t row named given own p = record {
   whole = p.whole;
   pairs_long = p.pairs_long;
@@ -121,21 +131,27 @@ one_more_named f t row named given own p = record {
   complete_so_far = p.complete_so_far;
 }
   where
-    weaker : {v k y : ℕ} → ((k ≤ length t.rows) × IsOfPairs t.pairs v) ⊎ ((k ≡ length t.rows + 1) × IsNewPair f t row named y)
+    weaker : {v k y : ℕ} → ((k ≤ length t.rows) × IsOfPairs t.pairs v) ⊎
+        ((k ≡ length t.rows + 1) × IsNewPair f t row named y)
         → ((k ≤ length t.rows) × IsOfPairs t.pairs v) ⊎ ((k ≡ length t.rows + 1) × IsNewPair f t row (named + 1) y)
     weaker (inl old) = inl old
     weaker (inr (new, (q, e, lt, at, is))) = inr (new, (q, e, omega (arith, lt), at, is))
 
-pub new_named : (f : Dqbf) (t : TableState) (row : List Bool) (named given : ℕ) (own : List Entry) (v y : ℕ) (e : Existential) → name_of own v ≡ None → slice_get f.existentials named ≡ Some e
-    → arbiter f (with_row t row) row e ≡ Pair (length t.rows + 1) y → IsAddingPart f t row named given own → IsAddingPart f t row (named + 1) given (Named v (Pair (length t.rows + 1) y) ∷ own)
+pub new_named : (f : Dqbf) (t : TableState) (row : List Bool) (named given : ℕ) (own : List Entry) (v y : ℕ)
+    (e : Existential) → name_of own v ≡ None → slice_get f.existentials named ≡ Some e
+    → arbiter f (with_row t row) row e ≡ Pair (length t.rows + 1) y → IsAddingPart f t row named given own →
+    IsAddingPart f t row (named + 1) given (Named v (Pair (length t.rows + 1) y) ∷ own)
 new_named f t row named given own v y e none e_is first p = record {
   whole = p.whole;
   pairs_long = p.pairs_long;
   names = λ u k z is. by_bit u k z (u == v) is;
   given_before = λ k j c has. p.given_before k j c (inside k j c has);
-  arbiters = λ k r vs row_is vs_are. names_kept own after (λ e. arbiter f (with_row t row) r e) keeps vs f.existentials (p.arbiters k r vs row_is vs_are);
-  complete = λ k j r clause row_is clause_is live. instance_kept f t.group (with_row t row) own after keeps (more_keeps own (Named v P)) k j r clause (p.complete k j r clause row_is clause_is live);
-  complete_so_far = λ j clause lt clause_is live. instance_kept f t.group (with_row t row) own after keeps (more_keeps own (Named v P)) (length t.rows) j row clause (p.complete_so_far j clause lt clause_is live);
+  arbiters = λ k r vs row_is vs_are. names_kept own after (λ e. arbiter f (with_row t row) r e) keeps vs f.existentials
+      (p.arbiters k r vs row_is vs_are);
+  complete = λ k j r clause row_is clause_is live. instance_kept f t.group (with_row t row) own after keeps
+      (more_keeps own (Named v P)) k j r clause (p.complete k j r clause row_is clause_is live);
+  complete_so_far = λ j clause lt clause_is live. instance_kept f t.group (with_row t row) own after keeps
+      (more_keeps own (Named v P)) (length t.rows) j row clause (p.complete_so_far j clause lt clause_is live);
 }
   where
     P : Name
@@ -147,11 +163,13 @@ new_named f t row named given own v y e none e_is first p = record {
     keeps : KeepsNames own after
     keeps = named_keeps own v P none
 
-    inside : (k j : ℕ) (c : List Literal) → Contains after (Given (Instance k j) c) → Contains own (Given (Instance k j) c)
+    inside : (k j : ℕ) (c : List Literal) → Contains after (Given (Instance k j) c) →
+        Contains own (Given (Instance k j) c)
     inside k j c (zero, lt, at) = cc
     inside k j c (suc i, lt, at) = (i, omega (arith, lt), at)
 
-    by_bit : (u k z : ℕ) (b : Bool) → cond b (Some P) (name_of own u) ≡ Some (Pair k z) → ((k ≤ length t.rows) × IsOfPairs t.pairs u) ⊎ ((k ≡ length t.rows + 1) × IsNewPair f t row (named + 1) z)
+    by_bit : (u k z : ℕ) (b : Bool) → cond b (Some P) (name_of own u) ≡ Some (Pair k z) →
+        ((k ≤ length t.rows) × IsOfPairs t.pairs u) ⊎ ((k ≡ length t.rows + 1) × IsNewPair f t row (named + 1) z)
     by_bit u k z true is =
         let number : k ≡ length t.rows + 1 = cc in
         let same : y ≡ z = cc in
@@ -160,7 +178,9 @@ new_named f t row named given own v y e none e_is first p = record {
 
 -- a clause more is done: a universal makes it true, or its instance stands
 pub one_more_done : (f : Dqbf) (t : TableState) (row : List Bool) (named given : ℕ) (own : List Entry)
-    → ((clause : List Literal) → slice_get f.matrix given ≡ Some clause → list_any (universal_literal_true f row) clause ≡ false → HasInstance f t.group (with_row t row) own (length t.rows) given row clause)
+    → ((clause : List Literal) → slice_get f.matrix given ≡ Some clause →
+    list_any (universal_literal_true f row) clause ≡ false →
+    HasInstance f t.group (with_row t row) own (length t.rows) given row clause)
     → IsAddingPart f t row named given own → IsAddingPart f t row named (given + 1) own
 one_more_done f t row named given own here p = record {
   whole = p.whole;
@@ -172,11 +192,14 @@ one_more_done f t row named given own here p = record {
   complete_so_far = λ j clause lt clause_is live. by_place j clause clause_is live lt (below_or_here j given lt);
 }
   where
-    weaker : {k j : ℕ} → (k ≤ length t.rows) ⊎ ((k ≡ length t.rows + 1) × (j ≤ given)) → (k ≤ length t.rows) ⊎ ((k ≡ length t.rows + 1) × (j ≤ given + 1))
+    weaker : {k j : ℕ} → (k ≤ length t.rows) ⊎ ((k ≡ length t.rows + 1) × (j ≤ given)) →
+        (k ≤ length t.rows) ⊎ ((k ≡ length t.rows + 1) × (j ≤ given + 1))
     weaker (inl old) = inl old
     weaker (inr (new, le)) = inr (new, omega (arith, le))
 
-    by_place : (j : ℕ) (clause : List Literal) → slice_get f.matrix j ≡ Some clause → list_any (universal_literal_true f row) clause ≡ false → j < given + 1 → (j < given) ⊎ (j ≡ given)
+    by_place : (j : ℕ) (clause : List Literal) → slice_get f.matrix j ≡ Some clause →
+        list_any (universal_literal_true f row) clause ≡ false → j < given + 1 → (j < given) ⊎ (j ≡ given)
         → HasInstance f t.group (with_row t row) own (length t.rows) j row clause
     by_place j clause clause_is live lt (inl before) = p.complete_so_far j clause before clause_is live
-    by_place j clause clause_is live lt (inr now) = subst (λ i. HasInstance f t.group (with_row t row) own (length t.rows) i row clause) (sym now) (here clause (ap (slice_get f.matrix) (sym now) ∙ clause_is) live)
+    by_place j clause clause_is live lt (inr now) = subst (λ i. HasInstance f t.group (with_row t row) own
+        (length t.rows) i row clause) (sym now) (here clause (ap (slice_get f.matrix) (sym now) ∙ clause_is) live)

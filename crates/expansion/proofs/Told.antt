@@ -13,8 +13,10 @@ use Rattle.log_laws.specs.Engines.{instances, part}
 use Rattle.expansion.specs.Table.{TableState, IsTable}
 use Rattle.expansion.proofs.InstanceModels.{own_name}
 
-names_made : (f : Dqbf) (es : List Entry) (rows : List (List Bool)) (row : List Bool) (ys : List Existential) (vs : List ℕ) → AreLogged es
-    → map (name_of (part instances es)) vs ≡ map (λ y. Some (arbiter f rows row y)) ys → (k d : ℕ) → k < length vs → IsSome (name_of es (get_or vs k d))
+names_made : (f : Dqbf) (es : List Entry) (rows : List (List Bool)) (row : List Bool) (ys : List Existential)
+    (vs : List ℕ) → AreLogged es
+    → map (name_of (part instances es)) vs ≡ map (λ y. Some (arbiter f rows row y)) ys → (k d : ℕ) → k < length vs →
+    IsSome (name_of es (get_or vs k d))
 names_made f es rows row ys [] logged names k d below = absurd (omega (arith, below))
 names_made f es rows row [] (v ∷ vs) logged names k d below = cc
 names_made f es rows row (y ∷ ys) (v ∷ vs) logged names zero d below =
@@ -24,16 +26,20 @@ names_made f es rows row (y ∷ ys) (v ∷ vs) logged names (suc k) d below =
     let behind : map (name_of (part instances es)) vs ≡ map (λ y. Some (arbiter f rows row y)) ys = cc in
     names_made f es rows row ys vs logged behind k d (omega (arith, below))
 
-pub table_told : (f : Dqbf) (t : TableState) (es : List Entry) → AreLogged es → IsTable f t es → (P : ℕ → Type 0) → ((v : ℕ) → IsSome (name_of es v) → P v) → All (All P) t.pairs
+pub table_told : (f : Dqbf) (t : TableState) (es : List Entry) → AreLogged es → IsTable f t es → (P : ℕ → Type 0) →
+    ((v : ℕ) → IsSome (name_of es v) → P v) → All (All P) t.pairs
 table_told f t es logged table P made k d below j e lt =
     let row_is = slice_get-get_or t.rows k [] (omega (arith, below, table.own.pairs_long)) in
-    let names = table.own.arbiters k (get_or t.rows k []) (get_or t.pairs k d) row_is (slice_get-get_or t.pairs k d below) in
-    made (get_or (get_or t.pairs k d) j e) (names_made f es t.rows (get_or t.rows k []) f.existentials (get_or t.pairs k d) logged names j e lt)
+    let names = table.own.arbiters k (get_or t.rows k []) (get_or t.pairs k d) row_is
+    (slice_get-get_or t.pairs k d below) in
+    made (get_or (get_or t.pairs k d) j e) (names_made f es t.rows (get_or t.rows k []) f.existentials
+    (get_or t.pairs k d) logged names j e lt)
 
 -- the literal that switches a table's group on
 pub switch_is : (l : Literal) (g : ℕ) → is_negative l ≡ false → variable_of l ≡ g → l ≡ positive g
 switch_is (positive v) g plain same = ap positive same
 switch_is (negative v) g plain same = cc
 
-pub switched_on : (values : Assignment) (live : LiveClauses) (l : Literal) (g : ℕ) → l ≡ positive g → IsModelUnder values live (l ∷ []) → values g ≡ true
+pub switched_on : (values : Assignment) (live : LiveClauses) (l : Literal) (g : ℕ) → l ≡ positive g →
+    IsModelUnder values live (l ∷ []) → values g ≡ true
 switched_on values live l g is m = ap (literal_true values) (sym is) ∙ m.assumptions_true 0 l (omega arith)

@@ -21,11 +21,14 @@ use Rattle.gate_definitions.proofs.ImpliedLiterals.{literal_true-opposite}
 use Rattle.gate_definitions.proofs.GateNodes.{read_is_declared, literal_value, literal_reads}
 
 -- a node stays one where the graph grows
-pub later : (f : Dqbf) (ranks : List ℕ) (old new : AigGraph) (path : List Literal) (e : Existential) (node : Node) → Extends old new → IsDefinitionUnder f ranks old path e node → IsDefinitionUnder f ranks new path e node
+pub later : (f : Dqbf) (ranks : List ℕ) (old new : AigGraph) (path : List Literal) (e : Existential) (node : Node) →
+    Extends old new → IsDefinitionUnder f ranks old path e node → IsDefinitionUnder f ranks new path e node
 later f ranks old new path e node more under = record {
   is_node = more.nodes node under.is_node;
-  reads = subst (λ is. All (MayRead f ranks e) (map (input_variable f) is)) (sym (more.supports node under.is_node)) under.reads;
-  defines = λ m holds all. under.defines m holds all ∙ sym (more.values node under.is_node (λ i. m (input_variable f i)));
+  reads = subst (λ is. All (MayRead f ranks e) (map (input_variable f) is))
+      (sym (more.supports node under.is_node)) under.reads;
+  defines = λ m holds all. under.defines m holds all ∙ sym (more.values node under.is_node
+      (λ i. m (input_variable f i)));
 }
 
 pub grown_twice : (old mid new : AigGraph) → Extends old mid → Extends mid new → Extends old new
@@ -36,8 +39,14 @@ grown_twice old mid new first second = record {
   supports = λ n is. second.supports n (first.nodes n is) ∙ first.supports n is;
 }
 
-pub whole : (f : Dqbf) (ranks : List ℕ) (graph : AigGraph) (e : Existential) (node : Node) → IsDefinitionUnder f ranks graph [] e node → IsDefinition f ranks graph e node
-whole f ranks graph e node under = record { is_node = under.is_node; reads = under.reads; defines = λ m holds. under.defines m holds refl }
+pub whole : (f : Dqbf) (ranks : List ℕ) (graph : AigGraph) (e : Existential) (node : Node) →
+    IsDefinitionUnder f ranks graph [] e node → IsDefinition f ranks graph e node
+whole f ranks graph e node under = record {
+  is_node = under.is_node;
+  reads = under.reads;
+  defines =
+      λ m holds. under.defines m holds refl;
+}
 
 -- what holds of all that a node reads holds of each of its inputs
 one_mapped : (P : ℕ → Type 0) (g : ℕ → ℕ) (xs : List ℕ) (i : ℕ) → All P (map g xs) → Contains xs i → P (g i)
@@ -49,40 +58,61 @@ not_true : (b : Bool) → not b ≡ true → b ≡ false
 not_true true h = sym h
 not_true false h = refl
 
-module _ (f : Dqbf) (ranks : List ℕ) (y : ℕ) (e : Existential) (known : existential_of f y ≡ Some e) (path : List Literal) where
+module _ (f : Dqbf) (ranks : List ℕ) (y : ℕ) (e : Existential) (known : existential_of f y ≡ Some e)
+    (path : List Literal) where
   own : e.variable ≡ y
   own = (find_sound y f.existentials e known).1
 
-  constant : (graph : AigGraph) (b : Bool) (node : Node) → node ≡ Constant b → ((m : ℕ → Bool) → MatrixHolds f m → cube_true m path ≡ true → m e.variable ≡ b) → IsDefinitionUnder f ranks graph path e node
-  constant graph b node is same = subst (IsDefinitionUnder f ranks graph path e) (sym is) (record { is_node = tt; reads = λ k d lt. absurd (omega (arith, lt)); defines = same })
+  constant : (graph : AigGraph) (b : Bool) (node : Node) → node ≡ Constant b →
+      ((m : ℕ → Bool) → MatrixHolds f m → cube_true m path ≡ true → m e.variable ≡ b) →
+      IsDefinitionUnder f ranks graph path e node
+  constant graph b node is same = subst (IsDefinitionUnder f ranks graph path e) (sym is)
+      (record { is_node = tt; reads = λ k d lt. absurd (omega (arith, lt)); defines = same })
 
-  pub true_leaf : (graph : AigGraph) (l : Literal) (node : Node) → l ≡ positive y → Implies f path l → node ≡ Constant true → IsDefinitionUnder f ranks graph path e node
-  true_leaf graph l node on implied is = constant graph true node is (λ m holds all. ap m own ∙ ap (literal_true m) (sym on) ∙ implied m holds all)
+  pub true_leaf : (graph : AigGraph) (l : Literal) (node : Node) → l ≡ positive y → Implies f path l →
+      node ≡ Constant true → IsDefinitionUnder f ranks graph path e node
+  true_leaf graph l node on implied is = constant graph true node is
+      (λ m holds all. ap m own ∙ ap (literal_true m) (sym on) ∙ implied m holds all)
 
-  pub false_leaf : (graph : AigGraph) (l : Literal) (node : Node) → l ≡ negative y → Implies f path l → node ≡ Constant false → IsDefinitionUnder f ranks graph path e node
-  false_leaf graph l node on implied is = constant graph false node is (λ m holds all. ap m own ∙ not_true (m y) (ap (literal_true m) (sym on) ∙ implied m holds all))
+  pub false_leaf : (graph : AigGraph) (l : Literal) (node : Node) → l ≡ negative y → Implies f path l →
+      node ≡ Constant false → IsDefinitionUnder f ranks graph path e node
+  false_leaf graph l node on implied is = constant graph false node is
+      (λ m holds all. ap m own ∙ not_true (m y) (ap (literal_true m) (sym on) ∙ implied m holds all))
 
   -- a choice by a literal between nodes for both of its values
-  pub test_defines : (graph new : AigGraph) → graph.inputs ≡ length f.universals + length f.existentials → IsLawful f → (l opposed : Literal) (c one zero made : Node) → opposed ≡ opposite l → MayRead f ranks e (variable_of l)
-      → c ≡ literal_node f l → IsDefinitionUnder f ranks graph (l ∷ path) e one → IsDefinitionUnder f ranks graph (opposed ∷ path) e zero → IsChosen graph new c one zero made → IsDefinitionUnder f ranks new path e made
+  pub test_defines : (graph new : AigGraph) → graph.inputs ≡ length f.universals + length f.existentials → IsLawful f →
+      (l opposed : Literal) (c one zero made : Node) → opposed ≡ opposite l → MayRead f ranks e (variable_of l)
+      → c ≡ literal_node f l → IsDefinitionUnder f ranks graph (l ∷ path) e one →
+      IsDefinitionUnder f ranks graph (opposed ∷ path) e zero → IsChosen graph new c one zero made →
+      IsDefinitionUnder f ranks new path e made
   test_defines graph new inputs lawful l opposed c one zero made against may c_is first second made_is =
       let among = read_is_declared f ranks lawful y e known (variable_of l) may in
-      let chosen : IsChosen graph new (literal_node f l) one zero made = subst (λ n. IsChosen graph new n one zero made) c_is made_is in
+      let chosen : IsChosen graph new (literal_node f l) one zero made =
+      subst (λ n. IsChosen graph new n one zero made) c_is made_is in
       let values : (ℕ → Bool) → ℕ → Bool = λ m i. m (input_variable f i) in
-      let pick : (m : ℕ → Bool) (b : Bool) → literal_true m l ≡ b → node_value new (values m) made ≡ (if b then node_value graph (values m) one else node_value graph (values m) zero) = λ m b is.
-      chosen.value (values m) ∙ ap (λ t. if t then node_value graph (values m) one else node_value graph (values m) zero) (literal_value f graph inputs m l among ∙ is) in
-      let reads : (i : ℕ) → Contains (node_support new made) i → MayRead f ranks e (input_variable f i) = λ i read. elim (chosen.reads i read) [
+      let pick : (m : ℕ → Bool) (b : Bool) → literal_true m l ≡ b →
+      node_value new (values m) made ≡ (if b then node_value graph (values m) one else node_value graph
+      (values m) zero) = λ m b is.
+      chosen.value (values m) ∙ ap (λ t. if t then node_value graph (values m) one else node_value graph
+      (values m) zero) (literal_value f graph inputs m l among ∙ is) in
+      let reads : (i : ℕ) → Contains (node_support new made) i → MayRead f ranks e (input_variable f i) =
+      λ i read. elim (chosen.reads i read) [
         | inl tested ↦ literal_reads f graph inputs ranks e l among may i tested
         | inr rest ↦ elim rest [
-          | inl chosen_one ↦ one_mapped (MayRead f ranks e) (input_variable f) (node_support graph one) i first.reads chosen_one
-          | inr chosen_zero ↦ one_mapped (MayRead f ranks e) (input_variable f) (node_support graph zero) i second.reads chosen_zero
+          | inl chosen_one ↦ one_mapped (MayRead f ranks e) (input_variable f)
+              (node_support graph one) i first.reads chosen_one
+          | inr chosen_zero ↦ one_mapped (MayRead f ranks e) (input_variable f)
+              (node_support graph zero) i second.reads chosen_zero
         ]
       ] in
       record {
         is_node = chosen.is_node;
-        reads = All-map (MayRead f ranks e) (input_variable f) (node_support new made) (λ k d lt. reads (get_or (node_support new made) k d) (Contains-get_or (node_support new made) k d lt));
+        reads = All-map (MayRead f ranks e) (input_variable f) (node_support new made)
+            (λ k d lt. reads (get_or (node_support new made) k d) (Contains-get_or (node_support new made) k d lt));
         defines = λ m holds all. elim (cases_Bool (literal_true m l)) [
           | inl is ↦ first.defines m holds (ap (λ b. b && cube_true m path) is ∙ all) ∙ sym (pick m true is)
-          | inr denied ↦ second.defines m holds (ap (λ b. b && cube_true m path) (ap (literal_true m) against ∙ literal_true-opposite m l ∙ ap not denied) ∙ all) ∙ sym (pick m false denied)
+          | inr denied ↦ second.defines m holds (ap (λ b. b && cube_true m path)
+              (ap (literal_true m) against ∙ literal_true-opposite m l ∙ ap not denied) ∙ all) ∙ sym
+              (pick m false denied)
         ];
       }

@@ -16,17 +16,22 @@ is_same r false e h = cc
 abbrev pub choice_of : Half → Half → Choice
 choice_of half other = record { condition = half.condition; then_value = half.value; else_value = other.value }
 
-pub is_choice : (f : Dqbf) (ranks : List ℕ) (y : ℕ) (e : Existential) (half other : Half) → existential_of f y ≡ Some e → same_literal other.condition (opposite half.condition) ≡ true
-    → IsHalf f y half → IsHalf f y other → AreReadable f ranks e (choice_literals (choice_of half other)) → IsChoice f ranks e (choice_of half other)
+pub is_choice : (f : Dqbf) (ranks : List ℕ) (y : ℕ) (e : Existential) (half other : Half) →
+    existential_of f y ≡ Some e → same_literal other.condition (opposite half.condition) ≡ true
+    → IsHalf f y half → IsHalf f y other → AreReadable f ranks e (choice_literals (choice_of half other)) →
+    IsChoice f ranks e (choice_of half other)
 is_choice f ranks y e half other known against first second reads =
     let own = (find_sound y f.existentials e known).1 in
     record {
       reads = reads;
       same = λ m holds. elim (cases_Bool (literal_true m half.condition)) [
-        | inl is ↦ ap m own ∙ first m holds is ∙ sym (ap (λ b. if b then literal_true m half.value else literal_true m other.value) is)
+        | inl is ↦ ap m own ∙ first m holds is ∙ sym (ap (λ b. if b then literal_true m half.value else literal_true m
+            other.value) is)
         | inr denied ↦ (
             let turned : literal_true m other.condition ≡ true =
-            ap (literal_true m) (same_literal-sound other.condition (opposite half.condition) against) ∙ literal_true-opposite m half.condition ∙ ap not denied in
-            ap m own ∙ second m holds turned ∙ sym (ap (λ b. if b then literal_true m half.value else literal_true m other.value) denied))
+            ap (literal_true m) (same_literal-sound other.condition (opposite half.condition) against)
+            ∙ literal_true-opposite m half.condition ∙ ap not denied in
+            ap m own ∙ second m holds turned ∙ sym (ap (λ b. if b then literal_true m half.value else literal_true m
+            other.value) denied))
       ];
     }

@@ -10,27 +10,35 @@ use Rattle.dq_formula.proofs.Places.{place, place-absent, place-found}
 use Rattle.dq_formula.proofs.Sorted.{place-below}
 use Rattle.definition_order.proofs.Declared.{is_variable, none_contained}
 
-pub placed_first : (us vs : List ℕ) (v p : ℕ) → position (λ u. u == v) us ≡ Some p → p ≡ position_or_len (λ w. w == v) (us ++ vs)
+pub placed_first : (us vs : List ℕ) (v p : ℕ) → position (λ u. u == v) us ≡ Some p →
+    p ≡ position_or_len (λ w. w == v) (us ++ vs)
 placed_first us vs v p found =
     let at = place-found us v p found in
     let below = place-below us v at.1 in
-    let apart : eqb (place us v) (length us) ≡ false = ne_eqb (place us v) (length us) (λ same. omega (arith, below, same)) in
-    sym at.0 ∙ sym (prefix_len-append (λ w. not (w == v)) us vs ∙ ap (λ b. cond b (length us + place vs v) (place us v)) apart)
+    let apart : eqb (place us v) (length us) ≡ false = ne_eqb (place us v) (length us)
+    (λ same. omega (arith, below, same)) in
+    sym at.0 ∙ sym (prefix_len-append (λ w. not (w == v)) us vs ∙ ap
+    (λ b. cond b (length us + place vs v) (place us v)) apart)
 
-pub placed_second : (us vs : List ℕ) (v p : ℕ) → position (λ u. u == v) us ≡ None → position (λ w. w == v) vs ≡ Some p → length us + p ≡ position_or_len (λ w. w == v) (us ++ vs)
+pub placed_second : (us vs : List ℕ) (v p : ℕ) → position (λ u. u == v) us ≡ None → position (λ w. w == v) vs ≡ Some p →
+    length us + p ≡ position_or_len (λ w. w == v) (us ++ vs)
 placed_second us vs v p none found =
     let at = place-found vs v p found in
-    let end : eqb (place us v) (length us) ≡ true = eq-eqb (place us v) (length us) (place-absent (λ u. u == v) us none) in
-    ap (λ k. length us + k) (sym at.0) ∙ sym (prefix_len-append (λ w. not (w == v)) us vs ∙ ap (λ b. cond b (length us + place vs v) (place us v)) end)
+    let end : eqb (place us v) (length us) ≡ true = eq-eqb (place us v) (length us)
+    (place-absent (λ u. u == v) us none) in
+    ap (λ k. length us + k) (sym at.0) ∙ sym (prefix_len-append (λ w. not (w == v)) us vs ∙ ap
+    (λ b. cond b (length us + place vs v) (place us v)) end)
 
-pub placed_nowhere : (us vs : List ℕ) (v : ℕ) → position (λ u. u == v) us ≡ None → position (λ w. w == v) vs ≡ None → Contains (us ++ vs) v → ⊥
+pub placed_nowhere : (us vs : List ℕ) (v : ℕ) → position (λ u. u == v) us ≡ None → position (λ w. w == v) vs ≡ None →
+    Contains (us ++ vs) v → ⊥
 placed_nowhere us vs v none none' among = elim (Contains-append_cases us vs v among) [
   | inl first ↦ none_contained us v none first
   | inr second ↦ none_contained vs v none' second
 ]
 
 pub placed_below : (vs : List ℕ) (v p : ℕ) → position (λ w. w == v) vs ≡ Some p → p < length vs
-placed_below vs v p found = let at = place-found vs v p found in let below = place-below vs v at.1 in let same = at.0 in omega (arith, below, same)
+placed_below vs v p found = let at = place-found vs v p found in let below = place-below vs v at.1 in let same = at.0 in
+    omega (arith, below, same)
 
 pub number_range : (f : Dqbf) → IsLawful f → (y : ℕ) → IsSome (existential_of f y) → (1 ≤ y) × (y ≤ 1000000)
 number_range f lawful y is =

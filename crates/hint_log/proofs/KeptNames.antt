@@ -9,20 +9,25 @@ use Rattle.hint_log.specs.Entries.{Named, Given, Learned, Answer, Round, Begun}
 use Rattle.hint_log.specs.declared.names.Name.{Name}
 
 -- a name more, behind the others: of another variable, or of one that had none
-lookup_other : (names : List (ℕ × Name)) (w v : ℕ) (name : Name) → eqb v w ≡ false → lookup (eqb v) (names ++ (w, name) ∷ []) ≡ lookup (eqb v) names
+lookup_other : (names : List (ℕ × Name)) (w v : ℕ) (name : Name) → eqb v w ≡ false →
+    lookup (eqb v) (names ++ (w, name) ∷ []) ≡ lookup (eqb v) names
 lookup_other [] w v name other = ap (λ b. cond b (Some name) None) other
-lookup_other (n ∷ names) w v name other = ap (λ found. cond (eqb v n.0) (Some n.1) found) (lookup_other names w v name other)
+lookup_other (n ∷ names) w v name other = ap (λ found. cond (eqb v n.0) (Some n.1) found)
+    (lookup_other names w v name other)
 
-lookup_new : (names : List (ℕ × Name)) (w v : ℕ) (name : Name) → eqb v w ≡ true → lookup (eqb v) names ≡ None → lookup (eqb v) (names ++ (w, name) ∷ []) ≡ Some name
+lookup_new : (names : List (ℕ × Name)) (w v : ℕ) (name : Name) → eqb v w ≡ true → lookup (eqb v) names ≡ None →
+    lookup (eqb v) (names ++ (w, name) ∷ []) ≡ Some name
 lookup_new [] w v name here none = ap (λ b. cond b (Some name) None) here
 lookup_new (n ∷ names) w v name here none = by (eqb v n.0) (lookup_new names w v name here) none
   where
-    by : (b : Bool) → (lookup (eqb v) names ≡ None → lookup (eqb v) (names ++ (w, name) ∷ []) ≡ Some name) → cond b (Some n.1) (lookup (eqb v) names) ≡ None
+    by : (b : Bool) → (lookup (eqb v) names ≡ None → lookup (eqb v) (names ++ (w, name) ∷ []) ≡ Some name) →
+        cond b (Some n.1) (lookup (eqb v) names) ≡ None
         → cond b (Some n.1) (lookup (eqb v) (names ++ (w, name) ∷ [])) ≡ Some name
     by true more is = cc
     by false more is = more is
 
-pub found_names : (entries : List Entry) (v : ℕ) → AreNamedOnce entries → lookup (eqb v) (names_of entries) ≡ name_of entries v
+pub found_names : (entries : List Entry) (v : ℕ) → AreNamedOnce entries →
+    lookup (eqb v) (names_of entries) ≡ name_of entries v
 found_names [] v once = refl
 found_names (Given _ _ ∷ entries) v once = found_names entries v once
 found_names (Learned _ _ ∷ entries) v once = found_names entries v once

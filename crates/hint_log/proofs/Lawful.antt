@@ -19,16 +19,19 @@ none_is_some is = cc
 some_is : {X : Type 0} {x y : X} → Some x ≡ Some y → x ≡ y
 some_is is = cc
 
-found_hints : (e : Option Entry) (hints : List ℕ) → option_and_then (λ e. Some (hints_of e)) e ≡ Some hints → (x : Entry) × (e ≡ Some x) × (hints ≡ hints_of x)
+found_hints : (e : Option Entry) (hints : List ℕ) → option_and_then (λ e. Some (hints_of e)) e ≡ Some hints →
+    (x : Entry) × (e ≡ Some x) × (hints ≡ hints_of x)
 found_hints None hints is = cc
 found_hints (Some x) hints is = (x, refl, cc)
 
-pub reached_are_ids_lem : (entries : List Entry) (id i : ℕ) → AreLogged entries → IsId entries id → Reaches entries id i → IsId entries i
+pub reached_are_ids_lem : (entries : List Entry) (id i : ℕ) → AreLogged entries → IsId entries id →
+    Reaches entries id i → IsId entries i
 reached_are_ids_lem entries id _ logged known itself = known
 reached_are_ids_lem entries id _ logged known (by_hint at hint hints reached is has) =
     let before = reached_are_ids_lem entries id at logged known reached in
     let found = found_hints (numbered has_id entries at) hints is in
-    let range = hint_earlier entries at found.0 (are_earlier entries logged) found.1 hint (subst (λ hs. Contains hs hint) found.2 has) in
+    let range = hint_earlier entries at found.0 (are_earlier entries logged) found.1 hint
+    (subst (λ hs. Contains hs hint) found.2 has) in
     let last = before.last in
     record { from_one = range.0; last = omega (arith, range.1, last) }
 
@@ -48,7 +51,8 @@ name_stays (Named w name) es v some = by (v == w)
 named_stay : (e : Entry) (es : List Entry) (clause : List Literal) → AreNamed es clause → AreNamed (e ∷ es) clause
 named_stay e es clause named = λ k d below. name_stays e es (variable_of (slice_index_or clause k d)) (named k d below)
 
-head_named : (x : Entry) (es : List Entry) (clause : List Literal) → MayFollow es x → clause_of x ≡ Some clause → AreNamed es clause
+head_named : (x : Entry) (es : List Entry) (clause : List Literal) → MayFollow es x → clause_of x ≡ Some clause →
+    AreNamed es clause
 head_named (Named _ _) es clause asked is = absurd (none_is_some is)
 head_named (Given _ c) es clause asked is = subst (AreNamed es) (some_is is) asked
 head_named (Learned c _) es clause asked is = subst (AreNamed es) (some_is is) asked.0
@@ -56,18 +60,22 @@ head_named (Answer c _) es clause asked is = subst (AreNamed es) (some_is is) as
 head_named (Round _ _ _) es clause asked is = absurd (none_is_some is)
 head_named (Begun _) es clause asked is = absurd (none_is_some is)
 
-pub clauses_are_named_lem : (entries : List Entry) (id : ℕ) (clause : List Literal) → AreLogged entries → clause_at entries id ≡ Some clause → AreNamed entries clause
+pub clauses_are_named_lem : (entries : List Entry) (id : ℕ) (clause : List Literal) → AreLogged entries →
+    clause_at entries id ≡ Some clause → AreNamed entries clause
 clauses_are_named_lem [] id clause logged is = absurd (none_is_some is)
 clauses_are_named_lem (x ∷ es) id clause logged is =
-    named_stay x es clause (by (has_id x && (id == last_id es + 1)) (λ is. head_named x es clause logged.0 is) (λ is. clauses_are_named_lem es id clause logged.1 is) is)
+    named_stay x es clause (by (has_id x && (id == last_id es + 1)) (λ is. head_named x es clause logged.0 is)
+    (λ is. clauses_are_named_lem es id clause logged.1 is) is)
   where
-    by : (b : Bool) → (clause_of x ≡ Some clause → AreNamed es clause) → (clause_at es id ≡ Some clause → AreNamed es clause)
+    by : (b : Bool) → (clause_of x ≡ Some clause → AreNamed es clause) →
+        (clause_at es id ≡ Some clause → AreNamed es clause)
         → option_and_then clause_of (if b then Some x else numbered has_id es id) ≡ Some clause → AreNamed es clause
     by true here behind is = here is
     by false here behind is = behind is
 
 -- a variable of a circuit stays one
-circuit_stays : (e : Entry) (es : List Entry) (v : ℕ) → MayFollow es e → is_circuit_name (name_of es v) ≡ true → is_circuit_name (name_of (e ∷ es) v) ≡ true
+circuit_stays : (e : Entry) (es : List Entry) (v : ℕ) → MayFollow es e → is_circuit_name (name_of es v) ≡ true →
+    is_circuit_name (name_of (e ∷ es) v) ≡ true
 circuit_stays (Given _ _) es v asked is = is
 circuit_stays (Learned _ _) es v asked is = is
 circuit_stays (Answer _ _) es v asked is = is
@@ -76,11 +84,13 @@ circuit_stays (Begun _) es v asked is = is
 circuit_stays (Named w name) es v asked is = by (v == w) refl
   where
     by : (b : Bool) → (v == w) ≡ b → is_circuit_name (if b then Some name else name_of es v) ≡ true
-    by true same = absurd (true≢false (sym is ∙ ap (λ u. is_circuit_name (name_of es u)) (eqb-true v w same) ∙ ap is_circuit_name asked.unnamed))
+    by true same = absurd (true≢false (sym is ∙ ap (λ u. is_circuit_name (name_of es u)) (eqb-true v w same)
+        ∙ ap is_circuit_name asked.unnamed))
     by false other = is
 
 -- so does one of a definition
-term_stays : (e : Entry) (es : List Entry) (v : ℕ) → MayFollow es e → is_term_name (name_of es v) ≡ true → is_term_name (name_of (e ∷ es) v) ≡ true
+term_stays : (e : Entry) (es : List Entry) (v : ℕ) → MayFollow es e → is_term_name (name_of es v) ≡ true →
+    is_term_name (name_of (e ∷ es) v) ≡ true
 term_stays (Given _ _) es v asked is = is
 term_stays (Learned _ _) es v asked is = is
 term_stays (Answer _ _) es v asked is = is
@@ -89,40 +99,61 @@ term_stays (Begun _) es v asked is = is
 term_stays (Named w name) es v asked is = by (v == w) refl
   where
     by : (b : Bool) → (v == w) ≡ b → is_term_name (if b then Some name else name_of es v) ≡ true
-    by true same = absurd (true≢false (sym is ∙ ap (λ u. is_term_name (name_of es u)) (eqb-true v w same) ∙ ap is_term_name asked.unnamed))
+    by true same = absurd (true≢false (sym is ∙ ap (λ u. is_term_name (name_of es u)) (eqb-true v w same)
+        ∙ ap is_term_name asked.unnamed))
     by false other = is
 
 sides_stay : (e : Entry) (es : List Entry) (name : Name) → MayFollow es e → HasSides es name → HasSides (e ∷ es) name
 sides_stay e es (Selector _) asked sides = tt
 sides_stay e es (Pair _ _) asked sides = tt
 sides_stay e es (Input _) asked sides = tt
-sides_stay e es (And a b) asked sides = (circuit_stays e es (variable_of a) asked sides.0, circuit_stays e es (variable_of b) asked sides.1)
+sides_stay e es (And a b) asked sides = (
+  circuit_stays e es (variable_of a) asked sides.0,
+  circuit_stays e es (variable_of b) asked sides.1,
+)
 sides_stay e es (Bad _ _) asked sides = tt
 sides_stay e es (Copy _ _) asked sides = tt
-sides_stay e es (Term a b) asked sides = (term_stays e es (variable_of a) asked sides.0, term_stays e es (variable_of b) asked sides.1)
+sides_stay e es (Term a b) asked sides = (
+  term_stays e es (variable_of a) asked sides.0,
+  term_stays e es (variable_of b) asked sides.1,
+)
 
-pub sides_are_named_lem : (entries : List Entry) (v : ℕ) (name : Name) → AreLogged entries → name_of entries v ≡ Some name → HasSides entries name
+pub sides_are_named_lem : (entries : List Entry) (v : ℕ) (name : Name) → AreLogged entries →
+    name_of entries v ≡ Some name → HasSides entries name
 sides_are_named_lem [] v name logged is = absurd (none_is_some is)
-sides_are_named_lem (Given o c ∷ es) v name logged is = sides_stay (Given o c) es name logged.0 (sides_are_named_lem es v name logged.1 is)
-sides_are_named_lem (Learned c h ∷ es) v name logged is = sides_stay (Learned c h) es name logged.0 (sides_are_named_lem es v name logged.1 is)
-sides_are_named_lem (Answer c h ∷ es) v name logged is = sides_stay (Answer c h) es name logged.0 (sides_are_named_lem es v name logged.1 is)
-sides_are_named_lem (Round r b j ∷ es) v name logged is = sides_stay (Round r b j) es name logged.0 (sides_are_named_lem es v name logged.1 is)
-sides_are_named_lem (Begun live ∷ es) v name logged is = sides_stay (Begun live) es name logged.0 (sides_are_named_lem es v name logged.1 is)
+sides_are_named_lem (Given o c ∷ es) v name logged is = sides_stay (Given o c) es name logged.0
+    (sides_are_named_lem es v name logged.1 is)
+sides_are_named_lem (Learned c h ∷ es) v name logged is = sides_stay (Learned c h) es name logged.0
+    (sides_are_named_lem es v name logged.1 is)
+sides_are_named_lem (Answer c h ∷ es) v name logged is = sides_stay (Answer c h) es name logged.0
+    (sides_are_named_lem es v name logged.1 is)
+sides_are_named_lem (Round r b j ∷ es) v name logged is = sides_stay (Round r b j) es name logged.0
+    (sides_are_named_lem es v name logged.1 is)
+sides_are_named_lem (Begun live ∷ es) v name logged is = sides_stay (Begun live) es name logged.0
+    (sides_are_named_lem es v name logged.1 is)
 sides_are_named_lem (Named w n ∷ es) v name logged is =
     sides_stay (Named w n) es name logged.0 (by (v == w) (λ is. sides_are_named_lem es v name logged.1 is) is)
   where
-    by : (b : Bool) → (name_of es v ≡ Some name → HasSides es name) → (if b then Some n else name_of es v) ≡ Some name → HasSides es name
+    by : (b : Bool) → (name_of es v ≡ Some name → HasSides es name) → (if b then Some n else name_of es v) ≡ Some name →
+        HasSides es name
     by true behind is = subst (HasSides es) (some_is is) logged.0.sides
     by false behind is = behind is
 
-pub names_are_unique_lem : (entries : List Entry) (v w : ℕ) (name : Name) → AreLogged entries → name_of entries v ≡ Some name → name_of entries w ≡ Some name → v ≡ w
+pub names_are_unique_lem : (entries : List Entry) (v w : ℕ) (name : Name) → AreLogged entries →
+    name_of entries v ≡ Some name → name_of entries w ≡ Some name → v ≡ w
 names_are_unique_lem [] v w name logged first second = absurd (none_is_some first)
-names_are_unique_lem (Given _ _ ∷ es) v w name logged first second = names_are_unique_lem es v w name logged.1 first second
-names_are_unique_lem (Learned _ _ ∷ es) v w name logged first second = names_are_unique_lem es v w name logged.1 first second
-names_are_unique_lem (Answer _ _ ∷ es) v w name logged first second = names_are_unique_lem es v w name logged.1 first second
-names_are_unique_lem (Round _ _ _ ∷ es) v w name logged first second = names_are_unique_lem es v w name logged.1 first second
-names_are_unique_lem (Begun _ ∷ es) v w name logged first second = names_are_unique_lem es v w name logged.1 first second
-names_are_unique_lem (Named u n ∷ es) v w name logged first second = by (v == u) (w == u) refl refl (λ f s. names_are_unique_lem es v w name logged.1 f s) first second
+names_are_unique_lem (Given _ _ ∷ es) v w name logged first second =
+    names_are_unique_lem es v w name logged.1 first second
+names_are_unique_lem (Learned _ _ ∷ es) v w name logged first second =
+    names_are_unique_lem es v w name logged.1 first second
+names_are_unique_lem (Answer _ _ ∷ es) v w name logged first second =
+    names_are_unique_lem es v w name logged.1 first second
+names_are_unique_lem (Round _ _ _ ∷ es) v w name logged first second =
+    names_are_unique_lem es v w name logged.1 first second
+names_are_unique_lem (Begun _ ∷ es) v w name logged first second =
+    names_are_unique_lem es v w name logged.1 first second
+names_are_unique_lem (Named u n ∷ es) v w name logged first second =
+    by (v == u) (w == u) refl refl (λ f s. names_are_unique_lem es v w name logged.1 f s) first second
   where
     by : (a b : Bool) → (v == u) ≡ a → (w == u) ≡ b → (name_of es v ≡ Some name → name_of es w ≡ Some name → v ≡ w)
         → (if a then Some n else name_of es v) ≡ Some name → (if b then Some n else name_of es w) ≡ Some name → v ≡ w
@@ -140,10 +171,13 @@ rounds_are_steps_lem (Answer _ _ ∷ es) = rounds_are_steps_lem es
 rounds_are_steps_lem (Round _ _ _ ∷ es) = let before = rounds_are_steps_lem es in omega (arith, before)
 rounds_are_steps_lem (Begun _ ∷ es) = let before = rounds_are_steps_lem es in omega (arith, before)
 
-pub ids_stay_lem : (e : Entry) (entries : List Entry) (id : ℕ) → IsId entries id → numbered has_id (e ∷ entries) id ≡ numbered has_id entries id
+pub ids_stay_lem : (e : Entry) (entries : List Entry) (id : ℕ) → IsId entries id →
+    numbered has_id (e ∷ entries) id ≡ numbered has_id entries id
 ids_stay_lem e es id known = by (has_id e) (id == last_id es + 1) refl
   where
-    by : (a b : Bool) → (id == last_id es + 1) ≡ b → (if a && b then Some e else numbered has_id es id) ≡ numbered has_id es id
-    by a true same = let last = known.last in let at : id ≡ last_id es + 1 = eqb-true id (last_id es + 1) same in absurd (omega (arith, last, at))
+    by : (a b : Bool) → (id == last_id es + 1) ≡ b → (if a && b then Some e else numbered has_id es id)
+        ≡ numbered has_id es id
+    by a true same = let last = known.last in let at : id ≡ last_id es + 1 = eqb-true id (last_id es + 1) same in
+        absurd (omega (arith, last, at))
     by true false other = refl
     by false false other = refl

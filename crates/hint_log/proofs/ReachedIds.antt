@@ -11,17 +11,20 @@ use Rattle.hint_log.specs.declared.pending.Pending.{Pending}
 use Rattle.hint_log.proofs.Logged.{AreEarlier}
 
 -- a hint is an earlier id
-pub hint_earlier : (entries : List Entry) (id : ℕ) (e : Entry) → AreEarlier entries → numbered has_id entries id ≡ Some e
+pub hint_earlier : (entries : List Entry) (id : ℕ) (e : Entry) → AreEarlier entries →
+    numbered has_id entries id ≡ Some e
     → (hint : ℕ) → Contains (hints_of e) hint → (1 ≤ hint) × (hint < id)
 hint_earlier [] id e earlier found hint has = cc
 hint_earlier (x ∷ es) id e earlier found hint has =
     by (has_id x && (id == last_id es + 1)) refl (λ behind. hint_earlier es id e earlier.1 behind hint has) found
   where
-    by : (b : Bool) → (has_id x && (id == last_id es + 1)) ≡ b → (numbered has_id es id ≡ Some e → (1 ≤ hint) × (hint < id))
+    by : (b : Bool) → (has_id x && (id == last_id es + 1)) ≡ b →
+        (numbered has_id es id ≡ Some e → (1 ≤ hint) × (hint < id))
         → cond b (Some x) (numbered has_id es id) ≡ Some e → (1 ≤ hint) × (hint < id)
     by true here rest is =
         let same : x ≡ e = cc in
-        let at : id ≡ last_id es + 1 = eqb-true id (last_id es + 1) (and_parts (has_id x) (id == last_id es + 1) here).1 in
+        let at : id ≡ last_id es + 1 = eqb-true id (last_id es + 1)
+        (and_parts (has_id x) (id == last_id es + 1) here).1 in
         let h : IsId es hint = earlier.0 hint (subst (λ y. Contains (hints_of y) hint) (sym same) has) in
         let last = h.last in
         (h.from_one, omega (arith, at, last))
@@ -43,7 +46,8 @@ with_none p = record {
     nothing : (v : ℕ) → Contains {X = ℕ} [] v → ⊥
     nothing v (k, lt, at) = omega (arith, lt)
 
-pub with_one_more : (old now next : Pending) (ids : List ℕ) (x : ℕ) → IsWith old now ids → ((w : ℕ) → is_pending next w ≡ cond (x == w) true (is_pending now w))
+pub with_one_more : (old now next : Pending) (ids : List ℕ) (x : ℕ) → IsWith old now ids →
+    ((w : ℕ) → is_pending next w ≡ cond (x == w) true (is_pending now w))
     → IsWith old next (ids ++ x ∷ [])
 with_one_more old now next ids x before is = record {
   kept = λ v h. stays v (before.kept v h);
@@ -66,7 +70,8 @@ with_one_more old now next ids x before is = record {
     only_one v (zero, lt, at) = at
     only_one v (suc k, lt, at) = absurd (omega (arith, lt))
 
-    by : (v : ℕ) (b : Bool) → (x == v) ≡ b → cond b true (is_pending now v) ≡ true → (is_pending old v ≡ true) ⊎ Contains (ids ++ x ∷ []) v
+    by : (v : ℕ) (b : Bool) → (x == v) ≡ b → cond b true (is_pending now v) ≡ true →
+        (is_pending old v ≡ true) ⊎ Contains (ids ++ x ∷ []) v
     by v true same was = inr (Contains-append_right ids (x ∷ []) v (0, omega arith, eqb-true x v same))
     by v false other was =
         elim (before.only v was) [
@@ -84,7 +89,8 @@ pub record AreReachedSoFar (entries : List Entry) (id : ℕ) (pending : Pending)
   pub closed : (i hint : ℕ) (hints : List ℕ) → Contains up i → hints_at entries i ≡ Some hints → Contains hints hint
       → (is_pending pending hint ≡ true) ⊎ Contains up hint
 
-only_id : (id v : ℕ) (none one : Pending) → ((w : ℕ) → is_pending none w ≡ false) → ((w : ℕ) → is_pending one w ≡ cond (id == w) true (is_pending none w))
+only_id : (id v : ℕ) (none one : Pending) → ((w : ℕ) → is_pending none w ≡ false) →
+    ((w : ℕ) → is_pending one w ≡ cond (id == w) true (is_pending none w))
     → is_pending one v ≡ true → id ≡ v
 only_id id v none one empty is h = by (id == v) refl (sym (is v) ∙ h)
   where
@@ -110,9 +116,12 @@ first_pending entries id none one empty is = record {
     same_id n = eq-eqb n n refl
 
 -- the greatest id that is pending is taken out, and its hints are added
-pub one_more_reached : (entries : List Entry) (id at : ℕ) (before taken after : Pending) (up : List ℕ) (hints : List ℕ) → AreReachedSoFar entries id before up
-    → Takes before taken at → hints_at entries at ≡ Some hints → ((hint : ℕ) → Contains hints hint → (1 ≤ hint) × (hint < at))
-    → ((v : ℕ) → is_pending taken v ≡ true → is_pending after v ≡ true) → ((v : ℕ) → Contains hints v → is_pending after v ≡ true)
+pub one_more_reached : (entries : List Entry) (id at : ℕ) (before taken after : Pending) (up : List ℕ) (hints : List ℕ)
+    → AreReachedSoFar entries id before up
+    → Takes before taken at → hints_at entries at ≡ Some hints →
+    ((hint : ℕ) → Contains hints hint → (1 ≤ hint) × (hint < at))
+    → ((v : ℕ) → is_pending taken v ≡ true → is_pending after v ≡ true) →
+    ((v : ℕ) → Contains hints v → is_pending after v ≡ true)
     → ((v : ℕ) → is_pending after v ≡ true → (is_pending taken v ≡ true) ⊎ Contains hints v)
     → AreReachedSoFar entries id after (at ∷ up)
 one_more_reached entries id at before taken after up hints so_far takes found earlier kept added only =
@@ -129,7 +138,11 @@ one_more_reached entries id at before taken after up hints so_far takes found ea
             | inl old ↦ so_far.sound_pending v (takes.fewer v old)
             | inr new ↦ by_hint at v hints reached_at found new
           ];
-      sound = λ v has. elim (head_or_tail v has) [ inl here ↦ subst (Reaches entries id) (sym here) reached_at | inr behind ↦ so_far.sound v behind ];
+      sound = λ v has. elim (head_or_tail v has) [
+        | inl here ↦
+            subst (Reaches entries id) (sym here) reached_at
+        | inr behind ↦ so_far.sound v behind
+      ];
       start = elim so_far.start [ inl was ↦ stays id was | inr has ↦ inr (later id has) ];
       closed = λ i hint own has own_found in_own.
           elim (head_or_tail i has) [
@@ -164,15 +177,18 @@ one_more_reached entries id at before taken after up hints so_far takes found ea
     ascends : IsStrictlyIncreasing (at ∷ up)
     ascends zero lt = let low = so_far.below at takes.was in first up low lt
       where
-        first : (ys : List ℕ) → at < get_or ys 0 (id + 1) → 0 + 1 < length (at ∷ ys) → slice_index (at ∷ ys) 0 < slice_index (at ∷ ys) (0 + 1)
+        first : (ys : List ℕ) → at < get_or ys 0 (id + 1) → 0 + 1 < length (at ∷ ys) →
+            slice_index (at ∷ ys) 0 < slice_index (at ∷ ys) (0 + 1)
         first [] low lt = absurd (omega (arith, lt))
         first (y ∷ ys) low lt = low
     ascends (suc k) lt =
         let next : suc k + 1 ≡ suc (k + 1) = omega arith in
-        subst (λ n. slice_index (at ∷ up) (suc k) < slice_index (at ∷ up) n) (sym next) (so_far.ascending k (omega (arith, lt)))
+        subst (λ n. slice_index (at ∷ up) (suc k) < slice_index (at ∷ up) n) (sym next)
+        (so_far.ascending k (omega (arith, lt)))
 
 -- no entry has the id 0, and what is closed under hints has all that is reached
-pub all_reached : (entries : List Entry) (id : ℕ) (pending : Pending) (up : List ℕ) → AreReachedSoFar entries id pending up
+pub all_reached : (entries : List Entry) (id : ℕ) (pending : Pending) (up : List ℕ) →
+    AreReachedSoFar entries id pending up
     → ((v : ℕ) → is_pending pending v ≡ false) → AreReached entries id up
 all_reached entries id pending up so_far empty = record {
   ascending = so_far.ascending;
@@ -186,4 +202,5 @@ all_reached entries id pending up so_far empty = record {
 
     complete : (i : ℕ) → Reaches entries id i → Contains up i
     complete i itself = inside i so_far.start
-    complete i (by_hint at hint hints before found has) = inside i (so_far.closed at hint hints (complete at before) found has)
+    complete i (by_hint at hint hints before found has) = inside i
+        (so_far.closed at hint hints (complete at before) found has)

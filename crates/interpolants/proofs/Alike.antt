@@ -10,7 +10,8 @@ use Rattle.interpolants.specs.Interpolant.{Partition, partition, node_of, is_on_
 use Rattle.interpolants.specs.Replay.{AreSame}
 use Rattle.interpolants.proofs.Truth.{any_same, stands_same}
 
-module _ (es : List Entry) (id : ℕ) (a_side assumed : List Literal) (shared kept : List (ℕ × Node)) (same : AreSame assumed a_side)
+module _ (es : List Entry) (id : ℕ) (a_side assumed : List Literal) (shared kept : List (ℕ × Node))
+    (same : AreSame assumed a_side)
     (nodes : (v : ℕ) → node_of kept v ≡ node_of shared v) where
   abbrev q : Partition
   q = partition es id a_side shared
@@ -20,7 +21,8 @@ module _ (es : List Entry) (id : ℕ) (a_side assumed : List Literal) (shared ke
 
   on_a : (c : List Literal) → is_on_a p c ≡ is_on_a q c
   on_a c =
-      any_same (λ l. holds assumed (opposite l) && is_selector es (variable_of l)) (λ l. holds a_side (opposite l) && is_selector es (variable_of l))
+      any_same (λ l. holds assumed (opposite l) && is_selector es (variable_of l))
+      (λ l. holds a_side (opposite l) && is_selector es (variable_of l))
       (λ l. ap (λ b. b && is_selector es (variable_of l)) (same (opposite l))) c
 
   given : (at : ℕ) (c : List Literal) → IsReachedGiven p at c → IsReachedGiven q at c
@@ -30,10 +32,21 @@ module _ (es : List Entry) (id : ℕ) (a_side assumed : List Literal) (shared ke
   other l o = record { clause = o.clause; clause_is = o.clause_is; negated = o.negated; not_a = sym (same l) ∙ o.not_a }
 
   side : (b : Bool) (v : ℕ) → IsInSide p b v → IsInSide q b v
-  side b v s = record { at = s.at; clause = s.clause; given = given s.at s.clause s.given; on_side = sym (on_a s.clause) ∙ s.on_side; stands = s.stands }
+  side b v s = record {
+    at = s.at;
+    clause = s.clause;
+    given = given s.at s.clause s.given;
+    on_side =
+        sym (on_a s.clause) ∙ s.on_side;
+    stands = s.stands;
+  }
 
   of_a : (v : ℕ) → IsOfA p v → IsOfA q v
-  of_a v of = elim of [ inl assumed_there ↦ inl (stands_same assumed a_side same v assumed_there) | inr s ↦ inr (side true v s) ]
+  of_a v of = elim of [
+    | inl assumed_there ↦ inl (stands_same assumed a_side same v assumed_there)
+    | inr s ↦
+        inr (side true v s)
+  ]
 
   of_b : (v : ℕ) → IsOfB p v → IsOfB q v
   of_b v of = elim of [ inl o ↦ inl (o.0, other o.0 o.1, o.2) | inr s ↦ inr (side _ v s) ]
@@ -53,7 +66,15 @@ module _ (es : List Entry) (id : ℕ) (a_side assumed : List Literal) (shared ke
   pub interpolant_kept : (g : AigGraph) (n : Node) → IsInterpolant p g n → IsInterpolant q g n
   interpolant_kept g n i = record {
     is_node = i.is_node;
-    follows = λ inputs m h a assumed_true. i.follows inputs m (agrees g inputs m h) (side_holds true m a) (λ l is. assumed_true l (sym (same l) ∙ is));
-    contradicts = λ inputs m h b others v. i.contradicts inputs m (agrees g inputs m h) (side_holds _ m b) (λ l o. others l (other l o)) v;
-    reads = λ k has. let r = i.reads k has in record { variable = r.variable; node = r.node; node_is = sym (nodes r.variable) ∙ r.node_is; reads = r.reads };
+    follows = λ inputs m h a assumed_true. i.follows inputs m (agrees g inputs m h) (side_holds true m a)
+        (λ l is. assumed_true l (sym (same l) ∙ is));
+    contradicts = λ inputs m h b others v. i.contradicts inputs m (agrees g inputs m h) (side_holds _ m b)
+        (λ l o. others l (other l o)) v;
+    reads = λ k has. let r = i.reads k has in record {
+      variable = r.variable;
+      node = r.node;
+      node_is =
+          sym (nodes r.variable) ∙ r.node_is;
+      reads = r.reads;
+    };
   }

@@ -15,15 +15,19 @@ use Rattle.interpolants.specs.Replay.{AreDerived}
 use Rattle.interpolants.proofs.NumberedClauses.{clause_has_id}
 use Rattle.interpolants.proofs.Replays.{derived-on}
 
-module _ (stays : (e : Entry) (es : List Entry) (id : ℕ) → IsId es id → numbered has_id (e ∷ es) id ≡ numbered has_id es id)
+module _ (stays : (e : Entry) (es : List Entry) (id : ℕ) → IsId es id →
+    numbered has_id (e ∷ es) id ≡ numbered has_id es id)
     (reached : (es : List Entry) (id i : ℕ) → AreLogged es → IsId es id → Reaches es id i → IsId es i) where
   -- a line keeps its derivation as an entry is added
-  one_more : (e : Entry) (es : List Entry) (clause : List Literal) (hints : List ℕ) → AreIds es hints → IsDerived (clause_at es) clause hints →
+  one_more : (e : Entry) (es : List Entry) (clause : List Literal) (hints : List ℕ) → AreIds es hints →
+      IsDerived (clause_at es) clause hints →
       IsDerived (clause_at (e ∷ es)) clause hints
   one_more e es clause hints ids derived =
-      derived-on (clause_at es) (clause_at (e ∷ es)) clause hints (λ hint has. sym (ap (option_and_then clause_of) (stays e es hint (ids hint has)))) derived
+      derived-on (clause_at es) (clause_at (e ∷ es)) clause hints
+      (λ hint has. sym (ap (option_and_then clause_of) (stays e es hint (ids hint has)))) derived
 
-  line_here : (e : Entry) (es : List Entry) (c clause : List Literal) (hs hints : List ℕ) → AreIds es hs → IsDerived (clause_at es) c hs → Some c ≡ Some clause →
+  line_here : (e : Entry) (es : List Entry) (c clause : List Literal) (hs hints : List ℕ) → AreIds es hs →
+      IsDerived (clause_at es) c hs → Some c ≡ Some clause →
       Some hs ≡ Some hints → IsDerived (clause_at (e ∷ es)) clause hints
   line_here e es c clause hs hints ids derived c_is hs_is =
       let same_c : c ≡ clause = cc in
@@ -32,13 +36,17 @@ module _ (stays : (e : Entry) (es : List Entry) (id : ℕ) → IsId es id → nu
       let Q : List ℕ → Type 0 = λ xs. IsDerived (clause_at (e ∷ es)) c xs in
       subst P same_c (subst Q same_h (one_more e es c hs ids derived))
 
-  entry_here : (e : Entry) (es : List Entry) (clause : List Literal) (hints : List ℕ) → AreLogged (e ∷ es) → IsDerivedByHints es e →
-      option_and_then clause_of (Some e) ≡ Some clause → option_and_then origin_of (Some e) ≡ None → Some (hints_of e) ≡ Some hints →
+  entry_here : (e : Entry) (es : List Entry) (clause : List Literal) (hints : List ℕ) → AreLogged (e ∷ es) →
+      IsDerivedByHints es e →
+      option_and_then clause_of (Some e) ≡ Some clause → option_and_then origin_of (Some e) ≡ None →
+      Some (hints_of e) ≡ Some hints →
       IsDerived (clause_at (e ∷ es)) clause hints
   entry_here (Named v n) es clause hints logged derived c o h = cc
   entry_here (Given origin c') es clause hints logged derived c o h = cc
-  entry_here (Learned c' hs) es clause hints logged derived c o h = line_here (Learned c' hs) es c' clause hs hints logged.0.1 derived c h
-  entry_here (Answer c' hs) es clause hints logged derived c o h = line_here (Answer c' hs) es c' clause hs hints logged.0.1 derived c h
+  entry_here (Learned c' hs) es clause hints logged derived c o h =
+      line_here (Learned c' hs) es c' clause hs hints logged.0.1 derived c h
+  entry_here (Answer c' hs) es clause hints logged derived c o h =
+      line_here (Answer c' hs) es c' clause hs hints logged.0.1 derived c h
   entry_here (Round r v j) es clause hints logged derived c o h = cc
   entry_here (Begun live) es clause hints logged derived c o h = cc
 
@@ -48,13 +56,17 @@ module _ (stays : (e : Entry) (es : List Entry) (id : ℕ) → IsId es id → nu
       elim (cases_Bool (has_id e && (id == last_id es + 1))) [
         | inl here ↦
             let is : numbered has_id (e ∷ es) id ≡ Some e = ap (λ b. cond b (Some e) (numbered has_id es id)) here in
-            entry_here e es clause hints logged each.0 (sym (ap (option_and_then clause_of) is) ∙ c) (sym (ap (option_and_then origin_of) is) ∙ o)
+            entry_here e es clause hints logged each.0 (sym (ap (option_and_then clause_of) is) ∙ c)
+            (sym (ap (option_and_then origin_of) is) ∙ o)
             (sym (ap (option_and_then (λ x. Some (hints_of x))) is) ∙ h)
         | inr later ↦
-            let is : numbered has_id (e ∷ es) id ≡ numbered has_id es id = ap (λ b. cond b (Some e) (numbered has_id es id)) later in
+            let is : numbered has_id (e ∷ es) id ≡ numbered has_id es id =
+            ap (λ b. cond b (Some e) (numbered has_id es id)) later in
             let clause_is : clause_at es id ≡ Some clause = sym (ap (option_and_then clause_of) is) ∙ c in
             let hints_are : hints_at es id ≡ Some hints = sym (ap (option_and_then (λ x. Some (hints_of x))) is) ∙ h in
             let is_id = clause_has_id es id clause clause_is in
-            one_more e es clause hints (λ hint has. reached es id hint logged.1 is_id (by_hint id hint hints itself hints_are has))
-            (each_derived es logged.1 each.1 id clause hints clause_is (sym (ap (option_and_then origin_of) is) ∙ o) hints_are)
+            one_more e es clause hints (λ hint has. reached es id hint logged.1 is_id
+            (by_hint id hint hints itself hints_are has))
+            (each_derived es logged.1 each.1 id clause hints clause_is
+            (sym (ap (option_and_then origin_of) is) ∙ o) hints_are)
       ]

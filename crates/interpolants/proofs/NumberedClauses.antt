@@ -14,7 +14,8 @@ last_more e es = by (has_id e)
     by true = omega arith
     by false = omega arith
 
-numbered_here : (x : Entry) (es : List Entry) (id : ℕ) (e : Entry) (b : Bool) → (has_id x && (id == last_id es + 1)) ≡ b →
+numbered_here : (x : Entry) (es : List Entry) (id : ℕ) (e : Entry) (b : Bool) →
+    (has_id x && (id == last_id es + 1)) ≡ b →
     (numbered has_id es id ≡ Some e → IsId es id) → cond b (Some x) (numbered has_id es id) ≡ Some e → IsId (x ∷ es) id
 numbered_here x es id e true here rest is =
     let parts = and_parts (has_id x) (id == last_id es + 1) here in
@@ -30,8 +31,10 @@ numbered_here x es id e false here rest is =
 
 numbered_is_id : (entries : List Entry) (id : ℕ) (e : Entry) → numbered has_id entries id ≡ Some e → IsId entries id
 numbered_is_id [] id e found = cc
-numbered_is_id (x ∷ es) id e found = numbered_here x es id e (has_id x && (id == last_id es + 1)) refl (numbered_is_id es id e) found
+numbered_is_id (x ∷ es) id e found = numbered_here x es id e (has_id x && (id == last_id es + 1)) refl
+    (numbered_is_id es id e) found
 
-pub clause_has_id : (entries : List Entry) (id : ℕ) (clause : List Literal) → clause_at entries id ≡ Some clause → IsId entries id
+pub clause_has_id : (entries : List Entry) (id : ℕ) (clause : List Literal) → clause_at entries id ≡ Some clause →
+    IsId entries id
 clause_has_id entries id clause found =
     option_and_then_some clause_of (numbered has_id entries id) clause found (λ e at is. numbered_is_id entries id e at)

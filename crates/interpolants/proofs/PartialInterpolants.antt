@@ -16,11 +16,13 @@ use Rattle.aig_graph.specs.declared.nodes.Node.TheVariants.{Constant}
 use Rattle.interpolants.proofs.Truth.{literal_true-opposite, opposite-opposite, variable_of-opposite, same_literal-sound, holds-opposites, any_witness, any_one, all_one, all_from, stands_there}
 
 -- what holds of shared nodes as a graph grows
-pub agrees_before : (shared : List (ℕ × Node)) (old new : AigGraph) → Extends old new → AreNodes shared old → (inputs : ℕ → Bool) (m : Assignment) →
+pub agrees_before : (shared : List (ℕ × Node)) (old new : AigGraph) → Extends old new → AreNodes shared old →
+    (inputs : ℕ → Bool) (m : Assignment) →
     Agrees shared new inputs m → Agrees shared old inputs m
 agrees_before shared old new e nodes inputs m agrees v n is = sym (e.values n (nodes v n is) inputs) ∙ agrees v n is
 
-pub input_after : (shared : List (ℕ × Node)) (old new : AigGraph) → Extends old new → AreNodes shared old → (i : ℕ) → IsSharedInput shared old i → IsSharedInput shared new i
+pub input_after : (shared : List (ℕ × Node)) (old new : AigGraph) → Extends old new → AreNodes shared old → (i : ℕ) →
+    IsSharedInput shared old i → IsSharedInput shared new i
 input_after shared old new e nodes i s = record {
   variable = s.variable;
   node = s.node;
@@ -28,14 +30,18 @@ input_after shared old new e nodes i s = record {
   reads = subst (λ xs. Contains xs i) (sym (e.supports s.node (nodes s.variable s.node s.node_is))) s.reads;
 }
 
-pub nodes_after : (shared : List (ℕ × Node)) (old new : AigGraph) → Extends old new → AreNodes shared old → AreNodes shared new
+pub nodes_after : (shared : List (ℕ × Node)) (old new : AigGraph) → Extends old new → AreNodes shared old →
+    AreNodes shared new
 nodes_after shared old new e nodes v n is = e.nodes n (nodes v n is)
 
-pub reads_kept : (shared : List (ℕ × Node)) (old new : AigGraph) (n : Node) → Extends old new → AreNodes shared old → IsNode old n → ReadsShared shared old n →
+pub reads_kept : (shared : List (ℕ × Node)) (old new : AigGraph) (n : Node) → Extends old new → AreNodes shared old →
+    IsNode old n → ReadsShared shared old n →
     ReadsShared shared new n
-reads_kept shared old new n e nodes is reads i has = input_after shared old new e nodes i (reads i (subst (λ xs. Contains xs i) (e.supports n is) has))
+reads_kept shared old new n e nodes is reads i has = input_after shared old new e nodes i
+    (reads i (subst (λ xs. Contains xs i) (e.supports n is) has))
 
-pub reads_made : (shared : List (ℕ × Node)) (old new : AigGraph) (f : Bool → Bool → Bool) (a b n : Node) → Extends old new → AreNodes shared old →
+pub reads_made : (shared : List (ℕ × Node)) (old new : AigGraph) (f : Bool → Bool → Bool) (a b n : Node) →
+    Extends old new → AreNodes shared old →
     ReadsShared shared old a → ReadsShared shared old b → IsMade f old new a b n → ReadsShared shared new n
 reads_made shared old new f a b n e nodes of_a of_b made i has =
     elim (made.reads i has) [
@@ -44,18 +50,22 @@ reads_made shared old new f a b n e nodes of_a of_b made i has =
     ]
 
 -- as a graph grows
-pub part_kept : (q : Partition) (local : ℕ → Bool) (old new : AigGraph) (trues : List Literal) (n : Node) → Extends old new → AreNodes q.shared old →
+pub part_kept : (q : Partition) (local : ℕ → Bool) (old new : AigGraph) (trues : List Literal) (n : Node) →
+    Extends old new → AreNodes q.shared old →
     IsPart q local old trues n → IsPart q local new trues n
 part_kept q local old new trues n e nodes part = record {
   is_node = e.nodes n part.is_node;
-  follows = λ inputs m agrees side t. e.values n part.is_node inputs ∙ part.follows inputs m (agrees_before q.shared old new e nodes inputs m agrees) side t;
+  follows = λ inputs m agrees side t. e.values n part.is_node inputs ∙ part.follows inputs m
+      (agrees_before q.shared old new e nodes inputs m agrees) side t;
   contradicts = λ inputs m agrees side t v.
-      part.contradicts inputs m (agrees_before q.shared old new e nodes inputs m agrees) side t (sym (e.values n part.is_node inputs) ∙ v);
+      part.contradicts inputs m (agrees_before q.shared old new e nodes inputs m agrees) side t
+      (sym (e.values n part.is_node inputs) ∙ v);
   reads = reads_kept q.shared old new n e nodes part.is_node part.reads;
 }
 
 -- monotone in the clause
-pub part_weaker : (q : Partition) (local : ℕ → Bool) (g : AigGraph) (trues more : List Literal) (n : Node) → ((l : Literal) → holds trues l ≡ true → holds more l ≡ true) →
+pub part_weaker : (q : Partition) (local : ℕ → Bool) (g : AigGraph) (trues more : List Literal) (n : Node) →
+    ((l : Literal) → holds trues l ≡ true → holds more l ≡ true) →
     IsPart q local g trues n → IsPart q local g more n
 part_weaker q local g trues more n sub part = record {
   is_node = part.is_node;
@@ -65,30 +75,37 @@ part_weaker q local g trues more n sub part = record {
 }
 
 -- with one more true literal
-with_pivot : (local : ℕ → Bool) (side : Bool) (m : Assignment) (trues : List Literal) (x : Literal) → AreTrueOn local side m trues →
+with_pivot : (local : ℕ → Bool) (side : Bool) (m : Assignment) (trues : List Literal) (x : Literal) →
+    AreTrueOn local side m trues →
     (local (variable_of x) ≡ side → literal_true m x ≡ true) → AreTrueOn local side m (x ∷ trues)
 with_pivot local side m trues x t pivot l h s =
     elim (or_cases (same_literal l x) (holds trues l) h) [
-      | inl same ↦ let is = same_literal-sound l x same in ap (literal_true m) is ∙ pivot (ap (λ k. local (variable_of k)) (sym is) ∙ s)
+      | inl same ↦ let is = same_literal-sound l x same in ap (literal_true m) is ∙ pivot
+          (ap (λ k. local (variable_of k)) (sym is) ∙ s)
       | inr later ↦ t l later s
     ]
 
 -- the other literals of a clause that leads to the pivot are false
-without_pivot : (local : ℕ → Bool) (side : Bool) (m : Assignment) (trues clause : List Literal) (x : Literal) → AreTrueOn local side m trues →
+without_pivot : (local : ℕ → Bool) (side : Bool) (m : Assignment) (trues clause : List Literal) (x : Literal) →
+    AreTrueOn local side m trues →
     ((l : Literal) → holds clause l ≡ true → (l ≡ x) ⊎ (holds trues (opposite l) ≡ true)) →
     (local (variable_of x) ≡ side → literal_true m x ≡ false) → AreTrueOn local side m (map opposite clause)
 without_pivot local side m trues clause x t leads pivot l h s =
     elim (leads (opposite l) (sym (holds-opposites clause l) ∙ h)) [
       | inl is ↦
           let here : l ≡ opposite x = sym (opposite-opposite l) ∙ ap opposite is in
-          ap (literal_true m) here ∙ literal_true-opposite m x ∙ ap not (pivot (ap local (sym (ap variable_of here ∙ variable_of-opposite x)) ∙ s))
+          ap (literal_true m) here ∙ literal_true-opposite m x ∙ ap not
+          (pivot (ap local (sym (ap variable_of here ∙ variable_of-opposite x)) ∙ s))
       | inr before ↦ t l (ap (holds trues) (sym (opposite-opposite l)) ∙ before) s
     ]
 
 -- a pivot of the A side
-pub resolve_local : (q : Partition) (local : ℕ → Bool) (old new : AigGraph) (trues clause : List Literal) (x : Literal) (p r n : Node) →
-    AreNodes q.shared old → Extends old new → IsPart q local old (x ∷ trues) p → IsPart q local old (map opposite clause) r →
-    ((l : Literal) → holds clause l ≡ true → (l ≡ x) ⊎ (holds trues (opposite l) ≡ true)) → local (variable_of x) ≡ true →
+pub resolve_local : (q : Partition) (local : ℕ → Bool) (old new : AigGraph) (trues clause : List Literal) (x : Literal)
+    (p r n : Node) →
+    AreNodes q.shared old → Extends old new → IsPart q local old (x ∷ trues) p →
+    IsPart q local old (map opposite clause) r →
+    ((l : Literal) → holds clause l ≡ true → (l ≡ x) ⊎ (holds trues (opposite l) ≡ true)) →
+    local (variable_of x) ≡ true →
     IsMade (λ a b. a || b) old new p r n → IsPart q local new trues n
 resolve_local q local old new trues clause x p r n nodes e left right leads is_local' made = record {
   is_node = made.is_node;
@@ -96,7 +113,8 @@ resolve_local q local old new trues clause x p r n nodes e left right leads is_l
       let before = agrees_before q.shared old new e nodes inputs m agrees in
       made.value inputs ∙ elim (cases_Bool (literal_true m x)) [
         | inl is_true ↦
-            or_left (node_value old inputs p) (node_value old inputs r) (left.follows inputs m before side (with_pivot local true m trues x t (λ s. is_true)))
+            or_left (node_value old inputs p) (node_value old inputs r)
+            (left.follows inputs m before side (with_pivot local true m trues x t (λ s. is_true)))
         | inr is_false ↦
             or_right (node_value old inputs p) (node_value old inputs r)
             (right.follows inputs m before side (without_pivot local true m trues clause x t leads (λ s. is_false)))
@@ -104,31 +122,39 @@ resolve_local q local old new trues clause x p r n nodes e left right leads is_l
   contradicts = λ inputs m agrees side t v.
       let before = agrees_before q.shared old new e nodes inputs m agrees in
       elim (or_cases (node_value old inputs p) (node_value old inputs r) (sym (made.value inputs) ∙ v)) [
-        | inl here ↦ left.contradicts inputs m before side (with_pivot local false m trues x t (λ s. absurd (true≢false (sym is_local' ∙ s)))) here
+        | inl here ↦ left.contradicts inputs m before side (with_pivot local false m trues x t
+            (λ s. absurd (true≢false (sym is_local' ∙ s)))) here
         | inr there ↦
-            right.contradicts inputs m before side (without_pivot local false m trues clause x t leads (λ s. absurd (true≢false (sym is_local' ∙ s)))) there
+            right.contradicts inputs m before side (without_pivot local false m trues clause x t leads
+            (λ s. absurd (true≢false (sym is_local' ∙ s)))) there
       ];
   reads = reads_made q.shared old new (λ a b. a || b) p r n e nodes left.reads right.reads made;
 }
 
 -- any other pivot
-pub resolve_other : (q : Partition) (local : ℕ → Bool) (old new : AigGraph) (trues clause : List Literal) (x : Literal) (p r n : Node) →
-    AreNodes q.shared old → Extends old new → IsPart q local old (x ∷ trues) p → IsPart q local old (map opposite clause) r →
-    ((l : Literal) → holds clause l ≡ true → (l ≡ x) ⊎ (holds trues (opposite l) ≡ true)) → local (variable_of x) ≡ false →
+pub resolve_other : (q : Partition) (local : ℕ → Bool) (old new : AigGraph) (trues clause : List Literal) (x : Literal)
+    (p r n : Node) →
+    AreNodes q.shared old → Extends old new → IsPart q local old (x ∷ trues) p →
+    IsPart q local old (map opposite clause) r →
+    ((l : Literal) → holds clause l ≡ true → (l ≡ x) ⊎ (holds trues (opposite l) ≡ true)) →
+    local (variable_of x) ≡ false →
     IsMade (λ a b. a && b) old new p r n → IsPart q local new trues n
 resolve_other q local old new trues clause x p r n nodes e left right leads other made = record {
   is_node = made.is_node;
   follows = λ inputs m agrees side t.
       let before = agrees_before q.shared old new e nodes inputs m agrees in
-      let here = left.follows inputs m before side (with_pivot local true m trues x t (λ s. absurd (true≢false (sym s ∙ other)))) in
-      let there = right.follows inputs m before side (without_pivot local true m trues clause x t leads (λ s. absurd (true≢false (sym s ∙ other)))) in
+      let here = left.follows inputs m before side (with_pivot local true m trues x t
+      (λ s. absurd (true≢false (sym s ∙ other)))) in
+      let there = right.follows inputs m before side (without_pivot local true m trues clause x t leads
+      (λ s. absurd (true≢false (sym s ∙ other)))) in
       made.value inputs ∙ ap (λ b. b && node_value old inputs r) here ∙ there;
   contradicts = λ inputs m agrees side t v.
       let before = agrees_before q.shared old new e nodes inputs m agrees in
       let both = and_parts (node_value old inputs p) (node_value old inputs r) (sym (made.value inputs) ∙ v) in
       elim (cases_Bool (literal_true m x)) [
         | inl is_true ↦ left.contradicts inputs m before side (with_pivot local false m trues x t (λ s. is_true)) both.0
-        | inr is_false ↦ right.contradicts inputs m before side (without_pivot local false m trues clause x t leads (λ s. is_false)) both.1
+        | inr is_false ↦ right.contradicts inputs m before side
+            (without_pivot local false m trues clause x t leads (λ s. is_false)) both.1
       ];
   reads = reads_made q.shared old new (λ a b. a && b) p r n e nodes left.reads right.reads made;
 }
@@ -144,18 +170,23 @@ shared_of true true h a = refl
 shared_of true false h a = cc
 shared_of false s h a = cc
 
-local_is_a : (q : Partition) (variables : List Literal) → AreOfA q variables → (v : ℕ) → is_local q.shared variables v ≡ true → IsOfA q v × (is_some (node_of q.shared v) ≡ false)
-local_is_a q variables of_a v h = let r = not_shared (holds variables (positive v)) (is_some (node_of q.shared v)) h in (of_a.sound v r.0, r.1)
+local_is_a : (q : Partition) (variables : List Literal) → AreOfA q variables → (v : ℕ) →
+    is_local q.shared variables v ≡ true → IsOfA q v × (is_some (node_of q.shared v) ≡ false)
+local_is_a q variables of_a v h = let r = not_shared (holds variables (positive v)) (is_some (node_of q.shared v)) h in
+    (of_a.sound v r.0, r.1)
 
-other_is_shared : (q : Partition) (variables : List Literal) → AreOfA q variables → (v : ℕ) → IsOfA q v → is_local q.shared variables v ≡ false →
+other_is_shared : (q : Partition) (variables : List Literal) → AreOfA q variables → (v : ℕ) → IsOfA q v →
+    is_local q.shared variables v ≡ false →
     is_some (node_of q.shared v) ≡ true
-other_is_shared q variables of_a v is h = shared_of (holds variables (positive v)) (is_some (node_of q.shared v)) h (of_a.complete v is)
+other_is_shared q variables of_a v is h = shared_of (holds variables (positive v)) (is_some (node_of q.shared v)) h
+    (of_a.complete v is)
 
 is_shared : (o : Option Node) → IsSome o → is_some o ≡ true
 is_shared None h = cc
 is_shared (Some n) h = refl
 
-local_not_b : (q : Partition) (variables : List Literal) → AreOfA q variables → SharesAll q → (v : ℕ) → is_local q.shared variables v ≡ true → IsOfB q v → ⊥
+local_not_b : (q : Partition) (variables : List Literal) → AreOfA q variables → SharesAll q → (v : ℕ) →
+    is_local q.shared variables v ≡ true → IsOfB q v → ⊥
 local_not_b q variables of_a shares v h of_b =
     let r = local_is_a q variables of_a v h in
     true≢false (sym (is_shared (node_of q.shared v) (shares v r.0 of_b)) ∙ r.1)
@@ -169,7 +200,8 @@ shared_not_local false s h = refl
 one_of : (m : Assignment) (l : Literal) → literal_true m l ≡ true → literal_true m (opposite l) ≡ true → ⊥
 one_of m l a b = true≢false (sym b ∙ literal_true-opposite m l ∙ ap not a)
 
-negated : (clause : List Literal) (l : Literal) → holds clause l ≡ true → holds (map opposite clause) (opposite l) ≡ true
+negated : (clause : List Literal) (l : Literal) → holds clause l ≡ true →
+    holds (map opposite clause) (opposite l) ≡ true
 negated clause l h = holds-opposites clause (opposite l) ∙ ap (holds clause) (opposite-opposite l) ∙ h
 
 no_element : (i : ℕ) → Contains [] i → ⊥
@@ -186,7 +218,8 @@ asked_is true false t t' h a s e = cc
 asked_is false s t t' h a s' e = cc
 
 -- a given clause of the A side: the shared part of it
-pub leaf_a : (q : Partition) (variables : List Literal) (g : AigGraph) (at : ℕ) (clause : List Literal) (n : Node) → AreOfA q variables →
+pub leaf_a : (q : Partition) (variables : List Literal) (g : AigGraph) (at : ℕ) (clause : List Literal) (n : Node) →
+    AreOfA q variables →
     IsReachedGiven q at clause → is_on_a q clause ≡ true → IsSharedPart q.shared g clause n →
     IsPart q (is_local q.shared variables) g (map opposite clause) n
 leaf_a q variables g at clause n of_a given on_a part = record {
@@ -194,9 +227,17 @@ leaf_a q variables g at clause n of_a given on_a part = record {
   follows = λ inputs m agrees side t.
       let w = any_witness (literal_true m) clause (side at clause given on_a) in
       let l = w.0 in
-      let of : IsOfA q (variable_of l) = inr (record { at = at; clause = clause; given = given; on_side = on_a; stands = stands_there clause l w.1 }) in
+      let of : IsOfA q (variable_of l) = inr (record {
+        at = at;
+        clause = clause;
+        given = given;
+        on_side = on_a;
+        stands =
+            stands_there clause l w.1;
+      }) in
       part.value inputs m agrees ∙ elim (cases_Bool (is_local q.shared variables (variable_of l))) [
-        | inl local ↦ absurd (one_of m l w.2 (t (opposite l) (negated clause l w.1) (ap (is_local q.shared variables) (variable_of-opposite l) ∙ local)))
+        | inl local ↦ absurd (one_of m l w.2 (t (opposite l) (negated clause l w.1)
+            (ap (is_local q.shared variables) (variable_of-opposite l) ∙ local)))
         | inr other ↦
             any_one (is_true_shared q.shared m) clause l w.1
             (ap (λ b. b && literal_true m l) (other_is_shared q variables of_a (variable_of l) of other) ∙ w.2)
@@ -205,32 +246,47 @@ leaf_a q variables g at clause n of_a given on_a part = record {
       let w = any_witness (is_true_shared q.shared m) clause (sym (part.value inputs m agrees) ∙ v) in
       let l = w.0 in
       let both = and_parts (is_some (node_of q.shared (variable_of l))) (literal_true m l) w.2 in
-      let other : is_local q.shared variables (variable_of l) ≡ false = shared_not_local (holds variables (positive (variable_of l))) (is_some (node_of q.shared (variable_of l))) both.0 in
-      one_of m l both.1 (t (opposite l) (negated clause l w.1) (ap (is_local q.shared variables) (variable_of-opposite l) ∙ other));
+      let other : is_local q.shared variables (variable_of l) ≡ false =
+      shared_not_local (holds variables (positive (variable_of l)))
+      (is_some (node_of q.shared (variable_of l))) both.0 in
+      one_of m l both.1 (t (opposite l) (negated clause l w.1)
+      (ap (is_local q.shared variables) (variable_of-opposite l) ∙ other));
   reads = part.reads;
 }
 
 -- a given clause of the B side
-pub leaf_b : (q : Partition) (variables : List Literal) (g : AigGraph) (at : ℕ) (clause : List Literal) → AreOfA q variables → SharesAll q →
-    IsReachedGiven q at clause → is_on_a q clause ≡ false → IsPart q (is_local q.shared variables) g (map opposite clause) (Constant true)
+pub leaf_b : (q : Partition) (variables : List Literal) (g : AigGraph) (at : ℕ) (clause : List Literal) →
+    AreOfA q variables → SharesAll q →
+    IsReachedGiven q at clause → is_on_a q clause ≡ false → IsPart q (is_local q.shared variables) g
+    (map opposite clause) (Constant true)
 leaf_b q variables g at clause of_a shares given on_b = record {
   is_node = tt;
   follows = λ inputs m agrees side t. refl;
   contradicts = λ inputs m agrees side t v.
       let w = any_witness (literal_true m) clause (side at clause given on_b) in
       let l = w.0 in
-      let of : IsOfB q (variable_of l) = inr (record { at = at; clause = clause; given = given; on_side = on_b; stands = stands_there clause l w.1 }) in
+      let of : IsOfB q (variable_of l) = inr (record {
+        at = at;
+        clause = clause;
+        given = given;
+        on_side = on_b;
+        stands =
+            stands_there clause l w.1;
+      }) in
       elim (cases_Bool (is_local q.shared variables (variable_of l))) [
         | inl local ↦ local_not_b q variables of_a shares (variable_of l) local of
-        | inr other ↦ one_of m l w.2 (t (opposite l) (negated clause l w.1) (ap (is_local q.shared variables) (variable_of-opposite l) ∙ other))
+        | inr other ↦ one_of m l w.2 (t (opposite l) (negated clause l w.1)
+            (ap (is_local q.shared variables) (variable_of-opposite l) ∙ other))
       ];
   reads = λ i has. absurd (no_element i has);
 }
 
 -- the answer's own literals
-pub answer_part : (q : Partition) (variables : List Literal) (old new : AigGraph) (clause : List Literal) (p n : Node) → AreOfA q variables → SharesAll q →
+pub answer_part : (q : Partition) (variables : List Literal) (old new : AigGraph) (clause : List Literal) (p n : Node) →
+    AreOfA q variables → SharesAll q →
     AreNodes q.shared old → Extends old new →
-    clause_at q.entries q.id ≡ Some clause → IsPart q (is_local q.shared variables) old (map opposite clause) p → IsAsked q.shared q.a_side clause old new p n →
+    clause_at q.entries q.id ≡ Some clause → IsPart q (is_local q.shared variables) old (map opposite clause) p →
+    IsAsked q.shared q.a_side clause old new p n →
     IsInterpolant q new n
 answer_part q variables old new clause p n of_a shares nodes e found part asked = record {
   is_node = asked.is_node;
@@ -241,14 +297,27 @@ answer_part q variables old new clause p n of_a shares nodes e found part asked 
         | inl of_side ↦ assumed l of_side
         | inr of_other ↦
             absurd (local_not_b q variables of_a shares (variable_of l) local
-            (inl (l, record { clause = clause; clause_is = found; negated = sym (holds-opposites clause l) ∙ h; not_a = of_other }, refl)))
+            (inl (
+              l,
+              record {
+                clause = clause;
+                clause_is = found;
+                negated = sym (holds-opposites clause l) ∙ h;
+                not_a =
+                    of_other;
+              },
+              refl,
+            )))
       ]) in
-      let there = all_from (is_asked_true q.shared q.a_side m) clause (λ l h. asked_true (holds q.a_side (opposite l)) (is_some (node_of q.shared (variable_of l))) (literal_true m (opposite l))
+      let there = all_from (is_asked_true q.shared q.a_side m) clause
+      (λ l h. asked_true (holds q.a_side (opposite l)) (is_some (node_of q.shared (variable_of l)))
+      (literal_true m (opposite l))
       (assumed (opposite l))) in
       asked.value inputs m agrees ∙ ap (λ b. b && list_all (is_asked_true q.shared q.a_side m) clause) here ∙ there;
   contradicts = λ inputs m agrees side others v.
       let before = agrees_before q.shared old new e nodes inputs m agrees in
-      let both = and_parts (node_value old inputs p) (list_all (is_asked_true q.shared q.a_side m) clause) (sym (asked.value inputs m agrees) ∙ v) in
+      let both = and_parts (node_value old inputs p) (list_all (is_asked_true q.shared q.a_side m) clause)
+      (sym (asked.value inputs m agrees) ∙ v) in
       part.contradicts inputs m before side (λ l h other.
       let in_clause : holds clause (opposite l) ≡ true = sym (holds-opposites clause l) ∙ h in
       elim (cases_Bool (holds q.a_side l)) [
@@ -256,8 +325,10 @@ answer_part q variables old new clause p n of_a shares nodes e found part asked 
             let of : IsOfA q (variable_of l) = inl (stands_there q.a_side l of_side) in
             let shared = other_is_shared q variables of_a (variable_of l) of other in
             let here = all_one (is_asked_true q.shared q.a_side m) clause both.1 (opposite l) in_clause in
-            asked_is (holds q.a_side (opposite (opposite l))) (is_some (node_of q.shared (variable_of (opposite l)))) (literal_true m (opposite (opposite l))) (literal_true m l)
-            here (ap (holds q.a_side) (opposite-opposite l) ∙ of_side) (ap (λ w. is_some (node_of q.shared w)) (variable_of-opposite l) ∙ shared)
+            asked_is (holds q.a_side (opposite (opposite l))) (is_some (node_of q.shared (variable_of (opposite l))))
+            (literal_true m (opposite (opposite l))) (literal_true m l)
+            here (ap (holds q.a_side) (opposite-opposite l) ∙ of_side)
+            (ap (λ w. is_some (node_of q.shared w)) (variable_of-opposite l) ∙ shared)
             (ap (literal_true m) (opposite-opposite l))
         | inr of_other ↦ others l (record { clause = clause; clause_is = found; negated = in_clause; not_a = of_other })
       ]) both.0;

@@ -14,19 +14,23 @@ use Rattle.interpolants.proofs.Truth.{same_literal-sound, all_one}
 filter-same : (p q : Literal → Bool) → ((l : Literal) → p l ≡ q l) → (xs : List Literal) → filter p xs ≡ filter q xs
 filter-same p q same [] = refl
 filter-same p q same (x ∷ xs) =
-    ap (λ b. cond b (x ∷ filter p xs) (filter p xs)) (same x) ∙ ap (λ ys. cond (q x) (x ∷ ys) ys) (filter-same p q same xs)
+    ap (λ b. cond b (x ∷ filter p xs) (filter p xs)) (same x) ∙ ap (λ ys. cond (q x) (x ∷ ys) ys)
+    (filter-same p q same xs)
 
 status_by-same : (xs ys rest : List Literal) → AreSame xs ys → status_by xs rest ≡ status_by ys rest
 status_by-same xs ys [] same = refl
 status_by-same xs ys (l ∷ rest) same = ap (λ b. cond (list_all (same_literal l) rest && not b) (unit l) stuck) (same l)
 
-status_of-same : (xs ys : List Literal) (clause : Option (List Literal)) → AreSame xs ys → status_of xs clause ≡ status_of ys clause
+status_of-same : (xs ys : List Literal) (clause : Option (List Literal)) → AreSame xs ys →
+    status_of xs clause ≡ status_of ys clause
 status_of-same xs ys None same = refl
 status_of-same xs ys (Some clause) same =
-    ap (status_by xs) (filter-same (λ l. not (holds xs (opposite l))) (λ l. not (holds ys (opposite l))) (λ l. ap not (same (opposite l))) clause)
+    ap (status_by xs) (filter-same (λ l. not (holds xs (opposite l))) (λ l. not (holds ys (opposite l)))
+    (λ l. ap not (same (opposite l))) clause)
     ∙ status_by-same xs ys (filter (λ l. not (holds ys (opposite l))) clause) same
 
-fault_by-same : (s : Status) (place : ℕ) (hints : List ℕ) (f g : Literal → Option ℕ) → ((l : Literal) → f l ≡ g l) → fault_by s place hints f ≡ fault_by s place hints g
+fault_by-same : (s : Status) (place : ℕ) (hints : List ℕ) (f g : Literal → Option ℕ) → ((l : Literal) → f l ≡ g l) →
+    fault_by s place hints f ≡ fault_by s place hints g
 fault_by-same falsified place [] f g same = refl
 fault_by-same falsified place (_ ∷ _) f g same = refl
 fault_by-same (unit l) place hints f g same = same l
@@ -36,12 +40,15 @@ pub hint_fault-same : (live : LiveClauses) (hints : List ℕ) (xs ys : List Lite
     hint_fault live xs place hints ≡ hint_fault live ys place hints
 hint_fault-same live [] xs ys place same = refl
 hint_fault-same live (hint ∷ hints) xs ys place same =
-    ap (λ s. fault_by s place hints (λ l. hint_fault live (l ∷ xs) (place + 1) hints)) (status_of-same xs ys (live hint) same)
-    ∙ fault_by-same (status_of ys (live hint)) place hints (λ l. hint_fault live (l ∷ xs) (place + 1) hints) (λ l. hint_fault live (l ∷ ys) (place + 1) hints)
+    ap (λ s. fault_by s place hints (λ l. hint_fault live (l ∷ xs) (place + 1) hints))
+    (status_of-same xs ys (live hint) same)
+    ∙ fault_by-same (status_of ys (live hint)) place hints (λ l. hint_fault live (l ∷ xs) (place + 1) hints)
+    (λ l. hint_fault live (l ∷ ys) (place + 1) hints)
     (λ l. hint_fault-same live hints (l ∷ xs) (l ∷ ys) (place + 1) (λ k. ap (λ b. same_literal k l || b) (same k)))
 
 -- the first open literal, and the others
-none_open : (p : Literal → Bool) (xs : List Literal) → find p xs ≡ None → (l : Literal) → holds xs l ≡ true → p l ≡ false
+none_open : (p : Literal → Bool) (xs : List Literal) → find p xs ≡ None → (l : Literal) → holds xs l ≡ true →
+    p l ≡ false
 none_open p [] e l h = cc
 none_open p (x ∷ xs) e l h =
     elim (cases_Bool (p x)) [
@@ -54,7 +61,8 @@ none_open p (x ∷ xs) e l h =
           ]
     ]
 
-first_open : (p : Literal → Bool) (xs : List Literal) (l : Literal) → find p xs ≡ Some l → (rest : List Literal) × (filter p xs ≡ l ∷ rest)
+first_open : (p : Literal → Bool) (xs : List Literal) (l : Literal) → find p xs ≡ Some l →
+    (rest : List Literal) × (filter p xs ≡ l ∷ rest)
 first_open p [] l e = cc
 first_open p (x ∷ xs) l e =
     elim (cases_Bool (p x)) [
@@ -67,17 +75,21 @@ first_open p (x ∷ xs) l e =
           (r.0, ap (λ b. cond b (x ∷ filter p xs) (filter p xs)) not_here ∙ r.1)
     ]
 
-is_kept : (p : Literal → Bool) (xs : List Literal) (l : Literal) → holds xs l ≡ true → p l ≡ true → holds (filter p xs) l ≡ true
+is_kept : (p : Literal → Bool) (xs : List Literal) (l : Literal) → holds xs l ≡ true → p l ≡ true →
+    holds (filter p xs) l ≡ true
 is_kept p [] l h t = cc
 is_kept p (x ∷ xs) l h t =
     elim (or_cases (same_literal l x) (holds xs l) h) [
       | inl same ↦
           let here : p x ≡ true = ap p (sym (same_literal-sound l x same)) ∙ t in
-          ap (λ b. holds (cond b (x ∷ filter p xs) (filter p xs)) l) here ∙ or_left (same_literal l x) (holds (filter p xs) l) same
+          ap (λ b. holds (cond b (x ∷ filter p xs) (filter p xs)) l) here ∙ or_left (same_literal l x)
+          (holds (filter p xs) l) same
       | inr later ↦
           elim (cases_Bool (p x)) [
-            | inl here ↦ ap (λ b. holds (cond b (x ∷ filter p xs) (filter p xs)) l) here ∙ or_right (same_literal l x) (holds (filter p xs) l) (is_kept p xs l later t)
-            | inr not_here ↦ ap (λ b. holds (cond b (x ∷ filter p xs) (filter p xs)) l) not_here ∙ is_kept p xs l later t
+            | inl here ↦ ap (λ b. holds (cond b (x ∷ filter p xs) (filter p xs)) l) here ∙ or_right (same_literal l x)
+                (holds (filter p xs) l) (is_kept p xs l later t)
+            | inr not_here ↦ ap (λ b. holds (cond b (x ∷ filter p xs) (filter p xs)) l) not_here
+                ∙ is_kept p xs l later t
           ]
     ]
 
@@ -88,27 +100,33 @@ open_is trues l h = by (holds trues (opposite l)) h
     by true h = refl
     by false h = cc
 
-unit_or_stuck : (b : Bool) (l : Literal) (place : ℕ) (hints : List ℕ) (next : Literal → Option ℕ) → fault_by (cond b (unit l) stuck) place hints next ≡ None →
+unit_or_stuck : (b : Bool) (l : Literal) (place : ℕ) (hints : List ℕ) (next : Literal → Option ℕ) →
+    fault_by (cond b (unit l) stuck) place hints next ≡ None →
     (b ≡ true) × (next l ≡ None)
 unit_or_stuck true l place hints next h = (refl, h)
 unit_or_stuck false l place hints next h = cc
 
 -- a hint that isn't at fault, by its clause's first open literal
-pub hint_leads : (live : LiveClauses) (trues : List Literal) (place hint : ℕ) (hints : List ℕ) (clause : List Literal) (l : Literal) → live hint ≡ Some clause →
+pub hint_leads : (live : LiveClauses) (trues : List Literal) (place hint : ℕ) (hints : List ℕ) (clause : List Literal)
+    (l : Literal) → live hint ≡ Some clause →
     find (is_open trues) clause ≡ Some l → hint_fault live trues place (hint ∷ hints) ≡ None →
-    (hint_fault live (l ∷ trues) (place + 1) hints ≡ None) × ((k : Literal) → holds clause k ≡ true → (k ≡ l) ⊎ (holds trues (opposite k) ≡ true))
+    (hint_fault live (l ∷ trues) (place + 1) hints ≡ None) ×
+    ((k : Literal) → holds clause k ≡ true → (k ≡ l) ⊎ (holds trues (opposite k) ≡ true))
 hint_leads live trues place hint hints clause l found first h =
     let next : Literal → Option ℕ = λ k. hint_fault live (k ∷ trues) (place + 1) hints in
     let f = first_open (is_open trues) clause l first in
-    let here : fault_by (status_by trues (filter (is_open trues) clause)) place hints next ≡ None = sym (ap (λ o. fault_by (status_of trues o) place hints next) found) ∙ h in
-    let split : fault_by (status_by trues (l ∷ f.0)) place hints next ≡ None = sym (ap (λ xs. fault_by (status_by trues xs) place hints next) f.1) ∙ here in
+    let here : fault_by (status_by trues (filter (is_open trues) clause)) place hints next ≡ None =
+    sym (ap (λ o. fault_by (status_of trues o) place hints next) found) ∙ h in
+    let split : fault_by (status_by trues (l ∷ f.0)) place hints next ≡ None =
+    sym (ap (λ xs. fault_by (status_by trues xs) place hints next) f.1) ∙ here in
     let r = unit_or_stuck (list_all (same_literal l) f.0 && not (holds trues l)) l place hints next split in
     let same = (and_parts (list_all (same_literal l) f.0) (not (holds trues l)) r.0).0 in (
       r.1,
       λ k is.
           elim (cases_Bool (is_open trues k)) [
             | inl opened ↦
-                let kept : holds (l ∷ f.0) k ≡ true = sym (ap (λ xs. holds xs k) f.1) ∙ is_kept (is_open trues) clause k is opened in
+                let kept : holds (l ∷ f.0) k ≡ true = sym (ap (λ xs. holds xs k) f.1) ∙ is_kept
+                (is_open trues) clause k is opened in
                 elim (or_cases (same_literal k l) (holds f.0 k) kept) [
                   | inl this ↦ inl (same_literal-sound k l this)
                   | inr rest ↦ inl (sym (same_literal-sound l k (all_one (same_literal l) f.0 same k rest)))
@@ -117,19 +135,25 @@ hint_leads live trues place hint hints clause l found first h =
           ],
     )
 
-hints_left : (hints : List ℕ) (i hint : ℕ) → i < length hints → get_or hints i 0 ≡ hint → drop i hints ≡ hint ∷ drop (i + 1) hints
+hints_left : (hints : List ℕ) (i hint : ℕ) → i < length hints → get_or hints i 0 ≡ hint →
+    drop i hints ≡ hint ∷ drop (i + 1) hints
 hints_left hints i hint lt at =
     rw (add-one) (drop-cons hints i 0 lt ∙ ap (λ h. h ∷ drop (suc i) hints) at)
 
 contains_at : (hints : List ℕ) (i hint : ℕ) → i < length hints → get_or hints i 0 ≡ hint → Contains hints hint
 contains_at hints i hint lt at = (i, lt, get_or_default hints i hint 0 lt ∙ at)
 
-pub replaying_more : (live : LiveClauses) (first : List Literal) (hints : List ℕ) (i hint : ℕ) (trues more clause : List Literal) (l : Literal) (link : Link) (links longer : List Link) →
-    IsReplaying live first hints i trues links → i < length hints → get_or hints i 0 ≡ hint → live hint ≡ Some clause → find (is_open trues) clause ≡ Some l →
-    ((k : Literal) → holds more k ≡ (same_literal k l || holds trues k)) → link.pivot ≡ l → link.hint ≡ hint → longer ≡ link ∷ links →
+pub replaying_more : (live : LiveClauses) (first : List Literal) (hints : List ℕ) (i hint : ℕ)
+    (trues more clause : List Literal) (l : Literal) (link : Link) (links longer : List Link) →
+    IsReplaying live first hints i trues links → i < length hints → get_or hints i 0 ≡ hint → live hint ≡ Some clause →
+    find (is_open trues) clause ≡ Some l →
+    ((k : Literal) → holds more k ≡ (same_literal k l || holds trues k)) → link.pivot ≡ l → link.hint ≡ hint →
+    longer ≡ link ∷ links →
     IsReplaying live first hints (i + 1) more longer
-replaying_more live first hints i hint trues more clause l link links longer before lt at found opened added pivot hint_is longer_is =
-    let now : hint_fault live trues (i + 1) (hint ∷ drop (i + 1) hints) ≡ None = sym (ap (hint_fault live trues (i + 1)) (hints_left hints i hint lt at)) ∙ before.left in
+replaying_more live first hints i hint trues more clause l link links longer before lt at found opened added pivot
+    hint_is longer_is =
+    let now : hint_fault live trues (i + 1) (hint ∷ drop (i + 1) hints) ≡ None =
+    sym (ap (hint_fault live trues (i + 1)) (hints_left hints i hint lt at)) ∙ before.left in
     let r = hint_leads live trues (i + 1) hint (drop (i + 1) hints) clause l found opened now in
     let leads : Leads live (trues_of first links) link = record {
       clause = clause;
@@ -142,14 +166,17 @@ replaying_more live first hints i hint trues more clause l link links longer bef
     } in
     let P : List Link → Type 0 = λ ls. IsReplaying live first hints (i + 1) more ls in
     subst P (sym longer_is) (record {
-      same = λ k. added k ∙ ap (λ b. same_literal k l || b) (before.same k) ∙ ap (λ p. same_literal k p || holds (trues_of first links) k) (sym pivot);
+      same = λ k. added k ∙ ap (λ b. same_literal k l || b) (before.same k) ∙ ap
+          (λ p. same_literal k p || holds (trues_of first links) k) (sym pivot);
       left = hint_fault-same live (drop (i + 1) hints) more (l ∷ trues) (i + 1 + 1) added ∙ r.0;
       led = (leads, before.led);
       hinted = (subst (Contains hints) (sym hint_is) (contains_at hints i hint lt at), before.hinted);
     })
 
-pub replay_ends : (live : LiveClauses) (first : List Literal) (hints : List ℕ) (i hint : ℕ) (trues clause : List Literal) (links : List Link) →
-    IsReplaying live first hints i trues links → i < length hints → get_or hints i 0 ≡ hint → live hint ≡ Some clause → find (is_open trues) clause ≡ None →
+pub replay_ends : (live : LiveClauses) (first : List Literal) (hints : List ℕ) (i hint : ℕ)
+    (trues clause : List Literal) (links : List Link) →
+    IsReplaying live first hints i trues links → i < length hints → get_or hints i 0 ≡ hint → live hint ≡ Some clause →
+    find (is_open trues) clause ≡ None →
     IsReplay live first hints links hint
 replay_ends live first hints i hint trues clause links before lt at found closed = record {
   led = before.led;
@@ -162,39 +189,53 @@ replay_ends live first hints i hint trues clause links before lt at found closed
   };
 }
 
-pub replay_has_end : (live : LiveClauses) (first : List Literal) (hints : List ℕ) (i : ℕ) (trues : List Literal) (links : List Link) →
+pub replay_has_end : (live : LiveClauses) (first : List Literal) (hints : List ℕ) (i : ℕ) (trues : List Literal)
+    (links : List Link) →
     IsReplaying live first hints i trues links → length hints ≤ i → ⊥
 replay_has_end live first hints i trues links before all =
     let n : Some (i + 1) ≡ None = sym (ap (hint_fault live trues (i + 1)) (drop_all i hints all)) ∙ before.left in
     cc
 
 -- what a derived line's propagation starts with
-pub derived_starts : (live : LiveClauses) (clause : List Literal) (hints : List ℕ) (trues : List Literal) → IsDerived live clause hints → AreSame trues (map opposite clause) →
+pub derived_starts : (live : LiveClauses) (clause : List Literal) (hints : List ℕ) (trues : List Literal) →
+    IsDerived live clause hints → AreSame trues (map opposite clause) →
     hint_fault live trues 1 hints ≡ None
 derived_starts live clause hints trues derived same =
-    hint_fault-same live hints trues (map opposite clause) 1 same ∙ no_tautology (is_tautology clause) (hint_fault live (map opposite clause) 1 hints) derived
+    hint_fault-same live hints trues (map opposite clause) 1 same ∙ no_tautology (is_tautology clause)
+    (hint_fault live (map opposite clause) 1 hints) derived
   where
     no_tautology : (b : Bool) (rest : Option ℕ) → cond b (Some 0) rest ≡ None → rest ≡ None
     no_tautology true rest h = cc
     no_tautology false rest h = h
 
 -- propagation depends on the hinted clauses alone
-hint_fault-on : (live other : LiveClauses) (hints : List ℕ) → ((k : ℕ) → k < length hints → live (get_or hints k 0) ≡ other (get_or hints k 0)) →
+hint_fault-on : (live other : LiveClauses) (hints : List ℕ) →
+    ((k : ℕ) → k < length hints → live (get_or hints k 0) ≡ other (get_or hints k 0)) →
     (trues : List Literal) (place : ℕ) → hint_fault live trues place hints ≡ hint_fault other trues place hints
 hint_fault-on live other [] same trues place = refl
 hint_fault-on live other (hint ∷ hints) same trues place =
-    ap (λ o. fault_by (status_of trues o) place hints (λ l. hint_fault live (l ∷ trues) (place + 1) hints)) (same 0 (omega arith))
-    ∙ fault_by-same (status_of trues (other hint)) place hints (λ l. hint_fault live (l ∷ trues) (place + 1) hints) (λ l. hint_fault other (l ∷ trues) (place + 1) hints)
+    ap (λ o. fault_by (status_of trues o) place hints (λ l. hint_fault live (l ∷ trues) (place + 1) hints))
+    (same 0 (omega arith))
+    ∙ fault_by-same (status_of trues (other hint)) place hints (λ l. hint_fault live (l ∷ trues) (place + 1) hints)
+    (λ l. hint_fault other (l ∷ trues) (place + 1) hints)
     (λ l. hint_fault-on live other hints (λ k lt. same (suc k) (omega (arith, lt))) (l ∷ trues) (place + 1))
 
-pub derived-on : (live other : LiveClauses) (line : List Literal) (hints : List ℕ) → ((hint : ℕ) → Contains hints hint → live hint ≡ other hint) →
+pub derived-on : (live other : LiveClauses) (line : List Literal) (hints : List ℕ) →
+    ((hint : ℕ) → Contains hints hint → live hint ≡ other hint) →
     IsDerived live line hints → IsDerived other line hints
 derived-on live other line hints same derived =
     ap (λ fault. cond (is_tautology line) (Some 0) fault)
-    (sym (hint_fault-on live other hints (λ k lt. same (get_or hints k 0) (k, lt, get_or_default hints k (get_or hints k 0) 0 lt)) (map opposite line) 1)) ∙ derived
+    (sym (hint_fault-on live other hints (λ k lt. same (get_or hints k 0)
+    (k, lt, get_or_default hints k (get_or hints k 0) 0 lt)) (map opposite line) 1)) ∙ derived
 
-pub replay_starts : (live : LiveClauses) (clause : List Literal) (hints : List ℕ) (trues : List Literal) (links : List Link) → IsDerived live clause hints →
+pub replay_starts : (live : LiveClauses) (clause : List Literal) (hints : List ℕ) (trues : List Literal)
+    (links : List Link) → IsDerived live clause hints →
     AreSame trues (map opposite clause) → links ≡ [] → IsReplaying live (map opposite clause) hints 0 trues links
 replay_starts live clause hints trues links derived same none =
     let P : List Link → Type 0 = λ ls. IsReplaying live (map opposite clause) hints 0 trues ls in
-    subst P (sym none) (record { same = same; left = derived_starts live clause hints trues derived same; led = tt; hinted = tt })
+    subst P (sym none) (record {
+      same = same;
+      left = derived_starts live clause hints trues derived same;
+      led = tt;
+      hinted = tt;
+    })

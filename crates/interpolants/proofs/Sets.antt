@@ -50,14 +50,17 @@ absorbed : (a b : Bool) → (a ≡ true → b ≡ true) → b ≡ (a || b)
 absorbed true b h = h refl
 absorbed false b h = refl
 
-inserted : (ks more : List ℕ) (v w : ℕ) → more ≡ cond (list_any (nat_eq v) ks) ks (ks ++ v ∷ []) → list_any (nat_eq w) more ≡ (nat_eq w v || list_any (nat_eq w) ks)
+inserted : (ks more : List ℕ) (v w : ℕ) → more ≡ cond (list_any (nat_eq v) ks) ks (ks ++ v ∷ []) →
+    list_any (nat_eq w) more ≡ (nat_eq w v || list_any (nat_eq w) ks)
 inserted ks more v w is =
     elim (cases_Bool (list_any (nat_eq v) ks)) [
       | inl had ↦
           ap (list_any (nat_eq w)) (is ∙ ap (λ b. cond b ks (ks ++ v ∷ [])) had)
-          ∙ absorbed (nat_eq w v) (list_any (nat_eq w) ks) (λ same. ap (λ n. list_any (nat_eq n) ks) (eqb-true w v same) ∙ had)
+          ∙ absorbed (nat_eq w v) (list_any (nat_eq w) ks) (λ same. ap (λ n. list_any (nat_eq n) ks)
+          (eqb-true w v same) ∙ had)
       | inr none ↦
-          ap (list_any (nat_eq w)) (is ∙ ap (λ b. cond b ks (ks ++ v ∷ [])) none) ∙ list_any-append (nat_eq w) ks (v ∷ [])
+          ap (list_any (nat_eq w)) (is ∙ ap (λ b. cond b ks (ks ++ v ∷ [])) none) ∙ list_any-append (nat_eq w) ks
+          (v ∷ [])
           ∙ either_way (nat_eq w v) (list_any (nat_eq w) ks)
     ]
 
@@ -73,27 +76,37 @@ negative_added ps ns more v (positive w) is = has_positive ps more w ∙ sym (ha
 negative_added ps ns more v (negative w) is =
     has_negative ps more w ∙ inserted ns more v w is ∙ ap (λ b. nat_eq w v || b) (sym (has_negative ps ns w))
 
-pub add_positive : (ps more ns : List ℕ) (old : List Literal) (v : ℕ) (l : Literal) → members ps ns ≡ old → v ≡ variable_of l → is_negative l ≡ false →
-    more ≡ cond (list_any (nat_eq v) ps) ps (ps ++ v ∷ []) → (k : Literal) → holds (members more ns) k ≡ (same_literal k l || holds old k)
+pub add_positive : (ps more ns : List ℕ) (old : List Literal) (v : ℕ) (l : Literal) → members ps ns ≡ old →
+    v ≡ variable_of l → is_negative l ≡ false →
+    more ≡ cond (list_any (nat_eq v) ps) ps (ps ++ v ∷ []) → (k : Literal) →
+    holds (members more ns) k ≡ (same_literal k l || holds old k)
 add_positive ps more ns old v l is at sign more_is k =
-    positive_added ps more ns v k more_is ∙ ap (λ j. same_literal k j || holds (members ps ns) k) (ap positive at ∙ as_positive l sign)
+    positive_added ps more ns v k more_is ∙ ap (λ j. same_literal k j || holds (members ps ns) k)
+    (ap positive at ∙ as_positive l sign)
     ∙ ap (λ ls. same_literal k l || holds ls k) is
 
-pub add_negative : (ps ns more : List ℕ) (old : List Literal) (v : ℕ) (l : Literal) → members ps ns ≡ old → v ≡ variable_of l → is_negative l ≡ true →
-    more ≡ cond (list_any (nat_eq v) ns) ns (ns ++ v ∷ []) → (k : Literal) → holds (members ps more) k ≡ (same_literal k l || holds old k)
+pub add_negative : (ps ns more : List ℕ) (old : List Literal) (v : ℕ) (l : Literal) → members ps ns ≡ old →
+    v ≡ variable_of l → is_negative l ≡ true →
+    more ≡ cond (list_any (nat_eq v) ns) ns (ns ++ v ∷ []) → (k : Literal) →
+    holds (members ps more) k ≡ (same_literal k l || holds old k)
 add_negative ps ns more old v l is at sign more_is k =
-    negative_added ps ns more v k more_is ∙ ap (λ j. same_literal k j || holds (members ps ns) k) (ap negative at ∙ as_negative l sign)
+    negative_added ps ns more v k more_is ∙ ap (λ j. same_literal k j || holds (members ps ns) k)
+    (ap negative at ∙ as_negative l sign)
     ∙ ap (λ ls. same_literal k l || holds ls k) is
 
-pub find_positive : (ps ns : List ℕ) (now : List Literal) (v : ℕ) (l : Literal) → members ps ns ≡ now → v ≡ variable_of l → is_negative l ≡ false →
+pub find_positive : (ps ns : List ℕ) (now : List Literal) (v : ℕ) (l : Literal) → members ps ns ≡ now →
+    v ≡ variable_of l → is_negative l ≡ false →
     list_any (nat_eq v) ps ≡ holds now l
 find_positive ps ns now v l is at sign =
-    sym (has_positive ps ns v) ∙ ap (holds (members ps ns)) (ap positive at ∙ as_positive l sign) ∙ ap (λ ls. holds ls l) is
+    sym (has_positive ps ns v) ∙ ap (holds (members ps ns)) (ap positive at ∙ as_positive l sign) ∙ ap
+    (λ ls. holds ls l) is
 
-pub find_negative : (ps ns : List ℕ) (now : List Literal) (v : ℕ) (l : Literal) → members ps ns ≡ now → v ≡ variable_of l → is_negative l ≡ true →
+pub find_negative : (ps ns : List ℕ) (now : List Literal) (v : ℕ) (l : Literal) → members ps ns ≡ now →
+    v ≡ variable_of l → is_negative l ≡ true →
     list_any (nat_eq v) ns ≡ holds now l
 find_negative ps ns now v l is at sign =
-    sym (has_negative ps ns v) ∙ ap (holds (members ps ns)) (ap negative at ∙ as_negative l sign) ∙ ap (λ ls. holds ls l) is
+    sym (has_negative ps ns v) ∙ ap (holds (members ps ns)) (ap negative at ∙ as_negative l sign) ∙ ap
+    (λ ls. holds ls l) is
 
 -- a list as a set, literal by literal
 pub holds-more : (xs : List Literal) (x l : Literal) → holds (xs ++ x ∷ []) l ≡ (same_literal l x || holds xs l)
@@ -103,19 +116,24 @@ module _ (xs : List Literal) (i : ℕ) (x : Literal) (lt : i < length xs) (at : 
   taken : take (i + 1) xs ≡ take i xs ++ x ∷ []
   taken = take_more xs i x lt ∙ ap (λ y. take i xs ++ y ∷ []) at
 
-  pub set_more : (old new : List Literal) → AreSame old (take i xs) → ((k : Literal) → holds new k ≡ (same_literal k x || holds old k)) → AreSame new (take (i + 1) xs)
+  pub set_more : (old new : List Literal) → AreSame old (take i xs) →
+      ((k : Literal) → holds new k ≡ (same_literal k x || holds old k)) → AreSame new (take (i + 1) xs)
   set_more old new same added l =
-      added l ∙ ap (λ b. same_literal l x || b) (same l) ∙ sym (ap (λ ys. holds ys l) taken ∙ holds-more (take i xs) x l)
+      added l ∙ ap (λ b. same_literal l x || b) (same l) ∙ sym
+      (ap (λ ys. holds ys l) taken ∙ holds-more (take i xs) x l)
 
   module _ (es : List Entry) (old : List Literal) (before : AreSelectors es (take i xs) old) where
-    more_of : (l : Literal) → (holds (take (i + 1) xs) l && is_selector es (variable_of l)) ≡ ((same_literal l x || holds (take i xs) l) && is_selector es (variable_of l))
+    more_of : (l : Literal) → (holds (take (i + 1) xs) l && is_selector es (variable_of l)) ≡
+        ((same_literal l x || holds (take i xs) l) && is_selector es (variable_of l))
     more_of l = ap (λ b. b && is_selector es (variable_of l)) (ap (λ ys. holds ys l) taken ∙ holds-more (take i xs) x l)
 
-    pub selector_more : (new : List Literal) → is_selector es (variable_of x) ≡ true → ((k : Literal) → holds new k ≡ (same_literal k x || holds old k)) →
+    pub selector_more : (new : List Literal) → is_selector es (variable_of x) ≡ true →
+        ((k : Literal) → holds new k ≡ (same_literal k x || holds old k)) →
         AreSelectors es (take (i + 1) xs) new
     selector_more new is added l =
         added l ∙ ap (λ b. same_literal l x || b) (before l)
-        ∙ by (same_literal l x) (holds (take i xs) l) (is_selector es (variable_of l)) (λ h. ap (λ k. is_selector es (variable_of k)) (same_literal-sound l x h) ∙ is)
+        ∙ by (same_literal l x) (holds (take i xs) l) (is_selector es (variable_of l))
+        (λ h. ap (λ k. is_selector es (variable_of k)) (same_literal-sound l x h) ∙ is)
         ∙ sym (more_of l)
       where
         by : (a b s : Bool) → (a ≡ true → s ≡ true) → (a || (b && s)) ≡ ((a || b) && s)
@@ -125,7 +143,8 @@ module _ (xs : List Literal) (i : ℕ) (x : Literal) (lt : i < length xs) (at : 
     pub selector_past : is_selector es (variable_of x) ≡ false → AreSelectors es (take (i + 1) xs) old
     selector_past is l =
         before l
-        ∙ by (same_literal l x) (holds (take i xs) l) (is_selector es (variable_of l)) (λ h. ap (λ k. is_selector es (variable_of k)) (same_literal-sound l x h) ∙ is)
+        ∙ by (same_literal l x) (holds (take i xs) l) (is_selector es (variable_of l))
+        (λ h. ap (λ k. is_selector es (variable_of k)) (same_literal-sound l x h) ∙ is)
         ∙ sym (more_of l)
       where
         by : (a b s : Bool) → (a ≡ true → s ≡ false) → (b && s) ≡ ((a || b) && s)
@@ -143,5 +162,6 @@ stands_alike xs ys same v =
     both false true there back = back refl
     both false false there back = refl
 
-pub selectors_alike : (es : List Entry) (xs ys selectors : List Literal) → AreSame xs ys → AreSelectors es ys selectors → AreSelectors es xs selectors
+pub selectors_alike : (es : List Entry) (xs ys selectors : List Literal) → AreSame xs ys →
+    AreSelectors es ys selectors → AreSelectors es xs selectors
 selectors_alike es xs ys selectors same are l = are l ∙ ap (λ b. b && is_selector es (variable_of l)) (sym (same l))

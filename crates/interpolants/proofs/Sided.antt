@@ -35,7 +35,8 @@ given_is o found is h = ap is_some (sym is) ∙ h
 pub contains_place : (ids : List ℕ) (i : ℕ) → i < length ids → Contains ids (get_or ids i 0)
 contains_place ids i lt = (i, lt, get_or_default ids i (get_or ids i 0) 0 lt)
 
-pub some_first : (q : Partition) (variables : List Literal) → ((v : ℕ) → holds variables (positive v) ≡ stands_on q.a_side v) → AreOfSome q [] variables
+pub some_first : (q : Partition) (variables : List Literal) →
+    ((v : ℕ) → holds variables (positive v) ≡ stands_on q.a_side v) → AreOfSome q [] variables
 some_first q variables plain = record {
   sound = λ v h. inl (sym (plain v) ∙ h);
   assumed = λ v h. plain v ∙ h;
@@ -43,14 +44,19 @@ some_first q variables plain = record {
 }
 
 -- by the selectors of the A side, whether a clause is on it
-pub on_a_by_selectors : (q : Partition) (selectors : List Literal) → AreSelectors q.entries q.a_side selectors → (clause : List Literal) →
+pub on_a_by_selectors : (q : Partition) (selectors : List Literal) → AreSelectors q.entries q.a_side selectors →
+    (clause : List Literal) →
     list_any (λ l. holds selectors (opposite l)) clause ≡ is_on_a q clause
 on_a_by_selectors q selectors are clause =
-    any_same (λ l. holds selectors (opposite l)) (λ l. holds q.a_side (opposite l) && is_selector q.entries (variable_of l))
-    (λ l. are (opposite l) ∙ ap (λ v. holds q.a_side (opposite l) && is_selector q.entries v) (variable_of-opposite l)) clause
+    any_same (λ l. holds selectors (opposite l)) (λ l. holds q.a_side (opposite l) && is_selector q.entries
+    (variable_of l))
+    (λ l. are (opposite l) ∙ ap (λ v. holds q.a_side (opposite l) && is_selector q.entries v)
+    (variable_of-opposite l)) clause
 
-pub some_more : (q : Partition) (ids : List ℕ) (i : ℕ) (variables more clause : List Literal) → AreOfSome q (take i ids) variables → i < length ids →
-    IsReachedGiven q (get_or ids i 0) clause → is_on_a q clause ≡ true → ((v : ℕ) → holds more (positive v) ≡ (holds variables (positive v) || stands_on clause v)) →
+pub some_more : (q : Partition) (ids : List ℕ) (i : ℕ) (variables more clause : List Literal) →
+    AreOfSome q (take i ids) variables → i < length ids →
+    IsReachedGiven q (get_or ids i 0) clause → is_on_a q clause ≡ true →
+    ((v : ℕ) → holds more (positive v) ≡ (holds variables (positive v) || stands_on clause v)) →
     AreOfSome q (take (i + 1) ids) more
 some_more q ids i variables more clause before lt given on_a are =
     let at = get_or ids i 0 in
@@ -64,18 +70,23 @@ some_more q ids i variables more clause before lt given on_a are =
       assumed = λ v h. are v ∙ or_left (holds variables (positive v)) (stands_on clause v) (before.assumed v h);
       given = λ other has c other_given other_on_a v h.
           elim (Contains-append_cases (take i ids) (at ∷ []) other has) [
-            | inl early ↦ are v ∙ or_left (holds variables (positive v)) (stands_on clause v) (before.given other early c other_given other_on_a v h)
+            | inl early ↦ are v ∙ or_left (holds variables (positive v)) (stands_on clause v)
+                (before.given other early c other_given other_on_a v h)
             | inr here ↦
                 let same : clause ≡ c = same_clause q at other clause c (only_one at other here) given other_given in
-                are v ∙ or_right (holds variables (positive v)) (stands_on clause v) (ap (λ ls. stands_on ls v) same ∙ h)
+                are v ∙ or_right (holds variables (positive v)) (stands_on clause v)
+                (ap (λ ls. stands_on ls v) same ∙ h)
           ];
     })
   where
-    same_clause : (q : Partition) (at other : ℕ) (c d : List Literal) → at ≡ other → IsReachedGiven q at c → IsReachedGiven q other d → c ≡ d
+    same_clause : (q : Partition) (at other : ℕ) (c d : List Literal) → at ≡ other → IsReachedGiven q at c →
+        IsReachedGiven q other d → c ≡ d
     same_clause q at other c d same g h = some_is c d (sym g.clause_is ∙ ap (clause_at q.entries) same ∙ h.clause_is)
 
-pub some_past : (q : Partition) (ids : List ℕ) (i : ℕ) (variables : List Literal) → AreOfSome q (take i ids) variables → i < length ids →
-    ((clause : List Literal) → IsReachedGiven q (get_or ids i 0) clause → is_on_a q clause ≡ true → ⊥) → AreOfSome q (take (i + 1) ids) variables
+pub some_past : (q : Partition) (ids : List ℕ) (i : ℕ) (variables : List Literal) → AreOfSome q (take i ids) variables →
+    i < length ids →
+    ((clause : List Literal) → IsReachedGiven q (get_or ids i 0) clause → is_on_a q clause ≡ true → ⊥) →
+    AreOfSome q (take (i + 1) ids) variables
 some_past q ids i variables before lt not_here =
     let at = get_or ids i 0 in
     let P : List ℕ → Type 0 = λ xs. AreOfSome q xs variables in
@@ -91,7 +102,8 @@ some_past q ids i variables before lt not_here =
           ];
     })
 
-pub some_all : (q : Partition) (ids : List ℕ) (i : ℕ) (variables : List Literal) → AreReached q.entries q.id ids → length ids ≤ i → AreOfSome q (take i ids) variables →
+pub some_all : (q : Partition) (ids : List ℕ) (i : ℕ) (variables : List Literal) → AreReached q.entries q.id ids →
+    length ids ≤ i → AreOfSome q (take i ids) variables →
     AreOfA q variables
 some_all q ids i variables reached all some =
     let P : List ℕ → Type 0 = λ xs. AreOfSome q xs variables in
@@ -101,6 +113,7 @@ some_all q ids i variables reached all some =
       complete = λ v of.
           elim of [
             | inl assumed ↦ whole.assumed v assumed
-            | inr side ↦ whole.given side.at (reached.complete side.at side.given.reached) side.clause side.given side.on_side v side.stands
+            | inr side ↦ whole.given side.at (reached.complete side.at side.given.reached) side.clause side.given
+                side.on_side v side.stands
           ];
     }

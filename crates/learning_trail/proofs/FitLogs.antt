@@ -21,17 +21,22 @@ use Rattle.oracle.proofs.KeptSelectors.{holds_reached}
 use Rattle.learning_trail.proofs.Lessons.{live_more, last_clause}
 use Rattle.truth_values.proofs.HeldLiterals.{holds_cases, opposite-variable, opposite-negative}
 
-module _ (held : List (List Literal)) (c : List Literal) (es : List Entry) (e : Entry) (numbered' : has_id e ≡ true) (is : clause_of e ≡ Some c) (count : length held ≡ last_id es) where
+module _ (held : List (List Literal)) (c : List Literal) (es : List Entry) (e : Entry) (numbered' : has_id e ≡ true)
+    (is : clause_of e ≡ Some c) (count : length held ≡ last_id es) where
   at_new : (id : ℕ) → id ≡ last_id es + 1 → clause_at (e ∷ es) id ≡ Some c
   at_new id h =
-      ap (λ b. option_and_then clause_of (cond b (Some e) (numbered has_id es id))) (and_from (has_id e) (id == last_id es + 1) numbered' (eq-eqb id (last_id es + 1) h)) ∙ is
+      ap (λ b. option_and_then clause_of (cond b (Some e) (numbered has_id es id)))
+      (and_from (has_id e) (id == last_id es + 1) numbered' (eq-eqb id (last_id es + 1) h)) ∙ is
 
   at_old : (id : ℕ) → id ≢ last_id es + 1 → clause_at (e ∷ es) id ≡ clause_at es id
   at_old id n =
-      ap (λ b. option_and_then clause_of (cond (b && (id == last_id es + 1)) (Some e) (numbered has_id es id))) numbered'
-      ∙ ap (λ b. option_and_then clause_of (cond (true && b) (Some e) (numbered has_id es id))) (ne_eqb id (last_id es + 1) n)
+      ap (λ b. option_and_then clause_of (cond (b && (id == last_id es + 1)) (Some e) (numbered has_id es id)))
+      numbered'
+      ∙ ap (λ b. option_and_then clause_of (cond (true && b) (Some e) (numbered has_id es id)))
+      (ne_eqb id (last_id es + 1) n)
 
-  pub same_more : ((id : ℕ) → live_in held id ≡ clause_at es id) → (id : ℕ) → live_in (held ++ c ∷ []) id ≡ clause_at (e ∷ es) id
+  pub same_more : ((id : ℕ) → live_in held id ≡ clause_at es id) → (id : ℕ) →
+      live_in (held ++ c ∷ []) id ≡ clause_at (e ∷ es) id
   same_more same id = elim (cases_eq id (last_id es + 1)) [
     | inl h ↦
         let at : id ≡ suc (length held) = omega (arith, h, count) in
@@ -42,8 +47,10 @@ module _ (held : List (List Literal)) (c : List Literal) (es : List Entry) (e : 
     ]
   ]
 
-  pub standing_more : (P : Literal → Type 0) → ((id : ℕ) (d : List Literal) (l : Literal) → clause_at es id ≡ Some d → holds d l ≡ true → P l)
-      → ((l : Literal) → holds c l ≡ true → P l) → (id : ℕ) (d : List Literal) (l : Literal) → clause_at (e ∷ es) id ≡ Some d → holds d l ≡ true → P l
+  pub standing_more : (P : Literal → Type 0) → ((id : ℕ) (d : List Literal) (l : Literal) → clause_at es id ≡ Some d →
+      holds d l ≡ true → P l)
+      → ((l : Literal) → holds c l ≡ true → P l) → (id : ℕ) (d : List Literal) (l : Literal) →
+      clause_at (e ∷ es) id ≡ Some d → holds d l ≡ true → P l
   standing_more P before new id d l at h = elim (cases_eq id (last_id es + 1)) [
     | inl k ↦
         let s : Some c ≡ Some d = sym (at_new id k) ∙ at in
@@ -52,8 +59,11 @@ module _ (held : List (List Literal)) (c : List Literal) (es : List Entry) (e : 
     | inr n ↦ before id d l (sym (at_old id n) ∙ at) h
   ]
 
-pub fit_learned : (held : List (List Literal)) (variables : ℕ) (es : List Entry) (c : List Literal) (hs : List ℕ) → Fit held variables es
-    → AreNamed es c → AreIds es hs → IsDerived (clause_at es) c hs → IsNewByPropagation es c → HoldsHintedSelectors es c hs → ((k : Literal) → holds c k ≡ true → Stands es k) → Fit (held ++ c ∷ []) variables (Learned c hs ∷ es)
+pub fit_learned : (held : List (List Literal)) (variables : ℕ) (es : List Entry) (c : List Literal) (hs : List ℕ) →
+    Fit held variables es
+    → AreNamed es c → AreIds es hs → IsDerived (clause_at es) c hs → IsNewByPropagation es c →
+    HoldsHintedSelectors es c hs → ((k : Literal) → holds c k ≡ true → Stands es k) →
+    Fit (held ++ c ∷ []) variables (Learned c hs ∷ es)
 fit_learned held variables es c hs fit are_named are_ids derived new tied stands = record {
   count = let n = fit.count in omega (arith, n, length-append held (c ∷ []));
   same = same_more held c es (Learned c hs) refl refl fit.count fit.same;
@@ -62,15 +72,18 @@ fit_learned held variables es c hs fit are_named are_ids derived new tied stands
   selectors = fit.selectors;
   logged = ((are_named, are_ids), fit.logged);
   grouped = (tt, fit.grouped);
-  negated = λ id d k at h. let s = standing_more held c es (Learned c hs) refl refl fit.count (Stands es) fit.negated stands id d k at h in record { named = s.named; negated = s.negated };
+  negated = λ id d k at h. let s = standing_more held c es (Learned c hs) refl refl fit.count
+      (Stands es) fit.negated stands id d k at h in record { named = s.named; negated = s.negated };
   derived = (derived, fit.derived);
   new = (new, fit.new);
   hinted = (tied, fit.hinted);
   kept = (holds_reached es c hs fit.logged fit.grouped fit.hinted tied, fit.kept);
 }
 
-pub fit_answered : (held : List (List Literal)) (variables : ℕ) (es : List Entry) (c : List Literal) (hs : List ℕ) → Fit held variables es
-    → AreNamed es c → AreIds es hs → IsDerived (clause_at es) c hs → HoldsHintedSelectors es c hs → ((k : Literal) → holds c k ≡ true → Stands es k) → Fit (held ++ c ∷ []) variables (Answer c hs ∷ es)
+pub fit_answered : (held : List (List Literal)) (variables : ℕ) (es : List Entry) (c : List Literal) (hs : List ℕ) →
+    Fit held variables es
+    → AreNamed es c → AreIds es hs → IsDerived (clause_at es) c hs → HoldsHintedSelectors es c hs →
+    ((k : Literal) → holds c k ≡ true → Stands es k) → Fit (held ++ c ∷ []) variables (Answer c hs ∷ es)
 fit_answered held variables es c hs fit are_named are_ids derived tied stands = record {
   count = let n = fit.count in omega (arith, n, length-append held (c ∷ []));
   same = same_more held c es (Answer c hs) refl refl fit.count fit.same;
@@ -79,15 +92,18 @@ fit_answered held variables es c hs fit are_named are_ids derived tied stands = 
   selectors = fit.selectors;
   logged = ((are_named, are_ids), fit.logged);
   grouped = (tt, fit.grouped);
-  negated = λ id d k at h. let s = standing_more held c es (Answer c hs) refl refl fit.count (Stands es) fit.negated stands id d k at h in record { named = s.named; negated = s.negated };
+  negated = λ id d k at h. let s = standing_more held c es (Answer c hs) refl refl fit.count
+      (Stands es) fit.negated stands id d k at h in record { named = s.named; negated = s.negated };
   derived = (derived, fit.derived);
   new = (tt, fit.new);
   hinted = (tied, fit.hinted);
   kept = (holds_reached es c hs fit.logged fit.grouped fit.hinted tied, fit.kept);
 }
 
-pub fit_given : (held : List (List Literal)) (variables : ℕ) (es : List Entry) (o : Origin) (c : List Literal) → Fit held variables es → AreNamed es c
-    → ((k : Literal) → holds c k ≡ true → Stands es k) → IsOfGroup es c → Fit (held ++ c ∷ []) variables (Given o c ∷ es)
+pub fit_given : (held : List (List Literal)) (variables : ℕ) (es : List Entry) (o : Origin) (c : List Literal) →
+    Fit held variables es → AreNamed es c
+    → ((k : Literal) → holds c k ≡ true → Stands es k) → IsOfGroup es c →
+    Fit (held ++ c ∷ []) variables (Given o c ∷ es)
 fit_given held variables es o c fit are_named stands grouped = record {
   count = let n = fit.count in omega (arith, n, length-append held (c ∷ []));
   same = same_more held c es (Given o c) refl refl fit.count fit.same;
@@ -96,7 +112,8 @@ fit_given held variables es o c fit are_named stands grouped = record {
   selectors = fit.selectors;
   logged = (are_named, fit.logged);
   grouped = (grouped, fit.grouped);
-  negated = λ id d k at h. let s = standing_more held c es (Given o c) refl refl fit.count (Stands es) fit.negated stands id d k at h in record { named = s.named; negated = s.negated };
+  negated = λ id d k at h. let s = standing_more held c es (Given o c) refl refl fit.count
+      (Stands es) fit.negated stands id d k at h in record { named = s.named; negated = s.negated };
   derived = (tt, fit.derived);
   new = (tt, fit.new);
   hinted = (tt, fit.hinted);
@@ -104,7 +121,8 @@ fit_given held variables es o c fit are_named stands grouped = record {
 }
 
 -- a group's clause stands
-pub given_stands : (es : List Entry) (g : Group) (lits : List Literal) → IsMade es g → ((l : Literal) → holds lits l ≡ true → IsPlain es l) → (l : Literal)
+pub given_stands : (es : List Entry) (g : Group) (lits : List Literal) → IsMade es g →
+    ((l : Literal) → holds lits l ≡ true → IsPlain es l) → (l : Literal)
     → holds (opposite g.selector ∷ lits) l ≡ true → Stands es l
 given_stands es g lits made plain l h =
     elim (holds_cases (opposite g.selector) lits l h) [
@@ -117,7 +135,8 @@ given_stands es g lits made plain l h =
           record { named = p.named; negated = λ sel. absurd (false≢true (sym p.no_selector ∙ sel)) }
     ]
 
-pub given_grouped : (es : List Entry) (g : Group) (lits clause : List Literal) → IsMade es g → ((l : Literal) → holds lits l ≡ true → IsPlain es l) → clause ≡ opposite g.selector ∷ lits
+pub given_grouped : (es : List Entry) (g : Group) (lits clause : List Literal) → IsMade es g →
+    ((l : Literal) → holds lits l ≡ true → IsPlain es l) → clause ≡ opposite g.selector ∷ lits
     → IsOfGroup es clause
 given_grouped es g lits clause made plain is = record {
   group = variable_of g.selector;

@@ -34,7 +34,8 @@ of_all P (x ∷ xs) all l h =
       | inr later ↦ of_all P xs (All-tail P x xs all) l later
     ]
 
-pub clause_of_all : (P : List Literal → Type 0) (clauses : List (List Literal)) → All P clauses → (id : ℕ) (c : List Literal) → live_in clauses id ≡ Some c → P c
+pub clause_of_all : (P : List Literal → Type 0) (clauses : List (List Literal)) → All P clauses →
+    (id : ℕ) (c : List Literal) → live_in clauses id ≡ Some c → P c
 clause_of_all P clauses all zero c at = let n : None ≡ Some c = at in cc
 clause_of_all P clauses all (suc i) c at =
     let lt = slice_get_within clauses i c at in
@@ -45,7 +46,8 @@ pub record IsOn (es : List Entry) (l : Literal) : Type 0 where
   pub positive : is_negative l ≡ false
   pub named : name_of es (variable_of l) ≡ Some (Selector (variable_of l))
 
-pub on_or_plain : (es : List Entry) (active : List Group) (assume : List Literal) → All (IsMade es) active → (l : Literal) → holds (map (λ g. g.selector) active ++ assume) l ≡ true
+pub on_or_plain : (es : List Entry) (active : List Group) (assume : List Literal) → All (IsMade es) active →
+    (l : Literal) → holds (map (λ g. g.selector) active ++ assume) l ≡ true
     → IsOn es l ⊎ (holds assume l ≡ true)
 on_or_plain es [] assume made l h = inr h
 on_or_plain es (g ∷ active) assume made l h =
@@ -59,13 +61,16 @@ on_or_plain es (g ∷ active) assume made l h =
 on_selector : (es : List Entry) (l : Literal) → IsOn es l → is_selector es (variable_of l) ≡ true
 on_selector es l on = ap is_selector_name on.named
 
-pub assumptions_from : (log : ProofLog) (active : List Group) (assume : List Literal) → All (IsMade log.entries) active → All (IsPlain log.entries) assume → is_tautology assume ≡ false
+pub assumptions_from : (log : ProofLog) (active : List Group) (assume : List Literal) →
+    All (IsMade log.entries) active → All (IsPlain log.entries) assume → is_tautology assume ≡ false
     → AreAssumptions log (assumed active assume)
 assumptions_from log active assume made plain apart =
     let es = log.entries in
     let plain_one : (l : Literal) → holds assume l ≡ true → IsPlain es l = of_all (IsPlain es) assume plain in
-    let split : (l : Literal) → holds (assumed active assume) l ≡ true → IsOn es l ⊎ (holds assume l ≡ true) = on_or_plain es active assume made in
-    let clash : (l k : Literal) → variable_of l ≡ variable_of k → IsOn es l → holds assume k ≡ true → ⊥ = λ l k same on h.
+    let split : (l : Literal) → holds (assumed active assume) l ≡ true → IsOn es l ⊎ (holds assume l ≡ true) =
+    on_or_plain es active assume made in
+    let clash : (l k : Literal) → variable_of l ≡ variable_of k → IsOn es l → holds assume k ≡ true → ⊥ =
+    λ l k same on h.
     false≢true (sym (plain_one k h).no_selector ∙ ap (is_selector es) (sym same) ∙ on_selector es l on) in
     record {
       named = λ l h. elim (split l h) [
@@ -94,12 +99,15 @@ AreKept model trues =
     (i : ℕ) → i < length model → (slice_index_or model i false ≡ true → literal_value trues (positive (suc i)) ≡ True)
     × (literal_value trues (positive (suc i)) ≡ True → slice_index_or model i false ≡ true)
 
-valued : (trues : List Literal) (l : Literal) → AreConsistent trues → holds trues l ≡ true → literal_value trues l ≡ True
+valued : (trues : List Literal) (l : Literal) → AreConsistent trues → holds trues l ≡ true →
+    literal_value trues l ≡ True
 valued trues l consistent h =
-    let other : holds trues (opposite l) ≡ false = false_from_ne_true (holds trues (opposite l)) (λ o. consistent l h o) in
+    let other : holds trues (opposite l) ≡ false = false_from_ne_true (holds trues (opposite l))
+    (λ o. consistent l h o) in
     ap (λ b. cond b False (cond (holds trues l) True Unassigned)) other ∙ ap (λ b. cond b True Unassigned) h
 
-pub literal_kept : (model : List Bool) (trues : List Literal) → AreKept model trues → AreConsistent trues → (l : Literal) → holds trues l ≡ true → 1 ≤ variable_of l
+pub literal_kept : (model : List Bool) (trues : List Literal) → AreKept model trues → AreConsistent trues →
+    (l : Literal) → holds trues l ≡ true → 1 ≤ variable_of l
     → variable_of l ≤ length model → literal_true (λ v. slice_index_or model (v - 1) false) l ≡ true
 literal_kept model trues kept consistent (positive zero) h low high = absurd (omega (arith, low))
 literal_kept model trues kept consistent (positive (suc i)) h low high =
@@ -114,14 +122,16 @@ literal_kept model trues kept consistent (negative (suc i)) h low high =
     consistent (negative (suc i)) h (value_true trues (positive (suc i)) ((kept i lt).0 on))) in
     ap (λ n. not (slice_index_or model n false)) at ∙ ap not off
 
-pub found_model : (assumptions : List Literal) (s : Searched) (model : List Bool) (old new : ProofLog) → Fit s.clauses s.variables new.entries → HasLearned old new → AreAssumptions old assumptions
+pub found_model : (assumptions : List Literal) (s : Searched) (model : List Bool) (old new : ProofLog) →
+    Fit s.clauses s.variables new.entries → HasLearned old new → AreAssumptions old assumptions
     → IsSatisfied assumptions s → length model ≡ s.variables → AreKept model (literals_of s.trail.steps)
     → IsModelUnder (λ v. slice_index_or model (v - 1) false) (clause_at new.entries) assumptions
 found_model assumptions s model old new fit learned are satisfied long kept =
     let trues = literals_of s.trail.steps in
     let values : Assignment = λ v. slice_index_or model (v - 1) false in
     let consistent = sound_consistent (live_in s.clauses) s.trail.steps satisfied.sound in
-    let one : (l : Literal) → IsSome (name_of new.entries (variable_of l)) → holds trues l ≡ true → literal_true values l ≡ true = λ l named h.
+    let one : (l : Literal) → IsSome (name_of new.entries (variable_of l)) → holds trues l ≡ true →
+    literal_true values l ≡ true = λ l named h.
     let r = fit.in_range (variable_of l) named in
     let low = r.0 in
     let high = r.1 in
@@ -129,8 +139,10 @@ found_model assumptions s model old new fit learned are satisfied long kept =
     let later = assumptions_same old new assumptions learned are in
     record {
       clauses = λ id c at.
-          let some = clause_of_all (λ d. list_any (holds trues) d ≡ true) s.clauses satisfied.clauses id c (fit.same id ∙ at) in
+          let some = clause_of_all (λ d. list_any (holds trues) d ≡ true) s.clauses satisfied.clauses id c
+          (fit.same id ∙ at) in
           let r = any_gives (holds trues) c some in
           any_one (literal_true values) c r.0 r.1 (one r.0 (fit.negated id c r.0 at r.1).named r.2);
-      assumptions_true = all_of (λ l. literal_true values l ≡ true) assumptions (λ l h. one l (later.named l h) (satisfied.assumed l h));
+      assumptions_true = all_of (λ l. literal_true values l ≡ true) assumptions
+          (λ l h. one l (later.named l h) (satisfied.assumed l h));
     }

@@ -23,7 +23,8 @@ use Rattle.truth_values.proofs.AssignedLiterals.{value_where_true, tells_more}
 pub newest : {X : Type 0} (xs : List X) (x : X) → reverse (xs ++ x ∷ []) ≡ x ∷ reverse xs
 newest xs x = reverse-append xs (x ∷ [])
 
-absent : (n : ℕ) (xs : List Step) (l : Literal) → All (λ s. variable_of s.literal ≤ n) xs → n < variable_of l → holds (literals_of xs) l ≡ true → ⊥
+absent : (n : ℕ) (xs : List Step) (l : Literal) → All (λ s. variable_of s.literal ≤ n) xs → n < variable_of l →
+    holds (literals_of xs) l ≡ true → ⊥
 absent n [] l all far h = cc
 absent n (s ∷ xs) l all far h =
     elim (holds_cases s.literal (literals_of xs) l h) [
@@ -40,25 +41,34 @@ kept_grown values xs kept =
     record {
       told = λ i lt. elim (cases_lt i (length values)) [
         | inl h ↦
-            let Q : TruthValue → Type 0 = λ t. IsTold t (holds (literals_of xs) (positive (suc i))) (holds (literals_of xs) (negative (suc i))) in
+            let Q : TruthValue → Type 0 = λ t. IsTold t (holds (literals_of xs) (positive (suc i)))
+            (holds (literals_of xs) (negative (suc i))) in
             subst Q (sym (get_or_append_left values (Unassigned ∷ []) Unassigned i h)) (kept.told i h)
         | inr g ↦
             let e : i ≡ length values = omega (arith, lt, long) in
-            let Q : TruthValue → Type 0 = λ t. IsTold t (holds (literals_of xs) (positive (suc i))) (holds (literals_of xs) (negative (suc i))) in
-            let read : get_or (values ++ Unassigned ∷ []) i Unassigned ≡ Unassigned = ap (λ n. get_or (values ++ Unassigned ∷ []) n Unassigned) e ∙ get_or-append_seam values Unassigned [] Unassigned in
+            let Q : TruthValue → Type 0 = λ t. IsTold t (holds (literals_of xs) (positive (suc i)))
+            (holds (literals_of xs) (negative (suc i))) in
+            let read : get_or (values ++ Unassigned ∷ []) i Unassigned ≡ Unassigned =
+            ap (λ n. get_or (values ++ Unassigned ∷ []) n Unassigned) e
+            ∙ get_or-append_seam values Unassigned [] Unassigned in
             let far : length values < suc i = omega (arith, e) in
             subst Q (sym read) (
-              false_from_ne_true (holds (literals_of xs) (positive (suc i))) (absent (length values) xs (positive (suc i)) kept.in_range far),
-              false_from_ne_true (holds (literals_of xs) (negative (suc i))) (absent (length values) xs (negative (suc i)) kept.in_range far),
+              false_from_ne_true (holds (literals_of xs) (positive (suc i)))
+                  (absent (length values) xs (positive (suc i)) kept.in_range far),
+              false_from_ne_true (holds (literals_of xs) (negative (suc i)))
+                  (absent (length values) xs (negative (suc i)) kept.in_range far),
             )
       ];
-      in_range = All-weaker (λ (s : Step). variable_of s.literal ≤ length values) (λ (s : Step). variable_of s.literal ≤ length (values ++ Unassigned ∷ []))
+      in_range = All-weaker (λ (s : Step). variable_of s.literal ≤ length values)
+          (λ (s : Step). variable_of s.literal ≤ length (values ++ Unassigned ∷ []))
           (λ s h. omega (arith, h, long)) xs kept.in_range;
       apart = kept.apart;
-      counted = let more = sum_by-append (λ x. cond (is_assigned x) 1 0) values (Unassigned ∷ []) in omega (arith, more, kept.counted);
+      counted = let more = sum_by-append (λ x. cond (is_assigned x) 1 0) values (Unassigned ∷ []) in
+          omega (arith, more, kept.counted);
     }
 
-pub kept_pushed : (values : List TruthValue) (xs : List Step) (s : Step) (i : ℕ) → variable_of s.literal ≡ suc i → i < length values → IsFree (literals_of xs) s.literal
+pub kept_pushed : (values : List TruthValue) (xs : List Step) (s : Step) (i : ℕ) → variable_of s.literal ≡ suc i →
+    i < length values → IsFree (literals_of xs) s.literal
     → IsKept values xs → IsKept (set values i (value_where_true s.literal)) (s ∷ xs) × (length xs < length values)
 kept_pushed values xs s i e lt free kept =
     let value = value_where_true s.literal in
@@ -68,16 +78,19 @@ kept_pushed values xs s i e lt free kept =
     let here : variable_of s.literal ≤ length values = omega (arith, e, lt) in (
       record {
         told = tells_more values (literals_of xs) s.literal i kept.told e lt free.1;
-        in_range = subst P (sym long) (All-cons (λ (k : Step). variable_of k.literal ≤ length values) s xs here kept.in_range);
+        in_range = subst P (sym long) (All-cons (λ (k : Step). variable_of k.literal ≤ length values) s xs here
+            kept.in_range);
         apart = (free, kept.apart);
         counted = omega (arith, kept.counted, one.0);
       },
       omega (arith, kept.counted, one.1),
     )
 
-pub kept_popped : (values : List TruthValue) (xs : List Step) (s : Step) (i : ℕ) → variable_of s.literal ≡ suc i → IsKept values (s ∷ xs) → IsKept (set values i Unassigned) xs
+pub kept_popped : (values : List TruthValue) (xs : List Step) (s : Step) (i : ℕ) → variable_of s.literal ≡ suc i →
+    IsKept values (s ∷ xs) → IsKept (set values i Unassigned) xs
 kept_popped values xs s i e kept =
-    let here : variable_of s.literal ≤ length values = All-head (λ (k : Step). variable_of k.literal ≤ length values) s xs kept.in_range in
+    let here : variable_of s.literal ≤ length values = All-head
+    (λ (k : Step). variable_of k.literal ≤ length values) s xs kept.in_range in
     let lt : i < length values = omega (arith, here, e) in
     let long : length (set values i Unassigned) ≡ length values = length-set values i Unassigned in
     let one = one_less values (literals_of xs) s.literal i kept.told e lt in

@@ -16,21 +16,26 @@ use Rattle.truth_values.proofs.HeldLiterals.{holds_cases}
 abbrev pub implied_step : Literal → ℕ → Step
 implied_step l id = record { literal = l; reason = Some id }
 
-pub clause_read : (clauses : List (List Literal)) (i : ℕ) (c : List Literal) → i < length clauses → get_or clauses i c ≡ c → live_in clauses (suc i) ≡ Some c
+pub clause_read : (clauses : List (List Literal)) (i : ℕ) (c : List Literal) → i < length clauses →
+    get_or clauses i c ≡ c → live_in clauses (suc i) ≡ Some c
 clause_read clauses i c lt at = slice_get-get_or clauses i c lt ∙ ap (λ x. Some x) at
 
-pub clause_within : (clauses : List (List Literal)) (room i : ℕ) (c : List Literal) → i < length clauses → get_or clauses i c ≡ c → AreWithin room clauses → All (λ l. variable_of l ≤ room) c
+pub clause_within : (clauses : List (List Literal)) (room i : ℕ) (c : List Literal) → i < length clauses →
+    get_or clauses i c ≡ c → AreWithin room clauses → All (λ l. variable_of l ≤ room) c
 clause_within clauses room i c lt at all =
     let P : List Literal → Type 0 = λ d. All (λ (l : Literal). variable_of l ≤ room) d in
     subst P at (All-get_or P clauses i c lt all)
 
-pub literal_within : (room : ℕ) (c : List Literal) (l : Literal) → All (λ k. variable_of k ≤ room) c → holds c l ≡ true → variable_of l ≤ room
+pub literal_within : (room : ℕ) (c : List Literal) (l : Literal) → All (λ k. variable_of k ≤ room) c →
+    holds c l ≡ true → variable_of l ≤ room
 literal_within room c l all h = by c (λ k lt. All-get_or (λ (x : Literal). variable_of x ≤ room) c k l lt all) h
   where
-    by : (xs : List Literal) → ((k : ℕ) → k < length xs → variable_of (get_or xs k l) ≤ room) → holds xs l ≡ true → variable_of l ≤ room
+    by : (xs : List Literal) → ((k : ℕ) → k < length xs → variable_of (get_or xs k l) ≤ room) → holds xs l ≡ true →
+        variable_of l ≤ room
     by [] at g = cc
     by (x ∷ xs) at g = elim (holds_cases x xs l g) [
-      | inl e ↦ let h = at zero (omega arith) in let v : variable_of l ≡ variable_of x = ap variable_of e in omega (arith, h, v)
+      | inl e ↦ let h = at zero (omega arith) in let v : variable_of l ≡ variable_of x = ap variable_of e in
+          omega (arith, h, v)
       | inr later ↦ by xs (λ k lt. at (suc k) (omega arith)) later
     ]
 
@@ -51,7 +56,8 @@ grown_both a b c f g = record {
   implied = All-append (λ s. is_decision s ≡ false) g.more f.more g.implied f.implied;
 }
 
-pub live_within : (clauses : List (List Literal)) (room id : ℕ) (c : List Literal) → live_in clauses id ≡ Some c → AreWithin room clauses → All (λ l. variable_of l ≤ room) c
+pub live_within : (clauses : List (List Literal)) (room id : ℕ) (c : List Literal) → live_in clauses id ≡ Some c →
+    AreWithin room clauses → All (λ l. variable_of l ≤ room) c
 live_within clauses room zero c is within = let n : None ≡ Some c = is in cc
 live_within clauses room (suc i) c is within =
     let lt = slice_get_within clauses i c is in
@@ -59,7 +65,8 @@ live_within clauses room (suc i) c is within =
     let e : get_or clauses i c ≡ c = cc in
     clause_within clauses room i c lt e within
 
-pub contains_live : (clauses : List (List Literal)) (id : ℕ) (c : List Literal) → live_in clauses id ≡ Some c → Contains clauses c
+pub contains_live : (clauses : List (List Literal)) (id : ℕ) (c : List Literal) → live_in clauses id ≡ Some c →
+    Contains clauses c
 contains_live clauses zero c is = let n : None ≡ Some c = is in cc
 contains_live clauses (suc i) c is =
     let lt = slice_get_within clauses i c is in
@@ -68,8 +75,11 @@ contains_live clauses (suc i) c is =
     subst (Contains clauses) e (Contains-get_or clauses i c lt)
 
 -- a clause of an id is open, or true
-pub opening_in : (clauses : List (List Literal)) (trues c : List Literal) (id : ℕ) (found : Option Literal) → live_in clauses id ≡ Some c
+pub opening_in : (clauses : List (List Literal)) (trues c : List Literal) (id : ℕ) (found : Option Literal) →
+    live_in clauses id ≡ Some c
     → MatchOption found (list_any (holds trues) c ≡ true) (λ l. IsFree trues l × (holds c l ≡ true))
-    → MatchOption found ((d : List Literal) → live_in clauses id ≡ Some d → list_any (holds trues) d ≡ true) (λ l. IsOpening clauses trues (Some l))
-opening_in clauses trues c id None is h = λ d at. (let s : Some c ≡ Some d = sym is ∙ at in let e : c ≡ d = cc in ap (list_any (holds trues)) (sym e) ∙ h)
+    → MatchOption found ((d : List Literal) → live_in clauses id ≡ Some d → list_any (holds trues) d ≡ true)
+    (λ l. IsOpening clauses trues (Some l))
+opening_in clauses trues c id None is h = λ d at. (let s : Some c ≡ Some d = sym is ∙ at in let e : c ≡ d = cc in
+    ap (list_any (holds trues)) (sym e) ∙ h)
 opening_in clauses trues c id (Some l) is h = (h.0, c, contains_live clauses id c is, h.1)

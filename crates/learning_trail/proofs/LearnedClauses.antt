@@ -24,23 +24,40 @@ holds-reverse xs l = sym (list_any-IsPermutation (same_literal l) xs (reverse xs
 
 kept-reverse : (xs : List Literal) (t : Literal) → holds (map opposite (reverse xs)) t ≡ holds (map opposite xs) t
 kept-reverse xs t =
-    ap (holds (map opposite (reverse xs))) (sym (opposite-opposite t)) ∙ holds-map (reverse xs) (opposite t) ∙ holds-reverse xs (opposite t)
+    ap (holds (map opposite (reverse xs))) (sym (opposite-opposite t)) ∙ holds-map (reverse xs) (opposite t)
+    ∙ holds-reverse xs (opposite t)
     ∙ sym (holds-map xs (opposite t)) ∙ ap (holds (map opposite xs)) (opposite-opposite t)
 
 -- what is noted, turned round
-pub analysis_turned : (entries : List Entry) (live : LiveClauses) (n turned : Noted) → turned ≡ record { marks = n.marks; places = n.places; hints = reverse n.hints; literals = reverse n.literals }
-    → IsAnalysis entries live [] (map opposite n.literals) n.marks (reverse n.hints) → IsAnalysis entries live [] (map opposite turned.literals) turned.marks turned.hints
+pub analysis_turned : (entries : List Entry) (live : LiveClauses) (n turned : Noted) →
+    turned ≡ record { marks = n.marks; places = n.places; hints = reverse n.hints; literals = reverse n.literals }
+    → IsAnalysis entries live [] (map opposite n.literals) n.marks (reverse n.hints) →
+    IsAnalysis entries live [] (map opposite turned.literals) turned.marks turned.hints
 analysis_turned entries live n turned is analysis =
     subst (λ (m : Noted). IsAnalysis entries live [] (map opposite m.literals) m.marks m.hints) (sym is)
-    (analysis_same entries live n.marks [] (map opposite n.literals) (map opposite (reverse n.literals)) (reverse n.hints) (kept-reverse n.literals) analysis)
+    (analysis_same entries live n.marks [] (map opposite n.literals) (map opposite (reverse n.literals))
+    (reverse n.hints) (kept-reverse n.literals) analysis)
 
 module _ (live : LiveClauses) (old mid : Trailed) (step : Step) (begun found added left noted : Noted)
     (sound : IsSound live (step ∷ mid.steps)) (empty : begun.literals ≡ [])
-    (begins : (entries : List Entry) → AllStand entries live → IsAnalysis entries live (literals_of old.steps) [] begun.marks (reverse begun.hints))
+    (begins : (entries : List Entry) → AllStand entries live →
+    IsAnalysis entries live (literals_of old.steps) [] begun.marks (reverse begun.hints))
     (point : IsFirstPoint live old mid step begun found)
-    (adds : added ≡ record { marks = found.marks; places = found.places; hints = found.hints; literals = found.literals ++ opposite step.literal ∷ [] })
+    (adds : added ≡ record {
+      marks = found.marks;
+      places = found.places;
+      hints = found.hints;
+      literals =
+          found.literals ++ opposite step.literal ∷ [];
+    })
     (trimmed : IsTrimmed live mid.steps [] added left)
-    (turned : noted ≡ record { marks = left.marks; places = left.places; hints = reverse left.hints; literals = reverse left.literals }) where
+    (turned : noted ≡ record {
+      marks = left.marks;
+      places = left.places;
+      hints = reverse left.hints;
+      literals =
+          reverse left.literals;
+    }) where
   added_is : added.literals ≡ opposite step.literal ∷ []
   added_is = ap (λ (n : Noted). n.literals) adds ∙ ap (λ ls. ls ++ opposite step.literal ∷ []) (point.literals ∙ empty)
 
@@ -56,10 +73,13 @@ module _ (live : LiveClauses) (old mid : Trailed) (step : Step) (begun found add
   fewer : (v : ℕ) → marked noted.marks v ≡ true → marked found.marks v ≡ true
   fewer v m = sym (ap (λ (n : Noted). marked n.marks v) adds) ∙ trimmed.fewer v (sym (marks_are v) ∙ m)
 
-  first_is : begun.literals ≡ [] → (entries : List Entry) → AllStand entries live → IsAnalysis entries live (literals_of old.steps) (map opposite begun.literals) begun.marks (reverse begun.hints)
-  first_is e entries stand = subst (λ (ls : List Literal). IsAnalysis entries live (literals_of old.steps) (map opposite ls) begun.marks (reverse begun.hints)) (sym e) (begins entries stand)
+  first_is : begun.literals ≡ [] → (entries : List Entry) → AllStand entries live →
+      IsAnalysis entries live (literals_of old.steps) (map opposite begun.literals) begun.marks (reverse begun.hints)
+  first_is e entries stand = subst (λ (ls : List Literal). IsAnalysis entries live (literals_of old.steps)
+      (map opposite ls) begun.marks (reverse begun.hints)) (sym e) (begins entries stand)
 
-  only : (l : Literal) → holds noted.literals l ≡ true → (l ≡ opposite step.literal) ⊎ ((holds (literals_of mid.steps) (opposite l) ≡ true) × (marked noted.marks (variable_of l) ≡ true))
+  only : (l : Literal) → holds noted.literals l ≡ true → (l ≡ opposite step.literal) ⊎
+      ((holds (literals_of mid.steps) (opposite l) ≡ true) × (marked noted.marks (variable_of l) ≡ true))
   only l h = elim (trimmed.only l (sym (literals_are l) ∙ h)) [
     | inl a ↦ elim (holds_cases (opposite step.literal) [] l (ap (λ ls. holds ls l) (sym added_is) ∙ a)) [
       | inl e ↦ inl e
@@ -69,11 +89,14 @@ module _ (live : LiveClauses) (old mid : Trailed) (step : Step) (begun found add
   ]
 
   -- the literals of the clause were marked where the first point was found
-  on_trail : (l : Literal) → holds noted.literals l ≡ true → (holds (literals_of (step ∷ mid.steps)) (opposite l) ≡ true) × (marked found.marks (variable_of l) ≡ true)
+  on_trail : (l : Literal) → holds noted.literals l ≡ true →
+      (holds (literals_of (step ∷ mid.steps)) (opposite l) ≡ true) × (marked found.marks (variable_of l) ≡ true)
   on_trail l h = elim (only l h) [
     | inl e ↦ (
-      ap (λ x. holds (literals_of (step ∷ mid.steps)) (opposite x)) e ∙ ap (holds (literals_of (step ∷ mid.steps))) (opposite-opposite step.literal) ∙ holds_first step.literal (literals_of mid.steps),
-      ap (λ x. marked found.marks (variable_of x)) e ∙ ap (marked found.marks) (opposite-variable step.literal) ∙ point.mark,
+      ap (λ x. holds (literals_of (step ∷ mid.steps)) (opposite x)) e ∙ ap (holds (literals_of (step ∷ mid.steps)))
+          (opposite-opposite step.literal) ∙ holds_first step.literal (literals_of mid.steps),
+      ap (λ x. marked found.marks (variable_of x)) e ∙ ap (marked found.marks) (opposite-variable step.literal)
+          ∙ point.mark,
     )
     | inr r ↦ (holds_later step.literal (literals_of mid.steps) (opposite l) r.0, fewer (variable_of l) r.1)
   ]
@@ -83,17 +106,23 @@ module _ (live : LiveClauses) (old mid : Trailed) (step : Step) (begun found add
     room = point.room;
     shrunk = point.shrunk;
     first = λ implied. false_from_ne_true (is_level_marked noted.marks mid.steps) (λ some.
-        false≢true (sym (point.first implied) ∙ level_kept noted.marks found.marks mid.steps (λ t on m. fewer (variable_of t) m) some));
+        false≢true (sym (point.first implied) ∙ level_kept noted.marks found.marks mid.steps
+        (λ t on m. fewer (variable_of t) m) some));
     level = point.level;
-    has_first = literals_are (opposite step.literal) ∙ trimmed.keeps (opposite step.literal) (ap (λ ls. holds ls (opposite step.literal)) added_is ∙ holds_first (opposite step.literal) []);
-    has_rest = λ t on m. literals_are (opposite t) ∙ trimmed.has t (ap (λ xs. holds (literals_of xs) t) (sym done_all) ∙ on) (sym (marks_are (variable_of t)) ∙ m);
+    has_first = literals_are (opposite step.literal) ∙ trimmed.keeps (opposite step.literal)
+        (ap (λ ls. holds ls (opposite step.literal)) added_is ∙ holds_first (opposite step.literal) []);
+    has_rest = λ t on m. literals_are (opposite t) ∙ trimmed.has t
+        (ap (λ xs. holds (literals_of xs) t) (sym done_all) ∙ on) (sym (marks_are (variable_of t)) ∙ m);
     only = only;
     negated = λ entries stand l h sel.
         let t = on_trail l h in
-        let plain = (point.analysis entries stand (first_is empty entries stand)).plain (opposite l) t.0 (ap (marked found.marks) (opposite-variable l) ∙ t.1) (ap (is_selector entries) (opposite-variable l) ∙ sel) in
+        let plain = (point.analysis entries stand (first_is empty entries stand)).plain (opposite l) t.0
+        (ap (marked found.marks) (opposite-variable l) ∙ t.1)
+        (ap (is_selector entries) (opposite-variable l) ∙ sel) in
         negated_back (is_negative l) (sym (opposite-negative l) ∙ plain);
     analysis = λ entries stand. analysis_turned entries live left noted turned
-        (trimmed.analysis entries stand (leads_noted live old.steps mid.steps begun found added step point.analysis sound adds entries stand (first_is empty entries stand)));
+        (trimmed.analysis entries stand (leads_noted live old.steps mid.steps begun found added step point.analysis
+        sound adds entries stand (first_is empty entries stand)));
   }
     where
       negated_back : (b : Bool) → not b ≡ false → b ≡ true

@@ -31,13 +31,16 @@ pub sound_later : (live : LiveClauses) (popped steps : List Step) → IsSound li
 sound_later live [] steps sound = sound
 sound_later live (s ∷ popped) steps sound = sound_later live popped steps sound.1
 
-pub guided_later : (entries : List Entry) (assumptions : List Literal) (popped steps : List Step) → IsGuided entries assumptions (popped ++ steps) → IsGuided entries assumptions steps
+pub guided_later : (entries : List Entry) (assumptions : List Literal) (popped steps : List Step) →
+    IsGuided entries assumptions (popped ++ steps) → IsGuided entries assumptions steps
 guided_later entries assumptions [] steps guided = guided
 guided_later entries assumptions (s ∷ popped) steps guided = guided_later entries assumptions popped steps guided.1
 
 -- every literal of the trail stands on a variable that has a name
-pub trail_named : (entries : List Entry) (assumptions : List Literal) (clauses : List (List Literal)) (steps : List Step) → AllStand entries (live_in clauses) → IsSound (live_in clauses) steps
-    → IsGuided entries assumptions steps → (t : Literal) → holds (literals_of steps) t ≡ true → IsSome (name_of entries (variable_of t))
+pub trail_named : (entries : List Entry) (assumptions : List Literal) (clauses : List (List Literal))
+    (steps : List Step) → AllStand entries (live_in clauses) → IsSound (live_in clauses) steps
+    → IsGuided entries assumptions steps → (t : Literal) → holds (literals_of steps) t ≡ true →
+    IsSome (name_of entries (variable_of t))
 trail_named entries assumptions clauses [] stand sound guided t on = cc
 trail_named entries assumptions clauses (s ∷ steps) stand sound guided t on =
     elim (holds_cases s.literal (literals_of steps) t on) [
@@ -53,7 +56,8 @@ trail_named entries assumptions clauses (s ∷ steps) stand sound guided t on =
         (stand id r.clause s.literal r.is r.implied.among).named
 
 -- an implied literal is no selector made true
-pub implied_negative : (entries : List Entry) (clauses : List (List Literal)) (steps : List Step) (s : Step) → AllStand entries (live_in clauses) → IsSound (live_in clauses) (s ∷ steps)
+pub implied_negative : (entries : List Entry) (clauses : List (List Literal)) (steps : List Step) (s : Step) →
+    AllStand entries (live_in clauses) → IsSound (live_in clauses) (s ∷ steps)
     → is_decision s ≡ false → is_selector entries (variable_of s.literal) ≡ true → is_negative s.literal ≡ true
 implied_negative entries clauses steps s stand sound implied sel = by_reason s.reason refl
   where
@@ -65,8 +69,10 @@ implied_negative entries clauses steps s stand sound implied sel = by_reason s.r
         (stand id r.clause s.literal r.is r.implied.among).negated sel
 
 -- a selector that the trail makes true was assumed
-pub trail_assumed : (entries : List Entry) (assumptions : List Literal) (clauses : List (List Literal)) (steps : List Step) → AllStand entries (live_in clauses) → IsSound (live_in clauses) steps
-    → IsGuided entries assumptions steps → (t : Literal) → holds (literals_of steps) t ≡ true → is_selector entries (variable_of t) ≡ true → is_negative t ≡ false → holds assumptions t ≡ true
+pub trail_assumed : (entries : List Entry) (assumptions : List Literal) (clauses : List (List Literal))
+    (steps : List Step) → AllStand entries (live_in clauses) → IsSound (live_in clauses) steps
+    → IsGuided entries assumptions steps → (t : Literal) → holds (literals_of steps) t ≡ true →
+    is_selector entries (variable_of t) ≡ true → is_negative t ≡ false → holds assumptions t ≡ true
 trail_assumed entries assumptions clauses [] stand sound guided t on sel positive = cc
 trail_assumed entries assumptions clauses (s ∷ steps) stand sound guided t on sel positive =
     elim (holds_cases s.literal (literals_of steps) t on) [
@@ -78,13 +84,15 @@ trail_assumed entries assumptions clauses (s ∷ steps) stand sound guided t on 
               | inl a ↦ ap (holds assumptions) e ∙ a
               | inr c ↦ absurd (false≢true (not_negative ∙ c.1 here))
             ]
-            | inr other ↦ absurd (false≢true (not_negative ∙ implied_negative entries clauses steps s stand sound other here))
+            | inr other ↦ absurd (false≢true (not_negative ∙ implied_negative entries clauses steps s stand sound
+                other here))
           ]
       | inr later ↦ trail_assumed entries assumptions clauses steps stand sound.1 guided.1 t later sel positive
     ]
 
 -- what is below the newest level
-pub below_closed : (live : LiveClauses) (steps : List Step) (d : Literal) → IsSound live steps → decision_of steps ≡ Some d → IsClosed live (literals_of (under_level steps))
+pub below_closed : (live : LiveClauses) (steps : List Step) (d : Literal) → IsSound live steps →
+    decision_of steps ≡ Some d → IsClosed live (literals_of (under_level steps))
 below_closed live [] d sound is = cc
 below_closed live (s ∷ steps) d sound is = by (is_decision s) refl (λ e. below_closed live steps d sound.1 e)
   where
@@ -92,54 +100,67 @@ below_closed live (s ∷ steps) d sound is = by (is_decision s) refl (λ e. belo
         → IsClosed live (literals_of (cond b steps (under_level steps)))
     by true e rest = by_reason s.reason e sound.0.reasoned
       where
-        by_reason : (r : Option ℕ) → is_none r ≡ true → IsReasoned live (literals_of steps) s.literal r → IsClosed live (literals_of steps)
+        by_reason : (r : Option ℕ) → is_none r ≡ true → IsReasoned live (literals_of steps) s.literal r →
+            IsClosed live (literals_of steps)
         by_reason None n closed = closed
         by_reason (Some id) n closed = absurd (false≢true n)
     by false e rest = rest (sym (ap (λ b. cond b (Some s.literal) (decision_of steps)) e) ∙ is)
 
-below_holds : (steps : List Step) (t : Literal) → holds (literals_of (under_level steps)) t ≡ true → holds (literals_of steps) t ≡ true
+below_holds : (steps : List Step) (t : Literal) → holds (literals_of (under_level steps)) t ≡ true →
+    holds (literals_of steps) t ≡ true
 below_holds [] t h = h
 below_holds (s ∷ steps) t h = by (is_decision s) (below_holds steps t) h
   where
-    by : (b : Bool) → (holds (literals_of (under_level steps)) t ≡ true → holds (literals_of steps) t ≡ true) → holds (literals_of (cond b steps (under_level steps))) t ≡ true → holds (literals_of (s ∷ steps)) t ≡ true
+    by : (b : Bool) → (holds (literals_of (under_level steps)) t ≡ true → holds (literals_of steps) t ≡ true) →
+        holds (literals_of (cond b steps (under_level steps))) t ≡ true → holds (literals_of (s ∷ steps)) t ≡ true
     by true rest g = holds_later s.literal (literals_of steps) t g
     by false rest g = holds_later s.literal (literals_of steps) t (rest g)
 
 -- the marked literals stand below a level that has no mark
-pub below_marked : (marks : List Bool) (steps : List Step) (t : Literal) → is_level_marked marks steps ≡ false → holds (literals_of steps) t ≡ true → marked marks (variable_of t) ≡ true
+pub below_marked : (marks : List Bool) (steps : List Step) (t : Literal) → is_level_marked marks steps ≡ false →
+    holds (literals_of steps) t ≡ true → marked marks (variable_of t) ≡ true
     → holds (literals_of (under_level steps)) t ≡ true
 below_marked marks [] t none h m = h
 below_marked marks (s ∷ steps) t none h m =
-    let p = or_parts (marked marks (variable_of s.literal)) (cond (is_decision s) false (is_level_marked marks steps)) none in
+    let p = or_parts (marked marks (variable_of s.literal)) (cond (is_decision s) false
+    (is_level_marked marks steps)) none in
     elim (holds_cases s.literal (literals_of steps) t h) [
       | inl e ↦ absurd (false≢true (sym p.0 ∙ ap (λ x. marked marks (variable_of x)) (sym e) ∙ m))
       | inr later ↦ by (is_decision s) p.1 (λ n. below_marked marks steps t n later m) later
     ]
   where
-    by : (b : Bool) → cond b false (is_level_marked marks steps) ≡ false → (is_level_marked marks steps ≡ false → holds (literals_of (under_level steps)) t ≡ true)
+    by : (b : Bool) → cond b false (is_level_marked marks steps) ≡ false →
+        (is_level_marked marks steps ≡ false → holds (literals_of (under_level steps)) t ≡ true)
         → holds (literals_of steps) t ≡ true → holds (literals_of (cond b steps (under_level steps))) t ≡ true
     by true n rest on = on
     by false n rest on = rest n
 
 -- where the step was decided, its decision is the newest one
-newest_decision : (s : Step) (steps : List Step) (d : Literal) → is_decision s ≡ true → decision_of (s ∷ steps) ≡ Some d → s.literal ≡ d
-newest_decision s steps d decided is = let e : Some s.literal ≡ Some d = sym (ap (λ b. cond b (Some s.literal) (decision_of steps)) decided) ∙ is in cc
+newest_decision : (s : Step) (steps : List Step) (d : Literal) → is_decision s ≡ true →
+    decision_of (s ∷ steps) ≡ Some d → s.literal ≡ d
+newest_decision s steps d decided is = let e : Some s.literal ≡ Some d =
+    sym (ap (λ b. cond b (Some s.literal) (decision_of steps)) decided) ∙ is in cc
 
-older_decision : (s : Step) (steps : List Step) (d : Literal) → is_decision s ≡ false → decision_of (s ∷ steps) ≡ Some d → decision_of steps ≡ Some d
+older_decision : (s : Step) (steps : List Step) (d : Literal) → is_decision s ≡ false →
+    decision_of (s ∷ steps) ≡ Some d → decision_of steps ≡ Some d
 older_decision s steps d implied is = sym (ap (λ b. cond b (Some s.literal) (decision_of steps)) implied) ∙ is
 
-module _ (entries : List Entry) (assumptions : List Literal) (clauses : List (List Literal)) (variables : ℕ) (old new : Trailed) (step : Step) (marks : List Bool) (clause : List Literal) (hints : List ℕ) (d : Literal)
-    (fit : Fit clauses variables entries) (sound : IsSound (live_in clauses) old.steps) (guided : IsGuided entries assumptions old.steps)
+module _ (entries : List Entry) (assumptions : List Literal) (clauses : List (List Literal)) (variables : ℕ)
+    (old new : Trailed) (step : Step) (marks : List Bool) (clause : List Literal) (hints : List ℕ) (d : Literal)
+    (fit : Fit clauses variables entries) (sound : IsSound (live_in clauses) old.steps)
+    (guided : IsGuided entries assumptions old.steps)
     (decided : decision_of old.steps ≡ Some d) (chosen : holds assumptions d ≡ false)
     (lesson : IsLesson (live_in clauses) old new step marks clause hints) where
   stand : AllStand entries (live_in clauses)
   stand id c l at h = fit.negated id c l (sym (fit.same id) ∙ at) h
 
   pub lesson_sound : IsSound (live_in clauses) (step ∷ new.steps)
-  lesson_sound = sound_later (live_in clauses) lesson.shrunk.popped (step ∷ new.steps) (subst (IsSound (live_in clauses)) lesson.shrunk.is sound)
+  lesson_sound = sound_later (live_in clauses) lesson.shrunk.popped (step ∷ new.steps)
+      (subst (IsSound (live_in clauses)) lesson.shrunk.is sound)
 
   pub lesson_guided : IsGuided entries assumptions (step ∷ new.steps)
-  lesson_guided = guided_later entries assumptions lesson.shrunk.popped (step ∷ new.steps) (subst (IsGuided entries assumptions) lesson.shrunk.is guided)
+  lesson_guided = guided_later entries assumptions lesson.shrunk.popped (step ∷ new.steps)
+      (subst (IsGuided entries assumptions) lesson.shrunk.is guided)
 
   analysis : IsAnalysis entries (live_in clauses) [] (map opposite clause) marks hints
   analysis = lesson.analysis entries stand
@@ -150,7 +171,8 @@ module _ (entries : List Entry) (assumptions : List Literal) (clauses : List (Li
   -- the literals of the clause are negations of literals on the trail
   on_trail : (l : Literal) → holds clause l ≡ true → holds (literals_of (step ∷ new.steps)) (opposite l) ≡ true
   on_trail l h = elim (lesson.only l h) [
-    | inl e ↦ ap (λ x. holds (literals_of (step ∷ new.steps)) (opposite x)) e ∙ ap (holds (literals_of (step ∷ new.steps))) (opposite-opposite step.literal)
+    | inl e ↦ ap (λ x. holds (literals_of (step ∷ new.steps)) (opposite x)) e ∙ ap
+        (holds (literals_of (step ∷ new.steps))) (opposite-opposite step.literal)
         ∙ holds_first step.literal (literals_of new.steps)
     | inr r ↦ holds_later step.literal (literals_of new.steps) (opposite l) r.0
   ]
@@ -163,18 +185,22 @@ module _ (entries : List Entry) (assumptions : List Literal) (clauses : List (Li
 
   pub lesson_stands : (l : Literal) → holds clause l ≡ true → Stands entries l
   lesson_stands l h = record {
-    named = ap (λ v. is_some (name_of entries v)) (sym (opposite-variable l)) ∙ trail_named entries assumptions clauses (step ∷ new.steps) stand lesson_sound lesson_guided (opposite l) (on_trail l h);
+    named = ap (λ v. is_some (name_of entries v)) (sym (opposite-variable l)) ∙ trail_named entries assumptions clauses
+        (step ∷ new.steps) stand lesson_sound lesson_guided (opposite l) (on_trail l h);
     negated = lesson.negated entries stand l h;
   }
 
-  pub lesson_active : (l : Literal) → holds clause l ≡ true → is_selector entries (variable_of l) ≡ true → holds assumptions (opposite l) ≡ true
+  pub lesson_active : (l : Literal) → holds clause l ≡ true → is_selector entries (variable_of l) ≡ true →
+      holds assumptions (opposite l) ≡ true
   lesson_active l h sel =
-      trail_assumed entries assumptions clauses (step ∷ new.steps) stand lesson_sound lesson_guided (opposite l) (on_trail l h) (ap (is_selector entries) (opposite-variable l) ∙ sel)
+      trail_assumed entries assumptions clauses (step ∷ new.steps) stand lesson_sound lesson_guided (opposite l)
+      (on_trail l h) (ap (is_selector entries) (opposite-variable l) ∙ sel)
       (opposite-negative l ∙ ap not (lesson.negated entries stand l h sel))
 
   pub lesson_no_selector : is_selector entries (variable_of step.literal) ≡ false
   lesson_no_selector = false_from_ne_true (is_selector entries (variable_of step.literal)) (λ sel.
-      let negative' = lesson.negated entries stand (opposite step.literal) lesson.has_first (ap (is_selector entries) (opposite-variable step.literal) ∙ sel) in
+      let negative' = lesson.negated entries stand (opposite step.literal) lesson.has_first
+      (ap (is_selector entries) (opposite-variable step.literal) ∙ sel) in
       let positive' = turned (is_negative step.literal) (sym (opposite-negative step.literal) ∙ negative') in
       elim (cases_Bool (is_decision step)) [
         | inl was ↦
@@ -183,7 +209,8 @@ module _ (entries : List Entry) (assumptions : List Literal) (clauses : List (Li
               | inl a ↦ false≢true (sym chosen ∙ ap (holds assumptions) (sym e) ∙ a)
               | inr c ↦ false≢true (sym positive' ∙ c.1 sel)
             ]
-        | inr other ↦ false≢true (sym positive' ∙ implied_negative entries clauses new.steps step stand lesson_sound other sel)
+        | inr other ↦ false≢true (sym positive' ∙ implied_negative entries clauses new.steps step stand lesson_sound
+            other sel)
       ])
     where
       turned : (b : Bool) → not b ≡ true → b ≡ false
@@ -196,22 +223,27 @@ module _ (entries : List Entry) (assumptions : List Literal) (clauses : List (Li
   below_is_closed : IsClosed (live_in clauses) (literals_of below)
   below_is_closed = by (is_decision step) refl
     where
-      by_reason : (r : Option ℕ) → is_none r ≡ true → IsReasoned (live_in clauses) (literals_of new.steps) step.literal r → IsClosed (live_in clauses) (literals_of new.steps)
+      by_reason : (r : Option ℕ) → is_none r ≡ true → IsReasoned (live_in clauses)
+          (literals_of new.steps) step.literal r → IsClosed (live_in clauses) (literals_of new.steps)
       by_reason None n closed = closed
       by_reason (Some id) n closed = absurd (false≢true n)
 
-      by : (b : Bool) → is_decision step ≡ b → IsClosed (live_in clauses) (literals_of (cond b new.steps (under_level new.steps)))
+      by : (b : Bool) → is_decision step ≡ b → IsClosed (live_in clauses)
+          (literals_of (cond b new.steps (under_level new.steps)))
       by true e = by_reason step.reason e lesson_sound.0.reasoned
-      by false e = below_closed (live_in clauses) new.steps d lesson_sound.1 (older_decision step new.steps d e (lesson.level ∙ decided))
+      by false e = below_closed (live_in clauses) new.steps d lesson_sound.1
+          (older_decision step new.steps d e (lesson.level ∙ decided))
 
   below_in : (t : Literal) → holds (literals_of below) t ≡ true → holds (literals_of new.steps) t ≡ true
   below_in t h = by (is_decision step) h
     where
-      by : (b : Bool) → holds (literals_of (cond b new.steps (under_level new.steps))) t ≡ true → holds (literals_of new.steps) t ≡ true
+      by : (b : Bool) → holds (literals_of (cond b new.steps (under_level new.steps))) t ≡ true →
+          holds (literals_of new.steps) t ≡ true
       by true g = g
       by false g = below_holds new.steps t g
 
-  marked_below : (t : Literal) → holds (literals_of new.steps) t ≡ true → marked marks (variable_of t) ≡ true → holds (literals_of below) t ≡ true
+  marked_below : (t : Literal) → holds (literals_of new.steps) t ≡ true → marked marks (variable_of t) ≡ true →
+      holds (literals_of below) t ≡ true
   marked_below t h m = by (is_decision step) refl
     where
       by : (b : Bool) → is_decision step ≡ b → holds (literals_of (cond b new.steps (under_level new.steps))) t ≡ true
@@ -224,9 +256,14 @@ module _ (entries : List Entry) (assumptions : List Literal) (clauses : List (Li
     trues = literals_of below;
     among = lesson.has_first;
     no_selector = ap (is_selector entries) (opposite-variable step.literal) ∙ lesson_no_selector;
-    consistent = no_tautology (literals_of below) (λ l h o. consistent l (holds_later step.literal (literals_of new.steps) l (below_in l h)) (holds_later step.literal (literals_of new.steps) (opposite l) (below_in (opposite l) o)));
-    not_true = false_from_ne_true (holds (literals_of below) (opposite step.literal)) (λ h. false≢true (sym lesson_sound.0.free.1 ∙ below_in (opposite step.literal) h));
-    not_false = false_from_ne_true (holds (literals_of below) (opposite (opposite step.literal))) (λ h. false≢true (sym lesson_sound.0.free.0 ∙ ap (holds (literals_of new.steps)) (sym (opposite-opposite step.literal)) ∙ below_in (opposite (opposite step.literal)) h));
+    consistent = no_tautology (literals_of below) (λ l h o. consistent l
+        (holds_later step.literal (literals_of new.steps) l (below_in l h))
+        (holds_later step.literal (literals_of new.steps) (opposite l) (below_in (opposite l) o)));
+    not_true = false_from_ne_true (holds (literals_of below) (opposite step.literal))
+        (λ h. false≢true (sym lesson_sound.0.free.1 ∙ below_in (opposite step.literal) h));
+    not_false = false_from_ne_true (holds (literals_of below) (opposite (opposite step.literal)))
+        (λ h. false≢true (sym lesson_sound.0.free.0 ∙ ap (holds (literals_of new.steps))
+        (sym (opposite-opposite step.literal)) ∙ below_in (opposite (opposite step.literal)) h));
     rest_false = λ k h n. elim (lesson.only k h) [
       | inl e ↦ absurd (false≢true (sym n ∙ ap (same_literal k) (sym e) ∙ same_literal-refl k))
       | inr r ↦ marked_below (opposite k) r.0 (ap (marked marks) (opposite-variable k) ∙ r.1)
@@ -241,7 +278,8 @@ last_clause xs c =
 
 -- a trail that goes with one clause more
 module _ (clauses : List (List Literal)) (clause : List Literal) where
-  pub live_more : (id : ℕ) → (live_in (clauses ++ clause ∷ []) id ≡ live_in clauses id) ⊎ ((id ≡ suc (length clauses)) × (live_in (clauses ++ clause ∷ []) id ≡ Some clause))
+  pub live_more : (id : ℕ) → (live_in (clauses ++ clause ∷ []) id ≡ live_in clauses id) ⊎
+      ((id ≡ suc (length clauses)) × (live_in (clauses ++ clause ∷ []) id ≡ Some clause))
   live_more zero = inl refl
   live_more (suc i) = elim (cases_lt i (length clauses)) [
     | inl h ↦ inl (front_get i h)
@@ -254,12 +292,15 @@ module _ (clauses : List (List Literal)) (clause : List Literal) where
       front_get : (i : ℕ) → i < length clauses → slice_get (clauses ++ clause ∷ []) i ≡ slice_get clauses i
       front_get i h =
           let g : i < length (clauses ++ clause ∷ []) = omega (arith, length-append clauses (clause ∷ []), h) in
-          slice_get-get_or (clauses ++ clause ∷ []) i clause g ∙ ap (λ x. Some x) (get_or_append_left clauses (clause ∷ []) clause i h) ∙ sym (slice_get-get_or clauses i clause h)
+          slice_get-get_or (clauses ++ clause ∷ []) i clause g ∙ ap (λ x. Some x)
+          (get_or_append_left clauses (clause ∷ []) clause i h) ∙ sym (slice_get-get_or clauses i clause h)
 
       last_get : (i : ℕ) → i ≡ length clauses → slice_get (clauses ++ clause ∷ []) i ≡ Some clause
       last_get i e =
           let g : i < length (clauses ++ clause ∷ []) = omega (arith, length-append clauses (clause ∷ []), e) in
-          slice_get-get_or (clauses ++ clause ∷ []) i clause g ∙ ap (λ k. Some (get_or (clauses ++ clause ∷ []) k clause)) e ∙ ap (λ x. Some x) (get_or-append_seam clauses clause [] clause)
+          slice_get-get_or (clauses ++ clause ∷ []) i clause g ∙ ap
+          (λ k. Some (get_or (clauses ++ clause ∷ []) k clause)) e ∙ ap (λ x. Some x)
+          (get_or-append_seam clauses clause [] clause)
 
       past : (xs : List (List Literal)) (i : ℕ) → length xs ≤ i → slice_get xs i ≡ None
       past xs i g = by (slice_get xs i) refl
@@ -274,15 +315,18 @@ module _ (clauses : List (List Literal)) (clause : List Literal) where
   -- a fact of what is true before each decision
   abbrev pub StuckBefore : List Step → Type 0
   StuckBefore [] = Unit {0}
-  StuckBefore (s ∷ steps) = (is_decision s ≡ true → status_of (literals_of steps) (Some clause) ≡ stuck) × StuckBefore steps
+  StuckBefore (s ∷ steps) = (is_decision s ≡ true → status_of (literals_of steps) (Some clause) ≡ stuck) ×
+      StuckBefore steps
 
-  closed_more : (trues : List Literal) → IsClosed (live_in clauses) trues → status_of trues (Some clause) ≡ stuck → IsClosed (live_in (clauses ++ clause ∷ [])) trues
+  closed_more : (trues : List Literal) → IsClosed (live_in clauses) trues → status_of trues (Some clause) ≡ stuck →
+      IsClosed (live_in (clauses ++ clause ∷ [])) trues
   closed_more trues closed is id = elim (live_more id) [
     | inl e ↦ ap (status_of trues) e ∙ closed id
     | inr e ↦ ap (status_of trues) e.1 ∙ is
   ]
 
-  unit_more : (trues : List Literal) (id : ℕ) (l : Literal) → status_of trues (live_in clauses id) ≡ unit l → status_of trues (live_in (clauses ++ clause ∷ []) id) ≡ unit l
+  unit_more : (trues : List Literal) (id : ℕ) (l : Literal) → status_of trues (live_in clauses id) ≡ unit l →
+      status_of trues (live_in (clauses ++ clause ∷ []) id) ≡ unit l
   unit_more trues id l is = elim (live_more id) [
     | inl e ↦ ap (status_of trues) e ∙ is
     | inr e ↦
@@ -291,24 +335,29 @@ module _ (clauses : List (List Literal)) (clause : List Literal) where
         absurd (omega (arith, lt, at))
   ]
 
-  pub sound_more : (steps : List Step) → IsSound (live_in clauses) steps → StuckBefore steps → IsSound (live_in (clauses ++ clause ∷ [])) steps
+  pub sound_more : (steps : List Step) → IsSound (live_in clauses) steps → StuckBefore steps →
+      IsSound (live_in (clauses ++ clause ∷ [])) steps
   sound_more [] sound stuck' = tt
   sound_more (s ∷ steps) sound stuck' =
       (record { free = sound.0.free; reasoned = by s.reason refl sound.0.reasoned }, sound_more steps sound.1 stuck'.1)
     where
-      by : (r : Option ℕ) → s.reason ≡ r → IsReasoned (live_in clauses) (literals_of steps) s.literal r → IsReasoned (live_in (clauses ++ clause ∷ [])) (literals_of steps) s.literal r
+      by : (r : Option ℕ) → s.reason ≡ r → IsReasoned (live_in clauses) (literals_of steps) s.literal r →
+          IsReasoned (live_in (clauses ++ clause ∷ [])) (literals_of steps) s.literal r
       by None e closed = closed_more (literals_of steps) closed (stuck'.0 (ap is_none e))
       by (Some id) e is = unit_more (literals_of steps) id s.literal is
 
   -- two literals of the clause that are free below
-  all_stuck : (live : LiveClauses) (steps : List Step) (p u : Literal) → IsSound live steps → holds clause (opposite p) ≡ true → holds clause (opposite u) ≡ true → variable_of p ≢ variable_of u
+  all_stuck : (live : LiveClauses) (steps : List Step) (p u : Literal) → IsSound live steps →
+      holds clause (opposite p) ≡ true → holds clause (opposite u) ≡ true → variable_of p ≢ variable_of u
       → IsFree (literals_of steps) p → IsFree (literals_of steps) u → StuckBefore steps
   all_stuck live [] p u sound hp hu n fp fu = tt
   all_stuck live (s ∷ steps) p u sound hp hu n fp fu =
       let gp = free_later s.literal (literals_of steps) p fp in
       let gu = free_later s.literal (literals_of steps) u fu in (
-        (λ _. stuck_from_two (literals_of steps) clause (opposite p) (opposite u) hp hu (λ e. n (sym (opposite-variable p) ∙ ap variable_of e ∙ opposite-variable u))
-            (ap (holds (literals_of steps)) (opposite-opposite p) ∙ gp.0) (ap (holds (literals_of steps)) (opposite-opposite u) ∙ gu.0)),
+        (λ _. stuck_from_two (literals_of steps) clause (opposite p) (opposite u) hp hu
+            (λ e. n (sym (opposite-variable p) ∙ ap variable_of e ∙ opposite-variable u))
+            (ap (holds (literals_of steps)) (opposite-opposite p) ∙ gp.0)
+            (ap (holds (literals_of steps)) (opposite-opposite u) ∙ gu.0)),
         all_stuck live steps p u sound.1 hp hu n gp gu,
       )
 
@@ -327,51 +376,72 @@ module _ (clauses : List (List Literal)) (clause : List Literal) where
   level_case false m h = (refl, h)
 
   -- a marked literal stands in the newest level
-  pub level_stuck : (live : LiveClauses) (marks : List Bool) (steps : List Step) (p : Literal) → IsSound live steps → is_level_marked marks steps ≡ true
-      → ((t : Literal) → holds (literals_of steps) t ≡ true → marked marks (variable_of t) ≡ true → holds clause (opposite t) ≡ true)
+  pub level_stuck : (live : LiveClauses) (marks : List Bool) (steps : List Step) (p : Literal) → IsSound live steps →
+      is_level_marked marks steps ≡ true
+      → ((t : Literal) → holds (literals_of steps) t ≡ true → marked marks (variable_of t) ≡ true →
+      holds clause (opposite t) ≡ true)
       → holds clause (opposite p) ≡ true → IsFree (literals_of steps) p → StuckBefore steps
   level_stuck live marks [] p sound some has hp fp = tt
   level_stuck live marks (s ∷ steps) p sound some has hp fp =
       let gp = free_later s.literal (literals_of steps) p fp in
-      elim (or_cases (marked marks (variable_of s.literal)) (cond (is_decision s) false (is_level_marked marks steps)) some) [
+      elim (or_cases (marked marks (variable_of s.literal)) (cond (is_decision s) false
+      (is_level_marked marks steps)) some) [
         | inl m ↦
             let hu = has s.literal (holds_first s.literal (literals_of steps)) m in
-            let n : variable_of p ≢ variable_of s.literal = λ e. free_variable (s.literal ∷ literals_of steps) p s.literal fp (holds_first s.literal (literals_of steps)) (sym e) in (
-              (λ _. stuck_from_two (literals_of steps) clause (opposite p) (opposite s.literal) hp hu (λ e. n (sym (opposite-variable p) ∙ ap variable_of e ∙ opposite-variable s.literal))
-                  (ap (holds (literals_of steps)) (opposite-opposite p) ∙ gp.0) (ap (holds (literals_of steps)) (opposite-opposite s.literal) ∙ sound.0.free.0)),
+            let n : variable_of p ≢ variable_of s.literal = λ e. free_variable
+            (s.literal ∷ literals_of steps) p s.literal fp (holds_first s.literal (literals_of steps)) (sym e) in (
+              (λ _. stuck_from_two (literals_of steps) clause (opposite p) (opposite s.literal) hp hu
+                  (λ e. n (sym (opposite-variable p) ∙ ap variable_of e ∙ opposite-variable s.literal))
+                  (ap (holds (literals_of steps)) (opposite-opposite p) ∙ gp.0)
+                  (ap (holds (literals_of steps)) (opposite-opposite s.literal) ∙ sound.0.free.0)),
               all_stuck live steps p s.literal sound.1 hp hu n gp sound.0.free,
             )
         | inr later ↦
             let r = level_case (is_decision s) (is_level_marked marks steps) later in (
               (λ t. absurd (false≢true (sym r.0 ∙ t))),
-              level_stuck live marks steps p sound.1 r.1 (λ t on m. has t (holds_later s.literal (literals_of steps) t on) m) hp gp,
+              level_stuck live marks steps p sound.1 r.1 (λ t on m. has t
+                  (holds_later s.literal (literals_of steps) t on) m) hp gp,
             )
       ]
 
-pub free_suffix : (popped steps : List Step) (l : Literal) → IsFree (literals_of (popped ++ steps)) l → IsFree (literals_of steps) l
+pub free_suffix : (popped steps : List Step) (l : Literal) → IsFree (literals_of (popped ++ steps)) l →
+    IsFree (literals_of steps) l
 free_suffix [] steps l free = free
-free_suffix (s ∷ popped) steps l free = free_suffix popped steps l (free_later s.literal (literals_of (popped ++ steps)) l free)
+free_suffix (s ∷ popped) steps l free = free_suffix popped steps l
+    (free_later s.literal (literals_of (popped ++ steps)) l free)
 
 -- behind the jump the lesson is a unit clause, and the trail goes with it
-pub lesson_lands : (clauses : List (List Literal)) (old new back : Trailed) (step : Step) (marks : List Bool) (clause : List Literal) (hints : List ℕ)
-    → IsSound (live_in clauses) (step ∷ new.steps) → IsLesson (live_in clauses) old new step marks clause hints → IsJump new back marks
-    → IsSound (live_in (clauses ++ clause ∷ [])) (record { literal = opposite step.literal; reason = Some (suc (length clauses)) } ∷ back.steps)
+pub lesson_lands : (clauses : List (List Literal)) (old new back : Trailed) (step : Step) (marks : List Bool)
+    (clause : List Literal) (hints : List ℕ)
+    → IsSound (live_in clauses) (step ∷ new.steps) → IsLesson (live_in clauses) old new step marks clause hints →
+    IsJump new back marks
+    → IsSound (live_in (clauses ++ clause ∷ [])) (record {
+      literal = opposite step.literal;
+      reason =
+          Some (suc (length clauses));
+    } ∷ back.steps)
 lesson_lands clauses old new back step marks clause hints sound lesson jump =
     let p = step.literal in
-    let sound_back = sound_later (live_in clauses) jump.shrunk.popped back.steps (subst (IsSound (live_in clauses)) jump.shrunk.is sound.1) in
+    let sound_back = sound_later (live_in clauses) jump.shrunk.popped back.steps
+    (subst (IsSound (live_in clauses)) jump.shrunk.is sound.1) in
     let free_new = subst (λ (xs : List Step). IsFree (literals_of xs) p) jump.shrunk.is sound.0.free in
     let free = free_suffix jump.shrunk.popped back.steps p free_new in
-    let on_new : (t : Literal) → holds (literals_of back.steps) t ≡ true → holds (literals_of new.steps) t ≡ true = λ t h.
-    subst (λ (xs : List Step). holds (literals_of xs) t ≡ true) (sym jump.shrunk.is) (holds_suffix jump.shrunk.popped back.steps t h) in
+    let on_new : (t : Literal) → holds (literals_of back.steps) t ≡ true →
+    holds (literals_of new.steps) t ≡ true = λ t h.
+    subst (λ (xs : List Step). holds (literals_of xs) t ≡ true) (sym jump.shrunk.is)
+    (holds_suffix jump.shrunk.popped back.steps t h) in
     let stuck_before : StuckBefore clauses clause back.steps = elim jump.ended [
       | inl none ↦ no_decision_stuck clauses clause back.steps none
-      | inr some ↦ level_stuck clauses clause (live_in clauses) marks back.steps p sound_back some (λ t on m. lesson.has_rest t (on_new t on) m) lesson.has_first free
+      | inr some ↦ level_stuck clauses clause (live_in clauses) marks back.steps p sound_back some
+          (λ t on m. lesson.has_rest t (on_new t on) m) lesson.has_first free
     ] in
-    let not_p : IsFree (literals_of back.steps) (opposite p) = (free.1, ap (holds (literals_of back.steps)) (opposite-opposite p) ∙ free.0) in
+    let not_p : IsFree (literals_of back.steps) (opposite p) =
+    (free.1, ap (holds (literals_of back.steps)) (opposite-opposite p) ∙ free.0) in
     let is : live_in (clauses ++ clause ∷ []) (suc (length clauses)) ≡ Some clause = last_clause clauses clause in (
       record {
         free = not_p;
-        reasoned = ap (status_of (literals_of back.steps)) is ∙ is_unit (literals_of back.steps) clause (opposite p) lesson.has_first (λ l h n.
+        reasoned = ap (status_of (literals_of back.steps)) is ∙ is_unit (literals_of back.steps) clause
+            (opposite p) lesson.has_first (λ l h n.
             elim (lesson.only l h) [
               | inl e ↦ absurd (n e)
               | inr r ↦ jump.kept (opposite l) r.0 (ap (marked marks) (opposite-variable l) ∙ r.1)
@@ -380,6 +450,8 @@ lesson_lands clauses old new back step marks clause hints sound lesson jump =
       sound_more clauses clause back.steps sound_back stuck_before,
     )
   where
-    holds_suffix : (popped steps : List Step) (t : Literal) → holds (literals_of steps) t ≡ true → holds (literals_of (popped ++ steps)) t ≡ true
+    holds_suffix : (popped steps : List Step) (t : Literal) → holds (literals_of steps) t ≡ true →
+        holds (literals_of (popped ++ steps)) t ≡ true
     holds_suffix [] steps t h = h
-    holds_suffix (s ∷ popped) steps t h = holds_later s.literal (literals_of (popped ++ steps)) t (holds_suffix popped steps t h)
+    holds_suffix (s ∷ popped) steps t h = holds_later s.literal (literals_of (popped ++ steps)) t
+        (holds_suffix popped steps t h)

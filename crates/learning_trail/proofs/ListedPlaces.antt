@@ -26,11 +26,14 @@ touched_few marks touched are = let most = count_by-le-length is_touched marks i
 -- the marked ones of the first so many touched variables are listed
 abbrev pub AreListed : List Step → List Mark → List ℕ → List ℕ → ℕ → Type 0
 AreListed steps marks touched places i =
-    (at v : ℕ) (k : Literal) → IsAt steps at k → variable_of k ≡ v → is_marked (get_or marks v Clear) ≡ true → Contains (take i touched) v → Contains places at
+    (at v : ℕ) (k : Literal) → IsAt steps at k → variable_of k ≡ v → is_marked (get_or marks v Clear) ≡ true →
+    Contains (take i touched) v → Contains places at
 
-one_more : (touched : List ℕ) (i v w : ℕ) → i < length touched → get_or touched i v ≡ v → Contains (take (i + 1) touched) w → Contains (take i touched) w ⊎ (w ≡ v)
+one_more : (touched : List ℕ) (i v w : ℕ) → i < length touched → get_or touched i v ≡ v →
+    Contains (take (i + 1) touched) w → Contains (take i touched) w ⊎ (w ≡ v)
 one_more touched i v w lt at h =
-    elim (Contains-append_cases (take i touched) (v ∷ []) w (subst (λ (xs : List ℕ). Contains xs w) (take_more touched i v lt ∙ ap (λ x. take i touched ++ x ∷ []) at) h)) [
+    elim (Contains-append_cases (take i touched) (v ∷ []) w (subst (λ (xs : List ℕ). Contains xs w)
+    (take_more touched i v lt ∙ ap (λ x. take i touched ++ x ∷ []) at) h)) [
       | inl a ↦ inl a
       | inr b ↦ elim (contains_cases v [] w b) [
         | inl e ↦ inr e
@@ -39,9 +42,11 @@ one_more touched i v w lt at h =
     ]
 
 -- one variable more was looked at
-pub listed_next : (steps : List Step) (marks : List Mark) (touched old new : List ℕ) (i v : ℕ) → i < length touched → get_or touched i v ≡ v
+pub listed_next : (steps : List Step) (marks : List Mark) (touched old new : List ℕ) (i v : ℕ) → i < length touched →
+    get_or touched i v ≡ v
     → ((at : ℕ) → Contains old at → Contains new at)
-    → ((at : ℕ) (k : Literal) → IsAt steps at k → variable_of k ≡ v → is_marked (get_or marks v Clear) ≡ true → Contains new at)
+    → ((at : ℕ) (k : Literal) → IsAt steps at k → variable_of k ≡ v → is_marked (get_or marks v Clear) ≡ true →
+    Contains new at)
     → AreListed steps marks touched old i → AreListed steps marks touched new (i + 1)
 listed_next steps marks touched old new i v lt here kept one listed at w k h same on within =
     elim (one_more touched i v w lt here within) [
@@ -51,29 +56,37 @@ listed_next steps marks touched old new i v lt here kept one listed at w k h sam
 
 -- one place was put to those that there were
 pub contains_put : (old new : List ℕ) (p : ℕ) → new ≡ old ++ p ∷ [] → Contains new p
-contains_put old new p put = subst (λ (xs : List ℕ). Contains xs p) (sym put) (Contains-append_right old (p ∷ []) p (zero, omega arith, refl))
+contains_put old new p put = subst (λ (xs : List ℕ). Contains xs p) (sym put)
+    (Contains-append_right old (p ∷ []) p (zero, omega arith, refl))
 
 pub contains_kept : (old new : List ℕ) (p at : ℕ) → new ≡ old ++ p ∷ [] → Contains old at → Contains new at
-contains_kept old new p at put c = subst (λ (xs : List ℕ). Contains xs at) (sym put) (Contains-append_left old (p ∷ []) at c)
+contains_kept old new p at put c = subst (λ (xs : List ℕ). Contains xs at) (sym put)
+    (Contains-append_left old (p ∷ []) at c)
 
-pub listed_all : (steps : List Step) (marks : List Mark) (touched places : List ℕ) → AreTouched marks touched → AreListed steps marks touched places (length touched)
-    → (at v : ℕ) (k : Literal) → IsAt steps at k → variable_of k ≡ v → is_marked (get_or marks v Clear) ≡ true → Contains places at
+pub listed_all : (steps : List Step) (marks : List Mark) (touched places : List ℕ) → AreTouched marks touched →
+    AreListed steps marks touched places (length touched)
+    → (at v : ℕ) (k : Literal) → IsAt steps at k → variable_of k ≡ v → is_marked (get_or marks v Clear) ≡ true →
+    Contains places at
 listed_all steps marks touched places are listed at v k h same on =
-    listed at v k h same on (subst (λ (xs : List ℕ). Contains xs v) (sym (take_all (length touched) touched (omega arith))) (are.whole v (touched_from (get_or marks v Clear) on)))
+    listed at v k h same on (subst (λ (xs : List ℕ). Contains xs v)
+    (sym (take_all (length touched) touched (omega arith))) (are.whole v (touched_from (get_or marks v Clear) on)))
 
 -- the marked literals below an end stand at the first so many places
 abbrev pub AreBelow : List Bool → List Step → List ℕ → ℕ → ℕ → Type 0
 AreBelow marks items places at end =
-    (i : ℕ) (s : Step) → i < end → i < length items → get_or items i s ≡ s → marked marks (variable_of s.literal) ≡ true → Contains (take at places) i
+    (i : ℕ) (s : Step) → i < end → i < length items → get_or items i s ≡ s →
+    marked marks (variable_of s.literal) ≡ true → Contains (take at places) i
 
 pub below_first : (marks : List Bool) (steps items : List Step) (places : List ℕ) → reverse items ≡ steps
-    → ((at : ℕ) (l : Literal) → IsAt steps at l → marked marks (variable_of l) ≡ true → Contains places at) → AreBelow marks items places (length places) (length items)
+    → ((at : ℕ) (l : Literal) → IsAt steps at l → marked marks (variable_of l) ≡ true → Contains places at) →
+    AreBelow marks items places (length places) (length items)
 below_first marks steps items places turn covered i s lt within here on =
     subst (λ (xs : List ℕ). Contains xs i) (sym (take_all (length places) places (omega arith)))
     (covered i s.literal (at_place items steps i s turn within (sym here)) on)
 
 -- the last of the places is the greatest one
-greatest : (places : List ℕ) (at i : ℕ) → IsNonDecreasing places → 0 < at → at ≤ length places → Contains (take at places) i → i ≤ get_or places (at - 1) 0
+greatest : (places : List ℕ) (at i : ℕ) → IsNonDecreasing places → 0 < at → at ≤ length places →
+    Contains (take at places) i → i ≤ get_or places (at - 1) 0
 greatest places at i sorted some within c =
     let q = c.0 in
     let lt : q < length (take at places) = c.1 in
@@ -86,10 +99,16 @@ greatest places at i sorted some within c =
     omega (arith, le, read, same)
 
 -- where nothing was looked at yet
-pub trimmed_start : (live : LiveClauses) (steps : List Step) (was now : Noted) → now ≡ record { marks = was.marks; places = now.places; hints = was.hints; literals = was.literals }
+pub trimmed_start : (live : LiveClauses) (steps : List Step) (was now : Noted) →
+    now ≡ record { marks = was.marks; places = now.places; hints = was.hints; literals = was.literals }
     → IsTrimmed live steps steps was now
 trimmed_start live steps was now same =
-    let here : IsTrimmed live steps steps was (record { marks = was.marks; places = now.places; hints = was.hints; literals = was.literals }) = record {
+    let here : IsTrimmed live steps steps was (record {
+      marks = was.marks;
+      places = now.places;
+      hints = was.hints;
+      literals = was.literals;
+    }) = record {
       within = record { len = refl; hints = omega arith; literals = omega arith };
       done = [];
       split = refl;
@@ -107,7 +126,8 @@ some_at [] i lt = absurd (omega (arith, lt))
 some_at (x ∷ xs) i lt = (get_or (x ∷ xs) i x, get_or_default (x ∷ xs) i (get_or (x ∷ xs) i x) x lt)
 
 -- unmarked literals are passed
-pub trimmed_skip : (live : LiveClauses) (steps items : List Step) (was now : Noted) (low end : ℕ) → end ≤ length items → low ≤ end
+pub trimmed_skip : (live : LiveClauses) (steps items : List Step) (was now : Noted) (low end : ℕ) → end ≤ length items →
+    low ≤ end
     → ((i : ℕ) (s : Step) → low ≤ i → i < end → get_or items i s ≡ s → marked now.marks (variable_of s.literal) ≡ false)
     → IsTrimmed live steps (reverse (take end items)) was now → IsTrimmed live steps (reverse (take low items)) was now
 trimmed_skip live steps items was now low zero within le off inv =
@@ -118,24 +138,31 @@ trimmed_skip live steps items was now low (suc end) within le off inv =
       | inl lt ↦
           let s = some_at items end (omega (arith, within)) in
           let one_is : end + 1 ≡ suc end = omega arith in
-          let down : reverse (take (suc end) items) ≡ s.0 ∷ reverse (take end items) = ap (λ n. reverse (take n items)) (sym one_is) ∙ turned items end s.0 (omega (arith, within)) s.1 in
-          trimmed_skip live steps items was now low end (omega (arith, within)) (omega (arith, lt)) (λ i k above below at. off i k above (omega (arith, below)) at)
-          (trimmed_past live steps (reverse (take end items)) was now s.0 (subst (λ (xs : List Step). IsTrimmed live steps xs was now) down inv) (off end s.0 (omega (arith, lt)) (omega arith) s.1))
+          let down : reverse (take (suc end) items) ≡ s.0 ∷ reverse (take end items) =
+          ap (λ n. reverse (take n items)) (sym one_is) ∙ turned items end s.0 (omega (arith, within)) s.1 in
+          trimmed_skip live steps items was now low end (omega (arith, within)) (omega (arith, lt))
+          (λ i k above below at. off i k above (omega (arith, below)) at)
+          (trimmed_past live steps (reverse (take end items)) was now s.0
+          (subst (λ (xs : List Step). IsTrimmed live steps xs was now) down inv)
+          (off end s.0 (omega (arith, lt)) (omega arith) s.1))
       | inr past ↦
           let e : suc end ≡ low = omega (arith, le, past) in
           subst (λ (n : ℕ). IsTrimmed live steps (reverse (take n items)) was now) e inv
     ]
 
 -- one of the first so many places, where it is the last of them or stands before it
-place_cases : (places : List ℕ) (at i : ℕ) → 0 < at → at ≤ length places → Contains (take at places) i → Contains (take (at - 1) places) i ⊎ (i ≡ get_or places (at - 1) 0)
+place_cases : (places : List ℕ) (at i : ℕ) → 0 < at → at ≤ length places → Contains (take at places) i →
+    Contains (take (at - 1) places) i ⊎ (i ≡ get_or places (at - 1) 0)
 place_cases places at i some within c =
     let one_is : at - 1 + 1 ≡ at = omega (arith, some) in
     let lt : at - 1 < length places = omega (arith, some, within) in
-    one_more places (at - 1) (get_or places (at - 1) 0) i lt (get_or_default places (at - 1) (get_or places (at - 1) 0) 0 lt)
+    one_more places (at - 1) (get_or places (at - 1) 0) i lt
+    (get_or_default places (at - 1) (get_or places (at - 1) 0) 0 lt)
     (subst (λ (n : ℕ). Contains (take n places) i) (sym one_is) c)
 
 -- the place isn't below the end
-pub below_past : (marks : List Bool) (items : List Step) (places : List ℕ) (at end : ℕ) → 0 < at → at ≤ length places → end ≤ get_or places (at - 1) 0
+pub below_past : (marks : List Bool) (items : List Step) (places : List ℕ) (at end : ℕ) → 0 < at → at ≤ length places →
+    end ≤ get_or places (at - 1) 0
     → AreBelow marks items places at end → AreBelow marks items places (at - 1) end
 below_past marks items places at end some within far below i s lt in_items here on =
     elim (place_cases places at i some within (below i s lt in_items here on)) [
@@ -144,7 +171,8 @@ below_past marks items places at end some within far below i s lt in_items here 
     ]
 
 -- the place is below the end, and the next one
-pub below_next : (marks : List Bool) (items : List Step) (places : List ℕ) (at end p : ℕ) → 0 < at → at ≤ length places → p ≡ get_or places (at - 1) 0 → p < end
+pub below_next : (marks : List Bool) (items : List Step) (places : List ℕ) (at end p : ℕ) → 0 < at →
+    at ≤ length places → p ≡ get_or places (at - 1) 0 → p < end
     → AreBelow marks items places at end → AreBelow marks items places (at - 1) p
 below_next marks items places at end p some within is near below i s lt in_items here on =
     elim (place_cases places at i some within (below i s (omega (arith, lt, near)) in_items here on)) [
@@ -153,19 +181,24 @@ below_next marks items places at end p some within is near below i s lt in_items
     ]
 
 -- down to the next place
-pub trimmed_to : (live : LiveClauses) (steps items : List Step) (was now : Noted) (places : List ℕ) (at end p : ℕ) (s : Step) → IsNonDecreasing places → 0 < at → at ≤ length places
-    → p ≡ get_or places (at - 1) 0 → p < end → end ≤ length items → get_or items p s ≡ s → AreBelow was.marks items places at end
-    → IsTrimmed live steps (reverse (take end items)) was now → IsTrimmed live steps (s ∷ reverse (take p items)) was now
+pub trimmed_to : (live : LiveClauses) (steps items : List Step) (was now : Noted) (places : List ℕ) (at end p : ℕ)
+    (s : Step) → IsNonDecreasing places → 0 < at → at ≤ length places
+    → p ≡ get_or places (at - 1) 0 → p < end → end ≤ length items → get_or items p s ≡ s →
+    AreBelow was.marks items places at end
+    → IsTrimmed live steps (reverse (take end items)) was now →
+    IsTrimmed live steps (s ∷ reverse (take p items)) was now
 trimmed_to live steps items was now places at end p s sorted some within is near long here below inv =
     let skipped = trimmed_skip live steps items was now (p + 1) end long (omega (arith, near)) (λ i k above under read.
     false_from_ne_true (marked now.marks (variable_of k.literal)) (λ on.
     let c = below i k under (omega (arith, under, long)) read (inv.fewer (variable_of k.literal) on) in
     let le = greatest places at i sorted some within c in
     absurd (omega (arith, le, is, above)))) inv in
-    subst (λ (xs : List Step). IsTrimmed live steps xs was now) (turned items p s (omega (arith, near, long)) here) skipped
+    subst (λ (xs : List Step). IsTrimmed live steps xs was now)
+    (turned items p s (omega (arith, near, long)) here) skipped
 
 -- where no place is left
-pub trimmed_rest : (live : LiveClauses) (steps items : List Step) (was now : Noted) (places : List ℕ) (at end : ℕ) → at ≡ 0 → end ≤ length items → AreBelow was.marks items places at end
+pub trimmed_rest : (live : LiveClauses) (steps items : List Step) (was now : Noted) (places : List ℕ) (at end : ℕ) →
+    at ≡ 0 → end ≤ length items → AreBelow was.marks items places at end
     → IsTrimmed live steps (reverse (take end items)) was now → IsTrimmed live steps [] was now
 trimmed_rest live steps items was now places at end none long below inv =
     trimmed_skip live steps items was now 0 end long (omega arith) (λ i k above under read.

@@ -24,15 +24,18 @@ use Rattle.learning_trail.proofs.Taught.{all_named, all_ids}
 use Rattle.learning_trail.proofs.FitLogs.{fit_answered}
 use Rattle.learning_trail.proofs.LearnedClauses.{holds-reverse, analysis_turned}
 
-module _ (assumptions : List Literal) (held : List (List Literal)) (variables : ℕ) (log : ProofLog) (clause : List Literal) (marks : List Bool) (hints : List ℕ)
+module _ (assumptions : List Literal) (held : List (List Literal)) (variables : ℕ) (log : ProofLog)
+    (clause : List Literal) (marks : List Bool) (hints : List ℕ)
     (fit : Fit held variables log.entries) (assumed : AreAssumptions log assumptions)
     (negated : (l : Literal) → holds clause l ≡ true → holds assumptions (opposite l) ≡ true)
     (analysis : IsAnalysis log.entries (live_in held) [] (map opposite clause) marks hints) where
   pub answer_stands : (l : Literal) → holds clause l ≡ true → Stands log.entries l
   answer_stands l h = record {
-    named = ap (λ v. is_some (name_of log.entries v)) (sym (opposite-variable l)) ∙ assumed.named (opposite l) (negated l h);
+    named = ap (λ v. is_some (name_of log.entries v)) (sym (opposite-variable l)) ∙ assumed.named (opposite l)
+        (negated l h);
     negated = λ sel.
-        let n = assumed.switched (opposite l) (negated l h) (ap (is_selector log.entries) (opposite-variable l) ∙ sel) in
+        let n = assumed.switched (opposite l) (negated l h) (ap (is_selector log.entries) (opposite-variable l)
+        ∙ sel) in
         turned (is_negative l) (sym (opposite-negative l) ∙ n);
   }
     where
@@ -47,10 +50,12 @@ module _ (assumptions : List Literal) (held : List (List Literal)) (variables : 
   answer_ids = all_ids held variables log.entries hints fit analysis.ids
 
   pub answer_fit : Fit (held ++ clause ∷ []) variables (Answer clause hints ∷ log.entries)
-  answer_fit = fit_answered held variables log.entries clause hints fit answer_named answer_ids (concluded_derived held variables log.entries clause marks hints fit analysis)
+  answer_fit = fit_answered held variables log.entries clause hints fit answer_named answer_ids
+      (concluded_derived held variables log.entries clause marks hints fit analysis)
       (concluded_tied held variables log.entries clause marks hints fit analysis) answer_stands
 
-  pub answer_refuted : (new : ProofLog) (id : ℕ) → new ≡ with_entry log (Answer clause hints) → id ≡ last_id new.entries → IsRefutedUnder log new assumptions id
+  pub answer_refuted : (new : ProofLog) (id : ℕ) → new ≡ with_entry log (Answer clause hints) →
+      id ≡ last_id new.entries → IsRefutedUnder log new assumptions id
   answer_refuted new id is last = record {
     last = last;
     clause = clause;
@@ -62,16 +67,27 @@ module _ (assumptions : List Literal) (held : List (List Literal)) (variables : 
   }
 
 -- where the whole trail was taken back
-pub record IsConcluded (es : List Entry) (live : LiveClauses) (assumptions : List Literal) (noted : Noted) : Type 0 where
+pub record IsConcluded (es : List Entry) (live : LiveClauses) (assumptions : List Literal)
+    (noted : Noted) : Type 0 where
   pub negated : (l : Literal) → holds noted.literals l ≡ true → holds assumptions (opposite l) ≡ true
   pub analysis : IsAnalysis es live [] (map opposite noted.literals) noted.marks noted.hints
 
-pub conclude : (es : List Entry) (live : LiveClauses) (assumptions : List Literal) (old new : Trailed) (was now noted : Noted) → AllStand es live → AreAssumed assumptions old.steps
+pub conclude : (es : List Entry) (live : LiveClauses) (assumptions : List Literal) (old new : Trailed)
+    (was now noted : Noted) → AllStand es live → AreAssumed assumptions old.steps
     → ((l : Literal) → holds was.literals l ≡ true → holds assumptions (opposite l) ≡ true)
-    → IsAnalysis es live (literals_of old.steps) (map opposite was.literals) was.marks (reverse was.hints) → IsKeeping live old new was now → new.steps ≡ []
-    → noted ≡ record { marks = now.marks; places = now.places; hints = reverse now.hints; literals = reverse now.literals } → IsConcluded es live assumptions noted
+    → IsAnalysis es live (literals_of old.steps) (map opposite was.literals) was.marks (reverse was.hints) →
+    IsKeeping live old new was now → new.steps ≡ []
+    → noted ≡ record {
+      marks = now.marks;
+      places = now.places;
+      hints = reverse now.hints;
+      literals =
+          reverse now.literals;
+    } → IsConcluded es live assumptions noted
 conclude es live assumptions old new was now noted stand assumed negated analysis keeping bare turned = record {
-  negated = λ l h. (keeping.negated assumptions assumed negated).1 l (sym (holds-reverse now.literals l) ∙ ap (λ (n : Noted). holds n.literals l) (sym turned) ∙ h);
+  negated = λ l h. (keeping.negated assumptions assumed negated).1 l
+      (sym (holds-reverse now.literals l) ∙ ap (λ (n : Noted). holds n.literals l) (sym turned) ∙ h);
   analysis = analysis_turned es live now noted turned
-      (subst (λ (xs : List Step). IsAnalysis es live (literals_of xs) (map opposite now.literals) now.marks (reverse now.hints)) bare (keeping.analysis es stand analysis));
+      (subst (λ (xs : List Step). IsAnalysis es live (literals_of xs) (map opposite now.literals) now.marks
+      (reverse now.hints)) bare (keeping.analysis es stand analysis));
 }

@@ -21,9 +21,12 @@ literals-append [] b = refl
 literals-append (s ∷ a) b = ap (λ xs. s.literal ∷ xs) (literals-append a b)
 
 -- one more literal of the done ones
-done_cases : (done : List Step) (s : Step) (t : Literal) → holds (literals_of (done ++ s ∷ [])) t ≡ true → (holds (literals_of done) t ≡ true) ⊎ (t ≡ s.literal)
+done_cases : (done : List Step) (s : Step) (t : Literal) → holds (literals_of (done ++ s ∷ [])) t ≡ true →
+    (holds (literals_of done) t ≡ true) ⊎ (t ≡ s.literal)
 done_cases done s t h =
-    elim (or_cases (holds (literals_of done) t) (holds (s.literal ∷ []) t) (sym (ap (λ xs. holds xs t) (literals-append done (s ∷ [])) ∙ holds-append (literals_of done) (s.literal ∷ []) t) ∙ h)) [
+    elim (or_cases (holds (literals_of done) t) (holds (s.literal ∷ []) t)
+    (sym (ap (λ xs. holds xs t) (literals-append done (s ∷ [])) ∙ holds-append (literals_of done)
+    (s.literal ∷ []) t) ∙ h)) [
       | inl d ↦ inl d
       | inr k ↦ elim (holds_cases s.literal [] t k) [
         | inl e ↦ inr e
@@ -31,23 +34,29 @@ done_cases done s t h =
       ]
     ]
 
-done_first : (done : List Step) (s : Step) (t : Literal) → holds (literals_of done) t ≡ true → holds (literals_of (done ++ s ∷ [])) t ≡ true
+done_first : (done : List Step) (s : Step) (t : Literal) → holds (literals_of done) t ≡ true →
+    holds (literals_of (done ++ s ∷ [])) t ≡ true
 done_first done s t h =
-    ap (λ xs. holds xs t) (literals-append done (s ∷ [])) ∙ holds-append (literals_of done) (s.literal ∷ []) t ∙ or_left (holds (literals_of done) t) (holds (s.literal ∷ []) t) h
+    ap (λ xs. holds xs t) (literals-append done (s ∷ [])) ∙ holds-append (literals_of done) (s.literal ∷ []) t ∙ or_left
+    (holds (literals_of done) t) (holds (s.literal ∷ []) t) h
 
 done_last : (done : List Step) (s : Step) → holds (literals_of (done ++ s ∷ [])) s.literal ≡ true
 done_last done s =
-    ap (λ xs. holds xs s.literal) (literals-append done (s ∷ [])) ∙ holds-append (literals_of done) (s.literal ∷ []) s.literal
+    ap (λ xs. holds xs s.literal) (literals-append done (s ∷ [])) ∙ holds-append (literals_of done)
+    (s.literal ∷ []) s.literal
     ∙ or_right (holds (literals_of done) s.literal) (holds (s.literal ∷ []) s.literal) (holds_first s.literal [])
 
 -- steps stand on different variables
-other_variable : (live : LiveClauses) (done rest : List Step) (s : Step) (t : Literal) → IsSound live (done ++ s ∷ rest) → holds (literals_of done) t ≡ true → variable_of t ≢ variable_of s.literal
+other_variable : (live : LiveClauses) (done rest : List Step) (s : Step) (t : Literal) →
+    IsSound live (done ++ s ∷ rest) → holds (literals_of done) t ≡ true → variable_of t ≢ variable_of s.literal
 other_variable live [] rest s t sound h = absurd (false≢true h)
 other_variable live (d ∷ done) rest s t sound h =
     elim (holds_cases d.literal (literals_of done) t h) [
       | inl e ↦ λ v. free_variable (literals_of (done ++ s ∷ rest)) d.literal s.literal sound.0.free
-          (ap (λ xs. holds xs s.literal) (literals-append done (s ∷ rest)) ∙ holds-append (literals_of done) (literals_of (s ∷ rest)) s.literal
-          ∙ or_right (holds (literals_of done) s.literal) (holds (literals_of (s ∷ rest)) s.literal) (holds_first s.literal (literals_of rest)))
+          (ap (λ xs. holds xs s.literal) (literals-append done (s ∷ rest)) ∙ holds-append (literals_of done)
+          (literals_of (s ∷ rest)) s.literal
+          ∙ or_right (holds (literals_of done) s.literal) (holds (literals_of (s ∷ rest)) s.literal)
+          (holds_first s.literal (literals_of rest)))
           (sym (ap variable_of (sym e) ∙ v))
       | inr later ↦ other_variable live done rest s t sound.1 later
     ]
@@ -55,7 +64,8 @@ other_variable live (d ∷ done) rest s t sound h =
 split_more : (steps done rest : List Step) (s : Step) → steps ≡ done ++ s ∷ rest → steps ≡ (done ++ s ∷ []) ++ rest
 split_more steps done rest s is = is ∙ sym (append_assoc done (s ∷ []) rest)
 
-pub trimmed_past : (live : LiveClauses) (steps rest : List Step) (was now : Noted) (s : Step) → IsTrimmed live steps (s ∷ rest) was now → marked now.marks (variable_of s.literal) ≡ false
+pub trimmed_past : (live : LiveClauses) (steps rest : List Step) (was now : Noted) (s : Step) →
+    IsTrimmed live steps (s ∷ rest) was now → marked now.marks (variable_of s.literal) ≡ false
     → IsTrimmed live steps rest was now
 trimmed_past live steps rest was now s inv unmarked = record {
   within = within_past was now steps rest s inv.within;
@@ -74,16 +84,26 @@ trimmed_past live steps rest was now s inv unmarked = record {
   analysis = leads_past_step live steps rest was now s inv.analysis unmarked;
 }
 
-pub trimmed_noted : (live : LiveClauses) (steps rest : List Step) (was now after : Noted) (s : Step) → IsSound live steps → IsTrimmed live steps (s ∷ rest) was now
+pub trimmed_noted : (live : LiveClauses) (steps rest : List Step) (was now after : Noted) (s : Step) →
+    IsSound live steps → IsTrimmed live steps (s ∷ rest) was now
     → marked now.marks (variable_of s.literal) ≡ true
-    → after ≡ record { marks = now.marks; places = now.places; hints = now.hints; literals = now.literals ++ opposite s.literal ∷ [] } → IsTrimmed live steps rest was after
+    → after ≡ record {
+      marks = now.marks;
+      places = now.places;
+      hints = now.hints;
+      literals =
+          now.literals ++ opposite s.literal ∷ [];
+    } → IsTrimmed live steps rest was after
 trimmed_noted live steps rest was now after s sound inv mark is =
     let sound_here = sound_later live inv.done (s ∷ rest) (subst (IsSound live) inv.split sound) in
     let marks_are : after.marks ≡ now.marks = ap (λ (n : Noted). n.marks) is in
-    let more_is : (l : Literal) → holds after.literals l ≡ (holds now.literals l || holds (opposite s.literal ∷ []) l) = λ l.
+    let more_is : (l : Literal) → holds after.literals l ≡ (holds now.literals l || holds
+    (opposite s.literal ∷ []) l) = λ l.
     ap (λ (n : Noted). holds n.literals l) is ∙ holds-append now.literals (opposite s.literal ∷ []) l in
-    let still : (l : Literal) → holds now.literals l ≡ true → holds after.literals l ≡ true = λ l h. more_is l ∙ or_left (holds now.literals l) (holds (opposite s.literal ∷ []) l) h in
-    let back : (v : ℕ) → marked after.marks v ≡ true → marked now.marks v ≡ true = λ v m. sym (ap (λ ms. marked ms v) marks_are) ∙ m in
+    let still : (l : Literal) → holds now.literals l ≡ true → holds after.literals l ≡ true =
+    λ l h. more_is l ∙ or_left (holds now.literals l) (holds (opposite s.literal ∷ []) l) h in
+    let back : (v : ℕ) → marked after.marks v ≡ true → marked now.marks v ≡ true =
+    λ v m. sym (ap (λ ms. marked ms v) marks_are) ∙ m in
     record {
       within = within_literal was now after steps rest s (opposite s.literal) inv.within is;
       done = inv.done ++ s ∷ [];
@@ -92,7 +112,8 @@ trimmed_noted live steps rest was now after s sound inv mark is =
       keeps = λ l h. still l (inv.keeps l h);
       has = λ t h m. elim (done_cases inv.done s t h) [
         | inl d ↦ still (opposite t) (inv.has t d (back (variable_of t) m))
-        | inr e ↦ more_is (opposite t) ∙ or_right (holds now.literals (opposite t)) (holds (opposite s.literal ∷ []) (opposite t))
+        | inr e ↦ more_is (opposite t) ∙ or_right (holds now.literals (opposite t))
+            (holds (opposite s.literal ∷ []) (opposite t))
             (ap (λ x. holds (opposite s.literal ∷ []) (opposite x)) e ∙ holds_first (opposite s.literal) [])
       ];
       only = λ l h. elim (or_cases (holds now.literals l) (holds (opposite s.literal ∷ []) l) (sym (more_is l) ∙ h)) [
@@ -102,8 +123,10 @@ trimmed_noted live steps rest was now after s sound inv mark is =
         ]
         | inr k ↦ elim (holds_cases (opposite s.literal) [] l k) [
           | inl e ↦ inr (
-            ap (λ x. holds (literals_of (inv.done ++ s ∷ [])) (opposite x)) e ∙ ap (holds (literals_of (inv.done ++ s ∷ []))) (opposite-opposite s.literal) ∙ done_last inv.done s,
-            ap (λ ms. marked ms (variable_of l)) marks_are ∙ ap (λ x. marked now.marks (variable_of x)) e ∙ ap (marked now.marks) (opposite-variable s.literal) ∙ mark,
+            ap (λ x. holds (literals_of (inv.done ++ s ∷ [])) (opposite x)) e ∙ ap
+                (holds (literals_of (inv.done ++ s ∷ []))) (opposite-opposite s.literal) ∙ done_last inv.done s,
+            ap (λ ms. marked ms (variable_of l)) marks_are ∙ ap (λ x. marked now.marks (variable_of x)) e ∙ ap
+                (marked now.marks) (opposite-variable s.literal) ∙ mark,
           )
           | inr none ↦ absurd (false≢true none)
         ]
@@ -111,11 +134,14 @@ trimmed_noted live steps rest was now after s sound inv mark is =
       analysis = leads_noted live steps rest was now after s inv.analysis sound_here is;
     }
 
-pub trimmed_resolved : (clauses : List (List Literal)) (steps rest : List Step) (was now after : Noted) (s : Step) (id : ℕ) → IsSound (live_in clauses) steps
-    → IsTrimmed (live_in clauses) steps (s ∷ rest) was now → status_of (literals_of rest) (live_in clauses id) ≡ unit s.literal
+pub trimmed_resolved : (clauses : List (List Literal)) (steps rest : List Step) (was now after : Noted) (s : Step)
+    (id : ℕ) → IsSound (live_in clauses) steps
+    → IsTrimmed (live_in clauses) steps (s ∷ rest) was now →
+    status_of (literals_of rest) (live_in clauses id) ≡ unit s.literal
     → marked now.marks (variable_of s.literal) ≡ true → IsRedundant (live_in clauses) now.marks s id
     → length after.marks ≡ length now.marks → after.hints ≡ now.hints ++ id ∷ [] → after.literals ≡ now.literals
-    → ((c : List Literal) (v : ℕ) → live_in clauses id ≡ Some c → marked after.marks v ≡ (not (variable_of s.literal == v) && (marked now.marks v || stands_on c v)))
+    → ((c : List Literal) (v : ℕ) → live_in clauses id ≡ Some c →
+    marked after.marks v ≡ (not (variable_of s.literal == v) && (marked now.marks v || stands_on c v)))
     → IsTrimmed (live_in clauses) steps rest was after
 trimmed_resolved clauses steps rest was now after s id sound inv status mark redundant len hints literals marks_are =
     let live = live_in clauses in
@@ -123,7 +149,8 @@ trimmed_resolved clauses steps rest was now after s id sound inv status mark red
     let sound_here = sound_later live inv.done (s ∷ rest) sound_all in
     let r = reason_of clauses id (literals_of rest) s.literal status in
     let back : (v : ℕ) → marked after.marks v ≡ true → marked now.marks v ≡ true = λ v m.
-    let p = and_parts (not (variable_of s.literal == v)) (marked now.marks v || stands_on r.clause v) (sym (marks_are r.clause v r.is) ∙ m) in
+    let p = and_parts (not (variable_of s.literal == v)) (marked now.marks v || stands_on r.clause v)
+    (sym (marks_are r.clause v r.is) ∙ m) in
     elim (or_cases (marked now.marks v) (stands_on r.clause v) p.1) [
       | inl h ↦ h
       | inr c ↦
@@ -132,14 +159,18 @@ trimmed_resolved clauses steps rest was now after s id sound inv status mark red
           ap (marked now.marks) (sym e) ∙ redundant.others r.clause k.0 r.is k.1 (λ same.
           false≢true (sym (ap not (eq-eqb (variable_of s.literal) v (sym same ∙ e))) ∙ p.0))
     ] in
-    let stays : (t : Literal) → holds (literals_of inv.done) t ≡ true → marked now.marks (variable_of t) ≡ true → marked after.marks (variable_of t) ≡ true = λ t h m.
+    let stays : (t : Literal) → holds (literals_of inv.done) t ≡ true → marked now.marks (variable_of t) ≡ true →
+    marked after.marks (variable_of t) ≡ true = λ t h m.
     let n = other_variable live inv.done rest s t sound_all h in
-    marks_are r.clause (variable_of t) r.is ∙ ap (λ b. not b && (marked now.marks (variable_of t) || stands_on r.clause (variable_of t))) (ne_eqb (variable_of s.literal) (variable_of t) (λ e. n (sym e)))
+    marks_are r.clause (variable_of t) r.is ∙ ap (λ b. not b &&
+    (marked now.marks (variable_of t) || stands_on r.clause (variable_of t)))
+    (ne_eqb (variable_of s.literal) (variable_of t) (λ e. n (sym e)))
     ∙ or_left (marked now.marks (variable_of t)) (stands_on r.clause (variable_of t)) m in
     let still : (l : Literal) → holds after.literals l ≡ holds now.literals l = λ l. ap (λ xs. holds xs l) literals in
     let gone : marked after.marks (variable_of s.literal) ≡ false =
     marks_are r.clause (variable_of s.literal) r.is
-    ∙ ap (λ b. not b && (marked now.marks (variable_of s.literal) || stands_on r.clause (variable_of s.literal))) (eq-eqb (variable_of s.literal) (variable_of s.literal) refl) in
+    ∙ ap (λ b. not b && (marked now.marks (variable_of s.literal) || stands_on r.clause (variable_of s.literal)))
+    (eq-eqb (variable_of s.literal) (variable_of s.literal) refl) in
     record {
       within = within_hint was now after steps rest s id inv.within len hints literals;
       done = inv.done ++ s ∷ [];
@@ -152,35 +183,47 @@ trimmed_resolved clauses steps rest was now after s id sound inv status mark red
       ];
       only = λ l h. elim (inv.only l (sym (still l) ∙ h)) [
         | inl w ↦ inl w
-        | inr q ↦ inr (done_first inv.done s (opposite l) q.0, ap (marked after.marks) (sym (opposite-variable l)) ∙ stays (opposite l) q.0 (ap (marked now.marks) (opposite-variable l) ∙ q.1))
+        | inr q ↦ inr (
+          done_first inv.done s (opposite l) q.0,
+          ap (marked after.marks) (sym (opposite-variable l)) ∙ stays (opposite l) q.0
+              (ap (marked now.marks) (opposite-variable l) ∙ q.1),
+        )
       ];
-      analysis = leads_resolved clauses steps rest was now after s id inv.analysis sound_here status mark hints literals marks_are;
+      analysis = leads_resolved clauses steps rest was now after s id inv.analysis sound_here status mark hints literals
+          marks_are;
     }
 
 -- one step further down
-pub record IsTrimStep (clauses : List (List Literal)) (steps : List Step) (items : List Step) (at : ℕ) (was now : Noted) (s : Step) : Type 0 where
+pub record IsTrimStep (clauses : List (List Literal)) (steps : List Step) (items : List Step) (at : ℕ) (was now : Noted)
+    (s : Step) : Type 0 where
   pub below : at - 1 ≤ length items
   pub trimmed : IsTrimmed (live_in clauses) steps (s ∷ reverse (take (at - 1) items)) was now
   pub sound : IsSound (live_in clauses) (s ∷ reverse (take (at - 1) items))
 
-pub trim_step : (clauses : List (List Literal)) (steps items : List Step) (at : ℕ) (was now : Noted) (s : Step) → 0 < at → at ≤ length items → get_or items (at - 1) s ≡ s
-    → IsSound (live_in clauses) steps → IsTrimmed (live_in clauses) steps (reverse (take at items)) was now → IsTrimStep clauses steps items at was now s
+pub trim_step : (clauses : List (List Literal)) (steps items : List Step) (at : ℕ) (was now : Noted) (s : Step) →
+    0 < at → at ≤ length items → get_or items (at - 1) s ≡ s
+    → IsSound (live_in clauses) steps → IsTrimmed (live_in clauses) steps (reverse (take at items)) was now →
+    IsTrimStep clauses steps items at was now s
 trim_step clauses steps items at was now s some within is sound inv =
     let lt : at - 1 < length items = omega (arith, some, within) in
     let one : at - 1 + 1 ≡ at = omega (arith, some) in
-    let down : reverse (take at items) ≡ s ∷ reverse (take (at - 1) items) = ap (λ n. reverse (take n items)) (sym one) ∙ turned items (at - 1) s lt is in
+    let down : reverse (take at items) ≡ s ∷ reverse (take (at - 1) items) =
+    ap (λ n. reverse (take n items)) (sym one) ∙ turned items (at - 1) s lt is in
     let here = subst (λ (xs : List Step). IsTrimmed (live_in clauses) steps xs was now) down inv in
     record {
       below = omega (arith, within);
       trimmed = here;
-      sound = sound_later (live_in clauses) here.done (s ∷ reverse (take (at - 1) items)) (subst (IsSound (live_in clauses)) here.split sound);
+      sound = sound_later (live_in clauses) here.done (s ∷ reverse (take (at - 1) items))
+          (subst (IsSound (live_in clauses)) here.split sound);
     }
 
-pub reason_known : (clauses : List (List Literal)) (rest : List Step) (s : Step) → IsSound (live_in clauses) (s ∷ rest) → IfSome s.reason (λ id. (1 ≤ id) × (id ≤ length clauses))
+pub reason_known : (clauses : List (List Literal)) (rest : List Step) (s : Step) →
+    IsSound (live_in clauses) (s ∷ rest) → IfSome s.reason (λ id. (1 ≤ id) × (id ≤ length clauses))
 reason_known clauses rest s sound = by s.reason refl
   where
     by : (r : Option ℕ) → s.reason ≡ r → IfSome r (λ id. (1 ≤ id) × (id ≤ length clauses))
     by None e = tt
     by (Some id) e =
-        let r = reason_of clauses id (literals_of rest) s.literal (reason_at (live_in clauses) (s ∷ rest) rest s id sound refl e) in
+        let r = reason_of clauses id (literals_of rest) s.literal
+        (reason_at (live_in clauses) (s ∷ rest) rest s id sound refl e) in
         (r.from_one, r.is_id)

@@ -10,19 +10,23 @@ use Rattle.learning_trail.specs.TrailInside.{ArePlaced}
 use Rattle.truth_values.proofs.HeldLiterals.{free_variable, holds_first, holds_later}
 
 -- another variable's place is set
-placed_beside : (places : List ℕ) (xs : List Step) (i n : ℕ) → ((t : Literal) → holds (literals_of xs) t ≡ true → variable_of t ≡ suc i → ⊥) → ArePlaced places xs → ArePlaced (set places i n) xs
+placed_beside : (places : List ℕ) (xs : List Step) (i n : ℕ) →
+    ((t : Literal) → holds (literals_of xs) t ≡ true → variable_of t ≡ suc i → ⊥) → ArePlaced places xs →
+    ArePlaced (set places i n) xs
 placed_beside places [] i n other placed = tt
 placed_beside places (s ∷ xs) i n other placed =
     let one = placed.0.from_one in
     let apart : variable_of s.literal ≡ suc i → ⊥ = other s.literal (holds_first s.literal (literals_of xs)) in (
       record {
         from_one = one;
-        at_place = get_or-set_other places i (variable_of s.literal - 1) n 0 (λ e. apart (omega (arith, e, one))) ∙ placed.0.at_place;
+        at_place = get_or-set_other places i (variable_of s.literal - 1) n 0 (λ e. apart (omega (arith, e, one)))
+            ∙ placed.0.at_place;
       },
       placed_beside places xs i n (λ t h e. other t (holds_later s.literal (literals_of xs) t h) e) placed.1,
     )
 
-pub placed_pushed : (places : List ℕ) (xs : List Step) (s : Step) (i : ℕ) → variable_of s.literal ≡ suc i → i < length places → IsFree (literals_of xs) s.literal → ArePlaced places xs
+pub placed_pushed : (places : List ℕ) (xs : List Step) (s : Step) (i : ℕ) → variable_of s.literal ≡ suc i →
+    i < length places → IsFree (literals_of xs) s.literal → ArePlaced places xs
     → ArePlaced (set places i (length xs)) (s ∷ xs)
 placed_pushed places xs s i e lt free placed =
     let down : variable_of s.literal - 1 ≡ i = omega (arith, e) in (
@@ -30,7 +34,8 @@ placed_pushed places xs s i e lt free placed =
         from_one = omega (arith, e);
         at_place = ap (λ n. get_or (set places i (length xs)) n 0) down ∙ get_or-set_same places i (length xs) 0 lt;
       },
-      placed_beside places xs i (length xs) (λ t h same. free_variable (literals_of xs) s.literal t free h (same ∙ sym e)) placed,
+      placed_beside places xs i (length xs) (λ t h same. free_variable (literals_of xs) s.literal t free h
+          (same ∙ sym e)) placed,
     )
 
 -- one place more
@@ -51,9 +56,11 @@ pub placed_later : (places : List ℕ) (newer xs : List Step) → ArePlaced plac
 placed_later places [] xs placed = placed
 placed_later places (s ∷ newer) xs placed = placed_later places newer xs placed.1
 
-all_later : (n : ℕ) (newer xs : List Step) → All (λ s. variable_of s.literal ≤ n) (newer ++ xs) → All (λ s. variable_of s.literal ≤ n) xs
+all_later : (n : ℕ) (newer xs : List Step) → All (λ s. variable_of s.literal ≤ n) (newer ++ xs) →
+    All (λ s. variable_of s.literal ≤ n) xs
 all_later n [] xs all = all
-all_later n (s ∷ newer) xs all = all_later n newer xs (All-tail (λ (k : Step). variable_of k.literal ≤ n) s (newer ++ xs) all)
+all_later n (s ∷ newer) xs all = all_later n newer xs (All-tail (λ (k : Step). variable_of k.literal ≤ n) s
+    (newer ++ xs) all)
 
 -- what is noted for a literal of the trail
 pub record IsFoundAt (places : List ℕ) (n : ℕ) (k : Literal) (at : ℕ) : Type 0 where
@@ -61,8 +68,12 @@ pub record IsFoundAt (places : List ℕ) (n : ℕ) (k : Literal) (at : ℕ) : Ty
   pub in_range : variable_of k ≤ n
   pub at_place : get_or places (variable_of k - 1) 0 ≡ at
 
-pub placed_at : (places : List ℕ) (n : ℕ) (steps : List Step) (at : ℕ) (k : Literal) → ArePlaced places steps → All (λ s. variable_of s.literal ≤ n) steps → IsAt steps at k → IsFoundAt places n k at
+pub placed_at : (places : List ℕ) (n : ℕ) (steps : List Step) (at : ℕ) (k : Literal) → ArePlaced places steps →
+    All (λ s. variable_of s.literal ≤ n) steps → IsAt steps at k → IsFoundAt places n k at
 placed_at places n steps at k placed all h =
     let here = (placed_later places h.newer (h.step ∷ h.older) (subst (ArePlaced places) h.is placed)).0 in
-    let low = All-head (λ (s : Step). variable_of s.literal ≤ n) h.step h.older (all_later n h.newer (h.step ∷ h.older) (subst (λ (xs : List Step). All (λ (s : Step). variable_of s.literal ≤ n) xs) h.is all)) in
-    subst (λ (l : Literal). IsFoundAt places n l at) h.literal (record { from_one = here.from_one; in_range = low; at_place = here.at_place ∙ h.count })
+    let low = All-head (λ (s : Step). variable_of s.literal ≤ n) h.step h.older
+    (all_later n h.newer (h.step ∷ h.older) (subst (λ (xs : List Step). All
+    (λ (s : Step). variable_of s.literal ≤ n) xs) h.is all)) in
+    subst (λ (l : Literal). IsFoundAt places n l at) h.literal
+    (record { from_one = here.from_one; in_range = low; at_place = here.at_place ∙ h.count })

@@ -13,19 +13,26 @@ use Rattle.truth_values.proofs.HeldLiterals.{value_true}
 use Rattle.truth_values.proofs.ReadStatus.{status_more}
 use Rattle.learning_trail.proofs.ClauseStatus.{is_falsified}
 
-pub read_more : (trues clause : List Literal) (l : Literal) (i : ℕ) (s s' : Status) (t : TruthValue) → i < length clause → get_or clause i l ≡ l
-    → s ≡ status_of trues (Some (take i clause)) → t ≡ literal_value trues l → s' ≡ with_literal s l t → s' ≡ status_of trues (Some (take (i + 1) clause))
+pub read_more : (trues clause : List Literal) (l : Literal) (i : ℕ) (s s' : Status) (t : TruthValue) →
+    i < length clause → get_or clause i l ≡ l
+    → s ≡ status_of trues (Some (take i clause)) → t ≡ literal_value trues l → s' ≡ with_literal s l t →
+    s' ≡ status_of trues (Some (take (i + 1) clause))
 read_more trues clause l i s s' t lt at before value is =
-    let longer : take (i + 1) clause ≡ take i clause ++ l ∷ [] = take_more clause i l lt ∙ ap (λ k. take i clause ++ k ∷ []) at in
-    is ∙ ap (λ v. with_literal s l v) value ∙ ap (λ x. with_literal x l (literal_value trues l)) before ∙ status_more trues (take i clause) l
+    let longer : take (i + 1) clause ≡ take i clause ++ l ∷ [] =
+    take_more clause i l lt ∙ ap (λ k. take i clause ++ k ∷ []) at in
+    is ∙ ap (λ v. with_literal s l v) value ∙ ap (λ x. with_literal x l (literal_value trues l)) before
+    ∙ status_more trues (take i clause) l
     ∙ ap (λ xs. status_by trues (not_false trues xs)) (sym longer)
 
-stays : (trues clause more : List Literal) → status_of trues (Some clause) ≡ stuck → status_of trues (Some (clause ++ more)) ≡ stuck
+stays : (trues clause more : List Literal) → status_of trues (Some clause) ≡ stuck →
+    status_of trues (Some (clause ++ more)) ≡ stuck
 stays trues clause [] h = ap (λ c. status_of trues (Some c)) (append-nil clause) ∙ h
 stays trues clause (l ∷ more) h =
     let one : status_of trues (Some (clause ++ l ∷ [])) ≡ stuck =
-    sym (status_more trues clause l) ∙ ap (λ s. with_literal s l (literal_value trues l)) h ∙ still (literal_value trues l) in
-    ap (λ c. status_of trues (Some c)) (sym (append_assoc clause (l ∷ []) more)) ∙ stays trues (clause ++ l ∷ []) more one
+    sym (status_more trues clause l) ∙ ap (λ s. with_literal s l (literal_value trues l)) h ∙ still
+    (literal_value trues l) in
+    ap (λ c. status_of trues (Some c)) (sym (append_assoc clause (l ∷ []) more)) ∙ stays trues
+    (clause ++ l ∷ []) more one
   where
     still : (t : TruthValue) → with_literal stuck l t ≡ stuck
     still True = refl
@@ -33,16 +40,21 @@ stays trues clause (l ∷ more) h =
     still Unassigned = refl
 
 -- a clause that is stuck by some of its literals is stuck
-pub stuck_stays : (trues clause : List Literal) (i : ℕ) → stuck ≡ status_of trues (Some (take i clause)) → stuck ≡ status_of trues (Some clause)
+pub stuck_stays : (trues clause : List Literal) (i : ℕ) → stuck ≡ status_of trues (Some (take i clause)) →
+    stuck ≡ status_of trues (Some clause)
 stuck_stays trues clause i h =
-    sym (ap (λ c. status_of trues (Some c)) (sym (take-append-drop i clause)) ∙ stays trues (take i clause) (drop i clause) (sym h))
+    sym (ap (λ c. status_of trues (Some c)) (sym (take-append-drop i clause)) ∙ stays trues (take i clause)
+    (drop i clause) (sym h))
 
-pub status_whole : (trues clause : List Literal) (i : ℕ) (s : Status) → length clause ≤ i → s ≡ status_of trues (Some (take i clause)) → s ≡ status_of trues (Some clause)
+pub status_whole : (trues clause : List Literal) (i : ℕ) (s : Status) → length clause ≤ i →
+    s ≡ status_of trues (Some (take i clause)) → s ≡ status_of trues (Some clause)
 status_whole trues clause i s all h = h ∙ ap (λ c. status_of trues (Some c)) (take_all i clause all)
 
 -- some literal of the clause is true
-pub true_at : (trues clause : List Literal) (l : Literal) (i : ℕ) → i < length clause → get_or clause i l ≡ l → literal_value trues l ≡ True → list_any (holds trues) clause ≡ true
-true_at trues clause l i lt at value = list_any_at (holds trues) clause i l lt (ap (holds trues) at ∙ value_true trues l value)
+pub true_at : (trues clause : List Literal) (l : Literal) (i : ℕ) → i < length clause → get_or clause i l ≡ l →
+    literal_value trues l ≡ True → list_any (holds trues) clause ≡ true
+true_at trues clause l i lt at value = list_any_at (holds trues) clause i l lt
+    (ap (holds trues) at ∙ value_true trues l value)
 
 -- not all literals of a stuck clause are false
 pub all_false : (trues clause : List Literal) (i : ℕ) → length clause ≤ i → status_of trues (Some clause) ≡ stuck

@@ -28,7 +28,8 @@ use Rattle.learning_trail.proofs.Lessons.{sound_later, guided_later}
 use Rattle.learning_trail.proofs.LargerTrails.{clause_read}
 
 -- below an assumption that isn't true yet, assumptions alone were decided
-pub assumed_before : (entries : List Entry) (assumptions : List Literal) (steps : List Step) (a : Literal) → IsGuided entries assumptions steps → holds assumptions a ≡ true
+pub assumed_before : (entries : List Entry) (assumptions : List Literal) (steps : List Step) (a : Literal) →
+    IsGuided entries assumptions steps → holds assumptions a ≡ true
     → holds (literals_of steps) a ≡ false → AreAssumed assumptions steps
 assumed_before entries assumptions [] a guided h none = tt
 assumed_before entries assumptions (s ∷ steps) a guided h none =
@@ -41,20 +42,26 @@ assumed_before entries assumptions (s ∷ steps) a guided h none =
     )
 
 -- where the newest decision was assumed, all were
-pub decided_assumed : (entries : List Entry) (live : LiveClauses) (assumptions : List Literal) (steps : List Step) → IsSound live steps → IsGuided entries assumptions steps
+pub decided_assumed : (entries : List Entry) (live : LiveClauses) (assumptions : List Literal) (steps : List Step) →
+    IsSound live steps → IsGuided entries assumptions steps
     → ((d : Literal) → decision_of steps ≡ Some d → holds assumptions d ≡ true) → AreAssumed assumptions steps
 decided_assumed entries live assumptions [] sound guided chosen = tt
 decided_assumed entries live assumptions (s ∷ steps) sound guided chosen =
     by (is_decision s) refl (decided_assumed entries live assumptions steps sound.1 guided.1)
   where
-    by : (b : Bool) → is_decision s ≡ b → (((d : Literal) → decision_of steps ≡ Some d → holds assumptions d ≡ true) → AreAssumed assumptions steps) → AreAssumed assumptions (s ∷ steps)
+    by : (b : Bool) → is_decision s ≡ b → (((d : Literal) → decision_of steps ≡ Some d → holds assumptions d ≡ true) →
+        AreAssumed assumptions steps) → AreAssumed assumptions (s ∷ steps)
     by true e rest =
         let a = chosen s.literal (ap (λ b. cond b (Some s.literal) (decision_of steps)) e) in
         (λ _. a, assumed_before entries assumptions steps s.literal guided.1 a sound.0.free.0)
-    by false e rest = (λ h. absurd (false≢true (sym e ∙ h)), rest (λ d is. chosen d (ap (λ b. cond b (Some s.literal) (decision_of steps)) e ∙ is)))
+    by false e rest = (
+      λ h. absurd (false≢true (sym e ∙ h)),
+      rest (λ d is. chosen d (ap (λ b. cond b (Some s.literal) (decision_of steps)) e ∙ is)),
+    )
 
 -- implied steps are guided
-guided_more : (entries : List Entry) (assumptions : List Literal) (more steps : List Step) → All (λ s. is_decision s ≡ false) more → IsGuided entries assumptions steps
+guided_more : (entries : List Entry) (assumptions : List Literal) (more steps : List Step) →
+    All (λ s. is_decision s ≡ false) more → IsGuided entries assumptions steps
     → IsGuided entries assumptions (more ++ steps)
 guided_more entries assumptions [] steps implied guided = guided
 guided_more entries assumptions (s ∷ more) steps implied guided =
@@ -63,22 +70,29 @@ guided_more entries assumptions (s ∷ more) steps implied guided =
       guided_more entries assumptions more steps (All-tail (λ (k : Step). is_decision k ≡ false) s more implied) guided,
     )
 
-pub guided_grown : (entries : List Entry) (assumptions : List Literal) (old new : List Step) → Grown old new → IsGuided entries assumptions old → IsGuided entries assumptions new
-guided_grown entries assumptions old new grown guided = subst (IsGuided entries assumptions) (sym grown.is) (guided_more entries assumptions grown.more old grown.implied guided)
+pub guided_grown : (entries : List Entry) (assumptions : List Literal) (old new : List Step) → Grown old new →
+    IsGuided entries assumptions old → IsGuided entries assumptions new
+guided_grown entries assumptions old new grown guided = subst (IsGuided entries assumptions) (sym grown.is)
+    (guided_more entries assumptions grown.more old grown.implied guided)
 
-pub clauses_in_room : (held : List (List Literal)) (variables room : ℕ) (es : List Entry) → Fit held variables es → variables ≤ room → AreWithin room held
+pub clauses_in_room : (held : List (List Literal)) (variables room : ℕ) (es : List Entry) → Fit held variables es →
+    variables ≤ room → AreWithin room held
 clauses_in_room held variables room es fit low =
     All-from_get_or (λ (c : List Literal). All (λ (l : Literal). variable_of l ≤ room) c) held [] (λ k lt.
     let c = get_or held k [] in
     let at : clause_at es (suc k) ≡ Some c = sym (fit.same (suc k)) ∙ slice_get-get_or held k [] lt in
-    by c (λ l h. let r = fit.in_range (variable_of l) (fit.negated (suc k) c l at h).named in let hi = r.1 in omega (arith, hi, low)))
+    by c (λ l h. let r = fit.in_range (variable_of l) (fit.negated (suc k) c l at h).named in let hi = r.1 in
+    omega (arith, hi, low)))
   where
-    by : (c : List Literal) → ((l : Literal) → holds c l ≡ true → variable_of l ≤ room) → All (λ l. variable_of l ≤ room) c
+    by : (c : List Literal) → ((l : Literal) → holds c l ≡ true → variable_of l ≤ room) →
+        All (λ l. variable_of l ≤ room) c
     by [] h = All-nil (λ (l : Literal). variable_of l ≤ room)
-    by (x ∷ c) h = All-cons (λ (l : Literal). variable_of l ≤ room) x c (h x (holds_first x c)) (by c (λ l m. h l (holds_later x c l m)))
+    by (x ∷ c) h = All-cons (λ (l : Literal). variable_of l ≤ room) x c (h x (holds_first x c))
+        (by c (λ l m. h l (holds_later x c l m)))
 
 -- an open literal of a clause
-pub opening_stands : (held : List (List Literal)) (variables : ℕ) (es : List Entry) (trues : List Literal) (l : Literal) → Fit held variables es → IsOpening held trues (Some l) → Stands es l
+pub opening_stands : (held : List (List Literal)) (variables : ℕ) (es : List Entry) (trues : List Literal) (l : Literal)
+    → Fit held variables es → IsOpening held trues (Some l) → Stands es l
 opening_stands held variables es trues l fit opening =
     let c = opening.1 in
     let k = opening.2 in
@@ -97,26 +111,34 @@ name_same es (Begun live ∷ more) each v = absurd each.0
 pub names_same : (old new : ProofLog) → HasLearned old new → (v : ℕ) → name_of new.entries v ≡ name_of old.entries v
 names_same old new learned v = ap (λ es. name_of es v) learned.grown ∙ name_same old.entries learned.more learned.each v
 
-pub assumptions_same : (old new : ProofLog) (assumptions : List Literal) → HasLearned old new → AreAssumptions old assumptions → AreAssumptions new assumptions
+pub assumptions_same : (old new : ProofLog) (assumptions : List Literal) → HasLearned old new →
+    AreAssumptions old assumptions → AreAssumptions new assumptions
 assumptions_same old new assumptions learned first = record {
   named = λ l h. ap is_some (names_same old new learned (variable_of l)) ∙ first.named l h;
   apart = first.apart;
-  switched = λ l h sel. first.switched l h (sym (ap is_selector_name (names_same old new learned (variable_of l))) ∙ sel);
+  switched = λ l h sel. first.switched l h (sym (ap is_selector_name
+      (names_same old new learned (variable_of l))) ∙ sel);
 }
 
-pub each_both : (P : List Entry → Entry → Type 0) (more first old : List Entry) → EachOf P more (first ++ old) → EachOf P first old → EachOf P (more ++ first) old
+pub each_both : (P : List Entry → Entry → Type 0) (more first old : List Entry) → EachOf P more (first ++ old) →
+    EachOf P first old → EachOf P (more ++ first) old
 each_both P [] first old a b = b
-each_both P (e ∷ more) first old a b = (subst (λ es. P es e) (sym (append_assoc more first old)) a.0, each_both P more first old a.1 b)
+each_both P (e ∷ more) first old a b = (
+  subst (λ es. P es e) (sym (append_assoc more first old)) a.0,
+  each_both P more first old a.1 b,
+)
 
 pub learned_both : (a b c : ProofLog) → HasLearned a b → HasLearned b c → HasLearned a c
 learned_both a b c first second = record {
   more = second.more ++ first.more;
   grown = second.grown ∙ ap (λ es. second.more ++ es) first.grown ∙ sym (append_assoc second.more first.more a.entries);
-  each = each_both IsLearnedEntry second.more first.more a.entries (subst (EachOf IsLearnedEntry second.more) first.grown second.each) first.each;
+  each = each_both IsLearnedEntry second.more first.more a.entries
+      (subst (EachOf IsLearnedEntry second.more) first.grown second.each) first.each;
   limit = second.limit ∙ first.limit;
 }
 
-pub refuted_later : (a b c : ProofLog) (assumptions : List Literal) (id : ℕ) → HasLearned a b → IsRefutedUnder b c assumptions id → IsRefutedUnder a c assumptions id
+pub refuted_later : (a b c : ProofLog) (assumptions : List Literal) (id : ℕ) → HasLearned a b →
+    IsRefutedUnder b c assumptions id → IsRefutedUnder a c assumptions id
 refuted_later a b c assumptions id learned refuted = record {
   last = refuted.last;
   clause = refuted.clause;
@@ -127,46 +149,61 @@ refuted_later a b c assumptions id learned refuted = record {
   negated = refuted.negated;
 }
 
-pub found_later : (assumptions : List Literal) (s : Searched) (a b c : ProofLog) (found : SearchAnswer) → HasLearned a b → IsAnswered assumptions s b c found → IsAnswered assumptions s a c found
+pub found_later : (assumptions : List Literal) (s : Searched) (a b c : ProofLog) (found : SearchAnswer) →
+    HasLearned a b → IsAnswered assumptions s b c found → IsAnswered assumptions s a c found
 found_later assumptions s a b c Sat learned found = (learned_both a b c learned found.0, found.1)
 found_later assumptions s a b c (Unsat id) learned found = refuted_later a b c assumptions id learned found
 
 -- down to a variable's literal
 pub back_more : (old now new : List Step) (s : Step) → Shrunk old now → now ≡ s ∷ new → Shrunk old new
-back_more old now new s h popped = record { popped = h.popped ++ s ∷ []; is = h.is ∙ ap (λ xs. h.popped ++ xs) popped ∙ sym (append_assoc h.popped (s ∷ []) new) }
+back_more old now new s h popped = record {
+  popped = h.popped ++ s ∷ [];
+  is =
+      h.is ∙ ap (λ xs. h.popped ++ xs) popped ∙ sym (append_assoc h.popped (s ∷ []) new);
+}
 
-pub back_still : (now new : List Step) (s : Step) (l : Literal) → now ≡ s ∷ new → (variable_of s.literal ≡ variable_of l → ⊥) → holds (literals_of now) l ≡ true → holds (literals_of new) l ≡ true
+pub back_still : (now new : List Step) (s : Step) (l : Literal) → now ≡ s ∷ new →
+    (variable_of s.literal ≡ variable_of l → ⊥) → holds (literals_of now) l ≡ true → holds (literals_of new) l ≡ true
 back_still now new s l popped other h =
     elim (holds_cases s.literal (literals_of new) l (ap (λ xs. holds (literals_of xs) l) (sym popped) ∙ h)) [
       | inl e ↦ absurd (other (ap variable_of (sym e)))
       | inr later ↦ later
     ]
 
-module _ (entries : List Entry) (clauses : List (List Literal)) (assumptions : List Literal) (old new : List Step) (s : Step) (a : Literal)
+module _ (entries : List Entry) (clauses : List (List Literal)) (assumptions : List Literal) (old new : List Step)
+    (s : Step) (a : Literal)
     (sound : IsSound (live_in clauses) old) (guided : IsGuided entries assumptions old) (shrunk : Shrunk old (s ∷ new))
-    (still : holds (literals_of (s ∷ new)) (opposite a) ≡ true) (same : variable_of s.literal ≡ variable_of a) (assumed : holds assumptions a ≡ true) where
+    (still : holds (literals_of (s ∷ new)) (opposite a) ≡ true) (same : variable_of s.literal ≡ variable_of a)
+    (assumed : holds assumptions a ≡ true) where
   pub back_sound : IsSound (live_in clauses) (s ∷ new)
   back_sound = sound_later (live_in clauses) shrunk.popped (s ∷ new) (subst (IsSound (live_in clauses)) shrunk.is sound)
 
   pub back_guided : IsGuided entries assumptions (s ∷ new)
-  back_guided = guided_later entries assumptions shrunk.popped (s ∷ new) (subst (IsGuided entries assumptions) shrunk.is guided)
+  back_guided = guided_later entries assumptions shrunk.popped (s ∷ new)
+      (subst (IsGuided entries assumptions) shrunk.is guided)
 
   pub back_literal : s.literal ≡ opposite a
   back_literal = elim (one_variable s.literal a same) [
     | inl e ↦
         let consistent = sound_consistent (live_in clauses) (s ∷ new) back_sound in
-        absurd (consistent a (ap (holds (literals_of (s ∷ new))) (sym e) ∙ holds_first s.literal (literals_of new)) still)
+        absurd (consistent a (ap (holds (literals_of (s ∷ new))) (sym e) ∙ holds_first s.literal
+        (literals_of new)) still)
     | inr e ↦ e
   ]
 
   not_yet : holds (literals_of (s ∷ new)) a ≡ false
-  not_yet = false_from_ne_true (holds (literals_of (s ∷ new)) a) (λ h. sound_consistent (live_in clauses) (s ∷ new) back_sound a h still)
+  not_yet = false_from_ne_true (holds (literals_of (s ∷ new)) a)
+      (λ h. sound_consistent (live_in clauses) (s ∷ new) back_sound a h still)
 
   pub back_assumed : AreAssumed assumptions (s ∷ new)
   back_assumed = assumed_before entries assumptions (s ∷ new) a back_guided assumed not_yet
 
-  pub back_implied : (id : ℕ) → s.reason ≡ Some id → status_of (literals_of new) (live_in clauses id) ≡ unit (opposite a)
-  back_implied id reason = subst (IsReasoned (live_in clauses) (literals_of new) s.literal) reason back_sound.0.reasoned ∙ ap unit back_literal
+  pub back_implied : (id : ℕ) → s.reason ≡ Some id → status_of (literals_of new) (live_in clauses id) ≡ unit
+      (opposite a)
+  back_implied id reason = subst (IsReasoned (live_in clauses) (literals_of new) s.literal) reason back_sound.0.reasoned
+      ∙ ap unit back_literal
 
-  pub back_reasoned : ((l : Literal) → holds assumptions l ≡ true → holds assumptions (opposite l) ≡ true → ⊥) → s.reason ≡ None → ⊥
-  back_reasoned apart none = apart a assumed (ap (holds assumptions) (sym back_literal) ∙ back_assumed.0 (ap is_none none))
+  pub back_reasoned : ((l : Literal) → holds assumptions l ≡ true → holds assumptions (opposite l) ≡ true → ⊥) →
+      s.reason ≡ None → ⊥
+  back_reasoned apart none = apart a assumed (ap (holds assumptions) (sym back_literal) ∙ back_assumed.0
+      (ap is_none none))

@@ -26,90 +26,128 @@ use Rattle.truth_values.proofs.HeldLiterals.{opposite-opposite}
 module _ (assumptions : List Literal) (held : List (List Literal)) (trail : Trailed) (notes : Noted) (log : ProofLog)
     (sought : IsAnswering assumptions held trail notes log) where
   pub sought_markable : AreMarkable (length notes.marks) held
-  sought_markable = clauses_within held sought.variables (length notes.marks) log.entries sought.fit (omega (arith, sought.room, sought.marks))
+  sought_markable = clauses_within held sought.variables (length notes.marks) log.entries sought.fit
+      (omega (arith, sought.room, sought.marks))
 
   pub sought_stand : AllStand log.entries (live_in held)
   sought_stand id d l at h = sought.fit.negated id d l (sym (sought.fit.same id) ∙ at) h
 
   -- all of the trail is taken back
-  pub sought_concluded : (new : Trailed) (now noted : Noted) → AreAssumed assumptions trail.steps → ((l : Literal) → holds notes.literals l ≡ true → holds assumptions (opposite l) ≡ true)
-      → IsAnalysis log.entries (live_in held) (literals_of trail.steps) (map opposite notes.literals) notes.marks (reverse notes.hints)
+  pub sought_concluded : (new : Trailed) (now noted : Noted) → AreAssumed assumptions trail.steps →
+      ((l : Literal) → holds notes.literals l ≡ true → holds assumptions (opposite l) ≡ true)
+      → IsAnalysis log.entries (live_in held) (literals_of trail.steps) (map opposite notes.literals) notes.marks
+      (reverse notes.hints)
       → IsKeeping (live_in held) trail new notes now → new.steps ≡ []
-      → noted ≡ record { marks = now.marks; places = now.places; hints = reverse now.hints; literals = reverse now.literals }
+      → noted ≡ record {
+        marks = now.marks;
+        places = now.places;
+        hints = reverse now.hints;
+        literals =
+            reverse now.literals;
+      }
       → IsConcluded log.entries (live_in held) assumptions noted
   sought_concluded new now noted assumed negated analysis kept bare turned =
-      conclude log.entries (live_in held) assumptions trail new notes now noted sought_stand assumed negated analysis kept bare turned
+      conclude log.entries (live_in held) assumptions trail new notes now noted sought_stand assumed negated analysis
+      kept bare turned
 
-  pub concluded_named : (noted : Noted) → IsConcluded log.entries (live_in held) assumptions noted → AreNamed log.entries noted.literals
+  pub concluded_named : (noted : Noted) → IsConcluded log.entries (live_in held) assumptions noted →
+      AreNamed log.entries noted.literals
   concluded_named noted done =
-      answer_named assumptions held sought.variables log noted.literals noted.marks noted.hints sought.fit sought.named done.negated done.analysis
+      answer_named assumptions held sought.variables log noted.literals noted.marks noted.hints sought.fit sought.named
+      done.negated done.analysis
 
-  pub concluded_ids : (noted : Noted) → IsConcluded log.entries (live_in held) assumptions noted → AreIds log.entries noted.hints
+  pub concluded_ids : (noted : Noted) → IsConcluded log.entries (live_in held) assumptions noted →
+      AreIds log.entries noted.hints
   concluded_ids noted done =
-      answer_ids assumptions held sought.variables log noted.literals noted.marks noted.hints sought.fit sought.named done.negated done.analysis
+      answer_ids assumptions held sought.variables log noted.literals noted.marks noted.hints sought.fit sought.named
+      done.negated done.analysis
 
-  pub concluded_refuted : (noted : Noted) → IsConcluded log.entries (live_in held) assumptions noted → (new : ProofLog) (id : ℕ)
-      → new ≡ with_entry log (Answer noted.literals noted.hints) → id ≡ last_id new.entries → IsRefutedUnder log new assumptions id
+  pub concluded_refuted : (noted : Noted) → IsConcluded log.entries (live_in held) assumptions noted →
+      (new : ProofLog) (id : ℕ)
+      → new ≡ with_entry log (Answer noted.literals noted.hints) → id ≡ last_id new.entries →
+      IsRefutedUnder log new assumptions id
   concluded_refuted noted done new id is last =
-      answer_refuted assumptions held sought.variables log noted.literals noted.marks noted.hints sought.fit sought.named done.negated done.analysis new id is last
+      answer_refuted assumptions held sought.variables log noted.literals noted.marks noted.hints sought.fit
+      sought.named done.negated done.analysis new id is last
 
-  pub concluded_fit : (noted : Noted) → IsConcluded log.entries (live_in held) assumptions noted → (now : List (List Literal)) (new : ProofLog)
-      → now ≡ held ++ noted.literals ∷ [] → new ≡ with_entry log (Answer noted.literals noted.hints) → StaysFit held now log new
+  pub concluded_fit : (noted : Noted) → IsConcluded log.entries (live_in held) assumptions noted →
+      (now : List (List Literal)) (new : ProofLog)
+      → now ≡ held ++ noted.literals ∷ [] → new ≡ with_entry log (Answer noted.literals noted.hints) →
+      StaysFit held now log new
   concluded_fit noted done now new longer is variables fit =
       subst (λ (cs : List (List Literal)). Fit cs variables new.entries) (sym longer)
       (subst (λ (l : ProofLog). Fit (held ++ noted.literals ∷ []) variables l.entries) (sym is)
-      (answer_fit assumptions held variables log noted.literals noted.marks noted.hints fit sought.named done.negated done.analysis))
+      (answer_fit assumptions held variables log noted.literals noted.marks noted.hints fit sought.named done.negated
+      done.analysis))
 
   -- the notes of a falsified clause
-  pub analysis_of_conflict : (conflict : ℕ) (now : Noted) → status_of (literals_of trail.steps) (live_in held conflict) ≡ falsified
-      → now.hints ≡ conflict ∷ [] → now.literals ≡ [] → ((c : List Literal) (v : ℕ) → live_in held conflict ≡ Some c → marked now.marks v ≡ stands_on c v)
-      → IsAnalysis log.entries (live_in held) (literals_of trail.steps) (map opposite now.literals) now.marks (reverse now.hints)
+  pub analysis_of_conflict : (conflict : ℕ) (now : Noted) → status_of (literals_of trail.steps) (live_in held conflict)
+      ≡ falsified
+      → now.hints ≡ conflict ∷ [] → now.literals ≡ [] → ((c : List Literal) (v : ℕ) → live_in held conflict ≡ Some c →
+      marked now.marks v ≡ stands_on c v)
+      → IsAnalysis log.entries (live_in held) (literals_of trail.steps) (map opposite now.literals) now.marks
+      (reverse now.hints)
   analysis_of_conflict conflict now is_false hints literals marks =
       let live = live_in held in
       let trues = literals_of trail.steps in
       let k = conflict_of held conflict trues is_false in
-      let first = analysis_first log.entries live now.marks trues k.clause conflict k.is k.false_now (λ l m. sought_stand conflict k.clause l k.is m)
+      let first = analysis_first log.entries live now.marks trues k.clause conflict k.is k.false_now
+      (λ l m. sought_stand conflict k.clause l k.is m)
       (sound_consistent live trail.steps sought.sound) (λ v. marks k.clause v k.is) in
-      subst (λ (ls : List Literal). IsAnalysis log.entries live trues (map opposite ls) now.marks (reverse now.hints)) (sym literals)
+      subst (λ (ls : List Literal). IsAnalysis log.entries live trues (map opposite ls) now.marks (reverse now.hints))
+      (sym literals)
       (subst (λ (hs : List ℕ). IsAnalysis log.entries live trues [] now.marks (reverse hs)) (sym hints) first)
 
   -- the notes of the clause that made an assumption false
-  pub analysis_of_reason : (a : Literal) (reason : ℕ) (now : Noted) → status_of (literals_of trail.steps) (live_in held reason) ≡ unit (opposite a)
+  pub analysis_of_reason : (a : Literal) (reason : ℕ) (now : Noted) →
+      status_of (literals_of trail.steps) (live_in held reason) ≡ unit (opposite a)
       → now.hints ≡ reason ∷ [] → now.literals ≡ opposite a ∷ []
-      → ((c : List Literal) (v : ℕ) → live_in held reason ≡ Some c → marked now.marks v ≡ (not (variable_of a == v) && stands_on c v))
-      → IsAnalysis log.entries (live_in held) (literals_of trail.steps) (map opposite now.literals) now.marks (reverse now.hints)
+      → ((c : List Literal) (v : ℕ) → live_in held reason ≡ Some c →
+      marked now.marks v ≡ (not (variable_of a == v) && stands_on c v))
+      → IsAnalysis log.entries (live_in held) (literals_of trail.steps) (map opposite now.literals) now.marks
+      (reverse now.hints)
   analysis_of_reason a reason now implied hints literals marks =
       let live = live_in held in
       let trues = literals_of trail.steps in
       let k = reason_of held reason trues (opposite a) implied in
-      let first = analysis_false log.entries live now.marks trues k.clause a reason k.is k.implied (λ l m. sought_stand reason k.clause l k.is m)
+      let first = analysis_false log.entries live now.marks trues k.clause a reason k.is k.implied
+      (λ l m. sought_stand reason k.clause l k.is m)
       (sound_consistent live trail.steps sought.sound) (λ v. marks k.clause v k.is) in
-      let kept : map opposite now.literals ≡ a ∷ [] = ap (map opposite) literals ∙ ap (λ l. l ∷ []) (opposite-opposite a) in
+      let kept : map opposite now.literals ≡ a ∷ [] = ap (map opposite) literals ∙ ap (λ l. l ∷ [])
+      (opposite-opposite a) in
       subst (λ (ks : List Literal). IsAnalysis log.entries live trues ks now.marks (reverse now.hints)) (sym kept)
       (subst (λ (hs : List ℕ). IsAnalysis log.entries live trues (a ∷ []) now.marks (reverse hs)) (sym hints) first)
 
-  module _ (new : Trailed) (step : Step) (a : Literal) (shrunk : Shrunk trail.steps (step ∷ new.steps)) (still : holds (literals_of (step ∷ new.steps)) (opposite a) ≡ true)
+  module _ (new : Trailed) (step : Step) (a : Literal) (shrunk : Shrunk trail.steps (step ∷ new.steps))
+      (still : holds (literals_of (step ∷ new.steps)) (opposite a) ≡ true)
       (same : variable_of step.literal ≡ variable_of a) (assumed : holds assumptions a ≡ true) where
     -- what stands below the step that made an assumption false
-    pub below_sought : (now : Noted) → new.room ≡ trail.room → length now.marks ≡ length notes.marks → IsAnswering assumptions held new now log
+    pub below_sought : (now : Noted) → new.room ≡ trail.room → length now.marks ≡ length notes.marks →
+        IsAnswering assumptions held new now log
     below_sought now room marks = record {
       variables = sought.variables;
       fit = sought.fit;
-      sound = (back_sound log.entries held assumptions trail.steps new.steps step a sought.sound sought.guided shrunk still same assumed).1;
-      guided = (back_guided log.entries held assumptions trail.steps new.steps step a sought.sound sought.guided shrunk still same assumed).1;
+      sound = (back_sound log.entries held assumptions trail.steps new.steps step a sought.sound sought.guided shrunk
+          still same assumed).1;
+      guided = (back_guided log.entries held assumptions trail.steps new.steps step a sought.sound sought.guided shrunk
+          still same assumed).1;
       room = let k = sought.room in omega (arith, k, room);
       marks = let k = sought.marks in omega (arith, k, room, marks);
       named = sought.named;
     }
 
     pub below_assumed : AreAssumed assumptions new.steps
-    below_assumed = (back_assumed log.entries held assumptions trail.steps new.steps step a sought.sound sought.guided shrunk still same assumed).1
+    below_assumed = (back_assumed log.entries held assumptions trail.steps new.steps step a sought.sound sought.guided
+        shrunk still same assumed).1
 
-    pub below_implied : (reason : ℕ) → step.reason ≡ Some reason → status_of (literals_of new.steps) (live_in held reason) ≡ unit (opposite a)
-    below_implied reason is = back_implied log.entries held assumptions trail.steps new.steps step a sought.sound sought.guided shrunk still same assumed reason is
+    pub below_implied : (reason : ℕ) → step.reason ≡ Some reason →
+        status_of (literals_of new.steps) (live_in held reason) ≡ unit (opposite a)
+    below_implied reason is = back_implied log.entries held assumptions trail.steps new.steps step a sought.sound
+        sought.guided shrunk still same assumed reason is
 
     pub below_id : (reason : ℕ) → step.reason ≡ Some reason → IsReason held reason (literals_of new.steps) (opposite a)
     below_id reason is = reason_of held reason (literals_of new.steps) (opposite a) (below_implied reason is)
 
     pub below_reasoned : step.reason ≡ None → ⊥
-    below_reasoned none = back_reasoned log.entries held assumptions trail.steps new.steps step a sought.sound sought.guided shrunk still same assumed sought.named.apart none
+    below_reasoned none = back_reasoned log.entries held assumptions trail.steps new.steps step a sought.sound
+        sought.guided shrunk still same assumed sought.named.apart none

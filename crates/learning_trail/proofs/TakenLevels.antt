@@ -27,7 +27,8 @@ pub under_shorter : (steps : List Step) → IsSome (decision_of steps) → lengt
 under_shorter [] some = absurd (false≢true some)
 under_shorter (s ∷ steps) some = by (is_decision s) (under_shorter steps) some
   where
-    by : (b : Bool) → (IsSome (decision_of steps) → length (under_level steps) < length steps) → IsSome (cond b (Some s.literal) (decision_of steps))
+    by : (b : Bool) → (IsSome (decision_of steps) → length (under_level steps) < length steps) →
+        IsSome (cond b (Some s.literal) (decision_of steps))
         → length (cond b steps (under_level steps)) < length (s ∷ steps)
     by true rest h = omega arith
     by false rest h = let r = rest h in omega (arith, r)
@@ -36,37 +37,56 @@ under_shorter (s ∷ steps) some = by (is_decision s) (under_shorter steps) some
 pub record IsOnJump (old new : Trailed) (marks : List Bool) : Type 0 where
   pub room : new.room ≡ old.room
   pub shrunk : Shrunk old.steps new.steps
-  pub kept : (t : Literal) → holds (literals_of old.steps) t ≡ true → marked marks (variable_of t) ≡ true → holds (literals_of new.steps) t ≡ true
+  pub kept : (t : Literal) → holds (literals_of old.steps) t ≡ true → marked marks (variable_of t) ≡ true →
+      holds (literals_of new.steps) t ≡ true
 
 pub on_jump_first : (old : Trailed) (marks : List Bool) → IsOnJump old old marks
 on_jump_first old marks = record { room = refl; shrunk = record { popped = []; is = refl }; kept = λ t on m. on }
 
-pub on_jump_level : (old now new : Trailed) (marks : List Bool) → IsOnJump old now marks → is_level_marked marks now.steps ≡ false → new.room ≡ now.room → new.steps ≡ under_level now.steps
+pub on_jump_level : (old now new : Trailed) (marks : List Bool) → IsOnJump old now marks →
+    is_level_marked marks now.steps ≡ false → new.room ≡ now.room → new.steps ≡ under_level now.steps
     → IsOnJump old new marks
 on_jump_level old now new marks inv none room steps =
     let under = subst (Shrunk now.steps) (sym steps) (under_shrunk now.steps) in
     record {
       room = room ∙ inv.room;
-      shrunk = record { popped = inv.shrunk.popped ++ under.popped; is = inv.shrunk.is ∙ ap (λ xs. inv.shrunk.popped ++ xs) under.is ∙ sym (append_assoc inv.shrunk.popped under.popped new.steps) };
-      kept = λ t on m. subst (λ (xs : List Step). holds (literals_of xs) t ≡ true) (sym steps) (below_marked marks now.steps t none (inv.kept t on m) m);
+      shrunk = record {
+        popped = inv.shrunk.popped ++ under.popped;
+        is =
+            inv.shrunk.is ∙ ap (λ xs. inv.shrunk.popped ++ xs) under.is ∙ sym
+            (append_assoc inv.shrunk.popped under.popped new.steps);
+      };
+      kept = λ t on m. subst (λ (xs : List Step). holds (literals_of xs) t ≡ true) (sym steps)
+          (below_marked marks now.steps t none (inv.kept t on m) m);
     }
 
-pub jump_both : (old now new : Trailed) (marks : List Bool) → IsOnJump old now marks → IsJump now new marks → IsJump old new marks
+pub jump_both : (old now new : Trailed) (marks : List Bool) → IsOnJump old now marks → IsJump now new marks →
+    IsJump old new marks
 jump_both old now new marks a b = record {
   room = b.room ∙ a.room;
-  shrunk = record { popped = a.shrunk.popped ++ b.shrunk.popped; is = a.shrunk.is ∙ ap (λ xs. a.shrunk.popped ++ xs) b.shrunk.is ∙ sym (append_assoc a.shrunk.popped b.shrunk.popped new.steps) };
+  shrunk = record {
+    popped = a.shrunk.popped ++ b.shrunk.popped;
+    is =
+        a.shrunk.is ∙ ap (λ xs. a.shrunk.popped ++ xs) b.shrunk.is ∙ sym
+        (append_assoc a.shrunk.popped b.shrunk.popped new.steps);
+  };
   kept = λ t on m. b.kept t (a.kept t on m) m;
   ended = b.ended;
 }
 
 -- a falsified clause has a literal in the newest level, since propagation had come to its end before
-pub conflict_marked : (live : LiveClauses) (steps : List Step) (marks : List Bool) (clause : List Literal) (id : ℕ) (d : Literal) → IsSound live steps → decision_of steps ≡ Some d
-    → live id ≡ Some clause → status_of (literals_of steps) (Some clause) ≡ falsified → ((l : Literal) → holds clause l ≡ true → marked marks (variable_of l) ≡ true)
+pub conflict_marked : (live : LiveClauses) (steps : List Step) (marks : List Bool) (clause : List Literal) (id : ℕ)
+    (d : Literal) → IsSound live steps → decision_of steps ≡ Some d
+    → live id ≡ Some clause → status_of (literals_of steps) (Some clause) ≡ falsified →
+    ((l : Literal) → holds clause l ≡ true → marked marks (variable_of l) ≡ true)
     → is_level_marked marks steps ≡ true
-conflict_marked live steps marks clause id d sound decided is false_now marks_are = true_from_ne_false (is_level_marked marks steps) (λ none.
+conflict_marked live steps marks clause id d sound decided is false_now marks_are =
+    true_from_ne_false (is_level_marked marks steps) (λ none.
     let below = is_falsified (literals_of (under_level steps)) clause (λ l m.
-    below_marked marks steps (opposite l) none (falsified_tells (literals_of steps) clause false_now l m) (ap (marked marks) (opposite-variable l) ∙ marks_are l m)) in
-    let closed = sym (ap (status_of (literals_of (under_level steps))) is) ∙ below_closed live steps d sound decided id in
+    below_marked marks steps (opposite l) none (falsified_tells (literals_of steps) clause false_now l m)
+    (ap (marked marks) (opposite-variable l) ∙ marks_are l m)) in
+    let closed = sym (ap (status_of (literals_of (under_level steps))) is)
+    ∙ below_closed live steps d sound decided id in
     let clash : falsified ≡ stuck = sym below ∙ closed in
     cc)
 
@@ -78,7 +98,8 @@ pub record IsConflict (clauses : List (List Literal)) (id : ℕ) (trues : List L
   pub is : live_in clauses id ≡ Some clause
   pub false_now : status_of trues (Some clause) ≡ falsified
 
-pub conflict_of : (clauses : List (List Literal)) (id : ℕ) (trues : List Literal) → status_of trues (live_in clauses id) ≡ falsified → IsConflict clauses id trues
+pub conflict_of : (clauses : List (List Literal)) (id : ℕ) (trues : List Literal) →
+    status_of trues (live_in clauses id) ≡ falsified → IsConflict clauses id trues
 conflict_of clauses zero trues h = let n : stuck ≡ falsified = h in cc
 conflict_of clauses (suc i) trues h = by (slice_get clauses i) refl
   where
@@ -86,7 +107,14 @@ conflict_of clauses (suc i) trues h = by (slice_get clauses i) refl
     by None e = let n : stuck ≡ falsified = sym (ap (status_of trues) e) ∙ h in cc
     by (Some c) e =
         let lt = slice_get_within clauses i c e in
-        record { from_one = omega arith; is_id = omega (arith, lt); clause = c; is = e; false_now = sym (ap (status_of trues) e) ∙ h }
+        record {
+          from_one = omega arith;
+          is_id = omega (arith, lt);
+          clause = c;
+          is = e;
+          false_now =
+              sym (ap (status_of trues) e) ∙ h;
+        }
 
 pub is_some_of : {X : Type 0} (o : Option X) → IsSome o → (x : X) × (o ≡ Some x)
 is_some_of None h = absurd (false≢true h)
@@ -97,27 +125,37 @@ pub under_is : (steps : List Step) → IsSome (decision_of steps) → IsUnder st
 under_is [] some = absurd (false≢true some)
 under_is (s ∷ steps) some = by (is_decision s) refl (under_is steps) some
   where
-    by : (b : Bool) → is_decision s ≡ b → (IsSome (decision_of steps) → IsUnder steps (under_level steps)) → IsSome (cond b (Some s.literal) (decision_of steps)) → IsUnder (s ∷ steps) (cond b steps (under_level steps))
+    by : (b : Bool) → is_decision s ≡ b → (IsSome (decision_of steps) → IsUnder steps (under_level steps)) →
+        IsSome (cond b (Some s.literal) (decision_of steps)) → IsUnder (s ∷ steps) (cond b steps (under_level steps))
     by true e rest h = record { popped = []; decision = s; decided = e; is = refl }
-    by false e rest h = let r = rest h in record { popped = s ∷ r.popped; decision = r.decision; decided = r.decided; is = ap (λ xs. s ∷ xs) r.is }
+    by false e rest h = let r = rest h in record {
+      popped = s ∷ r.popped;
+      decision = r.decision;
+      decided = r.decided;
+      is = ap (λ xs. s ∷ xs) r.is;
+    }
 
 pub under_both : (a b c : List Step) → IsUnder a b → IsUnder b c → IsUnder a c
 under_both a b c f g = record {
   popped = f.popped ++ f.decision ∷ g.popped;
   decision = g.decision;
   decided = g.decided;
-  is = f.is ∙ ap (λ xs. f.popped ++ f.decision ∷ xs) g.is ∙ sym (append_assoc f.popped (f.decision ∷ g.popped) (g.decision ∷ c));
+  is = f.is ∙ ap (λ xs. f.popped ++ f.decision ∷ xs) g.is ∙ sym
+      (append_assoc f.popped (f.decision ∷ g.popped) (g.decision ∷ c));
 }
 
-pub under_next : (steps now new : List Step) → IsUnder steps now → IsSome (decision_of now) → new ≡ under_level now → IsUnder steps new
+pub under_next : (steps now new : List Step) → IsUnder steps now → IsSome (decision_of now) → new ≡ under_level now →
+    IsUnder steps new
 under_next steps now new f some is = under_both steps now new f (subst (IsUnder now) (sym is) (under_is now some))
 
 pub under_decision : (step : Step) (steps : List Step) → is_decision step ≡ true → IsUnder (step ∷ steps) steps
 under_decision step steps decided = record { popped = []; decision = step; decided = decided; is = refl }
 
-pub under_step : (step : Step) (steps new : List Step) → is_decision step ≡ false → IsSome (decision_of (step ∷ steps)) → new ≡ under_level steps → IsUnder (step ∷ steps) new
+pub under_step : (step : Step) (steps new : List Step) → is_decision step ≡ false →
+    IsSome (decision_of (step ∷ steps)) → new ≡ under_level steps → IsUnder (step ∷ steps) new
 under_step step steps new implied some is =
-    subst (IsUnder (step ∷ steps)) (ap (λ b. cond b steps (under_level steps)) implied ∙ sym is) (under_is (step ∷ steps) some)
+    subst (IsUnder (step ∷ steps)) (ap (λ b. cond b steps (under_level steps)) implied ∙ sym is)
+    (under_is (step ∷ steps) some)
 
 pub implied_from_some : (r : Option ℕ) → is_some r ≡ true → reason_none r ≡ false
 implied_from_some None h = sym h

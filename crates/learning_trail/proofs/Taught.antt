@@ -23,22 +23,27 @@ use Rattle.truth_values.proofs.HeldLiterals.{holds_first, holds_later}
 use Rattle.learning_trail.proofs.Lessons.{lesson_derived, lesson_new, lesson_tied, lesson_stands, lesson_active, lesson_sound, lesson_guided, lesson_lands, guided_later, trail_named}
 use Rattle.learning_trail.proofs.FitLogs.{fit_learned}
 
-pub clauses_within : (held : List (List Literal)) (variables n : ℕ) (es : List Entry) → Fit held variables es → variables < n → All (λ c. All (λ l. variable_of l < n) c) held
+pub clauses_within : (held : List (List Literal)) (variables n : ℕ) (es : List Entry) → Fit held variables es →
+    variables < n → All (λ c. All (λ l. variable_of l < n) c) held
 clauses_within held variables n es fit low =
     All-from_get_or (λ (c : List Literal). All (λ (l : Literal). variable_of l < n) c) held [] (λ k lt.
     let c = get_or held k [] in
     let at : clause_at es (suc k) ≡ Some c = sym (fit.same (suc k)) ∙ slice_get-get_or held k [] lt in
-    by c (λ l h. let r = fit.in_range (variable_of l) (fit.negated (suc k) c l at h).named in let hi = r.1 in omega (arith, hi, low)))
+    by c (λ l h. let r = fit.in_range (variable_of l) (fit.negated (suc k) c l at h).named in let hi = r.1 in
+    omega (arith, hi, low)))
   where
     by : (c : List Literal) → ((l : Literal) → holds c l ≡ true → variable_of l < n) → All (λ l. variable_of l < n) c
     by [] h = All-nil (λ (l : Literal). variable_of l < n)
-    by (x ∷ c) h = All-cons (λ (l : Literal). variable_of l < n) x c (h x (holds_first x c)) (by c (λ l m. h l (holds_later x c l m)))
+    by (x ∷ c) h = All-cons (λ (l : Literal). variable_of l < n) x c (h x (holds_first x c))
+        (by c (λ l m. h l (holds_later x c l m)))
 
 pub all_named : (es : List Entry) (c : List Literal) → ((l : Literal) → holds c l ≡ true → Stands es l) → AreNamed es c
 all_named es [] h = All-nil (λ (l : Literal). IsSome (name_of es (variable_of l)))
-all_named es (x ∷ c) h = All-cons (λ (l : Literal). IsSome (name_of es (variable_of l))) x c (h x (holds_first x c)).named (all_named es c (λ l m. h l (holds_later x c l m)))
+all_named es (x ∷ c) h = All-cons (λ (l : Literal). IsSome (name_of es (variable_of l))) x c
+    (h x (holds_first x c)).named (all_named es c (λ l m. h l (holds_later x c l m)))
 
-pub all_ids : (held : List (List Literal)) (variables : ℕ) (es : List Entry) (hints : List ℕ) → Fit held variables es → ((h : ℕ) → Contains hints h → IsSome (live_in held h)) → AreIds es hints
+pub all_ids : (held : List (List Literal)) (variables : ℕ) (es : List Entry) (hints : List ℕ) → Fit held variables es →
+    ((h : ℕ) → Contains hints h → IsSome (live_in held h)) → AreIds es hints
 all_ids held variables es hints fit some id has = by id (some id has)
   where
     by : (i : ℕ) → IsSome (live_in held i) → IsId es i
@@ -52,32 +57,42 @@ all_ids held variables es hints fit some id has = by id (some id has)
             let count = fit.count in
             record { from_one = omega arith; last = omega (arith, lt, count) }
 
-guided_learned : (es : List Entry) (c : List Literal) (hs : List ℕ) (assumptions : List Literal) (steps : List Step) → IsGuided es assumptions steps → IsGuided (Learned c hs ∷ es) assumptions steps
+guided_learned : (es : List Entry) (c : List Literal) (hs : List ℕ) (assumptions : List Literal) (steps : List Step) →
+    IsGuided es assumptions steps → IsGuided (Learned c hs ∷ es) assumptions steps
 guided_learned es c hs assumptions [] guided = tt
 guided_learned es c hs assumptions (s ∷ steps) guided =
     (record { named = guided.0.named; chosen = guided.0.chosen }, guided_learned es c hs assumptions steps guided.1)
 
-module _ (assumptions : List Literal) (s : Searched) (log : ProofLog) (new : Trailed) (step : Step) (marks : List Bool) (clause : List Literal) (hints : List ℕ) (d : Literal)
-    (searching : IsSearching assumptions s log) (decided : decision_of s.trail.steps ≡ Some d) (chosen : holds assumptions d ≡ false)
+module _ (assumptions : List Literal) (s : Searched) (log : ProofLog) (new : Trailed) (step : Step) (marks : List Bool)
+    (clause : List Literal) (hints : List ℕ) (d : Literal)
+    (searching : IsSearching assumptions s log) (decided : decision_of s.trail.steps ≡ Some d)
+    (chosen : holds assumptions d ≡ false)
     (lesson : IsLesson (live_in s.clauses) s.trail new step marks clause hints) where
   pub learn_named : AreNamed log.entries clause
-  learn_named = all_named log.entries clause (lesson_stands log.entries assumptions s.clauses s.variables s.trail new step marks clause hints d searching.fit searching.sound searching.guided decided chosen lesson)
+  learn_named = all_named log.entries clause (lesson_stands log.entries assumptions s.clauses s.variables s.trail new
+      step marks clause hints d searching.fit searching.sound searching.guided decided chosen lesson)
 
   pub learn_ids : AreIds log.entries hints
-  learn_ids = all_ids s.clauses s.variables log.entries hints searching.fit (lesson.analysis log.entries (λ id c l at h. searching.fit.negated id c l (sym (searching.fit.same id) ∙ at) h)).ids
+  learn_ids = all_ids s.clauses s.variables log.entries hints searching.fit
+      (lesson.analysis log.entries (λ id c l at h. searching.fit.negated id c l
+      (sym (searching.fit.same id) ∙ at) h)).ids
 
   sound_here : IsSound (live_in s.clauses) (step ∷ new.steps)
-  sound_here = lesson_sound log.entries assumptions s.clauses s.variables s.trail new step marks clause hints d searching.fit searching.sound searching.guided decided chosen lesson
+  sound_here = lesson_sound log.entries assumptions s.clauses s.variables s.trail new step marks clause hints d
+      searching.fit searching.sound searching.guided decided chosen lesson
 
   pub learn_step : IsSound (live_in s.clauses) (step ∷ new.steps)
   learn_step = sound_here
 
   guided_here : IsGuided log.entries assumptions (step ∷ new.steps)
-  guided_here = lesson_guided log.entries assumptions s.clauses s.variables s.trail new step marks clause hints d searching.fit searching.sound searching.guided decided chosen lesson
+  guided_here = lesson_guided log.entries assumptions s.clauses s.variables s.trail new step marks clause hints d
+      searching.fit searching.sound searching.guided decided chosen lesson
 
   pub learn_in_range : variable_of step.literal ≤ s.variables
   learn_in_range =
-      let named = trail_named log.entries assumptions s.clauses (step ∷ new.steps) (λ id c k at h. searching.fit.negated id c k (sym (searching.fit.same id) ∙ at) h) sound_here guided_here step.literal (holds_first step.literal (literals_of new.steps)) in
+      let named = trail_named log.entries assumptions s.clauses (step ∷ new.steps)
+      (λ id c k at h. searching.fit.negated id c k (sym (searching.fit.same id) ∙ at) h) sound_here guided_here
+      step.literal (holds_first step.literal (literals_of new.steps)) in
       (searching.fit.in_range (variable_of step.literal) named).1
 
   pub learn_free : IsFree (literals_of new.steps) step.literal
@@ -85,33 +100,45 @@ module _ (assumptions : List Literal) (s : Searched) (log : ProofLog) (new : Tra
 
   pub learn_fit : Fit (s.clauses ++ clause ∷ []) s.variables (Learned clause hints ∷ log.entries)
   learn_fit = fit_learned s.clauses s.variables log.entries clause hints searching.fit learn_named learn_ids
-      (lesson_derived log.entries assumptions s.clauses s.variables s.trail new step marks clause hints d searching.fit searching.sound searching.guided decided chosen lesson)
-      (lesson_new log.entries assumptions s.clauses s.variables s.trail new step marks clause hints d searching.fit searching.sound searching.guided decided chosen lesson)
-      (lesson_tied log.entries assumptions s.clauses s.variables s.trail new step marks clause hints d searching.fit searching.sound searching.guided decided chosen lesson)
-      (lesson_stands log.entries assumptions s.clauses s.variables s.trail new step marks clause hints d searching.fit searching.sound searching.guided decided chosen lesson)
+      (lesson_derived log.entries assumptions s.clauses s.variables s.trail new step marks clause hints d searching.fit
+      searching.sound searching.guided decided chosen lesson)
+      (lesson_new log.entries assumptions s.clauses s.variables s.trail new step marks clause hints d searching.fit
+      searching.sound searching.guided decided chosen lesson)
+      (lesson_tied log.entries assumptions s.clauses s.variables s.trail new step marks clause hints d searching.fit
+      searching.sound searching.guided decided chosen lesson)
+      (lesson_stands log.entries assumptions s.clauses s.variables s.trail new step marks clause hints d searching.fit
+      searching.sound searching.guided decided chosen lesson)
 
   -- what could be learned, whether the log has room for it or not
   pub learn_next : HasNextLemma log.entries assumptions
   learn_next = record {
     clause = clause;
     hints = hints;
-    derived = lesson_derived log.entries assumptions s.clauses s.variables s.trail new step marks clause hints d searching.fit searching.sound searching.guided decided chosen lesson;
-    new = lesson_new log.entries assumptions s.clauses s.variables s.trail new step marks clause hints d searching.fit searching.sound searching.guided decided chosen lesson;
-    stands = lesson_stands log.entries assumptions s.clauses s.variables s.trail new step marks clause hints d searching.fit searching.sound searching.guided decided chosen lesson;
-    active = lesson_active log.entries assumptions s.clauses s.variables s.trail new step marks clause hints d searching.fit searching.sound searching.guided decided chosen lesson;
+    derived = lesson_derived log.entries assumptions s.clauses s.variables s.trail new step marks clause hints d
+        searching.fit searching.sound searching.guided decided chosen lesson;
+    new = lesson_new log.entries assumptions s.clauses s.variables s.trail new step marks clause hints d searching.fit
+        searching.sound searching.guided decided chosen lesson;
+    stands = lesson_stands log.entries assumptions s.clauses s.variables s.trail new step marks clause hints d
+        searching.fit searching.sound searching.guided decided chosen lesson;
+    active = lesson_active log.entries assumptions s.clauses s.variables s.trail new step marks clause hints d
+        searching.fit searching.sound searching.guided decided chosen lesson;
   }
 
-  learn_sound : (back : Trailed) (id : ℕ) → IsJump new back marks → id ≡ last_id log.entries + 1 → IsSound (live_in (s.clauses ++ clause ∷ [])) (landed step id ∷ back.steps)
+  learn_sound : (back : Trailed) (id : ℕ) → IsJump new back marks → id ≡ last_id log.entries + 1 →
+      IsSound (live_in (s.clauses ++ clause ∷ [])) (landed step id ∷ back.steps)
   learn_sound back id jump is =
       let count = searching.fit.count in
       let e : suc (length s.clauses) ≡ id = omega (arith, is, count) in
-      subst (λ i. IsSound (live_in (s.clauses ++ clause ∷ [])) (landed step i ∷ back.steps)) e (lesson_lands s.clauses s.trail new back step marks clause hints sound_here lesson jump)
+      subst (λ i. IsSound (live_in (s.clauses ++ clause ∷ [])) (landed step i ∷ back.steps)) e
+      (lesson_lands s.clauses s.trail new back step marks clause hints sound_here lesson jump)
 
-  learn_guided : (back : Trailed) (id : ℕ) → IsJump new back marks → IsGuided (Learned clause hints ∷ log.entries) assumptions (landed step id ∷ back.steps)
+  learn_guided : (back : Trailed) (id : ℕ) → IsJump new back marks →
+      IsGuided (Learned clause hints ∷ log.entries) assumptions (landed step id ∷ back.steps)
   learn_guided back id jump = (
     record { named = λ e. absurd (false≢true e); chosen = λ e. absurd (false≢true e) },
     guided_learned log.entries clause hints assumptions back.steps
-        (guided_later log.entries assumptions jump.shrunk.popped back.steps (subst (IsGuided log.entries assumptions) jump.shrunk.is guided_here.1)),
+        (guided_later log.entries assumptions jump.shrunk.popped back.steps
+        (subst (IsGuided log.entries assumptions) jump.shrunk.is guided_here.1)),
   )
 
   -- the trail goes on
@@ -120,7 +147,8 @@ module _ (assumptions : List Literal) (s : Searched) (log : ProofLog) (new : Tra
     pub sound : IsSound (live_in (s.clauses ++ clause ∷ [])) now.steps
     pub guided : IsGuided (Learned clause hints ∷ log.entries) assumptions now.steps
 
-  pub learn_landed : (now : Trailed) (id : ℕ) → id ≡ last_id log.entries + 1 → IsLanded new now step marks id → GoesOn now
+  pub learn_landed : (now : Trailed) (id : ℕ) → id ≡ last_id log.entries + 1 → IsLanded new now step marks id →
+      GoesOn now
   learn_landed now id is (inl none) = subst GoesOn (sym none) (record { room = refl; sound = tt; guided = tt })
   learn_landed now id is (inr behind) = subst GoesOn (sym behind.is) (record {
     room = behind.jump.room;
@@ -128,5 +156,7 @@ module _ (assumptions : List Literal) (s : Searched) (log : ProofLog) (new : Tra
     guided = learn_guided behind.back id behind.jump;
   })
 
-pub learned_one : (log new : ProofLog) (clause : List Literal) (hints : List ℕ) → new ≡ with_entry log (Learned clause hints) → HasLearned log new
-learned_one log new clause hints is = subst (HasLearned log) (sym is) (record { more = Learned clause hints ∷ []; grown = refl; each = (tt, tt); limit = refl })
+pub learned_one : (log new : ProofLog) (clause : List Literal) (hints : List ℕ) →
+    new ≡ with_entry log (Learned clause hints) → HasLearned log new
+learned_one log new clause hints is = subst (HasLearned log) (sym is)
+    (record { more = Learned clause hints ∷ []; grown = refl; each = (tt, tt); limit = refl })

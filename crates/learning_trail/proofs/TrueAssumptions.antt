@@ -13,11 +13,13 @@ pub none_true : (assumptions trues : List Literal) → AreTrue (take 0 assumptio
 none_true [] trues = λ a h. absurd (false≢true h)
 none_true (x ∷ xs) trues = λ a h. absurd (false≢true h)
 
-pub true_later : (assumptions old new : List Literal) → ((t : Literal) → holds old t ≡ true → holds new t ≡ true) → AreTrue assumptions old → AreTrue assumptions new
+pub true_later : (assumptions old new : List Literal) → ((t : Literal) → holds old t ≡ true → holds new t ≡ true) →
+    AreTrue assumptions old → AreTrue assumptions new
 true_later assumptions old new more h = λ a among. more a (h a among)
 
 -- one more
-true_next : (assumptions trues : List Literal) (i : ℕ) (l : Literal) → slice_get assumptions i ≡ Some l → holds trues l ≡ true → AreTrue (take i assumptions) trues
+true_next : (assumptions trues : List Literal) (i : ℕ) (l : Literal) → slice_get assumptions i ≡ Some l →
+    holds trues l ≡ true → AreTrue (take i assumptions) trues
     → AreTrue (take (suc i) assumptions) trues
 true_next [] trues i l at on before = let n : None ≡ Some l = at in cc
 true_next (x ∷ xs) trues zero l at on before =
@@ -35,13 +37,16 @@ true_next (x ∷ xs) trues (suc i) l at on before =
       | inr later ↦ rest a later
     ]
 
-pub true_more : (assumptions trues : List Literal) (i : ℕ) (l : Literal) → slice_get assumptions i ≡ Some l → holds trues l ≡ true → AreTrue (take i assumptions) trues
+pub true_more : (assumptions trues : List Literal) (i : ℕ) (l : Literal) → slice_get assumptions i ≡ Some l →
+    holds trues l ≡ true → AreTrue (take i assumptions) trues
     → AreTrue (take (i + 1) assumptions) trues
 true_more assumptions trues i l at on before =
-    let one : suc i ≡ i + 1 = omega arith in subst (λ n. AreTrue (take n assumptions) trues) one (true_next assumptions trues i l at on before)
+    let one : suc i ≡ i + 1 = omega arith in subst (λ n. AreTrue (take n assumptions) trues) one
+    (true_next assumptions trues i l at on before)
 
 -- there is none behind them
-pub true_all : (assumptions trues : List Literal) (i : ℕ) → slice_get assumptions i ≡ None → AreTrue (take i assumptions) trues → AreTrue assumptions trues
+pub true_all : (assumptions trues : List Literal) (i : ℕ) → slice_get assumptions i ≡ None →
+    AreTrue (take i assumptions) trues → AreTrue assumptions trues
 true_all [] trues i at before = λ a h. absurd (false≢true h)
 true_all (x ∷ xs) trues zero at before = let n : Some x ≡ None = at in cc
 true_all (x ∷ xs) trues (suc i) at before =
@@ -59,12 +64,15 @@ at_holds (x ∷ xs) zero l at = subst (λ k. holds (x ∷ xs) k ≡ true) (same 
     same e = cc
 at_holds (x ∷ xs) (suc i) l at = holds_later x xs l (at_holds xs i l at)
 
-pub among_assumed : (active : List Group) (literals : List Literal) (l : Literal) → holds (assumed active literals) l ≡ (list_any (λ g. same_literal l g.selector) active || holds literals l)
+pub among_assumed : (active : List Group) (literals : List Literal) (l : Literal) →
+    holds (assumed active literals) l ≡ (list_any (λ g. same_literal l g.selector) active || holds literals l)
 among_assumed [] literals l = refl
 among_assumed (g ∷ active) literals l = by (same_literal l g.selector) (among_assumed active literals l)
   where
-    by : (b : Bool) → holds (assumed active literals) l ≡ (list_any (λ g. same_literal l g.selector) active || holds literals l)
-        → (b || holds (assumed active literals) l) ≡ ((b || list_any (λ g. same_literal l g.selector) active) || holds literals l)
+    by : (b : Bool) → holds (assumed active literals) l ≡ (list_any
+        (λ g. same_literal l g.selector) active || holds literals l)
+        → (b || holds (assumed active literals) l) ≡ ((b || list_any (λ g. same_literal l g.selector) active) || holds
+        literals l)
     by true e = refl
     by false e = e
 

@@ -23,24 +23,45 @@ use Rattle.log_laws.specs.Examples.{blind_negation, tried_once, refuted}
 use Rattle.log_laws.specs.Meaning.{HasAnswer}
 use Rattle.log_laws.proofs.Checks.{named_by, ids_by, no_name, closed_by, rest_by, no_given, reached_has, holds_group, well_formed_by}
 
-pub new_name : (earlier : List Entry) (v : ℕ) (name : Name) → 1 ≤ v → v < 4611686018427387904 → name_of earlier v ≡ None → Each (λ before e. (w : ℕ) → e ≡ Named w name → ⊥) earlier →
+pub new_name : (earlier : List Entry) (v : ℕ) (name : Name) → 1 ≤ v → v < 4611686018427387904 →
+    name_of earlier v ≡ None → Each (λ before e. (w : ℕ) → e ≡ Named w name → ⊥) earlier →
     HasSides earlier name → IsNewName earlier v name
-new_name earlier v name from_one in_range unnamed others sides = record { from_one = from_one; in_range = in_range; unnamed = unnamed; fresh = λ w is. no_name name earlier others w is; sides = sides }
+new_name earlier v name from_one in_range unnamed others sides =
+    record {
+      from_one = from_one;
+      in_range = in_range;
+      unnamed = unnamed;
+      fresh =
+          λ w is. no_name name earlier others w is;
+      sides = sides;
+    }
 
-pub instance_of : (f : Dqbf) (earlier : List Entry) (k j group : ℕ) (row : List Bool) (clause rest : List Literal) → name_of earlier group ≡ Some (Selector group) → row_at earlier k ≡ Some row →
-    numbered_from_one f.matrix j ≡ Some clause → list_any (universal_literal_true f row) clause ≡ false → AreNamedAs earlier rest (filter_map (on_arbiter f (rows_of earlier) row) clause) →
+pub instance_of : (f : Dqbf) (earlier : List Entry) (k j group : ℕ) (row : List Bool) (clause rest : List Literal) →
+    name_of earlier group ≡ Some (Selector group) → row_at earlier k ≡ Some row →
+    numbered_from_one f.matrix j ≡ Some clause → list_any (universal_literal_true f row) clause ≡ false →
+    AreNamedAs earlier rest (filter_map (on_arbiter f (rows_of earlier) row) clause) →
     IsOriginsClause f earlier (Instance k j) (negative group ∷ rest)
 instance_of f earlier k j group row clause rest is_group row_is clause_is open_row named = record {
   group = group;
   rest = rest;
   clause_is = refl;
   is_group = is_group;
-  rest_is = record { row = row; clause = clause; row_is = row_is; clause_is = clause_is; open_row = open_row; named = named };
+  rest_is = record {
+    row = row;
+    clause = clause;
+    row_is = row_is;
+    clause_is = clause_is;
+    open_row = open_row;
+    named =
+        named;
+  };
   one_leaf = λ v j i j' i' leaf leaf' rest' is. cc;
 }
 
-pub first_of : (earlier : List Entry) (origin : Origin) (clause : List Literal) → Each (λ before e. (c : List Literal) → e ≡ Given origin c → ⊥) earlier →
-    nat_le (length (fault_groups (Given origin clause ∷ earlier))) (fault_room earlier) ≡ true → IsNotRepeated earlier (Given origin clause)
+pub first_of : (earlier : List Entry) (origin : Origin) (clause : List Literal) →
+    Each (λ before e. (c : List Literal) → e ≡ Given origin c → ⊥) earlier →
+    nat_le (length (fault_groups (Given origin clause ∷ earlier))) (fault_room earlier) ≡ true →
+    IsNotRepeated earlier (Given origin clause)
 first_of earlier origin clause others few = record {
   first = λ h c inside. no_given origin earlier others c inside;
   groups = leb-true (length (fault_groups (Given origin clause ∷ earlier))) (fault_room earlier) few;
@@ -84,9 +105,11 @@ tried_logged = (
 
 pub tried_matches : Each (MatchesOrigin blind_negation) tried_once
 tried_matches = (
-  instance_of blind_negation s5 1 2 1 (false ∷ []) (positive 1 ∷ positive 2 ∷ negative 3 ∷ []) (positive 2 ∷ negative 3 ∷ []) refl refl refl refl refl,
+  instance_of blind_negation s5 1 2 1 (false ∷ []) (positive 1 ∷ positive 2 ∷ negative 3 ∷ [])
+      (positive 2 ∷ negative 3 ∷ []) refl refl refl refl refl,
   (
-    instance_of blind_negation s4 1 1 1 (false ∷ []) (positive 2 ∷ positive 3 ∷ []) (positive 2 ∷ positive 3 ∷ []) refl refl refl refl refl,
+    instance_of blind_negation s4 1 1 1 (false ∷ []) (positive 2 ∷ positive 3 ∷ [])
+        (positive 2 ∷ positive 3 ∷ []) refl refl refl refl refl,
     (tt, (tt, (tt, (tt, tt)))),
   ),
 )
@@ -107,7 +130,14 @@ tried_rows = (
       (
         tt,
         (
-          record { row_length = refl; values_length = refl; untried = λ inside. (let b = inside.1 in omega arith); clause = positive 2 ∷ positive 3 ∷ []; clause_is = refl; is_false = refl },
+          record {
+            row_length = refl;
+            values_length = refl;
+            untried = λ inside. (let b = inside.1 in omega arith);
+            clause = positive 2 ∷ positive 3 ∷ [];
+            clause_is = refl;
+            is_false = refl;
+          },
           (tt, tt),
         ),
       ),
@@ -135,9 +165,11 @@ tried_models = (
 
 pub tried_single : Each IsNotRepeated tried_once
 tried_single = (
-  first_of s5 (Instance 1 2) (negative 1 ∷ positive 2 ∷ negative 3 ∷ []) ((λ c h. cc), ((λ c h. cc), ((λ c h. cc), ((λ c h. cc), ((λ c h. cc), tt))))) refl,
+  first_of s5 (Instance 1 2) (negative 1 ∷ positive 2 ∷ negative 3 ∷ [])
+      ((λ c h. cc), ((λ c h. cc), ((λ c h. cc), ((λ c h. cc), ((λ c h. cc), tt))))) refl,
   (
-    first_of s4 (Instance 1 1) (negative 1 ∷ positive 2 ∷ positive 3 ∷ []) ((λ c h. cc), ((λ c h. cc), ((λ c h. cc), ((λ c h. cc), tt)))) refl,
+    first_of s4 (Instance 1 1) (negative 1 ∷ positive 2 ∷ positive 3 ∷ [])
+        ((λ c h. cc), ((λ c h. cc), ((λ c h. cc), ((λ c h. cc), tt)))) refl,
     (tt, (tt, (tt, (tt, tt)))),
   ),
 )
@@ -185,11 +217,14 @@ refuted_matches : Each (MatchesOrigin blind_negation) refuted
 refuted_matches = (
   tt,
   (
-    instance_of blind_negation s10 2 4 1 (true ∷ []) (negative 1 ∷ negative 2 ∷ negative 3 ∷ []) (negative 2 ∷ negative 3 ∷ []) refl refl refl refl refl,
+    instance_of blind_negation s10 2 4 1 (true ∷ []) (negative 1 ∷ negative 2 ∷ negative 3 ∷ [])
+        (negative 2 ∷ negative 3 ∷ []) refl refl refl refl refl,
     (
-      instance_of blind_negation s9 2 3 1 (true ∷ []) (negative 1 ∷ negative 2 ∷ positive 3 ∷ []) (negative 2 ∷ positive 3 ∷ []) refl refl refl refl refl,
+      instance_of blind_negation s9 2 3 1 (true ∷ []) (negative 1 ∷ negative 2 ∷ positive 3 ∷ [])
+          (negative 2 ∷ positive 3 ∷ []) refl refl refl refl refl,
       (
-        instance_of blind_negation s8 2 1 1 (true ∷ []) (positive 2 ∷ positive 3 ∷ []) (positive 2 ∷ positive 3 ∷ []) refl refl refl refl refl,
+        instance_of blind_negation s8 2 1 1 (true ∷ []) (positive 2 ∷ positive 3 ∷ [])
+            (positive 2 ∷ positive 3 ∷ []) refl refl refl refl refl,
         (tt, (tt, tried_matches)),
       ),
     ),
@@ -241,7 +276,15 @@ refuted_rows = (
       (
         tt,
         (
-          record { row_length = refl; values_length = refl; untried = other_row; clause = negative 1 ∷ negative 2 ∷ positive 3 ∷ []; clause_is = refl; is_false = refl },
+          record {
+            row_length = refl;
+            values_length = refl;
+            untried = other_row;
+            clause =
+                negative 1 ∷ negative 2 ∷ positive 3 ∷ [];
+            clause_is = refl;
+            is_false = refl;
+          },
           (tt, tried_rows),
         ),
       ),
@@ -252,7 +295,8 @@ refuted_rows = (
 -- 2 is true and 3 is false
 pub model_of_first_row : IsExpansionModel blind_negation ((false ∷ []) ∷ []) (λ v. v == 2)
 model_of_first_row =
-    let P : List Bool → List Literal → Type 0 = λ row clause. InstanceHolds (λ v. v == 2) (instance_clause blind_negation ((false ∷ []) ∷ []) row clause) in
+    let P : List Bool → List Literal → Type 0 = λ row clause. InstanceHolds (λ v. v == 2)
+    (instance_clause blind_negation ((false ∷ []) ∷ []) row clause) in
     All-from_recursion (λ row. All (P row) blind_negation.matrix) ((false ∷ []) ∷ [])
     (All-from_recursion (P (false ∷ [])) blind_negation.matrix (refl, (refl, (tt, (tt, tt)))), tt)
 
@@ -278,11 +322,47 @@ refuted_single : Each IsNotRepeated refuted
 refuted_single = (
   tt,
   (
-    first_of s10 (Instance 2 4) (negative 1 ∷ negative 2 ∷ negative 3 ∷ []) ((λ c h. cc), ((λ c h. cc), ((λ c h. cc), ((λ c h. cc), ((λ c h. cc), ((λ c h. cc), ((λ c h. cc), ((λ c h. cc), ((λ c h. cc), ((λ c h. cc), tt)))))))))) refl,
-    (
-      first_of s9 (Instance 2 3) (negative 1 ∷ negative 2 ∷ positive 3 ∷ []) ((λ c h. cc), ((λ c h. cc), ((λ c h. cc), ((λ c h. cc), ((λ c h. cc), ((λ c h. cc), ((λ c h. cc), ((λ c h. cc), ((λ c h. cc), tt))))))))) refl,
+    first_of s10 (Instance 2 4) (negative 1 ∷ negative 2 ∷ negative 3 ∷ []) (
+      (λ c h. cc),
       (
-        first_of s8 (Instance 2 1) (negative 1 ∷ positive 2 ∷ positive 3 ∷ []) ((λ c h. cc), ((λ c h. cc), ((λ c h. cc), ((λ c h. cc), ((λ c h. cc), ((λ c h. cc), ((λ c h. cc), ((λ c h. cc), tt)))))))) refl,
+        (λ c h. cc),
+        (
+          (λ c h. cc),
+          (
+            (λ c h. cc),
+            ((λ c h. cc), ((λ c h. cc), ((λ c h. cc), ((λ c h. cc), ((λ c h. cc), ((λ c h. cc), tt)))))),
+          ),
+        ),
+      ),
+    ) refl,
+    (
+      first_of s9 (Instance 2 3) (negative 1 ∷ negative 2 ∷ positive 3 ∷ []) (
+        (λ c h. cc),
+        (
+          (λ c h. cc),
+          (
+            (λ c h. cc),
+            (
+              (λ c h. cc),
+              ((λ c h. cc), ((λ c h. cc), ((λ c h. cc), ((λ c h. cc), ((λ c h. cc), tt))))),
+            ),
+          ),
+        ),
+      ) refl,
+      (
+        first_of s8 (Instance 2 1) (negative 1 ∷ positive 2 ∷ positive 3 ∷ []) (
+          (λ c h. cc),
+          (
+            (λ c h. cc),
+            (
+              (λ c h. cc),
+              (
+                (λ c h. cc),
+                ((λ c h. cc), ((λ c h. cc), ((λ c h. cc), ((λ c h. cc), tt)))),
+              ),
+            ),
+          ),
+        ) refl,
         (tt, (tt, tried_single)),
       ),
     ),
@@ -304,10 +384,28 @@ abbrev pub IsOfGroup1 : Entry → Type 0
 IsOfGroup1 e = (origin : Origin) (g : ℕ) (rest : List Literal) → e ≡ Given origin (negative g ∷ rest) → 1 ≡ g
 
 pub tried_group : Each (λ before e. IsOfGroup1 e) tried_once
-tried_group = ((λ o g r h. cc), ((λ o g r h. cc), ((λ o g r h. cc), ((λ o g r h. cc), ((λ o g r h. cc), ((λ o g r h. cc), tt))))))
+tried_group = (
+  (λ o g r h. cc),
+  (
+    (λ o g r h. cc),
+    (
+      (λ o g r h. cc),
+      ((λ o g r h. cc), ((λ o g r h. cc), ((λ o g r h. cc), tt))),
+    ),
+  ),
+)
 
 refuted_group : Each (λ before e. IsOfGroup1 e) s11
-refuted_group = ((λ o g r h. cc), ((λ o g r h. cc), ((λ o g r h. cc), ((λ o g r h. cc), ((λ o g r h. cc), tried_group)))))
+refuted_group = (
+  (λ o g r h. cc),
+  (
+    (λ o g r h. cc),
+    (
+      (λ o g r h. cc),
+      ((λ o g r h. cc), ((λ o g r h. cc), tried_group)),
+    ),
+  ),
+)
 
 pub refuted_selectors : KeepsSelectors refuted
 refuted_selectors = (
@@ -368,13 +466,16 @@ refuted_decides = record {
   later = [];
   is_there = refl;
   decides = record {
-    selectors = All-from_recursion (λ l. (l ≡ negative (variable_of l)) × (name_of s11 (variable_of l) ≡ Some (Selector (variable_of l)))) (negative 1 ∷ []) ((refl, refl), tt);
-    instances = λ origin c reached. reached_has IsInstanceIfGiven s11 (3 ∷ 5 ∷ 6 ∷ []) origin c refuted_instances reached origin c refl;
+    selectors = All-from_recursion (λ l. (l ≡ negative (variable_of l)) ×
+        (name_of s11 (variable_of l) ≡ Some (Selector (variable_of l)))) (negative 1 ∷ []) ((refl, refl), tt);
+    instances = λ origin c reached. reached_has IsInstanceIfGiven s11
+        (3 ∷ 5 ∷ 6 ∷ []) origin c refuted_instances reached origin c refl;
   };
 }
 
 pub blind_negation_well_formed : IsWellFormed blind_negation
-blind_negation_well_formed = well_formed_by blind_negation.universals blind_negation.existentials blind_negation.matrix refl refl refl
+blind_negation_well_formed = well_formed_by blind_negation.universals blind_negation.existentials blind_negation.matrix
+    refl refl refl
 
 pub tried_productive : IsProductiveLog blind_negation tried_once
 tried_productive = record {

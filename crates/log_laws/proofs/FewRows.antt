@@ -44,20 +44,28 @@ behind_among : (b : Bool) (row : List Bool) (rows : List (List Bool)) → Among 
 behind_among b row [] h = h
 behind_among b row ([] ∷ rows) h = inr (behind_among b row rows h)
 behind_among b row ((c ∷ x) ∷ rows) h = by_bit (same b c) refl (behind_among b row rows) h where
-  by_bit : (d : Bool) → same b c ≡ d → (Among row (behind b rows) → Among (b ∷ row) rows) → Among row (cond d (x ∷ behind b rows) (behind b rows)) → Among (b ∷ row) ((c ∷ x) ∷ rows)
+  by_bit : (d : Bool) → same b c ≡ d → (Among row (behind b rows) → Among (b ∷ row) rows) →
+      Among row (cond d (x ∷ behind b rows) (behind b rows)) → Among (b ∷ row) ((c ∷ x) ∷ rows)
   by_bit true e later (inl is) = inl (ap (λ z. z ∷ x) (same_is b c e) ∙ ap (λ z. b ∷ z) is)
   by_bit true e later (inr h) = inr (later h)
   by_bit false e later h = inr (later h)
 
-behind_distinct : (b : Bool) (n : ℕ) (rows : List (List Bool)) → AreDistinct (suc n) rows → AreDistinct n (behind b rows)
+behind_distinct : (b : Bool) (n : ℕ) (rows : List (List Bool)) → AreDistinct (suc n) rows →
+    AreDistinct n (behind b rows)
 behind_distinct b n [] h = tt
 behind_distinct b n ([] ∷ rows) h = behind_distinct b n rows h.2
 behind_distinct b n ((c ∷ x) ∷ rows) h = by_bit (same b c) refl (behind_distinct b n rows h.2) where
-  by_bit : (d : Bool) → same b c ≡ d → AreDistinct n (behind b rows) → AreDistinct n (cond d (x ∷ behind b rows) (behind b rows))
-  by_bit true e later = let long = h.0 in (omega (arith, long), (λ inside. h.1 (subst (λ z. Among (z ∷ x) rows) (sym (same_is b c e)) (behind_among b x rows inside))), later)
+  by_bit : (d : Bool) → same b c ≡ d → AreDistinct n (behind b rows) →
+      AreDistinct n (cond d (x ∷ behind b rows) (behind b rows))
+  by_bit true e later = let long = h.0 in (
+    omega (arith, long),
+    (λ inside. h.1 (subst (λ z. Among (z ∷ x) rows) (sym (same_is b c e)) (behind_among b x rows inside))),
+    later,
+  )
   by_bit false e later = later
 
-parted : (n : ℕ) (rows : List (List Bool)) → AreDistinct (suc n) rows → length rows ≡ length (behind true rows) + length (behind false rows)
+parted : (n : ℕ) (rows : List (List Bool)) → AreDistinct (suc n) rows →
+    length rows ≡ length (behind true rows) + length (behind false rows)
 parted n [] h = refl
 parted n ([] ∷ rows) h = let long = h.0 in absurd (omega (arith, long))
 parted n ((true ∷ x) ∷ rows) h = let later = parted n rows h.2 in omega (arith, later)
@@ -92,7 +100,8 @@ rows_among (Named v n ∷ es) row h = rows_among es row h
 rows_among (Given origin c ∷ es) row h = rows_among es row h
 rows_among (Learned c hints ∷ es) row h = rows_among es row h
 rows_among (Answer c hints ∷ es) row h = rows_among es row h
-rows_among (Round r values j ∷ es) row (inl is) = subst (λ x. Contains (rows_of es ++ r ∷ []) x) is (Contains-push (rows_of es) r)
+rows_among (Round r values j ∷ es) row (inl is) = subst (λ x. Contains (rows_of es ++ r ∷ []) x) is
+    (Contains-push (rows_of es) r)
 rows_among (Begun live ∷ es) row h = rows_among es row h
 rows_among (Round r values j ∷ es) row (inr h) = Contains-append_left (rows_of es) (r ∷ []) row (rows_among es row h)
 
@@ -101,7 +110,8 @@ abbrev pub HasNewRow : ℕ → List Entry → Entry → Type 0
 HasNewRow n earlier (Round row values j) = (length row ≡ n) × (Contains (rows_of earlier) row → ⊥)
 HasNewRow n earlier _ = Unit {0}
 
-pub has_new_row : (f : Dqbf) (n : ℕ) → length f.universals ≡ n → (earlier : List Entry) (e : Entry) → RefutesNewRow f earlier e → HasNewRow n earlier e
+pub has_new_row : (f : Dqbf) (n : ℕ) → length f.universals ≡ n → (earlier : List Entry) (e : Entry) →
+    RefutesNewRow f earlier e → HasNewRow n earlier e
 has_new_row f n same earlier (Named v m) h = tt
 has_new_row f n same earlier (Given origin c) h = tt
 has_new_row f n same earlier (Learned c hints) h = tt
@@ -115,7 +125,11 @@ rows_distinct n (Named v m ∷ es) h = rows_distinct n es h.1
 rows_distinct n (Given origin c ∷ es) h = rows_distinct n es h.1
 rows_distinct n (Learned c hints ∷ es) h = rows_distinct n es h.1
 rows_distinct n (Answer c hints ∷ es) h = rows_distinct n es h.1
-rows_distinct n (Round row values j ∷ es) h = (h.0.0, (λ inside. h.0.1 (rows_among es row inside)), rows_distinct n es h.1)
+rows_distinct n (Round row values j ∷ es) h = (
+  h.0.0,
+  (λ inside. h.0.1 (rows_among es row inside)),
+  rows_distinct n es h.1,
+)
 rows_distinct n (Begun live ∷ es) h = rows_distinct n es h.1
 
 rounds_counted : (es : List Entry) → length (newest_first es) ≡ rounds_of es
@@ -128,8 +142,10 @@ rounds_counted (Round row values j ∷ es) = let r = rounds_counted es in omega 
 rounds_counted (Begun live ∷ es) = rounds_counted es
 
 pub few_by_rows : (n : ℕ) (entries : List Entry) → Each (HasNewRow n) entries → rounds_of entries ≤ 2 ^ n
-few_by_rows n entries rounds = subst (λ k. k ≤ 2 ^ n) (rounds_counted entries) (few n (newest_first entries) (rows_distinct n entries rounds))
+few_by_rows n entries rounds = subst (λ k. k ≤ 2 ^ n) (rounds_counted entries)
+    (few n (newest_first entries) (rows_distinct n entries rounds))
 
 pub few_rounds : RoundsAreFew
 few_rounds f entries rounds =
-    few_by_rows (length f.universals) entries (each_weaker (RefutesNewRow f) (HasNewRow (length f.universals)) (has_new_row f (length f.universals) refl) entries rounds)
+    few_by_rows (length f.universals) entries (each_weaker (RefutesNewRow f) (HasNewRow (length f.universals))
+    (has_new_row f (length f.universals) refl) entries rounds)

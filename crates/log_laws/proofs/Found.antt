@@ -21,24 +21,32 @@ abbrev pub variable : Existential → ℕ
 variable y = y.variable
 
 -- what is found is an element that passes
-pub find_sound : (v : ℕ) (ys : List Existential) (y : Existential) → find (λ z. z.variable == v) ys ≡ Some y → Contains ys y × (y.variable ≡ v)
+pub find_sound : (v : ℕ) (ys : List Existential) (y : Existential) → find (λ z. z.variable == v) ys ≡ Some y →
+    Contains ys y × (y.variable ≡ v)
 find_sound v [] y h = cc
 find_sound v (x ∷ ys) y h = by_bit (find_sound v ys y) (x.variable == v) refl h where
-  by_bit : (find (λ z. z.variable == v) ys ≡ Some y → Contains ys y × (y.variable ≡ v)) → (b : Bool) → (x.variable == v) ≡ b → cond b (Some x) (find (λ z. z.variable == v) ys) ≡ Some y → Contains (x ∷ ys) y × (y.variable ≡ v)
-  by_bit later true e h = let same : x ≡ y = cc in let is = eqb-true x.variable v e in ((0, omega arith, same), sym (ap variable same) ∙ is)
+  by_bit : (find (λ z. z.variable == v) ys ≡ Some y → Contains ys y × (y.variable ≡ v)) → (b : Bool) →
+      (x.variable == v) ≡ b → cond b (Some x) (find (λ z. z.variable == v) ys) ≡ Some y →
+      Contains (x ∷ ys) y × (y.variable ≡ v)
+  by_bit later true e h = let same : x ≡ y = cc in let is = eqb-true x.variable v e in
+      ((0, omega arith, same), sym (ap variable same) ∙ is)
   by_bit later false e h = let r = later h in let b = r.0.1 in ((suc r.0.0, omega arith, r.0.2), r.1)
 
 -- what is there is found
-pub find_there : (ys : List Existential) (v : ℕ) → Contains (map variable ys) v → find (λ z. z.variable == v) ys ≡ None → ⊥
+pub find_there : (ys : List Existential) (v : ℕ) → Contains (map variable ys) v →
+    find (λ z. z.variable == v) ys ≡ None → ⊥
 find_there [] v (k, below, is) h = absurd (omega arith)
-find_there (y ∷ ys) v (zero, below, is) h = let e : (y.variable == v) ≡ true = eq-eqb y.variable v is in by_bit (y.variable == v) e h where
-  by_bit : (b : Bool) → b ≡ true → cond b (Some y) (find (λ z. z.variable == v) ys) ≡ None → ⊥
-  by_bit true e h = cc
-  by_bit false e h = cc
-find_there (y ∷ ys) v (suc k, below, is) h = by_bit (λ g. find_there ys v (k, (let b : k < length (map variable ys) = omega arith in b), is) g) (y.variable == v) h where
-  by_bit : (find (λ z. z.variable == v) ys ≡ None → ⊥) → (b : Bool) → cond b (Some y) (find (λ z. z.variable == v) ys) ≡ None → ⊥
-  by_bit later true h = cc
-  by_bit later false h = later h
+find_there (y ∷ ys) v (zero, below, is) h = let e : (y.variable == v) ≡ true = eq-eqb y.variable v is in
+    by_bit (y.variable == v) e h where
+      by_bit : (b : Bool) → b ≡ true → cond b (Some y) (find (λ z. z.variable == v) ys) ≡ None → ⊥
+      by_bit true e h = cc
+      by_bit false e h = cc
+find_there (y ∷ ys) v (suc k, below, is) h = by_bit (λ g. find_there ys v
+    (k, (let b : k < length (map variable ys) = omega arith in b), is) g) (y.variable == v) h where
+      by_bit : (find (λ z. z.variable == v) ys ≡ None → ⊥) → (b : Bool) →
+          cond b (Some y) (find (λ z. z.variable == v) ys) ≡ None → ⊥
+      by_bit later true h = cc
+      by_bit later false h = later h
 
 element_at : {X : Type 0} (xs : List X) (i : ℕ) (x : X) → slice_get xs i ≡ Some x → Contains xs x
 element_at [] i x h = cc
@@ -59,24 +67,31 @@ same_bits-refl [] = refl
 same_bits-refl (true ∷ bits) = same_bits-refl bits
 same_bits-refl (false ∷ bits) = same_bits-refl bits
 
-pub position_small : (p : List Bool → Bool) (xs : List (List Bool)) (k : ℕ) (d : List Bool) → k < length xs → p (get_or xs k d) ≡ true → position_or_len p xs < length xs
+pub position_small : (p : List Bool → Bool) (xs : List (List Bool)) (k : ℕ) (d : List Bool) → k < length xs →
+    p (get_or xs k d) ≡ true → position_or_len p xs < length xs
 position_small p [] k d below h = absurd (omega arith)
 position_small p (x ∷ xs) zero d below h = rw h (omega arith)
-position_small p (x ∷ xs) (suc k) d below h = by_bit (p x) (let b : k < length xs = omega arith in position_small p xs k d b h) where
-  by_bit : (b : Bool) → position_or_len p xs < length xs → cond (not b) (1 + position_or_len p xs) 0 < suc (length xs)
-  by_bit true l = omega arith
-  by_bit false l = omega arith
+position_small p (x ∷ xs) (suc k) d below h = by_bit (p x) (let b : k < length xs = omega arith in
+    position_small p xs k d b h) where
+      by_bit : (b : Bool) → position_or_len p xs < length xs →
+          cond (not b) (1 + position_or_len p xs) 0 < suc (length xs)
+      by_bit true l = omega arith
+      by_bit false l = omega arith
 
-pub position_append : (p : List Bool → Bool) (xs ys : List (List Bool)) → position_or_len p xs < length xs → position_or_len p (xs ++ ys) ≡ position_or_len p xs
+pub position_append : (p : List Bool → Bool) (xs ys : List (List Bool)) → position_or_len p xs < length xs →
+    position_or_len p (xs ++ ys) ≡ position_or_len p xs
 position_append p [] ys h = absurd (omega arith)
 position_append p (x ∷ xs) ys h = by_bit (p x) (position_append p xs ys) h where
-  by_bit : (b : Bool) → (position_or_len p xs < length xs → position_or_len p (xs ++ ys) ≡ position_or_len p xs) → cond (not b) (1 + position_or_len p xs) 0 < suc (length xs) →
+  by_bit : (b : Bool) → (position_or_len p xs < length xs → position_or_len p (xs ++ ys) ≡ position_or_len p xs) →
+      cond (not b) (1 + position_or_len p xs) 0 < suc (length xs) →
       cond (not b) (1 + position_or_len p (xs ++ ys)) 0 ≡ cond (not b) (1 + position_or_len p xs) 0
   by_bit true later h = refl
   by_bit false later h = let small : position_or_len p xs < length xs = omega arith in ap (λ n. 1 + n) (later small)
 
 -- a literal that is named so
-pub named_variable : (es : List Entry) (l : Literal) (n : Name) (b : Bool) (o : Option Name) → name_of es (variable_of l) ≡ o → option_map (λ m. named_literal m (is_negative l)) o ≡ Some (named_literal n b) → (name_of es (variable_of l) ≡ Some n) × (is_negative l ≡ b)
+pub named_variable : (es : List Entry) (l : Literal) (n : Name) (b : Bool) (o : Option Name) →
+    name_of es (variable_of l) ≡ o → option_map (λ m. named_literal m (is_negative l)) o ≡ Some (named_literal n b) →
+    (name_of es (variable_of l) ≡ Some n) × (is_negative l ≡ b)
 named_variable es l n b None e h = cc
 named_variable es l n b (Some m) e h =
     let both : named_literal m (is_negative l) ≡ named_literal n b = cc in
@@ -88,7 +103,8 @@ each_at P [] es e h = h.0
 each_at P (x ∷ more) es e h = each_at P more es e h.1
 
 -- a weaker fact of each entry
-pub each_weaker : (P Q : List Entry → Entry → Type 0) → ((earlier : List Entry) (e : Entry) → P earlier e → Q earlier e) → (es : List Entry) → Each P es → Each Q es
+pub each_weaker : (P Q : List Entry → Entry → Type 0) → ((earlier : List Entry) (e : Entry) → P earlier e → Q earlier e)
+    → (es : List Entry) → Each P es → Each Q es
 each_weaker P Q weaker [] h = tt
 each_weaker P Q weaker (e ∷ es) h = (weaker es e h.0, each_weaker P Q weaker es h.1)
 
@@ -97,11 +113,13 @@ each_before P [] es h = h
 each_before P (x ∷ more) es h = each_before P more es h.1
 
 -- of an entry and those before it
-pub each_from : (P : List Entry → Entry → Type 0) (all more es : List Entry) (e : Entry) → all ≡ more ++ e ∷ es → Each P all → P es e × Each P es
+pub each_from : (P : List Entry → Entry → Type 0) (all more es : List Entry) (e : Entry) → all ≡ more ++ e ∷ es →
+    Each P all → P es e × Each P es
 each_from P all more es e is h = each_before P more (e ∷ es) (subst (Each P) is h)
 
 -- what makes a log's answers right makes each one right
-pub sound_answer : (f : Dqbf) (entries later earlier : List Entry) (clause : List Literal) (hints : List ℕ) → IsSoundLog f entries → entries ≡ later ++ Answer clause hints ∷ earlier → IsSoundAnswer f earlier clause hints
+pub sound_answer : (f : Dqbf) (entries later earlier : List Entry) (clause : List Literal) (hints : List ℕ) →
+    IsSoundLog f entries → entries ≡ later ++ Answer clause hints ∷ earlier → IsSoundAnswer f earlier clause hints
 sound_answer f entries later earlier clause hints sound is =
     let e = Answer clause hints in
     let derived = each_from IsDerivedByHints entries later earlier e is sound.lemmas_are_derived in
@@ -110,14 +128,17 @@ sound_answer f entries later earlier clause hints sound is =
       logged = (each_from MayFollow entries later earlier e is sound.logged).1;
       lemmas_are_derived = derived.1;
       derived = derived.0;
-      givens_match_origins = λ more before origin c at reached. each_at (MatchesOrigin f) more before (Given origin c) (subst (Each (MatchesOrigin f)) at given);
+      givens_match_origins = λ more before origin c at reached. each_at (MatchesOrigin f) more before (Given origin c)
+          (subst (Each (MatchesOrigin f)) at given);
     }
 
 -- the place of a numbered entry
-pub split_at : (es : List Entry) (id : ℕ) (e : Entry) → numbered has_id es id ≡ Some e → (more : List Entry) × (earlier : List Entry) × (es ≡ more ++ e ∷ earlier)
+pub split_at : (es : List Entry) (id : ℕ) (e : Entry) → numbered has_id es id ≡ Some e →
+    (more : List Entry) × (earlier : List Entry) × (es ≡ more ++ e ∷ earlier)
 split_at [] id e h = cc
 split_at (x ∷ es) id e h = by_bit (split_at es id e) (has_id x && (id == count has_id es + 1)) h where
-  by_bit : (numbered has_id es id ≡ Some e → (more : List Entry) × (earlier : List Entry) × (es ≡ more ++ e ∷ earlier)) → (b : Bool) → cond b (Some x) (numbered has_id es id) ≡ Some e →
+  by_bit : (numbered has_id es id ≡ Some e → (more : List Entry) × (earlier : List Entry) × (es ≡ more ++ e ∷ earlier))
+      → (b : Bool) → cond b (Some x) (numbered has_id es id) ≡ Some e →
       (more : List Entry) × (earlier : List Entry) × (x ∷ es ≡ more ++ e ∷ earlier)
   by_bit later true h = let same : x ≡ e = cc in ([], es, ap (λ y. y ∷ es) same)
   by_bit later false h = let r = later h in (x ∷ r.0, r.1, ap (λ ys. x ∷ ys) r.2)

@@ -9,7 +9,8 @@ use Rattle.dq_lits.specs.Derivation.{LiveClauses, MakesTrue, IsDerived, Status, 
 
 -- the law of derived lines
 abbrev pub LinesAreImplied : Type 0
-LinesAreImplied = (live : LiveClauses) (literals : List Literal) (hints : List ℕ) → IsDerived live literals hints → (m : Assignment) → MakesTrue m live → clause_true m literals ≡ true
+LinesAreImplied = (live : LiveClauses) (literals : List Literal) (hints : List ℕ) → IsDerived live literals hints →
+    (m : Assignment) → MakesTrue m live → clause_true m literals ≡ true
 
 -- the clauses of these ids alone
 abbrev only : List ℕ → LiveClauses → LiveClauses
@@ -19,18 +20,22 @@ only ids live id = cond (list_any (λ i. i == id) ids) (live id) None
 abbrev pub IsTrueAt : Assignment → LiveClauses → ℕ → Type 0
 IsTrueAt m live id = (c : List Literal) → live id ≡ Some c → clause_true m c ≡ true
 
-same_step : (s : Status) (place : ℕ) (hints : List ℕ) (next other : Literal → Option ℕ) → ((l : Literal) → next l ≡ other l) → fault_by s place hints next ≡ fault_by s place hints other
+same_step : (s : Status) (place : ℕ) (hints : List ℕ) (next other : Literal → Option ℕ) →
+    ((l : Literal) → next l ≡ other l) → fault_by s place hints next ≡ fault_by s place hints other
 same_step falsified place [] next other same = refl
 same_step falsified place (h ∷ hs) next other same = refl
 same_step (unit l) place hints next other same = same l
 same_step stuck place hints next other same = refl
 
-same_fault : (live other : LiveClauses) (hints : List ℕ) → All (λ i. live i ≡ other i) hints → (trues : List Literal) (place : ℕ) →
+same_fault : (live other : LiveClauses) (hints : List ℕ) → All (λ i. live i ≡ other i) hints →
+    (trues : List Literal) (place : ℕ) →
     hint_fault live trues place hints ≡ hint_fault other trues place hints
 same_fault live other [] same trues place = refl
 same_fault live other (h ∷ hs) same trues place =
-    ap (λ c. fault_by (status_of trues c) place hs (λ l. hint_fault live (l ∷ trues) (place + 1) hs)) (All-head (λ i. live i ≡ other i) h hs same)
-    ∙ same_step (status_of trues (other h)) place hs (λ l. hint_fault live (l ∷ trues) (place + 1) hs) (λ l. hint_fault other (l ∷ trues) (place + 1) hs)
+    ap (λ c. fault_by (status_of trues c) place hs (λ l. hint_fault live (l ∷ trues) (place + 1) hs))
+    (All-head (λ i. live i ≡ other i) h hs same)
+    ∙ same_step (status_of trues (other h)) place hs (λ l. hint_fault live (l ∷ trues) (place + 1) hs)
+    (λ l. hint_fault other (l ∷ trues) (place + 1) hs)
     (λ l. same_fault live other hs (All-tail (λ i. live i ≡ other i) h hs same) (l ∷ trues) (place + 1))
 
 any_is : (v : ℕ) (xs : List ℕ) → list_any (λ x. x == v) xs ≡ true → Contains xs v
@@ -45,13 +50,16 @@ kept ids live k d below =
     let i = get_or ids k d in
     cond-true (list_any (λ x. x == i) ids) (live i) None (list_any_at (λ x. x == i) ids k d below (eq-eqb i i refl))
 
-pub true_by_hints : LinesAreImplied → (live : LiveClauses) (literals : List Literal) (hints : List ℕ) → IsDerived live literals hints →
+pub true_by_hints : LinesAreImplied → (live : LiveClauses) (literals : List Literal) (hints : List ℕ) →
+    IsDerived live literals hints →
     (m : Assignment) → All (IsTrueAt m live) hints → clause_true m literals ≡ true
 true_by_hints implied live literals hints derived m truth =
     implied (only hints live) literals hints
-    (ap (λ fault. cond (is_tautology literals) (Some 0) fault) (same_fault (only hints live) live hints (kept hints live) (map opposite literals) 1) ∙ derived)
+    (ap (λ fault. cond (is_tautology literals) (Some 0) fault)
+    (same_fault (only hints live) live hints (kept hints live) (map opposite literals) 1) ∙ derived)
     m (λ id c is. by_bit id c (list_any (λ i. i == id) hints) refl is)
   where
-    by_bit : (id : ℕ) (c : List Literal) (b : Bool) → list_any (λ i. i == id) hints ≡ b → cond b (live id) None ≡ Some c → clause_true m c ≡ true
+    by_bit : (id : ℕ) (c : List Literal) (b : Bool) → list_any (λ i. i == id) hints ≡ b →
+        cond b (live id) None ≡ Some c → clause_true m c ≡ true
     by_bit id c true among is = All-contains (IsTrueAt m live) hints id truth (any_is id hints among) c is
     by_bit id c false among is = cc

@@ -11,21 +11,25 @@ use Rattle.hint_log.specs.declared.names.Name.{Name}
 abbrev pub NamesStay : List Entry → List Entry → Type 0
 NamesStay old new = (v : ℕ) (n : Name) → name_of old v ≡ Some n → name_of new v ≡ Some n
 
-pub literal_stays : (old new : List Entry) → NamesStay old new → (l : Literal) (n : NamedLiteral) → name_literal old l ≡ Some n → name_literal new l ≡ Some n
+pub literal_stays : (old new : List Entry) → NamesStay old new → (l : Literal) (n : NamedLiteral) →
+    name_literal old l ≡ Some n → name_literal new l ≡ Some n
 literal_stays old new stay l n is = by (name_of old (variable_of l)) refl is
   where
-    by : (o : Option Name) → name_of old (variable_of l) ≡ o → option_map (λ m. named_literal m (is_negative l)) o ≡ Some n → name_literal new l ≡ Some n
+    by : (o : Option Name) → name_of old (variable_of l) ≡ o →
+        option_map (λ m. named_literal m (is_negative l)) o ≡ Some n → name_literal new l ≡ Some n
     by None e is = cc
     by (Some m) e is = ap (option_map (λ k. named_literal k (is_negative l))) (stay (variable_of l) m e) ∙ is
 
-pub named_stay : (old new : List Entry) → NamesStay old new → (ls : List Literal) (ns : List NamedLiteral) → AreNamedAs old ls ns → AreNamedAs new ls ns
+pub named_stay : (old new : List Entry) → NamesStay old new → (ls : List Literal) (ns : List NamedLiteral) →
+    AreNamedAs old ls ns → AreNamedAs new ls ns
 named_stay old new stay [] [] h = refl
 named_stay old new stay [] (n ∷ ns) h = cc
 named_stay old new stay (l ∷ ls) [] h = cc
 named_stay old new stay (l ∷ ls) (n ∷ ns) h =
     let here : name_literal old l ≡ Some n = cc in
     let later : map (name_literal old) ls ≡ map Some ns = cc in
-    ap (λ x. x ∷ map (name_literal new) ls) (literal_stays old new stay l n here) ∙ ap (λ xs. Some n ∷ xs) (named_stay old new stay ls ns later)
+    ap (λ x. x ∷ map (name_literal new) ls) (literal_stays old new stay l n here) ∙ ap (λ xs. Some n ∷ xs)
+    (named_stay old new stay ls ns later)
 
 -- a name more
 pub name_stays_by : (es : List Entry) (v : ℕ) (m : Name) → name_of es v ≡ None → NamesStay es (Named v m ∷ es)
@@ -33,10 +37,12 @@ name_stays_by es v m unnamed w n is =
     let differ : w ≢ v = λ same. (let both : None ≡ Some n = sym unnamed ∙ ap (name_of es) (sym same) ∙ is in cc) in
     cond-false (w == v) (Some m) (name_of es w) (ne_eqb w v differ) ∙ is
 
-pub name_cases : (es : List Entry) (v w : ℕ) (m n : Name) → name_of (Named v m ∷ es) w ≡ Some n → ((w ≡ v) × (m ≡ n)) ⊎ (name_of es w ≡ Some n)
+pub name_cases : (es : List Entry) (v w : ℕ) (m n : Name) → name_of (Named v m ∷ es) w ≡ Some n →
+    ((w ≡ v) × (m ≡ n)) ⊎ (name_of es w ≡ Some n)
 name_cases es v w m n is = by (w == v) refl is
   where
-    by : (b : Bool) → (w == v) ≡ b → cond b (Some m) (name_of es w) ≡ Some n → ((w ≡ v) × (m ≡ n)) ⊎ (name_of es w ≡ Some n)
+    by : (b : Bool) → (w == v) ≡ b → cond b (Some m) (name_of es w) ≡ Some n →
+        ((w ≡ v) × (m ≡ n)) ⊎ (name_of es w ≡ Some n)
     by true e is = inl (eqb-true w v e, cc)
     by false e is = inr is
 
@@ -45,12 +51,14 @@ pub small_id : (es : List Entry) (id : ℕ) (c : List Literal) → clause_at es 
 small_id [] id c h = cc
 small_id (x ∷ es) id c h = by (has_id x) (id == last_id es + 1) refl (small_id es id c) h
   where
-    by : (a b : Bool) → (id == last_id es + 1) ≡ b → (clause_at es id ≡ Some c → id ≤ last_id es) → option_and_then clause_of (cond (a && b) (Some x) (numbered has_id es id)) ≡ Some c
+    by : (a b : Bool) → (id == last_id es + 1) ≡ b → (clause_at es id ≡ Some c → id ≤ last_id es) →
+        option_and_then clause_of (cond (a && b) (Some x) (numbered has_id es id)) ≡ Some c
         → id ≤ cond a (last_id es + 1) (last_id es)
     by true true same before is = let at = eqb-true id (last_id es + 1) same in omega (arith, at)
     by true false other before is = let le = before is in omega (arith, le)
     by false b other before is = before is
 
-pub each_of_weaker : (P Q : List Entry → Entry → Type 0) → ((earlier : List Entry) (e : Entry) → P earlier e → Q earlier e) → (more old : List Entry) → EachOf P more old → EachOf Q more old
+pub each_of_weaker : (P Q : List Entry → Entry → Type 0) → ((earlier : List Entry) (e : Entry) → P earlier e →
+    Q earlier e) → (more old : List Entry) → EachOf P more old → EachOf Q more old
 each_of_weaker P Q weaker [] old h = tt
 each_of_weaker P Q weaker (e ∷ more) old h = (weaker (more ++ old) e h.0, each_of_weaker P Q weaker more old h.1)

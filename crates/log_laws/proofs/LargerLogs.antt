@@ -16,30 +16,39 @@ use Rattle.hint_log.specs.Deciding.{DecidesNothing}
 use Rattle.hint_log.specs.ProductiveLog.{MatchesOrigin, RefutesNewRow, FollowsModel, IsNotRepeated, is_fault, fault_groups}
 use Rattle.log_laws.specs.Engines.{Engine, circuits, same_engine, origin_engine, name_engine, is_engine, is_own, IsInGroup, IsOwnGiven, IsAddedBy, LeavesRest, EnginesLeaveRest}
 
-pub each_grown : (P Q : List Entry → Entry → Type 0) → ((earlier : List Entry) (e : Entry) → P earlier e → Q earlier e) →
+pub each_grown : (P Q : List Entry → Entry → Type 0) → ((earlier : List Entry) (e : Entry) → P earlier e →
+    Q earlier e) →
     (more old : List Entry) → EachOf P more old → Each Q old → Each Q (more ++ old)
 each_grown P Q weaker [] old more_ok old_ok = old_ok
-each_grown P Q weaker (e ∷ more) old more_ok old_ok = (weaker (more ++ old) e more_ok.0, each_grown P Q weaker more old more_ok.1 old_ok)
+each_grown P Q weaker (e ∷ more) old more_ok old_ok = (
+  weaker (more ++ old) e more_ok.0,
+  each_grown P Q weaker more old more_ok.1 old_ok,
+)
 
 -- entries that fail a test
-pub filter_grown : (P : List Entry → Entry → Type 0) (test : Entry → Bool) → ((earlier : List Entry) (e : Entry) → P earlier e → test e ≡ false) →
+pub filter_grown : (P : List Entry → Entry → Type 0) (test : Entry → Bool) →
+    ((earlier : List Entry) (e : Entry) → P earlier e → test e ≡ false) →
     (more old : List Entry) → EachOf P more old → filter test (more ++ old) ≡ filter test old
 filter_grown P test fails [] old more_ok = refl
 filter_grown P test fails (e ∷ more) old more_ok =
-    ap (λ b. cond b (e ∷ filter test (more ++ old)) (filter test (more ++ old))) (fails (more ++ old) e more_ok.0) ∙ filter_grown P test fails more old more_ok.1
+    ap (λ b. cond b (e ∷ filter test (more ++ old)) (filter test (more ++ old))) (fails (more ++ old) e more_ok.0)
+    ∙ filter_grown P test fails more old more_ok.1
 
 pub count_grown : (test : Entry → Bool) (more old : List Entry) → count test old ≤ count test (more ++ old)
 count_grown test [] old = omega arith
 count_grown test (e ∷ more) old = by_bit (test e) (count_grown test more old) where
-  by_bit : (b : Bool) → count test old ≤ count test (more ++ old) → count test old ≤ cond b (count test (more ++ old) + 1) (count test (more ++ old))
+  by_bit : (b : Bool) → count test old ≤ count test (more ++ old) →
+      count test old ≤ cond b (count test (more ++ old) + 1) (count test (more ++ old))
   by_bit true h = omega arith
   by_bit false h = h
 
-pub count_same : (P : List Entry → Entry → Type 0) (test : Entry → Bool) → ((earlier : List Entry) (e : Entry) → P earlier e → test e ≡ false) →
+pub count_same : (P : List Entry → Entry → Type 0) (test : Entry → Bool) →
+    ((earlier : List Entry) (e : Entry) → P earlier e → test e ≡ false) →
     (more old : List Entry) → EachOf P more old → count test (more ++ old) ≡ count test old
 count_same P test fails [] old more_ok = refl
 count_same P test fails (e ∷ more) old more_ok =
-    ap (λ b. cond b (count test (more ++ old) + 1) (count test (more ++ old))) (fails (more ++ old) e more_ok.0) ∙ count_same P test fails more old more_ok.1
+    ap (λ b. cond b (count test (more ++ old) + 1) (count test (more ++ old))) (fails (more ++ old) e more_ok.0)
+    ∙ count_same P test fails more old more_ok.1
 
 module _ (f : Dqbf) (engine : Engine) (group : ℕ) (silent : Bool) (old : List Entry) where
   abbrev Added : List Entry → Entry → Type 0
@@ -93,11 +102,13 @@ module _ (f : Dqbf) (engine : Engine) (group : ℕ) (silent : Bool) (old : List 
   undecided s earlier (Round row values j) h = absurd h
   undecided s earlier (Begun live) h = absurd h
 
-  own_name : (other : Engine) (o : Option Engine) → same_engine other engine ≡ false → (o ≡ None) ⊎ (o ≡ Some engine) → is_engine other o ≡ false
+  own_name : (other : Engine) (o : Option Engine) → same_engine other engine ≡ false → (o ≡ None) ⊎ (o ≡ Some engine) →
+      is_engine other o ≡ false
   own_name other o differ (inl none) = ap (is_engine other) none
   own_name other o differ (inr some) = ap (is_engine other) some ∙ differ
 
-  pub foreign : (other : Engine) → same_engine other engine ≡ false → (earlier : List Entry) (e : Entry) → Added earlier e → is_own other e ≡ false
+  pub foreign : (other : Engine) → same_engine other engine ≡ false → (earlier : List Entry) (e : Entry) →
+      Added earlier e → is_own other e ≡ false
   foreign other differ earlier (Named v n) h = own_name other (name_engine n) differ h.own
   foreign other differ earlier (Given origin c) h = ap (same_engine other) h.own ∙ differ
   foreign other differ earlier (Learned c hints) h = refl
@@ -106,11 +117,14 @@ module _ (f : Dqbf) (engine : Engine) (group : ℕ) (silent : Bool) (old : List 
   foreign other differ earlier (Begun live) h = absurd h
 
   -- names stay
-  pub name_kept : (v : ℕ) (n : Name) (more : List Entry) → EachOf Added more old → name_of old v ≡ Some n → name_of (more ++ old) v ≡ Some n
+  pub name_kept : (v : ℕ) (n : Name) (more : List Entry) → EachOf Added more old → name_of old v ≡ Some n →
+      name_of (more ++ old) v ≡ Some n
   name_kept v n [] h is = is
   name_kept v n (Named w m ∷ more) h is = by_bit (v == w) refl (name_kept v n more h.1 is) where
-    by_bit : (b : Bool) → (v == w) ≡ b → name_of (more ++ old) v ≡ Some n → cond b (Some m) (name_of (more ++ old) v) ≡ Some n
-    by_bit true e before = let same : v ≡ w = eqb-true v w e in let none : name_of (more ++ old) v ≡ None = ap (name_of (more ++ old)) same ∙ h.0.unnamed in cc
+    by_bit : (b : Bool) → (v == w) ≡ b → name_of (more ++ old) v ≡ Some n →
+        cond b (Some m) (name_of (more ++ old) v) ≡ Some n
+    by_bit true e before = let same : v ≡ w = eqb-true v w e in let none : name_of (more ++ old) v ≡ None =
+        ap (name_of (more ++ old)) same ∙ h.0.unnamed in cc
     by_bit false e before = before
   name_kept v n (Given origin c ∷ more) h is = name_kept v n more h.1 is
   name_kept v n (Learned c hints ∷ more) h is = name_kept v n more h.1 is
@@ -122,7 +136,8 @@ module _ (f : Dqbf) (engine : Engine) (group : ℕ) (silent : Bool) (old : List 
   in_one_group g mine c a b = let e : negative mine ∷ a.0 ≡ negative g ∷ b.0 = sym a.1 ∙ b.1 in cc
 
   -- no clause is given to another engine's group
-  pub own_given : (other : Engine) (mine : ℕ) (n : Name) → mine ≢ group → name_of old mine ≡ Some n → (earlier : List Entry) (e : Entry) → Added earlier e → IsOwnGiven f other mine earlier e
+  pub own_given : (other : Engine) (mine : ℕ) (n : Name) → mine ≢ group → name_of old mine ≡ Some n →
+      (earlier : List Entry) (e : Entry) → Added earlier e → IsOwnGiven f other mine earlier e
   own_given other mine n apart named earlier (Named v m) h = tt
   own_given other mine n apart named earlier (Given origin c) h = λ inside.
       let g = h.in_group.0 in
@@ -171,7 +186,8 @@ module _ (f : Dqbf) (engine : Engine) (group : ℕ) (silent : Bool) (old : List 
   rows_kept (Round row values j ∷ more) h = absurd h.0
   rows_kept (Begun live ∷ more) h = absurd h.0
 
-is_fault_of : (engine : Engine) (origin : Origin) → same_engine engine circuits ≡ false → origin_engine origin ≡ engine → is_fault origin ≡ false
+is_fault_of : (engine : Engine) (origin : Origin) → same_engine engine circuits ≡ false →
+    origin_engine origin ≡ engine → is_fault origin ≡ false
 is_fault_of engine (Instance k j) h e = refl
 is_fault_of engine (Gate v i) h e = refl
 is_fault_of engine (Fault j i leaf) h e = absurd (false≢true (sym h ∙ ap (λ x. same_engine x circuits) (sym e)))
@@ -181,12 +197,18 @@ is_fault_of engine (TermGate v i) h e = refl
 is_fault_of engine (Differ y leaf part) h e = refl
 
 -- other engines give no faults
-faults_kept : (f : Dqbf) (engine : Engine) → same_engine engine circuits ≡ false → (group : ℕ) (silent : Bool) (old start more : List Entry) → EachOf (IsAddedBy f engine group silent old) more start → fault_groups (more ++ start) ≡ fault_groups start
+faults_kept : (f : Dqbf) (engine : Engine) → same_engine engine circuits ≡ false →
+    (group : ℕ) (silent : Bool) (old start more : List Entry) →
+    EachOf (IsAddedBy f engine group silent old) more start → fault_groups (more ++ start) ≡ fault_groups start
 faults_kept f engine other group silent old start [] h = refl
-faults_kept f engine other group silent old start (Named v n ∷ more) h = faults_kept f engine other group silent old start more h.1
-faults_kept f engine other group silent old start (Given origin c ∷ more) h = rw (is_fault_of engine origin other h.0.own) (faults_kept f engine other group silent old start more h.1)
-faults_kept f engine other group silent old start (Learned c hints ∷ more) h = faults_kept f engine other group silent old start more h.1
-faults_kept f engine other group silent old start (Answer c hints ∷ more) h = faults_kept f engine other group silent old start more h.1
+faults_kept f engine other group silent old start (Named v n ∷ more) h =
+    faults_kept f engine other group silent old start more h.1
+faults_kept f engine other group silent old start (Given origin c ∷ more) h =
+    rw (is_fault_of engine origin other h.0.own) (faults_kept f engine other group silent old start more h.1)
+faults_kept f engine other group silent old start (Learned c hints ∷ more) h =
+    faults_kept f engine other group silent old start more h.1
+faults_kept f engine other group silent old start (Answer c hints ∷ more) h =
+    faults_kept f engine other group silent old start more h.1
 faults_kept f engine other group silent old start (Round row values j ∷ more) h = absurd h.0
 faults_kept f engine other group silent old start (Begun live ∷ more) h = absurd h.0
 
@@ -195,20 +217,30 @@ leaves_rest f engine group silent old new grew =
     let P : List Entry → List Entry → Type 0 = λ a b. LeavesRest f engine group silent a b in
     let Q : List Entry → Entry → Type 0 = IsAddedBy f engine group silent old.entries in
     let kept : LeavesRest f engine group silent old.entries (grew.more ++ old.entries) = record {
-      origins = each_grown Q (MatchesOrigin f) (rightly_given f engine group silent old.entries) grew.more old.entries grew.each;
-      new_rows = each_grown Q (RefutesNewRow f) (real_round f engine group silent old.entries) grew.more old.entries grew.each;
-      models = each_grown Q (FollowsModel f) (modelled f engine group silent old.entries) grew.more old.entries grew.each;
-      givens = each_grown Q IsNotRepeated (first_of_origin f engine group silent old.entries) grew.more old.entries grew.each;
-      decisions = λ s. each_grown Q (DecidesNothing f) (undecided f engine group silent old.entries s) grew.more old.entries grew.each;
+      origins = each_grown Q (MatchesOrigin f) (rightly_given f engine group silent old.entries) grew.more old.entries
+          grew.each;
+      new_rows = each_grown Q (RefutesNewRow f) (real_round f engine group silent old.entries) grew.more old.entries
+          grew.each;
+      models = each_grown Q (FollowsModel f) (modelled f engine group silent old.entries) grew.more old.entries
+          grew.each;
+      givens = each_grown Q IsNotRepeated (first_of_origin f engine group silent old.entries) grew.more old.entries
+          grew.each;
+      decisions = λ s. each_grown Q (DecidesNothing f) (undecided f engine group silent old.entries s) grew.more
+          old.entries grew.each;
       rows = rows_kept f engine group silent old.entries grew.more grew.each;
       rounds = count_same Q is_round (no_round f engine group silent old.entries) grew.more old.entries grew.each;
       names = λ v name. name_kept f engine group silent old.entries v name grew.more grew.each;
-      others = λ other differ. filter_grown Q (is_own other) (foreign f engine group silent old.entries other differ) grew.more old.entries grew.each;
-      groups = λ other mine name apart named. each_grown Q (IsOwnGiven f other mine) (own_given f engine group silent old.entries other mine name apart named) grew.more old.entries grew.each;
-      beginnings = count_same Q is_beginning (no_beginning f engine group silent old.entries) grew.more old.entries grew.each;
+      others = λ other differ. filter_grown Q (is_own other)
+          (foreign f engine group silent old.entries other differ) grew.more old.entries grew.each;
+      groups = λ other mine name apart named. each_grown Q (IsOwnGiven f other mine)
+          (own_given f engine group silent old.entries other mine name apart named) grew.more old.entries grew.each;
+      beginnings = count_same Q is_beginning (no_beginning f engine group silent old.entries) grew.more old.entries
+          grew.each;
       room =
-          ap (λ n. n + 1 + (beginnings_of (grew.more ++ old.entries) - 1)) (count_same Q is_round (no_round f engine group silent old.entries) grew.more old.entries grew.each)
-          ∙ ap (λ n. rounds_of old.entries + 1 + (n - 1)) (count_same Q is_beginning (no_beginning f engine group silent old.entries) grew.more old.entries grew.each);
+          ap (λ n. n + 1 + (beginnings_of (grew.more ++ old.entries) - 1))
+          (count_same Q is_round (no_round f engine group silent old.entries) grew.more old.entries grew.each)
+          ∙ ap (λ n. rounds_of old.entries + 1 + (n - 1)) (count_same Q is_beginning
+          (no_beginning f engine group silent old.entries) grew.more old.entries grew.each);
       live = live_kept f engine group silent old.entries grew.more grew.each;
       before = before_kept f engine group silent old.entries grew.more grew.each;
       faults = λ other. faults_kept f engine other group silent old.entries old.entries grew.more grew.each;
@@ -216,20 +248,37 @@ leaves_rest f engine group silent old new grew =
     subst (LeavesRest f engine group silent old.entries) (sym grew.grown) kept
 
 -- how logs grow, whatever the entries' fact
-pub grown_by : (P : List Entry → Entry → Type 0) (old new : ProofLog) (e : Entry) → new ≡ with_entry old e → P old.entries e → Grew P old new
-grown_by P old new e is fact = record { more = e ∷ []; grown = ap (λ (l : ProofLog). l.entries) is; each = (fact, tt); limit = ap (λ (l : ProofLog). l.limit) is }
+pub grown_by : (P : List Entry → Entry → Type 0) (old new : ProofLog) (e : Entry) → new ≡ with_entry old e →
+    P old.entries e → Grew P old new
+grown_by P old new e is fact = record {
+  more = e ∷ [];
+  grown = ap (λ (l : ProofLog). l.entries) is;
+  each = (fact, tt);
+  limit = ap (λ (l : ProofLog). l.limit) is;
+}
 
 pub grown_by_none : (P : List Entry → Entry → Type 0) (old new : ProofLog) → new ≡ old → Grew P old new
-grown_by_none P old new is = record { more = []; grown = ap (λ (l : ProofLog). l.entries) is; each = tt; limit = ap (λ (l : ProofLog). l.limit) is }
+grown_by_none P old new is = record {
+  more = [];
+  grown = ap (λ (l : ProofLog). l.entries) is;
+  each = tt;
+  limit =
+      ap (λ (l : ProofLog). l.limit) is;
+}
 
-each_of_append : (P : List Entry → Entry → Type 0) (later more old : List Entry) → EachOf P later (more ++ old) → EachOf P more old → EachOf P (later ++ more) old
+each_of_append : (P : List Entry → Entry → Type 0) (later more old : List Entry) → EachOf P later (more ++ old) →
+    EachOf P more old → EachOf P (later ++ more) old
 each_of_append P [] more old h k = k
-each_of_append P (e ∷ later) more old h k = (subst (λ es. P es e) (sym (append_assoc later more old)) h.0, each_of_append P later more old h.1 k)
+each_of_append P (e ∷ later) more old h k = (
+  subst (λ es. P es e) (sym (append_assoc later more old)) h.0,
+  each_of_append P later more old h.1 k,
+)
 
 pub grown_then : (P : List Entry → Entry → Type 0) (a b c : ProofLog) → Grew P a b → Grew P b c → Grew P a c
 grown_then P a b c first second = record {
   more = second.more ++ first.more;
   grown = second.grown ∙ ap (λ es. second.more ++ es) first.grown ∙ sym (append_assoc second.more first.more a.entries);
-  each = each_of_append P second.more first.more a.entries (subst (EachOf P second.more) first.grown second.each) first.each;
+  each = each_of_append P second.more first.more a.entries (subst (EachOf P second.more) first.grown second.each)
+      first.each;
   limit = second.limit ∙ first.limit;
 }

@@ -1,4 +1,5 @@
--- An answer that decides that a formula is true gives Skolem functions: its leaves, with the inputs that they don't see put to false.
+-- An answer that decides that a formula is true gives Skolem functions: its leaves, with the inputs
+-- that they don't see put to false.
 use Rattle.std.proofs.Common.{◌≡◌, ℕ, zero, suc, ◌<◌, ◌==◌, Bool, true, false, cond, ◌||◌, ◌&&◌, inl, inr, List, [], ◌∷◌, ◌++◌, map, length, get_or, Option, None, Some, refl, sym, ◌∙◌, ap, subst, arith, append_assoc}
 use Rattle.std.specs.List.{All, Contains, list_any}
 use Rattle.std.specs.Option.{option_map}
@@ -37,10 +38,12 @@ is_in_group g (l ∷ _) = same_literal (negative g) l
 
 -- a fault of the group is its origin's clause
 abbrev pub MatchesInGroup : Dqbf → ℕ → List Entry → Entry → Type 0
-MatchesInGroup f g earlier (Given (Fault j i leaf) c) = is_in_group g c ≡ true → IsOriginsClause f earlier (Fault j i leaf) c
+MatchesInGroup f g earlier (Given (Fault j i leaf) c) = is_in_group g c ≡ true →
+    IsOriginsClause f earlier (Fault j i leaf) c
 MatchesInGroup f g earlier _ = Unit {0}
 
-pub matches_in_group : (f : Dqbf) (g : ℕ) (earlier : List Entry) (e : Entry) → MatchesOrigin f earlier e → MatchesInGroup f g earlier e
+pub matches_in_group : (f : Dqbf) (g : ℕ) (earlier : List Entry) (e : Entry) → MatchesOrigin f earlier e →
+    MatchesInGroup f g earlier e
 matches_in_group f g earlier (Named w n) h = tt
 matches_in_group f g earlier (Given (Instance k j) c) h = tt
 matches_in_group f g earlier (Given (Gate w i) c) h = tt
@@ -61,7 +64,8 @@ is_on v (Some w) = v == w
 abbrev origin_leaf : Dqbf → ℕ → Bool → Origin → Option Leaf
 origin_leaf f v inside (Instance k j) = None
 origin_leaf f v inside (Gate w i) = None
-origin_leaf f v inside (Fault j i leaf) = cond (inside && is_on v (option_map variable_of (matrix_literal f j i))) (Some leaf) None
+origin_leaf f v inside (Fault j i leaf) = cond (inside && is_on v (option_map variable_of (matrix_literal f j i)))
+    (Some leaf) None
 origin_leaf f v inside (Copy side j) = None
 origin_leaf f v inside (Link w i) = None
 origin_leaf f v inside (TermGate w i) = None
@@ -92,18 +96,28 @@ is_on_there v o h = ap (is_on v) h ∙ eq-eqb v v refl
 
 -- where an entry has a leaf, it is such a fault
 entry_leaf_is : (f : Dqbf) (g v : ℕ) (e : Entry) (leaf : Leaf) → entry_leaf f g v e ≡ Some leaf →
-    (j : ℕ) × (i : ℕ) × (c : List Literal) × (e ≡ Given (Fault j i leaf) c) × (is_in_group g c ≡ true) × (option_map variable_of (matrix_literal f j i) ≡ Some v)
+    (j : ℕ) × (i : ℕ) × (c : List Literal) × (e ≡ Given (Fault j i leaf) c) × (is_in_group g c ≡ true) ×
+    (option_map variable_of (matrix_literal f j i) ≡ Some v)
 entry_leaf_is f g v (Named w n) leaf h = cc
 entry_leaf_is f g v (Given (Instance k j) c) leaf h = cc
 entry_leaf_is f g v (Given (Gate w i) c) leaf h = cc
-entry_leaf_is f g v (Given (Fault j i other) c) leaf h = by_bit (is_in_group g c && is_on v (option_map variable_of (matrix_literal f j i))) refl h where
-  by_bit : (b : Bool) → (is_in_group g c && is_on v (option_map variable_of (matrix_literal f j i))) ≡ b → cond b (Some other) None ≡ Some leaf →
-      (j' : ℕ) × (i' : ℕ) × (c' : List Literal) × (Given (Fault j i other) c ≡ Given (Fault j' i' leaf) c') × (is_in_group g c' ≡ true) × (option_map variable_of (matrix_literal f j' i') ≡ Some v)
-  by_bit true e h =
-      let same : other ≡ leaf = cc in
-      let parts = and_parts (is_in_group g c) (is_on v (option_map variable_of (matrix_literal f j i))) e in
-      (j, i, c, ap (λ x. Given (Fault j i x) c) same, parts.0, on_is v (option_map variable_of (matrix_literal f j i)) parts.1)
-  by_bit false e h = cc
+entry_leaf_is f g v (Given (Fault j i other) c) leaf h = by_bit
+    (is_in_group g c && is_on v (option_map variable_of (matrix_literal f j i))) refl h where
+      by_bit : (b : Bool) → (is_in_group g c && is_on v (option_map variable_of (matrix_literal f j i))) ≡ b →
+          cond b (Some other) None ≡ Some leaf →
+          (j' : ℕ) × (i' : ℕ) × (c' : List Literal) × (Given (Fault j i other) c ≡ Given (Fault j' i' leaf) c') ×
+          (is_in_group g c' ≡ true) × (option_map variable_of (matrix_literal f j' i') ≡ Some v)
+      by_bit true e h =
+          let same : other ≡ leaf = cc in
+          let parts = and_parts (is_in_group g c) (is_on v (option_map variable_of (matrix_literal f j i))) e in (
+            j,
+            i,
+            c,
+            ap (λ x. Given (Fault j i x) c) same,
+            parts.0,
+            on_is v (option_map variable_of (matrix_literal f j i)) parts.1,
+          )
+      by_bit false e h = cc
 entry_leaf_is f g v (Given (Copy side j) c) leaf h = cc
 entry_leaf_is f g v (Given (Link w i) c) leaf h = cc
 entry_leaf_is f g v (Given (TermGate w i) c) leaf h = cc
@@ -117,38 +131,48 @@ pub in_group : (g h : ℕ) (c rest : List Literal) → c ≡ negative h ∷ rest
 in_group g h c rest is inside = eqb-true g h (ap (is_in_group g) (sym is) ∙ inside)
 
 -- a group's faults have one leaf for an existential
-one_leaf : (f : Dqbf) (g v : ℕ) (es : List Entry) (j i : ℕ) (out : Leaf) (rest : List Literal) → Each (MatchesInGroup f g) es → Contains es (Given (Fault j i out) (negative g ∷ rest)) →
+one_leaf : (f : Dqbf) (g v : ℕ) (es : List Entry) (j i : ℕ) (out : Leaf) (rest : List Literal) →
+    Each (MatchesInGroup f g) es → Contains es (Given (Fault j i out) (negative g ∷ rest)) →
     option_map variable_of (matrix_literal f j i) ≡ Some v → leaf_in f g v es ≡ out
 one_leaf f g v [] j i out rest given (k, below, is) own = absurd (omega arith)
 one_leaf f g v (e ∷ es) j i out rest given (zero, below, is) own =
     let here : entry_leaf f g v e ≡ Some out = ap (entry_leaf f g v) is
-    ∙ cond-true (is_in_group g (negative g ∷ rest) && is_on v (option_map variable_of (matrix_literal f j i))) (Some out) None
-    (and_from (is_in_group g (negative g ∷ rest)) (is_on v (option_map variable_of (matrix_literal f j i))) (eq-eqb g g refl) (is_on_there v (option_map variable_of (matrix_literal f j i)) own)) in
+    ∙ cond-true (is_in_group g (negative g ∷ rest) && is_on v (option_map variable_of (matrix_literal f j i)))
+    (Some out) None
+    (and_from (is_in_group g (negative g ∷ rest)) (is_on v (option_map variable_of (matrix_literal f j i)))
+    (eq-eqb g g refl) (is_on_there v (option_map variable_of (matrix_literal f j i)) own)) in
     ap (λ o. leaf_or o (leaf_in f g v es)) here
 one_leaf f g v (e ∷ es) j i out rest given (suc k, below, is) own =
-    let inside : Contains es (Given (Fault j i out) (negative g ∷ rest)) = (k, (let b : k < length es = omega arith in b), is) in
+    let inside : Contains es (Given (Fault j i out) (negative g ∷ rest)) =
+    (k, (let b : k < length es = omega arith in b), is) in
     by_option (one_leaf f g v es j i out rest given.1 inside own) (entry_leaf f g v e) refl where
-      by_option : leaf_in f g v es ≡ out → (o : Option Leaf) → entry_leaf f g v e ≡ o → leaf_or o (leaf_in f g v es) ≡ out
+      by_option : leaf_in f g v es ≡ out → (o : Option Leaf) → entry_leaf f g v e ≡ o →
+          leaf_or o (leaf_in f g v es) ≡ out
       by_option later None at = later
       by_option later (Some leaf) at =
           let r = entry_leaf_is f g v e leaf at in
           let o : IsOriginsClause f es (Fault r.0 r.1 leaf) r.2 = subst (MatchesInGroup f g es) r.3 given.0 r.4 in
           let same : g ≡ o.group = in_group g o.group r.2 o.rest o.clause_is r.4 in
-          let inside : Contains es (Given (Fault j i out) (negative g ∷ rest)) = (k, (let b : k < length es = omega arith in b), is) in
-          o.one_leaf v r.0 r.1 j i leaf out rest refl (subst (λ h. Contains es (Given (Fault j i out) (negative h ∷ rest))) same inside) r.5 own
+          let inside : Contains es (Given (Fault j i out) (negative g ∷ rest)) =
+          (k, (let b : k < length es = omega arith in b), is) in
+          o.one_leaf v r.0 r.1 j i leaf out rest refl (subst
+          (λ h. Contains es (Given (Fault j i out) (negative h ∷ rest))) same inside) r.5 own
 
 -- the universals that an existential sees, and false for all others
 abbrev seen : List ℕ → Assignment → Assignment
 seen xs m v = cond (list_any (λ x. x == v) xs) (m v) false
 
 seen_there : (xs : List ℕ) (m : Assignment) (v : ℕ) → Contains xs v → m v ≡ seen xs m v
-seen_there xs m v inside = sym (cond-true (list_any (λ x. x == v) xs) (m v) false (list_any_at (λ x. x == v) xs inside.0 v inside.1 (eq-eqb (get_or xs inside.0 v) v inside.2)))
+seen_there xs m v inside = sym (cond-true (list_any (λ x. x == v) xs) (m v) false
+    (list_any_at (λ x. x == v) xs inside.0 v inside.1 (eq-eqb (get_or xs inside.0 v) v inside.2)))
 
 seen_same : (xs : List ℕ) (m n : Assignment) → All (λ x. m x ≡ n x) xs → (v : ℕ) → seen xs m v ≡ seen xs n v
 seen_same [] m n h v = refl
 seen_same (x ∷ xs) m n h v = by_bit (x == v) refl (seen_same xs m n (All-tail (λ y. m y ≡ n y) x xs h) v) where
-  by_bit : (b : Bool) → (x == v) ≡ b → seen xs m v ≡ seen xs n v → cond (b || list_any (λ y. y == v) xs) (m v) false ≡ cond (b || list_any (λ y. y == v) xs) (n v) false
-  by_bit true e later = let same : x ≡ v = eqb-true x v e in subst (λ w. m w ≡ n w) same (All-head (λ y. m y ≡ n y) x xs h)
+  by_bit : (b : Bool) → (x == v) ≡ b → seen xs m v ≡ seen xs n v →
+      cond (b || list_any (λ y. y == v) xs) (m v) false ≡ cond (b || list_any (λ y. y == v) xs) (n v) false
+  by_bit true e later = let same : x ≡ v = eqb-true x v e in
+      subst (λ w. m w ≡ n w) same (All-head (λ y. m y ≡ n y) x xs h)
   by_bit false e later = later
 
 module _ (p q : Assignment) (bad : ℕ → Bool) where
@@ -157,16 +181,20 @@ module _ (p q : Assignment) (bad : ℕ → Bool) where
     value_same : (es : List Entry) (v : ℕ) → value_in p bad es v ≡ value_in q bad es v
     value_same [] v = refl
     value_same (Named w n ∷ es) v = by_bit (value_same es) (v == w) where
-      by_name : ((u : ℕ) → value_in p bad es u ≡ value_in q bad es u) → (n : Name) → name_value p bad (value_in p bad es) n ≡ name_value q bad (value_in q bad es) n
+      by_name : ((u : ℕ) → value_in p bad es u ≡ value_in q bad es u) → (n : Name) →
+          name_value p bad (value_in p bad es) n ≡ name_value q bad (value_in q bad es) n
       by_name later (Selector g) = refl
       by_name later (Pair k y) = refl
       by_name later (Input x) = same x
-      by_name later (And a b) = both_same (value_in p bad es) (value_in q bad es) a b (later (variable_of a)) (later (variable_of b))
+      by_name later (And a b) = both_same (value_in p bad es) (value_in q bad es) a b (later (variable_of a))
+          (later (variable_of b))
       by_name later (Bad g j) = refl
       by_name later (CopyOf side u) = refl
       by_name later (Term a b) = refl
 
-      by_bit : ((u : ℕ) → value_in p bad es u ≡ value_in q bad es u) → (b : Bool) → cond b (name_value p bad (value_in p bad es) n) (value_in p bad es v) ≡ cond b (name_value q bad (value_in q bad es) n) (value_in q bad es v)
+      by_bit : ((u : ℕ) → value_in p bad es u ≡ value_in q bad es u) → (b : Bool) →
+          cond b (name_value p bad (value_in p bad es) n) (value_in p bad es v) ≡ cond b
+          (name_value q bad (value_in q bad es) n) (value_in q bad es v)
       by_bit later true = by_name later n
       by_bit later false = later v
     value_same (Given origin c ∷ es) v = value_same es v
@@ -175,76 +203,108 @@ module _ (p q : Assignment) (bad : ℕ → Bool) where
     value_same (Round row values j ∷ es) v = value_same es v
     value_same (Begun live ∷ es) v = value_same es v
 
-    leaf_same : (es : List Entry) (leaf : Leaf) → leaf_value (value_in p bad es) leaf ≡ leaf_value (value_in q bad es) leaf
+    leaf_same : (es : List Entry) (leaf : Leaf) → leaf_value (value_in p bad es) leaf ≡ leaf_value
+        (value_in q bad es) leaf
     leaf_same es (Constant b) = refl
-    leaf_same es (LeafLiteral l) = literal_same (value_in p bad es) (value_in q bad es) l (value_same es (variable_of l))
+    leaf_same es (LeafLiteral l) = literal_same (value_in p bad es) (value_in q bad es) l
+        (value_same es (variable_of l))
 
   -- a circuit's values depend on the inputs that it reads
   module _ (all : List Entry) (lawful : Each MayFollow all) where
     abbrev AgreesOn : Literal → Type 0
     AgreesOn l = (x : ℕ) → ReadsInput all l x → p x ≡ q x
 
-    name_of_all : (more es : List Entry) → all ≡ more ++ es → (v : ℕ) (n : Name) → name_of es v ≡ Some n → name_of all v ≡ Some n
-    name_of_all more es is v n h = ap (λ xs. name_of xs v) is ∙ name_stays more es v n (subst (Each MayFollow) is lawful) h
+    name_of_all : (more es : List Entry) → all ≡ more ++ es → (v : ℕ) (n : Name) → name_of es v ≡ Some n →
+        name_of all v ≡ Some n
+    name_of_all more es is v n h = ap (λ xs. name_of xs v) is ∙ name_stays more es v n
+        (subst (Each MayFollow) is lawful) h
 
-    value_read : (es more : List Entry) → all ≡ more ++ es → Each MayFollow es → (l : Literal) → is_circuit_name (name_of es (variable_of l)) ≡ true → AgreesOn l →
+    value_read : (es more : List Entry) → all ≡ more ++ es → Each MayFollow es → (l : Literal) →
+        is_circuit_name (name_of es (variable_of l)) ≡ true → AgreesOn l →
         value_in p bad es (variable_of l) ≡ value_in q bad es (variable_of l)
     value_read [] more is own l h agree = refl
     value_read (Named w n ∷ es) more is own l h agree =
-        by_bit (λ k. value_read es (more ++ Named w n ∷ []) (is ∙ sym (append_assoc more (Named w n ∷ []) es)) own.1 k) (variable_of l == w) refl h where
-          by_name : ((k : Literal) → is_circuit_name (name_of es (variable_of k)) ≡ true → AgreesOn k → value_in p bad es (variable_of k) ≡ value_in q bad es (variable_of k)) →
-              (o : Name) → HasSides es o → is_circuit_name (Some o) ≡ true → name_of all (variable_of l) ≡ Some o → name_value p bad (value_in p bad es) o ≡ name_value q bad (value_in q bad es) o
+        by_bit (λ k. value_read es (more ++ Named w n ∷ []) (is ∙ sym (append_assoc more (Named w n ∷ []) es)) own.1 k)
+        (variable_of l == w) refl h where
+          by_name : ((k : Literal) → is_circuit_name (name_of es (variable_of k)) ≡ true → AgreesOn k →
+              value_in p bad es (variable_of k) ≡ value_in q bad es (variable_of k)) →
+              (o : Name) → HasSides es o → is_circuit_name (Some o) ≡ true → name_of all (variable_of l) ≡ Some o →
+              name_value p bad (value_in p bad es) o ≡ name_value q bad (value_in q bad es) o
           by_name later (Selector g) s h there = refl
           by_name later (Pair k y) s h there = refl
           by_name later (Input x) s h there = agree x (itself l x there)
           by_name later (And a b) s h there = both_same (value_in p bad es) (value_in q bad es) a b
-              (later a s.0 (λ x r. agree x (left l a b x there r))) (later b s.1 (λ x r. agree x (right l a b x there r)))
+              (later a s.0 (λ x r. agree x (left l a b x there r)))
+              (later b s.1 (λ x r. agree x (right l a b x there r)))
           by_name later (Bad g j) s h there = refl
           by_name later (CopyOf side u) s h there = refl
           by_name later (Term a b) s h there = refl
 
-          by_bit : ((k : Literal) → is_circuit_name (name_of es (variable_of k)) ≡ true → AgreesOn k → value_in p bad es (variable_of k) ≡ value_in q bad es (variable_of k)) →
-              (b : Bool) → (variable_of l == w) ≡ b → is_circuit_name (cond b (Some n) (name_of es (variable_of l))) ≡ true →
-              cond b (name_value p bad (value_in p bad es) n) (value_in p bad es (variable_of l)) ≡ cond b (name_value q bad (value_in q bad es) n) (value_in q bad es (variable_of l))
+          by_bit : ((k : Literal) → is_circuit_name (name_of es (variable_of k)) ≡ true → AgreesOn k →
+              value_in p bad es (variable_of k) ≡ value_in q bad es (variable_of k)) →
+              (b : Bool) → (variable_of l == w) ≡ b → is_circuit_name (cond b (Some n) (name_of es (variable_of l)))
+              ≡ true →
+              cond b (name_value p bad (value_in p bad es) n) (value_in p bad es (variable_of l)) ≡ cond b
+              (name_value q bad (value_in q bad es) n) (value_in q bad es (variable_of l))
           by_bit later true e h =
-              by_name later n own.0.sides h (name_of_all more (Named w n ∷ es) is (variable_of l) n (cond-true (variable_of l == w) (Some n) (name_of es (variable_of l)) e))
+              by_name later n own.0.sides h (name_of_all more (Named w n ∷ es) is (variable_of l) n
+              (cond-true (variable_of l == w) (Some n) (name_of es (variable_of l)) e))
           by_bit later false e h = later l h agree
-    value_read (Given origin c ∷ es) more is own l h agree = value_read es (more ++ Given origin c ∷ []) (is ∙ sym (append_assoc more (Given origin c ∷ []) es)) own.1 l h agree
-    value_read (Learned c hints ∷ es) more is own l h agree = value_read es (more ++ Learned c hints ∷ []) (is ∙ sym (append_assoc more (Learned c hints ∷ []) es)) own.1 l h agree
-    value_read (Answer c hints ∷ es) more is own l h agree = value_read es (more ++ Answer c hints ∷ []) (is ∙ sym (append_assoc more (Answer c hints ∷ []) es)) own.1 l h agree
-    value_read (Round row values j ∷ es) more is own l h agree = value_read es (more ++ Round row values j ∷ []) (is ∙ sym (append_assoc more (Round row values j ∷ []) es)) own.1 l h agree
-    value_read (Begun live ∷ es) more is own l h agree = value_read es (more ++ Begun live ∷ []) (is ∙ sym (append_assoc more (Begun live ∷ []) es)) own.1 l h agree
+    value_read (Given origin c ∷ es) more is own l h agree =
+        value_read es (more ++ Given origin c ∷ []) (is ∙ sym (append_assoc more (Given origin c ∷ []) es)) own.1
+        l h agree
+    value_read (Learned c hints ∷ es) more is own l h agree =
+        value_read es (more ++ Learned c hints ∷ []) (is ∙ sym (append_assoc more (Learned c hints ∷ []) es)) own.1
+        l h agree
+    value_read (Answer c hints ∷ es) more is own l h agree =
+        value_read es (more ++ Answer c hints ∷ []) (is ∙ sym (append_assoc more (Answer c hints ∷ []) es)) own.1
+        l h agree
+    value_read (Round row values j ∷ es) more is own l h agree =
+        value_read es (more ++ Round row values j ∷ []) (is ∙ sym (append_assoc more (Round row values j ∷ []) es))
+        own.1 l h agree
+    value_read (Begun live ∷ es) more is own l h agree = value_read es (more ++ Begun live ∷ [])
+        (is ∙ sym (append_assoc more (Begun live ∷ []) es)) own.1 l h agree
 
 -- a leaf of the given clauses is constant or stands on an input or a gate
 abbrev pub IsCircuitLeaf : List Entry → Leaf → Type 0
 IsCircuitLeaf es (Constant b) = Unit {0}
 IsCircuitLeaf es (LeafLiteral l) = is_circuit_name (name_of es (variable_of l)) ≡ true
 
-leaf_read : (p q : Assignment) (bad : ℕ → Bool) (all : List Entry) → Each MayFollow all → (leaf : Leaf) → IsCircuitLeaf all leaf → ((x : ℕ) → LeafReads all leaf x → p x ≡ q x) →
+leaf_read : (p q : Assignment) (bad : ℕ → Bool) (all : List Entry) → Each MayFollow all → (leaf : Leaf) →
+    IsCircuitLeaf all leaf → ((x : ℕ) → LeafReads all leaf x → p x ≡ q x) →
     leaf_value (value_in p bad all) leaf ≡ leaf_value (value_in q bad all) leaf
 leaf_read p q bad all lawful (Constant b) circuit agree = refl
-leaf_read p q bad all lawful (LeafLiteral l) circuit agree = literal_same (value_in p bad all) (value_in q bad all) l (value_read p q bad all lawful all [] refl lawful l circuit agree)
+leaf_read p q bad all lawful (LeafLiteral l) circuit agree =
+    literal_same (value_in p bad all) (value_in q bad all) l
+    (value_read p q bad all lawful all [] refl lawful l circuit agree)
 
-pub circuit_stays : (es more : List Entry) → Each MayFollow (more ++ es) → (v : ℕ) (o : Option Name) → name_of es v ≡ o → is_circuit_name o ≡ true → is_circuit_name (name_of (more ++ es) v) ≡ true
+pub circuit_stays : (es more : List Entry) → Each MayFollow (more ++ es) → (v : ℕ) (o : Option Name) →
+    name_of es v ≡ o → is_circuit_name o ≡ true → is_circuit_name (name_of (more ++ es) v) ≡ true
 circuit_stays es more lawful v None h c = cc
 circuit_stays es more lawful v (Some n) h c = ap is_circuit_name (name_stays more es v n lawful h) ∙ c
 
-leaf_stays : (f : Dqbf) (es more : List Entry) → Each MayFollow (more ++ es) → (v : ℕ) (leaf : Leaf) → IsLeafOf f es v leaf → IsCircuitLeaf (more ++ es) leaf
+leaf_stays : (f : Dqbf) (es more : List Entry) → Each MayFollow (more ++ es) → (v : ℕ) (leaf : Leaf) →
+    IsLeafOf f es v leaf → IsCircuitLeaf (more ++ es) leaf
 leaf_stays f es more lawful v (Constant b) h = tt
-leaf_stays f es more lawful v (LeafLiteral l) h = circuit_stays es more lawful (variable_of l) (name_of es (variable_of l)) refl h.1
+leaf_stays f es more lawful v (LeafLiteral l) h = circuit_stays es more lawful (variable_of l)
+    (name_of es (variable_of l)) refl h.1
 
-pub clause_same : (f : Dqbf) (m n : Assignment) → ((v : ℕ) → Contains (declared f) v → m v ≡ n v) → (c : List Literal) → All (λ l. Contains (declared f) (variable_of l)) c → clause_true m c ≡ clause_true n c
+pub clause_same : (f : Dqbf) (m n : Assignment) → ((v : ℕ) → Contains (declared f) v → m v ≡ n v) → (c : List Literal) →
+    All (λ l. Contains (declared f) (variable_of l)) c → clause_true m c ≡ clause_true n c
 clause_same f m n same [] h = refl
 clause_same f m n same (l ∷ ls) h =
     let here = same (variable_of l) (All-head (λ k. Contains (declared f) (variable_of k)) l ls h) in
-    ap (λ b. b || clause_true m ls) (literal_same m n l here) ∙ ap (λ b. literal_true n l || b) (clause_same f m n same ls (All-tail (λ k. Contains (declared f) (variable_of k)) l ls h))
+    ap (λ b. b || clause_true m ls) (literal_same m n l here) ∙ ap (λ b. literal_true n l || b)
+    (clause_same f m n same ls (All-tail (λ k. Contains (declared f) (variable_of k)) l ls h))
 
 -- a declared variable has its bit
-pub declared_bit : (f : Dqbf) (m : Assignment) (bit : Existential → Bool) → All (λ y. m y.variable ≡ bit y) f.existentials → (v : ℕ) → Contains (declared f) v → m v ≡ by_bits f m bit v
+pub declared_bit : (f : Dqbf) (m : Assignment) (bit : Existential → Bool) →
+    All (λ y. m y.variable ≡ bit y) f.existentials → (v : ℕ) → Contains (declared f) v → m v ≡ by_bits f m bit v
 declared_bit f m bit follows v inside = by_bit (is_universal f v) refl where
   by_option : is_universal f v ≡ false → (o : Option Existential) → existential_of f v ≡ o → m v ≡ existential_bit bit o
   by_option other None none = absurd (elim (Contains-append_cases f.universals (map variable f.existentials) v inside) [
-    | inl universal ↦ true≢false (sym (list_any_at (λ x. x == v) f.universals universal.0 v universal.1 (eq-eqb (get_or f.universals universal.0 v) v universal.2)) ∙ other)
+    | inl universal ↦ true≢false (sym (list_any_at (λ x. x == v) f.universals universal.0 v universal.1
+        (eq-eqb (get_or f.universals universal.0 v) v universal.2)) ∙ other)
     | inr existential ↦ find_there f.existentials v existential none
   ])
   by_option other (Some y) found =
@@ -255,40 +315,60 @@ declared_bit f m bit follows v inside = by_bit (is_universal f v) refl where
   by_bit true e = refl
   by_bit false e = by_option e (existential_of f v) refl
 
-module _ (f : Dqbf) (well : IsWellFormed f) (es : List Entry) (clause : List Literal) (hints : List ℕ) (lawful : Each MayFollow es)
+module _ (f : Dqbf) (well : IsWellFormed f) (es : List Entry) (clause : List Literal) (hints : List ℕ)
+    (lawful : Each MayFollow es)
     (decides : DecidesTrue f es clause hints) (given : Each (MatchesInGroup f decides.rests.group) es)
-    (bits_hold : (m : Assignment) (bit : Existential → Bool) → All (λ y. (out : Leaf) → IsFaultLeaf f es hints y out → circuit_value es m out ≡ bit y) f.existentials → MatrixHolds f (by_bits f m bit)) where
+    (bits_hold : (m : Assignment) (bit : Existential → Bool) →
+    All (λ y. (out : Leaf) → IsFaultLeaf f es hints y out → circuit_value es m out ≡ bit y) f.existentials →
+    MatrixHolds f (by_bits f m bit)) where
   abbrev pub leaf_of : Existential → Leaf
   leaf_of y = leaf_in f decides.rests.group y.variable es
 
   abbrev pub functions : Existential → OutputFunction
-  functions y = record { value = λ m. leaf_value (value_in (seen y.sees m) (λ _. false) es) (leaf_of y); support = y.sees }
+  functions y = record {
+    value = λ m. leaf_value (value_in (seen y.sees m) (λ _. false) es) (leaf_of y);
+    support =
+        y.sees;
+  }
 
   -- a leaf that is reached
-  reached_leaf : (y : Existential) (out : Leaf) → IsFaultLeaf f es hints y out → (leaf_of y ≡ out) × IsCircuitLeaf es out
+  reached_leaf : (y : Existential) (out : Leaf) → IsFaultLeaf f es hints y out →
+      (leaf_of y ≡ out) × IsCircuitLeaf es out
   reached_leaf y out fault = by_number fault.j refl where
     by_number : (j : ℕ) → fault.j ≡ j → (leaf_of y ≡ out) × IsCircuitLeaf es out
-    by_number zero e = let none : option_map variable_of (matrix_literal f fault.j fault.i) ≡ None = ap (λ k. option_map variable_of (matrix_literal f k fault.i)) e in let some = fault.own in cc
+    by_number zero e = let none : option_map variable_of (matrix_literal f fault.j fault.i) ≡ None =
+        ap (λ k. option_map variable_of (matrix_literal f k fault.i)) e in let some = fault.own in cc
     by_number (suc j) e =
-        let own : option_map variable_of (matrix_literal f (suc j) fault.i) ≡ Some y.variable = ap (λ k. option_map variable_of (matrix_literal f k fault.i)) (sym e) ∙ fault.own in
-        let reached : ReachesGiven es hints (Fault (suc j) fault.i out) fault.clause = subst (λ k. ReachesGiven es hints (Fault k fault.i out) fault.clause) e fault.reached in
+        let own : option_map variable_of (matrix_literal f (suc j) fault.i) ≡ Some y.variable =
+        ap (λ k. option_map variable_of (matrix_literal f k fault.i)) (sym e) ∙ fault.own in
+        let reached : ReachesGiven es hints (Fault (suc j) fault.i out) fault.clause =
+        subst (λ k. ReachesGiven es hints (Fault k fault.i out) fault.clause) e fault.reached in
         let mine = decides.rests.circuit (Fault (suc j) fault.i out) fault.clause reached in
         let place = split_at es reached.id (Given (Fault (suc j) fault.i out) fault.clause) reached.is_given in
         let o : IsOriginsClause f place.1 (Fault (suc j) fault.i out) fault.clause =
-        each_at (MatchesInGroup f decides.rests.group) place.0 place.1 (Given (Fault (suc j) fault.i out) fault.clause) (subst (Each (MatchesInGroup f decides.rests.group)) place.2 given)
+        each_at (MatchesInGroup f decides.rests.group) place.0 place.1 (Given (Fault (suc j) fault.i out) fault.clause)
+        (subst (Each (MatchesInGroup f decides.rests.group)) place.2 given)
         (ap (is_in_group decides.rests.group) mine.1 ∙ eq-eqb decides.rests.group decides.rests.group refl) in
         let rest : IsFaultRest f place.1 o.group (suc j) fault.i out o.rest = o.rest_is in
         let entry = Given (Fault (suc j) fault.i out) (negative decides.rests.group ∷ mine.0) in
-        let same : Given (Fault (suc j) fault.i out) fault.clause ≡ entry = ap (Given (Fault (suc j) fault.i out)) mine.1 in
-        let inside : Contains es entry = subst (Contains es) same (subst (λ xs. Contains xs (Given (Fault (suc j) fault.i out) fault.clause)) (sym place.2)
-        (Contains-append_right place.0 (Given (Fault (suc j) fault.i out) fault.clause ∷ place.1) (Given (Fault (suc j) fault.i out) fault.clause) (0, omega arith, refl))) in
-        let is' : es ≡ (place.0 ++ Given (Fault (suc j) fault.i out) fault.clause ∷ []) ++ place.1 = place.2 ∙ sym (append_assoc place.0 (Given (Fault (suc j) fault.i out) fault.clause ∷ []) place.1) in
-        let circuit = leaf_stays f place.1 (place.0 ++ Given (Fault (suc j) fault.i out) fault.clause ∷ []) (subst (Each MayFollow) is' lawful) (variable_of rest.literal) out rest.leaf_is in
-        (one_leaf f decides.rests.group y.variable es (suc j) fault.i out mine.0 given inside own, subst (λ xs. IsCircuitLeaf xs out) (sym is') circuit)
+        let same : Given (Fault (suc j) fault.i out) fault.clause ≡ entry =
+        ap (Given (Fault (suc j) fault.i out)) mine.1 in
+        let inside : Contains es entry = subst (Contains es) same
+        (subst (λ xs. Contains xs (Given (Fault (suc j) fault.i out) fault.clause)) (sym place.2)
+        (Contains-append_right place.0 (Given (Fault (suc j) fault.i out) fault.clause ∷ place.1)
+        (Given (Fault (suc j) fault.i out) fault.clause) (0, omega arith, refl))) in
+        let is' : es ≡ (place.0 ++ Given (Fault (suc j) fault.i out) fault.clause ∷ []) ++ place.1 =
+        place.2 ∙ sym (append_assoc place.0 (Given (Fault (suc j) fault.i out) fault.clause ∷ []) place.1) in
+        let circuit = leaf_stays f place.1 (place.0 ++ Given (Fault (suc j) fault.i out) fault.clause ∷ [])
+        (subst (Each MayFollow) is' lawful) (variable_of rest.literal) out rest.leaf_is in (
+          one_leaf f decides.rests.group y.variable es (suc j) fault.i out mine.0 given inside own,
+          subst (λ xs. IsCircuitLeaf xs out) (sym is') circuit,
+        )
 
   pub functions_are : AreSkolemFunctions f functions
   functions_are = record {
-    supported = λ k d below m n same. leaf_same (seen (get_or f.existentials k d).sees m) (seen (get_or f.existentials k d).sees n) (λ _. false)
+    supported = λ k d below m n same. leaf_same (seen (get_or f.existentials k d).sees m)
+        (seen (get_or f.existentials k d).sees n) (λ _. false)
         (seen_same (get_or f.existentials k d).sees m n same) es (leaf_of (get_or f.existentials k d));
     reads_declared = λ k d below i e inside. Contains-get_or (get_or f.existentials k d).sees i e inside;
     holds = λ m follows.
@@ -296,8 +376,11 @@ module _ (f : Dqbf) (well : IsWellFormed f) (es : List Entry) (clause : List Lit
         (λ k d below out fault.
         let y = get_or f.existentials k d in
         let r = reached_leaf y out fault in
-        leaf_read m (seen y.sees m) (λ _. false) es lawful out r.1 (λ x reads. seen_there y.sees m x (decides.reads k d below out fault x reads))
+        leaf_read m (seen y.sees m) (λ _. false) es lawful out r.1
+        (λ x reads. seen_there y.sees m x (decides.reads k d below out fault x reads))
         ∙ ap (leaf_value (value_in (seen y.sees m) (λ _. false) es)) (sym r.0)) in
         λ k d below.
-        clause_same f m (by_bits f m (λ y. (functions y).value m)) (declared_bit f m (λ y. (functions y).value m) follows) (get_or f.matrix k d) (well.bound k d below) ∙ truth k d below;
+        clause_same f m (by_bits f m (λ y. (functions y).value m))
+        (declared_bit f m (λ y. (functions y).value m) follows) (get_or f.matrix k d) (well.bound k d below)
+        ∙ truth k d below;
   }

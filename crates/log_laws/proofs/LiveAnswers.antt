@@ -32,31 +32,42 @@ same_universals : (all : Dqbf) (o : Option (List ℕ)) → length (formula_by al
 same_universals all None = refl
 same_universals all (Some live) = refl
 
-new_live_row : (all : Dqbf) (earlier : List Entry) (e : Entry) → RefutesNewLiveRow all earlier e → HasNewRow (length all.universals) earlier e
-new_live_row all earlier e h = has_new_row (live_formula all earlier) (length all.universals) (same_universals all (live_numbers earlier)) earlier e h
+new_live_row : (all : Dqbf) (earlier : List Entry) (e : Entry) → RefutesNewLiveRow all earlier e →
+    HasNewRow (length all.universals) earlier e
+new_live_row all earlier e h = has_new_row (live_formula all earlier) (length all.universals)
+    (same_universals all (live_numbers earlier)) earlier e h
 
 pub few_session_rounds : SessionRoundsAreFew
-few_session_rounds all entries rounds = few_by_rows (length all.universals) entries (each_weaker (RefutesNewLiveRow all) (HasNewRow (length all.universals)) (new_live_row all) entries rounds)
+few_session_rounds all entries rounds = few_by_rows (length all.universals) entries
+    (each_weaker (RefutesNewLiveRow all) (HasNewRow (length all.universals)) (new_live_row all) entries rounds)
 
 -- a live clause is one of the formula's
-live_clause : (all : Dqbf) (live : List ℕ) (j : ℕ) (clause : List Literal) → Contains live j → numbered_from_one all.matrix j ≡ Some clause → Contains (formula_of all live).matrix clause
+live_clause : (all : Dqbf) (live : List ℕ) (j : ℕ) (clause : List Literal) → Contains live j →
+    numbered_from_one all.matrix j ≡ Some clause → Contains (formula_of all live).matrix clause
 live_clause all [] j clause (k, below, is) at = absurd (omega (arith, below))
-live_clause all (i ∷ live) j clause (zero, below, is) at = subst (λ o. Contains (cons_option o (filter_map (numbered_from_one all.matrix) live)) clause) (sym (ap (numbered_from_one all.matrix) is ∙ at)) (0, omega arith, refl)
+live_clause all (i ∷ live) j clause (zero, below, is) at = subst
+    (λ o. Contains (cons_option o (filter_map (numbered_from_one all.matrix) live)) clause)
+    (sym (ap (numbered_from_one all.matrix) is ∙ at)) (0, omega arith, refl)
 live_clause all (i ∷ live) j clause (suc k, below, is) at =
-    behind (numbered_from_one all.matrix i) (live_clause all live j clause (k, (let b = below in omega (arith, b)), is) at)
+    behind (numbered_from_one all.matrix i) (live_clause all live j clause
+    (k, (let b = below in omega (arith, b)), is) at)
   where
-    behind : (o : Option (List Literal)) → Contains (filter_map (numbered_from_one all.matrix) live) clause → Contains (cons_option o (filter_map (numbered_from_one all.matrix) live)) clause
+    behind : (o : Option (List Literal)) → Contains (filter_map (numbered_from_one all.matrix) live) clause →
+        Contains (cons_option o (filter_map (numbered_from_one all.matrix) live)) clause
     behind None inside = inside
     behind (Some c) inside = let b = inside.1 in (suc inside.0, omega (arith, b), inside.2)
 
 -- a given clause of anything but a fault is its origin's by all that was numbered
-of_all : (all : Dqbf) (before : List Entry) (k j : ℕ) (c : List Literal) → MatchesLiveOrigin all before (Given (Instance k j) c) → IsOriginsClause all before (Instance k j) c
+of_all : (all : Dqbf) (before : List Entry) (k j : ℕ) (c : List Literal) →
+    MatchesLiveOrigin all before (Given (Instance k j) c) → IsOriginsClause all before (Instance k j) c
 of_all all before k j c h = h
 
 -- an answer that rests on instances of live clauses alone
-module _ (all : Dqbf) (earlier : List Entry) (clause : List Literal) (hints : List ℕ) (lawful : Each MayFollow earlier) (given : Each (MatchesLiveOrigin all) earlier)
+module _ (all : Dqbf) (earlier : List Entry) (clause : List Literal) (hints : List ℕ) (lawful : Each MayFollow earlier)
+    (given : Each (MatchesLiveOrigin all) earlier)
     (derived_all : Each IsDerivedByHints earlier) (derived : IsDerivedByHints earlier (Answer clause hints)) where
-  pub live_refuted : LinesAreImplied → (live : List ℕ) → live_numbers earlier ≡ Some live → DecidesLiveFalse earlier clause hints
+  pub live_refuted : LinesAreImplied → (live : List ℕ) → live_numbers earlier ≡ Some live →
+      DecidesLiveFalse earlier clause hints
       → IsExpansionUnsatisfiable (formula_of all live) (rows_of earlier)
   live_refuted implied live is decides =
       refuted_among implied all (formula_of all live).matrix earlier clause hints
@@ -64,12 +75,16 @@ module _ (all : Dqbf) (earlier : List Entry) (clause : List Literal) (hints : Li
         logged = lawful;
         lemmas_are_derived = derived_all;
         derived = derived;
-        givens_match_origins = λ more before origin c at reached. origins more before origin c at (decides.decides.instances origin c reached);
+        givens_match_origins = λ more before origin c at reached. origins more before origin c at
+            (decides.decides.instances origin c reached);
       })
-      decides.decides.selectors (λ origin c reached. among origin c reached (decides.decides.instances origin c reached))
+      decides.decides.selectors (λ origin c reached. among origin c reached
+      (decides.decides.instances origin c reached))
     where
-      origins : (more before : List Entry) (origin : Origin) (c : List Literal) → earlier ≡ more ++ Given origin c ∷ before → IsInstance origin → IsOriginsClause all before origin c
-      origins more before (Instance k j) c at what = each_at (MatchesLiveOrigin all) more before (Given (Instance k j) c) (subst (Each (MatchesLiveOrigin all)) at given)
+      origins : (more before : List Entry) (origin : Origin) (c : List Literal) →
+          earlier ≡ more ++ Given origin c ∷ before → IsInstance origin → IsOriginsClause all before origin c
+      origins more before (Instance k j) c at what = each_at (MatchesLiveOrigin all) more before
+          (Given (Instance k j) c) (subst (Each (MatchesLiveOrigin all)) at given)
       origins more before (Gate v i) c at what = absurd what
       origins more before (Fault j i leaf) c at what = absurd what
       origins more before (Copy side j) c at what = absurd what
@@ -77,8 +92,10 @@ module _ (all : Dqbf) (earlier : List Entry) (clause : List Literal) (hints : Li
       origins more before (TermGate v i) c at what = absurd what
       origins more before (Differ y leaf part) c at what = absurd what
 
-      among : (origin : Origin) (c : List Literal) → ReachesGiven earlier hints origin c → IsInstance origin → IsInstanceAmong all (formula_of all live).matrix origin
-      among (Instance k j) c reached what = λ clause at. live_clause all live j clause (decides.live live k j c is reached) at
+      among : (origin : Origin) (c : List Literal) → ReachesGiven earlier hints origin c → IsInstance origin →
+          IsInstanceAmong all (formula_of all live).matrix origin
+      among (Instance k j) c reached what = λ clause at. live_clause all live j clause
+          (decides.live live k j c is reached) at
       among (Gate v i) c reached what = absurd what
       among (Fault j i leaf) c reached what = absurd what
       among (Copy side j) c reached what = absurd what
@@ -87,38 +104,64 @@ module _ (all : Dqbf) (earlier : List Entry) (clause : List Literal) (hints : Li
       among (Differ y leaf part) c reached what = absurd what
 
 -- what stood before a group that is since the last beginning, is behind it
-pub same_search : (more before : List Entry) (origin : Origin) (c : List Literal) (g : ℕ) (n : Name) → Each MayFollow (more ++ Given origin c ∷ before) → name_of before g ≡ Some n
-    → IsSinceBeginning (more ++ Given origin c ∷ before) g → live_numbers (more ++ Given origin c ∷ before) ≡ live_numbers before
+pub same_search : (more before : List Entry) (origin : Origin) (c : List Literal) (g : ℕ) (n : Name) →
+    Each MayFollow (more ++ Given origin c ∷ before) → name_of before g ≡ Some n
+    → IsSinceBeginning (more ++ Given origin c ∷ before) g →
+    live_numbers (more ++ Given origin c ∷ before) ≡ live_numbers before
 same_search [] before origin c g n lawful named since = refl
-same_search (Named v m ∷ more) before origin c g n lawful named since = same_search more before origin c g n lawful.1 named since
-same_search (Given o d ∷ more) before origin c g n lawful named since = same_search more before origin c g n lawful.1 named since
-same_search (Learned d h ∷ more) before origin c g n lawful named since = same_search more before origin c g n lawful.1 named since
-same_search (Answer d h ∷ more) before origin c g n lawful named since = same_search more before origin c g n lawful.1 named since
-same_search (Round r b j ∷ more) before origin c g n lawful named since = same_search more before origin c g n lawful.1 named since
+same_search (Named v m ∷ more) before origin c g n lawful named since =
+    same_search more before origin c g n lawful.1 named since
+same_search (Given o d ∷ more) before origin c g n lawful named since =
+    same_search more before origin c g n lawful.1 named since
+same_search (Learned d h ∷ more) before origin c g n lawful named since =
+    same_search more before origin c g n lawful.1 named since
+same_search (Answer d h ∷ more) before origin c g n lawful named since =
+    same_search more before origin c g n lawful.1 named since
+same_search (Round r b j ∷ more) before origin c g n lawful named since =
+    same_search more before origin c g n lawful.1 named since
 same_search (Begun live ∷ more) before origin c g n lawful named since =
-    let stays : name_of (more ++ Given origin c ∷ before) g ≡ Some n = name_stays more (Given origin c ∷ before) g n lawful.1 named in
+    let stays : name_of (more ++ Given origin c ∷ before) g ≡ Some n =
+    name_stays more (Given origin c ∷ before) g n lawful.1 named in
     let none : name_of (more ++ Given origin c ∷ before) g ≡ None = since in
     cc
 
 -- a gate's clause is its origin's by any formula
-pub gate_of_any : (f g : Dqbf) (before : List Entry) (v i : ℕ) (c : List Literal) → IsOriginsClause f before (Gate v i) c → IsOriginsClause g before (Gate v i) c
-gate_of_any f g before v i c o = record { group = o.group; rest = o.rest; clause_is = o.clause_is; is_group = o.is_group; rest_is = o.rest_is; one_leaf = λ w j i' j' i'' leaf leaf' rest is. cc }
+pub gate_of_any : (f g : Dqbf) (before : List Entry) (v i : ℕ) (c : List Literal) →
+    IsOriginsClause f before (Gate v i) c → IsOriginsClause g before (Gate v i) c
+gate_of_any f g before v i c o = record {
+  group = o.group;
+  rest = o.rest;
+  clause_is = o.clause_is;
+  is_group =
+      o.is_group;
+  rest_is = o.rest_is;
+  one_leaf = λ w j i' j' i'' leaf leaf' rest is. cc;
+}
 
 -- an answer that rests on a circuit of its own search
-module _ (all : Dqbf) (earlier : List Entry) (clause : List Literal) (hints : List ℕ) (lawful : Each MayFollow earlier) (given : Each (MatchesLiveOrigin all) earlier)
-    (derived_all : Each IsDerivedByHints earlier) (derived : IsDerivedByHints earlier (Answer clause hints)) (decides : DecidesLiveTrue all earlier clause hints) where
+module _ (all : Dqbf) (earlier : List Entry) (clause : List Literal) (hints : List ℕ) (lawful : Each MayFollow earlier)
+    (given : Each (MatchesLiveOrigin all) earlier)
+    (derived_all : Each IsDerivedByHints earlier) (derived : IsDerivedByHints earlier (Answer clause hints))
+    (decides : DecidesLiveTrue all earlier clause hints) where
   group : ℕ
   group = decides.decides.rests.group
 
   -- a fault of the group is its origin's clause by the search's formula
-  fault_of_search : (more before : List Entry) (j i : ℕ) (leaf : Leaf) (c : List Literal) (rest : List Literal) → earlier ≡ more ++ Given (Fault j i leaf) c ∷ before
-      → c ≡ negative decides.decides.rests.group ∷ rest → IsOriginsClause (live_formula all earlier) before (Fault j i leaf) c
+  fault_of_search : (more before : List Entry) (j i : ℕ) (leaf : Leaf) (c : List Literal) (rest : List Literal) →
+      earlier ≡ more ++ Given (Fault j i leaf) c ∷ before
+      → c ≡ negative decides.decides.rests.group ∷ rest → IsOriginsClause (live_formula all earlier) before
+      (Fault j i leaf) c
   fault_of_search more before j i leaf c rest at mine =
-      let own : IsOriginsClause (live_formula all before) before (Fault j i leaf) c = each_at (MatchesLiveOrigin all) more before (Given (Fault j i leaf) c) (subst (Each (MatchesLiveOrigin all)) at given) in
-      let same : own.group ≡ decides.decides.rests.group = (let e : negative own.group ∷ own.rest ≡ negative decides.decides.rests.group ∷ rest = sym own.clause_is ∙ mine in cc) in
-      let named : name_of before decides.decides.rests.group ≡ Some (Selector own.group) = ap (name_of before) (sym same) ∙ own.is_group in
+      let own : IsOriginsClause (live_formula all before) before (Fault j i leaf) c =
+      each_at (MatchesLiveOrigin all) more before (Given (Fault j i leaf) c)
+      (subst (Each (MatchesLiveOrigin all)) at given) in
+      let same : own.group ≡ decides.decides.rests.group = (let e : negative own.group ∷ own.rest
+      ≡ negative decides.decides.rests.group ∷ rest = sym own.clause_is ∙ mine in cc) in
+      let named : name_of before decides.decides.rests.group ≡ Some (Selector own.group) =
+      ap (name_of before) (sym same) ∙ own.is_group in
       let lives : live_numbers earlier ≡ live_numbers before =
-      ap live_numbers at ∙ same_search more before (Fault j i leaf) c decides.decides.rests.group (Selector own.group) (subst (Each MayFollow) at lawful) named
+      ap live_numbers at ∙ same_search more before (Fault j i leaf) c decides.decides.rests.group (Selector own.group)
+      (subst (Each MayFollow) at lawful) named
       (subst (λ es. IsSinceBeginning es decides.decides.rests.group) at decides.current) in
       subst (λ o. IsOriginsClause (formula_by all o) before (Fault j i leaf) c) (sym lives) own
 
@@ -127,13 +170,17 @@ module _ (all : Dqbf) (earlier : List Entry) (clause : List Literal) (hints : Li
     logged = lawful;
     lemmas_are_derived = derived_all;
     derived = derived;
-    givens_match_origins = λ more before origin c at reached. by more before origin c at (decides.decides.rests.circuit origin c reached);
+    givens_match_origins = λ more before origin c at reached. by more before origin c at
+        (decides.decides.rests.circuit origin c reached);
   }
     where
-      by : (more before : List Entry) (origin : Origin) (c : List Literal) → earlier ≡ more ++ Given origin c ∷ before → IsCircuitGiven decides.decides.rests.group origin c
+      by : (more before : List Entry) (origin : Origin) (c : List Literal) → earlier ≡ more ++ Given origin c ∷ before →
+          IsCircuitGiven decides.decides.rests.group origin c
           → IsOriginsClause (live_formula all earlier) before origin c
       by more before (Instance k j) c at mine = absurd mine
-      by more before (Gate v i) c at mine = gate_of_any all (live_formula all earlier) before v i c (each_at (MatchesLiveOrigin all) more before (Given (Gate v i) c) (subst (Each (MatchesLiveOrigin all)) at given))
+      by more before (Gate v i) c at mine = gate_of_any all (live_formula all earlier) before v i c
+          (each_at (MatchesLiveOrigin all) more before (Given (Gate v i) c)
+          (subst (Each (MatchesLiveOrigin all)) at given))
       by more before (Fault j i leaf) c at mine = fault_of_search more before j i leaf c mine.0 at mine.1
       by more before (Copy side j) c at mine = absurd mine
       by more before (Link v i) c at mine = absurd mine
@@ -141,7 +188,8 @@ module _ (all : Dqbf) (earlier : List Entry) (clause : List Literal) (hints : Li
       by more before (Differ y leaf part) c at mine = absurd mine
 
   -- the same of all faults of the group
-  faults_of_group : (more es : List Entry) → earlier ≡ more ++ es → Each (MatchesInGroup (live_formula all earlier) decides.decides.rests.group) es
+  faults_of_group : (more es : List Entry) → earlier ≡ more ++ es →
+      Each (MatchesInGroup (live_formula all earlier) decides.decides.rests.group) es
   faults_of_group more [] at = tt
   faults_of_group more (e ∷ es) at = (by e at, faults_of_group (more ++ e ∷ []) es (at ∙ sym (append-one more e es)))
     where
@@ -149,15 +197,20 @@ module _ (all : Dqbf) (earlier : List Entry) (clause : List Literal) (hints : Li
       append-one [] x ys = refl
       append-one (y ∷ xs) x ys = ap (λ zs. y ∷ zs) (append-one xs x ys)
 
-      in_mine : (g : ℕ) (c : List Literal) → is_in_group g c ≡ true → (origin : Origin) → IsOriginsClause (live_formula all es) es origin c → (rest : List Literal) × (c ≡ negative g ∷ rest)
-      in_mine g c inside origin own = let same : g ≡ own.group = in_group g own.group c own.rest own.clause_is inside in (own.rest, own.clause_is ∙ ap (λ h. negative h ∷ own.rest) (sym same))
+      in_mine : (g : ℕ) (c : List Literal) → is_in_group g c ≡ true → (origin : Origin) →
+          IsOriginsClause (live_formula all es) es origin c → (rest : List Literal) × (c ≡ negative g ∷ rest)
+      in_mine g c inside origin own = let same : g ≡ own.group = in_group g own.group c own.rest own.clause_is inside in
+          (own.rest, own.clause_is ∙ ap (λ h. negative h ∷ own.rest) (sym same))
 
-      by : (e : Entry) → earlier ≡ more ++ e ∷ es → MatchesInGroup (live_formula all earlier) decides.decides.rests.group es e
+      by : (e : Entry) → earlier ≡ more ++ e ∷ es → MatchesInGroup
+          (live_formula all earlier) decides.decides.rests.group es e
       by (Named v n) at' = tt
       by (Given (Instance k j) c) at' = tt
       by (Given (Gate v i) c) at' = tt
       by (Given (Fault j i leaf) c) at' = λ inside.
-          let here : IsOriginsClause (live_formula all es) es (Fault j i leaf) c = each_at (MatchesLiveOrigin all) more es (Given (Fault j i leaf) c) (subst (Each (MatchesLiveOrigin all)) at' given) in
+          let here : IsOriginsClause (live_formula all es) es (Fault j i leaf) c =
+          each_at (MatchesLiveOrigin all) more es (Given (Fault j i leaf) c)
+          (subst (Each (MatchesLiveOrigin all)) at' given) in
           let mine = in_mine decides.decides.rests.group c inside (Fault j i leaf) here in
           fault_of_search more es j i leaf c mine.0 at' mine.1
       by (Given (Copy side j) c) at' = tt
@@ -181,15 +234,19 @@ no_earlier (Answer c hints) es h = h
 no_earlier (Round row values j) es h = h
 no_earlier (Begun live) es h = cc
 
-each_plain : (P Q : List Entry → Entry → Type 0) → ((earlier : List Entry) (e : Entry) → live_numbers (e ∷ earlier) ≡ None → P earlier e → Q earlier e) → (es : List Entry) → live_numbers es ≡ None → Each P es → Each Q es
+each_plain : (P Q : List Entry → Entry → Type 0) → ((earlier : List Entry) (e : Entry) →
+    live_numbers (e ∷ earlier) ≡ None → P earlier e → Q earlier e) → (es : List Entry) → live_numbers es ≡ None →
+    Each P es → Each Q es
 each_plain P Q weaker [] none h = tt
 each_plain P Q weaker (e ∷ es) none h = (weaker es e none h.0, each_plain P Q weaker es (no_earlier e es none) h.1)
 
-plain_origin : (all : Dqbf) (earlier : List Entry) (e : Entry) → live_numbers (e ∷ earlier) ≡ None → MatchesOrigin all earlier e → MatchesLiveOrigin all earlier e
+plain_origin : (all : Dqbf) (earlier : List Entry) (e : Entry) → live_numbers (e ∷ earlier) ≡ None →
+    MatchesOrigin all earlier e → MatchesLiveOrigin all earlier e
 plain_origin all earlier (Named v n) none h = h
 plain_origin all earlier (Given (Instance k j) c) none h = h
 plain_origin all earlier (Given (Gate v i) c) none h = h
-plain_origin all earlier (Given (Fault j i leaf) c) none h = subst (λ o. IsOriginsClause (formula_by all o) earlier (Fault j i leaf) c) (sym none) h
+plain_origin all earlier (Given (Fault j i leaf) c) none h =
+    subst (λ o. IsOriginsClause (formula_by all o) earlier (Fault j i leaf) c) (sym none) h
 plain_origin all earlier (Given (Copy side j) c) none h = h
 plain_origin all earlier (Given (Link v i) c) none h = h
 plain_origin all earlier (Given (TermGate v i) c) none h = h
@@ -199,11 +256,13 @@ plain_origin all earlier (Answer c hints) none h = tt
 plain_origin all earlier (Round row values j) none h = tt
 plain_origin all earlier (Begun live) none h = cc
 
-origin_plain : (all : Dqbf) (earlier : List Entry) (e : Entry) → live_numbers (e ∷ earlier) ≡ None → MatchesLiveOrigin all earlier e → MatchesOrigin all earlier e
+origin_plain : (all : Dqbf) (earlier : List Entry) (e : Entry) → live_numbers (e ∷ earlier) ≡ None →
+    MatchesLiveOrigin all earlier e → MatchesOrigin all earlier e
 origin_plain all earlier (Named v n) none h = h
 origin_plain all earlier (Given (Instance k j) c) none h = h
 origin_plain all earlier (Given (Gate v i) c) none h = h
-origin_plain all earlier (Given (Fault j i leaf) c) none h = subst (λ o. IsOriginsClause (formula_by all o) earlier (Fault j i leaf) c) none h
+origin_plain all earlier (Given (Fault j i leaf) c) none h =
+    subst (λ o. IsOriginsClause (formula_by all o) earlier (Fault j i leaf) c) none h
 origin_plain all earlier (Given (Copy side j) c) none h = h
 origin_plain all earlier (Given (Link v i) c) none h = h
 origin_plain all earlier (Given (TermGate v i) c) none h = h
@@ -230,18 +289,26 @@ undecided_plain all (Given origin c ∷ es) none u = undecided_plain all es none
 undecided_plain all (Learned c hints ∷ es) none u = undecided_plain all es none u.1
 undecided_plain all (Answer c hints ∷ es) none u = (
   (λ (d : DecidesLiveFalse es c hints). u.0.0 d.decides),
-  (λ (d : DecidesLiveTrue all es c hints). u.0.1 (subst (λ o. DecidesTrue (formula_by all o) es c hints) none d.decides)),
+  (λ (d : DecidesLiveTrue all es c hints). u.0.1 (subst (λ o. DecidesTrue (formula_by all o) es c hints) none
+      d.decides)),
   undecided_plain all es none u.1,
 )
 undecided_plain all (Round row values j ∷ es) none u = undecided_plain all es none u.1
 undecided_plain all (Begun live ∷ es) none u = cc
 
-live_false : (es : List Entry) (c : List Literal) (hints : List ℕ) → live_numbers es ≡ None → DecidesFalse es c hints → DecidesLiveFalse es c hints
-live_false es c hints none d = record { decides = d; live = λ numbers k j clause is reached. let both : None ≡ Some numbers = sym none ∙ is in cc }
+live_false : (es : List Entry) (c : List Literal) (hints : List ℕ) → live_numbers es ≡ None → DecidesFalse es c hints →
+    DecidesLiveFalse es c hints
+live_false es c hints none d = record {
+  decides = d;
+  live = λ numbers k j clause is reached. let both : None
+      ≡ Some numbers = sym none ∙ is in cc;
+}
 
-live_true : (all : Dqbf) (es : List Entry) (c : List Literal) (hints : List ℕ) → live_numbers es ≡ None → DecidesTrue all es c hints → DecidesLiveTrue all es c hints
+live_true : (all : Dqbf) (es : List Entry) (c : List Literal) (hints : List ℕ) → live_numbers es ≡ None →
+    DecidesTrue all es c hints → DecidesLiveTrue all es c hints
 live_true all es c hints none d =
-    let live : DecidesTrue (live_formula all es) es c hints = subst (λ o. DecidesTrue (formula_by all o) es c hints) (sym none) d in
+    let live : DecidesTrue (live_formula all es) es c hints =
+    subst (λ o. DecidesTrue (formula_by all o) es c hints) (sym none) d in
     record { decides = live; current = ap (λ xs. name_of xs live.rests.group) (none_before es none) }
 
 plain_undecided : (all : Dqbf) (es : List Entry) → live_numbers es ≡ None → IsUndecidedSince all es → IsUndecided all es
@@ -249,28 +316,40 @@ plain_undecided all [] none u = tt
 plain_undecided all (Named v n ∷ es) none u = (tt, plain_undecided all es none u)
 plain_undecided all (Given origin c ∷ es) none u = (tt, plain_undecided all es none u)
 plain_undecided all (Learned c hints ∷ es) none u = (tt, plain_undecided all es none u)
-plain_undecided all (Answer c hints ∷ es) none u =
-    (((λ d. u.0 (live_false es c hints none d)), (λ d. u.1 (live_true all es c hints none d))), plain_undecided all es none u.2)
+plain_undecided all (Answer c hints ∷ es) none u = (
+  ((λ d. u.0 (live_false es c hints none d)), (λ d. u.1 (live_true all es c hints none d))),
+  plain_undecided all es none u.2,
+)
 plain_undecided all (Round row values j ∷ es) none u = (tt, plain_undecided all es none u)
 plain_undecided all (Begun live ∷ es) none u = cc
 
 pub plain_sessions : PlainLogsAreSessions
 plain_sessions all frames entries none = (
   (λ log grouped. record {
-    givens_match_origins = each_plain (MatchesOrigin all) (MatchesLiveOrigin all) (plain_origin all) entries none log.givens_match_origins;
+    givens_match_origins = each_plain (MatchesOrigin all) (MatchesLiveOrigin all)
+        (plain_origin all) entries none log.givens_match_origins;
     lemmas_are_derived = log.lemmas_are_derived;
     lemmas_are_new = log.lemmas_are_new;
-    rounds_refute_new_rows = each_plain (RefutesNewRow all) (RefutesNewLiveRow all) (λ es e n h. subst (λ o. RefutesNewRow (formula_by all o) es e) (sym (no_earlier e es n)) h) entries none log.rounds_refute_new_rows;
-    rounds_follow_a_model = each_plain (FollowsModel all) (FollowsLiveModel all) (λ es e n h. subst (λ o. FollowsModel (formula_by all o) es e) (sym (no_earlier e es n)) h) entries none log.rounds_follow_a_model;
+    rounds_refute_new_rows = each_plain (RefutesNewRow all) (RefutesNewLiveRow all)
+        (λ es e n h. subst (λ o. RefutesNewRow (formula_by all o) es e) (sym (no_earlier e es n)) h) entries none
+        log.rounds_refute_new_rows;
+    rounds_follow_a_model = each_plain (FollowsModel all) (FollowsLiveModel all)
+        (λ es e n h. subst (λ o. FollowsModel (formula_by all o) es e) (sym (no_earlier e es n)) h) entries none
+        log.rounds_follow_a_model;
     givens_are_not_repeated = log.givens_are_not_repeated;
     groups_are_frames = grouped;
   }),
   (λ session. record {
-    givens_match_origins = each_plain (MatchesLiveOrigin all) (MatchesOrigin all) (origin_plain all) entries none session.givens_match_origins;
+    givens_match_origins = each_plain (MatchesLiveOrigin all) (MatchesOrigin all)
+        (origin_plain all) entries none session.givens_match_origins;
     lemmas_are_derived = session.lemmas_are_derived;
     lemmas_are_new = session.lemmas_are_new;
-    rounds_refute_new_rows = each_plain (RefutesNewLiveRow all) (RefutesNewRow all) (λ es e n h. subst (λ o. RefutesNewRow (formula_by all o) es e) (no_earlier e es n) h) entries none session.rounds_refute_new_rows;
-    rounds_follow_a_model = each_plain (FollowsLiveModel all) (FollowsModel all) (λ es e n h. subst (λ o. FollowsModel (formula_by all o) es e) (no_earlier e es n) h) entries none session.rounds_follow_a_model;
+    rounds_refute_new_rows = each_plain (RefutesNewLiveRow all) (RefutesNewRow all)
+        (λ es e n h. subst (λ o. RefutesNewRow (formula_by all o) es e) (no_earlier e es n) h) entries none
+        session.rounds_refute_new_rows;
+    rounds_follow_a_model = each_plain (FollowsLiveModel all) (FollowsModel all)
+        (λ es e n h. subst (λ o. FollowsModel (formula_by all o) es e) (no_earlier e es n) h) entries none
+        session.rounds_follow_a_model;
     givens_are_not_repeated = session.givens_are_not_repeated;
   }),
   (undecided_plain all entries none, plain_undecided all entries none),

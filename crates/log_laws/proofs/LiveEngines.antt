@@ -56,7 +56,8 @@ module _ (all : Dqbf) (engine : Engine) (groups : List ℕ) (silent : Bool) (old
   first_given earlier (Round row values j) h = absurd h
   first_given earlier (Begun live) h = absurd h
 
-  undecided_since : silent ≡ true → (more : List Entry) → EachOf Added more old → IsUndecidedSince all old → IsUndecidedSince all (more ++ old)
+  undecided_since : silent ≡ true → (more : List Entry) → EachOf Added more old → IsUndecidedSince all old →
+      IsUndecidedSince all (more ++ old)
   undecided_since s [] h u = u
   undecided_since s (Named v n ∷ more) h u = undecided_since s more h.1 u
   undecided_since s (Given origin c ∷ more) h u = undecided_since s more h.1 u
@@ -92,11 +93,14 @@ module _ (all : Dqbf) (engine : Engine) (groups : List ℕ) (silent : Bool) (old
   same_before (Round row values j ∷ more) h = absurd h.0
   same_before (Begun live ∷ more) h = absurd h.0
 
-  same_name : (v : ℕ) (n : Name) (more : List Entry) → EachOf Added more old → name_of old v ≡ Some n → name_of (more ++ old) v ≡ Some n
+  same_name : (v : ℕ) (n : Name) (more : List Entry) → EachOf Added more old → name_of old v ≡ Some n →
+      name_of (more ++ old) v ≡ Some n
   same_name v n [] h is = is
   same_name v n (Named w m ∷ more) h is = by_bit (v == w) refl (same_name v n more h.1 is) where
-    by_bit : (b : Bool) → (v == w) ≡ b → name_of (more ++ old) v ≡ Some n → cond b (Some m) (name_of (more ++ old) v) ≡ Some n
-    by_bit true e before = let same : v ≡ w = eqb-true v w e in let none : name_of (more ++ old) v ≡ None = ap (name_of (more ++ old)) same ∙ h.0.unnamed in cc
+    by_bit : (b : Bool) → (v == w) ≡ b → name_of (more ++ old) v ≡ Some n →
+        cond b (Some m) (name_of (more ++ old) v) ≡ Some n
+    by_bit true e before = let same : v ≡ w = eqb-true v w e in let none : name_of (more ++ old) v ≡ None =
+        ap (name_of (more ++ old)) same ∙ h.0.unnamed in cc
     by_bit false e before = before
   same_name v n (Given origin c ∷ more) h is = same_name v n more h.1 is
   same_name v n (Learned c hints ∷ more) h is = same_name v n more h.1 is
@@ -109,10 +113,14 @@ sessions_left all engine groups silent old new grew =
     let P : List Entry → List Entry → Type 0 = λ a b. LeavesSession all engine groups silent a b in
     let Q : List Entry → Entry → Type 0 = IsAddedLive all engine groups silent old.entries in
     let kept : LeavesSession all engine groups silent old.entries (grew.more ++ old.entries) = record {
-      origins = each_grown Q (MatchesLiveOrigin all) (right_origin all engine groups silent old.entries) grew.more old.entries grew.each;
-      new_rows = each_grown Q (RefutesNewLiveRow all) (λ es e h. no_row all engine groups silent old.entries (live_formula all es) es e h) grew.more old.entries grew.each;
-      models = each_grown Q (FollowsLiveModel all) (λ es e h. no_model all engine groups silent old.entries (live_formula all es) es e h) grew.more old.entries grew.each;
-      givens = each_grown Q IsNotRepeated (first_given all engine groups silent old.entries) grew.more old.entries grew.each;
+      origins = each_grown Q (MatchesLiveOrigin all) (right_origin all engine groups silent old.entries) grew.more
+          old.entries grew.each;
+      new_rows = each_grown Q (RefutesNewLiveRow all) (λ es e h. no_row all engine groups silent old.entries
+          (live_formula all es) es e h) grew.more old.entries grew.each;
+      models = each_grown Q (FollowsLiveModel all) (λ es e h. no_model all engine groups silent old.entries
+          (live_formula all es) es e h) grew.more old.entries grew.each;
+      givens = each_grown Q IsNotRepeated (first_given all engine groups silent old.entries) grew.more old.entries
+          grew.each;
       decisions = λ s. undecided_since all engine groups silent old.entries s grew.more grew.each;
       rows = same_rows all engine groups silent old.entries grew.more grew.each;
       names = λ v name. same_name all engine groups silent old.entries v name grew.more grew.each;
@@ -136,7 +144,8 @@ module _ (all : Dqbf) (group : ℕ) (silent : Bool) (old : List Entry) where
   abbrev By : List Entry → Entry → Type 0
   By earlier e = IsAddedBy (live_formula all old) circuits group silent old earlier e
 
-  origin_live : (more : List Entry) (origin : Origin) (c : List Literal) → EachOf By more old → IsGivenBy (live_formula all old) circuits group old (more ++ old) origin c
+  origin_live : (more : List Entry) (origin : Origin) (c : List Literal) → EachOf By more old →
+      IsGivenBy (live_formula all old) circuits group old (more ++ old) origin c
       → MatchesLiveOrigin all (more ++ old) (Given origin c)
   origin_live more (Instance k j) c each h = let own = h.own in cc
   origin_live more (Gate v i) c each h = gate_of_any (live_formula all old) all (more ++ old) v i c h.matches_origin
@@ -148,23 +157,43 @@ module _ (all : Dqbf) (group : ℕ) (silent : Bool) (old : List Entry) where
   origin_live more (TermGate v i) c each h = let own = h.own in cc
   origin_live more (Differ y leaf part) c each h = let own = h.own in cc
 
-  one_of : (c : List Literal) → (g : ℕ) × IsInGroup g c × ((g ≡ group) ⊎ (name_of old g ≡ None)) → IsInOneOf (group ∷ []) old c
-  one_of c (g, inside, where_it_is) = (g, inside, elim where_it_is [ inl same ↦ inl (0, omega arith, sym same) | inr none ↦ inr none ])
+  one_of : (c : List Literal) → (g : ℕ) × IsInGroup g c × ((g ≡ group) ⊎ (name_of old g ≡ None)) →
+      IsInOneOf (group ∷ []) old c
+  one_of c (g, inside, where_it_is) = (
+    g,
+    inside,
+    elim where_it_is
+        [ inl same ↦ inl (0, omega arith, sym same) | inr none ↦ inr none ],
+  )
 
-  added_live : (more : List Entry) (e : Entry) → EachOf By more old → By (more ++ old) e → IsAddedLive all circuits (group ∷ []) silent old (more ++ old) e
-  added_live more (Named v n) each h = record { unnamed = h.unnamed; own = h.own; rightly = rightly all (live_numbers old) n h.rightly }
-  added_live more (Given origin c) each h = record { own = h.own; in_group = one_of c h.in_group; matches_origin = origin_live more origin c each h; not_repeated = h.not_repeated }
+  added_live : (more : List Entry) (e : Entry) → EachOf By more old → By (more ++ old) e →
+      IsAddedLive all circuits (group ∷ []) silent old (more ++ old) e
+  added_live more (Named v n) each h = record {
+    unnamed = h.unnamed;
+    own = h.own;
+    rightly =
+        rightly all (live_numbers old) n h.rightly;
+  }
+  added_live more (Given origin c) each h = record {
+    own = h.own;
+    in_group = one_of c h.in_group;
+    matches_origin =
+        origin_live more origin c each h;
+    not_repeated = h.not_repeated;
+  }
   added_live more (Learned c hints) each h = tt
   added_live more (Answer c hints) each h = λ s.
       let both = h s in
       let live = live_kept (live_formula all old) circuits group silent old more each in (
         (λ (d : DecidesLiveFalse (more ++ old) c hints). both.0 d.decides),
-        (λ (d : DecidesLiveTrue all (more ++ old) c hints). both.1 (subst (λ o. DecidesTrue (formula_by all o) (more ++ old) c hints) live d.decides)),
+        (λ (d : DecidesLiveTrue all (more ++ old) c hints). both.1
+            (subst (λ o. DecidesTrue (formula_by all o) (more ++ old) c hints) live d.decides)),
       )
   added_live more (Round row values j) each h = absurd h
   added_live more (Begun live) each h = absurd h
 
-  all_live : (more : List Entry) → EachOf By more old → EachOf (IsAddedLive all circuits (group ∷ []) silent old) more old
+  all_live : (more : List Entry) → EachOf By more old → EachOf
+      (IsAddedLive all circuits (group ∷ []) silent old) more old
   all_live [] each = tt
   all_live (e ∷ more) each = (added_live more e each.1 each.0, all_live more each.1)
 

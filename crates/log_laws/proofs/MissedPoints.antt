@@ -18,7 +18,8 @@ no_true_clause : IsInstanceRest blind_negation tried_once 1 3 (negative 2 ∷ po
 no_true_clause r =
     let row : (false ∷ []) ≡ r.row = cc in
     let clause : (negative 1 ∷ negative 2 ∷ positive 3 ∷ []) ≡ r.clause = cc in
-    true≢false (ap (λ c. list_any (universal_literal_true blind_negation (false ∷ [])) c) clause ∙ ap (λ x. list_any (universal_literal_true blind_negation x) r.clause) row ∙ r.open_row)
+    true≢false (ap (λ c. list_any (universal_literal_true blind_negation (false ∷ [])) c) clause ∙ ap
+    (λ x. list_any (universal_literal_true blind_negation x) r.clause) row ∙ r.open_row)
 
 true_clause_missed : Meets blind_negation true_clause_given matching_origins → ⊥
 true_clause_missed h =
@@ -32,8 +33,11 @@ true_clause_others derived_lemmas differs = (tt, tried_derived)
 true_clause_others new_lemmas differs = (tt, tried_new)
 true_clause_others new_rows differs = (tt, tried_rows)
 true_clause_others followed_models differs = (tt, tried_models)
-true_clause_others single_givens differs =
-    (first_of tried_once (Instance 1 3) (negative 1 ∷ negative 2 ∷ positive 3 ∷ []) ((λ c h. cc), ((λ c h. cc), ((λ c h. cc), ((λ c h. cc), ((λ c h. cc), ((λ c h. cc), tt)))))) refl, tried_single)
+true_clause_others single_givens differs = (
+  first_of tried_once (Instance 1 3) (negative 1 ∷ negative 2 ∷ positive 3 ∷ [])
+      ((λ c h. cc), ((λ c h. cc), ((λ c h. cc), ((λ c h. cc), ((λ c h. cc), ((λ c h. cc), tt)))))) refl,
+  tried_single,
+)
 
 pub true_clause_misses : MissesAlone blind_negation true_clause_given matching_origins
 true_clause_misses = record {
@@ -72,7 +76,10 @@ hint_misses = record {
   missed = hint_missed;
   others = hint_others;
   logged = ((named_by tried_once (negative 1 ∷ positive 2 ∷ []) refl, ids_by tried_once (1 ∷ []) refl), tried_logged);
-  keeps_selectors = (holds_group tried_once (negative 1 ∷ positive 2 ∷ []) (1 ∷ []) 1 refl tried_group, tried_selectors);
+  keeps_selectors = (
+    holds_group tried_once (negative 1 ∷ positive 2 ∷ []) (1 ∷ []) 1 refl tried_group,
+    tried_selectors,
+  );
 }
 
 known_others : (other : Point) → other ≢ new_lemmas → Meets blind_negation known_clause_learned other
@@ -85,10 +92,17 @@ known_others single_givens differs = (tt, tried_single)
 
 pub known_misses : MissesAlone blind_negation known_clause_learned new_lemmas
 known_misses = record {
-  missed = λ h. unknown tried_once (negative 1 ∷ positive 2 ∷ positive 3 ∷ []) h.0 1 (negative 1 ∷ positive 2 ∷ positive 3 ∷ []) refl (λ l inside. inside);
+  missed = λ h. unknown tried_once (negative 1 ∷ positive 2 ∷ positive 3 ∷ []) h.0 1
+      (negative 1 ∷ positive 2 ∷ positive 3 ∷ []) refl (λ l inside. inside);
   others = known_others;
-  logged = ((named_by tried_once (negative 1 ∷ positive 2 ∷ positive 3 ∷ []) refl, ids_by tried_once (1 ∷ []) refl), tried_logged);
-  keeps_selectors = (holds_group tried_once (negative 1 ∷ positive 2 ∷ positive 3 ∷ []) (1 ∷ []) 1 refl tried_group, tried_selectors);
+  logged = (
+    (named_by tried_once (negative 1 ∷ positive 2 ∷ positive 3 ∷ []) refl, ids_by tried_once (1 ∷ []) refl),
+    tried_logged,
+  );
+  keeps_selectors = (
+    holds_group tried_once (negative 1 ∷ positive 2 ∷ positive 3 ∷ []) (1 ∷ []) 1 refl tried_group,
+    tried_selectors,
+  );
 }
 
 again_others : (other : Point) → other ≢ new_rows → Meets blind_negation row_tried_again other
@@ -96,11 +110,25 @@ again_others matching_origins differs = (tt, tried_matches)
 again_others derived_lemmas differs = (tt, tried_derived)
 again_others new_lemmas differs = (tt, tried_new)
 again_others new_rows differs = absurd (differs refl)
-again_others followed_models differs = (record { model = λ v. v == 2; holds_there = model_of_first_row; values_are = refl }, tried_models)
+again_others followed_models differs = (
+  record {
+    model = λ v. v == 2;
+    holds_there = model_of_first_row;
+    values_are =
+        refl;
+  },
+  tried_models,
+)
 again_others single_givens differs = (tt, tried_single)
 
 pub again_misses : MissesAlone blind_negation row_tried_again new_rows
-again_misses = record { missed = λ h. h.0.untried (0, omega arith, refl); others = again_others; logged = (tt, tried_logged); keeps_selectors = (tt, tried_selectors) }
+again_misses = record {
+  missed = λ h. h.0.untried (0, omega arith, refl);
+  others = again_others;
+  logged =
+      (tt, tried_logged);
+  keeps_selectors = (tt, tried_selectors);
+}
 
 -- no model of the first row's instances gives both existentials 0
 both_false : (a b : Bool) → false ≡ a → false ≡ b → (a || (b || false)) ≡ true → ⊥
@@ -110,27 +138,46 @@ both_false false false h k t = false≢true t
 
 no_model : HasModelWith blind_negation ((false ∷ []) ∷ []) (true ∷ []) (false ∷ false ∷ []) → ⊥
 no_model h =
-    let P : List Bool → List Literal → Type 0 = λ row clause. InstanceHolds h.model (instance_clause blind_negation ((false ∷ []) ∷ []) row clause) in
+    let P : List Bool → List Literal → Type 0 = λ row clause. InstanceHolds h.model
+    (instance_clause blind_negation ((false ∷ []) ∷ []) row clause) in
     let rows = All-head (λ row. All (P row) blind_negation.matrix) (false ∷ []) [] h.holds_there in
     let first : clause_true h.model (positive 2 ∷ positive 3 ∷ []) ≡ true = rows 0 [] (omega arith) in
     let values : (false ∷ false ∷ []) ≡ (h.model 2 ∷ h.model 3 ∷ []) = h.values_are in
-    both_false (h.model 2) (h.model 3) (ap (λ bits. slice_index_or bits 0 true) values) (ap (λ bits. slice_index_or bits 1 true) values) first
+    both_false (h.model 2) (h.model 3) (ap (λ bits. slice_index_or bits 0 true) values)
+    (ap (λ bits. slice_index_or bits 1 true) values) first
 
 ignored_others : (other : Point) → other ≢ followed_models → Meets blind_negation instances_ignored other
 ignored_others matching_origins differs = (tt, tried_matches)
 ignored_others derived_lemmas differs = (tt, tried_derived)
 ignored_others new_lemmas differs = (tt, tried_new)
-ignored_others new_rows differs =
-    (record { row_length = refl; values_length = refl; untried = other_row; clause = positive 2 ∷ positive 3 ∷ []; clause_is = refl; is_false = refl }, tried_rows)
+ignored_others new_rows differs = (
+  record {
+    row_length = refl;
+    values_length = refl;
+    untried = other_row;
+    clause = positive 2 ∷ positive 3 ∷ [];
+    clause_is = refl;
+    is_false = refl;
+  },
+  tried_rows,
+)
 ignored_others followed_models differs = absurd (differs refl)
 ignored_others single_givens differs = (tt, tried_single)
 
 pub ignored_misses : MissesAlone blind_negation instances_ignored followed_models
-ignored_misses = record { missed = λ h. no_model h.0; others = ignored_others; logged = (tt, tried_logged); keeps_selectors = (tt, tried_selectors) }
+ignored_misses = record {
+  missed = λ h. no_model h.0;
+  others = ignored_others;
+  logged = (tt, tried_logged);
+  keeps_selectors = (tt, tried_selectors);
+}
 
 twice_others : (other : Point) → other ≢ single_givens → Meets blind_negation instance_given_twice other
-twice_others matching_origins differs =
-    (instance_of blind_negation tried_once 1 1 1 (false ∷ []) (positive 2 ∷ positive 3 ∷ []) (positive 2 ∷ positive 3 ∷ []) refl refl refl refl refl, tried_matches)
+twice_others matching_origins differs = (
+  instance_of blind_negation tried_once 1 1 1 (false ∷ []) (positive 2 ∷ positive 3 ∷ [])
+      (positive 2 ∷ positive 3 ∷ []) refl refl refl refl refl,
+  tried_matches,
+)
 twice_others derived_lemmas differs = (tt, tried_derived)
 twice_others new_lemmas differs = (tt, tried_new)
 twice_others new_rows differs = (tt, tried_rows)

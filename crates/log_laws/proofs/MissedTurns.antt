@@ -21,7 +21,11 @@ output_others derived_lemmas differs = (tt, faults_derived)
 output_others new_lemmas differs = (tt, faults_new)
 output_others new_rows differs = (tt, faults_rows)
 output_others followed_models differs = (tt, faults_models)
-output_others single_givens differs = (fault_first faults_given (Fault 3 1 (LeafLiteral (positive 2))) (negative 5 ∷ negative 8 ∷ negative 2 ∷ []) refl refl, faults_single)
+output_others single_givens differs = (
+  fault_first faults_given (Fault 3 1 (LeafLiteral (positive 2)))
+      (negative 5 ∷ negative 8 ∷ negative 2 ∷ []) refl refl,
+  faults_single,
+)
 
 output_missed : Meets seen_conjunction second_output matching_origins → ⊥
 output_missed h =
@@ -29,7 +33,8 @@ output_missed h =
     let group : 5 ≡ o.group = cc in
     let same : LeafLiteral (positive 2) ≡ LeafLiteral (positive 4) =
     o.one_leaf 3 3 1 1 1 (LeafLiteral (positive 2)) (LeafLiteral (positive 4)) (negative 6 ∷ positive 4 ∷ []) refl
-    (subst (λ g. Contains faults_given (Given (Fault 1 1 (LeafLiteral (positive 4))) (negative g ∷ negative 6 ∷ positive 4 ∷ []))) group (7, omega arith, refl)) refl refl in
+    (subst (λ g. Contains faults_given (Given (Fault 1 1 (LeafLiteral (positive 4)))
+    (negative g ∷ negative 6 ∷ positive 4 ∷ []))) group (7, omega arith, refl)) refl refl in
     cc
 
 pub output_misses : MissesAlone seen_conjunction second_output matching_origins
@@ -50,8 +55,11 @@ t2_fit : Each (λ before e. Fits e) t2
 t2_fit = ((λ j i leaf c h v own. cc), ((λ j i leaf c h v own. cc), faults_fit))
 
 turn_others : (other : Point) → other ≢ single_givens → Meets seen_conjunction second_turn_at_once other
-turn_others matching_origins differs =
-    (fault_of t2 t2_fit 9 0 1 10 3 (negative 3) (positive 4 ∷ []) refl refl refl ((λ h. absurd (false≢true h)), refl) refl refl, (tt, (tt, faults_matches)))
+turn_others matching_origins differs = (
+  fault_of t2 t2_fit 9 0 1 10 3 (negative 3) (positive 4 ∷ []) refl refl refl
+      ((λ h. absurd (false≢true h)), refl) refl refl,
+  (tt, (tt, faults_matches)),
+)
 turn_others derived_lemmas differs = (tt, (tt, (tt, faults_derived)))
 turn_others new_lemmas differs = (tt, (tt, (tt, faults_new)))
 turn_others new_rows differs = (tt, (tt, (tt, faults_rows)))
@@ -68,8 +76,110 @@ turn_misses = record {
   logged = (
     named_by t2 (negative 9 ∷ negative 10 ∷ positive 4 ∷ []) refl,
     (
-      new_name t1 10 (Bad 9 1) (omega arith) (omega arith) refl ((λ w h. cc), ((λ w h. cc), ((λ w h. cc), ((λ w h. cc), ((λ w h. cc), ((λ w h. cc), ((λ w h. cc), ((λ w h. cc), ((λ w h. cc), ((λ w h. cc), ((λ w h. cc), ((λ w h. cc), ((λ w h. cc), ((λ w h. cc), ((λ w h. cc), ((λ w h. cc), ((λ w h. cc), ((λ w h. cc), ((λ w h. cc), ((λ w h. cc), tt)))))))))))))))))))) tt,
-      (new_name faults_given 9 (Selector 9) (omega arith) (omega arith) refl ((λ w h. cc), ((λ w h. cc), ((λ w h. cc), ((λ w h. cc), ((λ w h. cc), ((λ w h. cc), ((λ w h. cc), ((λ w h. cc), ((λ w h. cc), ((λ w h. cc), ((λ w h. cc), ((λ w h. cc), ((λ w h. cc), ((λ w h. cc), ((λ w h. cc), ((λ w h. cc), ((λ w h. cc), ((λ w h. cc), ((λ w h. cc), tt))))))))))))))))))) tt, faults_logged),
+      new_name t1 10 (Bad 9 1) (omega arith) (omega arith) refl (
+        (λ w h. cc),
+        (
+          (λ w h. cc),
+          (
+            (λ w h. cc),
+            (
+              (λ w h. cc),
+              (
+                (λ w h. cc),
+                (
+                  (λ w h. cc),
+                  (
+                    (λ w h. cc),
+                    (
+                      (λ w h. cc),
+                      (
+                        (λ w h. cc),
+                        (
+                          (λ w h. cc),
+                          (
+                            (λ w h. cc),
+                            (
+                              (λ w h. cc),
+                              (
+                                (λ w h. cc),
+                                (
+                                  (λ w h. cc),
+                                  (
+                                    (λ w h. cc),
+                                    (
+                                      (λ w h. cc),
+                                      (
+                                        (λ w h. cc),
+                                        (
+                                          (λ w h. cc),
+                                          ((λ w h. cc), ((λ w h. cc), tt)),
+                                        ),
+                                      ),
+                                    ),
+                                  ),
+                                ),
+                              ),
+                            ),
+                          ),
+                        ),
+                      ),
+                    ),
+                  ),
+                ),
+              ),
+            ),
+          ),
+        ),
+      ) tt,
+      (
+        new_name faults_given 9 (Selector 9) (omega arith) (omega arith) refl (
+          (λ w h. cc),
+          (
+            (λ w h. cc),
+            (
+              (λ w h. cc),
+              (
+                (λ w h. cc),
+                (
+                  (λ w h. cc),
+                  (
+                    (λ w h. cc),
+                    (
+                      (λ w h. cc),
+                      (
+                        (λ w h. cc),
+                        (
+                          (λ w h. cc),
+                          (
+                            (λ w h. cc),
+                            (
+                              (λ w h. cc),
+                              (
+                                (λ w h. cc),
+                                (
+                                  (λ w h. cc),
+                                  (
+                                    (λ w h. cc),
+                                    (
+                                      (λ w h. cc),
+                                      ((λ w h. cc), ((λ w h. cc), ((λ w h. cc), ((λ w h. cc), tt)))),
+                                    ),
+                                  ),
+                                ),
+                              ),
+                            ),
+                          ),
+                        ),
+                      ),
+                    ),
+                  ),
+                ),
+              ),
+            ),
+          ),
+        ) tt,
+        faults_logged,
+      ),
     ),
   );
   keeps_selectors = (tt, (tt, (tt, faults_selectors)));

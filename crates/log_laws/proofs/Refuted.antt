@@ -28,7 +28,8 @@ use Rattle.log_laws.proofs.Found.{numbered_among, position_small, position_appen
 
 -- an instance of one of these clauses
 abbrev pub IsInstanceAmong : Dqbf → List (List Literal) → Origin → Type 0
-IsInstanceAmong f matrix (Instance k j) = (clause : List Literal) → numbered_from_one f.matrix j ≡ Some clause → Contains matrix clause
+IsInstanceAmong f matrix (Instance k j) = (clause : List Literal) → numbered_from_one f.matrix j ≡ Some clause →
+    Contains matrix clause
 IsInstanceAmong f matrix _ = ⊥
 
 -- selectors are true, and arbiters have their pairs' bits
@@ -51,7 +52,8 @@ rows_more (Named v n ∷ more) es = rows_more more es
 rows_more (Given origin c ∷ more) es = rows_more more es
 rows_more (Learned c hints ∷ more) es = rows_more more es
 rows_more (Answer c hints ∷ more) es = rows_more more es
-rows_more (Round row values j ∷ more) es = let r = rows_more more es in (r.0 ++ row ∷ [], ap (λ rows. rows ++ row ∷ []) r.1 ∙ append_assoc (rows_of es) r.0 (row ∷ []))
+rows_more (Round row values j ∷ more) es = let r = rows_more more es in
+    (r.0 ++ row ∷ [], ap (λ rows. rows ++ row ∷ []) r.1 ∙ append_assoc (rows_of es) r.0 (row ∷ []))
 rows_more (Begun live ∷ more) es = rows_more more es
 
 pub row_contained : (es : List Entry) (k : ℕ) (row : List Bool) → row_at es k ≡ Some row → Contains (rows_of es) row
@@ -61,12 +63,16 @@ row_contained (Given origin c ∷ es) k row h = row_contained es k row h
 row_contained (Learned c hints ∷ es) k row h = row_contained es k row h
 row_contained (Answer c hints ∷ es) k row h = row_contained es k row h
 row_contained (Round r values j ∷ es) k row h = by_bit (row_contained es k row) (k == count is_round es + 1) h where
-  by_bit : (row_at es k ≡ Some row → Contains (rows_of es) row) → (b : Bool) → option_and_then row_of (cond b (Some (Round r values j)) (numbered is_round es k)) ≡ Some row → Contains (rows_of es ++ r ∷ []) row
-  by_bit before true h = let same : r ≡ row = cc in subst (λ x. Contains (rows_of es ++ x ∷ []) row) (sym same) (Contains-push (rows_of es) row)
+  by_bit : (row_at es k ≡ Some row → Contains (rows_of es) row) → (b : Bool) →
+      option_and_then row_of (cond b (Some (Round r values j)) (numbered is_round es k)) ≡ Some row →
+      Contains (rows_of es ++ r ∷ []) row
+  by_bit before true h = let same : r ≡ row = cc in subst (λ x. Contains (rows_of es ++ x ∷ []) row) (sym same)
+      (Contains-push (rows_of es) row)
   by_bit before false h = Contains-append_left (rows_of es) (r ∷ []) row (before h)
 row_contained (Begun live ∷ es) k row h = row_contained es k row h
 
-same_sign : (a m : Assignment) (p : ℕ) (r l : Literal) → is_negative r ≡ is_negative l → a (variable_of r) ≡ m p → literal_true a r ≡ literal_true m (on_variable p l)
+same_sign : (a m : Assignment) (p : ℕ) (r l : Literal) → is_negative r ≡ is_negative l → a (variable_of r) ≡ m p →
+    literal_true a r ≡ literal_true m (on_variable p l)
 same_sign a m p (positive v) (positive w) e h = h
 same_sign a m p (positive v) (negative w) e h = absurd (false≢true e)
 same_sign a m p (negative v) (positive w) e h = absurd (false≢true (sym e))
@@ -80,31 +86,41 @@ module _ (f : Dqbf) (all : List Entry) (lawful : Each MayFollow all) (m : Assign
     stays : (v : ℕ) (n : Name) → name_of es v ≡ Some n → name_of all v ≡ Some n
     stays v n h = ap (λ xs. name_of xs v) is ∙ name_stays more es v n (subst (Each MayFollow) is lawful) h
 
-    same_pair : (y : Existential) → position_or_len (agree_on f y row) (rows_of es) ≡ position_or_len (agree_on f y row) (rows_of all)
+    same_pair : (y : Existential) → position_or_len (agree_on f y row) (rows_of es) ≡ position_or_len (agree_on f y row)
+        (rows_of all)
     same_pair y =
         let r = rows_more more es in
         let k = among.0 in
         let at : get_or (rows_of es) k row ≡ row = among.2 in
-        let passes : agree_on f y row (get_or (rows_of es) k row) ≡ true = ap (agree_on f y row) at ∙ same_bits-refl (restriction y (row_assignment f row)) in
+        let passes : agree_on f y row (get_or (rows_of es) k row) ≡ true =
+        ap (agree_on f y row) at ∙ same_bits-refl (restriction y (row_assignment f row)) in
         let small = position_small (agree_on f y row) (rows_of es) k row among.1 passes in
-        sym (ap (λ xs. position_or_len (agree_on f y row) (rows_of xs)) is ∙ ap (position_or_len (agree_on f y row)) r.1 ∙ position_append (agree_on f y row) (rows_of es) r.0 small)
+        sym (ap (λ xs. position_or_len (agree_on f y row) (rows_of xs)) is ∙ ap (position_or_len (agree_on f y row)) r.1
+        ∙ position_append (agree_on f y row) (rows_of es) r.0 small)
 
-    by_names : (clause rest : List Literal) → map (name_literal es) rest ≡ map Some (filter_map (on_arbiter f (rows_of es) row) clause) →
+    by_names : (clause rest : List Literal) → map (name_literal es) rest ≡ map Some
+        (filter_map (on_arbiter f (rows_of es) row) clause) →
         clause_true value rest ≡ clause_true m (filter_map (pair_literal f (rows_of all) row) clause)
     by_names [] [] h = refl
     by_names [] (r ∷ rest) h = cc
     by_names (l ∷ ls) rest h = by_option (by_names ls) (existential_of f (variable_of l)) rest h where
-      by_option : ((rest : List Literal) → map (name_literal es) rest ≡ map Some (filter_map (on_arbiter f (rows_of es) row) ls) →
+      by_option : ((rest : List Literal) → map (name_literal es) rest ≡ map Some
+          (filter_map (on_arbiter f (rows_of es) row) ls) →
           clause_true value rest ≡ clause_true m (filter_map (pair_literal f (rows_of all) row) ls)) →
           (o : Option Existential) (rest : List Literal) →
-          map (name_literal es) rest ≡ map Some (cons_option (option_map (λ y. named_literal (arbiter f (rows_of es) row y) (is_negative l)) o) (filter_map (on_arbiter f (rows_of es) row) ls)) →
-          clause_true value rest ≡ clause_true m (cons_option (option_map (λ y. on_variable (pair_number f (rows_of all) row y) l) o) (filter_map (pair_literal f (rows_of all) row) ls))
+          map (name_literal es) rest ≡ map Some (cons_option
+          (option_map (λ y. named_literal (arbiter f (rows_of es) row y) (is_negative l)) o)
+          (filter_map (on_arbiter f (rows_of es) row) ls)) →
+          clause_true value rest ≡ clause_true m (cons_option
+          (option_map (λ y. on_variable (pair_number f (rows_of all) row y) l) o)
+          (filter_map (pair_literal f (rows_of all) row) ls))
       by_option later None rest h = later rest h
       by_option later (Some y) [] h = cc
       by_option later (Some y) (r ∷ rest) h =
           let here : name_literal es r ≡ Some (named_literal (arbiter f (rows_of es) row y) (is_negative l)) = cc in
           let behind : map (name_literal es) rest ≡ map Some (filter_map (on_arbiter f (rows_of es) row) ls) = cc in
-          let named = named_variable es r (arbiter f (rows_of es) row y) (is_negative l) (name_of es (variable_of r)) refl here in
+          let named = named_variable es r (arbiter f (rows_of es) row y) (is_negative l)
+          (name_of es (variable_of r)) refl here in
           let k = position_or_len (agree_on f y row) (rows_of es) in
           let back : k + 1 - 1 ≡ k = omega arith in
           let bit : value (variable_of r) ≡ m (pair_number f (rows_of all) row y) =
@@ -116,19 +132,26 @@ module _ (f : Dqbf) (all : List Entry) (lawful : Each MayFollow all) (m : Assign
 
   -- a model of the instances of these clauses
   module _ (matrix : List (List Literal)) (model : IsExpansionModel (with_matrix f matrix) (rows_of all) m) where
-    instance_true : (es more : List Entry) (origin : Origin) (c : List Literal) → all ≡ more ++ Given origin c ∷ es → IsInstanceAmong f matrix origin → IsOriginsClause f es origin c → clause_true value c ≡ true
+    instance_true : (es more : List Entry) (origin : Origin) (c : List Literal) → all ≡ more ++ Given origin c ∷ es →
+        IsInstanceAmong f matrix origin → IsOriginsClause f es origin c → clause_true value c ≡ true
     instance_true es more (Instance k j) c is what o =
         let rest : IsInstanceRest f es k j o.rest = o.rest_is in
         let among = row_contained es k rest.row rest.row_is in
-        let is' : all ≡ (more ++ Given (Instance k j) c ∷ []) ++ es = is ∙ sym (append_assoc more (Given (Instance k j) c ∷ []) es) in
+        let is' : all ≡ (more ++ Given (Instance k j) c ∷ []) ++ es =
+        is ∙ sym (append_assoc more (Given (Instance k j) c ∷ []) es) in
         let r = rows_more (more ++ Given (Instance k j) c ∷ []) es in
-        let among_all : Contains (rows_of all) rest.row = subst (λ rows. Contains rows rest.row) (sym (ap rows_of is' ∙ r.1)) (Contains-append_left (rows_of es) r.0 rest.row among) in
-        let here = All-contains (λ row. All (λ clause. InstanceHolds m (instance_clause f (rows_of all) row clause)) matrix) (rows_of all) rest.row model among_all in
-        let there = All-contains (λ clause. InstanceHolds m (instance_clause f (rows_of all) rest.row clause)) matrix rest.clause here (what rest.clause rest.clause_is) in
+        let among_all : Contains (rows_of all) rest.row = subst (λ rows. Contains rows rest.row)
+        (sym (ap rows_of is' ∙ r.1)) (Contains-append_left (rows_of es) r.0 rest.row among) in
+        let here = All-contains (λ row. All (λ clause. InstanceHolds m (instance_clause f (rows_of all) row clause))
+        matrix) (rows_of all) rest.row model among_all in
+        let there = All-contains (λ clause. InstanceHolds m (instance_clause f (rows_of all) rest.row clause)) matrix
+        rest.clause here (what rest.clause rest.clause_is) in
         let true' : clause_true m (filter_map (pair_literal f (rows_of all) rest.row) rest.clause) ≡ true =
-        subst (λ b. InstanceHolds m (cond b None (Some (filter_map (pair_literal f (rows_of all) rest.row) rest.clause)))) rest.open_row there in
+        subst (λ b. InstanceHolds m (cond b None (Some (filter_map
+        (pair_literal f (rows_of all) rest.row) rest.clause)))) rest.open_row there in
         let same = by_names es (more ++ Given (Instance k j) c ∷ []) is' rest.row among rest.clause o.rest rest.named in
-        ap (clause_true value) o.clause_is ∙ or_true' (not (value o.group)) (clause_true value o.rest) (same ∙ true') where
+        ap (clause_true value) o.clause_is ∙ or_true' (not (value o.group)) (clause_true value o.rest)
+        (same ∙ true') where
           or_true' : (x y : Bool) → y ≡ true → (x || y) ≡ true
           or_true' true y h = refl
           or_true' false y h = h
@@ -142,18 +165,23 @@ module _ (f : Dqbf) (all : List Entry) (lawful : Each MayFollow all) (m : Assign
     selectors_false : (clause : List Literal) → AreNegatedSelectors all clause → clause_true value clause ≡ false
     selectors_false [] h = refl
     selectors_false (l ∷ ls) h =
-        let P : Literal → Type 0 = λ k. (k ≡ negative (variable_of k)) × (name_of all (variable_of k) ≡ Some (Selector (variable_of k))) in
+        let P : Literal → Type 0 = λ k. (k ≡ negative (variable_of k)) ×
+        (name_of all (variable_of k) ≡ Some (Selector (variable_of k))) in
         let here = All-head P l ls h in
-        let is : literal_true value l ≡ false = ap (literal_true value) here.0 ∙ ap (λ o. not (value_by_name f.variables m o)) here.1 in
+        let is : literal_true value l ≡ false = ap (literal_true value) here.0 ∙ ap
+        (λ o. not (value_by_name f.variables m o)) here.1 in
         ap (λ b. b || clause_true value ls) is ∙ selectors_false ls (All-tail P l ls h)
 
-pub refuted_among : LinesAreImplied → (f : Dqbf) (matrix : List (List Literal)) (earlier : List Entry) (clause : List Literal) (hints : List ℕ) → IsSoundAnswer f earlier clause hints
-    → AreNegatedSelectors earlier clause → ((origin : Origin) (c : List Literal) → ReachesGiven earlier hints origin c → IsInstanceAmong f matrix origin)
+pub refuted_among : LinesAreImplied → (f : Dqbf) (matrix : List (List Literal)) (earlier : List Entry)
+    (clause : List Literal) (hints : List ℕ) → IsSoundAnswer f earlier clause hints
+    → AreNegatedSelectors earlier clause → ((origin : Origin) (c : List Literal) → ReachesGiven earlier hints origin c →
+    IsInstanceAmong f matrix origin)
     → IsExpansionUnsatisfiable (with_matrix f matrix) (rows_of earlier)
 refuted_among implied f matrix earlier clause hints sound selectors among m model =
     let truth = answer_true implied earlier hints (value f earlier sound.logged m)
     (λ es more origin c is reached.
-    instance_true f earlier sound.logged m matrix model es more origin c is (among origin c reached) (sound.givens_match_origins more es origin c is reached))
+    instance_true f earlier sound.logged m matrix model es more origin c is (among origin c reached)
+    (sound.givens_match_origins more es origin c is reached))
     clause sound.lemmas_are_derived sound.derived in
     false≢true (sym (selectors_false f earlier sound.logged m matrix model clause selectors) ∙ truth)
 
@@ -168,4 +196,5 @@ among_all f (Differ y leaf part) what = absurd what
 
 pub refuted : LinesAreImplied → InstancesHaveNoModel
 refuted implied f earlier clause hints sound decides =
-    refuted_among implied f f.matrix earlier clause hints sound decides.selectors (λ origin c reached. among_all f origin (decides.instances origin c reached))
+    refuted_among implied f f.matrix earlier clause hints sound decides.selectors
+    (λ origin c reached. among_all f origin (decides.instances origin c reached))

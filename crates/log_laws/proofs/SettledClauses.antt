@@ -29,15 +29,18 @@ abbrev pub not_false : List Literal → List Literal → List Literal
 not_false trues clause = filter (λ l. not (holds trues (opposite l))) clause
 
 -- what is left is of the clause, and isn't false
-left_among : (trues clause : List Literal) (l : Literal) → holds (not_false trues clause) l ≡ true → (holds clause l ≡ true) × (holds trues (opposite l) ≡ false)
+left_among : (trues clause : List Literal) (l : Literal) → holds (not_false trues clause) l ≡ true →
+    (holds clause l ≡ true) × (holds trues (opposite l) ≡ false)
 left_among trues [] l h = absurd (false≢true h)
 left_among trues (x ∷ c) l h =
     elim (cases_Bool (holds trues (opposite x))) [
       | inl e ↦
-          let r = left_among trues c l (sym (ap (λ b. holds (cond (not b) (x ∷ not_false trues c) (not_false trues c)) l) e) ∙ h) in
+          let r = left_among trues c l (sym (ap (λ b. holds (cond (not b) (x ∷ not_false trues c) (not_false trues c))
+          l) e) ∙ h) in
           (later_held x c l r.0, r.1)
       | inr e ↦
-          let k : holds (x ∷ not_false trues c) l ≡ true = sym (ap (λ b. holds (cond (not b) (x ∷ not_false trues c) (not_false trues c)) l) e) ∙ h in
+          let k : holds (x ∷ not_false trues c) l ≡ true = sym
+          (ap (λ b. holds (cond (not b) (x ∷ not_false trues c) (not_false trues c)) l) e) ∙ h in
           elim (or_cases (same_literal l x) (holds (not_false trues c) l) k) [
             | inl s ↦
                 let q = same-sound l x s in
@@ -47,7 +50,8 @@ left_among trues (x ∷ c) l h =
     ]
 
 -- one that differs
-other_of : (x : Literal) (xs : List Literal) → list_all (same_literal x) xs ≡ false → (l : Literal) × (holds xs l ≡ true) × (same_literal x l ≡ false)
+other_of : (x : Literal) (xs : List Literal) → list_all (same_literal x) xs ≡ false →
+    (l : Literal) × (holds xs l ≡ true) × (same_literal x l ≡ false)
 other_of x [] h = absurd (false≢true (sym h))
 other_of x (y ∷ xs) h =
     elim (cases_Bool (same_literal x y)) [
@@ -57,7 +61,8 @@ other_of x (y ∷ xs) h =
       | inr d ↦ (y, first_held y xs, d)
     ]
 
-any_true : (trues clause : List Literal) (l : Literal) → holds clause l ≡ true → holds trues l ≡ true → list_any (holds trues) clause ≡ true
+any_true : (trues clause : List Literal) (l : Literal) → holds clause l ≡ true → holds trues l ≡ true →
+    list_any (holds trues) clause ≡ true
 any_true trues [] l h t = absurd (false≢true h)
 any_true trues (x ∷ c) l h t =
     elim (or_cases (same_literal l x) (holds c l) h) [
@@ -68,25 +73,38 @@ any_true trues (x ∷ c) l h t =
 pub settled : (trues clause : List Literal) → status_of trues (Some clause) ≡ stuck → IsSettled trues clause
 settled trues clause h = by (not_false trues clause) (left_among trues clause) h
   where
-    by : (left : List Literal) → ((l : Literal) → holds left l ≡ true → (holds clause l ≡ true) × (holds trues (opposite l) ≡ false)) → status_by trues left ≡ stuck → IsSettled trues clause
+    by : (left : List Literal) → ((l : Literal) → holds left l ≡ true →
+        (holds clause l ≡ true) × (holds trues (opposite l) ≡ false)) → status_by trues left ≡ stuck →
+        IsSettled trues clause
     by [] among g = cc
     by (x ∷ xs) among g =
         elim (cases_Bool (list_all (same_literal x) xs)) [
           | inl all ↦ elim (cases_Bool (holds trues x)) [
             | inl t ↦ inl (any_true trues clause x (among x (first_held x xs)).0 t)
             | inr f ↦
-                let u : unit x ≡ stuck = sym (ap (λ b. cond (b && not (holds trues x)) (unit x) stuck) all ∙ ap (λ b. cond (true && not b) (unit x) stuck) f) ∙ g in
+                let u : unit x ≡ stuck = sym (ap (λ b. cond (b && not (holds trues x)) (unit x) stuck) all ∙ ap
+                (λ b. cond (true && not b) (unit x) stuck) f) ∙ g in
                 cc
           ]
           | inr some ↦
               let o = other_of x xs some in
               let one = among x (first_held x xs) in
               let two = among o.0 (later_held x xs o.0 o.1) in
-              inr (record { one = x; other = o.0; one_among = one.0; other_among = two.0; different = o.2; one_open = one.1; other_open = two.1 })
+              inr (record {
+                one = x;
+                other = o.0;
+                one_among = one.0;
+                other_among = two.0;
+                different = o.2;
+                one_open =
+                    one.1;
+                other_open = two.1;
+              })
         ]
 
 -- one that passes a test
-passing : (p : Literal → Bool) (xs : List Literal) → list_any p xs ≡ true → (l : Literal) × (holds xs l ≡ true) × (p l ≡ true)
+passing : (p : Literal → Bool) (xs : List Literal) → list_any p xs ≡ true →
+    (l : Literal) × (holds xs l ≡ true) × (p l ≡ true)
 passing p [] h = absurd (false≢true h)
 passing p (x ∷ xs) h =
     elim (or_cases (p x) (list_any p xs) h) [
@@ -124,7 +142,8 @@ module _ (earlier : List Entry) (clause : List Literal) (new : IsNewByPropagatio
         | inr other ↦ absurd (false≢true (sym open' ∙ new.rest_false k h other))
       ]
 
-  not_known : (known : List Literal) → ((l : Literal) → holds known l ≡ true → holds clause l ≡ true) → IsSettled new.trues known → ⊥
+  not_known : (known : List Literal) → ((l : Literal) → holds known l ≡ true → holds clause l ≡ true) →
+      IsSettled new.trues known → ⊥
   not_known known inside (inl some) =
       let r = passing (holds new.trues) known some in
       elim (cases_Bool (same_literal r.0 new.literal)) [
@@ -141,13 +160,17 @@ module _ (earlier : List Entry) (clause : List Literal) (new : IsNewByPropagatio
       elim (cases_Bool (same_literal l new.literal)) [
         | inl same ↦
             let f = new.rest_false (opposite l) o (opposite-other l new.literal same) in
-            false≢true (sym new.not_true ∙ ap (holds new.trues) (sym (same-sound l new.literal same)) ∙ ap (holds new.trues) (sym (opposite-twice l)) ∙ f)
+            false≢true (sym new.not_true ∙ ap (holds new.trues) (sym (same-sound l new.literal same)) ∙ ap
+            (holds new.trues) (sym (opposite-twice l)) ∙ f)
         | inr other ↦ elim (cases_Bool (same_literal (opposite l) new.literal)) [
           | inl same ↦
-              false≢true (sym new.not_true ∙ ap (holds new.trues) (sym (same-sound (opposite l) new.literal same)) ∙ new.rest_false l h other)
+              false≢true (sym new.not_true ∙ ap (holds new.trues) (sym (same-sound (opposite l) new.literal same))
+              ∙ new.rest_false l h other)
           | inr too ↦ not_both (opposite l) (new.rest_false l h other) (new.rest_false (opposite l) o too)
         ]
       ]
 
-  pub unknown : (id : ℕ) (known : List Literal) → clause_at earlier id ≡ Some known → ((l : Literal) → holds known l ≡ true → holds clause l ≡ true) → ⊥
-  unknown id known is inside = not_known known inside (settled new.trues known (ap (status_of new.trues) (sym is) ∙ new.closed id))
+  pub unknown : (id : ℕ) (known : List Literal) → clause_at earlier id ≡ Some known →
+      ((l : Literal) → holds known l ≡ true → holds clause l ≡ true) → ⊥
+  unknown id known is inside = not_known known inside (settled new.trues known
+      (ap (status_of new.trues) (sym is) ∙ new.closed id))

@@ -24,7 +24,8 @@ use Rattle.log_laws.proofs.TrueLog.{s20, s21}
 
 -- all clauses are of group 1 or 5
 abbrev IsOfGroups : Entry → Type 0
-IsOfGroups e = (origin : Origin) (g : ℕ) (rest : List Literal) → e ≡ Given origin (negative g ∷ rest) → (1 ≡ g) ⊎ (5 ≡ g)
+IsOfGroups e = (origin : Origin) (g : ℕ) (rest : List Literal) → e ≡ Given origin (negative g ∷ rest) →
+    (1 ≡ g) ⊎ (5 ≡ g)
 
 of_one : (o : Origin) (r : List Literal) → IsOfGroups (Given o (negative 1 ∷ r))
 of_one o r o' g r' h = inl cc
@@ -89,7 +90,8 @@ faults_groups = (
   ),
 )
 
-holds_both : (entries : List Entry) (clause : List Literal) (hints : List ℕ) → holds clause (negative 1) ≡ true → holds clause (negative 5) ≡ true → Each (λ before e. IsOfGroups e) entries → HoldsSelectors entries clause hints
+holds_both : (entries : List Entry) (clause : List Literal) (hints : List ℕ) → holds clause (negative 1) ≡ true →
+    holds clause (negative 5) ≡ true → Each (λ before e. IsOfGroups e) entries → HoldsSelectors entries clause hints
 holds_both entries clause hints one five groups origin g rest reached =
     elim (reached_has IsOfGroups entries hints origin (negative g ∷ rest) groups reached origin g rest refl) [
       | inl is ↦ subst (λ v. holds clause (negative v) ≡ true) is one
@@ -155,10 +157,15 @@ faults_selectors = (
 
 pub shown_selectors : KeepsSelectors shown
 shown_selectors = (
-  holds_both s21 (negative 1 ∷ negative 5 ∷ []) (12 ∷ 13 ∷ 11 ∷ 8 ∷ 9 ∷ 10 ∷ 3 ∷ []) refl refl ((λ o g r h. cc), ((λ o g r h. cc), faults_groups)),
+  holds_both s21 (negative 1 ∷ negative 5 ∷ []) (12 ∷ 13 ∷ 11 ∷ 8 ∷ 9 ∷ 10 ∷ 3 ∷ []) refl refl
+      ((λ o g r h. cc), ((λ o g r h. cc), faults_groups)),
   (
-    holds_both s20 (negative 1 ∷ negative 5 ∷ negative 7 ∷ []) (6 ∷ 7 ∷ 2 ∷ []) refl refl ((λ o g r h. cc), faults_groups),
-    (holds_both faults_given (negative 1 ∷ negative 5 ∷ negative 6 ∷ []) (4 ∷ 5 ∷ 1 ∷ []) refl refl faults_groups, faults_selectors),
+    holds_both s20 (negative 1 ∷ negative 5 ∷ negative 7 ∷ []) (6 ∷ 7 ∷ 2 ∷ []) refl refl
+        ((λ o g r h. cc), faults_groups),
+    (
+      holds_both faults_given (negative 1 ∷ negative 5 ∷ negative 6 ∷ []) (4 ∷ 5 ∷ 1 ∷ []) refl refl faults_groups,
+      faults_selectors,
+    ),
   ),
 )
 
@@ -244,8 +251,10 @@ shown_circuit = (
 abbrev IsSeenInput : Name → Type 0
 IsSeenInput n = (x : ℕ) → n ≡ Input x → Contains (1 ∷ 2 ∷ []) x
 
-input_seen : (v x : ℕ) → list_any (λ y. x == y) (1 ∷ 2 ∷ []) ≡ true → (w : ℕ) (n : Name) → Named v (Input x) ≡ Named w n → IsSeenInput n
-input_seen v x h w n is y named = let same : x ≡ y = cc in subst (Contains (1 ∷ 2 ∷ [])) same (Contains-from_any eqb-true x (1 ∷ 2 ∷ []) h)
+input_seen : (v x : ℕ) → list_any (λ y. x == y) (1 ∷ 2 ∷ []) ≡ true → (w : ℕ) (n : Name) →
+    Named v (Input x) ≡ Named w n → IsSeenInput n
+input_seen v x h w n is y named = let same : x ≡ y = cc in subst (Contains (1 ∷ 2 ∷ [])) same
+    (Contains-from_any eqb-true x (1 ∷ 2 ∷ []) h)
 
 inputs_seen : Each (λ before e. (w : ℕ) (n : Name) → e ≡ Named w n → IsSeenInput n) s21
 inputs_seen = (
@@ -312,7 +321,8 @@ inputs_seen = (
 
 reads_seen : (leaf : Leaf) (x : ℕ) → LeafReads s21 leaf x → Contains (1 ∷ 2 ∷ []) x
 reads_seen (Constant b) x reads = absurd reads
-reads_seen (LeafLiteral l) x reads = let r = read_is_named s21 l x reads in named_has IsSeenInput s21 inputs_seen r.0 (Input x) r.1 x refl
+reads_seen (LeafLiteral l) x reads = let r = read_is_named s21 l x reads in
+    named_has IsSeenInput s21 inputs_seen r.0 (Input x) r.1 x refl
 
 pub shown_decides : HasAnswer (DecidesTrue seen_conjunction) shown
 shown_decides = record {
@@ -323,11 +333,16 @@ shown_decides = record {
   is_there = refl;
   decides = record {
     rests = record {
-      selectors = All-from_recursion (λ l. (l ≡ negative (variable_of l)) × (name_of s21 (variable_of l) ≡ Some (Selector (variable_of l)))) (negative 1 ∷ negative 5 ∷ []) ((refl, refl), ((refl, refl), tt));
+      selectors = All-from_recursion (λ l. (l ≡ negative (variable_of l)) ×
+          (name_of s21 (variable_of l) ≡ Some (Selector (variable_of l)))) (negative 1 ∷ negative 5 ∷ [])
+          ((refl, refl), ((refl, refl), tt));
       group = 5;
-      circuit = λ origin c reached. reached_has IsCircuitIfGiven s21 (12 ∷ 13 ∷ 11 ∷ 8 ∷ 9 ∷ 10 ∷ 3 ∷ []) origin c shown_circuit reached origin c refl;
+      circuit = λ origin c reached. reached_has IsCircuitIfGiven s21
+          (12 ∷ 13 ∷ 11 ∷ 8 ∷ 9 ∷ 10 ∷ 3 ∷ []) origin c shown_circuit reached origin c refl;
     };
-    reads = All-from_recursion (λ y. (leaf : Leaf) → IsFaultLeaf seen_conjunction s21 (12 ∷ 13 ∷ 11 ∷ 8 ∷ 9 ∷ 10 ∷ 3 ∷ []) y leaf → (x : ℕ) → LeafReads s21 leaf x → Contains y.sees x) seen_conjunction.existentials
+    reads = All-from_recursion (λ y. (leaf : Leaf) → IsFaultLeaf seen_conjunction s21
+        (12 ∷ 13 ∷ 11 ∷ 8 ∷ 9 ∷ 10 ∷ 3 ∷ []) y leaf → (x : ℕ) → LeafReads s21 leaf x → Contains y.sees x)
+        seen_conjunction.existentials
         ((λ leaf fault x reads. reads_seen leaf x reads), tt);
   };
 }

@@ -86,7 +86,8 @@ gate_logged = (
     (
       named_by s4 (negative 1 ∷ negative 4 ∷ positive 2 ∷ []) refl,
       (
-        new_name s3 4 (And (positive 2) (positive 3)) (omega arith) (omega arith) refl ((λ w h. cc), ((λ w h. cc), ((λ w h. cc), tt))) (refl, refl),
+        new_name s3 4 (And (positive 2) (positive 3)) (omega arith) (omega arith) refl
+            ((λ w h. cc), ((λ w h. cc), ((λ w h. cc), tt))) (refl, refl),
         (
           new_name s2 3 (Input 2) (omega arith) (omega arith) refl ((λ w h. cc), ((λ w h. cc), tt)) tt,
           (
@@ -117,12 +118,69 @@ faults_logged = (
               (
                 named_by s11 (negative 5 ∷ negative 6 ∷ positive 4 ∷ []) refl,
                 (
-                  new_name s10 8 (Bad 5 3) (omega arith) (omega arith) refl ((λ w h. cc), ((λ w h. cc), ((λ w h. cc), ((λ w h. cc), ((λ w h. cc), ((λ w h. cc), ((λ w h. cc), ((λ w h. cc), ((λ w h. cc), ((λ w h. cc), tt)))))))))) tt,
-                  (
-                    new_name s9 7 (Bad 5 2) (omega arith) (omega arith) refl ((λ w h. cc), ((λ w h. cc), ((λ w h. cc), ((λ w h. cc), ((λ w h. cc), ((λ w h. cc), ((λ w h. cc), ((λ w h. cc), ((λ w h. cc), tt))))))))) tt,
+                  new_name s10 8 (Bad 5 3) (omega arith) (omega arith) refl (
+                    (λ w h. cc),
                     (
-                      new_name s8 6 (Bad 5 1) (omega arith) (omega arith) refl ((λ w h. cc), ((λ w h. cc), ((λ w h. cc), ((λ w h. cc), ((λ w h. cc), ((λ w h. cc), ((λ w h. cc), ((λ w h. cc), tt)))))))) tt,
-                      (new_name gate_given 5 (Selector 5) (omega arith) (omega arith) refl ((λ w h. cc), ((λ w h. cc), ((λ w h. cc), ((λ w h. cc), ((λ w h. cc), ((λ w h. cc), ((λ w h. cc), tt))))))) tt, gate_logged),
+                      (λ w h. cc),
+                      (
+                        (λ w h. cc),
+                        (
+                          (λ w h. cc),
+                          (
+                            (λ w h. cc),
+                            (
+                              (λ w h. cc),
+                              ((λ w h. cc), ((λ w h. cc), ((λ w h. cc), ((λ w h. cc), tt)))),
+                            ),
+                          ),
+                        ),
+                      ),
+                    ),
+                  ) tt,
+                  (
+                    new_name s9 7 (Bad 5 2) (omega arith) (omega arith) refl (
+                      (λ w h. cc),
+                      (
+                        (λ w h. cc),
+                        (
+                          (λ w h. cc),
+                          (
+                            (λ w h. cc),
+                            (
+                              (λ w h. cc),
+                              (
+                                (λ w h. cc),
+                                ((λ w h. cc), ((λ w h. cc), ((λ w h. cc), tt))),
+                              ),
+                            ),
+                          ),
+                        ),
+                      ),
+                    ) tt,
+                    (
+                      new_name s8 6 (Bad 5 1) (omega arith) (omega arith) refl (
+                        (λ w h. cc),
+                        (
+                          (λ w h. cc),
+                          (
+                            (λ w h. cc),
+                            ((λ w h. cc), ((λ w h. cc), ((λ w h. cc), ((λ w h. cc), ((λ w h. cc), tt))))),
+                          ),
+                        ),
+                      ) tt,
+                      (
+                        new_name gate_given 5 (Selector 5) (omega arith) (omega arith) refl (
+                          (λ w h. cc),
+                          (
+                            (λ w h. cc),
+                            (
+                              (λ w h. cc),
+                              ((λ w h. cc), ((λ w h. cc), ((λ w h. cc), ((λ w h. cc), tt)))),
+                            ),
+                          ),
+                        ) tt,
+                        gate_logged,
+                      ),
                     ),
                   ),
                 ),
@@ -140,12 +198,19 @@ shown_logged = (
   (named_by s21 (negative 1 ∷ negative 5 ∷ []) refl, ids_by s21 (12 ∷ 13 ∷ 11 ∷ 8 ∷ 9 ∷ 10 ∷ 3 ∷ []) refl),
   (
     (named_by s20 (negative 1 ∷ negative 5 ∷ negative 7 ∷ []) refl, ids_by s20 (6 ∷ 7 ∷ 2 ∷ []) refl),
-    ((named_by faults_given (negative 1 ∷ negative 5 ∷ negative 6 ∷ []) refl, ids_by faults_given (4 ∷ 5 ∷ 1 ∷ []) refl), faults_logged),
+    (
+      (
+        named_by faults_given (negative 1 ∷ negative 5 ∷ negative 6 ∷ []) refl,
+        ids_by faults_given (4 ∷ 5 ∷ 1 ∷ []) refl,
+      ),
+      faults_logged,
+    ),
   ),
 )
 
 -- a gate's clause
-gate_of : (earlier : List Entry) (v i group : ℕ) (a b : Literal) (rest : List Literal) → name_of earlier group ≡ Some (Selector group) → name_of earlier v ≡ Some (And a b) → gate_rest v a b i ≡ Some rest →
+gate_of : (earlier : List Entry) (v i group : ℕ) (a b : Literal) (rest : List Literal) →
+    name_of earlier group ≡ Some (Selector group) → name_of earlier v ≡ Some (And a b) → gate_rest v a b i ≡ Some rest →
     IsOriginsClause seen_conjunction earlier (Gate v i) (negative group ∷ rest)
 gate_of earlier v i group a b rest is_group named is = record {
   group = group;
@@ -162,14 +227,17 @@ leaf_for v = LeafLiteral (positive (v + 1))
 
 -- a fault has its variable's leaf
 abbrev pub Fits : Entry → Type 0
-Fits e = (j i : ℕ) (leaf : Leaf) (c : List Literal) → e ≡ Given (Fault j i leaf) c → (v : ℕ) → option_map variable_of (matrix_literal seen_conjunction j i) ≡ Some v → leaf ≡ leaf_for v
+Fits e = (j i : ℕ) (leaf : Leaf) (c : List Literal) → e ≡ Given (Fault j i leaf) c → (v : ℕ) →
+    option_map variable_of (matrix_literal seen_conjunction j i) ≡ Some v → leaf ≡ leaf_for v
 
-pub fits : (j i v : ℕ) (c : List Literal) → option_map variable_of (matrix_literal seen_conjunction j i) ≡ Some v → Fits (Given (Fault j i (leaf_for v)) c)
+pub fits : (j i v : ℕ) (c : List Literal) → option_map variable_of (matrix_literal seen_conjunction j i) ≡ Some v →
+    Fits (Given (Fault j i (leaf_for v)) c)
 fits j i v c own j' i' leaf c' h v' own' =
     let left : j ≡ j' = cc in
     let right : i ≡ i' = cc in
     let same : leaf_for v ≡ leaf = cc in
-    let both : Some v ≡ Some v' = sym own ∙ ap (λ k. option_map variable_of (matrix_literal seen_conjunction k i)) left ∙ ap (λ k. option_map variable_of (matrix_literal seen_conjunction j' k)) right ∙ own' in
+    let both : Some v ≡ Some v' = sym own ∙ ap (λ k. option_map variable_of (matrix_literal seen_conjunction k i)) left
+    ∙ ap (λ k. option_map variable_of (matrix_literal seen_conjunction j' k)) right ∙ own' in
     let one : v ≡ v' = cc in
     sym same ∙ ap leaf_for one
 
@@ -177,11 +245,24 @@ fits_none : (leaf : Leaf) (c : List Literal) → Fits (Given (Fault 0 0 leaf) c)
 fits_none leaf c j i leaf' c' h v own =
     let left : 0 ≡ j = cc in
     let right : 0 ≡ i = cc in
-    let none : None ≡ Some v = ap (λ k. option_map variable_of (matrix_literal seen_conjunction k 0)) left ∙ ap (λ k. option_map variable_of (matrix_literal seen_conjunction j k)) right ∙ own in
+    let none : None ≡ Some v = ap (λ k. option_map variable_of (matrix_literal seen_conjunction k 0)) left ∙ ap
+    (λ k. option_map variable_of (matrix_literal seen_conjunction j k)) right ∙ own in
     cc
 
 gate_fits : Each (λ before e. Fits e) gate_given
-gate_fits = ((λ j i leaf c h v own. cc), ((λ j i leaf c h v own. cc), ((λ j i leaf c h v own. cc), ((λ j i leaf c h v own. cc), ((λ j i leaf c h v own. cc), ((λ j i leaf c h v own. cc), ((λ j i leaf c h v own. cc), tt)))))))
+gate_fits = (
+  (λ j i leaf c h v own. cc),
+  (
+    (λ j i leaf c h v own. cc),
+    (
+      (λ j i leaf c h v own. cc),
+      (
+        (λ j i leaf c h v own. cc),
+        ((λ j i leaf c h v own. cc), ((λ j i leaf c h v own. cc), ((λ j i leaf c h v own. cc), tt))),
+      ),
+    ),
+  ),
+)
 
 pub f8 : Each (λ before e. Fits e) s8
 f8 = ((λ j i leaf c h v own. cc), gate_fits)
@@ -222,38 +303,64 @@ faults_fit = (fits_none (Constant false) (negative 5 ∷ positive 6 ∷ positive
 shown_fit : Each (λ before e. Fits e) s21
 shown_fit = ((λ j i leaf c h v own. cc), ((λ j i leaf c h v own. cc), faults_fit))
 
-one_leaf : (earlier : List Entry) → Each (λ before e. Fits e) earlier → (j i : ℕ) (leaf : Leaf) (c : List Literal) → Fits (Given (Fault j i leaf) c) → (group v j' i' : ℕ) (leaf' : Leaf) (rest : List Literal) →
-    Contains earlier (Given (Fault j' i' leaf') (negative group ∷ rest)) → option_map variable_of (matrix_literal seen_conjunction j i) ≡ Some v → option_map variable_of (matrix_literal seen_conjunction j' i') ≡ Some v → leaf ≡ leaf'
+one_leaf : (earlier : List Entry) → Each (λ before e. Fits e) earlier → (j i : ℕ) (leaf : Leaf) (c : List Literal) →
+    Fits (Given (Fault j i leaf) c) → (group v j' i' : ℕ) (leaf' : Leaf) (rest : List Literal) →
+    Contains earlier (Given (Fault j' i' leaf') (negative group ∷ rest)) →
+    option_map variable_of (matrix_literal seen_conjunction j i) ≡ Some v →
+    option_map variable_of (matrix_literal seen_conjunction j' i') ≡ Some v → leaf ≡ leaf'
 one_leaf earlier all j i leaf c here group v j' i' leaf' rest inside own own' =
-    here j i leaf c refl v own ∙ sym (contained_has Fits earlier (Given (Fault j' i' leaf') (negative group ∷ rest)) all inside j' i' leaf' (negative group ∷ rest) refl v own')
+    here j i leaf c refl v own ∙ sym (contained_has Fits earlier
+    (Given (Fault j' i' leaf') (negative group ∷ rest)) all inside j' i' leaf' (negative group ∷ rest) refl v own')
 
-pub all_have_one : (earlier : List Entry) → Each (λ before e. Fits e) earlier → (j i : ℕ) (leaf : Leaf) (c : List Literal) → Fits (Given (Fault j i leaf) c) → (group : ℕ) → (v k l j' i' : ℕ) (leaf1 leaf2 : Leaf) (rest : List Literal) →
-    Fault j i leaf ≡ Fault k l leaf1 → Contains earlier (Given (Fault j' i' leaf2) (negative group ∷ rest)) → option_map variable_of (matrix_literal seen_conjunction k l) ≡ Some v → option_map variable_of (matrix_literal seen_conjunction j' i') ≡ Some v → leaf1 ≡ leaf2
+pub all_have_one : (earlier : List Entry) → Each (λ before e. Fits e) earlier →
+    (j i : ℕ) (leaf : Leaf) (c : List Literal) → Fits (Given (Fault j i leaf) c) → (group : ℕ) →
+    (v k l j' i' : ℕ) (leaf1 leaf2 : Leaf) (rest : List Literal) →
+    Fault j i leaf ≡ Fault k l leaf1 → Contains earlier (Given (Fault j' i' leaf2) (negative group ∷ rest)) →
+    option_map variable_of (matrix_literal seen_conjunction k l) ≡ Some v →
+    option_map variable_of (matrix_literal seen_conjunction j' i') ≡ Some v → leaf1 ≡ leaf2
 all_have_one earlier all j i leaf c here group v k l j' i' leaf1 leaf2 rest is inside own own' =
     let fault : Given (Fault k l leaf1) c ≡ Given (Fault j i leaf) c = ap (λ o. Given o c) (sym is) in
     one_leaf earlier all k l leaf1 c (subst Fits (sym fault) here) group v j' i' leaf2 rest inside own own'
 
 -- a fault's clause
-pub fault_of : (earlier : List Entry) → Each (λ before e. Fits e) earlier → (group j i bad v : ℕ) (literal : Literal) (tail : List Literal) → name_of earlier group ≡ Some (Selector group) → matrix_literal seen_conjunction (suc j) i ≡ Some literal →
-    option_map variable_of (matrix_literal seen_conjunction (suc j) i) ≡ Some v → IsLeafOf seen_conjunction earlier (variable_of literal) (leaf_for v) → name_of earlier bad ≡ Some (Bad group (suc j)) →
-    leaf_clause (leaf_with_sign (not (is_negative literal)) (leaf_for v)) ≡ Some tail → IsOriginsClause seen_conjunction earlier (Fault (suc j) i (leaf_for v)) (negative group ∷ negative bad ∷ tail)
+pub fault_of : (earlier : List Entry) → Each (λ before e. Fits e) earlier →
+    (group j i bad v : ℕ) (literal : Literal) (tail : List Literal) → name_of earlier group ≡ Some (Selector group) →
+    matrix_literal seen_conjunction (suc j) i ≡ Some literal →
+    option_map variable_of (matrix_literal seen_conjunction (suc j) i) ≡ Some v →
+    IsLeafOf seen_conjunction earlier (variable_of literal) (leaf_for v) →
+    name_of earlier bad ≡ Some (Bad group (suc j)) →
+    leaf_clause (leaf_with_sign (not (is_negative literal)) (leaf_for v)) ≡ Some tail →
+    IsOriginsClause seen_conjunction earlier (Fault (suc j) i (leaf_for v)) (negative group ∷ negative bad ∷ tail)
 fault_of earlier all group j i bad v literal tail is_group literal_is own leaf_is bad_is tail_is = record {
   group = group;
   rest = negative bad ∷ tail;
   clause_is = refl;
   is_group = is_group;
-  rest_is = record { literal = literal; bad = bad; tail = tail; literal_is = literal_is; leaf_is = leaf_is; bad_is = bad_is; tail_is = tail_is; rest_is = refl };
-  one_leaf = all_have_one earlier all (suc j) i (leaf_for v) (negative group ∷ negative bad ∷ tail) (fits (suc j) i v (negative group ∷ negative bad ∷ tail) own) group;
+  rest_is = record {
+    literal = literal;
+    bad = bad;
+    tail = tail;
+    literal_is = literal_is;
+    leaf_is = leaf_is;
+    bad_is =
+        bad_is;
+    tail_is = tail_is;
+    rest_is = refl;
+  };
+  one_leaf = all_have_one earlier all (suc j) i (leaf_for v) (negative group ∷ negative bad ∷ tail)
+      (fits (suc j) i v (negative group ∷ negative bad ∷ tail) own) group;
 }
 
-some_of : IsOriginsClause seen_conjunction s18 (Fault 0 0 (Constant false)) (negative 5 ∷ positive 6 ∷ positive 7 ∷ positive 8 ∷ [])
+some_of : IsOriginsClause seen_conjunction s18 (Fault 0 0 (Constant false))
+    (negative 5 ∷ positive 6 ∷ positive 7 ∷ positive 8 ∷ [])
 some_of = record {
   group = 5;
   rest = positive 6 ∷ positive 7 ∷ positive 8 ∷ [];
   clause_is = refl;
   is_group = refl;
   rest_is = (refl, refl);
-  one_leaf = all_have_one s18 f18 0 0 (Constant false) (negative 5 ∷ positive 6 ∷ positive 7 ∷ positive 8 ∷ []) (fits_none (Constant false) (negative 5 ∷ positive 6 ∷ positive 7 ∷ positive 8 ∷ [])) 5;
+  one_leaf = all_have_one s18 f18 0 0 (Constant false) (negative 5 ∷ positive 6 ∷ positive 7 ∷ positive 8 ∷ [])
+      (fits_none (Constant false) (negative 5 ∷ positive 6 ∷ positive 7 ∷ positive 8 ∷ [])) 5;
 }
 
 pub gate_matches : Each (MatchesOrigin seen_conjunction) gate_given
@@ -285,15 +392,20 @@ faults_matches = (
     (
       fault_of s16 f16 5 2 2 8 1 (negative 1) (positive 2 ∷ []) refl refl refl ((λ h. (refl, refl)), refl) refl refl,
       (
-        fault_of s15 f15 5 2 1 8 3 (positive 3) (negative 4 ∷ []) refl refl refl ((λ h. absurd (false≢true h)), refl) refl refl,
+        fault_of s15 f15 5 2 1 8 3 (positive 3) (negative 4 ∷ []) refl refl refl
+            ((λ h. absurd (false≢true h)), refl) refl refl,
         (
-          fault_of s14 f14 5 1 2 7 2 (positive 2) (negative 3 ∷ []) refl refl refl ((λ h. (refl, refl)), refl) refl refl,
+          fault_of s14 f14 5 1 2 7 2 (positive 2) (negative 3 ∷ []) refl refl refl
+              ((λ h. (refl, refl)), refl) refl refl,
           (
-            fault_of s13 f13 5 1 1 7 3 (negative 3) (positive 4 ∷ []) refl refl refl ((λ h. absurd (false≢true h)), refl) refl refl,
+            fault_of s13 f13 5 1 1 7 3 (negative 3) (positive 4 ∷ []) refl refl refl
+                ((λ h. absurd (false≢true h)), refl) refl refl,
             (
-              fault_of s12 f12 5 0 2 6 1 (positive 1) (negative 2 ∷ []) refl refl refl ((λ h. (refl, refl)), refl) refl refl,
+              fault_of s12 f12 5 0 2 6 1 (positive 1) (negative 2 ∷ []) refl refl refl
+                  ((λ h. (refl, refl)), refl) refl refl,
               (
-                fault_of s11 f11 5 0 1 6 3 (negative 3) (positive 4 ∷ []) refl refl refl ((λ h. absurd (false≢true h)), refl) refl refl,
+                fault_of s11 f11 5 0 1 6 3 (negative 3) (positive 4 ∷ []) refl refl refl
+                    ((λ h. absurd (false≢true h)), refl) refl refl,
                 (
                   tt,
                   (
@@ -457,8 +569,54 @@ shown_new = (
       consistent = refl;
       not_true = refl;
       not_false = refl;
-      rest_false = rest_by (positive 1 ∷ positive 5 ∷ negative 6 ∷ []) (negative 7) (negative 1 ∷ negative 5 ∷ negative 7 ∷ []) refl;
-      closed = closed_by (positive 1 ∷ positive 5 ∷ negative 6 ∷ []) s20 (refl, (refl, (refl, (refl, (refl, (refl, (refl, (refl, (refl, (refl, (refl, (refl, (refl, (refl, (refl, (refl, (refl, (refl, (refl, (refl, tt))))))))))))))))))));
+      rest_false = rest_by (positive 1 ∷ positive 5 ∷ negative 6 ∷ []) (negative 7)
+          (negative 1 ∷ negative 5 ∷ negative 7 ∷ []) refl;
+      closed = closed_by (positive 1 ∷ positive 5 ∷ negative 6 ∷ []) s20 (
+        refl,
+        (
+          refl,
+          (
+            refl,
+            (
+              refl,
+              (
+                refl,
+                (
+                  refl,
+                  (
+                    refl,
+                    (
+                      refl,
+                      (
+                        refl,
+                        (
+                          refl,
+                          (
+                            refl,
+                            (
+                              refl,
+                              (
+                                refl,
+                                (
+                                  refl,
+                                  (
+                                    refl,
+                                    (refl, (refl, (refl, (refl, (refl, tt))))),
+                                  ),
+                                ),
+                              ),
+                            ),
+                          ),
+                        ),
+                      ),
+                    ),
+                  ),
+                ),
+              ),
+            ),
+          ),
+        ),
+      );
     },
     (
       record {
@@ -469,8 +627,51 @@ shown_new = (
         consistent = refl;
         not_true = refl;
         not_false = refl;
-        rest_false = rest_by (positive 1 ∷ positive 5 ∷ []) (negative 6) (negative 1 ∷ negative 5 ∷ negative 6 ∷ []) refl;
-        closed = closed_by (positive 1 ∷ positive 5 ∷ []) faults_given (refl, (refl, (refl, (refl, (refl, (refl, (refl, (refl, (refl, (refl, (refl, (refl, (refl, (refl, (refl, (refl, (refl, (refl, (refl, tt)))))))))))))))))));
+        rest_false = rest_by (positive 1 ∷ positive 5 ∷ []) (negative 6)
+            (negative 1 ∷ negative 5 ∷ negative 6 ∷ []) refl;
+        closed = closed_by (positive 1 ∷ positive 5 ∷ []) faults_given (
+          refl,
+          (
+            refl,
+            (
+              refl,
+              (
+                refl,
+                (
+                  refl,
+                  (
+                    refl,
+                    (
+                      refl,
+                      (
+                        refl,
+                        (
+                          refl,
+                          (
+                            refl,
+                            (
+                              refl,
+                              (
+                                refl,
+                                (
+                                  refl,
+                                  (
+                                    refl,
+                                    (refl, (refl, (refl, (refl, (refl, tt))))),
+                                  ),
+                                ),
+                              ),
+                            ),
+                          ),
+                        ),
+                      ),
+                    ),
+                  ),
+                ),
+              ),
+            ),
+          ),
+        );
       },
       faults_new,
     ),
@@ -610,7 +811,8 @@ shown_models = (
 )
 
 -- faults may be given again
-pub fault_first : (earlier : List Entry) (origin : Origin) (clause : List Literal) → is_fault origin ≡ true → nat_le (length (fault_groups (Given origin clause ∷ earlier))) (fault_room earlier) ≡ true →
+pub fault_first : (earlier : List Entry) (origin : Origin) (clause : List Literal) → is_fault origin ≡ true →
+    nat_le (length (fault_groups (Given origin clause ∷ earlier))) (fault_room earlier) ≡ true →
     IsNotRepeated earlier (Given origin clause)
 fault_first earlier origin clause fault few = record {
   first = λ h c inside. false≢true (sym h ∙ fault);
@@ -619,11 +821,14 @@ fault_first earlier origin clause fault few = record {
 
 pub gate_single : Each IsNotRepeated gate_given
 gate_single = (
-  first_of s6 (Gate 4 3) (negative 1 ∷ positive 4 ∷ negative 2 ∷ negative 3 ∷ []) ((λ c h. cc), ((λ c h. cc), ((λ c h. cc), ((λ c h. cc), ((λ c h. cc), ((λ c h. cc), tt)))))) refl,
+  first_of s6 (Gate 4 3) (negative 1 ∷ positive 4 ∷ negative 2 ∷ negative 3 ∷ [])
+      ((λ c h. cc), ((λ c h. cc), ((λ c h. cc), ((λ c h. cc), ((λ c h. cc), ((λ c h. cc), tt)))))) refl,
   (
-    first_of s5 (Gate 4 2) (negative 1 ∷ negative 4 ∷ positive 3 ∷ []) ((λ c h. cc), ((λ c h. cc), ((λ c h. cc), ((λ c h. cc), ((λ c h. cc), tt))))) refl,
+    first_of s5 (Gate 4 2) (negative 1 ∷ negative 4 ∷ positive 3 ∷ [])
+        ((λ c h. cc), ((λ c h. cc), ((λ c h. cc), ((λ c h. cc), ((λ c h. cc), tt))))) refl,
     (
-      first_of s4 (Gate 4 1) (negative 1 ∷ negative 4 ∷ positive 2 ∷ []) ((λ c h. cc), ((λ c h. cc), ((λ c h. cc), ((λ c h. cc), tt)))) refl,
+      first_of s4 (Gate 4 1) (negative 1 ∷ negative 4 ∷ positive 2 ∷ [])
+          ((λ c h. cc), ((λ c h. cc), ((λ c h. cc), ((λ c h. cc), tt)))) refl,
       (
         tt,
         (
@@ -650,11 +855,14 @@ faults_single = (
         (
           fault_first s14 (Fault 2 2 (LeafLiteral (positive 3))) (negative 5 ∷ negative 7 ∷ negative 3 ∷ []) refl refl,
           (
-            fault_first s13 (Fault 2 1 (LeafLiteral (positive 4))) (negative 5 ∷ negative 7 ∷ positive 4 ∷ []) refl refl,
+            fault_first s13 (Fault 2 1 (LeafLiteral (positive 4)))
+                (negative 5 ∷ negative 7 ∷ positive 4 ∷ []) refl refl,
             (
-              fault_first s12 (Fault 1 2 (LeafLiteral (positive 2))) (negative 5 ∷ negative 6 ∷ negative 2 ∷ []) refl refl,
+              fault_first s12 (Fault 1 2 (LeafLiteral (positive 2)))
+                  (negative 5 ∷ negative 6 ∷ negative 2 ∷ []) refl refl,
               (
-                fault_first s11 (Fault 1 1 (LeafLiteral (positive 4))) (negative 5 ∷ negative 6 ∷ positive 4 ∷ []) refl refl,
+                fault_first s11 (Fault 1 1 (LeafLiteral (positive 4)))
+                    (negative 5 ∷ negative 6 ∷ positive 4 ∷ []) refl refl,
                 (
                   tt,
                   (
@@ -694,4 +902,5 @@ shown_productive = record {
 }
 
 pub seen_conjunction_well_formed : IsWellFormed seen_conjunction
-seen_conjunction_well_formed = well_formed_by seen_conjunction.universals seen_conjunction.existentials seen_conjunction.matrix refl refl refl
+seen_conjunction_well_formed = well_formed_by seen_conjunction.universals seen_conjunction.existentials
+    seen_conjunction.matrix refl refl refl

@@ -11,7 +11,11 @@ use Rattle.number_tables.specs.Numbers.{has_number, place_of, with_number}
 
 found : (p : ℕ → Bool) (xs : List ℕ) → ltb (position_or_len p xs) (length xs) ≡ list_any p xs
 found p [] = refl
-found p (x ∷ xs) = elim (cases_Bool (p x)) [ inl h ↦ grind (arith, common_steps, h, found p xs) | inr h ↦ grind (arith, common_steps, h, found p xs) ]
+found p (x ∷ xs) = elim (cases_Bool (p x)) [
+  | inl h ↦ grind (arith, common_steps, h, found p xs)
+  | inr h ↦
+      grind (arith, common_steps, h, found p xs)
+]
 
 is_some_cond : (b : Bool) (n : ℕ) → is_some (cond b (Some n) None) ≡ b
 is_some_cond true n = refl
@@ -29,26 +33,34 @@ pushed_first p xs n among =
     let below : position_or_len p xs < length xs = ltb-true (position_or_len p xs) (length xs) (found p xs ∙ among) in
     let same : position_or_len p (xs ++ n ∷ []) ≡ position_or_len p xs =
     position_or_len_push p xs n
-    ∙ ap (λ b. cond b (length xs + cond (p n) 0 1) (position_or_len p xs)) (ne_eqb (position_or_len p xs) (length xs) (λ e. omega (arith, below, e))) in
+    ∙ ap (λ b. cond b (length xs + cond (p n) 0 1) (position_or_len p xs))
+    (ne_eqb (position_or_len p xs) (length xs) (λ e. omega (arith, below, e))) in
     let longer : length (xs ++ n ∷ []) ≡ length xs + 1 = length-append xs (n ∷ []) in
     grind (arith, common_steps, same, longer, below)
 
-pushed_last : (p : ℕ → Bool) (xs : List ℕ) (n : ℕ) → list_any p xs ≡ false → position p (xs ++ n ∷ []) ≡ cond (p n) (Some (length xs)) None
+pushed_last : (p : ℕ → Bool) (xs : List ℕ) (n : ℕ) → list_any p xs ≡ false →
+    position p (xs ++ n ∷ []) ≡ cond (p n) (Some (length xs)) None
 pushed_last p xs n apart =
     let past : length xs ≤ position_or_len p xs = ltb-false (position_or_len p xs) (length xs) (found p xs ∙ apart) in
     let at_end : position_or_len p xs ≡ length xs = omega (arith, past, prefix_len-le-length (λ x. not (p x)) xs) in
     let same : position_or_len p (xs ++ n ∷ []) ≡ length xs + cond (p n) 0 1 =
     position_or_len_push p xs n
-    ∙ ap (λ b. cond b (length xs + cond (p n) 0 1) (position_or_len p xs)) (eq-eqb (position_or_len p xs) (length xs) at_end) in
+    ∙ ap (λ b. cond b (length xs + cond (p n) 0 1) (position_or_len p xs))
+    (eq-eqb (position_or_len p xs) (length xs) at_end) in
     let longer : length (xs ++ n ∷ []) ≡ length xs + 1 = length-append xs (n ∷ []) in
-    elim (cases_Bool (p n)) [ inl h ↦ grind (arith, common_steps, same, longer, h) | inr h ↦ grind (arith, common_steps, same, longer, h) ]
+    elim (cases_Bool (p n)) [
+      | inl h ↦ grind (arith, common_steps, same, longer, h)
+      | inr h ↦
+          grind (arith, common_steps, same, longer, h)
+    ]
 
 pub placed_last : (xs : List ℕ) (n m : ℕ) → has_number xs n ≡ false
     → place_of (xs ++ n ∷ []) m ≡ (if n == m then Some (length xs) else place_of xs m)
 placed_last xs n m absent =
     elim (cases_Bool (has_number xs m)) [
       | inl among ↦ pushed_first (λ x. x == m) xs n among ∙ kept among
-      | inr apart ↦ pushed_last (λ x. x == m) xs n apart ∙ ap (λ r. if n == m then Some (length xs) else r) (sym (unplaced xs m apart))
+      | inr apart ↦ pushed_last (λ x. x == m) xs n apart ∙ ap (λ r. if n == m then Some (length xs) else r)
+          (sym (unplaced xs m apart))
     ]
   where
     kept : has_number xs m ≡ true → place_of xs m ≡ (if n == m then Some (length xs) else place_of xs m)

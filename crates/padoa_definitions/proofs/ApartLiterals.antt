@@ -17,7 +17,8 @@ use Rattle.padoa_definitions.proofs.AskedLiterals.{all_of_held, no_negation}
 use Rattle.padoa_definitions.proofs.DividedAnswers.{holds_cases, held_in_either, copy_among, copy_name}
 use Rattle.padoa_definitions.proofs.LinkedInterpolants.{held_of_all}
 
-any_held : (p : Literal → Bool) (xs : List Literal) (l : Literal) → holds xs l ≡ true → p l ≡ true → list_any p xs ≡ true
+any_held : (p : Literal → Bool) (xs : List Literal) (l : Literal) → holds xs l ≡ true → p l ≡ true →
+    list_any p xs ≡ true
 any_held p [] l h is = cc
 any_held p (x ∷ xs) l h is = elim (holds_cases x xs l h) [
   | inl same ↦ or_left (p x) (list_any p xs) (ap p (sym same) ∙ is)
@@ -39,14 +40,17 @@ no_opposite : (l : Literal) → l ≡ opposite l → ⊥
 no_opposite l same = no_negation (is_negative l) (ap is_negative same ∙ negative_opposite l)
 
 -- conditions that agree with one another, and a literal of which they say nothing
-module _ (conditions : List Literal) (last : Literal) (consistent : is_tautology conditions ≡ false) (others : All (λ l. variable_of l ≢ variable_of last) conditions) where
+module _ (conditions : List Literal) (last : Literal) (consistent : is_tautology conditions ≡ false)
+    (others : All (λ l. variable_of l ≢ variable_of last) conditions) where
   apart_from_last : (l : Literal) → holds conditions l ≡ true → variable_of l ≡ variable_of last → ⊥
   apart_from_last l h = held_of_all (λ k. variable_of k ≢ variable_of last) conditions others l h
 
-  pub no_contradiction : (l : Literal) → holds (asked_of conditions last) l ≡ true → holds (asked_of conditions last) (opposite l) ≡ true → ⊥
+  pub no_contradiction : (l : Literal) → holds (asked_of conditions last) l ≡ true →
+      holds (asked_of conditions last) (opposite l) ≡ true → ⊥
   no_contradiction l h k = elim (held_in_either conditions (last ∷ []) l h) [
     | inl condition ↦ elim (held_in_either conditions (last ∷ []) (opposite l) k) [
-      | inl other ↦ true≢false (sym (any_held (λ j. holds conditions (opposite j)) conditions l condition other) ∙ consistent)
+      | inl other ↦ true≢false (sym (any_held (λ j. holds conditions (opposite j)) conditions l condition other)
+          ∙ consistent)
       | inr end ↦ apart_from_last l condition (sym (variable_of-opposite l) ∙ ap variable_of (is_last (opposite l) end))
     ]
     | inr end ↦ elim (held_in_either conditions (last ∷ []) (opposite l) k) [
@@ -59,24 +63,31 @@ module _ (conditions : List Literal) (last : Literal) (consistent : is_tautology
       is_last j held = elim (holds_cases last [] j held) [ inl same ↦ same | inr none ↦ cc ]
 
 -- so copies of these on one side don't contradict one another
-copies_apart : (es : List Entry) (side : ℕ) (originals : List Literal) → ((l : Literal) → holds originals l ≡ true → holds originals (opposite l) ≡ true → ⊥) → (l : Literal) →
+copies_apart : (es : List Entry) (side : ℕ) (originals : List Literal) →
+    ((l : Literal) → holds originals l ≡ true → holds originals (opposite l) ≡ true → ⊥) → (l : Literal) →
     IsCopyLiteral es side originals l → IsCopyLiteral es side originals (opposite l) → ⊥
 copies_apart es side originals none l a b =
     let a_is = copy_name es side originals l a in
     let b_is = copy_name es side originals (opposite l) b in
-    let names : Some (CopyOf side (variable_of b.original)) ≡ Some (CopyOf side (variable_of a.original)) = sym b_is.0 ∙ ap (name_of es) (variable_of-opposite l) ∙ a_is.0 in
+    let names : Some (CopyOf side (variable_of b.original)) ≡ Some (CopyOf side (variable_of a.original)) =
+    sym b_is.0 ∙ ap (name_of es) (variable_of-opposite l) ∙ a_is.0 in
     let same : variable_of b.original ≡ variable_of a.original = cc in
-    let sign : is_negative b.original ≡ not (is_negative a.original) = sym b_is.1 ∙ negative_opposite l ∙ ap not a_is.1 in
-    let is : b.original ≡ opposite a.original = same_parts b.original (opposite a.original) (same ∙ sym (variable_of-opposite a.original)) (sign ∙ sym (negative_opposite a.original)) in
+    let sign : is_negative b.original ≡ not (is_negative a.original) =
+    sym b_is.1 ∙ negative_opposite l ∙ ap not a_is.1 in
+    let is : b.original ≡ opposite a.original = same_parts b.original (opposite a.original)
+    (same ∙ sym (variable_of-opposite a.original)) (sign ∙ sym (negative_opposite a.original)) in
     none a.original a.among (ap (holds originals) (sym is) ∙ b.among)
 
 -- nor do copies on different sides
-sides_apart : (es : List Entry) (firsts seconds : List Literal) (k l : Literal) → variable_of k ≡ variable_of l → IsCopyLiteral es 1 firsts k → IsCopyLiteral es 2 seconds l → ⊥
+sides_apart : (es : List Entry) (firsts seconds : List Literal) (k l : Literal) → variable_of k ≡ variable_of l →
+    IsCopyLiteral es 1 firsts k → IsCopyLiteral es 2 seconds l → ⊥
 sides_apart es firsts seconds k l same a b =
-    let names : Some (CopyOf 1 (variable_of a.original)) ≡ Some (CopyOf 2 (variable_of b.original)) = sym (copy_name es 1 firsts k a).0 ∙ ap (name_of es) same ∙ (copy_name es 2 seconds l b).0 in
+    let names : Some (CopyOf 1 (variable_of a.original)) ≡ Some (CopyOf 2 (variable_of b.original)) =
+    sym (copy_name es 1 firsts k a).0 ∙ ap (name_of es) same ∙ (copy_name es 2 seconds l b).0 in
     cc
 
-module _ (es : List Entry) (v : ℕ) (conditions : List Literal) (asked : Asked) (are : IsAsked es v conditions asked) where
+module _ (es : List Entry) (v : ℕ) (conditions : List Literal) (asked : Asked)
+    (are : IsAsked es v conditions asked) where
   abbrev firsts : List Literal
   firsts = asked_of conditions (positive v)
 
@@ -95,34 +106,43 @@ module _ (es : List Entry) (v : ℕ) (conditions : List Literal) (asked : Asked)
       record { named = subst IsSome (sym name) refl; no_selector = ap is_selector_name name }
 
   pub asked_plain : All (IsPlain es) (asked.first.items ++ asked.second.items)
-  asked_plain = all_of_held (IsPlain es) (asked.first.items ++ asked.second.items) (λ l h. elim (held_in_either asked.first.items asked.second.items l h) [
-    | inl one ↦ plain_copy 1 firsts l (first_copy l one)
-    | inr other ↦ plain_copy 2 seconds l (second_copy l other)
-  ])
+  asked_plain = all_of_held (IsPlain es) (asked.first.items ++ asked.second.items)
+      (λ l h. elim (held_in_either asked.first.items asked.second.items l h) [
+        | inl one ↦ plain_copy 1 firsts l (first_copy l one)
+        | inr other ↦ plain_copy 2 seconds l (second_copy l other)
+      ])
 
   -- the assumptions of the first copy have names
-  pub first_named : (selector : Literal) → IsSome (name_of es (variable_of selector)) → AreNamed es (selector ∷ asked.first.items)
+  pub first_named : (selector : Literal) → IsSome (name_of es (variable_of selector)) →
+      AreNamed es (selector ∷ asked.first.items)
   first_named selector named =
       All-cons (λ l. IsSome (name_of es (variable_of l))) selector asked.first.items named
-      (all_of_held (λ l. IsSome (name_of es (variable_of l))) asked.first.items (λ l h. (plain_copy 1 firsts l (first_copy l h)).named))
+      (all_of_held (λ l. IsSome (name_of es (variable_of l))) asked.first.items
+      (λ l h. (plain_copy 1 firsts l (first_copy l h)).named))
 
   module _ (consistent : is_tautology conditions ≡ false) (others : All (λ l. variable_of l ≢ v) conditions) where
-    no_pair : (l : Literal) → holds (asked.first.items ++ asked.second.items) l ≡ true → holds (asked.first.items ++ asked.second.items) (opposite l) ≡ true → ⊥
+    no_pair : (l : Literal) → holds (asked.first.items ++ asked.second.items) l ≡ true →
+        holds (asked.first.items ++ asked.second.items) (opposite l) ≡ true → ⊥
     no_pair l h k = elim (held_in_either asked.first.items asked.second.items l h) [
       | inl one ↦ elim (held_in_either asked.first.items asked.second.items (opposite l) k) [
-        | inl also ↦ copies_apart es 1 firsts (no_contradiction conditions (positive v) consistent others) l (first_copy l one) (first_copy (opposite l) also)
-        | inr other ↦ sides_apart es firsts seconds l (opposite l) (sym (variable_of-opposite l)) (first_copy l one) (second_copy (opposite l) other)
+        | inl also ↦ copies_apart es 1 firsts (no_contradiction conditions (positive v) consistent others) l
+            (first_copy l one) (first_copy (opposite l) also)
+        | inr other ↦ sides_apart es firsts seconds l (opposite l) (sym (variable_of-opposite l)) (first_copy l one)
+            (second_copy (opposite l) other)
       ]
       | inr other ↦ elim (held_in_either asked.first.items asked.second.items (opposite l) k) [
-        | inl one ↦ sides_apart es firsts seconds (opposite l) l (variable_of-opposite l) (first_copy (opposite l) one) (second_copy l other)
-        | inr also ↦ copies_apart es 2 seconds (no_contradiction conditions (negative v) consistent others) l (second_copy l other) (second_copy (opposite l) also)
+        | inl one ↦ sides_apart es firsts seconds (opposite l) l (variable_of-opposite l) (first_copy (opposite l) one)
+            (second_copy l other)
+        | inr also ↦ copies_apart es 2 seconds (no_contradiction conditions (negative v) consistent others) l
+            (second_copy l other) (second_copy (opposite l) also)
       ]
     ]
 
     pub both_apart : is_tautology (asked.first.items ++ asked.second.items) ≡ false
     both_apart = elim (cases_Bool (is_tautology (asked.first.items ++ asked.second.items))) [
       | inl some ↦ (
-          let w = any_witness (λ l. holds (asked.first.items ++ asked.second.items) (opposite l)) (asked.first.items ++ asked.second.items) some in
+          let w = any_witness (λ l. holds (asked.first.items ++ asked.second.items) (opposite l))
+          (asked.first.items ++ asked.second.items) some in
           absurd (no_pair w.0 w.1 w.2))
       | inr none ↦ none
     ]

@@ -35,20 +35,28 @@ IsOwn es y bit l = name_literal es l ≡ Some (named_literal (CopyOf 1 y.variabl
 abbrev pub IsAtRow : Dqbf → List Entry → List Bool → ℕ → Literal → Type 0
 IsAtRow f es row x l = name_literal es l ≡ Some (named_literal (CopyOf 1 x) (not (row_assignment f row x)))
 
-pub record AreAsked (f : Dqbf) (es : List Entry) (y : Existential) (row : List Bool) (bit : Bool) (lits : List Literal) : Type 0 where
-  pub each : (l : Literal) → holds lits l ≡ true → IsOwn es y bit l ⊎ ((x : ℕ) × Contains y.sees x × IsAtRow f es row x l)
+pub record AreAsked (f : Dqbf) (es : List Entry) (y : Existential) (row : List Bool) (bit : Bool)
+    (lits : List Literal) : Type 0 where
+  pub each : (l : Literal) → holds lits l ≡ true → IsOwn es y bit l ⊎
+      ((x : ℕ) × Contains y.sees x × IsAtRow f es row x l)
   pub own : (l : Literal) × (holds lits l ≡ true) × IsOwn es y bit l
   pub seen : (x : ℕ) → Contains y.sees x → (l : Literal) × (holds lits l ≡ true) × IsAtRow f es row x l
 
 -- the negation of a named literal
-pub opposite_named : (es : List Entry) (l : Literal) (n : Name) (b : Bool) → name_literal es l ≡ Some (named_literal n b) → name_literal es (opposite l) ≡ Some (named_literal n (not b))
+pub opposite_named : (es : List Entry) (l : Literal) (n : Name) (b : Bool) →
+    name_literal es l ≡ Some (named_literal n b) → name_literal es (opposite l) ≡ Some (named_literal n (not b))
 opposite_named es l n b is = let h = named_variable es l n b (name_of es (variable_of l)) refl is in by l h.0 h.1
   where
-    by : (k : Literal) → name_of es (variable_of k) ≡ Some n → is_negative k ≡ b → name_literal es (opposite k) ≡ Some (named_literal n (not b))
-    by (positive v) named sign = ap (option_map (λ m. named_literal m true)) named ∙ ap (λ c. Some (named_literal n (not c))) sign
-    by (negative v) named sign = ap (option_map (λ m. named_literal m false)) named ∙ ap (λ c. Some (named_literal n (not c))) sign
+    by : (k : Literal) → name_of es (variable_of k) ≡ Some n → is_negative k ≡ b →
+        name_literal es (opposite k) ≡ Some (named_literal n (not b))
+    by (positive v) named sign = ap (option_map (λ m. named_literal m true)) named ∙ ap
+        (λ c. Some (named_literal n (not c))) sign
+    by (negative v) named sign = ap (option_map (λ m. named_literal m false)) named ∙ ap
+        (λ c. Some (named_literal n (not c))) sign
 
-pub signed_name : (es : List Entry) (l : Literal) (n : Name) (b : Bool) → name_literal es l ≡ Some (named_literal n false) → name_literal es (signed_literal l b) ≡ Some (named_literal n (not b))
+pub signed_name : (es : List Entry) (l : Literal) (n : Name) (b : Bool) →
+    name_literal es l ≡ Some (named_literal n false) → name_literal es (signed_literal l b) ≡ Some
+    (named_literal n (not b))
 signed_name es l n true is = is
 signed_name es l n false is = opposite_named es l n false is
 
@@ -56,33 +64,50 @@ pub not_not : (b : Bool) → not (not b) ≡ b
 not_not true = refl
 not_not false = refl
 
-pub own_name : (es : List Entry) (y : Existential) (l : Literal) (bit : Bool) → name_literal es l ≡ Some (named_literal (CopyOf 1 y.variable) false) → IsOwn es y bit (signed_literal l (not bit))
-own_name es y l bit is = signed_name es l (CopyOf 1 y.variable) (not bit) is ∙ ap (λ b. Some (named_literal (CopyOf 1 y.variable) b)) (not_not bit)
+pub own_name : (es : List Entry) (y : Existential) (l : Literal) (bit : Bool) →
+    name_literal es l ≡ Some (named_literal (CopyOf 1 y.variable) false) → IsOwn es y bit (signed_literal l (not bit))
+own_name es y l bit is = signed_name es l (CopyOf 1 y.variable) (not bit) is ∙ ap
+    (λ b. Some (named_literal (CopyOf 1 y.variable) b)) (not_not bit)
 
-held_mapped : (g : ℕ → Literal) (ps : List ℕ) (l : Literal) → holds (map g ps) l ≡ true → (p : ℕ) × Contains ps p × (l ≡ g p)
+held_mapped : (g : ℕ → Literal) (ps : List ℕ) (l : Literal) → holds (map g ps) l ≡ true →
+    (p : ℕ) × Contains ps p × (l ≡ g p)
 held_mapped g [] l h = cc
 held_mapped g (p ∷ ps) l h = elim (holds_cases (g p) (map g ps) l h) [
   | inl here ↦ (p, (0, omega arith, refl), here)
-  | inr later ↦ (let r = held_mapped g ps l later in (r.0, (suc r.1.0, (let b = r.1.1 in omega (arith, b)), r.1.2), r.2))
+  | inr later ↦ (let r = held_mapped g ps l later in (
+    r.0,
+    (
+      suc r.1.0,
+      (let b = r.1.1 in omega (arith, b)),
+      r.1.2,
+    ),
+    r.2,
+  ))
 ]
 
 mapped_held : (g : ℕ → Literal) (ps : List ℕ) (p : ℕ) → Contains ps p → holds (map g ps) (g p) ≡ true
 mapped_held g [] p (k, lt, at) = absurd (omega (arith, lt))
 mapped_held g (q ∷ ps) p (zero, lt, at) = ap (λ k. holds (map g (q ∷ ps)) (g k)) (sym at) ∙ holds_here (g q) (map g ps)
-mapped_held g (q ∷ ps) p (suc k, lt, at) = or_right (same_literal (g p) (g q)) (holds (map g ps) (g p)) (mapped_held g ps p (k, omega (arith, lt), at))
+mapped_held g (q ∷ ps) p (suc k, lt, at) = or_right (same_literal (g p) (g q)) (holds (map g ps) (g p))
+    (mapped_held g ps p (k, omega (arith, lt), at))
 
 -- the bit of a universal, by its place
-bit_at : (us : List ℕ) (row : List Bool) (p x : ℕ) → AllPairs (λ v w. v ≢ w) us → slice_get us p ≡ Some x → assignment_of us row x ≡ get_or row p false
+bit_at : (us : List ℕ) (row : List Bool) (p x : ℕ) → AllPairs (λ v w. v ≢ w) us → slice_get us p ≡ Some x →
+    assignment_of us row x ≡ get_or row p false
 bit_at [] row p x distinct at = cc
 bit_at (u ∷ us) [] p x distinct at = refl
-bit_at (u ∷ us) (b ∷ bits) zero x distinct at = let same : u ≡ x = cc in ap (λ t. cond t b (assignment_of us bits x)) (eq-eqb u x same)
+bit_at (u ∷ us) (b ∷ bits) zero x distinct at = let same : u ≡ x = cc in
+    ap (λ t. cond t b (assignment_of us bits x)) (eq-eqb u x same)
 bit_at (u ∷ us) (b ∷ bits) (suc p) x distinct at =
     let lt = slice_get_within us p x at in
-    let differ : u ≢ x = λ same. distinct 0 (suc p) x (omega arith) (omega (arith, lt)) (same ∙ sym (get_or_from_slice_get us p x x at)) in
-    ap (λ t. cond t b (assignment_of us bits x)) (ne_eqb u x differ) ∙ bit_at us bits p x (λ i j e less within. distinct (suc i) (suc j) e (omega (arith, less)) (omega (arith, within))) at
+    let differ : u ≢ x = λ same. distinct 0 (suc p) x (omega arith) (omega (arith, lt))
+    (same ∙ sym (get_or_from_slice_get us p x x at)) in
+    ap (λ t. cond t b (assignment_of us bits x)) (ne_eqb u x differ) ∙ bit_at us bits p x
+    (λ i j e less within. distinct (suc i) (suc j) e (omega (arith, less)) (omega (arith, within))) at
 
 -- a universal is no existential
-pub universal_differs : (f : Dqbf) → HasLawfulPrefix f → (x v : ℕ) → Contains f.universals x → Contains (existential_variables f) v → x ≢ v
+pub universal_differs : (f : Dqbf) → HasLawfulPrefix f → (x v : ℕ) → Contains f.universals x →
+    Contains (existential_variables f) v → x ≢ v
 universal_differs f lawful x v (i, lt, at) (k, less, there) same =
     let us = f.universals in
     let ys = existential_variables f in
@@ -93,8 +118,10 @@ universal_differs f lawful x v (i, lt, at) (k, less, there) same =
     other : (us ys : List ℕ) (k : ℕ) → k < length ys → get_or ys k v ≡ get_or ys k x
     other us ys k below = sym (get_or_from_slice_get ys k (get_or ys k v) x (slice_get-get_or ys k v below))
 
-module _ (f : Dqbf) (lawful : HasLawfulPrefix f) (es : List Entry) (y : Existential) (copy : MatrixCopy) (row : List Bool) (bit : Bool) (places : List ℕ) (own : Literal)
-    (copies : AreCopiesOf es 1 f.universals copy.universals.items) (are : ArePlaces f.universals (Contains y.sees) places) (own_is : IsOwn es y bit own) where
+module _ (f : Dqbf) (lawful : HasLawfulPrefix f) (es : List Entry) (y : Existential) (copy : MatrixCopy)
+    (row : List Bool) (bit : Bool) (places : List ℕ) (own : Literal)
+    (copies : AreCopiesOf es 1 f.universals copy.universals.items)
+    (are : ArePlaces f.universals (Contains y.sees) places) (own_is : IsOwn es y bit own) where
   abbrev at_place : ℕ → Literal
   at_place p = signed_literal (get_or copy.universals.items p (positive 0)) (get_or row p false)
 
@@ -103,9 +130,11 @@ module _ (f : Dqbf) (lawful : HasLawfulPrefix f) (es : List Entry) (y : Existent
       let lits = copy.universals.items in
       let lt = slice_get_within f.universals p x at in
       let long = copies_long es 1 f.universals lits copies in
-      let is = copy_at es 1 f.universals lits p x (get_or lits p (positive 0)) copies at (slice_get-get_or lits p (positive 0) (omega (arith, lt, long))) in
+      let is = copy_at es 1 f.universals lits p x (get_or lits p (positive 0)) copies at
+      (slice_get-get_or lits p (positive 0) (omega (arith, lt, long))) in
       signed_name es (get_or lits p (positive 0)) (CopyOf 1 x) (get_or row p false) is
-      ∙ ap (λ b. Some (named_literal (CopyOf 1 x) (not b))) (sym (bit_at f.universals row p x (universals_distinct f lawful) at))
+      ∙ ap (λ b. Some (named_literal (CopyOf 1 x) (not b))) (sym
+      (bit_at f.universals row p x (universals_distinct f lawful) at))
 
   pub are_asked : AreAsked f es y row bit (own ∷ row_copies copy row places)
   are_asked = record {
@@ -118,11 +147,16 @@ module _ (f : Dqbf) (lawful : HasLawfulPrefix f) (es : List Entry) (y : Existent
     ];
     own = (own, holds_here own (map at_place places), own_is);
     seen = λ x among.
-        let p = are.complete x among in
-        (at_place p.0, or_right (same_literal (at_place p.0) own) (holds (map at_place places) (at_place p.0)) (mapped_held at_place places p.0 p.2), place_name p.0 x p.1);
+        let p = are.complete x among in (
+          at_place p.0,
+          or_right (same_literal (at_place p.0) own) (holds (map at_place places) (at_place p.0))
+              (mapped_held at_place places p.0 p.2),
+          place_name p.0 x p.1,
+        );
   }
 
-same_names : (o : Option NamedLiteral) (a b : ℕ) (s t : Bool) → o ≡ Some (named_literal (CopyOf 1 a) s) → o ≡ Some (named_literal (CopyOf 1 b) t) → (a ≡ b) × (s ≡ t)
+same_names : (o : Option NamedLiteral) (a b : ℕ) (s t : Bool) → o ≡ Some (named_literal (CopyOf 1 a) s) →
+    o ≡ Some (named_literal (CopyOf 1 b) t) → (a ≡ b) × (s ≡ t)
 same_names o a b s t first second =
     let e : Some (named_literal (CopyOf 1 a) s) ≡ Some (named_literal (CopyOf 1 b) t) = sym first ∙ second in
     let both : named_literal (CopyOf 1 a) s ≡ named_literal (CopyOf 1 b) t = cc in
@@ -135,26 +169,32 @@ no_negation false e = true≢false (sym e)
 
 pub all_of_held : (P : Literal → Type 0) (xs : List Literal) → ((l : Literal) → holds xs l ≡ true → P l) → All P xs
 all_of_held P [] each = All-nil P
-all_of_held P (x ∷ xs) each = All-cons P x xs (each x (holds_here x xs)) (all_of_held P xs (λ l h. each l (or_right (same_literal l x) (holds xs l) h)))
+all_of_held P (x ∷ xs) each = All-cons P x xs (each x (holds_here x xs))
+    (all_of_held P xs (λ l h. each l (or_right (same_literal l x) (holds xs l) h)))
 
-module _ (f : Dqbf) (es : List Entry) (y : Existential) (row : List Bool) (bit : Bool) (lits : List Literal) (are : AreAsked f es y row bit lits)
+module _ (f : Dqbf) (es : List Entry) (y : Existential) (row : List Bool) (bit : Bool) (lits : List Literal)
+    (are : AreAsked f es y row bit lits)
     (unseen : (x : ℕ) → Contains y.sees x → x ≢ y.variable) where
   no_pair : (l : Literal) → holds lits l ≡ true → holds lits (opposite l) ≡ true → ⊥
   no_pair l h k = elim (are.each l h) [
     | inl own ↦ (
         let turned = opposite_named es l (CopyOf 1 y.variable) bit own in
         elim (are.each (opposite l) k) [
-          | inl other ↦ no_negation bit (same_names (name_literal es (opposite l)) y.variable y.variable bit (not bit) other turned).1
-          | inr other ↦ unseen other.0 other.1 (same_names (name_literal es (opposite l)) other.0 y.variable (not (row_assignment f row other.0)) (not bit) other.2 turned).0
+          | inl other ↦ no_negation bit (same_names (name_literal es (opposite l)) y.variable y.variable bit
+              (not bit) other turned).1
+          | inr other ↦ unseen other.0 other.1 (same_names (name_literal es (opposite l)) other.0 y.variable
+              (not (row_assignment f row other.0)) (not bit) other.2 turned).0
         ])
     | inr seen ↦ (
         let x = seen.0 in
         let sign = not (row_assignment f row x) in
         let turned = opposite_named es l (CopyOf 1 x) sign seen.2 in
         elim (are.each (opposite l) k) [
-          | inl other ↦ unseen x seen.1 (same_names (name_literal es (opposite l)) x y.variable (not sign) bit turned other).0
+          | inl other ↦ unseen x seen.1 (same_names (name_literal es (opposite l)) x y.variable
+              (not sign) bit turned other).0
           | inr other ↦ (
-              let same = same_names (name_literal es (opposite l)) other.0 x (not (row_assignment f row other.0)) (not sign) other.2 turned in
+              let same = same_names (name_literal es (opposite l)) other.0 x (not (row_assignment f row other.0))
+              (not sign) other.2 turned in
               no_negation sign (ap (λ z. not (row_assignment f row z)) (sym same.0) ∙ same.1))
         ])
   ]
@@ -166,7 +206,16 @@ module _ (f : Dqbf) (es : List Entry) (y : Existential) (row : List Bool) (bit :
   ]
 
   pub asked_copies : AreFirstCopies es lits
-  asked_copies = all_of_held (λ l. (v : ℕ) × (name_of es (variable_of l) ≡ Some (CopyOf 1 v))) lits (λ l h. elim (are.each l h) [
-    | inl own ↦ (y.variable, (named_variable es l (CopyOf 1 y.variable) bit (name_of es (variable_of l)) refl own).0)
-    | inr seen ↦ (seen.0, (named_variable es l (CopyOf 1 seen.0) (not (row_assignment f row seen.0)) (name_of es (variable_of l)) refl seen.2).0)
-  ])
+  asked_copies = all_of_held (λ l. (v : ℕ) × (name_of es (variable_of l) ≡ Some (CopyOf 1 v))) lits
+      (λ l h. elim (are.each l h) [
+        | inl own ↦ (
+          y.variable,
+          (named_variable es l (CopyOf 1 y.variable) bit
+              (name_of es (variable_of l)) refl own).0,
+        )
+        | inr seen ↦ (
+          seen.0,
+          (named_variable es l (CopyOf 1 seen.0) (not (row_assignment f row seen.0))
+              (name_of es (variable_of l)) refl seen.2).0,
+        )
+      ])

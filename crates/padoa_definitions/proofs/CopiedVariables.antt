@@ -26,7 +26,8 @@ element_at (y ∷ ys) zero x h = (0, omega arith, cc)
 element_at (y ∷ ys) (suc i) x h = let r = element_at ys i x h in let b = r.1 in (suc r.0, omega (arith, b), r.2)
 
 -- what stands at a place is named so
-pub named_at : (es : List Entry) (ls : List Literal) (ns : List NamedLiteral) (i : ℕ) (l : Literal) (n : NamedLiteral) → AreNamedAs es ls ns → slice_get ls i ≡ Some l → slice_get ns i ≡ Some n →
+pub named_at : (es : List Entry) (ls : List Literal) (ns : List NamedLiteral) (i : ℕ) (l : Literal) (n : NamedLiteral) →
+    AreNamedAs es ls ns → slice_get ls i ≡ Some l → slice_get ns i ≡ Some n →
     name_literal es l ≡ Some n
 named_at es [] ns i l n are at is = cc
 named_at es (k ∷ ls) [] i l n are at is = cc
@@ -39,22 +40,28 @@ named_at es (k ∷ ls) (m ∷ ns) (suc i) l n are at is =
     let later : map (name_literal es) ls ≡ map Some ns = cc in
     named_at es ls ns i l n later at is
 
-pub named_length : (es : List Entry) (ls : List Literal) (ns : List NamedLiteral) → AreNamedAs es ls ns → length ls ≡ length ns
+pub named_length : (es : List Entry) (ls : List Literal) (ns : List NamedLiteral) → AreNamedAs es ls ns →
+    length ls ≡ length ns
 named_length es [] [] are = refl
 named_length es [] (n ∷ ns) are = cc
 named_length es (l ∷ ls) [] are = cc
-named_length es (l ∷ ls) (n ∷ ns) are = let later : map (name_literal es) ls ≡ map Some ns = cc in ap suc (named_length es ls ns later)
+named_length es (l ∷ ls) (n ∷ ns) are = let later : map (name_literal es) ls ≡ map Some ns = cc in
+    ap suc (named_length es ls ns later)
 
-slice_get-map : {X Y : Type 0} (g : X → Y) (xs : List X) (i : ℕ) (x : X) → slice_get xs i ≡ Some x → slice_get (map g xs) i ≡ Some (g x)
+slice_get-map : {X Y : Type 0} (g : X → Y) (xs : List X) (i : ℕ) (x : X) → slice_get xs i ≡ Some x →
+    slice_get (map g xs) i ≡ Some (g x)
 slice_get-map g [] i x h = cc
 slice_get-map g (y ∷ ys) zero x h = let same : y ≡ x = cc in ap (λ z. Some (g z)) same
 slice_get-map g (y ∷ ys) (suc i) x h = slice_get-map g ys i x h
 
 -- the copy that stands at a variable's place
-pub copy_at : (es : List Entry) (side : ℕ) (xs : List ℕ) (lits : List Literal) (i v : ℕ) (l : Literal) → AreCopiesOf es side xs lits → slice_get xs i ≡ Some v → slice_get lits i ≡ Some l →
+pub copy_at : (es : List Entry) (side : ℕ) (xs : List ℕ) (lits : List Literal) (i v : ℕ) (l : Literal) →
+    AreCopiesOf es side xs lits → slice_get xs i ≡ Some v → slice_get lits i ≡ Some l →
     name_literal es l ≡ Some (named_literal (CopyOf side v) false)
 copy_at es side xs lits i v l are at is =
-    named_at es lits (map (λ w. named_literal (CopyOf side w) false) xs) i l (named_literal (CopyOf side v) false) are is (slice_get-map (λ w. named_literal (CopyOf side w) false) xs i v at)
+    named_at es lits (map (λ w. named_literal (CopyOf side w) false) xs) i l
+    (named_literal (CopyOf side v) false) are is (slice_get-map
+    (λ w. named_literal (CopyOf side w) false) xs i v at)
 
 pub place_holds : (xs : List ℕ) (v i : ℕ) → position (λ u. u == v) xs ≡ Some i → slice_get xs i ≡ Some v
 place_holds xs v i found =
@@ -73,17 +80,20 @@ place_within xs v i found = (position-Some (λ u. u == v) xs i 0 found).0
 pub found_at : (xs : List Literal) (i : ℕ) (x : Literal) → i < length xs → x ≡ get_or xs i x → slice_get xs i ≡ Some x
 found_at xs i x lt is = slice_get-get_or xs i x lt ∙ ap Some (sym is)
 
-pub opposite_name : (es : List Entry) (l : Literal) (n : Name) → name_literal es l ≡ Some (named_literal n false) → name_literal es (opposite l) ≡ Some (named_literal n true)
+pub opposite_name : (es : List Entry) (l : Literal) (n : Name) → name_literal es l ≡ Some (named_literal n false) →
+    name_literal es (opposite l) ≡ Some (named_literal n true)
 opposite_name es (positive v) n h = by (name_of es v) h
   where
-    by : (o : Option Name) → option_map (λ m. named_literal m false) o ≡ Some (named_literal n false) → option_map (λ m. named_literal m true) o ≡ Some (named_literal n true)
+    by : (o : Option Name) → option_map (λ m. named_literal m false) o ≡ Some (named_literal n false) →
+        option_map (λ m. named_literal m true) o ≡ Some (named_literal n true)
     by None h = cc
     by (Some m) h =
         let both : named_literal m false ≡ named_literal n false = cc in
         ap (λ (x : NamedLiteral). Some (named_literal x.name true)) both
 opposite_name es (negative v) n h = by (name_of es v) h
   where
-    by : (o : Option Name) → option_map (λ m. named_literal m true) o ≡ Some (named_literal n false) → option_map (λ m. named_literal m false) o ≡ Some (named_literal n true)
+    by : (o : Option Name) → option_map (λ m. named_literal m true) o ≡ Some (named_literal n false) →
+        option_map (λ m. named_literal m false) o ≡ Some (named_literal n true)
     by None h = cc
     by (Some m) h =
         let both : named_literal m true ≡ named_literal n false = cc in
@@ -91,27 +101,36 @@ opposite_name es (negative v) n h = by (name_of es v) h
         cc
 
 -- one more at the end
-pub named_push : (es : List Entry) (ls : List Literal) (ns : List NamedLiteral) (l : Literal) (n : NamedLiteral) → AreNamedAs es ls ns → name_literal es l ≡ Some n →
+pub named_push : (es : List Entry) (ls : List Literal) (ns : List NamedLiteral) (l : Literal) (n : NamedLiteral) →
+    AreNamedAs es ls ns → name_literal es l ≡ Some n →
     AreNamedAs es (ls ++ l ∷ []) (ns ++ n ∷ [])
 named_push es ls ns l n are is =
-    map-append (name_literal es) ls (l ∷ []) ∙ ap (λ xs. xs ++ name_literal es l ∷ []) are ∙ ap (λ o. map Some ns ++ o ∷ []) is ∙ sym (map-append Some ns (n ∷ []))
+    map-append (name_literal es) ls (l ∷ []) ∙ ap (λ xs. xs ++ name_literal es l ∷ []) are ∙ ap
+    (λ o. map Some ns ++ o ∷ []) is ∙ sym (map-append Some ns (n ∷ []))
 
-pub clause_more : (es : List Entry) (side : ℕ) (clause lits more : List Literal) (i : ℕ) (l k : Literal) → i < length clause → get_or clause i l ≡ l →
-    AreNamedAs es lits (copy_names side (take i clause)) → name_literal es k ≡ Some (named_literal (CopyOf side (variable_of l)) (is_negative l)) → more ≡ lits ++ k ∷ [] →
+pub clause_more : (es : List Entry) (side : ℕ) (clause lits more : List Literal) (i : ℕ) (l k : Literal) →
+    i < length clause → get_or clause i l ≡ l →
+    AreNamedAs es lits (copy_names side (take i clause)) → name_literal es k ≡ Some
+    (named_literal (CopyOf side (variable_of l)) (is_negative l)) → more ≡ lits ++ k ∷ [] →
     AreNamedAs es more (copy_names side (take (i + 1) clause))
 clause_more es side clause lits more i l k lt at are is pushed =
     let g : Literal → NamedLiteral = λ j. named_literal (CopyOf side (variable_of j)) (is_negative j) in
     let taken : map g (take (i + 1) clause) ≡ map g (take i clause) ++ g l ∷ [] =
-    ap (map g) (take_more clause i l lt ∙ ap (λ j. take i clause ++ j ∷ []) at) ∙ map-append g (take i clause) (l ∷ []) in
-    subst (λ ns. AreNamedAs es more ns) (sym taken) (subst (λ ls. AreNamedAs es ls (map g (take i clause) ++ g l ∷ [])) (sym pushed) (named_push es lits (map g (take i clause)) k (g l) are is))
+    ap (map g) (take_more clause i l lt ∙ ap (λ j. take i clause ++ j ∷ []) at) ∙ map-append g (take i clause)
+    (l ∷ []) in
+    subst (λ ns. AreNamedAs es more ns) (sym taken) (subst (λ ls. AreNamedAs es ls (map g (take i clause) ++ g l ∷ []))
+    (sym pushed) (named_push es lits (map g (take i clause)) k (g l) are is))
 
 -- a copied literal behind copied literals
 pub copied_last : (es : List Entry) (side : ℕ) (originals lits : List Literal) (l : Literal) →
-    AreNamedAs es lits (copy_names side originals ++ named_literal (CopyOf side (variable_of l)) (is_negative l) ∷ []) → AreNamedAs es lits (copy_names side (originals ++ l ∷ []))
+    AreNamedAs es lits (copy_names side originals ++ named_literal (CopyOf side (variable_of l)) (is_negative l) ∷ []) →
+    AreNamedAs es lits (copy_names side (originals ++ l ∷ []))
 copied_last es side originals lits l are =
-    subst (AreNamedAs es lits) (sym (map-append (λ k. named_literal (CopyOf side (variable_of k)) (is_negative k)) originals (l ∷ []))) are
+    subst (AreNamedAs es lits) (sym (map-append (λ k. named_literal (CopyOf side (variable_of k)) (is_negative k))
+    originals (l ∷ []))) are
 
-pub none_named : (side : ℕ) (vars : List ℕ) (log : ProofLog) (lits : List Literal) → lits ≡ [] → AreUncopied side vars log.entries → AreNamedSoFar side vars 0 log log lits
+pub none_named : (side : ℕ) (vars : List ℕ) (log : ProofLog) (lits : List Literal) → lits ≡ [] →
+    AreUncopied side vars log.entries → AreNamedSoFar side vars 0 log log lits
 none_named side vars log lits empty fresh = record {
   grew = λ f standing start names. grown_by_none (IsAddedBy f copies standing true start) log log refl;
   named = ap (map (name_literal log.entries)) empty;
@@ -122,23 +141,30 @@ none_named side vars log lits empty fresh = record {
 copy_same : (s x y : ℕ) → CopyOf s x ≡ CopyOf s y → x ≡ y
 copy_same s x y e = cc
 
-pub named_more : (side : ℕ) (vars : List ℕ) (i x v : ℕ) (old log new : ProofLog) (lits more : List Literal) → AllPairs (λ a b. a ≢ b) vars → AreNamedSoFar side vars i old log lits →
-    i < length vars → get_or vars i x ≡ x → name_of log.entries v ≡ None → new ≡ with_entry log (Named v (CopyOf side x)) → more ≡ lits ++ positive v ∷ [] →
+pub named_more : (side : ℕ) (vars : List ℕ) (i x v : ℕ) (old log new : ProofLog) (lits more : List Literal) →
+    AllPairs (λ a b. a ≢ b) vars → AreNamedSoFar side vars i old log lits →
+    i < length vars → get_or vars i x ≡ x → name_of log.entries v ≡ None →
+    new ≡ with_entry log (Named v (CopyOf side x)) → more ≡ lits ++ positive v ∷ [] →
     AreNamedSoFar side vars (i + 1) old new more
 named_more side vars i x v old log new lits more distinct before lt at unnamed is pushed =
     subst (λ (l : ProofLog). AreNamedSoFar side vars (i + 1) old l more) (sym is) (record {
       grew = λ f standing start names.
-          grown_then (IsAddedBy f copies standing true start) old log (with_entry log (Named v (CopyOf side x))) (before.grew f standing start names)
-          (grown_by (IsAddedBy f copies standing true start) log (with_entry log (Named v (CopyOf side x))) (Named v (CopyOf side x)) refl (record { unnamed = unnamed; own = inr refl; rightly = tt }));
+          grown_then (IsAddedBy f copies standing true start) old log (with_entry log (Named v (CopyOf side x)))
+          (before.grew f standing start names)
+          (grown_by (IsAddedBy f copies standing true start) log (with_entry log (Named v (CopyOf side x)))
+          (Named v (CopyOf side x)) refl (record { unnamed = unnamed; own = inr refl; rightly = tt }));
       named = subst (λ ls. AreNamedAs es ls (map g (take (i + 1) vars))) (sym pushed)
-          (subst (AreNamedAs es (lits ++ positive v ∷ [])) (sym taken) (named_push es lits (map g (take i vars)) (positive v) (g x)
-          (named_stay log.entries es (name_stays_by log.entries v (CopyOf side x) unnamed) lits (map g (take i vars)) before.named) here));
+          (subst (AreNamedAs es (lits ++ positive v ∷ [])) (sym taken)
+          (named_push es lits (map g (take i vars)) (positive v) (g x)
+          (named_stay log.entries es (name_stays_by log.entries v (CopyOf side x) unnamed) lits
+          (map g (take i vars)) before.named) here));
       only = record {
         names = λ w n named. elim (name_cases log.entries v w (CopyOf side x) n named) [
           | inl same ↦ inr (x, sym same.1, element_at vars i x there)
           | inr behind ↦ before.only.names w n behind
         ];
-        givens = λ o c inside. elim (contains_cases (Named v (CopyOf side x)) (Given o c) log.entries inside) [ inl same ↦ cc | inr behind ↦ before.only.givens o c behind ];
+        givens = λ o c inside. elim (contains_cases (Named v (CopyOf side x)) (Given o c) log.entries inside)
+            [ inl same ↦ cc | inr behind ↦ before.only.givens o c behind ];
       };
       fresh = λ w k y le y_at named. elim (name_cases log.entries v w (CopyOf side x) (CopyOf side y) named) [
         | inl same ↦ not_again k y le y_at (copy_same side x y same.1)
@@ -156,10 +182,12 @@ named_more side vars i x v old log new lits more distinct before lt at unnamed i
     there = slice_get-get_or vars i x lt ∙ ap Some at
 
     taken : map g (take (i + 1) vars) ≡ map g (take i vars) ++ g x ∷ []
-    taken = ap (map g) (take_more vars i x lt ∙ ap (λ y. take i vars ++ y ∷ []) at) ∙ map-append g (take i vars) (x ∷ [])
+    taken = ap (map g) (take_more vars i x lt ∙ ap (λ y. take i vars ++ y ∷ []) at) ∙ map-append g (take i vars)
+        (x ∷ [])
 
     here : name_literal es (positive v) ≡ Some (g x)
-    here = ap (option_map (λ m. named_literal m false)) (cond-true (v == v) (Some (CopyOf side x)) (name_of log.entries v) (eq-eqb v v refl))
+    here = ap (option_map (λ m. named_literal m false)) (cond-true (v == v) (Some (CopyOf side x))
+        (name_of log.entries v) (eq-eqb v v refl))
 
     not_again : (k y : ℕ) → i + 1 ≤ k → slice_get vars k ≡ Some y → x ≡ y → ⊥
     not_again k y le y_at same =
@@ -171,5 +199,7 @@ named_more side vars i x v old log new lits more distinct before lt at unnamed i
         within (z ∷ zs) zero y h = omega arith
         within (z ∷ zs) (suc k) y h = let b = within zs k y h in omega (arith, b)
 
-pub all_named : (side : ℕ) (vars : List ℕ) (i : ℕ) (old new : ProofLog) (lits : List Literal) → AreNamedSoFar side vars i old new lits → length vars ≤ i → AreCopiesOf new.entries side vars lits
-all_named side vars i old new lits are all = subst (λ vs. AreCopiesOf new.entries side vs lits) (take_all i vars all) are.named
+pub all_named : (side : ℕ) (vars : List ℕ) (i : ℕ) (old new : ProofLog) (lits : List Literal) →
+    AreNamedSoFar side vars i old new lits → length vars ≤ i → AreCopiesOf new.entries side vars lits
+all_named side vars i old new lits are all = subst (λ vs. AreCopiesOf new.entries side vs lits)
+    (take_all i vars all) are.named

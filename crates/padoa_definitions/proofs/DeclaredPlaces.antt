@@ -24,20 +24,24 @@ use Rattle.definition_order.proofs.Declared.{find_sound}
 any_inside : (q : ℕ) (xs : List ℕ) → list_any (eqb q) xs ≡ true → Contains xs q
 any_inside q [] h = cc
 any_inside q (x ∷ xs) h = by_bit (any_inside q xs) (eqb q x) refl h where
-  by_bit : (list_any (eqb q) xs ≡ true → Contains xs q) → (b : Bool) → eqb q x ≡ b → (b || list_any (eqb q) xs) ≡ true → Contains (x ∷ xs) q
+  by_bit : (list_any (eqb q) xs ≡ true → Contains xs q) → (b : Bool) → eqb q x ≡ b → (b || list_any (eqb q) xs) ≡ true →
+      Contains (x ∷ xs) q
   by_bit later true e k = (0, omega arith, sym (eqb-true q x e))
   by_bit later false e k = let r = later k in let low = r.1 in (suc r.0, omega (arith, low), r.2)
 
 -- a formula declares at most as many variables as it has
 few_declared : (f : Dqbf) → HasLawfulPrefix f → length (declared f) ≤ f.variables + 1
-few_declared f prefix = length-le_from_distinct_below (declared f) (f.variables + 1) (IsDistinct-from_AllPairs Decides-eqb (declared f) prefix.declared_once) below where
-  below : (q : ℕ) → list_any (eqb q) (declared f) ≡ true → q < f.variables + 1
-  below q h =
-      let range = All-contains (λ v. (1 ≤ v) × (v ≤ f.variables)) (declared f) q prefix.in_range (any_inside q (declared f) h) in
-      let most = range.1 in omega (arith, most)
+few_declared f prefix = length-le_from_distinct_below (declared f) (f.variables + 1)
+    (IsDistinct-from_AllPairs Decides-eqb (declared f) prefix.declared_once) below where
+      below : (q : ℕ) → list_any (eqb q) (declared f) ≡ true → q < f.variables + 1
+      below q h =
+          let range = All-contains (λ v. (1 ≤ v) × (v ≤ f.variables)) (declared f) q prefix.in_range
+          (any_inside q (declared f) h) in
+          let most = range.1 in omega (arith, most)
 
 pub declared_long : (f : Dqbf) → length (declared f) ≡ length f.universals + length f.existentials
-declared_long f = length-append f.universals (existential_variables f) ∙ ap (λ n. length f.universals + n) (length-map f.existentials (λ y. y.variable))
+declared_long f = length-append f.universals (existential_variables f) ∙ ap (λ n. length f.universals + n)
+    (length-map f.existentials (λ y. y.variable))
 
 pub few_places : (f : Dqbf) → IsLawful f → length f.universals + length f.existentials ≤ 1000001
 few_places f lawful =
@@ -51,72 +55,103 @@ at_first [] ys p x h = cc
 at_first (z ∷ xs) ys zero x h = h
 at_first (z ∷ xs) ys (suc p) x h = at_first xs ys p x h
 
-pub at_second : {X : Type 0} (xs ys : List X) (p : ℕ) (y : X) → slice_get ys p ≡ Some y → slice_get (xs ++ ys) (length xs + p) ≡ Some y
+pub at_second : {X : Type 0} (xs ys : List X) (p : ℕ) (y : X) → slice_get ys p ≡ Some y →
+    slice_get (xs ++ ys) (length xs + p) ≡ Some y
 at_second [] ys p y h = subst (λ k. slice_get ys k ≡ Some y) (let same : p ≡ 0 + p = omega arith in same) h
-at_second (x ∷ xs) ys p y h = subst (λ k. slice_get (x ∷ xs ++ ys) k ≡ Some y) (let same : suc (length xs + p) ≡ suc (length xs) + p = omega arith in same) (at_second xs ys p y h)
+at_second (x ∷ xs) ys p y h = subst (λ k. slice_get (x ∷ xs ++ ys) k ≡ Some y)
+    (let same : suc (length xs + p) ≡ suc (length xs) + p = omega arith in same) (at_second xs ys p y h)
 
-at_mapped : (ys : List Existential) (p : ℕ) (z : Existential) → slice_get ys p ≡ Some z → slice_get (map (λ y. y.variable) ys) p ≡ Some z.variable
+at_mapped : (ys : List Existential) (p : ℕ) (z : Existential) → slice_get ys p ≡ Some z →
+    slice_get (map (λ y. y.variable) ys) p ≡ Some z.variable
 at_mapped [] p z h = cc
 at_mapped (y ∷ ys) zero z h = let same : y ≡ z = cc in ap (λ (e : Existential). Some e.variable) same
 at_mapped (y ∷ ys) (suc p) z h = at_mapped ys p z h
 
 -- the copies of all declared variables
-pub copies_declared : (f : Dqbf) (side : ℕ) (copy : MatrixCopy) (es : List Entry) → AreCopiesOf es side f.universals copy.universals.items →
-    AreCopiesOf es side (existential_variables f) copy.existentials.items → AreCopiesOf es side (declared f) (copies_of copy)
+pub copies_declared : (f : Dqbf) (side : ℕ) (copy : MatrixCopy) (es : List Entry) →
+    AreCopiesOf es side f.universals copy.universals.items →
+    AreCopiesOf es side (existential_variables f) copy.existentials.items →
+    AreCopiesOf es side (declared f) (copies_of copy)
 copies_declared f side copy es us ys =
     let g : ℕ → NamedLiteral = λ v. named_literal (CopyOf side v) false in
     map-append (name_literal es) copy.universals.items copy.existentials.items
     ∙ ap (λ xs. xs ++ map (name_literal es) copy.existentials.items) us
     ∙ ap (λ xs. map Some (map g f.universals) ++ xs) ys
-    ∙ sym (ap (map Some) (map-append g f.universals (existential_variables f)) ∙ map-append Some (map g f.universals) (map g (existential_variables f)))
+    ∙ sym (ap (map Some) (map-append g f.universals (existential_variables f)) ∙ map-append Some (map g f.universals)
+    (map g (existential_variables f)))
 
-pub copies_long : (es : List Entry) (side : ℕ) (xs : List ℕ) (lits : List Literal) → AreCopiesOf es side xs lits → length lits ≡ length xs
-copies_long es side xs lits are = named_length es lits (map (λ v. named_literal (CopyOf side v) false) xs) are ∙ length-map xs (λ v. named_literal (CopyOf side v) false)
+pub copies_long : (es : List Entry) (side : ℕ) (xs : List ℕ) (lits : List Literal) → AreCopiesOf es side xs lits →
+    length lits ≡ length xs
+copies_long es side xs lits are = named_length es lits (map (λ v. named_literal (CopyOf side v) false) xs) are
+    ∙ length-map xs (λ v. named_literal (CopyOf side v) false)
 
 mapped_back : (n : ℕ) (ps : List ℕ) (k : ℕ) → Contains (map (λ q. n + q) ps) k → (q : ℕ) × Contains ps q × (n + q ≡ k)
 mapped_back n [] k (i, lt, at) = absurd (omega (arith, lt))
 mapped_back n (p ∷ ps) k (zero, lt, at) = (p, (0, omega arith, refl), at)
-mapped_back n (p ∷ ps) k (suc i, lt, at) = let r = mapped_back n ps k (i, omega (arith, lt), at) in (r.0, (suc r.1.0, (let b = r.1.1 in omega (arith, b)), r.1.2), r.2)
+mapped_back n (p ∷ ps) k (suc i, lt, at) = let r = mapped_back n ps k (i, omega (arith, lt), at) in
+    (r.0, (suc r.1.0, (let b = r.1.1 in omega (arith, b)), r.1.2), r.2)
 
 mapped_there : (n : ℕ) (ps : List ℕ) (q : ℕ) → Contains ps q → Contains (map (λ k. n + k) ps) (n + q)
 mapped_there n [] q (i, lt, at) = absurd (omega (arith, lt))
 mapped_there n (p ∷ ps) q (zero, lt, at) = (0, omega arith, ap (λ k. n + k) at)
-mapped_there n (p ∷ ps) q (suc i, lt, at) = let r = mapped_there n ps q (i, omega (arith, lt), at) in let b = r.1 in (suc r.0, omega (arith, b), r.2)
+mapped_there n (p ∷ ps) q (suc i, lt, at) = let r = mapped_there n ps q (i, omega (arith, lt), at) in let b = r.1 in
+    (suc r.0, omega (arith, b), r.2)
 
 -- where an existential stands
 place_of_element : (ys : List Existential) (z : Existential) → Contains ys z → (q : ℕ) × (slice_get ys q ≡ Some z)
 place_of_element ys z (k, lt, at) = (k, slice_get-get_or ys k z lt ∙ ap Some at)
 
--- the places of what a definition may read: those of what its existential sees, and those of existentials that it shares
-pub shared_are_places : (f : Dqbf) (ranks : List ℕ) → IsLawful f → (y : Existential) (seen shared places : List ℕ) → ArePlaces f.universals (Contains y.sees) seen → ArePlacesOfShared f ranks y shared →
+-- the places of what a definition may read: those of what its existential sees, and those of
+-- existentials that it shares
+pub shared_are_places : (f : Dqbf) (ranks : List ℕ) → IsLawful f → (y : Existential) (seen shared places : List ℕ) →
+    ArePlaces f.universals (Contains y.sees) seen → ArePlacesOfShared f ranks y shared →
     places ≡ seen ++ map (λ k. length f.universals + k) shared → ArePlaces (declared f) (MayRead f ranks y) places
-shared_are_places f ranks lawful y seen shared places are_seen are_shared is = subst (ArePlaces (declared f) (MayRead f ranks y)) (sym is) (record {
-  sound = λ p among. elim (Contains-append_cases seen (map (λ k. length f.universals + k) shared) p among) [
-    | inl first ↦ (let r = are_seen.sound p first in (r.0, at_first f.universals (existential_variables f) p r.0 r.1, inl r.2))
-    | inr second ↦ (
-        let q = mapped_back (length f.universals) shared p second in
-        let z = (are_shared q.0).0 q.1 in
-        let own : existential_of f z.0.variable ≡ Some z.0 = All-contains (λ e. existential_of f e.variable ≡ Some e) f.existentials z.0 lawful.named (element_at f.existentials q.0 z.0 z.1) in
-        (z.0.variable, ap (slice_get (declared f)) (sym q.2) ∙ at_second f.universals (existential_variables f) q.0 z.0.variable (at_mapped f.existentials q.0 z.0 z.1), inr (z.0, own, z.2)))
-  ];
-  complete = λ x may. elim may [
-    | inl among ↦ (let r = are_seen.complete x among in (r.0, at_first f.universals (existential_variables f) r.0 x r.1, Contains-append_left seen _ r.0 r.2))
-    | inr z ↦ (
-        let found = find_sound x f.existentials z.0 z.1 in
-        let q = place_of_element f.existentials z.0 found.0 in (
-          length f.universals + q.0,
-          at_second f.universals (existential_variables f) q.0 x (at_mapped f.existentials q.0 z.0 q.1 ∙ ap Some found.1),
-          Contains-append_right seen _ _ (mapped_there (length f.universals) shared q.0 ((are_shared q.0).1 (z.0, q.1, z.2))),
+shared_are_places f ranks lawful y seen shared places are_seen are_shared is =
+    subst (ArePlaces (declared f) (MayRead f ranks y)) (sym is) (record {
+      sound = λ p among. elim (Contains-append_cases seen (map (λ k. length f.universals + k) shared) p among) [
+        | inl first ↦ (let r = are_seen.sound p first in (
+          r.0,
+          at_first f.universals (existential_variables f) p r.0 r.1,
+          inl r.2,
         ))
-  ];
-})
+        | inr second ↦ (
+            let q = mapped_back (length f.universals) shared p second in
+            let z = (are_shared q.0).0 q.1 in
+            let own : existential_of f z.0.variable ≡ Some z.0 =
+            All-contains (λ e. existential_of f e.variable ≡ Some e) f.existentials z.0 lawful.named
+            (element_at f.existentials q.0 z.0 z.1) in (
+              z.0.variable,
+              ap (slice_get (declared f)) (sym q.2) ∙ at_second f.universals
+                  (existential_variables f) q.0 z.0.variable (at_mapped f.existentials q.0 z.0 z.1),
+              inr (z.0, own, z.2),
+            ))
+      ];
+      complete = λ x may. elim may [
+        | inl among ↦ (let r = are_seen.complete x among in (
+          r.0,
+          at_first f.universals (existential_variables f) r.0 x r.1,
+          Contains-append_left seen _ r.0 r.2,
+        ))
+        | inr z ↦ (
+            let found = find_sound x f.existentials z.0 z.1 in
+            let q = place_of_element f.existentials z.0 found.0 in (
+              length f.universals + q.0,
+              at_second f.universals (existential_variables f) q.0 x
+                  (at_mapped f.existentials q.0 z.0 q.1 ∙ ap Some found.1),
+              Contains-append_right seen _ _ (mapped_there (length f.universals) shared q.0
+                  ((are_shared q.0).1 (z.0, q.1, z.2))),
+            ))
+      ];
+    })
 
-pub shared_within : (f : Dqbf) (ranks : List ℕ) (y : Existential) (shared : List ℕ) → ArePlacesOfShared f ranks y shared → All (λ k. k < length f.existentials) shared
+pub shared_within : (f : Dqbf) (ranks : List ℕ) (y : Existential) (shared : List ℕ) →
+    ArePlacesOfShared f ranks y shared → All (λ k. k < length f.existentials) shared
 shared_within f ranks y shared are k d lt =
     let z = (are (get_or shared k d)).0 (k, lt, get_or_default shared k (get_or shared k d) d lt) in
     slice_get_within f.existentials (get_or shared k d) z.0 z.1
 
-pub places_in : (variables : List ℕ) (set : ℕ → Type 0) (places : List ℕ) → ArePlaces variables set places → All (λ k. k < length variables) places
+pub places_in : (variables : List ℕ) (set : ℕ → Type 0) (places : List ℕ) → ArePlaces variables set places →
+    All (λ k. k < length variables) places
 places_in variables set places are k d lt =
     let x = are.sound (get_or places k d) (k, lt, get_or_default places k (get_or places k d) d lt) in
     slice_get_within variables (get_or places k d) x.0 x.1

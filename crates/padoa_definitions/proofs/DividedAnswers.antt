@@ -34,7 +34,8 @@ use Rattle.padoa_definitions.specs.declared.padoa.Padoa.{Padoa}
 use Rattle.padoa_definitions.proofs.Reached.{IsOfCopies, IsOfAnswer, of_answer, is_given_entry, reached_given, earlier_stay, group_named, own_at}
 
 -- right clauses by their origins
-pub copy_given : (es earlier : List Entry) (f : Dqbf) (side : ℕ) (origin : Origin) (c : List Literal) → NamesStay earlier es → is_copy_of side origin ≡ true → MatchesOrigin f earlier (Given origin c) →
+pub copy_given : (es earlier : List Entry) (f : Dqbf) (side : ℕ) (origin : Origin) (c : List Literal) →
+    NamesStay earlier es → is_copy_of side origin ≡ true → MatchesOrigin f earlier (Given origin c) →
     IsCopyGiven es f side c
 copy_given es earlier f side (Instance k j) c stay test right = cc
 copy_given es earlier f side (Gate v i) c stay test right = cc
@@ -52,10 +53,12 @@ copy_given es earlier f side (Copy s j) c stay test right =
       is_group = stay right.group (Selector right.group) right.is_group;
       clause_is = right.clause_is;
       original_is = numbered_among f.matrix j rest_is.clause rest_is.clause_is;
-      copied = subst (λ k. AreNamedAs es right.rest (copy_names k rest_is.clause)) same (named_stay earlier es stay right.rest (copy_names s rest_is.clause) rest_is.named);
+      copied = subst (λ k. AreNamedAs es right.rest (copy_names k rest_is.clause)) same
+          (named_stay earlier es stay right.rest (copy_names s rest_is.clause) rest_is.named);
     }
 
-link_given : (es earlier : List Entry) (f : Dqbf) (places : List ℕ) (x : ℕ) (origin : Origin) (c : List Literal) → NamesStay earlier es → IsRead f places x → is_link_of x origin ≡ true →
+link_given : (es earlier : List Entry) (f : Dqbf) (places : List ℕ) (x : ℕ) (origin : Origin) (c : List Literal) →
+    NamesStay earlier es → IsRead f places x → is_link_of x origin ≡ true →
     MatchesOrigin f earlier (Given origin c) → IsLinkGiven es f places c
 link_given es earlier f places x (Instance k j) c stay seen test right = cc
 link_given es earlier f places x (Gate v i) c stay seen test right = cc
@@ -106,21 +109,29 @@ pub same_variable : (a b : ℕ) → positive a ≡ positive b → a ≡ b
 same_variable a b e = ap variable_of e
 
 -- what stands at a place
-pub read_at : (f : Dqbf) (places : List ℕ) → All (λ k. k < length (declared f)) places → (k : ℕ) → Contains places k → (x : ℕ) × (slice_get (declared f) k ≡ Some x)
-read_at f places within k (i, lt, at) = (get_or (declared f) k 0, slice_get-get_or (declared f) k 0 (subst (λ n. n < length (declared f)) at (within i k lt)))
+pub read_at : (f : Dqbf) (places : List ℕ) → All (λ k. k < length (declared f)) places → (k : ℕ) → Contains places k →
+    (x : ℕ) × (slice_get (declared f) k ≡ Some x)
+read_at f places within k (i, lt, at) = (
+  get_or (declared f) k 0,
+  slice_get-get_or (declared f) k 0 (subst (λ n. n < length (declared f)) at (within i k lt)),
+)
 
 -- an assumption: a selector of one of the groups, or a copy of what is asked
 pub data IsAssumed (p : Padoa) (places : List ℕ) (first second : List Literal) : Literal → Type 0 where
   by_first : (l : Literal) → l ≡ p.first.group.selector → IsAssumed p places first second l
   by_second : (l : Literal) → l ≡ p.second.group.selector → IsAssumed p places first second l
-  by_link : (l : Literal) (k : ℕ) (g : Group) → Contains places k → slice_get p.links.items k ≡ Some g → l ≡ g.selector → IsAssumed p places first second l
+  by_link : (l : Literal) (k : ℕ) (g : Group) → Contains places k → slice_get p.links.items k ≡ Some g →
+      l ≡ g.selector → IsAssumed p places first second l
   by_one : (l : Literal) → holds first l ≡ true → IsAssumed p places first second l
   by_other : (l : Literal) → holds second l ≡ true → IsAssumed p places first second l
 
-pub holds_cases : (x : Literal) (xs : List Literal) (l : Literal) → holds (x ∷ xs) l ≡ true → (l ≡ x) ⊎ (holds xs l ≡ true)
-holds_cases x xs l h = elim (or_cases (same_literal l x) (holds xs l) h) [ inl same ↦ inl (same_literal-sound l x same) | inr later ↦ inr later ]
+pub holds_cases : (x : Literal) (xs : List Literal) (l : Literal) → holds (x ∷ xs) l ≡ true →
+    (l ≡ x) ⊎ (holds xs l ≡ true)
+holds_cases x xs l h = elim (or_cases (same_literal l x) (holds xs l) h)
+    [ inl same ↦ inl (same_literal-sound l x same) | inr later ↦ inr later ]
 
-element_of : (gs : List Group) (more : List Literal) (l : Literal) → holds (map (λ g. g.selector) gs ++ more) l ≡ true → ((g : Group) × Contains gs g × (l ≡ g.selector)) ⊎ (holds more l ≡ true)
+element_of : (gs : List Group) (more : List Literal) (l : Literal) → holds (map (λ g. g.selector) gs ++ more) l ≡ true →
+    ((g : Group) × Contains gs g × (l ≡ g.selector)) ⊎ (holds more l ≡ true)
 element_of [] more l h = inr h
 element_of (g ∷ gs) more l h = elim (holds_cases g.selector (map (λ x. x.selector) gs ++ more) l h) [
   | inl here ↦ inl (g, (0, omega arith, refl), here)
@@ -130,52 +141,76 @@ element_of (g ∷ gs) more l h = elim (holds_cases g.selector (map (λ x. x.sele
   ]
 ]
 
-pub held_in_either : (xs ys : List Literal) (l : Literal) → holds (xs ++ ys) l ≡ true → (holds xs l ≡ true) ⊎ (holds ys l ≡ true)
+pub held_in_either : (xs ys : List Literal) (l : Literal) → holds (xs ++ ys) l ≡ true →
+    (holds xs l ≡ true) ⊎ (holds ys l ≡ true)
 held_in_either xs ys l h = or_cases (holds xs l) (holds ys l) (sym (list_any-append (same_literal l) xs ys) ∙ h)
 
-pub which_assumed : (p : Padoa) (places : List ℕ) (active : List Group) (first second : List Literal) (l : Literal) → AreActive p places active → holds (assumed active (first ++ second)) l ≡ true →
+pub which_assumed : (p : Padoa) (places : List ℕ) (active : List Group) (first second : List Literal) (l : Literal) →
+    AreActive p places active → holds (assumed active (first ++ second)) l ≡ true →
     IsAssumed p places first second l
 which_assumed p places active first second l are h =
     let rest : List Literal = first ++ second in
-    let spelled : holds (p.first.group.selector ∷ p.second.group.selector ∷ map (λ g. g.selector) are.links ++ rest) l ≡ true = sym (ap (λ gs. holds (assumed gs rest) l) are.active_is) ∙ h in
-    elim (holds_cases p.first.group.selector (p.second.group.selector ∷ map (λ g. g.selector) are.links ++ rest) l spelled) [
+    let spelled : holds (p.first.group.selector ∷ p.second.group.selector ∷ map (λ g. g.selector) are.links ++ rest) l
+    ≡ true = sym (ap (λ gs. holds (assumed gs rest) l) are.active_is) ∙ h in
+    elim (holds_cases p.first.group.selector (p.second.group.selector ∷ map (λ g. g.selector) are.links ++ rest) l
+    spelled) [
       | inl one ↦ by_first l one
       | inr behind ↦ elim (holds_cases p.second.group.selector (map (λ g. g.selector) are.links ++ rest) l behind) [
         | inl two ↦ by_second l two
         | inr further ↦ elim (element_of are.links rest l further) [
           | inl link ↦ (let r = are.sound link.0 link.1 in by_link l r.0 link.0 r.1 r.2 link.2)
-          | inr last ↦ elim (held_in_either first second l last) [ inl in_first ↦ by_one l in_first | inr in_second ↦ by_other l in_second ]
+          | inr last ↦ elim (held_in_either first second l last)
+              [ inl in_first ↦ by_one l in_first | inr in_second ↦ by_other l in_second ]
         ]
       ]
     ]
 
 -- a literal that is named as a copy is a copy of one of the literals that were copied
-pub copy_among : (es : List Entry) (side : ℕ) (originals lits : List Literal) → AreNamedAs es lits (copy_names side originals) → (l : Literal) → holds lits l ≡ true → IsCopyLiteral es side originals l
+pub copy_among : (es : List Entry) (side : ℕ) (originals lits : List Literal) →
+    AreNamedAs es lits (copy_names side originals) → (l : Literal) → holds lits l ≡ true →
+    IsCopyLiteral es side originals l
 copy_among es side originals [] are l h = cc
 copy_among es side [] (k ∷ lits) are l h = cc
 copy_among es side (o ∷ originals) (k ∷ lits) are l h =
     let here : name_literal es k ≡ Some (named_literal (CopyOf side (variable_of o)) (is_negative o)) = cc in
     let later : map (name_literal es) lits ≡ map Some (copy_names side originals) = cc in
     elim (holds_cases k lits l h) [
-      | inl same ↦ record { original = o; among = or_left (same_literal o o) (holds originals o) (same_literal-refl o); named = ap (name_literal es) same ∙ here }
+      | inl same ↦ record {
+        original = o;
+        among = or_left (same_literal o o) (holds originals o) (same_literal-refl o);
+        named = ap (name_literal es) same ∙ here;
+      }
       | inr behind ↦ (
           let r = copy_among es side originals lits later l behind in
-          record { original = r.original; among = or_right (same_literal r.original o) (holds originals r.original) r.among; named = r.named })
+          record {
+            original = r.original;
+            among = or_right (same_literal r.original o)
+                (holds originals r.original) r.among;
+            named = r.named;
+          })
     ]
 
 -- so it is no selector
-pub copy_name : (es : List Entry) (side : ℕ) (originals : List Literal) (l : Literal) (c : IsCopyLiteral es side originals l) →
-    (name_of es (variable_of l) ≡ Some (CopyOf side (variable_of c.original))) × (is_negative l ≡ is_negative c.original)
-copy_name es side originals l c = named_variable es l (CopyOf side (variable_of c.original)) (is_negative c.original) (name_of es (variable_of l)) refl c.named
+pub copy_name : (es : List Entry) (side : ℕ) (originals : List Literal) (l : Literal)
+    (c : IsCopyLiteral es side originals l) →
+    (name_of es (variable_of l) ≡ Some (CopyOf side (variable_of c.original))) ×
+    (is_negative l ≡ is_negative c.original)
+copy_name es side originals l c = named_variable es l (CopyOf side (variable_of c.original)) (is_negative c.original)
+    (name_of es (variable_of l)) refl c.named
 
-module _ (f : Dqbf) (v : ℕ) (conditions : List Literal) (p : Padoa) (places : List ℕ) (active : List Group) (ones others : List Literal) (es before : List Entry) (clause : List Literal) (hints : List ℕ)
-    (stays : (e : Entry) (entries : List Entry) (id : ℕ) → IsId entries id → numbered has_id (e ∷ entries) id ≡ numbered has_id entries id)
-    (are_ids : (entries : List Entry) (id i : ℕ) → AreLogged entries → IsId entries id → Reaches entries id i → IsId entries i)
-    (es_is : es ≡ Answer clause hints ∷ before) (searched : IsSearched (Answer clause hints ∷ before)) (padoa : IsPadoa f p (Answer clause hints ∷ before))
+module _ (f : Dqbf) (v : ℕ) (conditions : List Literal) (p : Padoa) (places : List ℕ) (active : List Group)
+    (ones others : List Literal) (es before : List Entry) (clause : List Literal) (hints : List ℕ)
+    (stays : (e : Entry) (entries : List Entry) (id : ℕ) → IsId entries id →
+    numbered has_id (e ∷ entries) id ≡ numbered has_id entries id)
+    (are_ids : (entries : List Entry) (id i : ℕ) → AreLogged entries → IsId entries id → Reaches entries id i →
+    IsId entries i)
+    (es_is : es ≡ Answer clause hints ∷ before) (searched : IsSearched (Answer clause hints ∷ before))
+    (padoa : IsPadoa f p (Answer clause hints ∷ before))
     (within : All (λ k. k < length (declared f)) places) (are_active : AreActive p places active)
     (ones_are : AreNamedAs (Answer clause hints ∷ before) ones (copy_names 1 (asked_of conditions (positive v))))
     (others_are : AreNamedAs (Answer clause hints ∷ before) others (copy_names 2 (asked_of conditions (negative v))))
-    (negated : (l : Literal) → holds clause l ≡ true → holds (assumed active (ones ++ others)) (opposite l) ≡ true) where
+    (negated : (l : Literal) → holds clause l ≡ true → holds (assumed active (ones ++ others)) (opposite l)
+    ≡ true) where
   abbrev all : List Entry
   all = Answer clause hints ∷ before
 
@@ -194,9 +229,11 @@ module _ (f : Dqbf) (v : ℕ) (conditions : List Literal) (p : Padoa) (places : 
   selector_is : (g : Group) → IsMade all g → g.selector ≡ positive (group_variable g)
   selector_is g made = as_positive g.selector made.positive
 
-  not_copy : (side : ℕ) (originals : List Literal) (g : ℕ) (l : Literal) → l ≡ positive g → name_of all g ≡ Some (Selector g) → IsCopyLiteral all side originals l → ⊥
+  not_copy : (side : ℕ) (originals : List Literal) (g : ℕ) (l : Literal) → l ≡ positive g →
+      name_of all g ≡ Some (Selector g) → IsCopyLiteral all side originals l → ⊥
   not_copy side originals g l is named copy =
-      selector_not_copy (name_of all g) g side (variable_of copy.original) named (ap (name_of all) (ap variable_of (sym is)) ∙ (copy_name all side originals l copy).0)
+      selector_not_copy (name_of all g) g side (variable_of copy.original) named
+      (ap (name_of all) (ap variable_of (sym is)) ∙ (copy_name all side originals l copy).0)
 
   -- the group of a given clause that is reached
   module _ (origin : Origin) (c : List Literal) (is : IsOfAnswer before clause origin c) where
@@ -209,7 +246,8 @@ module _ (f : Dqbf) (v : ℕ) (conditions : List Literal) (p : Padoa) (places : 
     g_named : name_of all g ≡ Some (Selector g)
     g_named = group_named f before clause hints searched origin c is
 
-    own : (test : Origin → Bool) (h : ℕ) → g ≡ h → Each (IsGroupGiven f test h) all → (test origin ≡ true) × MatchesOrigin f is.earlier (Given origin c)
+    own : (test : Origin → Bool) (h : ℕ) → g ≡ h → Each (IsGroupGiven f test h) all →
+        (test origin ≡ true) × MatchesOrigin f is.earlier (Given origin c)
     own = own_at f before clause hints searched origin c is
 
     data IsInSome : Type 0 where
@@ -227,30 +265,38 @@ module _ (f : Dqbf) (v : ℕ) (conditions : List Literal) (p : Padoa) (places : 
         let r = read_at f places within k among in
         let link = padoa.links k r.0 h r.1 at in
         in_link k r.0 h (k, r.1, among) link (group_of h link.made same)
-    in_some (by_one l held) = absurd (not_copy 1 (asked_of conditions (positive v)) g (positive g) refl g_named (first_copy (positive g) held))
-    in_some (by_other l held) = absurd (not_copy 2 (asked_of conditions (negative v)) g (positive g) refl g_named (second_copy (positive g) held))
+    in_some (by_one l held) = absurd (not_copy 1 (asked_of conditions (positive v)) g (positive g) refl g_named
+        (first_copy (positive g) held))
+    in_some (by_other l held) = absurd (not_copy 2 (asked_of conditions (negative v)) g (positive g) refl g_named
+        (second_copy (positive g) held))
 
     classified : IsInSome
-    classified = in_some (which_assumed p places active ones others (positive g) are_active (negated (negative g) is.kept))
+    classified = in_some (which_assumed p places active ones others (positive g) are_active
+        (negated (negative g) is.kept))
 
     is_of_copies : IsOfCopies origin
     is_of_copies = by classified
       where
         by : IsInSome → IsOfCopies origin
         by (in_first same) = of_copies 1 origin (own (is_copy_of 1) first same padoa.first.own).0
-        by (in_second same) = of_copies 2 origin (own (is_copy_of 2) (group_variable p.second.group) same padoa.second.own).0
-        by (in_link k x link seen is_link same) = of_links x origin (own (is_link_of x) (group_variable link) same is_link.own).0
+        by (in_second same) = of_copies 2 origin (own (is_copy_of 2)
+            (group_variable p.second.group) same padoa.second.own).0
+        by (in_link k x link seen is_link same) = of_links x origin
+            (own (is_link_of x) (group_variable link) same is_link.own).0
 
     -- the side of the clause is its group's
     on_a_group : list_any (λ l. holds a_side (opposite l) && is_selector all (variable_of l)) c ≡ true → g ≡ first
     on_a_group h =
-        let w = any_witness (λ l. holds a_side (opposite l) && is_selector all (variable_of l)) (negative g ∷ is.grouped.rest) (sym (ap (list_any (λ l. holds a_side (opposite l) && is_selector all (variable_of l))) is.grouped.clause_is) ∙ h) in
+        let w = any_witness (λ l. holds a_side (opposite l) && is_selector all (variable_of l))
+        (negative g ∷ is.grouped.rest) (sym (ap (list_any
+        (λ l. holds a_side (opposite l) && is_selector all (variable_of l))) is.grouped.clause_is) ∙ h) in
         let l = w.0 in
         let both = and_parts (holds a_side (opposite l)) (is_selector all (variable_of l)) w.2 in
         elim (holds_cases (negative g) is.grouped.rest l w.1) [
           | inl here ↦ elim (holds_cases p.first.group.selector ones (opposite l) both.0) [
             | inl switch ↦ group_of p.first.group padoa.first.made (sym (ap opposite here) ∙ switch)
-            | inr last ↦ absurd (not_copy 1 (asked_of conditions (positive v)) g (opposite l) (ap opposite here) g_named (first_copy (opposite l) last))
+            | inr last ↦ absurd (not_copy 1 (asked_of conditions (positive v)) g (opposite l) (ap opposite here) g_named
+                (first_copy (opposite l) last))
           ]
           | inr later ↦ absurd (not_plain l (is.grouped.plain l later) both.1)
         ]
@@ -267,22 +313,29 @@ module _ (f : Dqbf) (v : ℕ) (conditions : List Literal) (p : Padoa) (places : 
     on_a_first : g ≡ first → list_any (λ l. holds a_side (opposite l) && is_selector all (variable_of l)) c ≡ true
     on_a_first same =
         let test : Literal → Bool = λ l. holds a_side (opposite l) && is_selector all (variable_of l) in
-        let switch : p.first.group.selector ≡ positive g = selector_is p.first.group padoa.first.made ∙ ap positive (sym same) in
-        let held : holds a_side (positive g) ≡ true = or_left (same_literal (positive g) p.first.group.selector) (holds ones (positive g)) (ap (same_literal (positive g)) switch ∙ same_literal-refl (positive g)) in
+        let switch : p.first.group.selector ≡ positive g = selector_is p.first.group padoa.first.made ∙ ap positive
+        (sym same) in
+        let held : holds a_side (positive g) ≡ true = or_left (same_literal (positive g) p.first.group.selector)
+        (holds ones (positive g)) (ap (same_literal (positive g)) switch ∙ same_literal-refl (positive g)) in
         let here : test (negative g) ≡ true = ap (λ b. b && is_selector all g) held ∙ ap is_selector_name g_named in
         ap (list_any test) is.grouped.clause_is ∙ or_left (test (negative g)) (list_any test is.grouped.rest) here
 
-    pub a_clause : list_any (λ l. holds a_side (opposite l) && is_selector all (variable_of l)) c ≡ true → IsCopyGiven all f 1 c
-    a_clause h = let r = own (is_copy_of 1) first (on_a_group h) padoa.first.own in copy_given all is.earlier f 1 origin c stay r.0 r.1
+    pub a_clause : list_any (λ l. holds a_side (opposite l) && is_selector all (variable_of l)) c ≡ true →
+        IsCopyGiven all f 1 c
+    a_clause h = let r = own (is_copy_of 1) first (on_a_group h) padoa.first.own in
+        copy_given all is.earlier f 1 origin c stay r.0 r.1
 
-    pub b_clause : list_any (λ l. holds a_side (opposite l) && is_selector all (variable_of l)) c ≡ false → IsCopyGiven all f 2 c ⊎ IsLinkGiven all f places c
+    pub b_clause : list_any (λ l. holds a_side (opposite l) && is_selector all (variable_of l)) c ≡ false →
+        IsCopyGiven all f 2 c ⊎ IsLinkGiven all f places c
     b_clause h = by classified
       where
         by : IsInSome → IsCopyGiven all f 2 c ⊎ IsLinkGiven all f places c
         by (in_first same) = absurd (true≢false (sym (on_a_first same) ∙ h))
-        by (in_second same) = let r = own (is_copy_of 2) (group_variable p.second.group) same padoa.second.own in inl (copy_given all is.earlier f 2 origin c stay r.0 r.1)
+        by (in_second same) = let r = own (is_copy_of 2) (group_variable p.second.group) same padoa.second.own in
+            inl (copy_given all is.earlier f 2 origin c stay r.0 r.1)
         by (in_link k x link seen is_link same) =
-            let r = own (is_link_of x) (group_variable link) same is_link.own in inr (link_given all is.earlier f places x origin c stay seen r.0 r.1)
+            let r = own (is_link_of x) (group_variable link) same is_link.own in
+            inr (link_given all is.earlier f places x origin c stay seen r.0 r.1)
 
   selector_literal : (h : Group) → IsMade all h → (l : Literal) → l ≡ h.selector → IsSelectorLiteral all l
   selector_literal h made l same = (group_variable h, same ∙ selector_is h made, made.named)
@@ -291,29 +344,38 @@ module _ (f : Dqbf) (v : ℕ) (conditions : List Literal) (p : Padoa) (places : 
     abbrev q : Partition
     q = partition all (last_id before + 1) a_side shared
 
-    given_entry : (at : ℕ) (c : List Literal) → IsReachedGiven q at c → (origin : Origin) × (numbered has_id all at ≡ Some (Given origin c))
+    given_entry : (at : ℕ) (c : List Literal) → IsReachedGiven q at c →
+        (origin : Origin) × (numbered has_id all at ≡ Some (Given origin c))
     given_entry at c given = is_given_entry all at c given.given given.clause_is
 
-    from_given : (at : ℕ) (c : List Literal) → IsReachedGiven q at c → (e : (origin : Origin) × (numbered has_id all at ≡ Some (Given origin c))) → IsOfAnswer before clause e.0 c
+    from_given : (at : ℕ) (c : List Literal) → IsReachedGiven q at c →
+        (e : (origin : Origin) × (numbered has_id all at ≡ Some (Given origin c))) → IsOfAnswer before clause e.0 c
     from_given at c given e =
-        of_answer before clause hints searched e.0 c (reached_given before clause hints stays are_ids searched.logged at e.0 c given.reached e.1)
+        of_answer before clause hints searched e.0 c (reached_given before clause hints stays are_ids searched.logged at
+        e.0 c given.reached e.1)
 
     answer_holds : (l : Literal) → IsOther q l → holds clause (opposite l) ≡ true
     answer_holds l o =
-        let there : clause_at all (last_id before + 1) ≡ Some clause = ap (λ b. option_and_then clause_of (cond b (Some (Answer clause hints)) (numbered has_id before (last_id before + 1)))) (eq-eqb (last_id before + 1) (last_id before + 1) refl) in
+        let there : clause_at all (last_id before + 1) ≡ Some clause =
+        ap (λ b. option_and_then clause_of (cond b (Some (Answer clause hints))
+        (numbered has_id before (last_id before + 1))))
+        (eq-eqb (last_id before + 1) (last_id before + 1) refl) in
         let both : Some clause ≡ Some o.clause = sym there ∙ o.clause_is in
         let same : clause ≡ o.clause = cc in
         ap (λ ls. holds ls (opposite l)) same ∙ o.negated
 
     in_a : (l : Literal) → (l ≡ p.first.group.selector) ⊎ (holds ones l ≡ true) → holds a_side l ≡ true
-    in_a l (inl same) = or_left (same_literal l p.first.group.selector) (holds ones l) (ap (same_literal l) (sym same) ∙ same_literal-refl l)
+    in_a l (inl same) = or_left (same_literal l p.first.group.selector) (holds ones l)
+        (ap (same_literal l) (sym same) ∙ same_literal-refl l)
     in_a l (inr held) = or_right (same_literal l p.first.group.selector) (holds ones l) held
 
-    other_kind : (l : Literal) → holds a_side l ≡ false → IsAssumed p places ones others l → IsSelectorLiteral all l ⊎ IsCopyLiteral all 2 (asked_of conditions (negative v)) l
+    other_kind : (l : Literal) → holds a_side l ≡ false → IsAssumed p places ones others l →
+        IsSelectorLiteral all l ⊎ IsCopyLiteral all 2 (asked_of conditions (negative v)) l
     other_kind l none (by_first k same) = absurd (true≢false (sym (in_a l (inl same)) ∙ none))
     other_kind l none (by_second k same) = inl (selector_literal p.second.group padoa.second.made l same)
     other_kind l none (by_link k place h among at same) =
-        let r = read_at f places within place among in inl (selector_literal h (padoa.links place r.0 h r.1 at).made l same)
+        let r = read_at f places within place among in inl (selector_literal h
+        (padoa.links place r.0 h r.1 at).made l same)
     other_kind l none (by_one k held) = absurd (true≢false (sym (in_a l (inr held)) ∙ none))
     other_kind l none (by_other k held) = inr (second_copy l held)
 
@@ -326,7 +388,9 @@ module _ (f : Dqbf) (v : ℕ) (conditions : List Literal) (p : Padoa) (places : 
         | inr held ↦ inr (first_copy l held)
       ];
       others = λ l other_l. other_kind l other_l.not_a
-          (which_assumed p places active ones others l are_active (ap (holds (assumed active (ones ++ others))) (sym (opposite-opposite l)) ∙ negated (opposite l) (answer_holds l other_l)));
+          (which_assumed p places active ones others l are_active
+          (ap (holds (assumed active (ones ++ others))) (sym (opposite-opposite l)) ∙ negated (opposite l)
+          (answer_holds l other_l)));
     }
 
   pub only_copies : (origin : Origin) (c : List Literal) → ReachesGiven before hints origin c → IsOfCopies origin

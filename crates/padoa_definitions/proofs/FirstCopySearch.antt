@@ -34,9 +34,12 @@ first_plain es lits are i d lt =
     record { named = subst IsSome (sym r.1) refl; no_selector = ap is_selector_name r.1 }
 
 module _ (implied : LinesAreImplied)
-    (stays : (e : Entry) (entries : List Entry) (id : ℕ) → IsId entries id → numbered has_id (e ∷ entries) id ≡ numbered has_id entries id)
-    (are_ids : (entries : List Entry) (id i : ℕ) → AreLogged entries → IsId entries id → Reaches entries id i → IsId entries i)
-    (f : Dqbf) (p : Padoa) (asked : List Literal) (old new : ProofLog) (id : ℕ) (padoa : IsPadoa f p old.entries) (are : AreFirstCopies old.entries asked)
+    (stays : (e : Entry) (entries : List Entry) (id : ℕ) → IsId entries id →
+    numbered has_id (e ∷ entries) id ≡ numbered has_id entries id)
+    (are_ids : (entries : List Entry) (id i : ℕ) → AreLogged entries → IsId entries id → Reaches entries id i →
+    IsId entries i)
+    (f : Dqbf) (p : Padoa) (asked : List Literal) (old new : ProofLog) (id : ℕ) (padoa : IsPadoa f p old.entries)
+    (are : AreFirstCopies old.entries asked)
     (searched : IsSearched new.entries) (r : IsRefutedUnder old new (assumed (p.first.group ∷ []) asked) id) where
   abbrev under : List Literal
   under = assumed (p.first.group ∷ []) asked
@@ -55,45 +58,57 @@ module _ (implied : LinesAreImplied)
 
   copy_named : (l : Literal) → holds asked l ≡ true → (v : ℕ) × (name_of all (variable_of l) ≡ Some (CopyOf 1 v))
   copy_named l h =
-      let named = held_of_all (λ k. (v : ℕ) × (name_of old.entries (variable_of k) ≡ Some (CopyOf 1 v))) asked are l h in
+      let named = held_of_all (λ k. (v : ℕ) × (name_of old.entries (variable_of k) ≡ Some (CopyOf 1 v))) asked
+      are l h in
       (named.0, names_answered f p under old new id padoa r (variable_of l) (CopyOf 1 named.0) named.1)
 
   first_selector : p.first.group.selector ≡ positive (group_variable p.first.group)
   first_selector = as_positive p.first.group.selector padoa_there.first.made.positive
 
   -- a given clause that is reached is one of the first copy
-  copy_clause : (origin : Origin) (c : List Literal) → ReachesGiven before r.hints origin c → (is_copy_of 1 origin ≡ true) × IsCopyGiven all f 1 c
+  copy_clause : (origin : Origin) (c : List Literal) → ReachesGiven before r.hints origin c →
+      (is_copy_of 1 origin ≡ true) × IsCopyGiven all f 1 c
   copy_clause origin c reached =
       let is = of_answer before r.clause r.hints searched_there origin c reached in
       let g = is.grouped.group in
       let named = group_named f before r.clause r.hints searched_there origin c is in
       elim (holds_cases p.first.group.selector asked (positive g) (r.negated (negative g) is.kept)) [
         | inl first ↦ (
-            let own = own_at f before r.clause r.hints searched_there origin c is (is_copy_of 1) (group_variable p.first.group)
-            (same_variable g (group_variable p.first.group) (first ∙ first_selector)) padoa_there.first.own in
-            (own.0, copy_given all is.earlier f 1 origin c (earlier_stay f before r.clause r.hints searched_there origin c is) own.0 own.1))
-        | inr copy ↦ (let it = copy_named (positive g) copy in absurd (selector_not_copy (name_of all g) g 1 it.0 named it.1))
+            let own = own_at f before r.clause r.hints searched_there origin c is (is_copy_of 1)
+            (group_variable p.first.group)
+            (same_variable g (group_variable p.first.group) (first ∙ first_selector)) padoa_there.first.own in (
+              own.0,
+              copy_given all is.earlier f 1 origin c (earlier_stay f before r.clause r.hints searched_there origin
+                  c is) own.0 own.1,
+            ))
+        | inr copy ↦ (let it = copy_named (positive g) copy in
+            absurd (selector_not_copy (name_of all g) g 1 it.0 named it.1))
       ]
 
   shows_there : ShowsClause f all asked (last_id before + 1)
   shows_there = record {
     clause = r.clause;
     is_id = record { from_one = omega arith; last = omega arith };
-    clause_is = ap (λ b. option_and_then clause_of (cond b (Some (Answer r.clause r.hints)) (numbered has_id before (last_id before + 1)))) (eq-eqb (last_id before + 1) (last_id before + 1) refl);
+    clause_is = ap (λ b. option_and_then clause_of (cond b (Some (Answer r.clause r.hints))
+        (numbered has_id before (last_id before + 1)))) (eq-eqb (last_id before + 1) (last_id before + 1) refl);
     negated = λ l h. elim (holds_cases p.first.group.selector asked (opposite l) (r.negated l h)) [
       | inl first ↦ inl (group_variable p.first.group, first ∙ first_selector, padoa_there.first.made.named)
       | inr copy ↦ inr copy
     ];
     implied = λ m holds_there.
-        answer_true implied before r.hints (copied_assignment all m) (λ earlier more origin c is reached. copy_given_true all f 1 m c holds_there (copy_clause origin c reached).1)
+        answer_true implied before r.hints (copied_assignment all m)
+        (λ earlier more origin c is reached. copy_given_true all f 1 m c holds_there
+        (copy_clause origin c reached).1)
         r.clause searched_there.derived.1 searched_there.derived.0;
   }
 
   pub shows_clause : ShowsClause f new.entries asked id
   shows_clause =
-      subst (λ es. ShowsClause f es asked id) (sym (answered f p under old new id padoa r)) (subst (ShowsClause f all asked) (sym (answer_last f p under old new id padoa r)) shows_there)
+      subst (λ es. ShowsClause f es asked id) (sym (answered f p under old new id padoa r))
+      (subst (ShowsClause f all asked) (sym (answer_last f p under old new id padoa r)) shows_there)
 
   pub first_grew : (group : ℕ) → Grew (IsAddedBy f copies group true old.entries) old new
   first_grew =
       silent_grew f p under old new id padoa r
-      (undecided_answer implied f before r.clause r.hints searched_there (λ origin c reached. of_copies 1 origin (copy_clause origin c reached).0))
+      (undecided_answer implied f before r.clause r.hints searched_there
+      (λ origin c reached. of_copies 1 origin (copy_clause origin c reached).0))

@@ -26,7 +26,8 @@ use Rattle.padoa_definitions.proofs.LooseSamples.{loose}
 use Rattle.definition_order.proofs.Declared.{find_sound, sees_universals}
 
 -- places of what an existential sees are places of universals
-pub seen_within : (f : Dqbf) (sees places : List ℕ) (n : ℕ) → ArePlaces f.universals (Contains sees) places → n ≡ length f.universals → All (λ k. k < n) places
+pub seen_within : (f : Dqbf) (sees places : List ℕ) (n : ℕ) → ArePlaces f.universals (Contains sees) places →
+    n ≡ length f.universals → All (λ k. k < n) places
 seen_within f sees places n are same k d lt =
     let r = are.sound (get_or places k d) (k, lt, get_or_default places k (get_or places k d) d lt) in
     let within = slice_get_within f.universals (get_or places k d) r.0 r.1 in
@@ -40,7 +41,8 @@ module _ (f : Dqbf) (lawful : IsLawful f) (v : ℕ) (y : Existential) (found : e
   seen_declared x among = Contains-append_left f.universals (existential_variables f) x (seen_universal x among)
 
   unseen : (x : ℕ) → Contains y.sees x → x ≢ y.variable
-  unseen x among = universal_differs f lawful.prefix x y.variable (seen_universal x among) (mapped_existential f.existentials y (find_sound v f.existentials y found).0)
+  unseen x among = universal_differs f lawful.prefix x y.variable (seen_universal x among)
+      (mapped_existential f.existentials y (find_sound v f.existentials y found).0)
 
   variable_is : y.variable ≡ v
   variable_is = found_variable f v y found
@@ -48,13 +50,17 @@ module _ (f : Dqbf) (lawful : IsLawful f) (v : ℕ) (y : Existential) (found : e
   own_found : existential_of f y.variable ≡ Some y
   own_found = ap (existential_of f) variable_is ∙ found
 
-  module _ (p : Padoa) (row : List Bool) (bit : Bool) (seen places : List ℕ) (copied own : Literal) (asked : List Literal) (are : ArePlaces f.universals (Contains y.sees) seen) (same : places ≡ seen)
-      (own_is : own ≡ signed_literal copied (not bit)) (asked_is : asked ≡ own ∷ row_copies p.first row places) (es : List Entry) (padoa : IsPadoa f p es)
+  module _ (p : Padoa) (row : List Bool) (bit : Bool) (seen places : List ℕ) (copied own : Literal)
+      (asked : List Literal) (are : ArePlaces f.universals (Contains y.sees) seen) (same : places ≡ seen)
+      (own_is : own ≡ signed_literal copied (not bit)) (asked_is : asked ≡ own ∷ row_copies p.first row places)
+      (es : List Entry) (padoa : IsPadoa f p es)
       (copied_is : name_literal es copied ≡ Some (named_literal (CopyOf 1 v) false)) where
     asked_there : AreAsked f es y row bit asked
     asked_there =
-        subst (AreAsked f es y row bit) (sym (asked_is ∙ ap (λ ps. own ∷ row_copies p.first row ps) same ∙ ap (λ l. l ∷ row_copies p.first row seen) own_is))
-        (are_asked f lawful.prefix es y p.first row bit seen (signed_literal copied (not bit)) padoa.first.universals are
+        subst (AreAsked f es y row bit) (sym (asked_is ∙ ap (λ ps. own ∷ row_copies p.first row ps) same ∙ ap
+        (λ l. l ∷ row_copies p.first row seen) own_is))
+        (are_asked f lawful.prefix es y p.first row bit seen
+        (signed_literal copied (not bit)) padoa.first.universals are
         (own_name es y copied bit (copied_is ∙ ap (λ x. Some (named_literal (CopyOf 1 x) false)) (sym variable_is))))
 
     pub copies_asked : AreFirstCopies es asked
@@ -64,22 +70,29 @@ module _ (f : Dqbf) (lawful : IsLawful f) (v : ℕ) (y : Existential) (found : e
     apart_asked = asked_apart f es y row bit asked asked_there unseen
 
     module _ (id : ℕ) (shown : ShowsClause f es asked id) where
-      pub names_shown : (clause : List Literal) → clause_at es id ≡ Some clause → All (λ l. IsLiteralName (name_of es (variable_of l))) clause
+      pub names_shown : (clause : List Literal) → clause_at es id ≡ Some clause →
+          All (λ l. IsLiteralName (name_of es (variable_of l))) clause
       names_shown clause is =
           let both : Some shown.clause ≡ Some clause = sym shown.clause_is ∙ is in
           let it : shown.clause ≡ clause = cc in
           subst (All (λ l. IsLiteralName (name_of es (variable_of l)))) it
-          (literal_names f lawful es y row bit asked asked_there own_found (found_declared f v y found) seen_declared unseen id shown)
+          (literal_names f lawful es y row bit asked asked_there own_found
+          (found_declared f v y found) seen_declared unseen id shown)
 
-      pub rule_shown : (cube : List Literal) → ((clause : List Literal) → clause_at es id ≡ Some clause → cube ≡ cube_of es v clause) →
+      pub rule_shown : (cube : List Literal) → ((clause : List Literal) → clause_at es id ≡ Some clause →
+          cube ≡ cube_of es v clause) →
           IsForcedBy f y row bit (record { y = v; cube = cube; bit = bit })
       rule_shown cube is =
           subst (λ w. IsForcedBy f y row bit (record { y = w; cube = cube; bit = bit })) variable_is
-          (forced_by f lawful es y row bit asked asked_there own_found (found_declared f v y found) seen_declared unseen id shown cube
+          (forced_by f lawful es y row bit asked asked_there own_found
+          (found_declared f v y found) seen_declared unseen id shown cube
           (is shown.clause shown.clause_is ∙ ap (λ w. cube_of es w shown.clause) (sym variable_is)))
 
-    pub loose_shown : IsWellFormed f → ((a b : ℕ) (name : Name) → name_of es a ≡ Some name → name_of es b ≡ Some name → a ≡ b) → (values : Assignment) →
-        IsModelUnder values (clause_at es) (assumed (p.first.group ∷ []) asked) → (other bits : List Bool) → other ≡ values_at values p.first.universals.items →
+    pub loose_shown : IsWellFormed f → ((a b : ℕ) (name : Name) → name_of es a ≡ Some name → name_of es b ≡ Some name →
+        a ≡ b) → (values : Assignment) →
+        IsModelUnder values (clause_at es) (assumed (p.first.group ∷ []) asked) → (other bits : List Bool) →
+        other ≡ values_at values p.first.universals.items →
         bits ≡ values_at values p.first.existentials.items → IsLoose f y row bit other bits
     loose_shown formula unique values model other bits other_is bits_are =
-        loose f y p row bit es values asked formula unique padoa asked_there (found_declared f v y found) seen_universal model other bits other_is bits_are
+        loose f y p row bit es values asked formula unique padoa asked_there
+        (found_declared f v y found) seen_universal model other bits other_is bits_are

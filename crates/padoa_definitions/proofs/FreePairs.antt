@@ -35,28 +35,40 @@ use Rattle.padoa_definitions.proofs.LinkedInterpolants.{signed, literal_signed}
 use Rattle.padoa_definitions.proofs.DeclaredPlaces.{copies_declared, copies_long}
 
 -- a given clause has an id
-given_id : (es : List Entry) (o : Origin) (c : List Literal) → Contains es (Given o c) → (id : ℕ) × (id < last_id es + 1) × (clause_at es id ≡ Some c)
+given_id : (es : List Entry) (o : Origin) (c : List Literal) → Contains es (Given o c) →
+    (id : ℕ) × (id < last_id es + 1) × (clause_at es id ≡ Some c)
 given_id [] o c (k, lt, at) = absurd (omega (arith, lt))
 given_id (e ∷ es) o c (zero, lt, at) = here e at
   where
     here : (e : Entry) → e ≡ Given o c → (id : ℕ) × (id < last_id (e ∷ es) + 1) × (clause_at (e ∷ es) id ≡ Some c)
-    here e is = subst (λ x. (id : ℕ) × (id < last_id (x ∷ es) + 1) × (clause_at (x ∷ es) id ≡ Some c)) (sym is)
-        (last_id es + 1, omega arith, ap (λ b. option_and_then clause_of (cond b (Some (Given o c)) (numbered has_id es (last_id es + 1)))) (eq-eqb (last_id es + 1) (last_id es + 1) refl))
+    here e is = subst (λ x. (id : ℕ) × (id < last_id (x ∷ es) + 1) × (clause_at (x ∷ es) id ≡ Some c)) (sym is) (
+      last_id es + 1,
+      omega arith,
+      ap (λ b. option_and_then clause_of
+          (cond b (Some (Given o c)) (numbered has_id es (last_id es + 1))))
+          (eq-eqb (last_id es + 1) (last_id es + 1) refl),
+    )
 given_id (e ∷ es) o c (suc k, lt, at) =
     let before = given_id es o c (k, omega (arith, lt), at) in
     later (has_id e) refl before.0 before.1 before.2
   where
-    later : (b : Bool) → has_id e ≡ b → (id : ℕ) → id < last_id es + 1 → clause_at es id ≡ Some c → (id : ℕ) × (id < last_id (e ∷ es) + 1) × (clause_at (e ∷ es) id ≡ Some c)
+    later : (b : Bool) → has_id e ≡ b → (id : ℕ) → id < last_id es + 1 → clause_at es id ≡ Some c →
+        (id : ℕ) × (id < last_id (e ∷ es) + 1) × (clause_at (e ∷ es) id ≡ Some c)
     later true h id below is =
         let more : last_id (e ∷ es) ≡ last_id es + 1 = ap (λ b. cond b (last_id es + 1) (last_id es)) h in (
           id,
           omega (arith, below, more),
           ap (λ b. option_and_then clause_of (cond (b && (id == last_id es + 1)) (Some e) (numbered has_id es id))) h
-              ∙ ap (λ b. option_and_then clause_of (cond b (Some e) (numbered has_id es id))) (ne_eqb id (last_id es + 1) (λ same. omega (arith, below, same))) ∙ is,
+              ∙ ap (λ b. option_and_then clause_of (cond b (Some e) (numbered has_id es id)))
+              (ne_eqb id (last_id es + 1) (λ same. omega (arith, below, same))) ∙ is,
         )
     later false h id below is =
-        let same : last_id (e ∷ es) ≡ last_id es = ap (λ b. cond b (last_id es + 1) (last_id es)) h in
-        (id, omega (arith, below, same), ap (λ b. option_and_then clause_of (cond (b && (id == last_id es + 1)) (Some e) (numbered has_id es id))) h ∙ is)
+        let same : last_id (e ∷ es) ≡ last_id es = ap (λ b. cond b (last_id es + 1) (last_id es)) h in (
+          id,
+          omega (arith, below, same),
+          ap (λ b. option_and_then clause_of
+              (cond (b && (id == last_id es + 1)) (Some e) (numbered has_id es id))) h ∙ is,
+        )
 
 found_universal : (us : List ℕ) (v : ℕ) → list_any (λ x. x == v) us ≡ true → Contains us v
 found_universal [] v h = cc
@@ -66,19 +78,23 @@ found_universal (x ∷ us) v h = elim (or_cases (x == v) (list_any (λ z. z == v
 ]
 
 missing_universal : (us : List ℕ) (v : ℕ) → list_any (λ x. x == v) us ≡ false → Contains us v → ⊥
-missing_universal us v h (k, lt, at) = true≢false (sym (list_any_at (λ x. x == v) us k v lt (eq-eqb (get_or us k v) v at)) ∙ h)
+missing_universal us v h (k, lt, at) = true≢false (sym (list_any_at (λ x. x == v) us k v lt
+    (eq-eqb (get_or us k v) v at)) ∙ h)
 
 module _ (f : Dqbf) (es : List Entry) (values : Assignment) (formula : IsWellFormed f)
-    (unique : (v w : ℕ) (name : Name) → name_of es v ≡ Some name → name_of es w ≡ Some name → v ≡ w) (live : MakesTrue values (clause_at es)) where
+    (unique : (v w : ℕ) (name : Name) → name_of es v ≡ Some name → name_of es w ≡ Some name → v ≡ w)
+    (live : MakesTrue values (clause_at es)) where
   given_true : (o : Origin) (c : List Literal) → Contains es (Given o c) → clause_true values c ≡ true
   given_true o c inside = let r = given_id es o c inside in live r.0 c r.2
 
   -- where its group is active
-  switched : (g : ℕ) (rest : List Literal) → values g ≡ true → clause_true values (negative g ∷ rest) ≡ true → clause_true values rest ≡ true
+  switched : (g : ℕ) (rest : List Literal) → values g ≡ true → clause_true values (negative g ∷ rest) ≡ true →
+      clause_true values rest ≡ true
   switched g rest on h = sym (ap (λ b. not b || clause_true values rest) on) ∙ h
 
   -- the bit that a row of values has for a variable
-  pub assigned : (side : ℕ) (xs : List ℕ) (lits : List Literal) → AreCopiesOf es side xs lits → (v w : ℕ) → Contains xs v → name_of es w ≡ Some (CopyOf side v) →
+  pub assigned : (side : ℕ) (xs : List ℕ) (lits : List Literal) → AreCopiesOf es side xs lits → (v w : ℕ) →
+      Contains xs v → name_of es w ≡ Some (CopyOf side v) →
       assignment_of xs (values_at values lits) v ≡ values w
   assigned side [] lits are v w (k, lt, at) named = absurd (omega (arith, lt))
   assigned side (x ∷ xs) [] are v w among named = cc
@@ -90,7 +106,8 @@ module _ (f : Dqbf) (es : List Entry) (values : Assignment) (formula : IsWellFor
             let l_named = named_variable es l (CopyOf side x) false (name_of es (variable_of l)) refl here in
             let is : x ≡ v = eqb-true x v same in
             ap (λ b. cond b (values (variable_of l)) (assignment_of xs (values_at values lits) v)) same
-            ∙ ap values (unique (variable_of l) w (CopyOf side v) (l_named.0 ∙ ap (λ z. Some (CopyOf side z)) is) named))
+            ∙ ap values (unique (variable_of l) w (CopyOf side v)
+            (l_named.0 ∙ ap (λ z. Some (CopyOf side z)) is) named))
         | inr other ↦
             ap (λ b. cond b (values (variable_of l)) (assignment_of xs (values_at values lits) v)) other
             ∙ assigned side xs lits later v w (behind among other) named
@@ -100,8 +117,10 @@ module _ (f : Dqbf) (es : List Entry) (values : Assignment) (formula : IsWellFor
       behind (zero, lt, at) other = absurd (true≢false (sym (eq-eqb x v at) ∙ other))
       behind (suc k, lt, at) other = (k, omega (arith, lt), at)
 
-  module _ (side : ℕ) (copy : MatrixCopy) (is : IsMatrixCopy f side copy es) (row bits : List Bool) (row_is : row ≡ values_at values copy.universals.items)
-      (bits_are : bits ≡ values_at values copy.existentials.items) (active : values (group_variable copy.group) ≡ true) where
+  module _ (side : ℕ) (copy : MatrixCopy) (is : IsMatrixCopy f side copy es) (row bits : List Bool)
+      (row_is : row ≡ values_at values copy.universals.items)
+      (bits_are : bits ≡ values_at values copy.existentials.items)
+      (active : values (group_variable copy.group) ≡ true) where
     abbrev m : Assignment
     m = round_assignment f row bits
 
@@ -109,25 +128,32 @@ module _ (f : Dqbf) (es : List Entry) (values : Assignment) (formula : IsWellFor
     pub copied_value : (v w : ℕ) → Contains (declared f) v → name_of es w ≡ Some (CopyOf side v) → m v ≡ values w
     copied_value v w among named = elim (cases_Bool (is_universal f v)) [
       | inl universal ↦
-          ap (λ b. by_universality b (row_assignment f row v) (assignment_of (existential_variables f) bits v)) universal ∙ ap (λ r. assignment_of f.universals r v) row_is
-          ∙ assigned side f.universals copy.universals.items is.universals v w (found_universal f.universals v universal) named
+          ap (λ b. by_universality b (row_assignment f row v) (assignment_of (existential_variables f) bits v))
+          universal ∙ ap (λ r. assignment_of f.universals r v) row_is
+          ∙ assigned side f.universals copy.universals.items is.universals v w
+          (found_universal f.universals v universal) named
       | inr other ↦ elim (Contains-append_cases f.universals (existential_variables f) v among) [
         | inl universal ↦ absurd (missing_universal f.universals v other universal)
         | inr existential ↦
-            ap (λ b. by_universality b (row_assignment f row v) (assignment_of (existential_variables f) bits v)) other ∙ ap (λ r. assignment_of (existential_variables f) r v) bits_are
+            ap (λ b. by_universality b (row_assignment f row v) (assignment_of (existential_variables f) bits v)) other
+            ∙ ap (λ r. assignment_of (existential_variables f) r v) bits_are
             ∙ assigned side (existential_variables f) copy.existentials.items is.existentials v w existential named
       ]
     ]
 
-    copied_literal_true : (l k : Literal) → Contains (declared f) (variable_of l) → name_literal es k ≡ Some (named_literal (CopyOf side (variable_of l)) (is_negative l)) →
+    copied_literal_true : (l k : Literal) → Contains (declared f) (variable_of l) →
+        name_literal es k ≡ Some (named_literal (CopyOf side (variable_of l)) (is_negative l)) →
         literal_true values k ≡ literal_true m l
     copied_literal_true l k among is =
-        let named = named_variable es k (CopyOf side (variable_of l)) (is_negative l) (name_of es (variable_of k)) refl is in
-        literal_signed values k ∙ ap (λ b. signed b (values (variable_of k))) named.1 ∙ ap (signed (is_negative l)) (sym (copied_value (variable_of l) (variable_of k) among named.0))
+        let named = named_variable es k (CopyOf side (variable_of l)) (is_negative l)
+        (name_of es (variable_of k)) refl is in
+        literal_signed values k ∙ ap (λ b. signed b (values (variable_of k))) named.1 ∙ ap (signed (is_negative l))
+        (sym (copied_value (variable_of l) (variable_of k) among named.0))
         ∙ sym (literal_signed m l)
 
     -- what was copied is true where its copies are
-    pub originals_true : (ls ks : List Literal) → All (λ l. Contains (declared f) (variable_of l)) ls → AreNamedAs es ks (copy_names side ls) → All (λ l. literal_true values l ≡ true) ks →
+    pub originals_true : (ls ks : List Literal) → All (λ l. Contains (declared f) (variable_of l)) ls →
+        AreNamedAs es ks (copy_names side ls) → All (λ l. literal_true values l ≡ true) ks →
         All (λ l. literal_true m l ≡ true) ls
     originals_true [] ks bound are on = All-nil (λ l. literal_true m l ≡ true)
     originals_true (l ∷ ls) [] bound are on = cc
@@ -136,10 +162,12 @@ module _ (f : Dqbf) (es : List Entry) (values : Assignment) (formula : IsWellFor
         let later : map (name_literal es) ks ≡ map Some (copy_names side ls) = cc in
         let P : Literal → Type 0 = λ j. Contains (declared f) (variable_of j) in
         let Q : Literal → Type 0 = λ j. literal_true values j ≡ true in
-        All-cons (λ j. literal_true m j ≡ true) l ls (sym (copied_literal_true l k (All-head P l ls bound) here) ∙ All-head Q k ks on)
+        All-cons (λ j. literal_true m j ≡ true) l ls (sym (copied_literal_true l k (All-head P l ls bound) here)
+        ∙ All-head Q k ks on)
         (originals_true ls ks (All-tail P l ls bound) later (All-tail Q k ks on))
 
-    copied_clause_true : (ls ks : List Literal) → All (λ l. Contains (declared f) (variable_of l)) ls → AreNamedAs es ks (copy_names side ls) → clause_true values ks ≡ clause_true m ls
+    copied_clause_true : (ls ks : List Literal) → All (λ l. Contains (declared f) (variable_of l)) ls →
+        AreNamedAs es ks (copy_names side ls) → clause_true values ks ≡ clause_true m ls
     copied_clause_true [] [] bound are = refl
     copied_clause_true [] (k ∷ ks) bound are = cc
     copied_clause_true (l ∷ ls) [] bound are = cc
@@ -147,34 +175,43 @@ module _ (f : Dqbf) (es : List Entry) (values : Assignment) (formula : IsWellFor
         let here : name_literal es k ≡ Some (named_literal (CopyOf side (variable_of l)) (is_negative l)) = cc in
         let later : map (name_literal es) ks ≡ map Some (copy_names side ls) = cc in
         let P : Literal → Type 0 = λ j. Contains (declared f) (variable_of j) in
-        ap (λ b. b || clause_true values ks) (copied_literal_true l k (All-head P l ls bound) here) ∙ ap (λ b. literal_true m l || b) (copied_clause_true ls ks (All-tail P l ls bound) later)
+        ap (λ b. b || clause_true values ks) (copied_literal_true l k (All-head P l ls bound) here) ∙ ap
+        (λ b. literal_true m l || b) (copied_clause_true ls ks (All-tail P l ls bound) later)
 
     pub matrix_holds : MatrixHolds f m
     matrix_holds j d lt =
         let clause = get_or f.matrix j d in
         let given = is.whole j clause (slice_get-get_or f.matrix j d lt) in
         sym (copied_clause_true clause given.rest (formula.bound j d lt) given.named)
-        ∙ switched (group_variable copy.group) given.rest active (given_true (Copy side (j + 1)) (negative (group_variable copy.group) ∷ given.rest) given.given)
+        ∙ switched (group_variable copy.group) given.rest active
+        (given_true (Copy side (j + 1)) (negative (group_variable copy.group) ∷ given.rest) given.given)
 
     pub sample : IsSample f row bits
     sample = record {
-      row_length = ap length row_is ∙ length-map copy.universals.items (λ l. values (variable_of l)) ∙ named_length es copy.universals.items _ is.universals
+      row_length = ap length row_is ∙ length-map copy.universals.items (λ l. values (variable_of l))
+          ∙ named_length es copy.universals.items _ is.universals
           ∙ length-map f.universals (λ v. named_literal (CopyOf side v) false);
-      values_length = ap length bits_are ∙ length-map copy.existentials.items (λ l. values (variable_of l)) ∙ named_length es copy.existentials.items _ is.existentials
-          ∙ length-map (existential_variables f) (λ v. named_literal (CopyOf side v) false) ∙ length-map f.existentials (λ y. y.variable);
+      values_length = ap length bits_are ∙ length-map copy.existentials.items (λ l. values (variable_of l))
+          ∙ named_length es copy.existentials.items _ is.existentials
+          ∙ length-map (existential_variables f) (λ v. named_literal (CopyOf side v) false) ∙ length-map f.existentials
+          (λ y. y.variable);
       holds_there = matrix_holds;
     }
 
   -- an equation that is active
-  equal_there : (x : ℕ) (g : Group) → IsLink f x g es → values (group_variable g) ≡ true → (v w : ℕ) → name_of es v ≡ Some (CopyOf 1 x) → name_of es w ≡ Some (CopyOf 2 x) → values v ≡ values w
+  equal_there : (x : ℕ) (g : Group) → IsLink f x g es → values (group_variable g) ≡ true → (v w : ℕ) →
+      name_of es v ≡ Some (CopyOf 1 x) → name_of es w ≡ Some (CopyOf 2 x) → values v ≡ values w
   equal_there x g link on v w one two =
       let down = link.whole 1 (inl refl) in
       let up = link.whole 2 (inr refl) in
       both (values v) (values w)
-      (pair_true down.rest true false down.named (switched (group_variable g) down.rest on (given_true (Link x 1) (negative (group_variable g) ∷ down.rest) down.given)))
-      (pair_true up.rest false true up.named (switched (group_variable g) up.rest on (given_true (Link x 2) (negative (group_variable g) ∷ up.rest) up.given)))
+      (pair_true down.rest true false down.named (switched (group_variable g) down.rest on
+      (given_true (Link x 1) (negative (group_variable g) ∷ down.rest) down.given)))
+      (pair_true up.rest false true up.named (switched (group_variable g) up.rest on
+      (given_true (Link x 2) (negative (group_variable g) ∷ up.rest) up.given)))
     where
-      pair_true : (ks : List Literal) (a b : Bool) → AreNamedAs es ks (named_literal (CopyOf 1 x) a ∷ named_literal (CopyOf 2 x) b ∷ []) → clause_true values ks ≡ true →
+      pair_true : (ks : List Literal) (a b : Bool) → AreNamedAs es ks
+          (named_literal (CopyOf 1 x) a ∷ named_literal (CopyOf 2 x) b ∷ []) → clause_true values ks ≡ true →
           (signed a (values v) || signed b (values w)) ≡ true
       pair_true [] a b are h = cc
       pair_true (k ∷ []) a b are h = cc
@@ -184,10 +221,13 @@ module _ (f : Dqbf) (es : List Entry) (values : Assignment) (formula : IsWellFor
           let k_named = named_variable es k (CopyOf 1 x) a (name_of es (variable_of k)) refl k_is in
           let j_named = named_variable es j (CopyOf 2 x) b (name_of es (variable_of j)) refl j_is in
           let k_value : literal_true values k ≡ signed a (values v) =
-          literal_signed values k ∙ ap (λ s. signed s (values (variable_of k))) k_named.1 ∙ ap (λ u. signed a (values u)) (unique (variable_of k) v (CopyOf 1 x) k_named.0 one) in
+          literal_signed values k ∙ ap (λ s. signed s (values (variable_of k))) k_named.1 ∙ ap
+          (λ u. signed a (values u)) (unique (variable_of k) v (CopyOf 1 x) k_named.0 one) in
           let j_value : literal_true values j ≡ signed b (values w) =
-          literal_signed values j ∙ ap (λ s. signed s (values (variable_of j))) j_named.1 ∙ ap (λ u. signed b (values u)) (unique (variable_of j) w (CopyOf 2 x) j_named.0 two) in
-          sym (ap (λ t. t || literal_true values j) k_value ∙ ap (λ t. signed a (values v) || t) j_value) ∙ shorter (literal_true values k) (literal_true values j) h
+          literal_signed values j ∙ ap (λ s. signed s (values (variable_of j))) j_named.1 ∙ ap
+          (λ u. signed b (values u)) (unique (variable_of j) w (CopyOf 2 x) j_named.0 two) in
+          sym (ap (λ t. t || literal_true values j) k_value ∙ ap (λ t. signed a (values v) || t) j_value) ∙ shorter
+          (literal_true values k) (literal_true values j) h
         where
           shorter : (s t : Bool) → (s || (t || false)) ≡ true → (s || t) ≡ true
           shorter true t h = refl
@@ -201,11 +241,13 @@ module _ (f : Dqbf) (es : List Entry) (values : Assignment) (formula : IsWellFor
       both false true d u = cc
       both false false d u = refl
 
-pub positive_true : (values : Assignment) (l : Literal) → is_negative l ≡ false → literal_true values l ≡ true → values (variable_of l) ≡ true
+pub positive_true : (values : Assignment) (l : Literal) → is_negative l ≡ false → literal_true values l ≡ true →
+    values (variable_of l) ≡ true
 positive_true values (positive v) plain h = h
 positive_true values (negative v) plain h = cc
 
-all_there : (P : Literal → Type 0) (xs : List Group) (more : List Literal) → All P (map (λ g. g.selector) xs ++ more) → ((g : Group) → Contains xs g → P g.selector) × All P more
+all_there : (P : Literal → Type 0) (xs : List Group) (more : List Literal) → All P (map (λ g. g.selector) xs ++ more) →
+    ((g : Group) → Contains xs g → P g.selector) × All P more
 all_there P [] more all = (λ g among. absurd (nothing g among), all)
   where
     nothing : (g : Group) → Contains {X = Group} [] g → ⊥
@@ -215,7 +257,8 @@ all_there P (x ∷ xs) more all =
     (λ g among. here g among rest.0, rest.1)
   where
     here : (g : Group) → Contains (x ∷ xs) g → ((h : Group) → Contains xs h → P h.selector) → P g.selector
-    here g (zero, lt, at) later = subst (λ h. P h.selector) at (All-head P x.selector (map (λ g. g.selector) xs ++ more) all)
+    here g (zero, lt, at) later = subst (λ h. P h.selector) at
+        (All-head P x.selector (map (λ g. g.selector) xs ++ more) all)
     here g (suc k, lt, at) later = later g (k, omega (arith, lt), at)
 
 group_at : (gs : List Group) (k : ℕ) → k < length gs → (g : Group) × (slice_get gs k ≡ Some g)
@@ -230,12 +273,16 @@ literal_at (l ∷ ls) (suc k) lt = literal_at ls k (omega (arith, lt))
 
 pub all_parts : (P : Literal → Type 0) (xs ys : List Literal) → All P (xs ++ ys) → All P xs × All P ys
 all_parts P [] ys all = (All-nil P, all)
-all_parts P (x ∷ xs) ys all = let rest = all_parts P xs ys (All-tail P x (xs ++ ys) all) in (All-cons P x xs (All-head P x (xs ++ ys) all) rest.0, rest.1)
+all_parts P (x ∷ xs) ys all = let rest = all_parts P xs ys (All-tail P x (xs ++ ys) all) in
+    (All-cons P x xs (All-head P x (xs ++ ys) all) rest.0, rest.1)
 
 -- the pair that a search found
-module _ (f : Dqbf) (places : List ℕ) (v : ℕ) (conditions : List Literal) (p : Padoa) (asked : Asked) (es : List Entry) (values : Assignment) (pair : Pair) (formula : IsWellFormed f)
-    (unique : (v w : ℕ) (name : Name) → name_of es v ≡ Some name → name_of es w ≡ Some name → v ≡ w) (padoa : IsPadoa f p es) (posed : IsQuestion f places v conditions)
-    (asked_there : IsAsked es v conditions asked) (models : ModelsCopies p places (asked.first.items ++ asked.second.items) values es) (are : IsPairOf p values pair) where
+module _ (f : Dqbf) (places : List ℕ) (v : ℕ) (conditions : List Literal) (p : Padoa) (asked : Asked) (es : List Entry)
+    (values : Assignment) (pair : Pair) (formula : IsWellFormed f)
+    (unique : (v w : ℕ) (name : Name) → name_of es v ≡ Some name → name_of es w ≡ Some name → v ≡ w)
+    (padoa : IsPadoa f p es) (posed : IsQuestion f places v conditions)
+    (asked_there : IsAsked es v conditions asked) (models : ModelsCopies p places
+    (asked.first.items ++ asked.second.items) values es) (are : IsPairOf p values pair) where
   abbrev both : List Literal
   both = asked.first.items ++ asked.second.items
 
@@ -252,37 +299,48 @@ module _ (f : Dqbf) (places : List ℕ) (v : ℕ) (conditions : List Literal) (p
   live = models.model.clauses
 
   all : All (λ l. literal_true values l ≡ true) (p.first.group.selector ∷ p.second.group.selector ∷ switches ++ both)
-  all = subst (λ gs. All (λ l. literal_true values l ≡ true) (assumed gs both)) models.are_active.active_is models.model.assumptions_true
+  all = subst (λ gs. All (λ l. literal_true values l ≡ true) (assumed gs both)) models.are_active.active_is
+      models.model.assumptions_true
 
   behind : All (λ l. literal_true values l ≡ true) (p.second.group.selector ∷ switches ++ both)
-  behind = All-tail (λ l. literal_true values l ≡ true) p.first.group.selector (p.second.group.selector ∷ switches ++ both) all
+  behind = All-tail (λ l. literal_true values l ≡ true) p.first.group.selector
+      (p.second.group.selector ∷ switches ++ both) all
 
-  links : ((g : Group) → Contains models.are_active.links g → literal_true values g.selector ≡ true) × All (λ l. literal_true values l ≡ true) both
-  links = all_there (λ l. literal_true values l ≡ true) models.are_active.links both (All-tail (λ l. literal_true values l ≡ true) p.second.group.selector (switches ++ both) behind)
+  links : ((g : Group) → Contains models.are_active.links g → literal_true values g.selector ≡ true) × All
+      (λ l. literal_true values l ≡ true) both
+  links = all_there (λ l. literal_true values l ≡ true) models.are_active.links both
+      (All-tail (λ l. literal_true values l ≡ true) p.second.group.selector (switches ++ both) behind)
 
-  in_both : All (λ l. literal_true values l ≡ true) asked.first.items × All (λ l. literal_true values l ≡ true) asked.second.items
+  in_both : All (λ l. literal_true values l ≡ true) asked.first.items × All
+      (λ l. literal_true values l ≡ true) asked.second.items
   in_both = all_parts (λ l. literal_true values l ≡ true) asked.first.items asked.second.items links.1
 
   switch_on : (g : Group) → IsMade es g → literal_true values g.selector ≡ true → values (group_variable g) ≡ true
   switch_on g made h = positive_true values g.selector made.positive h
 
   first_on : values (group_variable p.first.group) ≡ true
-  first_on = switch_on p.first.group padoa.first.made (All-head (λ l. literal_true values l ≡ true) p.first.group.selector (p.second.group.selector ∷ switches ++ both) all)
+  first_on = switch_on p.first.group padoa.first.made (All-head
+      (λ l. literal_true values l ≡ true) p.first.group.selector (p.second.group.selector ∷ switches ++ both) all)
 
   second_on : values (group_variable p.second.group) ≡ true
-  second_on = switch_on p.second.group padoa.second.made (All-head (λ l. literal_true values l ≡ true) p.second.group.selector (switches ++ both) behind)
+  second_on = switch_on p.second.group padoa.second.made (All-head
+      (λ l. literal_true values l ≡ true) p.second.group.selector (switches ++ both) behind)
 
   value1 : (x w : ℕ) → Contains (declared f) x → name_of es w ≡ Some (CopyOf 1 x) → m1 x ≡ values w
-  value1 = copied_value f es values formula unique live 1 p.first padoa.first pair.row1 pair.values1 are.row1 are.values1 first_on
+  value1 = copied_value f es values formula unique live 1 p.first padoa.first pair.row1 pair.values1 are.row1
+      are.values1 first_on
 
   value2 : (x w : ℕ) → Contains (declared f) x → name_of es w ≡ Some (CopyOf 2 x) → m2 x ≡ values w
-  value2 = copied_value f es values formula unique live 2 p.second padoa.second pair.row2 pair.values2 are.row2 are.values2 second_on
+  value2 = copied_value f es values formula unique live 2 p.second padoa.second pair.row2 pair.values2 are.row2
+      are.values2 second_on
 
-  all_declared : (l : Literal) → Contains (declared f) (variable_of l) → All (λ k. Contains (declared f) (variable_of k)) (asked_of conditions l)
+  all_declared : (l : Literal) → Contains (declared f) (variable_of l) →
+      All (λ k. Contains (declared f) (variable_of k)) (asked_of conditions l)
   all_declared l there = All-push (λ k. Contains (declared f) (variable_of k)) conditions l posed.are_declared there
 
   -- the copy at a place has a name
-  copy_named : (side : ℕ) (lits : List Literal) → AreCopiesOf es side (declared f) lits → (k x : ℕ) → slice_get (declared f) k ≡ Some x → (w : ℕ) × (name_of es w ≡ Some (CopyOf side x))
+  copy_named : (side : ℕ) (lits : List Literal) → AreCopiesOf es side (declared f) lits → (k x : ℕ) →
+      slice_get (declared f) k ≡ Some x → (w : ℕ) × (name_of es w ≡ Some (CopyOf side x))
   copy_named side lits named k x at =
       let lt = slice_get_within (declared f) k x at in
       let long = copies_long es side (declared f) lits named in
@@ -297,16 +355,25 @@ module _ (f : Dqbf) (places : List ℕ) (v : ℕ) (conditions : List Literal) (p
       let g = group_at p.links.items place.0 (omega (arith, lt, long)) in
       let link = padoa.links place.0 x g.0 place.1 g.1 in
       let on = switch_on g.0 link.made (links.0 g.0 (models.are_active.complete place.0 g.0 place.2 g.1)) in
-      let a = copy_named 1 (copies_of p.first) (copies_declared f 1 p.first es padoa.first.universals padoa.first.existentials) place.0 x place.1 in
-      let b = copy_named 2 (copies_of p.second) (copies_declared f 2 p.second es padoa.second.universals padoa.second.existentials) place.0 x place.1 in
+      let a = copy_named 1 (copies_of p.first) (copies_declared f 1 p.first es padoa.first.universals
+      padoa.first.existentials) place.0 x place.1 in
+      let b = copy_named 2 (copies_of p.second) (copies_declared f 2 p.second es padoa.second.universals
+      padoa.second.existentials) place.0 x place.1 in
       let x_declared = element_at (declared f) place.0 x place.1 in
-      value1 x a.0 x_declared a.1 ∙ equal_there f es values formula unique live x g.0 link on a.0 b.0 a.1 b.1 ∙ sym (value2 x b.0 x_declared b.1)
+      value1 x a.0 x_declared a.1 ∙ equal_there f es values formula unique live x g.0 link on a.0 b.0 a.1 b.1 ∙ sym
+      (value2 x b.0 x_declared b.1)
 
   pub apart_pair : IsPairAt f places v conditions pair
   apart_pair = record {
-    first = sample f es values formula unique live 1 p.first padoa.first pair.row1 pair.values1 are.row1 are.values1 first_on;
-    second = sample f es values formula unique live 2 p.second padoa.second pair.row2 pair.values2 are.row2 are.values2 second_on;
+    first = sample f es values formula unique live 1 p.first padoa.first pair.row1 pair.values1 are.row1 are.values1
+        first_on;
+    second = sample f es values formula unique live 2 p.second padoa.second pair.row2 pair.values2 are.row2 are.values2
+        second_on;
     agree = agree_at;
-    first_true = originals_true f es values formula unique live 1 p.first padoa.first pair.row1 pair.values1 are.row1 are.values1 first_on (asked_of conditions (positive v)) asked.first.items (all_declared (positive v) posed.is_declared) asked_there.first in_both.0;
-    second_true = originals_true f es values formula unique live 2 p.second padoa.second pair.row2 pair.values2 are.row2 are.values2 second_on (asked_of conditions (negative v)) asked.second.items (all_declared (negative v) posed.is_declared) asked_there.second in_both.1;
+    first_true = originals_true f es values formula unique live 1 p.first padoa.first pair.row1 pair.values1 are.row1
+        are.values1 first_on (asked_of conditions (positive v)) asked.first.items
+        (all_declared (positive v) posed.is_declared) asked_there.first in_both.0;
+    second_true = originals_true f es values formula unique live 2 p.second padoa.second pair.row2 pair.values2 are.row2
+        are.values2 second_on (asked_of conditions (negative v)) asked.second.items
+        (all_declared (negative v) posed.is_declared) asked_there.second in_both.1;
   }

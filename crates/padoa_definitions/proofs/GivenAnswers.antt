@@ -30,11 +30,14 @@ turned false h = refl
 turned true h = cc
 
 -- a question may be asked where the places are those of a set
-pub posed_of : (f : Dqbf) (set : Existential → ℕ → Type 0) (v : ℕ) (conditions : List Literal) (places : List ℕ) → IsSome (existential_of f v) →
-    ((y : Existential) → existential_of f v ≡ Some y → ArePlaces (declared f) (set y) places) → All (λ l. Contains (declared f) (variable_of l)) conditions →
+pub posed_of : (f : Dqbf) (set : Existential → ℕ → Type 0) (v : ℕ) (conditions : List Literal) (places : List ℕ) →
+    IsSome (existential_of f v) →
+    ((y : Existential) → existential_of f v ≡ Some y → ArePlaces (declared f) (set y) places) →
+    All (λ l. Contains (declared f) (variable_of l)) conditions →
     is_tautology conditions ≡ false → All (λ l. variable_of l ≢ v) conditions → IsQuestion f places v conditions
 posed_of f set v conditions places is are bound consistent others = record {
-  places_within = some_existential f v (All (λ k. k < length (declared f)) places) is (λ y found. places_in (declared f) (set y) places (are y found));
+  places_within = some_existential f v (All (λ k. k < length (declared f)) places) is
+      (λ y found. places_in (declared f) (set y) places (are y found));
   is_declared = existential_declared f v is;
   are_declared = bound;
   consistent = consistent;
@@ -42,7 +45,8 @@ posed_of f set v conditions places is are bound consistent others = record {
 }
 
 -- without conditions, over what a definition may read
-pub is_defined : (f : Dqbf) (ranks : List ℕ) (graph : AigGraph) (v : ℕ) (y : Existential) (places : List ℕ) (node : Node) → existential_of f v ≡ Some y → ArePlaces (declared f) (MayRead f ranks y) places →
+pub is_defined : (f : Dqbf) (ranks : List ℕ) (graph : AigGraph) (v : ℕ) (y : Existential) (places : List ℕ)
+    (node : Node) → existential_of f v ≡ Some y → ArePlaces (declared f) (MayRead f ranks y) places →
     IsDefinitionAt f places v [] graph node → IsDefinition f ranks graph y node
 is_defined f ranks graph v y places node found are at = record {
   is_node = at.is_node;
@@ -50,10 +54,12 @@ is_defined f ranks graph v y places node found are at = record {
       let i = get_or (node_support graph node) k d in
       let r = are.sound i (at.reads i (Contains-get_or (node_support graph node) k d lt)) in
       subst (MayRead f ranks y) (sym (get_or_from_slice_get (declared f) i r.0 0 r.1)) r.2);
-  defines = λ m holds_there. ap m (found_variable f v y found) ∙ at.defines m holds_there (All-nil (λ l. literal_true m l ≡ true));
+  defines = λ m holds_there. ap m (found_variable f v y found) ∙ at.defines m holds_there
+      (All-nil (λ l. literal_true m l ≡ true));
 }
 
-module _ (f : Dqbf) (places : List ℕ) (v : ℕ) (conditions : List Literal) (pair : Pair) (at : IsPairAt f places v conditions pair) where
+module _ (f : Dqbf) (places : List ℕ) (v : ℕ) (conditions : List Literal) (pair : Pair)
+    (at : IsPairAt f places v conditions pair) where
   abbrev m1 : Assignment
   m1 = round_assignment f pair.row1 pair.values1
 
@@ -72,26 +78,32 @@ module _ (f : Dqbf) (places : List ℕ) (v : ℕ) (conditions : List Literal) (p
   pub false_there : m2 v ≡ false
   false_there = turned (m2 v) (All-head (λ l. literal_true m2 l ≡ true) (negative v) [] second_parts.1)
 
-pub is_free : (f : Dqbf) (ranks : List ℕ) (v : ℕ) (y : Existential) (places : List ℕ) (pair : Pair) → existential_of f v ≡ Some y → ArePlaces (declared f) (MayRead f ranks y) places →
+pub is_free : (f : Dqbf) (ranks : List ℕ) (v : ℕ) (y : Existential) (places : List ℕ) (pair : Pair) →
+    existential_of f v ≡ Some y → ArePlaces (declared f) (MayRead f ranks y) places →
     IsPairAt f places v [] pair → IsFreePair f ranks y pair
 is_free f ranks v y places pair found are at = record {
   first = at.first;
   second = at.second;
   agree = λ x may. at.agree x (are.complete x may);
-  is_true = ap (round_assignment f pair.row1 pair.values1) (found_variable f v y found) ∙ true_there f places v [] pair at;
-  is_false = ap (round_assignment f pair.row2 pair.values2) (found_variable f v y found) ∙ false_there f places v [] pair at;
+  is_true = ap (round_assignment f pair.row1 pair.values1) (found_variable f v y found)
+      ∙ true_there f places v [] pair at;
+  is_false = ap (round_assignment f pair.row2 pair.values2) (found_variable f v y found)
+      ∙ false_there f places v [] pair at;
 }
 
 -- places of universals are places of declared variables
-pub declared_places : (f : Dqbf) (set : ℕ → Type 0) (places : List ℕ) → ArePlaces f.universals set places → ArePlaces (declared f) set places
+pub declared_places : (f : Dqbf) (set : ℕ → Type 0) (places : List ℕ) → ArePlaces f.universals set places →
+    ArePlaces (declared f) set places
 declared_places f set places are = record {
   sound = λ k among. let r = are.sound k among in (r.0, at_first f.universals (existential_variables f) k r.0 r.1, r.2);
   complete = λ x is. let r = are.complete x is in (r.0, at_first f.universals (existential_variables f) r.0 x r.1, r.2);
 }
 
-module _ (f : Dqbf) (graph : AigGraph) (v : ℕ) (y : Existential) (places : List ℕ) (conditions : List Literal) (found : existential_of f v ≡ Some y) (are : ArePlaces f.universals (Contains y.sees) places) where
+module _ (f : Dqbf) (graph : AigGraph) (v : ℕ) (y : Existential) (places : List ℕ) (conditions : List Literal)
+    (found : existential_of f v ≡ Some y) (are : ArePlaces f.universals (Contains y.sees) places) where
   -- conditions or none, over what the existential sees
-  conditional_definition : (node : Node) → IsDefinitionAt f places v conditions graph node → IsConditionalDefinition f graph y conditions node
+  conditional_definition : (node : Node) → IsDefinitionAt f places v conditions graph node →
+      IsConditionalDefinition f graph y conditions node
   conditional_definition node at = record {
     is_node = at.is_node;
     reads = All-map (Contains y.sees) (slice_index f.universals) (node_support graph node) (λ k d lt.
@@ -108,7 +120,8 @@ module _ (f : Dqbf) (graph : AigGraph) (v : ℕ) (y : Existential) (places : Lis
       same_variable : (i : ℕ) → Contains places i → input_variable f i ≡ slice_index f.universals i
       same_variable i among =
           let r = are.sound i among in
-          get_or_from_slice_get (declared f) i r.0 0 (at_first f.universals (existential_variables f) i r.0 r.1) ∙ sym (get_or_from_slice_get f.universals i r.0 0 r.1)
+          get_or_from_slice_get (declared f) i r.0 0 (at_first f.universals (existential_variables f) i r.0 r.1) ∙ sym
+          (get_or_from_slice_get f.universals i r.0 0 r.1)
 
   conditional_pair : (pair : Pair) → IsPairAt f places v conditions pair → IsConditionalPair f y conditions pair
   conditional_pair pair at = record {
@@ -117,8 +130,10 @@ module _ (f : Dqbf) (graph : AigGraph) (v : ℕ) (y : Existential) (places : Lis
     agree = λ x seen. at.agree x ((declared_places f (Contains y.sees) places are).complete x seen);
     first_meets = (first_parts f places v conditions pair at).0;
     second_meets = (second_parts f places v conditions pair at).0;
-    is_true = ap (round_assignment f pair.row1 pair.values1) (found_variable f v y found) ∙ true_there f places v conditions pair at;
-    is_false = ap (round_assignment f pair.row2 pair.values2) (found_variable f v y found) ∙ false_there f places v conditions pair at;
+    is_true = ap (round_assignment f pair.row1 pair.values1) (found_variable f v y found)
+        ∙ true_there f places v conditions pair at;
+    is_false = ap (round_assignment f pair.row2 pair.values2) (found_variable f v y found)
+        ∙ false_there f places v conditions pair at;
   }
 
   pub is_guess : (guess : Guess) → IsAnswerAt f places v conditions graph guess → IsGuess f graph y conditions guess

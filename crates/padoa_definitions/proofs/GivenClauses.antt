@@ -45,16 +45,21 @@ anew_then f a b c first second standing start names =
     (second standing start (λ v none. names v (unnamed_back a.entries b.entries (keeps_anew f a b first).names v none)))
 
 -- a group that has no name before
-pub anew_then_in : (f : Dqbf) (a b c : ProofLog) (group : ℕ) → GrewAnew f a b → name_of a.entries group ≡ None → GrewIn f group b c → GrewAnew f a c
+pub anew_then_in : (f : Dqbf) (a b c : ProofLog) (group : ℕ) → GrewAnew f a b → name_of a.entries group ≡ None →
+    GrewIn f group b c → GrewAnew f a c
 anew_then_in f a b c group first unnamed second standing start names =
-    grown_then (IsAddedBy f copies standing true start) a b c (first standing start names) (second standing start (inr (names group unnamed)))
+    grown_then (IsAddedBy f copies standing true start) a b c (first standing start names)
+    (second standing start (inr (names group unnamed)))
 
-pub group_anew : (f : Dqbf) (old new : ProofLog) (g : ℕ) → name_of old.entries g ≡ None → new ≡ with_entry old (Named g (Selector g)) → GrewAnew f old new
+pub group_anew : (f : Dqbf) (old new : ProofLog) (g : ℕ) → name_of old.entries g ≡ None →
+    new ≡ with_entry old (Named g (Selector g)) → GrewAnew f old new
 group_anew f old new g unnamed is standing start names =
-    grown_by (IsAddedBy f copies standing true start) old new (Named g (Selector g)) is (record { unnamed = unnamed; own = inl refl; rightly = tt })
+    grown_by (IsAddedBy f copies standing true start) old new (Named g (Selector g)) is
+    (record { unnamed = unnamed; own = inl refl; rightly = tt })
 
 pub in_then : (f : Dqbf) (group : ℕ) (a b c : ProofLog) → GrewIn f group a b → GrewIn f group b c → GrewIn f group a c
-in_then f group a b c first second standing start h = grown_then (IsAddedBy f copies standing true start) a b c (first standing start h) (second standing start h)
+in_then f group a b c first second standing start h = grown_then (IsAddedBy f copies standing true start) a b c
+    (first standing start h) (second standing start h)
 
 pub in_same : (f : Dqbf) (group : ℕ) (old new : ProofLog) → new ≡ old → GrewIn f group old new
 in_same f group old new is standing start h = grown_by_none (IsAddedBy f copies standing true start) old new is
@@ -72,8 +77,10 @@ not_a_fault : (origin : Origin) → origin_engine origin ≡ copies → (j i : �
 not_a_fault origin e j i is = let h : copies ≡ circuits = sym e ∙ ap origin_engine is in cc
 
 -- a right clause of a group
-module _ (f : Dqbf) (log : ProofLog) (g : ℕ) (origin : Origin) (rest : List Literal) (own : origin_engine origin ≡ copies) (is_group : name_of log.entries g ≡ Some (Selector g))
-    (rest_is : IsRestOf f log.entries g origin rest) (first : (c : List Literal) → Contains log.entries (Given origin c) → ⊥) (few : HasFewFaults log.entries) where
+module _ (f : Dqbf) (log : ProofLog) (g : ℕ) (origin : Origin) (rest : List Literal)
+    (own : origin_engine origin ≡ copies) (is_group : name_of log.entries g ≡ Some (Selector g))
+    (rest_is : IsRestOf f log.entries g origin rest) (first : (c : List Literal) →
+    Contains log.entries (Given origin c) → ⊥) (few : HasFewFaults log.entries) where
   pub right_clause : MatchesOrigin f log.entries (Given origin (negative g ∷ rest))
   right_clause = record {
     group = g;
@@ -95,7 +102,8 @@ module _ (f : Dqbf) (log : ProofLog) (g : ℕ) (origin : Origin) (rest : List Li
 
   pub in_by : GrewIn f g log (with_entry log (Given origin (negative g ∷ rest)))
   in_by standing start h =
-      grown_by (IsAddedBy f copies standing true start) log (with_entry log (Given origin (negative g ∷ rest))) (Given origin (negative g ∷ rest)) refl (record {
+      grown_by (IsAddedBy f copies standing true start) log (with_entry log (Given origin (negative g ∷ rest)))
+      (Given origin (negative g ∷ rest)) refl (record {
         own = own;
         in_group = (g, (rest, refl), h);
         matches_origin = right_clause;
@@ -110,37 +118,49 @@ adds_same f side test old new is = subst (λ (l : ProofLog). Adds f side test ol
   givens = λ o c inside. inl inside;
 })
 
-pub adds_then : (f : Dqbf) (side : ℕ) (test : Origin → Bool) (a b c : ProofLog) → Adds f side test a b → Adds f side test b c → Adds f side test a c
+pub adds_then : (f : Dqbf) (side : ℕ) (test : Origin → Bool) (a b c : ProofLog) → Adds f side test a b →
+    Adds f side test b c → Adds f side test a c
 adds_then f side test a b c first second = record {
   grew = anew_then f a b c first.grew second.grew;
   names = λ v n h. elim (second.names v n h) [ inl before ↦ first.names v n before | inr new ↦ inr new ];
   givens = λ o d inside. elim (second.givens o d inside) [ inl before ↦ first.givens o d before | inr new ↦ inr new ];
 }
 
-pub adds_names : (f : Dqbf) (side : ℕ) (test : Origin → Bool) (vars : List ℕ) (old new : ProofLog) → GrewAnew f old new → NamesCopies side vars old.entries new.entries → Adds f side test old new
+pub adds_names : (f : Dqbf) (side : ℕ) (test : Origin → Bool) (vars : List ℕ) (old new : ProofLog) →
+    GrewAnew f old new → NamesCopies side vars old.entries new.entries → Adds f side test old new
 adds_names f side test vars old new grew only = record {
   grew = grew;
-  names = λ v n h. elim (only.names v n h) [ inl before ↦ inl before | inr copy ↦ inr (ap (is_side_name side) copy.1 ∙ eq-eqb side side refl) ];
+  names = λ v n h. elim (only.names v n h) [
+    | inl before ↦ inl before
+    | inr copy ↦
+        inr (ap (is_side_name side) copy.1 ∙ eq-eqb side side refl)
+  ];
   givens = λ o c inside. inl (only.givens o c inside);
 }
 
-name_cases : (es : List Entry) (v w : ℕ) (m n : Name) → name_of (Named v m ∷ es) w ≡ Some n → (m ≡ n) ⊎ (name_of es w ≡ Some n)
+name_cases : (es : List Entry) (v w : ℕ) (m n : Name) → name_of (Named v m ∷ es) w ≡ Some n →
+    (m ≡ n) ⊎ (name_of es w ≡ Some n)
 name_cases es v w m n is = by (w == v) is where
   by : (b : Bool) → cond b (Some m) (name_of es w) ≡ Some n → (m ≡ n) ⊎ (name_of es w ≡ Some n)
   by true is = inl cc
   by false is = inr is
 
-pub adds_group : (f : Dqbf) (side : ℕ) (test : Origin → Bool) (old new : ProofLog) (g : ℕ) → name_of old.entries g ≡ None → new ≡ with_entry old (Named g (Selector g)) → Adds f side test old new
+pub adds_group : (f : Dqbf) (side : ℕ) (test : Origin → Bool) (old new : ProofLog) (g : ℕ) →
+    name_of old.entries g ≡ None → new ≡ with_entry old (Named g (Selector g)) → Adds f side test old new
 adds_group f side test old new g unnamed is = subst (λ (l : ProofLog). Adds f side test old l) (sym is) (record {
   grew = group_anew f old (with_entry old (Named g (Selector g))) g unnamed refl;
-  names = λ v n h. elim (name_cases old.entries g v (Selector g) n h) [ inl same ↦ inr (ap (is_side_name side) (sym same)) | inr before ↦ inl before ];
-  givens = λ o c inside. elim (contains_cases (Named g (Selector g)) (Given o c) old.entries inside) [ inl same ↦ cc | inr before ↦ inl before ];
+  names = λ v n h. elim (name_cases old.entries g v (Selector g) n h)
+      [ inl same ↦ inr (ap (is_side_name side) (sym same)) | inr before ↦ inl before ];
+  givens = λ o c inside. elim (contains_cases (Named g (Selector g)) (Given o c) old.entries inside)
+      [ inl same ↦ cc | inr before ↦ inl before ];
 })
 
 -- clauses of a group that was made on the way
-pub adds_in : (f : Dqbf) (side : ℕ) (test : Origin → Bool) (a b c : ProofLog) (g : ℕ) → Adds f side test a b → name_of a.entries g ≡ None → GrewIn f g b c →
+pub adds_in : (f : Dqbf) (side : ℕ) (test : Origin → Bool) (a b c : ProofLog) (g : ℕ) → Adds f side test a b →
+    name_of a.entries g ≡ None → GrewIn f g b c →
     ((v : ℕ) → name_of c.entries v ≡ name_of b.entries v) →
-    ((o : Origin) (d : List Literal) → Contains c.entries (Given o d) → Contains b.entries (Given o d) ⊎ (test o ≡ true)) → Adds f side test a c
+    ((o : Origin) (d : List Literal) → Contains c.entries (Given o d) →
+    Contains b.entries (Given o d) ⊎ (test o ≡ true)) → Adds f side test a c
 adds_in f side test a b c g first unnamed second same givens = record {
   grew = anew_then_in f a b c g first.grew unnamed second;
   names = λ v n h. first.names v n (sym (same v) ∙ h);
@@ -148,7 +168,8 @@ adds_in f side test a b c g first unnamed second same givens = record {
 }
 
 -- the clauses of a side, one by one
-pub none_given : (f : Dqbf) (side g : ℕ) (log : ProofLog) → HasFewFaults log.entries → Each (IsGroupGiven f (is_copy_of side) g) log.entries → AreUngiven side log.entries →
+pub none_given : (f : Dqbf) (side g : ℕ) (log : ProofLog) → HasFewFaults log.entries →
+    Each (IsGroupGiven f (is_copy_of side) g) log.entries → AreUngiven side log.entries →
     AreGivenSoFar f side g 0 log log
 none_given f side g log few own ungiven = record {
   grew = in_same f g log log refl;
@@ -160,15 +181,20 @@ none_given f side g log few own ungiven = record {
   given = λ k clause less is. absurd (omega (arith, less));
 }
 
-pub given_more : (f : Dqbf) (side g j : ℕ) (old log new : ProofLog) (clause rest : List Literal) → (side ≡ 1) ⊎ (side ≡ 2) → name_of log.entries g ≡ Some (Selector g) →
-    AreGivenSoFar f side g j old log → slice_get f.matrix j ≡ Some clause → AreNamedAs log.entries rest (copy_names side clause) →
+pub given_more : (f : Dqbf) (side g j : ℕ) (old log new : ProofLog) (clause rest : List Literal) →
+    (side ≡ 1) ⊎ (side ≡ 2) → name_of log.entries g ≡ Some (Selector g) →
+    AreGivenSoFar f side g j old log → slice_get f.matrix j ≡ Some clause →
+    AreNamedAs log.entries rest (copy_names side clause) →
     new ≡ with_entry log (Given (Copy side (j + 1)) (negative g ∷ rest)) → AreGivenSoFar f side g (j + 1) old new
 given_more f side g j old log new clause rest sides is_group before clause_is named is =
     subst (λ (l : ProofLog). AreGivenSoFar f side g (j + 1) old l) (sym is) (record {
       grew = in_then f g old log more before.grew (in_by f log g origin rest refl is_group rest_is first before.few);
       names = before.names;
       few = few_more f log g origin rest refl is_group rest_is first before.few;
-      own = (λ inside. (eq-eqb side side refl, right_clause f log g origin rest refl is_group rest_is first before.few), before.own);
+      own = (
+        λ inside. (eq-eqb side side refl, right_clause f log g origin rest refl is_group rest_is first before.few),
+        before.own,
+      );
       givens = λ o c inside. elim (contains_cases e (Given o c) log.entries inside) [
         | inl same ↦ (let o_is : origin ≡ o = cc in inr (ap (is_copy_of side) (sym o_is) ∙ eq-eqb side side refl))
         | inr behind ↦ before.givens o c behind
@@ -178,13 +204,15 @@ given_more f side g j old log new clause rest sides is_group before clause_is na
         | inr behind ↦ before.later k c (omega (arith, less)) behind
       ];
       given = λ k c less c_is. elim (cases_lt k j) [
-        | inl earlier ↦ given_stays f (λ mine. ⊥) log.entries more.entries keeps g (Copy side (k + 1)) (copy_names side c) (before.given k c earlier c_is)
+        | inl earlier ↦ given_stays f (λ mine. ⊥) log.entries more.entries keeps g (Copy side (k + 1))
+            (copy_names side c) (before.given k c earlier c_is)
         | inr late ↦ (
             let same : k ≡ j = omega (arith, less, late) in
             let both : Some clause ≡ Some c = sym clause_is ∙ ap (slice_get f.matrix) (sym same) ∙ c_is in
             let c_same : clause ≡ c = cc in
             subst (λ i. IsGivenIn more.entries g (Copy side (i + 1)) (copy_names side c)) (sym same)
-            (subst (λ d. IsGivenIn more.entries g origin (copy_names side d)) c_same (record { rest = rest; given = contains_first e log.entries; named = named })))
+            (subst (λ d. IsGivenIn more.entries g origin (copy_names side d)) c_same
+            (record { rest = rest; given = contains_first e log.entries; named = named })))
       ];
     })
   where
@@ -201,25 +229,43 @@ given_more f side g j old log new clause rest sides is_group before clause_is na
     plus_one = omega arith
 
     rest_is : IsRestOf f log.entries g (Copy side (j + 1)) rest
-    rest_is = (sides, record { clause = clause; clause_is = ap (numbered_from_one f.matrix) plus_one ∙ clause_is; named = named })
+    rest_is = (
+      sides,
+      record {
+        clause = clause;
+        clause_is = ap (numbered_from_one f.matrix) plus_one ∙ clause_is;
+        named = named;
+      },
+    )
 
     first : (c : List Literal) → Contains log.entries (Given (Copy side (j + 1)) c) → ⊥
     first c inside = before.later (j + 1) c (omega arith) inside
 
     keeps : Keeps f (λ mine. ⊥) log.entries more.entries
-    keeps = record { names = λ v n is. is; contains = λ x. contains_later e x log.entries; groups = λ test mine apart own. absurd apart }
+    keeps = record {
+      names = λ v n is. is;
+      contains = λ x. contains_later e x log.entries;
+      groups =
+          λ test mine apart own. absurd apart;
+    }
 
 none_below : (b : Bool) (n : Name) (o : Option Name) → cond b (Some n) o ≡ None → o ≡ None
 none_below true n o h = cc
 none_below false n o h = h
 
 -- a group without a name has no clause
-pub fresh_group : (f : Dqbf) (test : Origin → Bool) (g : ℕ) (es : List Entry) → AreLogged es → name_of es g ≡ None → Each (IsGroupGiven f test g) es
+pub fresh_group : (f : Dqbf) (test : Origin → Bool) (g : ℕ) (es : List Entry) → AreLogged es → name_of es g ≡ None →
+    Each (IsGroupGiven f test g) es
 fresh_group f test g [] lawful none = tt
-fresh_group f test g (Named w n ∷ es) lawful none = (tt, fresh_group f test g es lawful.1 (none_below (g == w) n (name_of es g) none))
+fresh_group f test g (Named w n ∷ es) lawful none = (
+  tt,
+  fresh_group f test g es lawful.1
+      (none_below (g == w) n (name_of es g) none),
+)
 fresh_group f test g (Given origin c ∷ es) lawful none = (
   λ inside.
-      let named = All-head (λ l. IsSome (name_of es (variable_of l))) (negative g) inside.0 (subst (All (λ l. IsSome (name_of es (variable_of l)))) inside.1 lawful.0) in
+      let named = All-head (λ l. IsSome (name_of es (variable_of l))) (negative g) inside.0
+      (subst (All (λ l. IsSome (name_of es (variable_of l)))) inside.1 lawful.0) in
       absurd (no_some (name_of es g) none named),
   fresh_group f test g es lawful.1 none,
 )
@@ -233,16 +279,19 @@ fresh_group f test g (Round row values j ∷ es) lawful none = (tt, fresh_group 
 fresh_group f test g (Begun live ∷ es) lawful none = (tt, fresh_group f test g es lawful.1 none)
 
 -- literals on copies are no selectors
-pub copies_plain : (es : List Entry) (side : ℕ) (clause lits : List Literal) → AreNamedAs es lits (copy_names side clause) → All (IsPlain es) lits
+pub copies_plain : (es : List Entry) (side : ℕ) (clause lits : List Literal) →
+    AreNamedAs es lits (copy_names side clause) → All (IsPlain es) lits
 copies_plain es side [] [] are = λ k d below. absurd (omega (arith, below))
 copies_plain es side [] (k ∷ ks) are = λ i d below. cc
 copies_plain es side (l ∷ clause) [] are = λ k d below. absurd (omega (arith, below))
 copies_plain es side (l ∷ clause) (k ∷ ks) are =
     let here : name_literal es k ≡ Some (named_literal (CopyOf side (variable_of l)) (is_negative l)) = cc in
     let later : map (name_literal es) ks ≡ map Some (copy_names side clause) = cc in
-    All-cons (IsPlain es) k ks (plain_copy es k side (variable_of l) (is_negative l) here) (copies_plain es side clause ks later)
+    All-cons (IsPlain es) k ks (plain_copy es k side (variable_of l) (is_negative l) here)
+    (copies_plain es side clause ks later)
   where
-    plain_copy : (es : List Entry) (k : Literal) (side v : ℕ) (b : Bool) → name_literal es k ≡ Some (named_literal (CopyOf side v) b) → IsPlain es k
+    plain_copy : (es : List Entry) (k : Literal) (side v : ℕ) (b : Bool) →
+        name_literal es k ≡ Some (named_literal (CopyOf side v) b) → IsPlain es k
     plain_copy es k side v b is =
         let named = named_variable es k (CopyOf side v) b (name_of es (variable_of k)) refl is in
         record { named = subst IsSome (sym named.0) refl; no_selector = ap is_selector_name named.0 }
@@ -252,10 +301,12 @@ switch_off (positive v) h = refl
 switch_off (negative v) h = cc
 
 -- how many fault groups there are stays
-pub few_anew : (f : Dqbf) (old new : ProofLog) → GrewAnew f old new → HasFewFaults old.entries → HasFewFaults new.entries
+pub few_anew : (f : Dqbf) (old new : ProofLog) → GrewAnew f old new → HasFewFaults old.entries →
+    HasFewFaults new.entries
 few_anew f old new grew few =
     let rest = leaves_rest f copies 0 true old new (grew 0 old.entries (λ v none. none)) in
-    subst (λ n. length (fault_groups new.entries) ≤ n) (sym rest.room) (subst (λ (gs : List ℕ). length gs ≤ fault_room old.entries) (sym (rest.faults refl)) few)
+    subst (λ n. length (fault_groups new.entries) ≤ n) (sym rest.room)
+    (subst (λ (gs : List ℕ). length gs ≤ fault_room old.entries) (sym (rest.faults refl)) few)
 
 pub universals_distinct : (f : Dqbf) → HasLawfulPrefix f → AllPairs (λ v w. v ≢ w) f.universals
 universals_distinct f lawful i j d before within =
@@ -263,11 +314,14 @@ universals_distinct f lawful i j d before within =
     let whole = length-append f.universals ys in
     λ same.
     lawful.declared_once i j d before (omega (arith, within, whole))
-    (get_or_append_left f.universals ys d i (omega (arith, before, within)) ∙ same ∙ sym (get_or_append_left f.universals ys d j within))
+    (get_or_append_left f.universals ys d i (omega (arith, before, within)) ∙ same ∙ sym
+    (get_or_append_left f.universals ys d j within))
 
 -- a side: names of the universals, of the existentials, then its group
-module _ (f : Dqbf) (side : ℕ) (old first second : ProofLog) (lawful : HasLawfulPrefix f) (uncopied : AreUncopied side (declared f) old.entries)
-    (first_grew : (h : Dqbf) → GrewAnew h old first) (first_only : NamesCopies side f.universals old.entries first.entries) where
+module _ (f : Dqbf) (side : ℕ) (old first second : ProofLog) (lawful : HasLawfulPrefix f)
+    (uncopied : AreUncopied side (declared f) old.entries)
+    (first_grew : (h : Dqbf) → GrewAnew h old first) (first_only : NamesCopies side f.universals old.entries
+    first.entries) where
   abbrev ys : List ℕ
   ys = existential_variables f
 
@@ -275,7 +329,8 @@ module _ (f : Dqbf) (side : ℕ) (old first second : ProofLog) (lawful : HasLawf
   existentials_distinct i j d before within =
       let whole = length-append f.universals ys in
       λ same.
-      lawful.declared_once (length f.universals + i) (length f.universals + j) d (omega (arith, before)) (omega (arith, within, whole))
+      lawful.declared_once (length f.universals + i) (length f.universals + j) d (omega (arith, before))
+      (omega (arith, within, whole))
       (get_or-append-add f.universals ys i d ∙ same ∙ sym (get_or-append-add f.universals ys j d))
 
   both_declared : (x : ℕ) → Contains f.universals x → Contains ys x → ⊥
@@ -287,29 +342,36 @@ module _ (f : Dqbf) (side : ℕ) (old first second : ProofLog) (lawful : HasLawf
   pub existentials_fresh : AreUncopied side ys first.entries
   existentials_fresh v x among is = elim (first_only.names v (CopyOf side x) is) [
     | inl before ↦ uncopied v x (Contains-append_right f.universals ys x among) before
-    | inr copy ↦ (let e : CopyOf side x ≡ CopyOf side copy.0 = copy.1 in let same : x ≡ copy.0 = cc in both_declared x (subst (Contains f.universals) (sym same) copy.2) among)
+    | inr copy ↦ (let e : CopyOf side x ≡ CopyOf side copy.0 = copy.1 in let same : x ≡ copy.0 = cc in
+        both_declared x (subst (Contains f.universals) (sym same) copy.2) among)
   ]
 
   pub first_adds : Adds f side (is_copy_of side) old first
   first_adds = adds_names f side (is_copy_of side) f.universals old first (first_grew f) first_only
 
-  module _ (second_grew : (h : Dqbf) → GrewAnew h first second) (second_only : NamesCopies side ys first.entries second.entries) where
+  module _ (second_grew : (h : Dqbf) → GrewAnew h first second)
+      (second_only : NamesCopies side ys first.entries second.entries) where
     pub second_adds : Adds f side (is_copy_of side) old second
-    second_adds = adds_then f side (is_copy_of side) old first second first_adds (adds_names f side (is_copy_of side) ys first second (second_grew f) second_only)
+    second_adds = adds_then f side (is_copy_of side) old first second first_adds
+        (adds_names f side (is_copy_of side) ys first second (second_grew f) second_only)
 
     pub second_stay : NamesStay first.entries second.entries
     second_stay = (keeps_anew f first second (second_grew f)).names
 
     second_ungiven : AreUngiven side old.entries → AreUngiven side second.entries
-    second_ungiven ungiven j c inside = ungiven j c (first_only.givens (Copy side j) c (second_only.givens (Copy side j) c inside))
+    second_ungiven ungiven j c inside = ungiven j c (first_only.givens (Copy side j) c
+        (second_only.givens (Copy side j) c inside))
 
-    module _ (third : ProofLog) (g : ℕ) (unnamed : name_of second.entries g ≡ None) (is : third ≡ with_entry second (Named g (Selector g))) where
+    module _ (third : ProofLog) (g : ℕ) (unnamed : name_of second.entries g ≡ None)
+        (is : third ≡ with_entry second (Named g (Selector g))) where
       pub third_adds : Adds f side (is_copy_of side) old third
-      third_adds = adds_then f side (is_copy_of side) old second third second_adds (adds_group f side (is_copy_of side) second third g unnamed is)
+      third_adds = adds_then f side (is_copy_of side) old second third second_adds
+          (adds_group f side (is_copy_of side) second third g unnamed is)
 
       pub third_ungiven : AreUngiven side old.entries → AreUngiven side third.entries
       third_ungiven ungiven = subst (λ (l : ProofLog). AreUngiven side l.entries) (sym is) (λ j c inside.
-          elim (contains_cases (Named g (Selector g)) (Given (Copy side j) c) second.entries inside) [ inl same ↦ cc | inr behind ↦ second_ungiven ungiven j c behind ])
+          elim (contains_cases (Named g (Selector g)) (Given (Copy side j) c) second.entries inside)
+          [ inl same ↦ cc | inr behind ↦ second_ungiven ungiven j c behind ])
 
       pub third_stay : NamesStay second.entries third.entries
       third_stay = (keeps_anew f second third (group_anew f second third g unnamed is)).names
@@ -318,13 +380,17 @@ module _ (f : Dqbf) (side : ℕ) (old first second : ProofLog) (lawful : HasLawf
       third_unnamed = unnamed_back old.entries second.entries (keeps_anew f old second second_adds.grew).names g unnamed
 
       pub third_own : AreLogged second.entries → Each (IsGroupGiven f (is_copy_of side) g) third.entries
-      third_own logged = subst (λ (l : ProofLog). Each (IsGroupGiven f (is_copy_of side) g) l.entries) (sym is) (tt, fresh_group f (is_copy_of side) g second.entries logged unnamed)
+      third_own logged = subst (λ (l : ProofLog). Each (IsGroupGiven f (is_copy_of side) g) l.entries) (sym is)
+          (tt, fresh_group f (is_copy_of side) g second.entries logged unnamed)
 
       pub third_few : HasFewFaults old.entries → HasFewFaults third.entries
       third_few few = few_anew f old third third_adds.grew few
 
-pub matrix_given : (f : Dqbf) (side : ℕ) (copy : MatrixCopy) (old new : ProofLog) → IsMade old.entries copy.group → AreCopiesOf old.entries side f.universals copy.universals.items →
-    AreCopiesOf old.entries side (existential_variables f) copy.existentials.items → AreGivenSoFar f side (group_variable copy.group) (length f.matrix) old new → IsMatrixCopy f side copy new.entries
+pub matrix_given : (f : Dqbf) (side : ℕ) (copy : MatrixCopy) (old new : ProofLog) → IsMade old.entries copy.group →
+    AreCopiesOf old.entries side f.universals copy.universals.items →
+    AreCopiesOf old.entries side (existential_variables f) copy.existentials.items →
+    AreGivenSoFar f side (group_variable copy.group) (length f.matrix) old new →
+    IsMatrixCopy f side copy new.entries
 matrix_given f side copy old new made us es given =
     let stay : NamesStay old.entries new.entries = λ v n is. given.names v ∙ is in
     record {

@@ -24,7 +24,8 @@ use Rattle.padoa_definitions.proofs.KeptCopies.{Keeps, IsNamed, contains_first, 
 use Rattle.padoa_definitions.proofs.CopiedVariables.{opposite_name, copy_at}
 use Rattle.padoa_definitions.proofs.GivenClauses.{in_same, in_then, in_by, few_more, right_clause, switch_off, unnamed_back, adds_same, adds_then}
 
-pub none_equated : (f : Dqbf) (x g : ℕ) (log : ProofLog) → HasFewFaults log.entries → Each (IsGroupGiven f (is_link_of x) g) log.entries → IsUnlinked x log.entries → AreEquated f x g 0 log log
+pub none_equated : (f : Dqbf) (x g : ℕ) (log : ProofLog) → HasFewFaults log.entries →
+    Each (IsGroupGiven f (is_link_of x) g) log.entries → IsUnlinked x log.entries → AreEquated f x g 0 log log
 none_equated f x g log few own unlinked = record {
   grew = in_same f g log log refl;
   names = λ v. refl;
@@ -35,15 +36,20 @@ none_equated f x g log few own unlinked = record {
   given = λ i low high. absurd (omega (arith, low, high));
 }
 
-pub part_more : (f : Dqbf) (x g parts : ℕ) (old log new : ProofLog) (rest : List Literal) → (parts + 1 ≡ 1) ⊎ (parts + 1 ≡ 2) → name_of log.entries g ≡ Some (Selector g) →
-    AreEquated f x g parts old log → AreNamedAs log.entries rest (link_names x (parts + 1)) → new ≡ with_entry log (Given (Link x (parts + 1)) (negative g ∷ rest)) →
+pub part_more : (f : Dqbf) (x g parts : ℕ) (old log new : ProofLog) (rest : List Literal) →
+    (parts + 1 ≡ 1) ⊎ (parts + 1 ≡ 2) → name_of log.entries g ≡ Some (Selector g) →
+    AreEquated f x g parts old log → AreNamedAs log.entries rest (link_names x (parts + 1)) →
+    new ≡ with_entry log (Given (Link x (parts + 1)) (negative g ∷ rest)) →
     AreEquated f x g (parts + 1) old new
 part_more f x g parts old log new rest which is_group before named is =
     subst (λ (l : ProofLog). AreEquated f x g (parts + 1) old l) (sym is) (record {
       grew = in_then f g old log more before.grew (in_by f log g origin rest refl is_group rest_is first before.few);
       names = before.names;
       few = few_more f log g origin rest refl is_group rest_is first before.few;
-      own = (λ inside. (eq-eqb x x refl, right_clause f log g origin rest refl is_group rest_is first before.few), before.own);
+      own = (
+        λ inside. (eq-eqb x x refl, right_clause f log g origin rest refl is_group rest_is first before.few),
+        before.own,
+      );
       givens = λ o c inside. elim (contains_cases e (Given o c) log.entries inside) [
         | inl same ↦ (let o_is : origin ≡ o = cc in inr (ap (is_link_of x) (sym o_is) ∙ eq-eqb x x refl))
         | inr behind ↦ before.givens o c behind
@@ -53,10 +59,12 @@ part_more f x g parts old log new rest which is_group before named is =
         | inr behind ↦ before.later i c (omega (arith, less)) behind
       ];
       given = λ i low high. elim (cases_lt i (parts + 1)) [
-        | inl earlier ↦ given_stays f (λ mine. ⊥) log.entries more.entries keeps g (Link x i) (link_names x i) (before.given i low (omega (arith, earlier)))
+        | inl earlier ↦ given_stays f (λ mine. ⊥) log.entries more.entries keeps g (Link x i) (link_names x i)
+            (before.given i low (omega (arith, earlier)))
         | inr late ↦ (
             let same : i ≡ parts + 1 = omega (arith, high, late) in
-            subst (λ k. IsGivenIn more.entries g (Link x k) (link_names x k)) (sym same) (record { rest = rest; given = contains_first e log.entries; named = named }))
+            subst (λ k. IsGivenIn more.entries g (Link x k) (link_names x k)) (sym same)
+            (record { rest = rest; given = contains_first e log.entries; named = named }))
       ];
     })
   where
@@ -76,9 +84,15 @@ part_more f x g parts old log new rest which is_group before named is =
     first c inside = before.later (parts + 1) c (omega arith) inside
 
     keeps : Keeps f (λ mine. ⊥) log.entries more.entries
-    keeps = record { names = λ v n is. is; contains = λ x. contains_later e x log.entries; groups = λ test mine apart own. absurd apart }
+    keeps = record {
+      names = λ v n is. is;
+      contains = λ x. contains_later e x log.entries;
+      groups =
+          λ test mine apart own. absurd apart;
+    }
 
-pub both_equated : (f : Dqbf) (x : ℕ) (group : Group) (old new : ProofLog) → IsMade old.entries group → AreEquated f x (group_variable group) 2 old new → IsLink f x group new.entries
+pub both_equated : (f : Dqbf) (x : ℕ) (group : Group) (old new : ProofLog) → IsMade old.entries group →
+    AreEquated f x (group_variable group) 2 old new → IsLink f x group new.entries
 both_equated f x group old new made both = record {
   made = made_stays old.entries new.entries (λ v n is. both.names v ∙ is) group made;
   own = both.own;
@@ -105,7 +119,8 @@ adds_any f x old new adds = record {
   givens = λ o c inside. elim (adds.givens o c inside) [ inl before ↦ inl before | inr link ↦ inr (any_link x o link) ];
 }
 
-pub none_linked : (f : Dqbf) (log : ProofLog) (groups : List Group) → groups ≡ [] → ((x : ℕ) → IsUnlinked x log.entries) → AreLinkedSoFar f 0 log log groups
+pub none_linked : (f : Dqbf) (log : ProofLog) (groups : List Group) → groups ≡ [] →
+    ((x : ℕ) → IsUnlinked x log.entries) → AreLinkedSoFar f 0 log log groups
 none_linked f log groups empty unlinked = record {
   adds = adds_same f 0 is_any_link log log refl;
   as_many = ap length empty;
@@ -115,14 +130,18 @@ none_linked f log groups empty unlinked = record {
 }
 
 -- the last element of a longer list, or one of those before
-push_cases : (gs : List Group) (g h : Group) (k : ℕ) → slice_get (gs ++ g ∷ []) k ≡ Some h → ((k ≡ length gs) × (g ≡ h)) ⊎ (slice_get gs k ≡ Some h)
+push_cases : (gs : List Group) (g h : Group) (k : ℕ) → slice_get (gs ++ g ∷ []) k ≡ Some h →
+    ((k ≡ length gs) × (g ≡ h)) ⊎ (slice_get gs k ≡ Some h)
 push_cases [] g h zero at = inl (refl, cc)
 push_cases [] g h (suc k) at = cc
 push_cases (x ∷ gs) g h zero at = inr at
-push_cases (x ∷ gs) g h (suc k) at = elim (push_cases gs g h k at) [ inl last ↦ inl (ap suc last.0, last.1) | inr early ↦ inr early ]
+push_cases (x ∷ gs) g h (suc k) at = elim (push_cases gs g h k at)
+    [ inl last ↦ inl (ap suc last.0, last.1) | inr early ↦ inr early ]
 
-pub link_more : (f : Dqbf) (i x : ℕ) (old log new : ProofLog) (groups more : List Group) (g : Group) → AllPairs (λ a b. a ≢ b) (declared f) → slice_get (declared f) i ≡ Some x →
-    AreLinkedSoFar f i old log groups → Adds f 0 (is_link_of x) log new → IsLink f x g new.entries → name_of log.entries (group_variable g) ≡ None → more ≡ groups ++ g ∷ [] →
+pub link_more : (f : Dqbf) (i x : ℕ) (old log new : ProofLog) (groups more : List Group) (g : Group) →
+    AllPairs (λ a b. a ≢ b) (declared f) → slice_get (declared f) i ≡ Some x →
+    AreLinkedSoFar f i old log groups → Adds f 0 (is_link_of x) log new → IsLink f x g new.entries →
+    name_of log.entries (group_variable g) ≡ None → more ≡ groups ++ g ∷ [] →
     AreLinkedSoFar f (i + 1) old new more
 link_more f i x old log new groups more g distinct x_at before adds link unnamed pushed =
     subst (AreLinkedSoFar f (i + 1) old new) (sym pushed) (record {
@@ -134,14 +153,19 @@ link_more f i x old log new groups more g distinct x_at before adds link unnamed
       ];
       links = λ k y h y_at h_at. elim (push_cases groups g h k h_at) [
         | inl last ↦ (
-            let here : slice_get (declared f) i ≡ Some y = ap (slice_get (declared f)) (sym (last.0 ∙ before.as_many)) ∙ y_at in
+            let here : slice_get (declared f) i ≡ Some y = ap (slice_get (declared f)) (sym (last.0 ∙ before.as_many))
+            ∙ y_at in
             let both : Some x ≡ Some y = sym x_at ∙ here in
             let x_is : x ≡ y = cc in
             subst (λ z. IsLink f z h new.entries) x_is (subst (λ z. IsLink f x z new.entries) last.1 link))
-        | inr early ↦ (let old_link = before.links k y h y_at early in link_stays f (IsNamed log.entries) log.entries new.entries keeps y h (Selector (group_variable h), old_link.made.named) old_link)
+        | inr early ↦ (let old_link = before.links k y h y_at early in
+            link_stays f (IsNamed log.entries) log.entries new.entries keeps y h
+            (Selector (group_variable h), old_link.made.named) old_link)
       ];
       fresh = λ k h h_at. elim (push_cases groups g h k h_at) [
-        | inl last ↦ subst (λ z. name_of old.entries (group_variable z) ≡ None) last.1 (unnamed_back old.entries log.entries (keeps_anew f old log before.adds.grew).names (group_variable g) unnamed)
+        | inl last ↦ subst (λ z. name_of old.entries (group_variable z) ≡ None) last.1
+            (unnamed_back old.entries log.entries (keeps_anew f old log before.adds.grew).names
+            (group_variable g) unnamed)
         | inr early ↦ before.fresh k h early
       ];
     })
@@ -154,16 +178,20 @@ link_more f i x old log new groups more g distinct x_at before adds link unnamed
         distinct i k x (omega (arith, le)) (slice_get_within (declared f) k y y_at)
         (get_or_from_slice_get (declared f) i x x x_at ∙ same ∙ sym (get_or_from_slice_get (declared f) k y x y_at))
 
-pair_named : (es : List Entry) (a b : Literal) (m n : NamedLiteral) → name_literal es a ≡ Some m → name_literal es b ≡ Some n → AreNamedAs es (a ∷ b ∷ []) (m ∷ n ∷ [])
+pair_named : (es : List Entry) (a b : Literal) (m n : NamedLiteral) → name_literal es a ≡ Some m →
+    name_literal es b ≡ Some n → AreNamedAs es (a ∷ b ∷ []) (m ∷ n ∷ [])
 pair_named es a b m n a_is b_is = ap (λ o. o ∷ name_literal es b ∷ []) a_is ∙ ap (λ o. Some m ∷ o ∷ []) b_is
 
 module _ (f : Dqbf) (x : ℕ) (group : Group) (one other : Literal) (old : ProofLog) (made : IsMade old.entries group)
-    (one_is : name_literal old.entries one ≡ Some (named_literal (CopyOf 1 x) false)) (other_is : name_literal old.entries other ≡ Some (named_literal (CopyOf 2 x) false))
-    (few : HasFewFaults old.entries) (unlinked : IsUnlinked x old.entries) (own : Each (IsGroupGiven f (is_link_of x) (group_variable group)) old.entries) where
+    (one_is : name_literal old.entries one ≡ Some (named_literal (CopyOf 1 x) false))
+    (other_is : name_literal old.entries other ≡ Some (named_literal (CopyOf 2 x) false))
+    (few : HasFewFaults old.entries) (unlinked : IsUnlinked x old.entries)
+    (own : Each (IsGroupGiven f (is_link_of x) (group_variable group)) old.entries) where
   pub none_yet : AreEquated f x (group_variable group) 0 old old
   none_yet = none_equated f x (group_variable group) old few own unlinked
 
-  pub first_part : (k : Literal) (new : ProofLog) → k ≡ opposite one → new ≡ with_entry old (Given (Link x 1) (opposite group.selector ∷ k ∷ other ∷ [])) →
+  pub first_part : (k : Literal) (new : ProofLog) → k ≡ opposite one →
+      new ≡ with_entry old (Given (Link x 1) (opposite group.selector ∷ k ∷ other ∷ [])) →
       AreEquated f x (group_variable group) 1 old new
   first_part k new k_is is =
       part_more f x (group_variable group) 0 old old new (k ∷ other ∷ []) (inl refl) made.named none_yet
@@ -171,25 +199,36 @@ module _ (f : Dqbf) (x : ℕ) (group : Group) (one other : Literal) (old : Proof
       (ap (name_literal old.entries) k_is ∙ opposite_name old.entries one (CopyOf 1 x) one_is) other_is)
       (is ∙ ap (λ s. with_entry old (Given (Link x 1) (s ∷ k ∷ other ∷ []))) (switch_off group.selector made.positive))
 
-  pub second_part : (k : Literal) (log new : ProofLog) → AreEquated f x (group_variable group) 1 old log → k ≡ opposite other →
-      new ≡ with_entry log (Given (Link x 2) (opposite group.selector ∷ one ∷ k ∷ [])) → AreEquated f x (group_variable group) 2 old new
+  pub second_part : (k : Literal) (log new : ProofLog) → AreEquated f x (group_variable group) 1 old log →
+      k ≡ opposite other →
+      new ≡ with_entry log (Given (Link x 2) (opposite group.selector ∷ one ∷ k ∷ [])) →
+      AreEquated f x (group_variable group) 2 old new
   second_part k log new before k_is is =
-      part_more f x (group_variable group) 1 old log new (one ∷ k ∷ []) (inr refl) (before.names (group_variable group) ∙ made.named) before
-      (pair_named log.entries one k (named_literal (CopyOf 1 x) false) (named_literal (CopyOf 2 x) true) (there one false (CopyOf 1 x) one_is)
-      (ap (name_literal log.entries) k_is ∙ opposite_name log.entries other (CopyOf 2 x) (there other false (CopyOf 2 x) other_is)))
+      part_more f x (group_variable group) 1 old log new (one ∷ k ∷ []) (inr refl)
+      (before.names (group_variable group) ∙ made.named) before
+      (pair_named log.entries one k (named_literal (CopyOf 1 x) false) (named_literal (CopyOf 2 x) true)
+      (there one false (CopyOf 1 x) one_is)
+      (ap (name_literal log.entries) k_is ∙ opposite_name log.entries other (CopyOf 2 x)
+      (there other false (CopyOf 2 x) other_is)))
       (is ∙ ap (λ s. with_entry log (Given (Link x 2) (s ∷ one ∷ k ∷ []))) (switch_off group.selector made.positive))
     where
-      there : (l : Literal) (b : Bool) (n : Name) → name_literal old.entries l ≡ Some (named_literal n b) → name_literal log.entries l ≡ Some (named_literal n b)
+      there : (l : Literal) (b : Bool) (n : Name) → name_literal old.entries l ≡ Some (named_literal n b) →
+          name_literal log.entries l ≡ Some (named_literal n b)
       there l b n h = ap (option_map (λ m. named_literal m (is_negative l))) (before.names (variable_of l)) ∙ h
 
-pub unlinked_still : (x g : ℕ) (old new : ProofLog) → new ≡ with_entry old (Named g (Selector g)) → IsUnlinked x old.entries → IsUnlinked x new.entries
+pub unlinked_still : (x g : ℕ) (old new : ProofLog) → new ≡ with_entry old (Named g (Selector g)) →
+    IsUnlinked x old.entries → IsUnlinked x new.entries
 unlinked_still x g old new is unlinked = subst (λ (l : ProofLog). IsUnlinked x l.entries) (sym is) (λ i c inside.
-    elim (contains_cases (Named g (Selector g)) (Given (Link x i) c) old.entries inside) [ inl same ↦ cc | inr behind ↦ unlinked i c behind ])
+    elim (contains_cases (Named g (Selector g)) (Given (Link x i) c) old.entries inside)
+    [ inl same ↦ cc | inr behind ↦ unlinked i c behind ])
 
 -- the copy at a place, later in the log
-pub copy_there : (old new : List Entry) → NamesStay old new → (side : ℕ) (us : List ℕ) (lits : List Literal) (i x : ℕ) (l : Literal) → AreCopiesOf old side us lits →
-    slice_get us i ≡ Some x → slice_get lits i ≡ Some l → name_literal new l ≡ Some (named_literal (CopyOf side x) false)
-copy_there old new stay side us lits i x l are at is = copy_at new side us lits i x l (named_stay old new stay lits (map (λ v. named_literal (CopyOf side v) false) us) are) at is
+pub copy_there : (old new : List Entry) → NamesStay old new →
+    (side : ℕ) (us : List ℕ) (lits : List Literal) (i x : ℕ) (l : Literal) → AreCopiesOf old side us lits →
+    slice_get us i ≡ Some x → slice_get lits i ≡ Some l → name_literal new l ≡ Some
+    (named_literal (CopyOf side x) false)
+copy_there old new stay side us lits i x l are at is = copy_at new side us lits i x l
+    (named_stay old new stay lits (map (λ v. named_literal (CopyOf side v) false) us) are) at is
 
 pub all_linked : (f : Dqbf) (n i : ℕ) → n ≡ length (declared f) → n ≤ i → i ≤ n → i ≡ length (declared f)
 all_linked f n i same all few = omega (arith, same, all, few)

@@ -21,7 +21,8 @@ use Rattle.padoa_definitions.proofs.GivenClauses.{few_anew, anew_then, unnamed_b
 named_contains : (es : List Entry) (v : ℕ) (n : Name) → name_of es v ≡ Some n → Contains es (Named v n)
 named_contains [] v n is = cc
 named_contains (Named w m ∷ es) v n is = by (v == w) refl (named_contains es v n) is where
-  by : (b : Bool) → (v == w) ≡ b → (name_of es v ≡ Some n → Contains es (Named v n)) → cond b (Some m) (name_of es v) ≡ Some n → Contains (Named w m ∷ es) (Named v n)
+  by : (b : Bool) → (v == w) ≡ b → (name_of es v ≡ Some n → Contains es (Named v n)) →
+      cond b (Some m) (name_of es v) ≡ Some n → Contains (Named w m ∷ es) (Named v n)
   by true e later is =
       let same : m ≡ n = cc in
       let here : Named w m ≡ Named v n = ap (λ x. Named x m) (sym (eqb-true v w e)) ∙ ap (Named v) same in
@@ -34,19 +35,24 @@ named_contains (Round r b j ∷ es) v n is = contains_later (Round r b j) (Named
 named_contains (Begun live ∷ es) v n is = contains_later (Begun live) (Named v n) es (named_contains es v n is)
 
 pub uncopied_yet : (side : ℕ) (vars : List ℕ) (es : List Entry) → HasNone copies es → AreUncopied side vars es
-uncopied_yet side vars es none v x among is = none (Named v (CopyOf side x)) refl (named_contains es v (CopyOf side x) is)
+uncopied_yet side vars es none v x among is = none (Named v (CopyOf side x)) refl
+    (named_contains es v (CopyOf side x) is)
 
 pub ungiven_yet : (side : ℕ) (es : List Entry) → HasNone copies es → AreUngiven side es
 ungiven_yet side es none j c inside = none (Given (Copy side j) c) refl inside
 
-grew_all : (f : Dqbf) (old new : ProofLog) → GrewAnew f old new → (group : ℕ) → Grew (IsAddedBy f copies group true old.entries) old new
+grew_all : (f : Dqbf) (old new : ProofLog) → GrewAnew f old new → (group : ℕ) →
+    Grew (IsAddedBy f copies group true old.entries) old new
 grew_all f old new grew group = grew group old.entries (λ v none. none)
 
-pub all_groups : (P : ℕ → Type 0) (gs : List Group) → ((k : ℕ) (g : Group) → slice_get gs k ≡ Some g → P (group_variable g)) → All P (map group_variable gs)
+pub all_groups : (P : ℕ → Type 0) (gs : List Group) → ((k : ℕ) (g : Group) → slice_get gs k ≡ Some g →
+    P (group_variable g)) → All P (map group_variable gs)
 all_groups P [] each = All-nil P
-all_groups P (g ∷ gs) each = All-cons P (group_variable g) (map group_variable gs) (each 0 g refl) (all_groups P gs (λ k h at. each (suc k) h at))
+all_groups P (g ∷ gs) each = All-cons P (group_variable g) (map group_variable gs) (each 0 g refl)
+    (all_groups P gs (λ k h at. each (suc k) h at))
 
-module _ (f : Dqbf) (old first : ProofLog) (none : HasNone copies old.entries) (few : HasFewFaults old.entries) (first_adds : Adds f 1 (is_copy_of 1) old first) where
+module _ (f : Dqbf) (old first : ProofLog) (none : HasNone copies old.entries) (few : HasFewFaults old.entries)
+    (first_adds : Adds f 1 (is_copy_of 1) old first) where
   pub first_grew : (group : ℕ) → Grew (IsAddedBy f copies group true old.entries) old first
   first_grew = grew_all f old first first_adds.grew
 
@@ -60,7 +66,8 @@ module _ (f : Dqbf) (old first : ProofLog) (none : HasNone copies old.entries) (
   ]
 
   pub second_ungiven : AreUngiven 2 first.entries
-  second_ungiven j c inside = elim (first_adds.givens (Copy 2 j) c inside) [ inl before ↦ ungiven_yet 2 old.entries none j c before | inr same ↦ cc ]
+  second_ungiven j c inside = elim (first_adds.givens (Copy 2 j) c inside)
+      [ inl before ↦ ungiven_yet 2 old.entries none j c before | inr same ↦ cc ]
 
   module _ (second : ProofLog) (second_adds : Adds f 2 (is_copy_of 2) first second) where
     second_anew : GrewAnew f old second
@@ -74,7 +81,8 @@ module _ (f : Dqbf) (old first : ProofLog) (none : HasNone copies old.entries) (
 
     pub unlinked_yet : (x : ℕ) → IsUnlinked x second.entries
     unlinked_yet x i c inside = elim (second_adds.givens (Link x i) c inside) [
-      | inl middle ↦ elim (first_adds.givens (Link x i) c middle) [ inl before ↦ none (Given (Link x i) c) refl before | inr same ↦ cc ]
+      | inl middle ↦ elim (first_adds.givens (Link x i) c middle)
+          [ inl before ↦ none (Given (Link x i) c) refl before | inr same ↦ cc ]
       | inr same ↦ cc
     ]
 
@@ -85,21 +93,26 @@ module _ (f : Dqbf) (old first : ProofLog) (none : HasNone copies old.entries) (
       pub third_grew : (group : ℕ) → Grew (IsAddedBy f copies group true old.entries) old third
       third_grew = grew_all f old third third_anew
 
-      module _ (p : Padoa) (first_copy : IsMatrixCopy f 1 p.first first.entries) (second_copy : IsMatrixCopy f 2 p.second second.entries)
+      module _ (p : Padoa) (first_copy : IsMatrixCopy f 1 p.first first.entries)
+          (second_copy : IsMatrixCopy f 2 p.second second.entries)
           (linked : AreLinkedSoFar f (length (declared f)) second third p.links.items) where
         pub padoa_made : IsPadoa f p third.entries
         padoa_made =
             let one = keeps_anew f first second second_adds.grew in
             let two = keeps_anew f second third third_adds.grew in
-            let middle = matrix_stays f (IsNamed first.entries) first.entries second.entries one 1 p.first (Selector (group_variable p.first.group), first_copy.made.named) first_copy in
+            let middle = matrix_stays f (IsNamed first.entries) first.entries second.entries one 1 p.first
+            (Selector (group_variable p.first.group), first_copy.made.named) first_copy in
             record {
-              first = matrix_stays f (IsNamed second.entries) second.entries third.entries two 1 p.first (Selector (group_variable p.first.group), middle.made.named) middle;
-              second = matrix_stays f (IsNamed second.entries) second.entries third.entries two 2 p.second (Selector (group_variable p.second.group), second_copy.made.named) second_copy;
+              first = matrix_stays f (IsNamed second.entries) second.entries third.entries two 1 p.first
+                  (Selector (group_variable p.first.group), middle.made.named) middle;
+              second = matrix_stays f (IsNamed second.entries) second.entries third.entries two 2 p.second
+                  (Selector (group_variable p.second.group), second_copy.made.named) second_copy;
               as_many = linked.as_many;
               links = linked.links;
             }
 
-        pub groups_fresh : name_of old.entries (group_variable p.first.group) ≡ None → name_of first.entries (group_variable p.second.group) ≡ None →
+        pub groups_fresh : name_of old.entries (group_variable p.first.group) ≡ None →
+            name_of first.entries (group_variable p.second.group) ≡ None →
             All (λ g. name_of old.entries g ≡ None) (groups_of p)
         groups_fresh one two =
             let P : ℕ → Type 0 = λ g. name_of old.entries g ≡ None in
@@ -107,5 +120,7 @@ module _ (f : Dqbf) (old first : ProofLog) (none : HasNone copies old.entries) (
             let b = group_variable p.second.group in
             let links = map group_variable p.links.items in
             All-cons P a (b ∷ links) one
-            (All-cons P b links (unnamed_back old.entries first.entries (keeps_anew f old first first_adds.grew).names b two)
-            (all_groups P p.links.items (λ k g at. unnamed_back old.entries second.entries (keeps_anew f old second second_anew).names (group_variable g) (linked.fresh k g at))))
+            (All-cons P b links (unnamed_back old.entries first.entries
+            (keeps_anew f old first first_adds.grew).names b two)
+            (all_groups P p.links.items (λ k g at. unnamed_back old.entries second.entries
+            (keeps_anew f old second second_anew).names (group_variable g) (linked.fresh k g at))))

@@ -30,7 +30,8 @@ use Rattle.padoa_definitions.proofs.Reached.{LinesAreImplied, undecided_answer}
 use Rattle.padoa_definitions.proofs.DividedAnswers.{divides, only_copies}
 use Rattle.definition_order.proofs.Declared.{find_sound, some_existential}
 
-learned_is_added : (f : Dqbf) (group : ℕ) (silent : Bool) (old earlier : List Entry) (e : Entry) → IsLearnedEntry earlier e → IsAddedBy f copies group silent old earlier e
+learned_is_added : (f : Dqbf) (group : ℕ) (silent : Bool) (old earlier : List Entry) (e : Entry) →
+    IsLearnedEntry earlier e → IsAddedBy f copies group silent old earlier e
 learned_is_added f group silent old earlier (Named v n) h = absurd h
 learned_is_added f group silent old earlier (Given origin c) h = absurd h
 learned_is_added f group silent old earlier (Learned c hints) h = tt
@@ -39,18 +40,21 @@ learned_is_added f group silent old earlier (Round row values j) h = absurd h
 learned_is_added f group silent old earlier (Begun live) h = absurd h
 
 -- a search that logs no answer
-pub learned_grew : (f : Dqbf) (old new : ProofLog) → Grew IsLearnedEntry old new → (group : ℕ) → Grew (IsAddedBy f copies group true old.entries) old new
+pub learned_grew : (f : Dqbf) (old new : ProofLog) → Grew IsLearnedEntry old new → (group : ℕ) →
+    Grew (IsAddedBy f copies group true old.entries) old new
 learned_grew f old new g group = record {
   more = g.more;
   grown = g.grown;
-  each = each_of_weaker IsLearnedEntry (IsAddedBy f copies group true old.entries) (learned_is_added f group true old.entries) g.more old.entries g.each;
+  each = each_of_weaker IsLearnedEntry (IsAddedBy f copies group true old.entries)
+      (learned_is_added f group true old.entries) g.more old.entries g.each;
   limit = g.limit;
 }
 
 next_differs : (n : ℕ) → n ≢ n + 1
 next_differs n e = omega (arith, e)
 
-keeps_learned : (f : Dqbf) (old new : ProofLog) → Grew IsLearnedEntry old new → Keeps f (IsNamed old.entries) old.entries new.entries
+keeps_learned : (f : Dqbf) (old new : ProofLog) → Grew IsLearnedEntry old new →
+    Keeps f (IsNamed old.entries) old.entries new.entries
 keeps_learned f old new grew =
     let by = λ (group : ℕ). keeps_by_engine f copies group true old new (learned_grew f old new grew group) in
     record {
@@ -62,8 +66,10 @@ keeps_learned f old new grew =
 pub names_learned : (old new : ProofLog) → Dqbf → Grew IsLearnedEntry old new → NamesStay old.entries new.entries
 names_learned old new f grew = (keeps_learned f old new grew).names
 
-pub padoa_learned : (f : Dqbf) (p : Padoa) (old new : ProofLog) → Grew IsLearnedEntry old new → IsPadoa f p old.entries → IsPadoa f p new.entries
-padoa_learned f p old new grew padoa = padoa_stays f (IsNamed old.entries) old.entries new.entries (keeps_learned f old new grew) p (groups_named f p old.entries padoa) padoa
+pub padoa_learned : (f : Dqbf) (p : Padoa) (old new : ProofLog) → Grew IsLearnedEntry old new →
+    IsPadoa f p old.entries → IsPadoa f p new.entries
+padoa_learned f p old new grew padoa = padoa_stays f (IsNamed old.entries) old.entries new.entries
+    (keeps_learned f old new grew) p (groups_named f p old.entries padoa) padoa
 
 all_plain : (xs : List ℕ) → All (λ x. Unit {0}) xs
 all_plain xs i d lt = tt
@@ -71,10 +77,13 @@ all_plain xs i d lt = tt
 pub places_below : (places : List ℕ) (n m : ℕ) → n ≡ m → All (λ k. k < m) places → All (λ k. k < n) places
 places_below places n m same within = subst (λ b. All (λ k. k < b) places) (sym same) within
 
-pub active_made : (f : Dqbf) (p : Padoa) (es : List Entry) (places : List ℕ) (active : List Group) → IsPadoa f p es → AreActive p places active → All (IsMade es) active
+pub active_made : (f : Dqbf) (p : Padoa) (es : List Entry) (places : List ℕ) (active : List Group) → IsPadoa f p es →
+    AreActive p places active → All (IsMade es) active
 active_made f p es places active padoa are =
-    subst (All (IsMade es)) (sym are.active_is) (All-cons (IsMade es) p.first.group (p.second.group ∷ are.links) padoa.first.made
-    (All-cons (IsMade es) p.second.group are.links padoa.second.made (all_links are.links (λ g among. made g (are.sound g among)))))
+    subst (All (IsMade es)) (sym are.active_is) (All-cons (IsMade es) p.first.group
+    (p.second.group ∷ are.links) padoa.first.made
+    (All-cons (IsMade es) p.second.group are.links padoa.second.made
+    (all_links are.links (λ g among. made g (are.sound g among)))))
   where
     all_links : (gs : List Group) → ((g : Group) → Contains gs g → IsMade es g) → All (IsMade es) gs
     all_links gs each k d lt = each (get_or gs k d) (Contains-get_or gs k d lt)
@@ -87,7 +96,8 @@ active_made f p es places active padoa are =
         (padoa.links r.0 (get_or (declared f) r.0 0) g x_is r.2).made
 
 -- a search that ends with an answer, whatever was assumed
-module _ (f : Dqbf) (p : Padoa) (assumptions : List Literal) (old new : ProofLog) (id : ℕ) (padoa : IsPadoa f p old.entries) (r : IsRefutedUnder old new assumptions id) where
+module _ (f : Dqbf) (p : Padoa) (assumptions : List Literal) (old new : ProofLog) (id : ℕ)
+    (padoa : IsPadoa f p old.entries) (r : IsRefutedUnder old new assumptions id) where
   abbrev answer : Entry
   answer = Answer r.clause r.hints
 
@@ -99,7 +109,8 @@ module _ (f : Dqbf) (p : Padoa) (assumptions : List Literal) (old new : ProofLog
 
   pub padoa_answered : IsPadoa f p (Answer r.clause r.hints ∷ r.before.entries)
   padoa_answered =
-      padoa_stays f (λ mine. Unit {0}) r.before.entries (answer ∷ r.before.entries) (keeps_entry f answer r.before.entries (λ w n named. named) (λ test mine. tt)) p (all_plain (groups_of p))
+      padoa_stays f (λ mine. Unit {0}) r.before.entries (answer ∷ r.before.entries)
+      (keeps_entry f answer r.before.entries (λ w n named. named) (λ test mine. tt)) p (all_plain (groups_of p))
       (padoa_learned f p old r.before r.learned padoa)
 
   pub padoa_refuted : IsPadoa f p new.entries
@@ -108,7 +119,8 @@ module _ (f : Dqbf) (p : Padoa) (assumptions : List Literal) (old new : ProofLog
   pub names_answered : NamesStay old.entries (Answer r.clause r.hints ∷ r.before.entries)
   names_answered = names_learned old r.before f r.learned
 
-  pub silent_grew : DecidesNothing f r.before.entries (Answer r.clause r.hints) → (group : ℕ) → Grew (IsAddedBy f copies group true old.entries) old new
+  pub silent_grew : DecidesNothing f r.before.entries (Answer r.clause r.hints) → (group : ℕ) →
+      Grew (IsAddedBy f copies group true old.entries) old new
   silent_grew undecided group =
       let g = learned_grew f old r.before r.learned group in
       record {
@@ -120,11 +132,16 @@ module _ (f : Dqbf) (p : Padoa) (assumptions : List Literal) (old new : ProofLog
 
 -- a search in both copies that ends with an answer
 module _ (implied : LinesAreImplied)
-    (stays : (e : Entry) (entries : List Entry) (id : ℕ) → IsId entries id → numbered has_id (e ∷ entries) id ≡ numbered has_id entries id)
-    (are_ids : (entries : List Entry) (id i : ℕ) → AreLogged entries → IsId entries id → Reaches entries id i → IsId entries i)
-    (f : Dqbf) (places : List ℕ) (v : ℕ) (conditions : List Literal) (p : Padoa) (active : List Group) (asked : Asked) (old new : ProofLog) (id : ℕ)
-    (padoa : IsPadoa f p old.entries) (within : All (λ k. k < length (declared f)) places) (are_active : AreActive p places active) (are : IsAsked old.entries v conditions asked)
-    (searched : IsSearched new.entries) (r : IsRefutedUnder old new (assumed active (asked.first.items ++ asked.second.items)) id) where
+    (stays : (e : Entry) (entries : List Entry) (id : ℕ) → IsId entries id →
+    numbered has_id (e ∷ entries) id ≡ numbered has_id entries id)
+    (are_ids : (entries : List Entry) (id i : ℕ) → AreLogged entries → IsId entries id → Reaches entries id i →
+    IsId entries i)
+    (f : Dqbf) (places : List ℕ) (v : ℕ) (conditions : List Literal) (p : Padoa) (active : List Group) (asked : Asked)
+    (old new : ProofLog) (id : ℕ)
+    (padoa : IsPadoa f p old.entries) (within : All (λ k. k < length (declared f)) places)
+    (are_active : AreActive p places active) (are : IsAsked old.entries v conditions asked)
+    (searched : IsSearched new.entries) (r : IsRefutedUnder old new
+    (assumed active (asked.first.items ++ asked.second.items)) id) where
   abbrev under : List Literal
   under = assumed active (asked.first.items ++ asked.second.items)
 
@@ -135,18 +152,23 @@ module _ (implied : LinesAreImplied)
   searched_there = subst IsSearched (answered f p under old new id padoa r) searched
 
   first_there : AreNamedAs all asked.first.items (copy_names 1 (asked_of conditions (positive v)))
-  first_there = named_stay old.entries all (names_answered f p under old new id padoa r) asked.first.items (copy_names 1 (asked_of conditions (positive v))) are.first
+  first_there = named_stay old.entries all (names_answered f p under old new id padoa r) asked.first.items
+      (copy_names 1 (asked_of conditions (positive v))) are.first
 
   second_there : AreNamedAs all asked.second.items (copy_names 2 (asked_of conditions (negative v)))
-  second_there = named_stay old.entries all (names_answered f p under old new id padoa r) asked.second.items (copy_names 2 (asked_of conditions (negative v))) are.second
+  second_there = named_stay old.entries all (names_answered f p under old new id padoa r) asked.second.items
+      (copy_names 2 (asked_of conditions (negative v))) are.second
 
   pub shows : ShowsDefinition f places v conditions p asked.first.items new.entries id
   shows =
-      subst (λ es. ShowsDefinition f places v conditions p asked.first.items es id) (sym (answered f p under old new id padoa r))
-      (subst (ShowsDefinition f places v conditions p asked.first.items all) (sym (answer_last f p under old new id padoa r)) (record {
+      subst (λ es. ShowsDefinition f places v conditions p asked.first.items es id)
+      (sym (answered f p under old new id padoa r))
+      (subst (ShowsDefinition f places v conditions p asked.first.items all)
+      (sym (answer_last f p under old new id padoa r)) (record {
         is_id = record { from_one = omega arith; last = omega arith };
         derived = searched_there.derived;
-        divides = divides f v conditions p places active asked.first.items asked.second.items all r.before.entries r.clause r.hints stays are_ids refl searched_there
+        divides = divides f v conditions p places active asked.first.items asked.second.items all r.before.entries
+            r.clause r.hints stays are_ids refl searched_there
             (padoa_answered f p under old new id padoa r) within are_active first_there second_there r.negated;
       }))
 
@@ -154,39 +176,50 @@ module _ (implied : LinesAreImplied)
   refuted_grew =
       silent_grew f p under old new id padoa r
       (undecided_answer implied f r.before.entries r.clause r.hints searched_there
-      (only_copies f v conditions p places active asked.first.items asked.second.items all r.before.entries r.clause r.hints stays are_ids refl searched_there
+      (only_copies f v conditions p places active asked.first.items asked.second.items all r.before.entries r.clause
+      r.hints stays are_ids refl searched_there
       (padoa_answered f p under old new id padoa r) within are_active first_there second_there r.negated))
 
 -- the assumptions, as they were put together
-pub two_joined : (xs ys first second lits joined : List Literal) → xs ≡ first → ys ≡ second → lits ≡ xs ++ ys → joined ≡ lits → joined ≡ first ++ second
-two_joined xs ys first second lits joined xs_are ys_are are same = same ∙ are ∙ ap (λ zs. zs ++ ys) xs_are ∙ ap (λ zs. first ++ zs) ys_are
+pub two_joined : (xs ys first second lits joined : List Literal) → xs ≡ first → ys ≡ second → lits ≡ xs ++ ys →
+    joined ≡ lits → joined ≡ first ++ second
+two_joined xs ys first second lits joined xs_are ys_are are same =
+    same ∙ are ∙ ap (λ zs. zs ++ ys) xs_are ∙ ap (λ zs. first ++ zs) ys_are
 
-pub refuted_under : (old new : ProofLog) (gs active : List Group) (joined lits : List Literal) (id : ℕ) → gs ≡ active → joined ≡ lits → IsRefutedUnder old new (assumed gs joined) id →
+pub refuted_under : (old new : ProofLog) (gs active : List Group) (joined lits : List Literal) (id : ℕ) → gs ≡ active →
+    joined ≡ lits → IsRefutedUnder old new (assumed gs joined) id →
     IsRefutedUnder old new (assumed active lits) id
 refuted_under old new gs active joined lits id gs_are all_are r =
-    subst (λ hs. IsRefutedUnder old new (assumed hs lits) id) gs_are (subst (λ ls. IsRefutedUnder old new (assumed gs ls) id) all_are r)
+    subst (λ hs. IsRefutedUnder old new (assumed hs lits) id) gs_are
+    (subst (λ ls. IsRefutedUnder old new (assumed gs ls) id) all_are r)
 
 pub on_answer : {P : Type 0} (a : AnswerOf) → (a ≡ Sat → P) → ((id : ℕ) → a ≡ Unsat id → P) → P
 on_answer Sat sat unsat = sat refl
 on_answer (Unsat id) sat unsat = unsat id refl
 
-pub mapped_existential : (ys : List Existential) (e : Existential) → Contains ys e → Contains (map (λ z. z.variable) ys) e.variable
+pub mapped_existential : (ys : List Existential) (e : Existential) → Contains ys e →
+    Contains (map (λ z. z.variable) ys) e.variable
 mapped_existential [] e (k, lt, at) = absurd (omega (arith, lt))
 mapped_existential (y ∷ ys) e (zero, lt, at) = (0, omega arith, ap (λ (z : Existential). z.variable) at)
-mapped_existential (y ∷ ys) e (suc k, lt, at) = let r = mapped_existential ys e (k, omega (arith, lt), at) in let b = r.1 in (suc r.0, omega (arith, b), r.2)
+mapped_existential (y ∷ ys) e (suc k, lt, at) = let r = mapped_existential ys e (k, omega (arith, lt), at) in let b =
+    r.1 in (suc r.0, omega (arith, b), r.2)
 
-pub found_declared : (f : Dqbf) (v : ℕ) (e : Existential) → existential_of f v ≡ Some e → Contains (declared f) e.variable
-found_declared f v e found = Contains-append_right f.universals (map (λ z. z.variable) f.existentials) e.variable (mapped_existential f.existentials e (find_sound v f.existentials e found).0)
+pub found_declared : (f : Dqbf) (v : ℕ) (e : Existential) → existential_of f v ≡ Some e →
+    Contains (declared f) e.variable
+found_declared f v e found = Contains-append_right f.universals (map (λ z. z.variable) f.existentials) e.variable
+    (mapped_existential f.existentials e (find_sound v f.existentials e found).0)
 
 pub found_variable : (f : Dqbf) (v : ℕ) (e : Existential) → existential_of f v ≡ Some e → e.variable ≡ v
 found_variable f v e found = (find_sound v f.existentials e found).1
 
 pub existential_declared : (f : Dqbf) (v : ℕ) → IsSome (existential_of f v) → Contains (declared f) v
 existential_declared f v is =
-    some_existential f v (Contains (declared f) v) is (λ e found. subst (Contains (declared f)) (found_variable f v e found) (found_declared f v e found))
+    some_existential f v (Contains (declared f) v) is (λ e found. subst (Contains (declared f))
+    (found_variable f v e found) (found_declared f v e found))
 
 -- the copies have names, so that an oracle that goes with the log has them
-pub copies_told : (es : List Entry) (side : ℕ) (vs : List ℕ) (lits : List Literal) (P : ℕ → Type 0) → AreCopiesOf es side vs lits → ((v : ℕ) → IsSome (name_of es v) → P v) →
+pub copies_told : (es : List Entry) (side : ℕ) (vs : List ℕ) (lits : List Literal) (P : ℕ → Type 0) →
+    AreCopiesOf es side vs lits → ((v : ℕ) → IsSome (name_of es v) → P v) →
     All (λ l. P (variable_of l)) lits
 copies_told es side vs [] P are made = All-nil (λ l. P (variable_of l))
 copies_told es side [] (l ∷ lits) P are made = cc
@@ -194,4 +227,5 @@ copies_told es side (v ∷ vs) (l ∷ lits) P are made =
     let here : name_literal es l ≡ Some (named_literal (CopyOf side v) false) = cc in
     let later : map (name_literal es) lits ≡ map Some (map (λ w. named_literal (CopyOf side w) false) vs) = cc in
     let named = named_variable es l (CopyOf side v) false (name_of es (variable_of l)) refl here in
-    All-cons (λ k. P (variable_of k)) l lits (made (variable_of l) (subst IsSome (sym named.0) refl)) (copies_told es side vs lits P later made)
+    All-cons (λ k. P (variable_of k)) l lits (made (variable_of l) (subst IsSome (sym named.0) refl))
+    (copies_told es side vs lits P later made)

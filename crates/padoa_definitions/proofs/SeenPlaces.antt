@@ -10,12 +10,14 @@ use Rattle.definition_order.proofs.Declared.{sees_universals, some_existential}
 use Rattle.padoa_definitions.specs.Seeing.{ArePlaces, ArePlacesSoFar}
 use Rattle.padoa_definitions.proofs.CopiedVariables.{element_at}
 
-pub seen_among : (f : Dqbf) → IsLawful f → (v : ℕ) (xs : List ℕ) → IsSome (existential_of f v) → IfSome (existential_of f v) (λ y. xs ≡ y.sees) → All (Contains f.universals) xs
+pub seen_among : (f : Dqbf) → IsLawful f → (v : ℕ) (xs : List ℕ) → IsSome (existential_of f v) →
+    IfSome (existential_of f v) (λ y. xs ≡ y.sees) → All (Contains f.universals) xs
 seen_among f lawful v xs is h = some_existential f v (All (Contains f.universals) xs) is (λ y found.
     let same : xs ≡ y.sees = subst (λ o. IfSome o (λ z. xs ≡ z.sees)) found h in
     subst (All (Contains f.universals)) (sym same) (sees_universals f lawful v y found))
 
-pub seen_is : (f : Dqbf) (v : ℕ) (xs : List ℕ) (y : Existential) → existential_of f v ≡ Some y → IfSome (existential_of f v) (λ z. xs ≡ z.sees) → xs ≡ y.sees
+pub seen_is : (f : Dqbf) (v : ℕ) (xs : List ℕ) (y : Existential) → existential_of f v ≡ Some y →
+    IfSome (existential_of f v) (λ z. xs ≡ z.sees) → xs ≡ y.sees
 seen_is f v xs y found h = subst (λ o. IfSome o (λ z. xs ≡ z.sees)) found h
 
 pub no_places : (us xs : List ℕ) (places : List ℕ) → places ≡ [] → ArePlacesSoFar us xs 0 places
@@ -27,7 +29,8 @@ no_places us xs places empty = subst (ArePlacesSoFar us xs 0) (sym empty) (recor
     nothing : {p : ℕ} → Contains {X = ℕ} [] p → ⊥
     nothing (k, lt, at) = omega (arith, lt)
 
-pub places_more : (us xs : List ℕ) (i x p : ℕ) (old new : List ℕ) → slice_get xs i ≡ Some x → slice_get us p ≡ Some x → new ≡ old ++ p ∷ [] → ArePlacesSoFar us xs i old →
+pub places_more : (us xs : List ℕ) (i x p : ℕ) (old new : List ℕ) → slice_get xs i ≡ Some x → slice_get us p ≡ Some x →
+    new ≡ old ++ p ∷ [] → ArePlacesSoFar us xs i old →
     ArePlacesSoFar us xs (i + 1) new
 places_more us xs i x p old new at there pushed before = subst (ArePlacesSoFar us xs (i + 1)) (sym pushed) (record {
   sound = λ q among. elim (Contains-append_cases old (p ∷ []) q among) [
@@ -48,7 +51,8 @@ places_more us xs i x p old new at there pushed before = subst (ArePlacesSoFar u
     only p q (zero, lt, at) = at
     only p q (suc k, lt, at) = absurd (omega (arith, lt))
 
-pub all_places : (us xs sees : List ℕ) (i : ℕ) (places : List ℕ) → xs ≡ sees → length xs ≤ i → ArePlacesSoFar us xs i places → ArePlaces us (Contains sees) places
+pub all_places : (us xs sees : List ℕ) (i : ℕ) (places : List ℕ) → xs ≡ sees → length xs ≤ i →
+    ArePlacesSoFar us xs i places → ArePlaces us (Contains sees) places
 all_places us xs sees i places same all so_far = subst (λ ys. ArePlaces us (Contains ys) places) same (record {
   sound = so_far.sound;
   complete = λ x among. here x among;

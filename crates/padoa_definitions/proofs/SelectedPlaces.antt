@@ -9,12 +9,14 @@ use Rattle.padoa_definitions.specs.Dividing.{AreActive}
 use Rattle.padoa_definitions.specs.declared.padoa.Padoa.{Padoa}
 
 one_more : (f : Literal → Bool) (xs : List Literal) (i n : ℕ) (d : Literal) → length xs ≡ i + suc n
-    → set (map f (take i xs) ++ replicate (suc n) false) i (f (get_or xs i d)) ≡ map f (take (suc i) xs) ++ replicate n false
+    → set (map f (take i xs) ++ replicate (suc n) false) i (f (get_or xs i d)) ≡ map f
+    (take (suc i) xs) ++ replicate n false
 one_more f [] i n d long = absurd (omega (arith, long))
 one_more f (x ∷ xs) zero n d long = refl
 one_more f (x ∷ xs) (suc i) n d long = ap (λ bits. f x ∷ bits) (one_more f xs i n d (omega (arith, long)))
 
-pub written_more : (f : Literal → Bool) (xs : List Literal) (i : ℕ) (d : Literal) (row next : List Bool) → i < length xs → row ≡ map f (take i xs) ++ replicate (length xs - i) false
+pub written_more : (f : Literal → Bool) (xs : List Literal) (i : ℕ) (d : Literal) (row next : List Bool) →
+    i < length xs → row ≡ map f (take i xs) ++ replicate (length xs - i) false
     → next ≡ set row i (f (get_or xs i d)) → next ≡ map f (take (i + 1) xs) ++ replicate (length xs - (i + 1)) false
 written_more f xs i d row next lt is next_is =
     let n = length xs - (i + 1) in
@@ -23,18 +25,22 @@ written_more f xs i d row next lt is next_is =
     next_is ∙ ap (λ r. set r i (f (get_or xs i d))) (is ∙ ap (λ k. map f (take i xs) ++ replicate k false) left)
     ∙ one_more f xs i n d (omega (arith, lt)) ∙ ap (λ k. map f (take k xs) ++ replicate n false) (sym behind)
 
-pub written_all : (f : Literal → Bool) (xs : List Literal) (i : ℕ) (row : List Bool) → length xs ≤ i → row ≡ map f (take i xs) ++ replicate (length xs - i) false → row ≡ map f xs
+pub written_all : (f : Literal → Bool) (xs : List Literal) (i : ℕ) (row : List Bool) → length xs ≤ i →
+    row ≡ map f (take i xs) ++ replicate (length xs - i) false → row ≡ map f xs
 written_all f xs i row past is =
     let none : length xs - i ≡ 0 = omega (arith, past) in
-    is ∙ ap (λ k. map f (take i xs) ++ replicate k false) none ∙ append-nil (map f (take i xs)) ∙ ap (map f) (take_all i xs past)
+    is ∙ ap (λ k. map f (take i xs) ++ replicate k false) none ∙ append-nil (map f (take i xs)) ∙ ap (map f)
+    (take_all i xs past)
 
-pub mapped_more : {X : Type 0} (g : ℕ → X) (ps : List ℕ) (i p : ℕ) (old new : List X) (x : X) → i < length ps → get_or ps i p ≡ p → old ≡ map g (take i ps) → new ≡ old ++ x ∷ [] → x ≡ g p →
+pub mapped_more : {X : Type 0} (g : ℕ → X) (ps : List ℕ) (i p : ℕ) (old new : List X) (x : X) → i < length ps →
+    get_or ps i p ≡ p → old ≡ map g (take i ps) → new ≡ old ++ x ∷ [] → x ≡ g p →
     new ≡ map g (take (i + 1) ps)
 mapped_more g ps i p old new x lt at before pushed is =
     pushed ∙ ap (λ xs. xs ++ x ∷ []) before ∙ ap (λ y. map g (take i ps) ++ y ∷ []) is
     ∙ sym (ap (map g) (take_more ps i p lt ∙ ap (λ q. take i ps ++ q ∷ []) at) ∙ map-append g (take i ps) (p ∷ []))
 
-mapped_sound : {X : Type 0} (g : ℕ → X) (ps : List ℕ) (x : X) → Contains (map g ps) x → (k : ℕ) × Contains ps k × (g k ≡ x)
+mapped_sound : {X : Type 0} (g : ℕ → X) (ps : List ℕ) (x : X) → Contains (map g ps) x →
+    (k : ℕ) × Contains ps k × (g k ≡ x)
 mapped_sound g [] x (k, lt, at) = absurd (omega (arith, lt))
 mapped_sound g (p ∷ ps) x (zero, lt, at) = (p, (0, omega arith, refl), at)
 mapped_sound g (p ∷ ps) x (suc k, lt, at) =
@@ -44,13 +50,15 @@ mapped_sound g (p ∷ ps) x (suc k, lt, at) =
 mapped_complete : {X : Type 0} (g : ℕ → X) (ps : List ℕ) (k : ℕ) → Contains ps k → Contains (map g ps) (g k)
 mapped_complete g [] k (i, lt, at) = absurd (omega (arith, lt))
 mapped_complete g (p ∷ ps) k (zero, lt, at) = (0, omega arith, ap g at)
-mapped_complete g (p ∷ ps) k (suc i, lt, at) = let r = mapped_complete g ps k (i, omega (arith, lt), at) in let b = r.1 in (suc r.0, omega (arith, b), r.2)
+mapped_complete g (p ∷ ps) k (suc i, lt, at) = let r = mapped_complete g ps k (i, omega (arith, lt), at) in let b =
+    r.1 in (suc r.0, omega (arith, b), r.2)
 
 -- the equations at some places
 abbrev pub links_at : Padoa → List ℕ → List Group
 links_at p places = map (λ k. get_or p.links.items k p.first.group) places
 
-pub all_active : (p : Padoa) (places : List ℕ) (active : List Group) → All (λ k. k < length p.links.items) places → active ≡ p.first.group ∷ p.second.group ∷ links_at p places →
+pub all_active : (p : Padoa) (places : List ℕ) (active : List Group) → All (λ k. k < length p.links.items) places →
+    active ≡ p.first.group ∷ p.second.group ∷ links_at p places →
     AreActive p places active
 all_active p places active within is = record {
   links = links_at p places;
@@ -59,7 +67,8 @@ all_active p places active within is = record {
       let r = mapped_sound (λ k. get_or p.links.items k p.first.group) places g among in
       (r.0, r.1, slice_get-get_or p.links.items r.0 p.first.group (in_range r.0 r.1) ∙ ap Some r.2);
   complete = λ k g among at.
-      subst (Contains (links_at p places)) (get_or_from_slice_get p.links.items k g p.first.group at) (mapped_complete (λ i. get_or p.links.items i p.first.group) places k among);
+      subst (Contains (links_at p places)) (get_or_from_slice_get p.links.items k g p.first.group at)
+      (mapped_complete (λ i. get_or p.links.items i p.first.group) places k among);
 }
   where
     in_range : (k : ℕ) → Contains places k → k < length p.links.items

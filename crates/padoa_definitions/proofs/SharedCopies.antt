@@ -23,12 +23,15 @@ use Rattle.padoa_definitions.proofs.DividedAnswers.{read_at}
 
 -- the nodes of variables that are selected by places
 module _ (g : ℕ → ℕ × Node) where
-  selected_sound : (ps : List ℕ) (v : ℕ) (n : Node) → node_of (map g ps) v ≡ Some n → (k : ℕ) × Contains ps k × (v ≡ (g k).0) × ((g k).1 ≡ n)
+  selected_sound : (ps : List ℕ) (v : ℕ) (n : Node) → node_of (map g ps) v ≡ Some n →
+      (k : ℕ) × Contains ps k × (v ≡ (g k).0) × ((g k).1 ≡ n)
   selected_sound [] v n h = cc
   selected_sound (p ∷ ps) v n h = by (v == (g p).0) refl (selected_sound ps v n) h
     where
-      by : (b : Bool) → (v == (g p).0) ≡ b → (node_of (map g ps) v ≡ Some n → (k : ℕ) × Contains ps k × (v ≡ (g k).0) × ((g k).1 ≡ n)) →
-          cond b (Some (g p).1) (node_of (map g ps) v) ≡ Some n → (k : ℕ) × Contains (p ∷ ps) k × (v ≡ (g k).0) × ((g k).1 ≡ n)
+      by : (b : Bool) → (v == (g p).0) ≡ b → (node_of (map g ps) v ≡ Some n →
+          (k : ℕ) × Contains ps k × (v ≡ (g k).0) × ((g k).1 ≡ n)) →
+          cond b (Some (g p).1) (node_of (map g ps) v) ≡ Some n →
+          (k : ℕ) × Contains (p ∷ ps) k × (v ≡ (g k).0) × ((g k).1 ≡ n)
       by true e later h = let same : (g p).1 ≡ n = cc in (p, (0, omega arith, refl), eqb-true v (g p).0 e, same)
       by false e later h = let r = later h in (r.0, (suc r.1.0, (let b = r.1.1 in omega (arith, b)), r.1.2), r.2, r.3)
 
@@ -36,7 +39,8 @@ module _ (g : ℕ → ℕ × Node) where
   selected_complete [] k (i, lt, at) = absurd (omega (arith, lt))
   selected_complete (p ∷ ps) k among = by (selected_complete ps) ((g k).0 == (g p).0) refl among
     where
-      by : ((i : ℕ) → Contains ps i → IsSome (node_of (map g ps) (g i).0)) → (b : Bool) → ((g k).0 == (g p).0) ≡ b → Contains (p ∷ ps) k →
+      by : ((i : ℕ) → Contains ps i → IsSome (node_of (map g ps) (g i).0)) → (b : Bool) → ((g k).0 == (g p).0) ≡ b →
+          Contains (p ∷ ps) k →
           IsSome (cond b (Some (g p).1) (node_of (map g ps) (g k).0))
       by later true e among = refl
       by later false e (zero, lt, at) =
@@ -55,10 +59,12 @@ module _ (f : Dqbf) (p : Padoa) (places : List ℕ) (es : List Entry) (within : 
       let lits = copies_of p.first in
       let lt = slice_get_within (declared f) k x at in
       let long = copies_long es 1 (declared f) lits copies in
-      let is = copy_at es 1 (declared f) lits k x (get_or lits k (positive 0)) copies at (slice_get-get_or lits k (positive 0) (omega (arith, lt, long))) in
+      let is = copy_at es 1 (declared f) lits k x (get_or lits k (positive 0)) copies at
+      (slice_get-get_or lits k (positive 0) (omega (arith, lt, long))) in
       (named_variable es (get_or lits k (positive 0)) (CopyOf 1 x) false (name_of es (pick k).0) refl is).0
 
-  pub shared_copies : (graph : AigGraph) → ((v w : ℕ) (name : Name) → name_of es v ≡ Some name → name_of es w ≡ Some name → v ≡ w) →
+  pub shared_copies : (graph : AigGraph) → ((v w : ℕ) (name : Name) → name_of es v ≡ Some name →
+      name_of es w ≡ Some name → v ≡ w) →
       AreSharedCopies f places es graph (shared_pairs p places)
   shared_copies graph unique = record {
     are = λ v n is.

@@ -37,9 +37,11 @@ all_plain xs i d lt = tt
 
 pub engines_leave : EnginesLeaveCopies
 engines_leave f p engine group silent old new grew apart padoa =
-    padoa_stays f (λ mine. (mine ≢ group) × IsNamed old.entries mine) old.entries new.entries (keeps_by_engine f engine group silent old new grew) p
+    padoa_stays f (λ mine. (mine ≢ group) × IsNamed old.entries mine) old.entries new.entries
+    (keeps_by_engine f engine group silent old new grew) p
     (all_both (λ g. g ≢ group) (IsNamed old.entries) (groups_of p) apart (groups_named f p old.entries padoa)) padoa
 
 pub rounds_leave : RoundsLeaveCopies
 rounds_leave f p entries row values j padoa =
-    padoa_stays f (λ mine. Unit {0}) entries (Round row values j ∷ entries) (keeps_entry f (Round row values j) entries (λ v n is. is) (λ test mine. tt)) p (all_plain (groups_of p)) padoa
+    padoa_stays f (λ mine. Unit {0}) entries (Round row values j ∷ entries)
+    (keeps_entry f (Round row values j) entries (λ v n is. is) (λ test mine. tt)) p (all_plain (groups_of p)) padoa

@@ -16,18 +16,23 @@ use Rattle.planted_formulas.specs.declared.gates.PlantedGate.{PlantedGate}
 use Rattle.planted_formulas.proofs.Lists.{all_range, range_more, from_one}
 
 -- what holds of every planted gate holds of those before a place
-pub all_gates : (P : PlantedGate → Type 0) (seed n count : ℕ) → ((i : ℕ) → i < count → P (planted_gate seed n i)) → All P (planted_gates seed n count)
+pub all_gates : (P : PlantedGate → Type 0) (seed n count : ℕ) → ((i : ℕ) → i < count → P (planted_gate seed n i)) →
+    All P (planted_gates seed n count)
 all_gates P seed n count each =
     All-map P (planted_gate seed n) (range_with_len 0 count)
-    (all_range (λ i. P (planted_gate seed n i)) 0 count (λ i below. let same : i ≡ 0 + i = omega arith in subst (λ k. P (planted_gate seed n k)) same (each i below)))
+    (all_range (λ i. P (planted_gate seed n i)) 0 count (λ i below. let same : i ≡ 0 + i = omega arith in
+    subst (λ k. P (planted_gate seed n k)) same (each i below)))
 
-pub drawn_states : (seed place : ℕ) → next_state (next_state (next_state (state_after seed (3 * place)))) ≡ state_after seed (3 * (place + 1))
+pub drawn_states : (seed place : ℕ) → next_state (next_state (next_state (state_after seed (3 * place))))
+    ≡ state_after seed (3 * (place + 1))
 drawn_states seed place =
     let more : suc (suc (suc (3 * place))) ≡ 3 * (place + 1) = omega arith in
     ap (state_after seed) more
 
-pub gates_more : (seed n place : ℕ) → planted_gates seed n (place + 1) ≡ planted_gates seed n place ++ planted_gate seed n place ∷ []
-gates_more seed n place = map-range_with_len_more (planted_gate seed n) 0 place place (let none : 0 + place ≡ place = omega arith in none)
+pub gates_more : (seed n place : ℕ) → planted_gates seed n (place + 1)
+    ≡ planted_gates seed n place ++ planted_gate seed n place ∷ []
+gates_more seed n place = map-range_with_len_more (planted_gate seed n) 0 place place
+    (let none : 0 + place ≡ place = omega arith in none)
 
 clauses_single : (g : PlantedGate) → flat_map gate_clauses (g ∷ []) ≡ gate_clauses g
 clauses_single g = append-nil (gate_clauses g)
@@ -41,9 +46,21 @@ pub formula_more : (variables n : ℕ) (gates : List PlantedGate) (g : PlantedGa
       matrix = flat_map gate_clauses gates ++ gate_clauses g;
     }
 formula_more variables n gates g =
-    ap (λ es. record { variables = variables; universals = range_with_len 1 n; existentials = es; matrix = flat_map gate_clauses (gates ++ g ∷ []) })
+    ap (λ es. record {
+      variables = variables;
+      universals = range_with_len 1 n;
+      existentials = es;
+      matrix =
+          flat_map gate_clauses (gates ++ g ∷ []);
+    })
     (map-append (gate_existential (range_with_len 1 n)) gates (g ∷ []))
-    ∙ ap (λ cs. record { variables = variables; universals = range_with_len 1 n; existentials = map (gate_existential (range_with_len 1 n)) gates ++ gate_existential (range_with_len 1 n) g ∷ []; matrix = cs })
+    ∙ ap (λ cs. record {
+      variables = variables;
+      universals = range_with_len 1 n;
+      existentials =
+          map (gate_existential (range_with_len 1 n)) gates ++ gate_existential (range_with_len 1 n) g ∷ [];
+      matrix = cs;
+    })
     (flat_map-append gate_clauses gates (g ∷ []) ∙ ap (λ cs. flat_map gate_clauses gates ++ cs) (clauses_single g))
 
 -- ---- numbers
@@ -56,22 +73,29 @@ other_range n a b some one most = go (b == a)
     go false = (one, most)
 
 -- a gate's two sides are universals
-pub sides_range : (seed n place : ℕ) → 0 < n → let g = planted_gate seed n place in ((1 ≤ g.left) × (g.left ≤ n)) × ((1 ≤ g.right) × (g.right ≤ n))
+pub sides_range : (seed n place : ℕ) → 0 < n → let g = planted_gate seed n place in
+    ((1 ≤ g.left) × (g.left ≤ n)) × ((1 ≤ g.right) × (g.right ≤ n))
 sides_range seed n place some =
     let state = state_after seed (3 * place) in
     let first = mod-lt (next_state state / 65536) some in
-    let second = mod-lt (next_state (next_state state) / 65536) some in
-    ((omega arith, omega (arith, first)), other_range n (1 + drawn (next_state state) n) (1 + drawn (next_state (next_state state)) n) some (omega arith) (omega (arith, second)))
+    let second = mod-lt (next_state (next_state state) / 65536) some in (
+      (omega arith, omega (arith, first)),
+      other_range n (1 + drawn (next_state state) n)
+          (1 + drawn (next_state (next_state state)) n) some (omega arith) (omega (arith, second)),
+    )
 
 -- ---- what is declared
 
 small : (n bound : ℕ) → n < bound → All (λ x. x < bound) (range_with_len 1 n)
 small n bound less = all_range (λ x. x < bound) 1 n (λ i below. omega (arith, below, less))
 
-outputs_small : (seed n place : ℕ) → All (λ v. v < n + 1 + place) (map (λ (y : Existential). y.variable) (map (gate_existential (range_with_len 1 n)) (planted_gates seed n place)))
+outputs_small : (seed n place : ℕ) → All (λ v. v < n + 1 + place)
+    (map (λ (y : Existential). y.variable) (map (gate_existential (range_with_len 1 n)) (planted_gates seed n place)))
 outputs_small seed n place =
-    All-map (λ v. v < n + 1 + place) (λ (y : Existential). y.variable) (map (gate_existential (range_with_len 1 n)) (planted_gates seed n place))
-    (All-map (λ (y : Existential). y.variable < n + 1 + place) (gate_existential (range_with_len 1 n)) (planted_gates seed n place)
+    All-map (λ v. v < n + 1 + place) (λ (y : Existential). y.variable)
+    (map (gate_existential (range_with_len 1 n)) (planted_gates seed n place))
+    (All-map (λ (y : Existential). y.variable < n + 1 + place) (gate_existential (range_with_len 1 n))
+    (planted_gates seed n place)
     (all_gates (λ g. g.output < n + 1 + place) seed n place (λ i below. omega (arith, below))))
 
 not_same : (x y : ℕ) → x < y → (x == y) ≡ false
@@ -95,12 +119,14 @@ or_right false b by = by
 among : (x : ℕ) (xs : List ℕ) → Contains xs x → list_any (λ u. u == x) xs ≡ true
 among x [] (k, below, is) = absurd (omega (arith, below))
 among x (y ∷ ys) (zero, below, is) = ap (λ b. b || list_any (λ u. u == x) ys) (same_number y x is)
-among x (y ∷ ys) (suc k, below, is) = or_right (y == x) (list_any (λ u. u == x) ys) (among x ys (k, omega (arith, below), is))
+among x (y ∷ ys) (suc k, below, is) = or_right (y == x) (list_any (λ u. u == x) ys)
+    (among x ys (k, omega (arith, below), is))
 
 differ : (y : ℕ) (xs : List ℕ) → All (λ x. x < y) xs → All (λ x. (x == y) ≡ false) xs
 differ y xs less k d below = not_same (get_or xs k d) y (less k d below)
 
-pub undeclared : (variables seed n place y : ℕ) → y ≡ n + 1 + place → is_declared (formula_of_gates variables n (planted_gates seed n place)) y ≡ false
+pub undeclared : (variables seed n place y : ℕ) → y ≡ n + 1 + place →
+    is_declared (formula_of_gates variables n (planted_gates seed n place)) y ≡ false
 undeclared variables seed n place y is =
     let f = formula_of_gates variables n (planted_gates seed n place) in
     subst (λ v. is_declared f v ≡ false) (sym is)
@@ -109,7 +135,8 @@ undeclared variables seed n place y is =
     (All-append (λ x. x < n + 1 + place) f.universals (map (λ (y : Existential). y.variable) f.existentials)
     (small n (n + 1 + place) (omega arith)) (outputs_small seed n place))))
 
-pub universal : (variables n : ℕ) (gates : List PlantedGate) (x : ℕ) → 1 ≤ x → x ≤ n → is_universal (formula_of_gates variables n gates) x ≡ true
+pub universal : (variables n : ℕ) (gates : List PlantedGate) (x : ℕ) → 1 ≤ x → x ≤ n →
+    is_universal (formula_of_gates variables n gates) x ≡ true
 universal variables n gates x one most = among x (range_with_len 1 n) (from_one n x one most)
 
 -- ---- clauses
@@ -137,13 +164,21 @@ few_clauses seed n place =
 
 -- ---- steps
 
-pub universals_more : (variables n : ℕ) (old new : Dqbf) → old ≡ formula_of_gates variables n [] → new ≡ record old { universals = old.universals ++ (n + 1) ∷ [] }
+pub universals_more : (variables n : ℕ) (old new : Dqbf) → old ≡ formula_of_gates variables n [] →
+    new ≡ record old { universals = old.universals ++ (n + 1) ∷ [] }
     → new ≡ formula_of_gates variables (n + 1) []
 universals_more variables n old new was is =
     let next : n + 1 ≡ 1 + n = omega arith in
     is ∙ ap {A = Dqbf} {B = Dqbf} (λ f. record f { universals = f.universals ++ (n + 1) ∷ [] }) was
-    ∙ ap (λ x. record { variables = variables; universals = range_with_len 1 n ++ x ∷ []; existentials = []; matrix = [] }) next
-    ∙ ap (λ us. record { variables = variables; universals = us; existentials = []; matrix = [] }) (sym (range_more 1 n))
+    ∙ ap (λ x. record {
+      variables = variables;
+      universals = range_with_len 1 n ++ x ∷ [];
+      existentials = [];
+      matrix =
+          [];
+    }) next
+    ∙ ap (λ us. record { variables = variables; universals = us; existentials = []; matrix = [] })
+    (sym (range_more 1 n))
 
 pub next_undeclared : (variables n : ℕ) (f : Dqbf) → f ≡ formula_of_gates variables n [] → is_declared f (n + 1) ≡ false
 next_undeclared variables n f is =
@@ -157,43 +192,55 @@ module _ (seed size place : ℕ) where
   abbrev before : Dqbf
   before = formula_of_gates (size + 1 + size) (size + 1) (planted_gates seed (size + 1) place)
 
-  gate_drawn : (g : PlantedGate) (state : ℕ) → state ≡ state_after seed (3 * place) → g ≡ next_gate (size + 1) (size + 2 + place) state → g ≡ planted_gate seed (size + 1) place
+  gate_drawn : (g : PlantedGate) (state : ℕ) → state ≡ state_after seed (3 * place) →
+      g ≡ next_gate (size + 1) (size + 2 + place) state → g ≡ planted_gate seed (size + 1) place
   gate_drawn g state at is =
       let output : size + 2 + place ≡ size + 1 + 1 + place = omega arith in
       is ∙ ap (λ o. next_gate (size + 1) o state) output ∙ ap (next_gate (size + 1) (size + 1 + 1 + place)) at
 
-  pub gate_undeclared : (f : Dqbf) (g : PlantedGate) (state : ℕ) → f ≡ before → g ≡ next_gate (size + 1) (size + 2 + place) state → is_declared f g.output ≡ false
+  pub gate_undeclared : (f : Dqbf) (g : PlantedGate) (state : ℕ) → f ≡ before →
+      g ≡ next_gate (size + 1) (size + 2 + place) state → is_declared f g.output ≡ false
   gate_undeclared f g state was is =
       let output : size + 2 + place ≡ size + 1 + 1 + place = omega arith in
       subst (λ h. is_declared h g.output ≡ false) (sym was)
       (undeclared (size + 1 + size) seed (size + 1) place g.output (ap (λ (x : PlantedGate). x.output) is ∙ output))
 
-  pub gate_listed : (f : Dqbf) (g : PlantedGate) → f ≡ before → (1 ≤ g.left) × (g.left ≤ size + 1) → (1 ≤ g.right) × (g.right ≤ size + 1)
+  pub gate_listed : (f : Dqbf) (g : PlantedGate) → f ≡ before → (1 ≤ g.left) × (g.left ≤ size + 1) →
+      (1 ≤ g.right) × (g.right ≤ size + 1)
       → All (λ x. is_universal f x ≡ true) (g.left ∷ g.right ∷ [])
   gate_listed f g was left right =
       let gates = planted_gates seed (size + 1) place in
       subst (λ h. All (λ x. is_universal h x ≡ true) (g.left ∷ g.right ∷ [])) (sym was)
-      (All-cons (λ x. is_universal before x ≡ true) g.left (g.right ∷ []) (universal (size + 1 + size) (size + 1) gates g.left left.0 left.1)
-      (All-cons (λ x. is_universal before x ≡ true) g.right [] (universal (size + 1 + size) (size + 1) gates g.right right.0 right.1) (All-nil (λ x. is_universal before x ≡ true))))
+      (All-cons (λ x. is_universal before x ≡ true) g.left (g.right ∷ [])
+      (universal (size + 1 + size) (size + 1) gates g.left left.0 left.1)
+      (All-cons (λ x. is_universal before x ≡ true) g.right []
+      (universal (size + 1 + size) (size + 1) gates g.right right.0 right.1)
+      (All-nil (λ x. is_universal before x ≡ true))))
 
-  pub gate_added : (f with_existential new : Dqbf) (g : PlantedGate) (state behind : ℕ) → f ≡ before → state ≡ state_after seed (3 * place)
+  pub gate_added : (f with_existential new : Dqbf) (g : PlantedGate) (state behind : ℕ) → f ≡ before →
+      state ≡ state_after seed (3 * place)
       → g ≡ next_gate (size + 1) (size + 2 + place) state → behind ≡ next_state (next_state (next_state state))
       → with_existential ≡ record f { existentials = f.existentials ++ gate_existential f.universals g ∷ [] }
       → new ≡ record with_existential { matrix = with_existential.matrix ++ gate_clauses g }
-      → (new ≡ formula_of_gates (size + 1 + size) (size + 1) (planted_gates seed (size + 1) (place + 1))) × (behind ≡ state_after seed (3 * (place + 1)))
+      → (new ≡ formula_of_gates (size + 1 + size) (size + 1) (planted_gates seed (size + 1) (place + 1))) ×
+      (behind ≡ state_after seed (3 * (place + 1)))
   gate_added f mid new g state behind was at draws after declares added =
       let all = planted_gates seed (size + 1) place in
       let is_gate = gate_drawn g state at draws in
       let formula : new ≡ formula_of_gates (size + 1 + size) (size + 1) (all ++ g ∷ []) =
-      added ∙ ap {A = Dqbf} {B = Dqbf} (λ h. record h { matrix = h.matrix ++ gate_clauses g }) (declares ∙ ap {A = Dqbf} {B = Dqbf} (λ h. record h { existentials = h.existentials ++ gate_existential h.universals g ∷ [] }) was)
+      added ∙ ap {A = Dqbf} {B = Dqbf} (λ h. record h { matrix = h.matrix ++ gate_clauses g })
+      (declares ∙ ap {A = Dqbf} {B = Dqbf} (λ h. record h
+      { existentials = h.existentials ++ gate_existential h.universals g ∷ [] }) was)
       ∙ sym (formula_more (size + 1 + size) (size + 1) all g) in (
         formula ∙ ap (λ h. formula_of_gates (size + 1 + size) (size + 1) (all ++ h ∷ [])) is_gate
             ∙ ap (formula_of_gates (size + 1 + size) (size + 1)) (sym (gates_more seed (size + 1) place)),
         after ∙ ap (λ s. next_state (next_state (next_state s))) at ∙ drawn_states seed place,
       )
 
-  pub gate_few : (f mid : Dqbf) (y : Existential) → f ≡ before → mid ≡ record f { existentials = f.existentials ++ y ∷ [] } → place < 10000 → length mid.matrix + 4 ≤ 10000000
+  pub gate_few : (f mid : Dqbf) (y : Existential) → f ≡ before →
+      mid ≡ record f { existentials = f.existentials ++ y ∷ [] } → place < 10000 → length mid.matrix + 4 ≤ 10000000
   gate_few f mid y was is less =
       let few = few_clauses seed (size + 1) place in
-      let same : mid.matrix ≡ flat_map gate_clauses (planted_gates seed (size + 1) place) = ap (λ (h : Dqbf). h.matrix) is ∙ ap (λ (h : Dqbf). h.matrix) was in
+      let same : mid.matrix ≡ flat_map gate_clauses (planted_gates seed (size + 1) place) =
+      ap (λ (h : Dqbf). h.matrix) is ∙ ap (λ (h : Dqbf). h.matrix) was in
       subst (λ m. length m + 4 ≤ 10000000) (sym same) (omega (arith, few, less))

@@ -8,14 +8,16 @@ all_range P a zero each = All-nil P
 all_range P a (suc n) each =
     let start : a + 0 ≡ a = omega arith in
     All-cons P a (range_with_len (a + 1) n) (subst P start (each 0 (omega arith)))
-    (all_range P (a + 1) n (λ i below. let next : a + suc i ≡ a + 1 + i = omega arith in subst P next (each (suc i) (omega (arith, below)))))
+    (all_range P (a + 1) n (λ i below. let next : a + suc i ≡ a + 1 + i = omega arith in
+    subst P next (each (suc i) (omega (arith, below)))))
 
 pub range_more : (a n : ℕ) → range_with_len a (n + 1) ≡ range_with_len a n ++ (a + n) ∷ []
 range_more a zero = let same : a ≡ a + 0 = omega arith in ap (λ x. x ∷ []) same
 range_more a (suc n) =
     let step : suc n + 1 ≡ suc (n + 1) = omega arith in
     let last : a + 1 + n ≡ a + suc n = omega arith in
-    ap (range_with_len a) step ∙ ap (λ xs. a ∷ xs) (range_more (a + 1) n ∙ ap (λ x. range_with_len (a + 1) n ++ x ∷ []) last)
+    ap (range_with_len a) step ∙ ap (λ xs. a ∷ xs) (range_more (a + 1) n ∙ ap
+    (λ x. range_with_len (a + 1) n ++ x ∷ []) last)
 
 pub in_range : (a n p : ℕ) → p < n → Contains (range_with_len a n) (a + p)
 in_range a zero p h = absurd (omega arith)
@@ -41,7 +43,8 @@ behind_head : {X : Type 0} (x y : X) (rest : List X) (b : Bool) → Contains res
 behind_head x y rest true (k, below, is) = (suc k, omega (arith, below), is)
 behind_head x y rest false found = found
 
-pub filter_keeps : {X : Type 0} (p : X → Bool) (xs : List X) (x : X) → p x ≡ true → Contains xs x → Contains (filter p xs) x
+pub filter_keeps : {X : Type 0} (p : X → Bool) (xs : List X) (x : X) → p x ≡ true → Contains xs x →
+    Contains (filter p xs) x
 filter_keeps p [] x by (k, below, is) = absurd (omega arith)
 filter_keeps p (y ∷ ys) x by (zero, below, is) =
     subst (Contains (filter p (y ∷ ys))) is (at_head y (filter p ys) (p y) (ap p is ∙ by))
@@ -55,10 +58,12 @@ contains_map f (y ∷ ys) x (suc k, below, is) =
     let (place, within, found) = contains_map f ys x (k, omega (arith, below), is) in
     (suc place, omega (arith, within), found)
 
-pub all_flat_map : {X Y : Type 0} (P : Y → Type 0) (h : X → List Y) (xs : List X) → All (λ x. All P (h x)) xs → All P (flat_map h xs)
+pub all_flat_map : {X Y : Type 0} (P : Y → Type 0) (h : X → List Y) (xs : List X) → All (λ x. All P (h x)) xs →
+    All P (flat_map h xs)
 all_flat_map P h [] each = All-nil P
 all_flat_map P h (x ∷ xs) each =
-    All-append P (h x) (flat_map h xs) (each 0 x (omega arith)) (all_flat_map P h xs (λ k d below. each (suc k) d (omega (arith, below))))
+    All-append P (h x) (flat_map h xs) (each 0 x (omega arith))
+    (all_flat_map P h xs (λ k d below. each (suc k) d (omega (arith, below))))
 
 pub all_two : {X : Type 0} (P : X → Type 0) (a b : X) → P a → P b → All P (a ∷ b ∷ [])
 all_two P a b at_a at_b = All-cons P a (b ∷ []) at_a (All-cons P b [] at_b (All-nil P))

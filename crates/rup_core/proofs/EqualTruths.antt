@@ -8,19 +8,23 @@ use Rattle.rup_core.specs.Truth.{AreSame}
 filter-same : (p q : Literal → Bool) → ((l : Literal) → p l ≡ q l) → (xs : List Literal) → filter p xs ≡ filter q xs
 filter-same p q same [] = refl
 filter-same p q same (x ∷ xs) =
-    ap (λ b. cond b (x ∷ filter p xs) (filter p xs)) (same x) ∙ ap (λ ys. cond (q x) (x ∷ ys) ys) (filter-same p q same xs)
+    ap (λ b. cond b (x ∷ filter p xs) (filter p xs)) (same x) ∙ ap (λ ys. cond (q x) (x ∷ ys) ys)
+    (filter-same p q same xs)
 
 status_by-same : (xs ys rest : List Literal) → AreSame xs ys → status_by xs rest ≡ status_by ys rest
 status_by-same xs ys [] same = refl
 status_by-same xs ys (l ∷ rest) same = ap (λ b. cond (list_all (same_literal l) rest && not b) (unit l) stuck) (same l)
 
-pub status_of-same : (xs ys : List Literal) (clause : Option (List Literal)) → AreSame xs ys → status_of xs clause ≡ status_of ys clause
+pub status_of-same : (xs ys : List Literal) (clause : Option (List Literal)) → AreSame xs ys →
+    status_of xs clause ≡ status_of ys clause
 status_of-same xs ys None same = refl
 status_of-same xs ys (Some clause) same =
-    ap (status_by xs) (filter-same (λ l. not (holds xs (opposite l))) (λ l. not (holds ys (opposite l))) (λ l. ap not (same (opposite l))) clause)
+    ap (status_by xs) (filter-same (λ l. not (holds xs (opposite l))) (λ l. not (holds ys (opposite l)))
+    (λ l. ap not (same (opposite l))) clause)
     ∙ status_by-same xs ys (filter (λ l. not (holds ys (opposite l))) clause) same
 
-pub fault_by-same : (s : Status) (place : ℕ) (hints : List ℕ) (f g : Literal → Option ℕ) → ((l : Literal) → f l ≡ g l) → fault_by s place hints f ≡ fault_by s place hints g
+pub fault_by-same : (s : Status) (place : ℕ) (hints : List ℕ) (f g : Literal → Option ℕ) → ((l : Literal) → f l ≡ g l) →
+    fault_by s place hints f ≡ fault_by s place hints g
 fault_by-same falsified place [] f g same = refl
 fault_by-same falsified place (_ ∷ _) f g same = refl
 fault_by-same (unit l) place hints f g same = same l
@@ -30,6 +34,8 @@ pub hint_fault-same : (live : LiveClauses) (hints : List ℕ) (xs ys : List Lite
     hint_fault live xs place hints ≡ hint_fault live ys place hints
 hint_fault-same live [] xs ys place same = refl
 hint_fault-same live (hint ∷ hints) xs ys place same =
-    ap (λ s. fault_by s place hints (λ l. hint_fault live (l ∷ xs) (place + 1) hints)) (status_of-same xs ys (live hint) same)
-    ∙ fault_by-same (status_of ys (live hint)) place hints (λ l. hint_fault live (l ∷ xs) (place + 1) hints) (λ l. hint_fault live (l ∷ ys) (place + 1) hints)
+    ap (λ s. fault_by s place hints (λ l. hint_fault live (l ∷ xs) (place + 1) hints))
+    (status_of-same xs ys (live hint) same)
+    ∙ fault_by-same (status_of ys (live hint)) place hints (λ l. hint_fault live (l ∷ xs) (place + 1) hints)
+    (λ l. hint_fault live (l ∷ ys) (place + 1) hints)
     (λ l. hint_fault-same live hints (l ∷ xs) (l ∷ ys) (place + 1) (λ k. ap (λ b. same_literal k l || b) (same k)))

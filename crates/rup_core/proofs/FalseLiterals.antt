@@ -16,13 +16,15 @@ use Rattle.truth_values.proofs.HeldLiterals.{same_literal-sound, same_literal-re
 abbrev pub IsConsistent : List Literal → Type 0
 IsConsistent literals = (l : Literal) → holds literals l ≡ true → holds literals (opposite l) ≡ false
 
-any_none : (p : Literal → Bool) (line : List Literal) → ((l : Literal) → holds line l ≡ true → p l ≡ false) → list_any p line ≡ false
+any_none : (p : Literal → Bool) (line : List Literal) → ((l : Literal) → holds line l ≡ true → p l ≡ false) →
+    list_any p line ≡ false
 any_none p [] none = refl
 any_none p (l ∷ line) none =
     or_from (p l) (list_any p line) (none l (or_left (same_literal l l) (holds line l) (same_literal-refl l)))
     (any_none p line (λ k h. none k (or_right (same_literal k l) (holds line k) h)))
 
-any_one : (p : Literal → Bool) (line : List Literal) (l : Literal) → holds line l ≡ true → p l ≡ true → list_any p line ≡ true
+any_one : (p : Literal → Bool) (line : List Literal) (l : Literal) → holds line l ≡ true → p l ≡ true →
+    list_any p line ≡ true
 any_one p [] l h here = cc
 any_one p (k ∷ line) l h here =
     elim (or_cases (same_literal l k) (holds line l) h) [
@@ -32,16 +34,20 @@ any_one p (k ∷ line) l h here =
 
 same_opposite : (k l : Literal) → same_literal (opposite k) (opposite l) ≡ same_literal k l
 same_opposite k l = elim k as (λ x. same_literal (opposite x) (opposite l) ≡ same_literal x l) [
-  | positive v ↦ elim l as (λ y. same_literal (opposite (positive v)) (opposite y) ≡ same_literal (positive v) y) [ positive w ↦ refl | negative w ↦ refl ]
-  | negative v ↦ elim l as (λ y. same_literal (opposite (negative v)) (opposite y) ≡ same_literal (negative v) y) [ positive w ↦ refl | negative w ↦ refl ]
+  | positive v ↦ elim l as (λ y. same_literal (opposite (positive v)) (opposite y) ≡ same_literal (positive v) y)
+      [ positive w ↦ refl | negative w ↦ refl ]
+  | negative v ↦ elim l as (λ y. same_literal (opposite (negative v)) (opposite y) ≡ same_literal (negative v) y)
+      [ positive w ↦ refl | negative w ↦ refl ]
 ]
 
 holds-map : (line : List Literal) (l : Literal) → holds (map opposite line) (opposite l) ≡ holds line l
 holds-map [] l = refl
-holds-map (k ∷ line) l = ap (λ b. b || holds (map opposite line) (opposite l)) (same_opposite l k) ∙ ap (λ b. same_literal l k || b) (holds-map line l)
+holds-map (k ∷ line) l = ap (λ b. b || holds (map opposite line) (opposite l)) (same_opposite l k) ∙ ap
+    (λ b. same_literal l k || b) (holds-map line l)
 
 -- all literals of a line are false without a conflict
-pub no_tautology : (trues line : List Literal) → IsConsistent trues → AreSame trues (map opposite line) → is_tautology line ≡ false
+pub no_tautology : (trues line : List Literal) → IsConsistent trues → AreSame trues (map opposite line) →
+    is_tautology line ≡ false
 no_tautology trues line consistent same =
     any_none (λ l. holds line (opposite l)) line
     (λ l h.
@@ -49,11 +55,13 @@ no_tautology trues line consistent same =
     sym (holds-map line (opposite l)) ∙ sym (same (opposite (opposite l))) ∙ consistent (opposite l) held)
 
 -- a literal of the line is true, since its negation was made false
-pub tautology : (trues line : List Literal) (n : ℕ) (l : Literal) → AreSame trues (map opposite (take n line)) → n < length line → get_or line n l ≡ l →
+pub tautology : (trues line : List Literal) (n : ℕ) (l : Literal) → AreSame trues (map opposite (take n line)) →
+    n < length line → get_or line n l ≡ l →
     literal_value trues l ≡ True → is_tautology line ≡ true
 tautology trues line n l same lt at is_true =
     let before : holds (take n line) (opposite l) ≡ true =
-    sym (holds-map (take n line) (opposite l)) ∙ ap (holds (map opposite (take n line))) (opposite-opposite l) ∙ sym (same l) ∙ value_true trues l is_true in
+    sym (holds-map (take n line) (opposite l)) ∙ ap (holds (map opposite (take n line))) (opposite-opposite l) ∙ sym
+    (same l) ∙ value_true trues l is_true in
     any_one (λ k. holds line (opposite k)) line l (held_at line n l lt at) (held_before line n (opposite l) before)
   where
     held_at : (xs : List Literal) (i : ℕ) (k : Literal) → i < length xs → get_or xs i k ≡ k → holds xs k ≡ true
@@ -61,16 +69,22 @@ tautology trues line n l same lt at is_true =
 
     held_before : (xs : List Literal) (i : ℕ) (k : Literal) → holds (take i xs) k ≡ true → holds xs k ≡ true
     held_before xs i k h =
-        ap (λ ys. holds ys k) (sym (take-append-drop i xs)) ∙ holds-append (take i xs) (drop i xs) k ∙ or_left (holds (take i xs) k) (holds (drop i xs) k) h
+        ap (λ ys. holds ys k) (sym (take-append-drop i xs)) ∙ holds-append (take i xs) (drop i xs) k ∙ or_left
+        (holds (take i xs) k) (holds (drop i xs) k) h
 
-pub line_goes_on : (live : LiveClauses) (line trues : List Literal) (hints : List ℕ) (b : Bool) (fault : Option ℕ) → b ≡ true → b ≡ not (is_tautology line) →
+pub line_goes_on : (live : LiveClauses) (line trues : List Literal) (hints : List ℕ) (b : Bool) (fault : Option ℕ) →
+    b ≡ true → b ≡ not (is_tautology line) →
     AreSame trues (map opposite line) → fault ≡ hint_fault live trues 1 hints → fault ≡ line_fault live line hints
 line_goes_on live line trues hints b fault went consistent same is =
     let plain : is_tautology line ≡ false = not-true (is_tautology line) (sym consistent ∙ went) in
-    is ∙ hint_fault-same live hints trues (map opposite line) 1 same ∙ sym (ap (λ t. cond t (Some 0) (hint_fault live (map opposite line) 1 hints)) plain)
+    is ∙ hint_fault-same live hints trues (map opposite line) 1 same ∙ sym
+    (ap (λ t. cond t (Some 0) (hint_fault live (map opposite line) 1 hints)) plain)
 
 -- where the hints are read
-pub hints_go_on : (E : Type 0) (live : LiveClauses) (line trues : List Literal) (hints : List ℕ) (b : Bool) (read : Result (Option ℕ) E) → b ≡ true → b ≡ not (is_tautology line) →
-    AreSame trues (map opposite line) → IfOk read (λ fault. fault ≡ hint_fault live trues 1 hints) → IfOk read (λ fault. fault ≡ line_fault live line hints)
-hints_go_on E live line trues hints b (Ok fault) went consistent same is = line_goes_on live line trues hints b fault went consistent same is
+pub hints_go_on : (E : Type 0) (live : LiveClauses) (line trues : List Literal) (hints : List ℕ) (b : Bool)
+    (read : Result (Option ℕ) E) → b ≡ true → b ≡ not (is_tautology line) →
+    AreSame trues (map opposite line) → IfOk read (λ fault. fault ≡ hint_fault live trues 1 hints) →
+    IfOk read (λ fault. fault ≡ line_fault live line hints)
+hints_go_on E live line trues hints b (Ok fault) went consistent same is =
+    line_goes_on live line trues hints b fault went consistent same is
 hints_go_on E live line trues hints b (Err stop) went consistent same is = tt

@@ -18,7 +18,8 @@ use Rattle.truth_values.specs.declared.values.TruthValue.TheVariants.{True, Fals
 use Rattle.truth_values.proofs.ReadStatus.{status_more}
 
 -- the literal of a unit clause stays unassigned
-free_more : (trues : List Literal) (s : Status) (l : Literal) (t : TruthValue) → UnitIsFree trues s → t ≡ literal_value trues l →
+free_more : (trues : List Literal) (s : Status) (l : Literal) (t : TruthValue) → UnitIsFree trues s →
+    t ≡ literal_value trues l →
     UnitIsFree trues (with_literal s l t)
 free_more trues s l False free is = free
 free_more trues s l True free is = tt
@@ -32,10 +33,12 @@ free_more trues stuck l Unassigned free is = tt
 
 pub free_after : (trues : List Literal) (s s' : Status) (l : Literal) (t : TruthValue) → UnitIsFree trues s →
     t ≡ literal_value trues l → s' ≡ with_literal s l t → UnitIsFree trues s'
-free_after trues s s' l t free is more = let P : Status → Type 0 = UnitIsFree trues in subst P (sym more) (free_more trues s l t free is)
+free_after trues s s' l t free is more = let P : Status → Type 0 = UnitIsFree trues in
+    subst P (sym more) (free_more trues s l t free is)
 
 -- and in range
-within_more : (n : ℕ) (s : Status) (l : Literal) (t : TruthValue) → UnitStandsWithin n s → variable_of l ≤ n → UnitStandsWithin n (with_literal s l t)
+within_more : (n : ℕ) (s : Status) (l : Literal) (t : TruthValue) → UnitStandsWithin n s → variable_of l ≤ n →
+    UnitStandsWithin n (with_literal s l t)
 within_more n s l False within in_range = within
 within_more n s l True within in_range = tt
 within_more n falsified l Unassigned within in_range = in_range
@@ -48,38 +51,47 @@ within_more n stuck l Unassigned within in_range = tt
 
 pub within_after : (n : ℕ) (s s' : Status) (l : Literal) (t : TruthValue) → UnitStandsWithin n s → variable_of l ≤ n →
     s' ≡ with_literal s l t → UnitStandsWithin n s'
-within_after n s s' l t within in_range more = let P : Status → Type 0 = UnitStandsWithin n in subst P (sym more) (within_more n s l t within in_range)
+within_after n s s' l t within in_range more = let P : Status → Type 0 = UnitStandsWithin n in
+    subst P (sym more) (within_more n s l t within in_range)
 
 -- the statuses of a clause that is read from a base
 read_more : (trues clause : List Literal) (l : Literal) (i : ℕ) → i < length clause → slice_get clause i ≡ Some l →
-    with_literal (status_by trues (not_false trues (take i clause))) l (literal_value trues l) ≡ status_by trues (not_false trues (take (i + 1) clause))
+    with_literal (status_by trues (not_false trues (take i clause))) l (literal_value trues l) ≡ status_by trues
+    (not_false trues (take (i + 1) clause))
 read_more trues clause l i lt at =
     let read : get_or clause i l ≡ l = get_or_from_slice_get clause i l l at in
-    let longer : take (i + 1) clause ≡ take i clause ++ l ∷ [] = take_more clause i l lt ∙ ap (λ k. take i clause ++ k ∷ []) read in
+    let longer : take (i + 1) clause ≡ take i clause ++ l ∷ [] =
+    take_more clause i l lt ∙ ap (λ k. take i clause ++ k ∷ []) read in
     status_more trues (take i clause) l ∙ ap (λ xs. status_by trues (not_false trues xs)) (sym longer)
 
 -- the status of the literals before a place
 abbrev pub IsStatusBefore : List Literal → Option (List Literal) → ℕ → Status → Type 0
-IsStatusBefore trues found n status = (clause : List Literal) → found ≡ Some clause → status ≡ status_by trues (not_false trues (take n clause))
+IsStatusBefore trues found n status = (clause : List Literal) → found ≡ Some clause →
+    status ≡ status_by trues (not_false trues (take n clause))
 
-pub status_before_more : (trues : List Literal) (found : Option (List Literal)) (i n : ℕ) (l : Literal) (s s' : Status) (t : TruthValue) →
-    Some n ≡ clause_size found → i < n → literal_at found i ≡ Some l → t ≡ literal_value trues l → IsStatusBefore trues found i s → s' ≡ with_literal s l t →
+pub status_before_more : (trues : List Literal) (found : Option (List Literal)) (i n : ℕ) (l : Literal) (s s' : Status)
+    (t : TruthValue) →
+    Some n ≡ clause_size found → i < n → literal_at found i ≡ Some l → t ≡ literal_value trues l →
+    IsStatusBefore trues found i s → s' ≡ with_literal s l t →
     IsStatusBefore trues found (i + 1) s'
 status_before_more trues None i n l s s' t size lt at is before more clause found = cc
 status_before_more trues (Some read) i n l s s' t size lt at is before more clause found =
     let long : n ≡ length read = cc in
     let same : read ≡ clause = cc in
     let P : List Literal → Type 0 = λ c. s' ≡ status_by trues (not_false trues (take (i + 1) c)) in
-    subst P same (more ∙ ap (λ v. with_literal s l v) is ∙ ap (λ x. with_literal x l (literal_value trues l)) (before read refl) ∙ read_more trues read l i (omega (arith, long)) at)
+    subst P same (more ∙ ap (λ v. with_literal s l v) is ∙ ap (λ x. with_literal x l (literal_value trues l))
+    (before read refl) ∙ read_more trues read l i (omega (arith, long)) at)
 
-pub status_whole : (trues : List Literal) (found : Option (List Literal)) (i n : ℕ) (s : Status) → Some n ≡ clause_size found → n ≤ i → IsStatusBefore trues found i s →
+pub status_whole : (trues : List Literal) (found : Option (List Literal)) (i n : ℕ) (s : Status) →
+    Some n ≡ clause_size found → n ≤ i → IsStatusBefore trues found i s →
     s ≡ status_of trues found
 status_whole trues None i n s size all before = cc
 status_whole trues (Some clause) i n s size all before =
     let long : n ≡ length clause = cc in
     before clause refl ∙ ap (λ c. status_by trues (not_false trues c)) (take_all i clause (omega (arith, long)))
 
-pub literal_in_range : (found : Option (List Literal)) (i n m : ℕ) (l : Literal) → Some n ≡ clause_size found → i < n → literal_at found i ≡ Some l → IfSome found (StandsWithin m) →
+pub literal_in_range : (found : Option (List Literal)) (i n m : ℕ) (l : Literal) → Some n ≡ clause_size found → i < n →
+    literal_at found i ≡ Some l → IfSome found (StandsWithin m) →
     variable_of l ≤ m
 literal_in_range None i n m l size lt at within = cc
 literal_in_range (Some clause) i n m l size lt at within =
@@ -96,7 +108,8 @@ with_stuck l Unassigned = refl
 
 stuck_stays : (trues clause : List Literal) (i j : ℕ) → status_by trues (not_false trues (take i clause)) ≡ stuck
     → status_by trues (not_false trues (take (i + j) clause)) ≡ stuck
-stuck_stays trues clause i zero is_stuck = ap (λ n. status_by trues (not_false trues (take n clause))) (omega arith) ∙ is_stuck
+stuck_stays trues clause i zero is_stuck = ap (λ n. status_by trues (not_false trues (take n clause))) (omega arith)
+    ∙ is_stuck
 stuck_stays trues clause i (suc j) is_stuck =
     let before = stuck_stays trues clause i j is_stuck in
     let on : i + suc j ≡ i + j + 1 = omega arith in
@@ -107,10 +120,12 @@ stuck_stays trues clause i (suc j) is_stuck =
           ∙ sym (read_more trues clause l (i + j) below (slice_get-get_or clause (i + j) (positive 0) below))
           ∙ ap (λ s. with_literal s l (literal_value trues l)) before ∙ with_stuck l (literal_value trues l)
       | inr past ↦
-          ap (λ xs. status_by trues (not_false trues xs)) (take_all (i + suc j) clause (omega (arith, past)) ∙ sym (take_all (i + j) clause past)) ∙ before
+          ap (λ xs. status_by trues (not_false trues xs)) (take_all (i + suc j) clause (omega (arith, past)) ∙ sym
+          (take_all (i + j) clause past)) ∙ before
     ]
 
-pub status_stuck : (trues : List Literal) (found : Option (List Literal)) (i n : ℕ) (s : Status) → Some n ≡ clause_size found → i ≤ n →
+pub status_stuck : (trues : List Literal) (found : Option (List Literal)) (i n : ℕ) (s : Status) →
+    Some n ≡ clause_size found → i ≤ n →
     IsStatusBefore trues found i s → s ≡ stuck → stuck ≡ status_of trues found
 status_stuck trues None i n s size below before is_stuck = cc
 status_stuck trues (Some clause) i n s size below before is_stuck =

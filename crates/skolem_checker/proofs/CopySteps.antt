@@ -13,17 +13,20 @@ use Rattle.skolem_checker.proofs.RenamedNetlists.{renamed_variable, known_input,
 
 -- the next gate to be known
 module _ (net : Netlist) (kept : IsNetlist net) (keys : List ℕ) (j : ℕ) (below : j < length net.gates)
-    (learnt : keys ≡ take (length net.inputs + j + 1) (known_variables net)) (v : ℕ) (is : v ≡ 2 * (gate_at net j).variable) where
+    (learnt : keys ≡ take (length net.inputs + j + 1) (known_variables net)) (v : ℕ)
+    (is : v ≡ 2 * (gate_at net j).variable) where
   gate_is : get_or (known_variables net) (length net.inputs + j + 1) 0 ≡ v / 2
   gate_is = gate_among net j 0 below ∙ sym (ap (λ l. l / 2) is ∙ half-even (gate_at net j).variable)
 
   pub gate_unlearnt : Contains keys (v / 2) → ⊥
   gate_unlearnt among =
-      not_before (known_variables net) (length net.inputs + j + 1) 0 (known_once net kept) (omega (arith, known_length net))
+      not_before (known_variables net) (length net.inputs + j + 1) 0 (known_once net kept)
+      (omega (arith, known_length net))
       (subst (Contains (take (length net.inputs + j + 1) (known_variables net))) (sym gate_is)
       (subst (λ ks. Contains ks (v / 2)) learnt among))
 
-  pub gate_learnt : (new : List ℕ) → new ≡ keys ++ v / 2 ∷ [] → new ≡ take (length net.inputs + (j + 1) + 1) (known_variables net)
+  pub gate_learnt : (new : List ℕ) → new ≡ keys ++ v / 2 ∷ [] →
+      new ≡ take (length net.inputs + (j + 1) + 1) (known_variables net)
   gate_learnt new added =
       let on : length net.inputs + (j + 1) + 1 ≡ length net.inputs + j + 1 + 1 = omega arith in
       added
@@ -38,7 +41,8 @@ module _ (net : Netlist) (keys items : List ℕ) (same : keys ≡ known_variable
   pub next_input_known : Contains keys (slice_index items i)
   next_input_known =
       subst (λ ks. Contains ks (slice_index items i)) (sym same)
-      (known_input net (slice_index items i) (subst (λ xs. Contains xs (slice_index items i)) items_are (Contains-get_or items i 0 below)))
+      (known_input net (slice_index items i) (subst (λ xs. Contains xs (slice_index items i)) items_are
+      (Contains-get_or items i 0 below)))
 
   module _ (kept : IsNetlist net) (copy : Netlist) (so_far : copy ≡ renumbered_first net i 0 0) (m : ℕ)
       (number : m ≡ number_in keys (slice_index items i)) where
@@ -46,40 +50,49 @@ module _ (net : Netlist) (keys items : List ℕ) (same : keys ≡ known_variable
     inside = omega (arith, below, ap length items_are)
 
     number_is : m ≡ dense_number net (slice_index net.inputs i)
-    number_is = number ∙ ap (λ ks. number_in ks (slice_index items i)) same ∙ ap (λ xs. dense_number net (slice_index xs i)) items_are
+    number_is = number ∙ ap (λ ks. number_in ks (slice_index items i)) same ∙ ap
+        (λ xs. dense_number net (slice_index xs i)) items_are
 
     pub next_input_in_range : IsVariable copy.max_var m
     next_input_in_range =
         subst (λ c. IsVariable c.max_var m) (sym so_far)
-        (subst (IsVariable (length net.inputs + length net.gates)) (sym number_is) (input_is_variable net kept i inside))
+        (subst (IsVariable (length net.inputs + length net.gates)) (sym number_is)
+        (input_is_variable net kept i inside))
 
     pub next_input_undefined : IsDefined copy m → ⊥
     next_input_undefined defined =
-        input_is_new net kept i inside (subst (IsDefined (renumbered_first net i 0 0)) number_is (subst (λ c. IsDefined c m) so_far defined))
+        input_is_new net kept i inside (subst (IsDefined (renumbered_first net i 0 0)) number_is
+        (subst (λ c. IsDefined c m) so_far defined))
 
-    pub next_input_copied : (new : Netlist) → new ≡ record copy { inputs = copy.inputs ++ m ∷ [] } → new ≡ renumbered_first net (i + 1) 0 0
+    pub next_input_copied : (new : Netlist) → new ≡ record copy { inputs = copy.inputs ++ m ∷ [] } →
+        new ≡ renumbered_first net (i + 1) 0 0
     next_input_copied new added =
         added
         ∙ ap (λ (c : Netlist). record c { inputs = c.inputs ++ m ∷ [] }) so_far
-        ∙ ap {B = Netlist} (λ (n : ℕ). record (renumbered_first net i 0 0) { inputs = map (dense_number net) (take i net.inputs) ++ n ∷ [] }) number_is
+        ∙ ap {B = Netlist} (λ (n : ℕ). record (renumbered_first net i 0 0)
+        { inputs = map (dense_number net) (take i net.inputs) ++ n ∷ [] }) number_is
         ∙ input_copied net kept i inside
 
 -- a literal whose variable is known
-module _ (net : Netlist) (keys : List ℕ) (same : keys ≡ known_variables net) (l : ℕ) (known : Contains (known_variables net) (literal_variable l)) where
+module _ (net : Netlist) (keys : List ℕ) (same : keys ≡ known_variables net) (l : ℕ)
+    (known : Contains (known_variables net) (literal_variable l)) where
   pub literal_known : (read : ℕ) → read ≡ l → Contains keys (literal_variable read)
   literal_known read is =
       subst (λ ks. Contains ks (literal_variable read)) (sym same)
       (subst (Contains (known_variables net)) (sym (ap literal_variable is)) known)
 
-  pub literal_is : (read renumbered : ℕ) → read ≡ l → renumbered ≡ renamed_literal (number_in keys) read → renumbered ≡ renamed_literal (dense_number net) l
+  pub literal_is : (read renumbered : ℕ) → read ≡ l → renumbered ≡ renamed_literal (number_in keys) read →
+      renumbered ≡ renamed_literal (dense_number net) l
   literal_is read renumbered is renamed =
       renamed ∙ ap (renamed_literal (number_in keys)) is ∙ ap (λ ks. renamed_literal (number_in ks) l) same
 
-  pub literal_in_range : (copy : Netlist) (read renumbered : ℕ) → read ≡ l → renumbered ≡ renamed_literal (number_in keys) read
+  pub literal_in_range : (copy : Netlist) (read renumbered : ℕ) → read ≡ l →
+      renumbered ≡ renamed_literal (number_in keys) read
       → copy.max_var ≡ length net.inputs + length net.gates → IsLiteral copy.max_var renumbered
   literal_in_range copy read renumbered is renamed most =
       subst (λ m. IsLiteral m renumbered) (sym most)
-      (subst (IsLiteral (length net.inputs + length net.gates)) (sym (literal_is read renumbered is renamed)) (literal_fits net l known))
+      (subst (IsLiteral (length net.inputs + length net.gates)) (sym (literal_is read renumbered is renamed))
+      (literal_fits net l known))
 
 -- the next gate to be copied
 module _ (net : Netlist) (kept : IsNetlist net) (complete : IsComplete net) (j : ℕ) (below : j < length net.gates) where
@@ -88,7 +101,8 @@ module _ (net : Netlist) (kept : IsNetlist net) (complete : IsComplete net) (j :
       subst (Contains (known_variables net)) (sym (half-even (gate_at net j).variable))
       (known_gate net (gate_at net j) (gate_at_member net j below))
 
-  pub gate_sides_known : Contains (known_variables net) (literal_variable (gate_at net j).left) × Contains (known_variables net) (literal_variable (gate_at net j).right)
+  pub gate_sides_known : Contains (known_variables net) (literal_variable (gate_at net j).left) × Contains
+      (known_variables net) (literal_variable (gate_at net j).right)
   gate_sides_known =
       let sides = sides_grounded net (gate_at net j) kept complete (gate_at_member net j below) in
       (grounded_known net sides.0, grounded_known net sides.1)
@@ -103,22 +117,27 @@ module _ (net : Netlist) (kept : IsNetlist net) (complete : IsComplete net) (j :
     pub next_gate_in_range : IsVariable copy.max_var (v / 2)
     next_gate_in_range =
         subst (λ c. IsVariable c.max_var (v / 2)) (sym so_far)
-        (subst (IsVariable (length net.inputs + length net.gates)) (sym gate_number_is) (gate_is_variable net kept j below))
+        (subst (IsVariable (length net.inputs + length net.gates)) (sym gate_number_is)
+        (gate_is_variable net kept j below))
 
     pub next_gate_undefined : IsDefined copy (v / 2) → ⊥
     next_gate_undefined defined =
         gate_is_new net kept j below
-        (subst (IsDefined (renumbered_first net (length net.inputs) j 0)) gate_number_is (subst (λ c. IsDefined c (v / 2)) so_far defined))
+        (subst (IsDefined (renumbered_first net (length net.inputs) j 0)) gate_number_is
+        (subst (λ c. IsDefined c (v / 2)) so_far defined))
 
 -- the next output to be copied
-module _ (net : Netlist) (complete : IsComplete net) (items : List ℕ) (items_are : items ≡ net.outputs) (o : ℕ) (below : o < length items) where
+module _ (net : Netlist) (complete : IsComplete net) (items : List ℕ) (items_are : items ≡ net.outputs) (o : ℕ)
+    (below : o < length items) where
   pub output_known : Contains (known_variables net) (literal_variable (slice_index items o))
   output_known =
       subst (λ xs. Contains (known_variables net) (literal_variable (slice_index xs o))) (sym items_are)
       (grounded_known net (complete.outputs o 0 (omega (arith, below, ap length items_are))))
 
-  pub next_output_copied : (copy new : Netlist) (l : ℕ) → copy ≡ renumbered_first net (length net.inputs) (length net.gates) o
-      → l ≡ renamed_literal (dense_number net) (slice_index items o) → new ≡ record copy { outputs = copy.outputs ++ l ∷ [] }
+  pub next_output_copied : (copy new : Netlist) (l : ℕ) → copy ≡ renumbered_first net (length net.inputs)
+      (length net.gates) o
+      → l ≡ renamed_literal (dense_number net) (slice_index items o) →
+      new ≡ record copy { outputs = copy.outputs ++ l ∷ [] }
       → new ≡ renumbered_first net (length net.inputs) (length net.gates) (o + 1)
   next_output_copied copy new l so_far is added =
       let inside : o < length net.outputs = omega (arith, below, ap length items_are) in
@@ -127,5 +146,6 @@ module _ (net : Netlist) (complete : IsComplete net) (items : List ℕ) (items_a
       ∙ ap {B = Netlist} (λ (out : ℕ). record (renumbered_first net (length net.inputs) (length net.gates) o) {
         outputs = map (renamed_literal (dense_number net)) (take o net.outputs) ++ out ∷ [];
       }) (is ∙ ap (λ xs. renamed_literal (dense_number net) (slice_index xs o)) items_are)
-      ∙ ap {B = Netlist} (λ (outs : List ℕ). record (renumbered_first net (length net.inputs) (length net.gates) o) { outputs = outs })
+      ∙ ap {B = Netlist} (λ (outs : List ℕ). record (renumbered_first net (length net.inputs) (length net.gates) o)
+      { outputs = outs })
       (sym (map_more (renamed_literal (dense_number net)) net.outputs o 0 inside))

@@ -18,7 +18,8 @@ use Rattle.skolem_checker.specs.Renaming.{renamed_literal, renamed_gate, known_v
 use Rattle.skolem_checker.proofs.RenamedNetlists.{IsRenaming}
 
 -- an element of a list without repetition isn't among the ones before it
-pub not_before : (xs : List ℕ) (n d : ℕ) → AllPairs (λ v w. v ≢ w) xs → n < length xs → Contains (take n xs) (get_or xs n d) → ⊥
+pub not_before : (xs : List ℕ) (n d : ℕ) → AllPairs (λ v w. v ≢ w) xs → n < length xs →
+    Contains (take n xs) (get_or xs n d) → ⊥
 not_before xs n d once below (k, k_in, is) =
     let long : length (take n xs) ≡ n = length-take-le n xs (omega arith) in
     let early : k < n = omega (arith, k_in, long) in
@@ -27,12 +28,14 @@ not_before xs n d once below (k, k_in, is) =
 
 pub known_length : (net : Netlist) → length (known_variables net) ≡ 1 + (length net.inputs + length net.gates)
 known_length net =
-    let listed : length (net.inputs ++ gate_variables net) ≡ length net.inputs + length (gate_variables net) = length-append net.inputs (gate_variables net) in
+    let listed : length (net.inputs ++ gate_variables net) ≡ length net.inputs + length (gate_variables net) =
+    length-append net.inputs (gate_variables net) in
     let gates : length (gate_variables net) ≡ length net.gates = length-map net.gates variable_of_gate in
     omega arith
 
 -- where an input, and a gate, stands among the known variables
-pub input_among : (net : Netlist) (i d : ℕ) → i < length net.inputs → get_or (known_variables net) (i + 1) d ≡ get_or net.inputs i d
+pub input_among : (net : Netlist) (i d : ℕ) → i < length net.inputs →
+    get_or (known_variables net) (i + 1) d ≡ get_or net.inputs i d
 input_among net i d below =
     let on : i + 1 ≡ suc i = omega arith in
     ap (λ n. get_or (known_variables net) n d) on ∙ get_or_append_left net.inputs (gate_variables net) d i below
@@ -46,9 +49,11 @@ gate_among net j d below =
     ∙ get_or-map variable_of_gate net.gates j _ d below
 
 -- the number of a known variable, and its literals, are the copy's
-pub number_in_range : (net : Netlist) (v : ℕ) → Contains (known_variables net) v → dense_number net v ≤ length net.inputs + length net.gates
+pub number_in_range : (net : Netlist) (v : ℕ) → Contains (known_variables net) v →
+    dense_number net v ≤ length net.inputs + length net.gates
 number_in_range net v known =
-    let below : dense_number net v < length (known_variables net) = place-below (known_variables net) v (has-contains (known_variables net) v known) in
+    let below : dense_number net v < length (known_variables net) =
+    place-below (known_variables net) v (has-contains (known_variables net) v known) in
     omega (arith, known_length net)
 
 pub literal_fits : (net : Netlist) (l : ℕ) → Contains (known_variables net) (literal_variable l)
@@ -60,7 +65,8 @@ module _ (net : Netlist) (kept : IsNetlist net) where
   positive =
       All-append (λ v. 0 ≢ v) net.inputs (gate_variables net)
       (λ k d below e. omega (arith, (kept.inputs_fit k d below).0))
-      (All-map (λ v. 0 ≢ v) variable_of_gate net.gates (λ k d below e. omega (arith, (kept.gates_fit k d below).variable.0)))
+      (All-map (λ v. 0 ≢ v) variable_of_gate net.gates (λ k d below e. omega
+      (arith, (kept.gates_fit k d below).variable.0)))
 
   in_range : All (λ v. v ≤ net.max_var) (known_variables net)
   in_range =
@@ -74,14 +80,16 @@ module _ (net : Netlist) (kept : IsNetlist net) where
       let none : Gate = record { variable = 0; left = 0; right = 0 } in
       let inside : j < length net.gates = rw length-map at within in
       kept.gates_once i j none below inside
-      (sym (get_or-map variable_of_gate net.gates i none d (omega arith)) ∙ e ∙ get_or-map variable_of_gate net.gates j none d inside)
+      (sym (get_or-map variable_of_gate net.gates i none d (omega arith)) ∙ e
+      ∙ get_or-map variable_of_gate net.gates j none d inside)
 
   no_input : All (λ v. has net.inputs v ≡ false) (gate_variables net)
   no_input =
       All-map (λ v. has net.inputs v ≡ false) variable_of_gate net.gates (λ k d below.
       elim (cases_Bool (has net.inputs (get_or net.gates k d).variable)) [
         | inl among ↦
-            absurd (All-contains (λ x. All (λ g. x ≢ g.variable) net.gates) net.inputs (get_or net.gates k d).variable kept.apart
+            absurd (All-contains (λ x. All (λ g. x ≢ g.variable) net.gates) net.inputs
+            (get_or net.gates k d).variable kept.apart
             (contains-has net.inputs (get_or net.gates k d).variable among) k d below refl)
         | inr apart ↦ apart
       ])
@@ -103,7 +111,8 @@ module _ (net : Netlist) (kept : IsNetlist net) where
   few_known =
       let bound : length (known_variables net) ≤ net.max_var + 1 =
       length-le_from_distinct_below (known_variables net) (net.max_var + 1) known_distinct (λ q among.
-      let known = contains-has (known_variables net) q (sym (ap (λ p. list_any p (known_variables net)) (flip q)) ∙ among) in
+      let known = contains-has (known_variables net) q (sym (ap (λ p. list_any p (known_variables net)) (flip q))
+      ∙ among) in
       let le : q ≤ net.max_var = All-contains (λ v. v ≤ net.max_var) (known_variables net) q in_range known in
       omega arith) in
       omega (arith, bound, known_length net, kept.numbered)
@@ -116,9 +125,11 @@ module _ (net : Netlist) (kept : IsNetlist net) where
   number_of_input i below =
       ap (dense_number net) (sym (input_among net i 0 below)) ∙ number_at (i + 1) 0 (omega (arith, known_length net))
 
-  pub number_of_gate : (j : ℕ) → j < length net.gates → dense_number net (gate_at net j).variable ≡ length net.inputs + j + 1
+  pub number_of_gate : (j : ℕ) → j < length net.gates → dense_number net (gate_at net j).variable
+      ≡ length net.inputs + j + 1
   number_of_gate j below =
-      ap (dense_number net) (sym (gate_among net j 0 below)) ∙ number_at (length net.inputs + j + 1) 0 (omega (arith, known_length net))
+      ap (dense_number net) (sym (gate_among net j 0 below)) ∙ number_at (length net.inputs + j + 1) 0
+      (omega (arith, known_length net))
 
   pub dense_renaming : IsRenaming net (dense_number net)
   dense_renaming = record {
@@ -144,7 +155,8 @@ module _ (net : Netlist) (kept : IsNetlist net) where
   no_gate_yet j m within later (k, k_in, is) =
       let none : Gate = record { variable = 0; left = 0; right = 0 } in
       let long : length (take j net.gates) ≡ j = length-take-le j net.gates within in
-      let listed : length (map variable_of_gate (map (renamed_gate (dense_number net)) (take j net.gates))) ≡ length (map (renamed_gate (dense_number net)) (take j net.gates)) =
+      let listed : length (map variable_of_gate (map (renamed_gate (dense_number net)) (take j net.gates))) ≡ length
+      (map (renamed_gate (dense_number net)) (take j net.gates)) =
       length-map (map (renamed_gate (dense_number net)) (take j net.gates)) variable_of_gate in
       let mapped : length (map (renamed_gate (dense_number net)) (take j net.gates)) ≡ length (take j net.gates) =
       length-map (take j net.gates) (renamed_gate (dense_number net)) in
@@ -153,7 +165,8 @@ module _ (net : Netlist) (kept : IsNetlist net) where
       sym is
       ∙ get_or-map variable_of_gate (map (renamed_gate (dense_number net)) (take j net.gates)) k none m (omega arith)
       ∙ ap variable_of_gate (get_or-map (renamed_gate (dense_number net)) (take j net.gates) k none none (omega arith))
-      ∙ ap (λ (g : Gate). dense_number net g.variable) (get_or-take j net.gates k none early ∙ get_or_default net.gates k none _ (omega arith))
+      ∙ ap (λ (g : Gate). dense_number net g.variable) (get_or-take j net.gates k none early
+      ∙ get_or_default net.gates k none _ (omega arith))
       ∙ number_of_gate k (omega arith) in
       omega arith
 
@@ -164,7 +177,8 @@ module _ (net : Netlist) (kept : IsNetlist net) where
 
   pub input_is_new : (i : ℕ) → i < length net.inputs
       → IsDefined (renumbered_first net i 0 0) (dense_number net (slice_index net.inputs i)) → ⊥
-  input_is_new i below (inl among) = no_input_yet i _ (omega arith) (let number = number_of_input i below in omega (arith, number)) among
+  input_is_new i below (inl among) = no_input_yet i _ (omega arith)
+      (let number = number_of_input i below in omega (arith, number)) among
   input_is_new i below (inr (k, k_in, is)) = absurd (omega arith)
 
   pub input_copied : (i : ℕ) → i < length net.inputs
@@ -172,7 +186,8 @@ module _ (net : Netlist) (kept : IsNetlist net) where
         inputs = map (dense_number net) (take i net.inputs) ++ dense_number net (slice_index net.inputs i) ∷ [];
       } ≡ renumbered_first net (i + 1) 0 0
   input_copied i below =
-      ap (λ xs. record (renumbered_first net i 0 0) { inputs = xs }) (sym (map_more (dense_number net) net.inputs i 0 below))
+      ap (λ xs. record (renumbered_first net i 0 0) { inputs = xs })
+      (sym (map_more (dense_number net) net.inputs i 0 below))
 
   -- the next gate
   pub gate_is_variable : (j : ℕ) → j < length net.gates
@@ -182,5 +197,7 @@ module _ (net : Netlist) (kept : IsNetlist net) where
   pub gate_is_new : (j : ℕ) → j < length net.gates
       → IsDefined (renumbered_first net (length net.inputs) j 0) (dense_number net (gate_at net j).variable) → ⊥
   gate_is_new j below (inl among) =
-      no_input_yet (length net.inputs) _ (omega arith) (let number = number_of_gate j below in omega (arith, number)) among
-  gate_is_new j below (inr among) = no_gate_yet j _ (omega arith) (let number = number_of_gate j below in omega (arith, number)) among
+      no_input_yet (length net.inputs) _ (omega arith) (let number = number_of_gate j below in
+      omega (arith, number)) among
+  gate_is_new j below (inr among) = no_gate_yet j _ (omega arith)
+      (let number = number_of_gate j below in omega (arith, number)) among

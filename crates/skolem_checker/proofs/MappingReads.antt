@@ -18,7 +18,8 @@ use Rattle.skolem_checker.specs.declared.mapping.MapName.{MapName}
 
 pub existential-declared : (f : Dqbf) (v : ℕ) → is_some (existential_of f v) ≡ declares f Outputs v
 existential-declared f v =
-    is_some-find (λ y. y.variable == v) f.existentials ∙ sym (list_any-map (λ w. w == v) (λ y. y.variable) f.existentials)
+    is_some-find (λ y. y.variable == v) f.existentials ∙ sym
+    (list_any-map (λ w. w == v) (λ y. y.variable) f.existentials)
 
 or_right : (a : Bool) → (a || true) ≡ true
 or_right true = refl
@@ -30,16 +31,21 @@ or_left false b h = cc
 
 either-declared : (f : Dqbf) (kind : Kind) (v : ℕ) → declares f kind v ≡ true → has (declared f) v ≡ true
 either-declared f Inputs v h =
-    list_any-append (λ u. u == v) f.universals (existential_variables f) ∙ or_left (has f.universals v) (has (existential_variables f) v) h
+    list_any-append (λ u. u == v) f.universals (existential_variables f) ∙ or_left (has f.universals v)
+    (has (existential_variables f) v) h
 either-declared f Outputs v h =
-    list_any-append (λ u. u == v) f.universals (existential_variables f) ∙ ap (λ b. has f.universals v || b) h ∙ or_right (has f.universals v)
+    list_any-append (λ u. u == v) f.universals (existential_variables f) ∙ ap (λ b. has f.universals v || b) h
+    ∙ or_right (has f.universals v)
 
-pub declared-in_range : (f : Dqbf) (kind : Kind) (v : ℕ) → HasLawfulPrefix f → declares f kind v ≡ true → v ≤ f.variables
+pub declared-in_range : (f : Dqbf) (kind : Kind) (v : ℕ) → HasLawfulPrefix f → declares f kind v ≡ true →
+    v ≤ f.variables
 declared-in_range f kind v lawful h =
-    (All-contains (λ w. (1 ≤ w) × (w ≤ f.variables)) (declared f) v lawful.in_range (contains-has (declared f) v (either-declared f kind v h))).1
+    (All-contains (λ w. (1 ≤ w) × (w ≤ f.variables)) (declared f) v lawful.in_range
+    (contains-has (declared f) v (either-declared f kind v h))).1
 
 -- a mark behind the others
-pub seen-set : (bits : List Bool) (vs : List ℕ) (v : ℕ) → v < length bits → IsSeen bits vs → IsSeen (set bits v true) (vs ++ v ∷ [])
+pub seen-set : (bits : List Bool) (vs : List ℕ) (v : ℕ) → v < length bits → IsSeen bits vs →
+    IsSeen (set bits v true) (vs ++ v ∷ [])
 seen-set bits vs v below seen w =
     elim (cases_eq v w) [
       | inl same ↦
@@ -63,14 +69,17 @@ one_less count place below = omega arith
 
 pub named-step : (f : Dqbf) (kind : Kind) (symbols : SymbolTable) (count place v : ℕ) (earlier : List ℕ)
     → place < count → symbol_variable f kind earlier (symbol_at symbols kind place) ≡ Ok v
-    → named_from f kind symbols (count - place) place earlier ≡ named_from f kind symbols (count - (place + 1)) (place + 1) (earlier ++ v ∷ [])
+    → named_from f kind symbols (count - place) place earlier ≡ named_from f kind symbols (count - (place + 1))
+    (place + 1) (earlier ++ v ∷ [])
 named-step f kind symbols count place v earlier below h =
     ap (λ n. named_from f kind symbols n place earlier) (one_less count place below)
-    ∙ ap (λ r. behind_symbol kind place r (λ w. named_from f kind symbols (count - (place + 1)) (place + 1) (earlier ++ w ∷ []))) h
+    ∙ ap (λ r. behind_symbol kind place r (λ w. named_from f kind symbols (count - (place + 1)) (place + 1)
+    (earlier ++ w ∷ []))) h
 
 pub named-fault : (f : Dqbf) (kind : Kind) (symbols : SymbolTable) (count place : ℕ) (name : MapName) (earlier : List ℕ)
     → place < count → symbol_variable f kind earlier (symbol_at symbols kind place) ≡ Err name
     → named_from f kind symbols (count - place) place earlier ≡ Err (record { name = name; at = place_of kind place })
 named-fault f kind symbols count place name earlier below h =
     ap (λ n. named_from f kind symbols n place earlier) (one_less count place below)
-    ∙ ap (λ r. behind_symbol kind place r (λ w. named_from f kind symbols (count - (place + 1)) (place + 1) (earlier ++ w ∷ []))) h
+    ∙ ap (λ r. behind_symbol kind place r (λ w. named_from f kind symbols (count - (place + 1)) (place + 1)
+    (earlier ++ w ∷ []))) h

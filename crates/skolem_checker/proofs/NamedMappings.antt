@@ -54,18 +54,22 @@ module _ (f : Dqbf) (symbols : SymbolTable) (kind : Kind) where
   abbrev Says : ℕ → List ℕ → Result ℕ MapName → Type 0
   Says place earlier (Ok v) = Names f symbols kind place v × (has earlier v ≡ false)
   Says place earlier (Err SymbolMissing) = symbol_at symbols kind place ≡ None
-  Says place earlier (Err SymbolNumber) = IsSome (symbol_at symbols kind place) × ((v : ℕ) → ¬ Names f symbols kind place v)
+  Says place earlier (Err SymbolNumber) = IsSome (symbol_at symbols kind place) ×
+      ((v : ℕ) → ¬ Names f symbols kind place v)
   Says place earlier (Err SymbolTwice) = (v : ℕ) × Names f symbols kind place v × (has earlier v ≡ true)
   Says place earlier (Err InputCount) = ⊥
   Says place earlier (Err OutputCount) = ⊥
 
-  number_is : (place v : ℕ) (name : List ℕ) → symbol_at symbols kind place ≡ Some name → Names f symbols kind place v → number_of name ≡ Int (pos v)
+  number_is : (place v : ℕ) (name : List ℕ) → symbol_at symbols kind place ≡ Some name → Names f symbols kind place v →
+      number_of name ≡ Int (pos v)
   number_is place v name is names = ap number_of (same_name name names.name (sym is ∙ names.symbol)) ∙ names.number
 
-  has_one : (place : ℕ) (name : List ℕ) → symbol_at symbols kind place ≡ Some name → IsSome (symbol_at symbols kind place)
+  has_one : (place : ℕ) (name : List ℕ) → symbol_at symbols kind place ≡ Some name →
+      IsSome (symbol_at symbols kind place)
   has_one place name is = ap is_some is
 
-  says-variable : (place v : ℕ) (earlier name : List ℕ) → symbol_at symbols kind place ≡ Some name → number_of name ≡ Int (pos v)
+  says-variable : (place v : ℕ) (earlier name : List ℕ) → symbol_at symbols kind place ≡ Some name →
+      number_of name ≡ Int (pos v)
       → Says place earlier (new_variable f kind earlier (Some v))
   says-variable place v earlier name is number =
       elim (cases_Bool (has (variables_of f kind) v)) [
@@ -73,10 +77,13 @@ module _ (f : Dqbf) (symbols : SymbolTable) (kind : Kind) where
           has_one place name is,
           λ w names.
               let same : v ≡ w = int_same v w (sym number ∙ number_is place w name is names) in
-              both_ways (has (variables_of f kind) v) unknown (has-contains (variables_of f kind) v (subst (Contains (variables_of f kind)) (sym same) names.declared)),
+              both_ways (has (variables_of f kind) v) unknown
+              (has-contains (variables_of f kind) v (subst (Contains (variables_of f kind))
+              (sym same) names.declared)),
         )
         | inl known ↦
-            let names : Names f symbols kind place v = record { name = name; symbol = is; number = number; declared = contains-has (variables_of f kind) v known } in
+            let names : Names f symbols kind place v = record
+            { name = name; symbol = is; number = number; declared = contains-has (variables_of f kind) v known } in
             elim (cases_Bool (has earlier v)) [
               | inl twice ↦ rw known (rw twice (v, names, twice))
               | inr fresh ↦ rw known (rw fresh (names, fresh))
@@ -84,14 +91,20 @@ module _ (f : Dqbf) (symbols : SymbolTable) (kind : Kind) where
       ]
 
   -- a symbol that is no natural number
-  says-nothing : (place : ℕ) (earlier name : List ℕ) (number : Number) → symbol_at symbols kind place ≡ Some name → number_of name ≡ number
+  says-nothing : (place : ℕ) (earlier name : List ℕ) (number : Number) → symbol_at symbols kind place ≡ Some name →
+      number_of name ≡ number
       → ((v : ℕ) → number ≡ Int (pos v) → ⊥) → Says place earlier (Err SymbolNumber)
-  says-nothing place earlier name number is read none = (has_one place name is, λ w names. none w (sym read ∙ number_is place w name is names))
+  says-nothing place earlier name number is read none = (
+    has_one place name is,
+    λ w names. none w (sym read ∙ number_is place w name is names),
+  )
 
-  says-number : (place : ℕ) (earlier name : List ℕ) (number : Number) → symbol_at symbols kind place ≡ Some name → number_of name ≡ number
+  says-number : (place : ℕ) (earlier name : List ℕ) (number : Number) → symbol_at symbols kind place ≡ Some name →
+      number_of name ≡ number
       → Says place earlier (new_variable f kind earlier (natural number))
   says-number place earlier name (Int (pos v)) is read = says-variable place v earlier name is read
-  says-number place earlier name (Int (negsuc n)) is read = says-nothing place earlier name (Int (negsuc n)) is read (not_negative n)
+  says-number place earlier name (Int (negsuc n)) is read = says-nothing place earlier name (Int (negsuc n)) is read
+      (not_negative n)
   says-number place earlier name NotANumber is read = says-nothing place earlier name NotANumber is read no_number
   says-number place earlier name TooBig is read = says-nothing place earlier name TooBig is read not_large
 
@@ -100,15 +113,18 @@ module _ (f : Dqbf) (symbols : SymbolTable) (kind : Kind) where
   says-symbol place earlier None is = is
   says-symbol place earlier (Some name) is = says-number place earlier name (number_of name) is refl
 
-  says : (place : ℕ) (earlier : List ℕ) → Says place earlier (symbol_variable f kind earlier (symbol_at symbols kind place))
+  says : (place : ℕ) (earlier : List ℕ) → Says place earlier
+      (symbol_variable f kind earlier (symbol_at symbols kind place))
   says place earlier = says-symbol place earlier (symbol_at symbols kind place) refl
 
-  push : (place v : ℕ) (earlier : List ℕ) → length earlier ≡ place → AreNamed f symbols kind earlier → Names f symbols kind place v → has earlier v ≡ false
+  push : (place v : ℕ) (earlier : List ℕ) → length earlier ≡ place → AreNamed f symbols kind earlier →
+      Names f symbols kind place v → has earlier v ≡ false
       → AreNamed f symbols kind (earlier ++ v ∷ [])
   push place v earlier before named names fresh = record {
     named = λ p below.
         elim (cases_lt p (length earlier)) [
-          | inl within ↦ subst (Names f symbols kind p) (sym (get_or-append_left earlier (v ∷ []) p 0 within)) (named.named p within)
+          | inl within ↦ subst (Names f symbols kind p) (sym (get_or-append_left earlier (v ∷ []) p 0 within))
+              (named.named p within)
           | inr past ↦
               let longer : length (earlier ++ v ∷ []) ≡ length earlier + 1 = length-append earlier (v ∷ []) in
               let here : p ≡ place = omega arith in
@@ -116,7 +132,8 @@ module _ (f : Dqbf) (symbols : SymbolTable) (kind : Kind) where
               (subst (λ q. Names f symbols kind q v) (sym here) names)
         ];
     distinct = all_pairs_push (λ u w. u ≢ w) earlier v named.distinct (λ k d below same.
-        both_ways (has earlier v) fresh (list_any_at (λ u. u == v) earlier k d below (eq-eqb (get_or earlier k d) v same)));
+        both_ways (has earlier v) fresh (list_any_at (λ u. u == v) earlier k d below
+        (eq-eqb (get_or earlier k d) v same)));
   }
 
   fault_of : (place : ℕ) (earlier : List ℕ) (name : MapName) → length earlier ≡ place → AreNamed f symbols kind earlier
@@ -137,15 +154,24 @@ module _ (f : Dqbf) (symbols : SymbolTable) (kind : Kind) where
 
   behind-told : (place end : ℕ) (earlier : List ℕ) (r : Result ℕ MapName) (next : ℕ → Result (List ℕ) MapError)
       → length earlier ≡ place → place < end → AreNamed f symbols kind earlier → Says place earlier r
-      → ((v : ℕ) → Names f symbols kind place v → has earlier v ≡ false → Told end (next v)) → Told end (behind_symbol kind place r next)
+      → ((v : ℕ) → Names f symbols kind place v → has earlier v ≡ false → Told end (next v)) →
+      Told end (behind_symbol kind place r next)
   behind-told place end earlier (Ok v) next before below named h more = more v h.0 h.1
   behind-told place end earlier (Err name) next before below named h more = (
     place,
     refl,
-    record { earlier = earlier; before = before; named = named; in_range = below; fault = fault_of place earlier name before named h },
+    record {
+      earlier = earlier;
+      before = before;
+      named = named;
+      in_range = below;
+      fault =
+          fault_of place earlier name before named h;
+    },
   )
 
-  told-from : (count place end : ℕ) (earlier : List ℕ) → length earlier ≡ place → place + count ≡ end → AreNamed f symbols kind earlier
+  told-from : (count place end : ℕ) (earlier : List ℕ) → length earlier ≡ place → place + count ≡ end →
+      AreNamed f symbols kind earlier
       → Told end (named_from f kind symbols count place earlier)
   told-from zero place end earlier before sum named = (named, omega arith)
   told-from (suc count) place end earlier before sum named =
@@ -154,7 +180,8 @@ module _ (f : Dqbf) (symbols : SymbolTable) (kind : Kind) where
       before (omega arith) named (says place earlier)
       (λ v names fresh.
       let longer : length (earlier ++ v ∷ []) ≡ length earlier + 1 = length-append earlier (v ∷ []) in
-      told-from count (place + 1) end (earlier ++ v ∷ []) (omega arith) (omega arith) (push place v earlier before named names fresh))
+      told-from count (place + 1) end (earlier ++ v ∷ []) (omega arith) (omega arith)
+      (push place v earlier before named names fresh))
 
   none_named : AreNamed f symbols kind []
   none_named = record { named = λ p below. absurd (omega arith); distinct = λ i j d before below. absurd (omega arith) }
@@ -163,7 +190,8 @@ module _ (f : Dqbf) (symbols : SymbolTable) (kind : Kind) where
   told count = told-from count 0 count [] refl (omega arith) none_named
 
   -- and back
-  new_is : (v : ℕ) (earlier : List ℕ) → has (variables_of f kind) v ≡ true → has earlier v ≡ false → new_variable f kind earlier (Some v) ≡ Ok v
+  new_is : (v : ℕ) (earlier : List ℕ) → has (variables_of f kind) v ≡ true → has earlier v ≡ false →
+      new_variable f kind earlier (Some v) ≡ Ok v
   new_is v earlier known fresh = rw known (rw fresh refl)
 
   symbol_is : (place v : ℕ) (earlier : List ℕ) → Names f symbols kind place v → has earlier v ≡ false
@@ -182,14 +210,17 @@ module _ (f : Dqbf) (symbols : SymbolTable) (kind : Kind) where
       distinct k place d k_in below
       (sym (get_or-take place variables k d k_in) ∙ same ∙ get_or_default variables place 0 d below)))
 
-  again-from : (variables : List ℕ) → AreNamed f symbols kind variables → (count place : ℕ) → place + count ≡ length variables
+  again-from : (variables : List ℕ) → AreNamed f symbols kind variables → (count place : ℕ) →
+      place + count ≡ length variables
       → named_from f kind symbols count place (take place variables) ≡ Ok variables
   again-from variables named zero place sum = ap Ok (take_all place variables (omega arith))
   again-from variables named (suc count) place sum =
       let below : place < length variables = omega arith in
       let v = slice_index variables place in
-      ap (λ r. behind_symbol kind place r (λ w. named_from f kind symbols count (place + 1) (take place variables ++ w ∷ [])))
-      (symbol_is place v (take place variables) (named.named place below) (fresh_at variables place below named.distinct))
+      ap (λ r. behind_symbol kind place r (λ w. named_from f kind symbols count (place + 1)
+      (take place variables ++ w ∷ [])))
+      (symbol_is place v (take place variables) (named.named place below)
+      (fresh_at variables place below named.distinct))
       ∙ ap (named_from f kind symbols count (place + 1)) (sym (take_more variables place 0 below))
       ∙ again-from variables named count (place + 1) (omega arith)
 
@@ -214,7 +245,8 @@ module _ (f : Dqbf) (net : Netlist) (symbols : SymbolTable) where
     counts = counts;
     inputs_length = on_inputs.1 ∙ counts.inputs;
     outputs_length = on_outputs.1 ∙ counts.outputs;
-    told = subst (λ b. IsToldBySymbols b f symbols (record { inputs = inputs; outputs = outputs })) (sym some) (on_inputs.0, on_outputs.0);
+    told = subst (λ b. IsToldBySymbols b f symbols (record { inputs = inputs; outputs = outputs })) (sym some)
+        (on_inputs.0, on_outputs.0);
   }
 
   existentials_length : length (mapping_in_order f).outputs ≡ length f.existentials
@@ -236,33 +268,52 @@ module _ (f : Dqbf) (net : Netlist) (symbols : SymbolTable) where
       if some then mapping_by_symbols f symbols else Ok (mapping_in_order f)
 
   tests-told : (same_inputs same_outputs some : Bool) → (length net.inputs == length f.universals) ≡ same_inputs
-      → (length net.outputs == length f.existentials) ≡ same_outputs → has_symbols net symbols ≡ some → AreTold (by_tests same_inputs same_outputs some)
-  tests-told false same_outputs some inputs outputs is = λ same. both_ways _ inputs (eq-eqb (length net.inputs) (length f.universals) same)
+      → (length net.outputs == length f.existentials) ≡ same_outputs → has_symbols net symbols ≡ some →
+      AreTold (by_tests same_inputs same_outputs some)
+  tests-told false same_outputs some inputs outputs is = λ same. both_ways _ inputs
+      (eq-eqb (length net.inputs) (length f.universals) same)
   tests-told true false some inputs outputs is = (
     eqb-true (length net.inputs) (length f.universals) inputs,
     λ same. both_ways _ outputs (eq-eqb (length net.outputs) (length f.existentials) same),
   )
   tests-told true true false inputs outputs is =
-      in_order-told (record { inputs = eqb-true (length net.inputs) (length f.universals) inputs; outputs = eqb-true (length net.outputs) (length f.existentials) outputs }) is
+      in_order-told (record {
+        inputs = eqb-true (length net.inputs) (length f.universals) inputs;
+        outputs =
+            eqb-true (length net.outputs) (length f.existentials) outputs;
+      }) is
   tests-told true true true inputs outputs is =
       let counts : DoCountsFit f net =
-      record { inputs = eqb-true (length net.inputs) (length f.universals) inputs; outputs = eqb-true (length net.outputs) (length f.existentials) outputs } in
-      both-told (named_from f Inputs symbols (length f.universals) 0 []) (named_from f Outputs symbols (length f.existentials) 0 []) counts is
-      (subst (λ n. Told f symbols Inputs n (named_from f Inputs symbols (length f.universals) 0 [])) (sym counts.inputs) (told f symbols Inputs (length f.universals)))
-      (subst (λ n. Told f symbols Outputs n (named_from f Outputs symbols (length f.existentials) 0 [])) (sym counts.outputs) (told f symbols Outputs (length f.existentials)))
+      record {
+        inputs = eqb-true (length net.inputs) (length f.universals) inputs;
+        outputs =
+            eqb-true (length net.outputs) (length f.existentials) outputs;
+      } in
+      both-told (named_from f Inputs symbols (length f.universals) 0 [])
+      (named_from f Outputs symbols (length f.existentials) 0 []) counts is
+      (subst (λ n. Told f symbols Inputs n (named_from f Inputs symbols (length f.universals) 0 [])) (sym counts.inputs)
+      (told f symbols Inputs (length f.universals)))
+      (subst (λ n. Told f symbols Outputs n (named_from f Outputs symbols (length f.existentials) 0 []))
+      (sym counts.outputs) (told f symbols Outputs (length f.existentials)))
 
   mapping-told : AreTold (mapping_of f net symbols)
   mapping-told =
-      tests-told (length net.inputs == length f.universals) (length net.outputs == length f.existentials) (has_symbols net symbols) refl refl refl
+      tests-told (length net.inputs == length f.universals) (length net.outputs == length f.existentials)
+      (has_symbols net symbols) refl refl refl
 
-  by_symbols-again : (mapping : Mapping) → length mapping.inputs ≡ length f.universals → length mapping.outputs ≡ length f.existentials
-      → AreNamed f symbols Inputs mapping.inputs → AreNamed f symbols Outputs mapping.outputs → mapping_by_symbols f symbols ≡ Ok mapping
+  by_symbols-again : (mapping : Mapping) → length mapping.inputs ≡ length f.universals →
+      length mapping.outputs ≡ length f.existentials
+      → AreNamed f symbols Inputs mapping.inputs → AreNamed f symbols Outputs mapping.outputs →
+      mapping_by_symbols f symbols ≡ Ok mapping
   by_symbols-again mapping inputs outputs named_inputs named_outputs =
-      ap (λ r. behind_inputs r (named_from f Outputs symbols (length f.existentials) 0 [])) (again f symbols Inputs (length f.universals) mapping.inputs named_inputs inputs)
-      ∙ ap (with_outputs mapping.inputs) (again f symbols Outputs (length f.existentials) mapping.outputs named_outputs outputs)
+      ap (λ r. behind_inputs r (named_from f Outputs symbols (length f.existentials) 0 []))
+      (again f symbols Inputs (length f.universals) mapping.inputs named_inputs inputs)
+      ∙ ap (with_outputs mapping.inputs) (again f symbols Outputs
+      (length f.existentials) mapping.outputs named_outputs outputs)
 
   tests-again : (same_inputs same_outputs some : Bool) (mapping : Mapping) → same_inputs ≡ true → same_outputs ≡ true
-      → length mapping.inputs ≡ length f.universals → length mapping.outputs ≡ length f.existentials → IsToldBySymbols some f symbols mapping
+      → length mapping.inputs ≡ length f.universals → length mapping.outputs ≡ length f.existentials →
+      IsToldBySymbols some f symbols mapping
       → by_tests same_inputs same_outputs some ≡ Ok mapping
   tests-again false same_outputs some mapping a b inputs outputs told = cc
   tests-again true false some mapping a b inputs outputs told = cc
@@ -272,10 +323,13 @@ module _ (f : Dqbf) (net : Netlist) (symbols : SymbolTable) where
   pub told_mapping : (mapping : Mapping) → (mapping_of f net symbols ≡ Ok mapping) ↔ IsToldMapping f net symbols mapping
   told_mapping mapping = (
     λ is. subst AreTold is mapping-told,
-    λ h. tests-again (length net.inputs == length f.universals) (length net.outputs == length f.existentials) (has_symbols net symbols) mapping
-        (eq-eqb (length net.inputs) (length f.universals) h.counts.inputs) (eq-eqb (length net.outputs) (length f.existentials) h.counts.outputs)
+    λ h. tests-again (length net.inputs == length f.universals) (length net.outputs == length f.existentials)
+        (has_symbols net symbols) mapping
+        (eq-eqb (length net.inputs) (length f.universals) h.counts.inputs)
+        (eq-eqb (length net.outputs) (length f.existentials) h.counts.outputs)
         h.inputs_length h.outputs_length h.told,
   )
 
-  pub told_fault : (fault : MapError) → mapping_of f net symbols ≡ Err fault → IsToldFault fault.at fault.name f net symbols
+  pub told_fault : (fault : MapError) → mapping_of f net symbols ≡ Err fault →
+      IsToldFault fault.at fault.name f net symbols
   told_fault fault is = subst AreTold is mapping-told

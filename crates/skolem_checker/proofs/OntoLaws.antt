@@ -30,7 +30,8 @@ pub record AreNamed (declared variables : List ℕ) : Type 0 where
 is_member-has : (xs : List ℕ) (v : ℕ) → is_member eqb xs v ≡ has xs v
 is_member-has xs v = ap (λ p. list_any p xs) (flip v)
 
-pub named-push : (declared variables : List ℕ) (v : ℕ) → AreNamed declared variables → has declared v ≡ true → has variables v ≡ false
+pub named-push : (declared variables : List ℕ) (v : ℕ) → AreNamed declared variables → has declared v ≡ true →
+    has variables v ≡ false
     → AreNamed declared (variables ++ v ∷ [])
 named-push declared variables v named known fresh = record {
   distinct = IsDistinct-push nat_eq_equiv variables v named.distinct (is_member-has variables v ∙ fresh);
@@ -47,7 +48,8 @@ onto declared variables named same v known =
           let more = named-push declared variables v named (has-contains declared v known) fresh in
           let le : length (variables ++ v ∷ []) ≤ length declared =
           length-le_from_is_member nat_eq_equiv (variables ++ v ∷ []) declared more.distinct
-          (λ q is. is_member-has declared q ∙ has-contains declared q (member declared (variables ++ v ∷ []) more.declared_alone q is)) in
+          (λ q is. is_member-has declared q ∙ has-contains declared q
+          (member declared (variables ++ v ∷ []) more.declared_alone q is)) in
           let longer : length (variables ++ v ∷ []) ≡ length variables + 1 = length-append variables (v ∷ []) in
           absurd (omega arith)
     ]
@@ -55,7 +57,8 @@ onto declared variables named same v known =
     member : (us vs : List ℕ) → All (Contains us) vs → (q : ℕ) → is_member eqb vs q ≡ true → Contains us q
     member us vs all q is = All-contains (Contains us) vs q all (contains-has vs q (sym (is_member-has vs q) ∙ is))
 
-pub one_to_one : (declared variables : List ℕ) → AreNamed declared variables → length variables ≡ length declared → IsOneToOne declared variables
+pub one_to_one : (declared variables : List ℕ) → AreNamed declared variables → length variables ≡ length declared →
+    IsOneToOne declared variables
 one_to_one declared variables named same = record {
   same_length = same;
   distinct = AllPairs-from_IsDistinct Decides-eqb variables named.distinct;
@@ -76,7 +79,8 @@ abbrev pub IsNew : Dqbf → Kind → List ℕ → Result ℕ MapName → Type 0
 IsNew f kind earlier (Ok v) = (has (variables_of f kind) v ≡ true) × (has earlier v ≡ false)
 IsNew f kind earlier (Err _) = Unit {0}
 
-new-variable : (f : Dqbf) (kind : Kind) (earlier : List ℕ) (v : ℕ) → IsNew f kind earlier (new_variable f kind earlier (Some v))
+new-variable : (f : Dqbf) (kind : Kind) (earlier : List ℕ) (v : ℕ) →
+    IsNew f kind earlier (new_variable f kind earlier (Some v))
 new-variable f kind earlier v =
     elim (cases_Bool (has (variables_of f kind) v)) [
       | inr unknown ↦ rw unknown tt
@@ -86,11 +90,13 @@ new-variable f kind earlier v =
       ]
     ]
 
-number-new : (f : Dqbf) (kind : Kind) (earlier : List ℕ) (number : Option ℕ) → IsNew f kind earlier (new_variable f kind earlier number)
+number-new : (f : Dqbf) (kind : Kind) (earlier : List ℕ) (number : Option ℕ) →
+    IsNew f kind earlier (new_variable f kind earlier number)
 number-new f kind earlier None = tt
 number-new f kind earlier (Some v) = new-variable f kind earlier v
 
-symbol-new : (f : Dqbf) (kind : Kind) (earlier : List ℕ) (symbol : Option (List ℕ)) → IsNew f kind earlier (symbol_variable f kind earlier symbol)
+symbol-new : (f : Dqbf) (kind : Kind) (earlier : List ℕ) (symbol : Option (List ℕ)) →
+    IsNew f kind earlier (symbol_variable f kind earlier symbol)
 symbol-new f kind earlier None = tt
 symbol-new f kind earlier (Some name) = number-new f kind earlier (natural (number_of name))
 
@@ -99,7 +105,8 @@ abbrev pub AreRead : List ℕ → ℕ → Result (List ℕ) MapError → Type 0
 AreRead declared n (Ok variables) = AreNamed declared variables × (length variables ≡ n)
 AreRead declared n (Err _) = Unit {0}
 
-behind-read : (f : Dqbf) (kind : Kind) (earlier : List ℕ) (place n : ℕ) (r : Result ℕ MapName) (next : ℕ → Result (List ℕ) MapError)
+behind-read : (f : Dqbf) (kind : Kind) (earlier : List ℕ) (place n : ℕ) (r : Result ℕ MapName)
+    (next : ℕ → Result (List ℕ) MapError)
     → IsNew f kind earlier r
     → ((v : ℕ) → has (variables_of f kind) v ≡ true → has earlier v ≡ false → AreRead (variables_of f kind) n (next v))
     → AreRead (variables_of f kind) n (behind_symbol kind place r next)
@@ -129,7 +136,8 @@ IsMapped f net (Err _) = Unit {0}
 
 both-mapped : (f : Dqbf) (net : Netlist) (inputs outputs : Result (List ℕ) MapError)
     → length net.inputs ≡ length f.universals → length net.outputs ≡ length f.existentials
-    → AreRead f.universals (length f.universals) inputs → AreRead (existential_variables f) (length f.existentials) outputs
+    → AreRead f.universals (length f.universals) inputs → AreRead (existential_variables f)
+    (length f.existentials) outputs
     → IsMapped f net (behind_inputs inputs outputs)
 both-mapped f net (Err fault) outputs a b on_inputs on_outputs = tt
 both-mapped f net (Ok inputs) (Err fault) a b on_inputs on_outputs = tt
@@ -150,12 +158,14 @@ pub left-distinct : (xs ys : List ℕ) → AllPairs (λ v w. v ≢ w) (xs ++ ys)
 left-distinct xs ys once i j d below in_range =
     let longer : length (xs ++ ys) ≡ length xs + length ys = length-append xs ys in
     let within : i < length xs = omega arith in
-    rw (sym (get_or-append_left xs ys i d within)) (rw (sym (get_or-append_left xs ys j d in_range)) (once i j d below (omega arith)))
+    rw (sym (get_or-append_left xs ys i d within)) (rw (sym (get_or-append_left xs ys j d in_range))
+    (once i j d below (omega arith)))
 
 pub right-distinct : (xs ys : List ℕ) → AllPairs (λ v w. v ≢ w) (xs ++ ys) → AllPairs (λ v w. v ≢ w) ys
 right-distinct xs ys once i j d below in_range =
     let longer : length (xs ++ ys) ≡ length xs + length ys = length-append xs ys in
-    rw (sym (get_or-append-add xs ys i d)) (rw (sym (get_or-append-add xs ys j d)) (once (length xs + i) (length xs + j) d (omega arith) (omega arith)))
+    rw (sym (get_or-append-add xs ys i d)) (rw (sym (get_or-append-add xs ys j d))
+    (once (length xs + i) (length xs + j) d (omega arith) (omega arith)))
 
 pub apart : (xs ys : List ℕ) → AllPairs (λ v w. v ≢ w) (xs ++ ys) → (v : ℕ) → Contains xs v → Contains ys v → ⊥
 apart xs ys once v (i, i_in, i_is) (j, j_in, j_is) =
@@ -164,29 +174,38 @@ apart xs ys once v (i, i_in, i_is) (j, j_in, j_is) =
     (get_or-append_left xs ys i v i_in ∙ i_is ∙ sym (get_or-append-add xs ys j v ∙ j_is))
 
 mapped-in_order : (f : Dqbf) (net : Netlist) → HasLawfulPrefix f
-    → length net.inputs ≡ length f.universals → length net.outputs ≡ length f.existentials → IsMapping f net (mapping_in_order f)
+    → length net.inputs ≡ length f.universals → length net.outputs ≡ length f.existentials →
+    IsMapping f net (mapping_in_order f)
 mapped-in_order f net lawful a b = record {
   inputs_length = a;
   outputs_length = b;
   inputs = itself_one_to_one f.universals (left-distinct f.universals (existential_variables f) lawful.declared_once);
-  outputs = itself_one_to_one (existential_variables f) (right-distinct f.universals (existential_variables f) lawful.declared_once);
+  outputs = itself_one_to_one (existential_variables f) (right-distinct f.universals
+      (existential_variables f) lawful.declared_once);
 }
 
-pub mapped : (f : Dqbf) (net : Netlist) (symbols : SymbolTable) → HasLawfulPrefix f → IsMapped f net (mapping_of f net symbols)
+pub mapped : (f : Dqbf) (net : Netlist) (symbols : SymbolTable) → HasLawfulPrefix f →
+    IsMapped f net (mapping_of f net symbols)
 mapped f net symbols lawful =
     elim (cases_Bool (length net.inputs == length f.universals)) [
       | inr inputs_differ ↦ rw inputs_differ tt
       | inl inputs_fit ↦ elim (cases_Bool (length net.outputs == length f.existentials)) [
         | inr outputs_differ ↦ rw inputs_fit (rw outputs_differ tt)
-        | inl outputs_fit ↦ elim (cases_Bool (has_symbol symbols Inputs (length net.inputs) || has_symbol symbols Outputs (length net.outputs))) [
-          | inl some ↦ rw inputs_fit (rw outputs_fit (rw some (
-              both-mapped f net (named_from f Inputs symbols (length f.universals) 0 []) (named_from f Outputs symbols (length f.existentials) 0 [])
-              (eqb-true (length net.inputs) (length f.universals) inputs_fit) (eqb-true (length net.outputs) (length f.existentials) outputs_fit)
-              (named-read f Inputs symbols (length f.universals) 0 (length f.universals) [] (none-named f.universals) (omega arith))
-              (named-read f Outputs symbols (length f.existentials) 0 (length f.existentials) [] (none-named (existential_variables f)) (omega arith)))))
-          | inr none ↦ rw inputs_fit (rw outputs_fit (rw none (
-              mapped-in_order f net lawful (eqb-true (length net.inputs) (length f.universals) inputs_fit)
-              (eqb-true (length net.outputs) (length f.existentials) outputs_fit))))
-        ]
+        | inl outputs_fit ↦ elim (cases_Bool (has_symbol symbols Inputs
+            (length net.inputs) || has_symbol symbols Outputs (length net.outputs))) [
+              | inl some ↦ rw inputs_fit (rw outputs_fit (rw some (
+                  both-mapped f net (named_from f Inputs symbols (length f.universals) 0 [])
+                  (named_from f Outputs symbols (length f.existentials) 0 [])
+                  (eqb-true (length net.inputs) (length f.universals) inputs_fit)
+                  (eqb-true (length net.outputs) (length f.existentials) outputs_fit)
+                  (named-read f Inputs symbols (length f.universals) 0 (length f.universals) []
+                  (none-named f.universals)
+                  (omega arith))
+                  (named-read f Outputs symbols (length f.existentials) 0 (length f.existentials) []
+                  (none-named (existential_variables f)) (omega arith)))))
+              | inr none ↦ rw inputs_fit (rw outputs_fit (rw none (
+                  mapped-in_order f net lawful (eqb-true (length net.inputs) (length f.universals) inputs_fit)
+                  (eqb-true (length net.outputs) (length f.existentials) outputs_fit))))
+            ]
       ]
     ]

@@ -17,7 +17,8 @@ use Rattle.skolem_checker.proofs.BenchLaws.{reads_answer, rows_answer}
 use Rattle.skolem_checker.proofs.LeastNumbers.{dense_renaming}
 use Rattle.skolem_checker.proofs.RenamedNetlists.{IsRenaming, renamed_variable, renamed_sign, known_input, grounded_known, value_renamed, value_original, reach_renamed, reach_original, complete_renamed}
 
-pub mapping_renamed : (f : Dqbf) (net : Netlist) (name : ℕ → ℕ) (max_var : ℕ) (mapping : Mapping) → IsMapping f net mapping
+pub mapping_renamed : (f : Dqbf) (net : Netlist) (name : ℕ → ℕ) (max_var : ℕ) (mapping : Mapping) →
+    IsMapping f net mapping
     → IsMapping f (renamed name max_var net) mapping
 mapping_renamed f net name max_var mapping mapped = record {
   inputs_length = length-map net.inputs name ∙ mapped.inputs_length;
@@ -26,8 +27,10 @@ mapping_renamed f net name max_var mapping mapped = record {
   outputs = mapped.outputs;
 }
 
-module _ (f : Dqbf) (net : Netlist) (name : ℕ → ℕ) (max_var : ℕ) (mapping : Mapping) (kept : IsNetlist net) (complete : IsComplete net)
-    (renaming : IsRenaming net name) (mapped : IsMapping f net mapping) (copy_kept : IsNetlist (renamed name max_var net)) where
+module _ (f : Dqbf) (net : Netlist) (name : ℕ → ℕ) (max_var : ℕ) (mapping : Mapping) (kept : IsNetlist net)
+    (complete : IsComplete net)
+    (renaming : IsRenaming net name) (mapped : IsMapping f net mapping)
+    (copy_kept : IsNetlist (renamed name max_var net)) where
   abbrev copy : Netlist
   copy = renamed name max_var net
 
@@ -42,7 +45,12 @@ module _ (f : Dqbf) (net : Netlist) (name : ℕ → ℕ) (max_var : ℕ) (mappin
 
   output_in : (o : ℕ) → o < length mapping.outputs → o < length net.outputs
   output_in o below =
-      omega (arith, mapped.outputs_length, mapped.outputs.same_length, length-map f.existentials (λ (y : Existential). y.variable))
+      omega (
+        arith,
+        mapped.outputs_length,
+        mapped.outputs.same_length,
+        length-map f.existentials (λ (y : Existential). y.variable),
+      )
 
   abbrev output : ℕ → ℕ
   output o = slice_index net.outputs o
@@ -53,10 +61,12 @@ module _ (f : Dqbf) (net : Netlist) (name : ℕ → ℕ) (max_var : ℕ) (mappin
   output_is : (o : ℕ) → o < length mapping.outputs → slice_index copy.outputs o ≡ renamed_literal name (output o)
   output_is o below = get_or-map (renamed_literal name) net.outputs o 0 0 (output_in o below)
 
-  variable_is : (o : ℕ) → o < length mapping.outputs → literal_variable (slice_index copy.outputs o) ≡ name (literal_variable (output o))
+  variable_is : (o : ℕ) → o < length mapping.outputs → literal_variable (slice_index copy.outputs o) ≡ name
+      (literal_variable (output o))
   variable_is o below = ap literal_variable (output_is o below) ∙ renamed_variable name (output o)
 
-  sign_is : (o : ℕ) (b : Bool) → o < length mapping.outputs → signed_bit (slice_index copy.outputs o) b ≡ signed_bit (output o) b
+  sign_is : (o : ℕ) (b : Bool) → o < length mapping.outputs →
+      signed_bit (slice_index copy.outputs o) b ≡ signed_bit (output o) b
   sign_is o b below = ap (λ l. signed_bit l b) (output_is o below) ∙ renamed_sign name (output o) b
 
   -- the same universals are read
@@ -68,9 +78,11 @@ module _ (f : Dqbf) (net : Netlist) (name : ℕ → ℕ) (max_var : ℕ) (mappin
     input = r.input;
     input_in_range = r.input_in_range;
     input_stands_for = r.input_stands_for;
-    reaches = reach_original net name max_var renaming kept complete r.reaches (literal_variable (output r.out)) (slice_index net.inputs r.input)
+    reaches = reach_original net name max_var renaming kept complete r.reaches (literal_variable (output r.out))
+        (slice_index net.inputs r.input)
         (grounded_known net (complete.outputs r.out 0 (output_in r.out r.out_in_range)))
-        (known_input net (slice_index net.inputs r.input) (Contains-get_or net.inputs r.input 0 (input_in r.input r.input_in_range)))
+        (known_input net (slice_index net.inputs r.input) (Contains-get_or net.inputs r.input 0
+        (input_in r.input r.input_in_range)))
         (sym (variable_is r.out r.out_in_range)) (sym (input_is r.input r.input_in_range));
   }
 
@@ -82,25 +94,29 @@ module _ (f : Dqbf) (net : Netlist) (name : ℕ → ℕ) (max_var : ℕ) (mappin
     input = r.input;
     input_in_range = r.input_in_range;
     input_stands_for = r.input_stands_for;
-    reaches = subst (λ v. Reaches copy (literal_variable (slice_index copy.outputs r.out)) v) (sym (input_is r.input r.input_in_range))
+    reaches = subst (λ v. Reaches copy (literal_variable (slice_index copy.outputs r.out)) v)
+        (sym (input_is r.input r.input_in_range))
         (subst (λ u. Reaches copy u (name (slice_index net.inputs r.input))) (sym (variable_is r.out r.out_in_range))
         (reach_renamed net name max_var renaming r.reaches));
   }
 
   -- outputs have the same values
-  value_of_original : (m : Assignment) (y : ℕ) (b : Bool) → HasOutputValue copied_circuit m y b → HasOutputValue original_circuit m y b
+  value_of_original : (m : Assignment) (y : ℕ) (b : Bool) → HasOutputValue copied_circuit m y b →
+      HasOutputValue original_circuit m y b
   value_of_original m y b h = record {
     out = h.out;
     in_range = h.in_range;
     stands_for = h.stands_for;
     variable_bit = h.variable_bit;
-    value = value_original net name max_var renaming (input_bits mapping m) (literal_variable (output h.out)) h.variable_bit copy_kept
+    value = value_original net name max_var renaming (input_bits mapping m)
+        (literal_variable (output h.out)) h.variable_bit copy_kept
         (complete.outputs h.out 0 (output_in h.out h.in_range))
         (subst (λ v. HasValue copy (input_bits mapping m) v h.variable_bit) (variable_is h.out h.in_range) h.value);
     signed = h.signed ∙ sign_is h.out h.variable_bit h.in_range;
   }
 
-  value_of_copy : (m : Assignment) (y : ℕ) (b : Bool) → HasOutputValue original_circuit m y b → HasOutputValue copied_circuit m y b
+  value_of_copy : (m : Assignment) (y : ℕ) (b : Bool) → HasOutputValue original_circuit m y b →
+      HasOutputValue copied_circuit m y b
   value_of_copy m y b h = record {
     out = h.out;
     in_range = h.in_range;
@@ -114,7 +130,8 @@ module _ (f : Dqbf) (net : Netlist) (name : ℕ → ℕ) (max_var : ℕ) (mappin
   -- so the answers are the same
   before_original : (y : Existential) (end : ℕ) → ReadsDeclaredBefore (ReadsUniversal copied_circuit) f y end
       → ReadsDeclaredBefore (ReadsUniversal original_circuit) f y end
-  before_original y end before q below reads = before q below (reads_copied y.variable (slice_index f.universals q) reads)
+  before_original y end before q below reads = before q below
+      (reads_copied y.variable (slice_index f.universals q) reads)
 
   pub reads_answer_original : (r : Result (Unit {0}) (ℕ × ℕ))
       → IsReadsAnswer (ReadsUniversal (record { netlist = renamed name max_var net; mapping = mapping })) f r
@@ -137,18 +154,21 @@ module _ (f : Dqbf) (net : Netlist) (name : ℕ → ℕ) (max_var : ℕ) (mappin
 
   holds_original : (k : ℕ) → RowHolds f copied_circuit k → RowHolds f original_circuit k
   holds_original k holds m row follows =
-      holds m row (λ p d below. value_of_copy m (get_or f.existentials p d).variable (m (get_or f.existentials p d).variable) (follows p d below))
+      holds m row (λ p d below. value_of_copy m (get_or f.existentials p d).variable
+      (m (get_or f.existentials p d).variable) (follows p d below))
 
   fails_original : (k : ℕ) → RowFails f copied_circuit k → RowFails f original_circuit k
   fails_original k fails = record {
     assignment = fails.assignment;
     row = fails.row;
     follows = λ p d below.
-        value_of_original fails.assignment (get_or f.existentials p d).variable (fails.assignment (get_or f.existentials p d).variable) (fails.follows p d below);
+        value_of_original fails.assignment (get_or f.existentials p d).variable
+        (fails.assignment (get_or f.existentials p d).variable) (fails.follows p d below);
     clause_false = fails.clause_false;
   }
 
-  pub rows_answer_original : (r : Result (Unit {0}) ℕ) → IsRowsAnswer f (record { netlist = renamed name max_var net; mapping = mapping }) r
+  pub rows_answer_original : (r : Result (Unit {0}) ℕ) → IsRowsAnswer f
+      (record { netlist = renamed name max_var net; mapping = mapping }) r
       → IsRowsAnswer f (record { netlist = net; mapping = mapping }) r
   rows_answer_original (Ok _) h = λ k below. holds_original k (h k below)
   rows_answer_original (Err k) h = (h.0, λ j below. holds_original j (h.1 j below), fails_original k h.2)
@@ -158,27 +178,34 @@ complete_copied net dense kept complete copied =
     subst IsComplete (sym copied)
     (complete_renamed net (dense_number net) (length net.inputs + length net.gates) (dense_renaming net kept) complete)
 
-pub mapping_copied : (f : Dqbf) (net dense : Netlist) (mapping : Mapping) → dense ≡ renumbered net → IsMapping f net mapping → IsMapping f dense mapping
+pub mapping_copied : (f : Dqbf) (net dense : Netlist) (mapping : Mapping) → dense ≡ renumbered net →
+    IsMapping f net mapping → IsMapping f dense mapping
 mapping_copied f net dense mapping copied mapped =
     subst (λ c. IsMapping f c mapping) (sym copied)
     (mapping_renamed f net (dense_number net) (length net.inputs + length net.gates) mapping mapped)
 
-module _ (f : Dqbf) (net dense : Netlist) (mapping : Mapping) (literals places : List ℕ) (formed : IsWellFormed f) (kept : IsNetlist net)
-    (complete : IsComplete net) (mapped : IsMapping f net mapping) (copied : dense ≡ renumbered net) (dense_kept : IsNetlist dense)
+module _ (f : Dqbf) (net dense : Netlist) (mapping : Mapping) (literals places : List ℕ) (formed : IsWellFormed f)
+    (kept : IsNetlist net)
+    (complete : IsComplete net) (mapped : IsMapping f net mapping) (copied : dense ≡ renumbered net)
+    (dense_kept : IsNetlist dense)
     (tables : AreTables f dense mapping literals places) where
   pub reads_answer_copied : (r : Result (Unit {0}) (ℕ × ℕ)) → IsReadsAnswer (ReadsByTables dense literals places) f r
       → IsReadsAnswer (ReadsUniversal (record { netlist = net; mapping = mapping })) f r
   reads_answer_copied r h =
-      reads_answer_original f net (dense_number net) (length net.inputs + length net.gates) mapping kept complete (dense_renaming net kept) mapped
+      reads_answer_original f net (dense_number net) (length net.inputs + length net.gates) mapping kept complete
+      (dense_renaming net kept) mapped
       (subst IsNetlist copied dense_kept) r
       (subst (λ c. IsReadsAnswer (ReadsUniversal (record { netlist = c; mapping = mapping })) f r) copied
       (reads_answer f dense mapping literals places formed tables r h))
 
   pub rows_answer_copied : (by_input : List ℕ) → by_input ≡ universal_places f mapping → (r : Result (Unit {0}) ℕ)
-      → IsFirstBad (λ k. RowTest f dense literals by_input k true) (λ k. RowTest f dense literals by_input k false) (2 ^ length f.universals) r
+      → IsFirstBad (λ k. RowTest f dense literals by_input k true) (λ k. RowTest f dense literals by_input k false)
+      (2 ^ length f.universals) r
       → IsRowsAnswer f (record { netlist = net; mapping = mapping }) r
   rows_answer_copied by_input is r h =
-      rows_answer_original f net (dense_number net) (length net.inputs + length net.gates) mapping kept complete (dense_renaming net kept) mapped
+      rows_answer_original f net (dense_number net) (length net.inputs + length net.gates) mapping kept complete
+      (dense_renaming net kept) mapped
       (subst IsNetlist copied dense_kept) r
       (subst (λ c. IsRowsAnswer f (record { netlist = c; mapping = mapping }) r) copied
-      (rows_answer f dense mapping literals places formed tables by_input is (complete_copied net dense kept complete copied) r h))
+      (rows_answer f dense mapping literals places formed tables by_input is
+      (complete_copied net dense kept complete copied) r h))

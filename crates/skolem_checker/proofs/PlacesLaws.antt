@@ -23,22 +23,27 @@ abbrev FaultIs : {T : Type 0} → (MapPlace → Type 0) → Result T MapError �
 FaultIs P (Ok _) = Unit {0}
 FaultIs P (Err fault) = P fault.at
 
-behind_is : (kind : Kind) (place end : ℕ) (variable : Result ℕ MapName) (next : ℕ → Result (List ℕ) MapError) → place < end
-    → ((v : ℕ) → FaultIs (IsBelow kind end) (next v)) → FaultIs (IsBelow kind end) (behind_symbol kind place variable next)
+behind_is : (kind : Kind) (place end : ℕ) (variable : Result ℕ MapName) (next : ℕ → Result (List ℕ) MapError) →
+    place < end
+    → ((v : ℕ) → FaultIs (IsBelow kind end) (next v)) → FaultIs (IsBelow kind end)
+    (behind_symbol kind place variable next)
 behind_is kind place end (Ok v) next below rest = rest v
 behind_is kind place end (Err name) next below rest = (place, below, refl)
 
-named_is : (f : Dqbf) (kind : Kind) (symbols : SymbolTable) (count place end : ℕ) (earlier : List ℕ) → place + count ≡ end
+named_is : (f : Dqbf) (kind : Kind) (symbols : SymbolTable) (count place end : ℕ) (earlier : List ℕ) →
+    place + count ≡ end
     → FaultIs (IsBelow kind end) (named_from f kind symbols count place earlier)
 named_is f kind symbols zero place end earlier sum = tt
 named_is f kind symbols (suc count) place end earlier sum =
     behind_is kind place end (symbol_variable f kind earlier (symbol_at symbols kind place)) _ (omega arith)
     (λ v. named_is f kind symbols count (place + 1) end _ (omega arith))
 
-input_at : (net : Netlist) (end : ℕ) (at : MapPlace) → length net.inputs ≡ end → IsBelow Inputs end at → IsAtPlace net at
+input_at : (net : Netlist) (end : ℕ) (at : MapPlace) → length net.inputs ≡ end → IsBelow Inputs end at →
+    IsAtPlace net at
 input_at net end at is (p, below, same) = subst (IsAtPlace net) (sym same) (subst (λ n. p < n) (sym is) below)
 
-output_at : (net : Netlist) (end : ℕ) (at : MapPlace) → length net.outputs ≡ end → IsBelow Outputs end at → IsAtPlace net at
+output_at : (net : Netlist) (end : ℕ) (at : MapPlace) → length net.outputs ≡ end → IsBelow Outputs end at →
+    IsAtPlace net at
 output_at net end at is (p, below, same) = subst (IsAtPlace net) (sym same) (subst (λ n. p < n) (sym is) below)
 
 outputs_at : (net : Netlist) (end : ℕ) (inputs : List ℕ) (outputs : Result (List ℕ) MapError) → length net.outputs ≡ end
@@ -46,13 +51,16 @@ outputs_at : (net : Netlist) (end : ℕ) (inputs : List ℕ) (outputs : Result (
 outputs_at net end inputs (Ok _) is below = tt
 outputs_at net end inputs (Err fault) is below = output_at net end fault.at is below
 
-both_at : (net : Netlist) (m n : ℕ) (inputs outputs : Result (List ℕ) MapError) → length net.inputs ≡ m → length net.outputs ≡ n
-    → FaultIs (IsBelow Inputs m) inputs → FaultIs (IsBelow Outputs n) outputs → FaultIs (IsAtPlace net) (behind_inputs inputs outputs)
+both_at : (net : Netlist) (m n : ℕ) (inputs outputs : Result (List ℕ) MapError) → length net.inputs ≡ m →
+    length net.outputs ≡ n
+    → FaultIs (IsBelow Inputs m) inputs → FaultIs (IsBelow Outputs n) outputs →
+    FaultIs (IsAtPlace net) (behind_inputs inputs outputs)
 both_at net m n (Err fault) outputs is_m is_n below_m below_n = input_at net m fault.at is_m below_m
 both_at net m n (Ok inputs) outputs is_m is_n below_m below_n = outputs_at net n inputs outputs is_n below_n
 
 by_counts : (f : Dqbf) (net : Netlist) (symbols : SymbolTable) (same_inputs same_outputs some : Bool)
-    → (same_inputs ≡ true → length net.inputs ≡ length f.universals) → (same_outputs ≡ true → length net.outputs ≡ length f.existentials)
+    → (same_inputs ≡ true → length net.inputs ≡ length f.universals) →
+    (same_outputs ≡ true → length net.outputs ≡ length f.existentials)
     → FaultIs (IsAtPlace net) (
     if not same_inputs then Err (record { name = InputCount; at = Whole }) else
     if not same_outputs then Err (record { name = OutputCount; at = Whole }) else
@@ -71,5 +79,6 @@ mapping_at f net symbols =
     (has_symbol symbols Inputs (length net.inputs) || has_symbol symbols Outputs (length net.outputs))
     (eqb-true (length net.inputs) (length f.universals)) (eqb-true (length net.outputs) (length f.existentials))
 
-pub fault_at : (f : Dqbf) (net : Netlist) (symbols : SymbolTable) (fault : MapError) → mapping_of f net symbols ≡ Err fault → IsAtPlace net fault.at
+pub fault_at : (f : Dqbf) (net : Netlist) (symbols : SymbolTable) (fault : MapError) →
+    mapping_of f net symbols ≡ Err fault → IsAtPlace net fault.at
 fault_at f net symbols fault is = subst (FaultIs (IsAtPlace net)) is (mapping_at f net symbols)

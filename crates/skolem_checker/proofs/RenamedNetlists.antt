@@ -36,7 +36,8 @@ known_constant net = Contains-append_left (0 ∷ []) (net.inputs ++ gate_variabl
 
 pub known_input : (net : Netlist) (v : ℕ) → Contains net.inputs v → Contains (known_variables net) v
 known_input net v h =
-    Contains-append_right (0 ∷ []) (net.inputs ++ gate_variables net) v (Contains-append_left net.inputs (gate_variables net) v h)
+    Contains-append_right (0 ∷ []) (net.inputs ++ gate_variables net) v
+    (Contains-append_left net.inputs (gate_variables net) v h)
 
 pub known_gate : (net : Netlist) (g : Gate) → Contains net.gates g → Contains (known_variables net) g.variable
 known_gate net g (k, k_in, is) =
@@ -55,7 +56,13 @@ record IsGroundedGate (net : Netlist) (v : ℕ) : Type 0 where
 grounded_cases : {net : Netlist} {v : ℕ} → IsGrounded net v → (v ≡ 0) ⊎ (Contains net.inputs v ⊎ IsGroundedGate net v)
 grounded_cases ground_constant = inl refl
 grounded_cases (ground_input i) = inr (inl i)
-grounded_cases (ground_gate g g_in p q) = inr (inr (record { by = g; member = g_in; is = refl; on_left = p; on_right = q }))
+grounded_cases (ground_gate g g_in p q) = inr (inr (record {
+  by = g;
+  member = g_in;
+  is = refl;
+  on_left = p;
+  on_right = q;
+}))
 
 -- what is in the least set is known
 pub grounded_known : (net : Netlist) {v : ℕ} → IsGrounded net v → Contains (known_variables net) v
@@ -89,16 +96,19 @@ module _ (net : Netlist) (name : ℕ → ℕ) (max_var : ℕ) (renaming : IsRena
   renamed_input v (k, k_in, is) = (k, rw length-map k_in, get_or-map name net.inputs k v _ k_in ∙ ap name is)
 
   -- a value, the least set and reach carry over to the copy
-  pub value_renamed : (bits : ℕ → Bool) {v : ℕ} {b : Bool} → HasValue net bits v b → HasValue (renamed name max_var net) bits (name v) b
+  pub value_renamed : (bits : ℕ → Bool) {v : ℕ} {b : Bool} → HasValue net bits v b →
+      HasValue (renamed name max_var net) bits (name v) b
   value_renamed bits constant = subst (λ v. HasValue copy bits v false) (sym renaming.constant_stays) constant
-  value_renamed bits (input {v} i i_in is) = input i (rw length-map i_in) (get_or-map name net.inputs i 0 0 i_in ∙ ap name is)
+  value_renamed bits (input {v} i i_in is) = input i (rw length-map i_in)
+      (get_or-map name net.inputs i 0 0 i_in ∙ ap name is)
   value_renamed bits (gate {a} {b} g g_in p q) =
       let on_left : HasValue copy bits (left_variable (renamed_gate name g)) a =
       subst (λ v. HasValue copy bits v a) (sym (renamed_variable name g.left)) (value_renamed bits p) in
       let on_right : HasValue copy bits (right_variable (renamed_gate name g)) b =
       subst (λ v. HasValue copy bits v b) (sym (renamed_variable name g.right)) (value_renamed bits q) in
       subst (λ c. HasValue copy bits (name g.variable) (c && signed_bit g.right b)) (renamed_sign name g.left a)
-      (subst (λ c. HasValue copy bits (name g.variable) (signed_bit (renamed_literal name g.left) a && c)) (renamed_sign name g.right b)
+      (subst (λ c. HasValue copy bits (name g.variable) (signed_bit (renamed_literal name g.left) a && c))
+      (renamed_sign name g.right b)
       (gate (renamed_gate name g) (renamed_member g g_in) on_left on_right))
 
   pub grounded_renamed : {v : ℕ} → IsGrounded net v → IsGrounded (renamed name max_var net) (name v)
@@ -121,9 +131,11 @@ module _ (net : Netlist) (name : ℕ → ℕ) (max_var : ℕ) (renaming : IsRena
   -- so the copy of a complete circuit is complete
   pub complete_renamed : IsComplete net → IsComplete (renamed name max_var net)
   complete_renamed complete = record {
-    gates = All-map (λ (h : Gate). IsGrounded copy h.variable) (renamed_gate name) net.gates (λ k d below. grounded_renamed (complete.gates k d below));
+    gates = All-map (λ (h : Gate). IsGrounded copy h.variable) (renamed_gate name) net.gates
+        (λ k d below. grounded_renamed (complete.gates k d below));
     outputs = All-map (λ l. IsGrounded copy (literal_variable l)) (renamed_literal name) net.outputs (λ k d below.
-        subst (IsGrounded copy) (sym (renamed_variable name (get_or net.outputs k d))) (grounded_renamed (complete.outputs k d below)));
+        subst (IsGrounded copy) (sym (renamed_variable name (get_or net.outputs k d)))
+        (grounded_renamed (complete.outputs k d below)));
   }
 
   -- and back: a value that the copy has, where the variable has one
@@ -131,7 +143,8 @@ module _ (net : Netlist) (name : ℕ → ℕ) (max_var : ℕ) (renaming : IsRena
       → HasValue (renamed name max_var net) bits (name v) b → HasValue net bits v b
   value_original bits v b kept grounded h =
       let value = grounded_have_values net bits v grounded in
-      subst (HasValue net bits v) (values_are_unique copy bits (name v) value.0 b kept (value_renamed bits value.1) h) value.1
+      subst (HasValue net bits v) (values_are_unique copy bits (name v) value.0 b kept
+      (value_renamed bits value.1) h) value.1
 
   -- the gate that a gate of the copy was
   record IsCopyOf (h : Gate) : Type 0 where
@@ -159,18 +172,23 @@ module _ (net : Netlist) (name : ℕ → ℕ) (max_var : ℕ) (renaming : IsRena
         (grounded_known net sides.0, grounded_known net sides.1)
 
     pub reach_original : {x y : ℕ} → Reaches (renamed name max_var net) x y → (u v : ℕ)
-        → Contains (known_variables net) u → Contains (known_variables net) v → name u ≡ x → name v ≡ y → Reaches net u v
+        → Contains (known_variables net) u → Contains (known_variables net) v → name u ≡ x → name v ≡ y →
+        Reaches net u v
     reach_original itself u v u_known v_known u_is v_is =
         subst (λ w. Reaches net u w) (renaming.apart u v u_known v_known (u_is ∙ sym v_is)) itself
     reach_original (left h h_in r) u v u_known v_known u_is v_is =
         let g = gate_original h h_in in
-        let same : u ≡ g.by.variable = renaming.apart u g.by.variable u_known (known_gate net g.by g.member) (u_is ∙ ap variable_of_gate g.is) in
-        let side : name (left_variable g.by) ≡ left_variable h = sym (ap left_variable g.is ∙ renamed_variable name g.by.left) in
+        let same : u ≡ g.by.variable = renaming.apart u g.by.variable u_known (known_gate net g.by g.member)
+        (u_is ∙ ap variable_of_gate g.is) in
+        let side : name (left_variable g.by) ≡ left_variable h =
+        sym (ap left_variable g.is ∙ renamed_variable name g.by.left) in
         subst (λ w. Reaches net w v) (sym same)
         (left g.by g.member (reach_original r (left_variable g.by) v (known_sides g.by g.member).0 v_known side v_is))
     reach_original (right h h_in r) u v u_known v_known u_is v_is =
         let g = gate_original h h_in in
-        let same : u ≡ g.by.variable = renaming.apart u g.by.variable u_known (known_gate net g.by g.member) (u_is ∙ ap variable_of_gate g.is) in
-        let side : name (right_variable g.by) ≡ right_variable h = sym (ap right_variable g.is ∙ renamed_variable name g.by.right) in
+        let same : u ≡ g.by.variable = renaming.apart u g.by.variable u_known (known_gate net g.by g.member)
+        (u_is ∙ ap variable_of_gate g.is) in
+        let side : name (right_variable g.by) ≡ right_variable h =
+        sym (ap right_variable g.is ∙ renamed_variable name g.by.right) in
         subst (λ w. Reaches net w v) (sym same)
         (right g.by g.member (reach_original r (right_variable g.by) v (known_sides g.by g.member).1 v_known side v_is))

@@ -15,10 +15,12 @@ use Rattle.skolem_checker.proofs.TablesLaws.{list_all-each}
 
 -- the rows of a block that was evaluated, with the clauses' test as bits
 module _ (f : Dqbf) (net : Netlist) (literals places : List ℕ) (first : ℕ) (block : List (List ℕ)) (hold : List ℕ)
-    (valuation : (l b : ℕ) → l < 4 → b < 64 → IsValuation net (placed_bits places (row_number first l b)) (block_bits block l b))
+    (valuation : (l b : ℕ) → l < 4 → b < 64 → IsValuation net (placed_bits places (row_number first l b))
+    (block_bits block l b))
     (is : (l b : ℕ) → l < 4 → b < 64
     → lane_bit hold l b ≡ list_all (clause_true (circuit_assignment literals (block_bits block l b))) f.matrix) where
-  pub row_test : (r : ℕ) (holds : Bool) → r < 256 → row_bit hold r ≡ holds → RowTest f net literals places (first + r) holds
+  pub row_test : (r : ℕ) (holds : Bool) → r < 256 → row_bit hold r ≡ holds →
+      RowTest f net literals places (first + r) holds
   row_test r holds below bit =
       let l = r / 64 in
       let b = r % 64 in
@@ -29,7 +31,8 @@ module _ (f : Dqbf) (net : Netlist) (literals places : List ℕ) (first : ℕ) (
         bits = placed_bits places (first + r);
         values = block_bits block l b;
         are_bits = λ i _. refl;
-        valuation = subst (λ k. IsValuation net (placed_bits places k) (block_bits block l b)) number (valuation l b l_below b_below);
+        valuation = subst (λ k. IsValuation net (placed_bits places k) (block_bits block l b)) number
+            (valuation l b l_below b_below);
         is = sym bit ∙ is l b l_below b_below;
       }
 
@@ -44,7 +47,8 @@ module _ (f : Dqbf) (net : Netlist) (literals places : List ℕ) (first : ℕ) (
         | inr here ↦
             let r : ℕ = j - first in
             let r_below : r < count = omega arith in
-            subst (λ k. RowTest f net literals places k true) (sum here) (row_test r true (omega arith) (held r r_below))
+            subst (λ k. RowTest f net literals places k true) (sum here)
+            (row_test r true (omega arith) (held r r_below))
       ]
     where
       sum : first ≤ j → first + (j - first) ≡ j
@@ -61,4 +65,5 @@ full_lanes lanes four full r below =
 
 pub all_ones : (i b : ℕ) → i < 4 → b < 64 → lane_bit (replicate 4 18446744073709551615) i b ≡ true
 all_ones i b i_below b_below =
-    ap (λ w. bit_at w b == 1) (get_or-replicate 4 i 18446744073709551615 0 i_below) ∙ ap (λ n. n == 1) (bit_at_ones 64 b b_below)
+    ap (λ w. bit_at w b == 1) (get_or-replicate 4 i 18446744073709551615 0 i_below) ∙ ap (λ n. n == 1)
+    (bit_at_ones 64 b b_below)

@@ -26,7 +26,8 @@ use Rattle.skolem_checker.specs.Tables.{IsMapping}
 use Rattle.skolem_checker.specs.declared.mapping.MapError.{MapError}
 use Rattle.skolem_checker.proofs.OntoLaws.{IsMapped, mapped}
 
-module _ (f : Dqbf) (net : Netlist) (mapping : Mapping) (kept : IsNetlist net) (complete : IsComplete net) (is_mapping : IsMapping f net mapping) where
+module _ (f : Dqbf) (net : Netlist) (mapping : Mapping) (kept : IsNetlist net) (complete : IsComplete net)
+    (is_mapping : IsMapping f net mapping) where
   abbrev circuit : MappedCircuit
   circuit = record { netlist = net; mapping = mapping }
 
@@ -34,7 +35,8 @@ module _ (f : Dqbf) (net : Netlist) (mapping : Mapping) (kept : IsNetlist net) (
   grounded_output o =
       elim (cases_lt o (length net.outputs)) [
         | inl below ↦ complete.outputs o 0 below
-        | inr past ↦ subst (λ l. IsGrounded net (literal_variable l)) (sym (get_or_past net.outputs o 0 past)) ground_constant
+        | inr past ↦ subst (λ l. IsGrounded net (literal_variable l))
+            (sym (get_or_past net.outputs o 0 past)) ground_constant
       ]
 
   abbrev place_of : Existential → ℕ
@@ -43,8 +45,10 @@ module _ (f : Dqbf) (net : Netlist) (mapping : Mapping) (kept : IsNetlist net) (
   abbrev variable_of_output : Existential → ℕ
   variable_of_output y = literal_variable (slice_index net.outputs (place_of y))
 
-  bit_of_output : (y : Existential) (m : Assignment) → (b : Bool) × HasValue net (input_bits mapping m) (variable_of_output y) b
-  bit_of_output y m = grounded_have_values net (input_bits mapping m) (variable_of_output y) (grounded_output (place_of y))
+  bit_of_output : (y : Existential) (m : Assignment) → (b : Bool) × HasValue net (input_bits mapping m)
+      (variable_of_output y) b
+  bit_of_output y m = grounded_have_values net (input_bits mapping m) (variable_of_output y)
+      (grounded_output (place_of y))
 
   output : Existential → OutputFunction
   output y = record {
@@ -55,18 +59,26 @@ module _ (f : Dqbf) (net : Netlist) (mapping : Mapping) (kept : IsNetlist net) (
   in_mapping : (i : ℕ) → i < length net.inputs → i < length mapping.inputs
   in_mapping i below = omega (arith, is_mapping.inputs_length, is_mapping.inputs.same_length)
 
-  known : (k : ℕ) (d : Existential) → k < length f.existentials → has mapping.outputs (get_or f.existentials k d).variable ≡ true
+  known : (k : ℕ) (d : Existential) → k < length f.existentials →
+      has mapping.outputs (get_or f.existentials k d).variable ≡ true
   known k d below =
-      has-contains mapping.outputs (get_or f.existentials k d).variable (is_mapping.outputs.onto (get_or f.existentials k d).variable
-      (k, rw (length-map f.existentials (λ (y : Existential). y.variable)) below, get_or-map (λ (y : Existential). y.variable) f.existentials k d _ below))
+      has-contains mapping.outputs (get_or f.existentials k d).variable
+      (is_mapping.outputs.onto (get_or f.existentials k d).variable (
+        k,
+        rw (length-map f.existentials (λ (y : Existential). y.variable)) below,
+        get_or-map (λ (y : Existential). y.variable) f.existentials k d _ below,
+      ))
 
-  supported : (y : Existential) → has mapping.outputs y.variable ≡ true → ((x : ℕ) → ReadsUniversal circuit y.variable x → Contains y.sees x)
+  supported : (y : Existential) → has mapping.outputs y.variable ≡ true →
+      ((x : ℕ) → ReadsUniversal circuit y.variable x → Contains y.sees x)
       → IsSupported (output y)
   unfolding output
   supported y among declared m n agree =
       ap (signed_bit (slice_index net.outputs (place_of y)))
-      (values_are_unique net (input_bits mapping n) (variable_of_output y) (bit_of_output y m).0 (bit_of_output y n).0 kept
-      (values_follow_reach net (input_bits mapping m) (input_bits mapping n) (variable_of_output y) (bit_of_output y m).0
+      (values_are_unique net (input_bits mapping n) (variable_of_output y) (bit_of_output y m).0
+      (bit_of_output y n).0 kept
+      (values_follow_reach net (input_bits mapping m) (input_bits mapping n) (variable_of_output y)
+      (bit_of_output y m).0
       (λ i below reaches.
       let x = slice_index mapping.inputs i in
       All-contains (λ x. m x ≡ n x) y.sees x agree (declared x (record {
@@ -82,9 +94,11 @@ module _ (f : Dqbf) (net : Netlist) (mapping : Mapping) (kept : IsNetlist net) (
       (bit_of_output y n).1)
 
   pub skolem_functions : ((k : ℕ) (d : Existential) → k < length f.existentials
-      → (x : ℕ) → ReadsUniversal (record { netlist = net; mapping = mapping }) (get_or f.existentials k d).variable x → Contains (get_or f.existentials k d).sees x)
+      → (x : ℕ) → ReadsUniversal (record { netlist = net; mapping = mapping }) (get_or f.existentials k d).variable x →
+      Contains (get_or f.existentials k d).sees x)
       → ((m : Assignment) → FollowsCircuit f (record { netlist = net; mapping = mapping }) m → MatrixHolds f m)
-      → (output : Existential → OutputFunction) × AreSkolemFunctions f output × AreOutputsOf f (record { netlist = net; mapping = mapping }) output
+      → (output : Existential → OutputFunction) × AreSkolemFunctions f output × AreOutputsOf f
+      (record { netlist = net; mapping = mapping }) output
   unfolding output
   skolem_functions declared holds = (
     output,
@@ -117,11 +131,14 @@ module _ (f : Dqbf) (net : Netlist) (mapping : Mapping) (kept : IsNetlist net) (
     },
   )
 
-pub outputs_are_skolem : (f : Dqbf) (net : Netlist) (symbols : SymbolTable) → HasLawfulPrefix f → IsNetlist net → IsComplete net
+pub outputs_are_skolem : (f : Dqbf) (net : Netlist) (symbols : SymbolTable) → HasLawfulPrefix f → IsNetlist net →
+    IsComplete net
     → (h : IsSkolemCircuit f net symbols)
-    → (output : Existential → OutputFunction) × AreSkolemFunctions f output × AreOutputsOf f (record { netlist = net; mapping = h.mapping }) output
+    → (output : Existential → OutputFunction) × AreSkolemFunctions f output × AreOutputsOf f
+    (record { netlist = net; mapping = h.mapping }) output
 outputs_are_skolem f net symbols lawful kept complete h =
-    skolem_functions f net h.mapping kept complete (subst (IsMapped f net) h.maps (mapped f net symbols lawful)) h.reads_declared h.holds
+    skolem_functions f net h.mapping kept complete (subst (IsMapped f net) h.maps (mapped f net symbols lawful))
+    h.reads_declared h.holds
 
 -- each bit list is a row's
 record NumberOf (n : ℕ) (bits : ℕ → Bool) : Type 0 where
@@ -171,7 +188,8 @@ mapping_or : Mapping → Result Candidate MapError → Mapping
 mapping_or other (Ok c) = c.circuit.mapping
 mapping_or other (Err _) = other
 
-with_mapping-ok : (f : Dqbf) (net : Netlist) (r : Result Mapping MapError) (c : Candidate) → with_mapping f net r ≡ Ok c → r ≡ Ok c.circuit.mapping
+with_mapping-ok : (f : Dqbf) (net : Netlist) (r : Result Mapping MapError) (c : Candidate) →
+    with_mapping f net r ≡ Ok c → r ≡ Ok c.circuit.mapping
 unfolding mapping_or
 with_mapping-ok f net (Ok mapping) c h = ap (λ r. Ok (mapping_or mapping r)) h
 with_mapping-ok f net (Err fault) c h = cc
@@ -185,13 +203,16 @@ tested_is_skolem c symbols lawful is reads rows = record {
   maps = maps;
   reads_declared = λ k d below x read.
       let universal : Contains c.formula.universals x =
-      subst (Contains c.formula.universals) read.input_stands_for (is_mapping.inputs.declared_alone read.input 0 read.input_in_range) in
-      let q_is : slice_index c.formula.universals universal.0 ≡ x = get_or_default c.formula.universals universal.0 0 x universal.1 ∙ universal.2 in
+      subst (Contains c.formula.universals) read.input_stands_for
+      (is_mapping.inputs.declared_alone read.input 0 read.input_in_range) in
+      let q_is : slice_index c.formula.universals universal.0 ≡ x =
+      get_or_default c.formula.universals universal.0 0 x universal.1 ∙ universal.2 in
       let e = existential_at c.formula k in
       let same : e ≡ get_or c.formula.existentials k d = get_or_default c.formula.existentials k _ d below in
       subst (λ (y : Existential). Contains y.sees x) same
       (subst (Contains e.sees) q_is (reads k below universal.0 universal.1
-      (subst (ReadsUniversal c.circuit e.variable) (sym q_is) (subst (λ (y : Existential). ReadsUniversal c.circuit y.variable x) (sym same) read))));
+      (subst (ReadsUniversal c.circuit e.variable) (sym q_is)
+      (subst (λ (y : Existential). ReadsUniversal c.circuit y.variable x) (sym same) read))));
   holds = λ m follows.
       let row = number_of (length c.formula.universals) (λ i. m (slice_index c.formula.universals i)) in
       rows row.number row.below m row.are follows;

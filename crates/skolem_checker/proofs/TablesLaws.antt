@@ -42,7 +42,8 @@ list_all-each p xs h k d below =
       | inr fails ↦ absurd (true≢false (sym h ∙ list_all_at p xs k d below fails))
     ]
 
-module _ (f : Dqbf) (net : Netlist) (mapping : Mapping) (literals places : List ℕ) (formed : IsWellFormed f) (tables : AreTables f net mapping literals places) where
+module _ (f : Dqbf) (net : Netlist) (mapping : Mapping) (literals places : List ℕ) (formed : IsWellFormed f)
+    (tables : AreTables f net mapping literals places) where
   abbrev pub circuit : MappedCircuit
   circuit = record { netlist = net; mapping = mapping }
 
@@ -93,7 +94,8 @@ module _ (f : Dqbf) (net : Netlist) (mapping : Mapping) (literals places : List 
         input_in_range = i.in_range;
         input_stands_for = i.is;
         reaches = subst (λ v. Reaches net (literal_variable (slice_index net.outputs o.at)) v) reached
-            (subst (λ p. Reaches net (literal_variable (slice_index net.outputs p)) (literal_variable (slice_index literals x))) (output_place y o) reads);
+            (subst (λ p. Reaches net (literal_variable (slice_index net.outputs p))
+            (literal_variable (slice_index literals x))) (output_place y o) reads);
       }
 
   pub tables_by_reads : (y x : ℕ) → ReadsUniversal circuit y x → ReadsByTables net literals places y x
@@ -102,24 +104,38 @@ module _ (f : Dqbf) (net : Netlist) (mapping : Mapping) (literals places : List 
       let o : OutputFor y = record { at = reads.out; in_range = reads.out_in_range; is = reads.out_stands_for } in
       let reached : literal_variable (slice_index literals x) ≡ slice_index net.inputs i.at =
       ap literal_variable (input_literal x i) ∙ half-even (slice_index net.inputs i.at) in
-      subst (λ p. Reaches net (literal_variable (slice_index net.outputs p)) (literal_variable (slice_index literals x))) (sym (output_place y o))
+      subst (λ p. Reaches net (literal_variable (slice_index net.outputs p))
+      (literal_variable (slice_index literals x))) (sym (output_place y o))
       (subst (λ v. Reaches net (literal_variable (slice_index net.outputs o.at)) v) (sym reached) reads.reaches)
 
   -- each declared variable has its literal
-  literal_fits : (kept : IsNetlist net) (v : ℕ) → Contains (declared f) v → literal_variable (slice_index literals v) < net.max_var + 1
+  literal_fits : (kept : IsNetlist net) (v : ℕ) → Contains (declared f) v →
+      literal_variable (slice_index literals v) < net.max_var + 1
   literal_fits kept v known =
       elim (Contains-append_cases f.universals (existential_variables f) v known) [
         | inl universal ↦
             let i = input_for v universal in
-            let in_net : i.at < length net.inputs = omega (arith, i.in_range, tables.mapped.inputs_length, tables.mapped.inputs.same_length) in
+            let in_net : i.at < length net.inputs = omega (
+              arith,
+              i.in_range,
+              tables.mapped.inputs_length,
+              tables.mapped.inputs.same_length,
+            ) in
             let fits = kept.inputs_fit i.at 0 in_net in
             let reached : literal_variable (slice_index literals v) ≡ slice_index net.inputs i.at =
             ap literal_variable (input_literal v i) ∙ half-even (slice_index net.inputs i.at) in
             omega (arith, fits.1, reached)
         | inr existential ↦
             let o = output_for v existential in
-            let listed : length (existential_variables f) ≡ length f.existentials = length-map f.existentials (λ (y : Existential). y.variable) in
-            let in_net : o.at < length net.outputs = omega (arith, o.in_range, tables.mapped.outputs_length, tables.mapped.outputs.same_length, listed) in
+            let listed : length (existential_variables f) ≡ length f.existentials =
+            length-map f.existentials (λ (y : Existential). y.variable) in
+            let in_net : o.at < length net.outputs = omega (
+              arith,
+              o.in_range,
+              tables.mapped.outputs_length,
+              tables.mapped.outputs.same_length,
+              listed,
+            ) in
             let fits : slice_index net.outputs o.at ≤ 2 * net.max_var + 1 = kept.outputs_fit o.at 0 in_net in
             let same : slice_index literals v ≡ slice_index net.outputs o.at = output_literal_of v o in
             omega (arith, fits, same)
@@ -128,30 +144,42 @@ module _ (f : Dqbf) (net : Netlist) (mapping : Mapping) (literals places : List 
   pub has_literal : (kept : IsNetlist net) (v : ℕ) → Contains (declared f) v → HasLiteral literals (net.max_var + 1) v
   has_literal kept v known =
       let range = All-contains (λ w. (1 ≤ w) × (w ≤ f.variables)) (declared f) v formed.prefix.in_range known in
-      record { in_table = omega (arith, range.1, tables.by_literal.a_literal_a_variable); in_values = literal_fits kept v known }
+      record {
+        in_table = omega (arith, range.1, tables.by_literal.a_literal_a_variable);
+        in_values =
+            literal_fits kept v known;
+      }
 
-  module _ (k : ℕ) (bits values : ℕ → Bool) (are_bits : AreRowBits (universal_places f mapping) k bits (length (universal_places f mapping))) (valuation : IsValuation net bits values) where
+  module _ (k : ℕ) (bits values : ℕ → Bool) (are_bits : AreRowBits (universal_places f mapping) k bits
+      (length (universal_places f mapping))) (valuation : IsValuation net bits values) where
     a : Assignment
     a = circuit_assignment literals values
 
     up_length : length (universal_places f mapping) ≡ length mapping.inputs
     up_length = length-map mapping.inputs (λ x. place f.universals x)
 
-    bit_is : (i : ℕ) → i < length mapping.inputs → bits i ≡ (bit_at k (place f.universals (slice_index mapping.inputs i)) == 1)
+    bit_is : (i : ℕ) → i < length mapping.inputs → bits i ≡ (bit_at k
+        (place f.universals (slice_index mapping.inputs i)) == 1)
     bit_is i below =
         are_bits i (omega (arith, up_length))
         ∙ ap (λ p. bit_at k p == 1) (get_or-map (λ x. place f.universals x) mapping.inputs i 0 0 below)
 
     distinct_universals : IsDistinct eqb f.universals
     distinct_universals =
-        IsDistinct-from_AllPairs Decides-eqb f.universals (left-distinct f.universals (existential_variables f) formed.prefix.declared_once)
+        IsDistinct-from_AllPairs Decides-eqb f.universals (left-distinct f.universals
+        (existential_variables f) formed.prefix.declared_once)
 
     -- the tables' assignment has the row
     pub row_is : IsRow f k (circuit_assignment literals values)
     row_is p below =
         let x = slice_index f.universals p in
         let i = input_for x (Contains-get_or f.universals p 0 below) in
-        let in_net : i.at < length net.inputs = omega (arith, i.in_range, tables.mapped.inputs_length, tables.mapped.inputs.same_length) in
+        let in_net : i.at < length net.inputs = omega (
+          arith,
+          i.in_range,
+          tables.mapped.inputs_length,
+          tables.mapped.inputs.same_length,
+        ) in
         even-bit values (slice_index literals x) (slice_index net.inputs i.at) (input_literal x i)
         ∙ valuation.inputs i.at in_net
         ∙ bit_is i.at i.in_range
@@ -162,7 +190,8 @@ module _ (f : Dqbf) (net : Netlist) (mapping : Mapping) (literals places : List 
     bits_agree : (m : Assignment) → IsRow f k m → (i : ℕ) → i < length mapping.inputs → input_bits mapping m i ≡ bits i
     bits_agree m row i below =
         let x = slice_index mapping.inputs i in
-        let known : has f.universals x ≡ true = has-contains f.universals x (tables.mapped.inputs.declared_alone i 0 below) in
+        let known : has f.universals x ≡ true = has-contains f.universals x
+        (tables.mapped.inputs.declared_alone i 0 below) in
         ap m (sym (get_or-place f.universals x 0 known))
         ∙ row (place f.universals x) (place-below f.universals x known)
         ∙ sym (bit_is i below)
@@ -171,14 +200,16 @@ module _ (f : Dqbf) (net : Netlist) (mapping : Mapping) (literals places : List 
     in_mapping i below = omega (arith, tables.mapped.inputs_length, tables.mapped.inputs.same_length)
 
     -- the output's value is the table's
-    output_value : (m : Assignment) → IsRow f k m → (y : ℕ) (b : Bool) → HasOutputValue circuit m y b → b ≡ circuit_assignment literals values y
+    output_value : (m : Assignment) → IsRow f k m → (y : ℕ) (b : Bool) → HasOutputValue circuit m y b →
+        b ≡ circuit_assignment literals values y
     output_value m row y b h =
         let o : OutputFor y = record { at = h.out; in_range = h.in_range; is = h.stands_for } in
         let l = slice_index net.outputs h.out in
         let moved : HasValue net bits (literal_variable l) h.variable_bit =
         values_follow_reach net (input_bits mapping m) bits (literal_variable l) h.variable_bit
         (λ i below _. bits_agree m row i (in_mapping i below)) h.value in
-        let agrees : values (literal_variable l) ≡ h.variable_bit = valuations_agree net bits values (literal_variable l) h.variable_bit valuation moved in
+        let agrees : values (literal_variable l) ≡ h.variable_bit =
+        valuations_agree net bits values (literal_variable l) h.variable_bit valuation moved in
         h.signed ∙ ap (signed_bit l) (sym agrees) ∙ ap (literal_bit values) (sym (output_literal_of y o))
 
     pub has_output_value : IsComplete net → (y : ℕ) → Contains (existential_variables f) y
@@ -186,17 +217,27 @@ module _ (f : Dqbf) (net : Netlist) (mapping : Mapping) (literals places : List 
     has_output_value complete y known =
         let o = output_for y known in
         let l = slice_index net.outputs o.at in
-        let listed : length (existential_variables f) ≡ length f.existentials = length-map f.existentials (λ (e : Existential). e.variable) in
-        let in_net : o.at < length net.outputs = omega (arith, o.in_range, tables.mapped.outputs_length, tables.mapped.outputs.same_length, listed) in
+        let listed : length (existential_variables f) ≡ length f.existentials =
+        length-map f.existentials (λ (e : Existential). e.variable) in
+        let in_net : o.at < length net.outputs = omega (
+          arith,
+          o.in_range,
+          tables.mapped.outputs_length,
+          tables.mapped.outputs.same_length,
+          listed,
+        ) in
         let value = grounded_have_values net bits (literal_variable l) (complete.outputs o.at 0 in_net) in
-        let agrees : values (literal_variable l) ≡ value.0 = valuations_agree net bits values (literal_variable l) value.0 valuation value.1 in
+        let agrees : values (literal_variable l) ≡ value.0 =
+        valuations_agree net bits values (literal_variable l) value.0 valuation value.1 in
         record {
           out = o.at;
           in_range = o.in_range;
           stands_for = o.is;
           variable_bit = value.0;
-          value = values_follow_reach net bits (input_bits mapping (circuit_assignment literals values)) (literal_variable l) value.0
-              (λ i below _. sym (bits_agree (circuit_assignment literals values) row_is i (in_mapping i below))) value.1;
+          value = values_follow_reach net bits (input_bits mapping (circuit_assignment literals values))
+              (literal_variable l) value.0
+              (λ i below _. sym (bits_agree (circuit_assignment literals values) row_is i (in_mapping i below)))
+              value.1;
           signed = ap (literal_bit values) (output_literal_of y o) ∙ ap (signed_bit l) agrees;
         }
 
@@ -208,10 +249,12 @@ module _ (f : Dqbf) (net : Netlist) (mapping : Mapping) (literals places : List 
           | inl universal ↦
               let p = universal.0 in
               let is : slice_index f.universals p ≡ v = get_or_default f.universals p 0 v universal.1 ∙ universal.2 in
-              ap m (sym is) ∙ row p universal.1 ∙ sym (row_is p universal.1) ∙ ap (circuit_assignment literals values) is
+              ap m (sym is) ∙ row p universal.1 ∙ sym (row_is p universal.1) ∙ ap
+              (circuit_assignment literals values) is
           | inr existential ↦
               let p = existential.0 in
-              let listed : length (existential_variables f) ≡ length f.existentials = length-map f.existentials (λ (e : Existential). e.variable) in
+              let listed : length (existential_variables f) ≡ length f.existentials =
+              length-map f.existentials (λ (e : Existential). e.variable) in
               let below : p < length f.existentials = omega (arith, existential.1, listed) in
               let d : Existential = record { variable = v; sees = [] } in
               let is : (get_or f.existentials p d).variable ≡ v =
@@ -222,7 +265,8 @@ module _ (f : Dqbf) (net : Netlist) (mapping : Mapping) (literals places : List 
               ∙ ap (circuit_assignment literals values) is
         ]
 
-    literal_agrees : (m : Assignment) (l : Literal) → m (variable_of l) ≡ circuit_assignment literals values (variable_of l)
+    literal_agrees : (m : Assignment) (l : Literal) → m (variable_of l) ≡ circuit_assignment literals values
+        (variable_of l)
         → literal_true m l ≡ literal_true (circuit_assignment literals values) l
     literal_agrees m (positive v) e = e
     literal_agrees m (negative v) e = ap not e
@@ -235,7 +279,8 @@ module _ (f : Dqbf) (net : Netlist) (mapping : Mapping) (literals places : List 
         (same_assignment m row follows (variable_of (get_or clause q e)) (formed.bound j d below q e within)))
         ∙ list_all-each (clause_true (circuit_assignment literals values)) f.matrix holds j d below
 
-    pub row_fails : IsComplete net → list_all (clause_true (circuit_assignment literals values)) f.matrix ≡ false → RowFails f circuit k
+    pub row_fails : IsComplete net → list_all (clause_true (circuit_assignment literals values)) f.matrix ≡ false →
+        RowFails f circuit k
     row_fails complete fails = record {
       assignment = circuit_assignment literals values;
       row = row_is;

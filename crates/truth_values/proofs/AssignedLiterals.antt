@@ -22,7 +22,8 @@ told_along False a b c d e f h = (e ∙ h.0, f ∙ h.1)
 told_along Unassigned a b c d e f h = (e ∙ h.0, f ∙ h.1)
 
 -- an unassigned literal's variable has no value
-pub free_at : (values : List TruthValue) (trues : List Literal) (l : Literal) (i : ℕ) → Tells values trues → variable_of l ≡ suc i → i < length values →
+pub free_at : (values : List TruthValue) (trues : List Literal) (l : Literal) (i : ℕ) → Tells values trues →
+    variable_of l ≡ suc i → i < length values →
     holds trues l ≡ false → holds trues (opposite l) ≡ false → get_or values i Unassigned ≡ Unassigned
 free_at values trues (positive v) i told e lt h o =
     told_free (get_or values i Unassigned) (holds trues (positive (suc i))) (holds trues (negative (suc i))) (told i lt)
@@ -46,28 +47,36 @@ told_here trues (negative v) i e o = (
   or_left (same_literal (negative (suc i)) (negative v)) (holds trues (negative (suc i))) (eq-eqb (suc i) v (sym e)),
 )
 
-pub tells_more : (values : List TruthValue) (trues : List Literal) (l : Literal) (i : ℕ) → Tells values trues → variable_of l ≡ suc i → i < length values →
+pub tells_more : (values : List TruthValue) (trues : List Literal) (l : Literal) (i : ℕ) → Tells values trues →
+    variable_of l ≡ suc i → i < length values →
     holds trues (opposite l) ≡ false → Tells (set values i (value_where_true l)) (l ∷ trues)
 tells_more values trues l i told e lt o j lt' =
     elim (cases_eq j i) [
       | inl same ↦
-          let P : ℕ → Type 0 = λ n. IsTold (get_or (set values i (value_where_true l)) n Unassigned) (holds (l ∷ trues) (positive (suc n))) (holds (l ∷ trues) (negative (suc n))) in
-          let Q : TruthValue → Type 0 = λ t. IsTold t (holds (l ∷ trues) (positive (suc i))) (holds (l ∷ trues) (negative (suc i))) in
-          let read : get_or (set values i (value_where_true l)) i Unassigned ≡ value_where_true l = get_or-set_same values i (value_where_true l) Unassigned lt in
+          let P : ℕ → Type 0 = λ n. IsTold (get_or (set values i (value_where_true l)) n Unassigned)
+          (holds (l ∷ trues) (positive (suc n))) (holds (l ∷ trues) (negative (suc n))) in
+          let Q : TruthValue → Type 0 = λ t. IsTold t (holds (l ∷ trues) (positive (suc i)))
+          (holds (l ∷ trues) (negative (suc i))) in
+          let read : get_or (set values i (value_where_true l)) i Unassigned ≡ value_where_true l =
+          get_or-set_same values i (value_where_true l) Unassigned lt in
           subst P (sym same) (subst Q (sym read) (told_here trues l i e o))
       | inr other ↦
           let ne : suc j ≢ variable_of l = λ h. other (omega (arith, h ∙ e)) in
-          let Q : TruthValue → Type 0 = λ t. IsTold t (holds (l ∷ trues) (positive (suc j))) (holds (l ∷ trues) (negative (suc j))) in
-          let read : get_or (set values i (value_where_true l)) j Unassigned ≡ get_or values j Unassigned = rw get_or-set_other refl in
+          let Q : TruthValue → Type 0 = λ t. IsTold t (holds (l ∷ trues) (positive (suc j)))
+          (holds (l ∷ trues) (negative (suc j))) in
+          let read : get_or (set values i (value_where_true l)) j Unassigned ≡ get_or values j Unassigned =
+          rw get_or-set_other refl in
           let in_range : j < length values = omega (arith, length-set values i (value_where_true l)) in
           subst Q (sym read)
-          (told_along (get_or values j Unassigned) (holds (l ∷ trues) (positive (suc j))) (holds trues (positive (suc j)))
+          (told_along (get_or values j Unassigned) (holds (l ∷ trues) (positive (suc j)))
+          (holds trues (positive (suc j)))
           (holds (l ∷ trues) (negative (suc j))) (holds trues (negative (suc j)))
           (ap (λ b. b || holds trues (positive (suc j))) (other_positive (suc j) l ne))
           (ap (λ b. b || holds trues (negative (suc j))) (other_negative (suc j) l ne)) (told j in_range))
     ]
 
-pub one_more_counted : (values : List TruthValue) (i : ℕ) (t : TruthValue) → i < length values → get_or values i Unassigned ≡ Unassigned → is_assigned t ≡ true →
+pub one_more_counted : (values : List TruthValue) (i : ℕ) (t : TruthValue) → i < length values →
+    get_or values i Unassigned ≡ Unassigned → is_assigned t ≡ true →
     count_by is_assigned (set values i t) ≡ count_by is_assigned values + 1
 one_more_counted values i t lt free one =
     let step = sum_by-set (λ x. cond (is_assigned x) 1 0) values i t Unassigned lt in
@@ -77,7 +86,8 @@ one_more_counted values i t lt free one =
     omega (arith, step, here, there)
 
 -- where a variable has no value, the literals made true are fewer than the variables
-pub room_left : (values : List TruthValue) (i : ℕ) → i < length values → get_or values i Unassigned ≡ Unassigned → count_by is_assigned values < length values
+pub room_left : (values : List TruthValue) (i : ℕ) → i < length values → get_or values i Unassigned ≡ Unassigned →
+    count_by is_assigned values < length values
 room_left values i lt free =
     let more = one_more_counted values i True lt free refl in
     let most = count_by-le-length is_assigned (set values i True) in

@@ -61,13 +61,16 @@ pub holds-append : (xs ys : List Literal) (l : Literal) → holds (xs ++ ys) l �
 holds-append [] ys l = refl
 holds-append (x ∷ xs) ys l =
     elim (cases_Bool (same_literal l x)) [
-      | inl same ↦ or_left (same_literal l x) (holds (xs ++ ys) l) same ∙ sym (or_left (holds (x ∷ xs) l) (holds ys l) (or_left (same_literal l x) (holds xs l) same))
-      | inr other ↦ ap (λ b. b || holds (xs ++ ys) l) other ∙ holds-append xs ys l ∙ ap (λ b. (b || holds xs l) || holds ys l) (sym other)
+      | inl same ↦ or_left (same_literal l x) (holds (xs ++ ys) l) same ∙ sym
+          (or_left (holds (x ∷ xs) l) (holds ys l) (or_left (same_literal l x) (holds xs l) same))
+      | inr other ↦ ap (λ b. b || holds (xs ++ ys) l) other ∙ holds-append xs ys l ∙ ap
+          (λ b. (b || holds xs l) || holds ys l) (sym other)
     ]
 
 pub holds-map : (line : List Literal) (l : Literal) → holds (map opposite line) (opposite l) ≡ holds line l
 holds-map [] l = refl
-holds-map (k ∷ line) l = ap (λ b. b || holds (map opposite line) (opposite l)) (same_opposite l k) ∙ ap (λ b. same_literal l k || b) (holds-map line l)
+holds-map (k ∷ line) l = ap (λ b. b || holds (map opposite line) (opposite l)) (same_opposite l k) ∙ ap
+    (λ b. same_literal l k || b) (holds-map line l)
 
 -- of a list and one more
 pub holds_first : (x : Literal) (xs : List Literal) → holds (x ∷ xs) x ≡ true
@@ -76,7 +79,8 @@ holds_first x xs = or_left (same_literal x x) (holds xs x) (same_literal-refl x)
 pub holds_later : (x : Literal) (xs : List Literal) (l : Literal) → holds xs l ≡ true → holds (x ∷ xs) l ≡ true
 holds_later x xs l h = or_right (same_literal l x) (holds xs l) h
 
-pub holds_cases : (x : Literal) (xs : List Literal) (l : Literal) → holds (x ∷ xs) l ≡ true → (l ≡ x) ⊎ (holds xs l ≡ true)
+pub holds_cases : (x : Literal) (xs : List Literal) (l : Literal) → holds (x ∷ xs) l ≡ true →
+    (l ≡ x) ⊎ (holds xs l ≡ true)
 holds_cases x xs l h =
     elim (or_cases (same_literal l x) (holds xs l) h) [
       | inl same ↦ inl (same_literal-sound l x same)
@@ -84,7 +88,8 @@ holds_cases x xs l h =
     ]
 
 -- a free literal's variable stands on no literal of the list
-pub free_variable : (trues : List Literal) (l t : Literal) → IsFree trues l → holds trues t ≡ true → variable_of t ≡ variable_of l → ⊥
+pub free_variable : (trues : List Literal) (l t : Literal) → IsFree trues l → holds trues t ≡ true →
+    variable_of t ≡ variable_of l → ⊥
 free_variable trues l t free h same =
     elim (one_variable t l same) [
       | inl e ↦ false≢true (sym free.0 ∙ ap (holds trues) (sym e) ∙ h)
@@ -92,7 +97,8 @@ free_variable trues l t free h same =
     ]
 
 -- a test that some literal of a list meets
-pub any_one : (p : Literal → Bool) (line : List Literal) (l : Literal) → holds line l ≡ true → p l ≡ true → list_any p line ≡ true
+pub any_one : (p : Literal → Bool) (line : List Literal) (l : Literal) → holds line l ≡ true → p l ≡ true →
+    list_any p line ≡ true
 any_one p [] l h here = cc
 any_one p (k ∷ line) l h here =
     elim (or_cases (same_literal l k) (holds line l) h) [
@@ -100,7 +106,8 @@ any_one p (k ∷ line) l h here =
       | inr later ↦ or_right (p k) (list_any p line) (any_one p line l later here)
     ]
 
-pub any_gives : (p : Literal → Bool) (line : List Literal) → list_any p line ≡ true → (l : Literal) × (holds line l ≡ true) × (p l ≡ true)
+pub any_gives : (p : Literal → Bool) (line : List Literal) → list_any p line ≡ true →
+    (l : Literal) × (holds line l ≡ true) × (p l ≡ true)
 any_gives p [] h = absurd (false≢true h)
 any_gives p (k ∷ line) h =
     elim (or_cases (p k) (list_any p line) h) [
@@ -109,14 +116,17 @@ any_gives p (k ∷ line) h =
     ]
 
 -- no literal beside its negation
-pub no_tautology : (line : List Literal) → ((l : Literal) → holds line l ≡ true → holds line (opposite l) ≡ true → ⊥) → is_tautology line ≡ false
-no_tautology line apart = false_from_ne_true (is_tautology line) (λ h. let r = any_gives (λ l. holds line (opposite l)) line h in apart r.0 r.1 r.2)
+pub no_tautology : (line : List Literal) → ((l : Literal) → holds line l ≡ true → holds line (opposite l) ≡ true → ⊥) →
+    is_tautology line ≡ false
+no_tautology line apart = false_from_ne_true (is_tautology line)
+    (λ h. let r = any_gives (λ l. holds line (opposite l)) line h in apart r.0 r.1 r.2)
 
 -- what a value says
 pub value_free : (trues : List Literal) (l : Literal) → literal_value trues l ≡ Unassigned → IsFree trues l
 value_free trues l h =
     elim (cases_Bool (holds trues (opposite l))) [
-      | inl is_false ↦ let e = ap (λ b. cond b False (cond (holds trues l) True Unassigned)) is_false in let n : False ≡ Unassigned = sym e ∙ h in cc
+      | inl is_false ↦ let e = ap (λ b. cond b False (cond (holds trues l) True Unassigned)) is_false in
+          let n : False ≡ Unassigned = sym e ∙ h in cc
       | inr other ↦ elim (cases_Bool (holds trues l)) [
         | inl is_true ↦
             let e = ap (λ b. cond b False (cond (holds trues l) True Unassigned)) other in
@@ -132,7 +142,8 @@ value_true trues l h =
     elim (cases_Bool (holds trues l)) [
       | inl is_true ↦ is_true
       | inr other ↦ elim (cases_Bool (holds trues (opposite l))) [
-        | inl is_false ↦ let e = ap (λ b. cond b False (cond (holds trues l) True Unassigned)) is_false in let n : False ≡ True = sym e ∙ h in cc
+        | inl is_false ↦ let e = ap (λ b. cond b False (cond (holds trues l) True Unassigned)) is_false in
+            let n : False ≡ True = sym e ∙ h in cc
         | inr free ↦
             let e = ap (λ b. cond b False (cond (holds trues l) True Unassigned)) free in
             let f = ap (λ b. cond b True Unassigned) other in
@@ -154,7 +165,8 @@ value_false trues l h =
           ]
     ]
 
-pub all_give : (p : Literal → Bool) (line : List Literal) (l : Literal) → list_all p line ≡ true → holds line l ≡ true → p l ≡ true
+pub all_give : (p : Literal → Bool) (line : List Literal) (l : Literal) → list_all p line ≡ true → holds line l ≡ true →
+    p l ≡ true
 all_give p [] l all h = absurd (false≢true h)
 all_give p (k ∷ line) l all h =
     let both = and_parts (p k) (list_all p line) all in

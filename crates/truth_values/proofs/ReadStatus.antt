@@ -13,7 +13,8 @@ use Rattle.truth_values.specs.declared.values.TruthValue.TheVariants.{True, Fals
 use Rattle.truth_values.proofs.HeldLiterals.{same_literal-sound}
 
 -- with one more true literal
-true_sticks : (a s k : Bool) (l : Literal) → (s ≡ true → k ≡ true) → cond ((a && (s && true)) && not k) (unit l) stuck ≡ stuck
+true_sticks : (a s k : Bool) (l : Literal) → (s ≡ true → k ≡ true) →
+    cond ((a && (s && true)) && not k) (unit l) stuck ≡ stuck
 true_sticks true true true l h = refl
 true_sticks true true false l h = let n = h refl in cc
 true_sticks true false k l h = refl
@@ -23,7 +24,8 @@ true_more : (trues rest : List Literal) (l : Literal) → holds trues l ≡ true
 true_more trues [] l is_true = ap (λ b. cond (true && not b) (unit l) stuck) is_true
 true_more trues (k ∷ rest) l is_true =
     ap (λ b. cond (b && not (holds trues k)) (unit k) stuck) (list_all-append (same_literal k) rest (l ∷ []))
-    ∙ true_sticks (list_all (same_literal k) rest) (same_literal k l) (holds trues k) k (λ same. ap (holds trues) (same_literal-sound k l same) ∙ is_true)
+    ∙ true_sticks (list_all (same_literal k) rest) (same_literal k l) (holds trues k) k
+    (λ same. ap (holds trues) (same_literal-sound k l same) ∙ is_true)
 
 -- with one more unassigned literal
 free_extends : (a s k : Bool) (j l : Literal) → same_literal j l ≡ s →
@@ -34,14 +36,16 @@ free_extends true false true j l h = refl
 free_extends true false false j l h = ap (λ b. cond b (unit j) stuck) h
 free_extends false s k j l h = refl
 
-free_literal_more : (trues rest : List Literal) (l : Literal) → holds trues l ≡ false → with_free (status_by trues rest) l ≡ status_by trues (rest ++ l ∷ [])
+free_literal_more : (trues rest : List Literal) (l : Literal) → holds trues l ≡ false →
+    with_free (status_by trues rest) l ≡ status_by trues (rest ++ l ∷ [])
 free_literal_more trues [] l free = sym (ap (λ b. cond (true && not b) (unit l) stuck) free)
 free_literal_more trues (k ∷ rest) l free =
     free_extends (list_all (same_literal k) rest) (same_literal k l) (holds trues k) k l refl
     ∙ sym (ap (λ b. cond (b && not (holds trues k)) (unit k) stuck) (list_all-append (same_literal k) rest (l ∷ [])))
 
 pub status_more : (trues clause : List Literal) (l : Literal) →
-    with_literal (status_by trues (not_false trues clause)) l (literal_value trues l) ≡ status_by trues (not_false trues (clause ++ l ∷ []))
+    with_literal (status_by trues (not_false trues clause)) l (literal_value trues l) ≡ status_by trues
+    (not_false trues (clause ++ l ∷ []))
 status_more trues clause l =
     let rest = not_false trues clause in
     let split = ap (status_by trues) (filter-append (λ k. not (holds trues (opposite k))) clause (l ∷ [])) in
@@ -52,12 +56,15 @@ status_more trues clause l =
           ∙ sym (ap (λ b. status_by trues (rest ++ cond (not b) (l ∷ []) [])) is_false)
           ∙ sym split
       | inr other ↦
-          let left = ap (λ b. with_literal (status_by trues rest) l (cond b False (cond (holds trues l) True Unassigned))) other in
+          let left = ap (λ b. with_literal (status_by trues rest) l
+          (cond b False (cond (holds trues l) True Unassigned))) other in
           let right = sym (ap (λ b. status_by trues (rest ++ cond (not b) (l ∷ []) [])) other) ∙ sym split in
           elim (cases_Bool (holds trues l)) [
             | inl is_true ↦
-                left ∙ ap (λ b. with_literal (status_by trues rest) l (cond b True Unassigned)) is_true ∙ sym (true_more trues rest l is_true) ∙ right
+                left ∙ ap (λ b. with_literal (status_by trues rest) l (cond b True Unassigned)) is_true ∙ sym
+                (true_more trues rest l is_true) ∙ right
             | inr free ↦
-                left ∙ ap (λ b. with_literal (status_by trues rest) l (cond b True Unassigned)) free ∙ free_literal_more trues rest l free ∙ right
+                left ∙ ap (λ b. with_literal (status_by trues rest) l (cond b True Unassigned)) free
+                ∙ free_literal_more trues rest l free ∙ right
           ]
     ]

@@ -9,13 +9,21 @@ loop-place-preserved c =
     let y = c.args.y in
     let ranks = c.args.ranks.now in
     let place = c.loop-place.place in
-    let below = within f c.existentials-place-end.result.now place c.existentials-place-end.ensures c.loop-place-test.true in
+    let below = within f c.existentials-place-end.result.now place c.existentials-place-end.ensures
+    c.loop-place-test.true in
     elim c.if-is_shared_at.branch [
-      | then-is_shared_at+in_ok-push w ↦ subst (λ (v : Vec ℕ Global). AreSharedSoFar f ranks y v.items (place + 1)) (sym w.places-is)
-          (subst (λ ps. AreSharedSoFar f ranks y ps (place + 1)) (sym w.in_ok-push.ensures.items) (one_shared f ranks y c.loop-place.places.items place c.is_shared_at.result c.loop-place.invariant below c.is_shared_at.ensures w.if-is_shared_at.true))
-      | else-is_shared_at w ↦ subst (λ (v : Vec ℕ Global). AreSharedSoFar f ranks y v.items (place + 1)) (sym w.places-is) (none_shared f ranks y c.loop-place.places.items place c.is_shared_at.result c.loop-place.invariant below c.is_shared_at.ensures w.if-is_shared_at.false)
+      | then-is_shared_at+in_ok-push w ↦ subst (λ (v : Vec ℕ Global). AreSharedSoFar f ranks y v.items (place + 1))
+          (sym w.places-is)
+          (subst (λ ps. AreSharedSoFar f ranks y ps (place + 1)) (sym w.in_ok-push.ensures.items)
+          (one_shared f ranks y c.loop-place.places.items place c.is_shared_at.result c.loop-place.invariant below
+          c.is_shared_at.ensures w.if-is_shared_at.true))
+      | else-is_shared_at w ↦ subst (λ (v : Vec ℕ Global). AreSharedSoFar f ranks y v.items (place + 1))
+          (sym w.places-is) (none_shared f ranks y c.loop-place.places.items place c.is_shared_at.result
+          c.loop-place.invariant below c.is_shared_at.ensures w.if-is_shared_at.false)
     ]
 
 pub returns : goal.returns
 returns c =
-    all_shared c.args.f.now c.args.ranks.now c.args.y c.loop-place.places.items c.loop-place.place c.loop-place.invariant (past c.args.f.now c.existentials-place-end.result.now c.loop-place.place c.existentials-place-end.ensures c.loop-place-test.false)
+    all_shared c.args.f.now c.args.ranks.now c.args.y c.loop-place.places.items c.loop-place.place
+    c.loop-place.invariant (past c.args.f.now c.existentials-place-end.result.now c.loop-place.place
+    c.existentials-place-end.ensures c.loop-place-test.false)

@@ -2,7 +2,10 @@ use Rattle.aiger_text.proofs.FirstFaults.{spells_from, read_from, unique_file, f
 use Rattle.aiger_text.proofs.laws.circuit_or_first_fault.Goals as goal
 
 pub returns-clause-exact : goal.returns-clause-exact
-returns-clause-exact c text first file = (λ spells. (read_from text first file spells, spells.acyclic), λ read. spells_from text first file read.0 read.1)
+returns-clause-exact c text first file = (
+  λ spells. (read_from text first file spells, spells.acyclic),
+  λ read. spells_from text first file read.0 read.1,
+)
 
 pub returns-clause-unique : goal.returns-clause-unique
 returns-clause-unique c = unique_file

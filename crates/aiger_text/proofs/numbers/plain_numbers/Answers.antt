@@ -15,5 +15,6 @@ returns c =
     let numbers : map number_of (line_tokens c.args.line.now) ≡ Int (pos a) ∷ Int (pos b) ∷ Int (pos d) ∷ [] =
     ap (map number_of) (sym c.new-tokens.ensures)
     ∙ c.in_ok-lhs.ensures
-    ∙ ap (λ ns. Int (pos a) ∷ ns) (c.in_ok-left.ensures ∙ ap (λ ns. Int (pos b) ∷ ns) (c.in_ok-right.ensures ∙ ap (λ ns. Int (pos d) ∷ ns) end)) in
+    ∙ ap (λ ns. Int (pos a) ∷ ns) (c.in_ok-left.ensures ∙ ap (λ ns. Int (pos b) ∷ ns)
+    (c.in_ok-right.ensures ∙ ap (λ ns. Int (pos d) ∷ ns) end)) in
     ap three_of (numbers_from (line_tokens c.args.line.now) (a ∷ b ∷ d ∷ []) numbers)

@@ -7,7 +7,8 @@ pub returns-then-names_undefined : goal.returns-then-names_undefined
 returns-then-names_undefined c =
     let net = c.args.reader.now.circuit in
     let below : c.loop-i.i < length net.gates = omega arith in
-    sym (position-Some (λ g. not (reads_defined net g)) net.gates c.loop-i.i (record { variable = 0; left = 0; right = 0 }) below c.loop-i.invariant
+    sym (position-Some (λ g. not (reads_defined net g)) net.gates c.loop-i.i
+    (record { variable = 0; left = 0; right = 0 }) below c.loop-i.invariant
     (sym c.if-names_undefined.ensures))
 
 pub returns : goal.returns

@@ -8,4 +8,5 @@ pub returns-clause-reads_back : goal.returns-clause-reads_back
 returns-clause-reads_back c spellable first =
     let file = c.args.file.now in
     let is : c.write_comment.new.text.items ≡ canonical_circuit file = grind (arith, common_steps) in
-    subst (λ (text : List ℕ). scan text first ≡ Ok file) (sym is) (c.canonical_text_spells.ensures.reads_back file first spellable)
+    subst (λ (text : List ℕ). scan text first ≡ Ok file) (sym is)
+    (c.canonical_text_spells.ensures.reads_back file first spellable)

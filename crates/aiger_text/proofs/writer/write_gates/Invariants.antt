@@ -4,4 +4,5 @@ use Rattle.aiger_text.specs.Canonical.{gate_text}
 use Rattle.aiger_text.proofs.writer.write_gates.Given as goal
 
 abbrev pub invariant-loop-i : goal.invariant-loop-i
-invariant-loop-i l = l.text.items ++ flat_map gate_text (drop l.i l.circuit.gates) ≡ l.fn.text.items ++ flat_map gate_text l.circuit.gates
+invariant-loop-i l = l.text.items ++ flat_map gate_text (drop l.i l.circuit.gates)
+    ≡ l.fn.text.items ++ flat_map gate_text l.circuit.gates

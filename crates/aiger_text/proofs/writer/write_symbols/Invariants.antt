@@ -5,4 +5,5 @@ use Rattle.aiger_text.proofs.writer.write_symbols.Given as goal
 
 abbrev pub invariant-loop-place : goal.invariant-loop-place
 invariant-loop-place l =
-    l.text.items ++ flat_map (symbol_text l.letter) l.place-iterator ≡ l.fn.text.items ++ flat_map (symbol_text l.letter) l.symbols.entries
+    l.text.items ++ flat_map (symbol_text l.letter) l.place-iterator ≡ l.fn.text.items ++ flat_map
+    (symbol_text l.letter) l.symbols.entries

@@ -9,76 +9,103 @@ use Rattle.candidate_functions.proofs.building.build.Goals as goal
 pub first_outputs-requires-clause-others : goal.first_outputs-requires-clause-others
 first_outputs-requires-clause-others c =
     let g = c.by_rules.new.graph in
-    subst (All (IsNode g)) (sym c.deref.ensures.value) (rule_nodes_are_nodes c.args.f.now g c.args.rules.now c.in_ok-others.others.items c.in_ok-others.ensures.nodes)
+    subst (All (IsNode g)) (sym c.deref.ensures.value) (rule_nodes_are_nodes c.args.f.now g c.args.rules.now
+    c.in_ok-others.others.items c.in_ok-others.ensures.nodes)
 
 pub returns-in_err-nodes-clause-extends : goal.returns-in_err-nodes-clause-extends
-returns-in_err-nodes-clause-extends c = extends-trans c.args.graph.now c.by_rules.new.graph c.first_outputs.new.graph c.in_ok-others.ensures.extends c.first_outputs.ensures.extends
+returns-in_err-nodes-clause-extends c = extends-trans c.args.graph.now c.by_rules.new.graph c.first_outputs.new.graph
+    c.in_ok-others.ensures.extends c.first_outputs.ensures.extends
 
 pub put_definitions-requires-clause-definitions : goal.put_definitions-requires-clause-definitions
 put_definitions-requires-clause-definitions c =
     definitions_stay c.args.graph.now c.first_outputs.new.graph
-    (extends-trans c.args.graph.now c.by_rules.new.graph c.first_outputs.new.graph c.in_ok-others.ensures.extends c.in_ok-nodes.ensures.extends)
+    (extends-trans c.args.graph.now c.by_rules.new.graph c.first_outputs.new.graph c.in_ok-others.ensures.extends
+    c.in_ok-nodes.ensures.extends)
     c.args.f.now c.args.ranks.now c.args.definitions.now c.requires.definitions
 
 pub put_definitions-requires-clause-one_each : goal.put_definitions-requires-clause-one_each
 put_definitions-requires-clause-one_each c =
-    let by = subst (AreByRules c.args.f.now c.by_rules.new.graph c.args.rules.now) (sym c.deref.ensures.value) c.in_ok-others.ensures.nodes in
+    let by = subst (AreByRules c.args.f.now c.by_rules.new.graph c.args.rules.now)
+    (sym c.deref.ensures.value) c.in_ok-others.ensures.nodes in
     (c.in_ok-nodes.ensures.outputs c.args.rules.now by).one_each
 
 pub put_definitions-requires-clause-nodes : goal.put_definitions-requires-clause-nodes
 put_definitions-requires-clause-nodes c =
-    let by = subst (AreByRules c.args.f.now c.by_rules.new.graph c.args.rules.now) (sym c.deref.ensures.value) c.in_ok-others.ensures.nodes in
-    first_outputs_are_nodes c.args.f.now c.args.table.now.rows (point_bits c.args.points.now) c.args.rules.now c.args.definitions.now c.first_outputs.new.graph c.in_ok-nodes.nodes.items
+    let by = subst (AreByRules c.args.f.now c.by_rules.new.graph c.args.rules.now)
+    (sym c.deref.ensures.value) c.in_ok-others.ensures.nodes in
+    first_outputs_are_nodes c.args.f.now c.args.table.now.rows
+    (point_bits c.args.points.now) c.args.rules.now c.args.definitions.now c.first_outputs.new.graph
+    c.in_ok-nodes.nodes.items
     (c.in_ok-nodes.ensures.outputs c.args.rules.now by)
 
 pub returns-in_err-put_definitions-clause-extends : goal.returns-in_err-put_definitions-clause-extends
 returns-in_err-put_definitions-clause-extends c =
     extends-trans c.args.graph.now c.first_outputs.new.graph c.put_definitions.new.graph
-    (extends-trans c.args.graph.now c.by_rules.new.graph c.first_outputs.new.graph c.in_ok-others.ensures.extends c.in_ok-nodes.ensures.extends) c.put_definitions.ensures.extends
+    (extends-trans c.args.graph.now c.by_rules.new.graph c.first_outputs.new.graph c.in_ok-others.ensures.extends
+    c.in_ok-nodes.ensures.extends) c.put_definitions.ensures.extends
 
 pub returns-clause-extends : goal.returns-clause-extends
 returns-clause-extends c =
     extends-trans c.args.graph.now c.first_outputs.new.graph c.put_definitions.new.graph
-    (extends-trans c.args.graph.now c.by_rules.new.graph c.first_outputs.new.graph c.in_ok-others.ensures.extends c.in_ok-nodes.ensures.extends) c.in_ok-put_definitions.ensures.extends
+    (extends-trans c.args.graph.now c.by_rules.new.graph c.first_outputs.new.graph c.in_ok-others.ensures.extends
+    c.in_ok-nodes.ensures.extends) c.in_ok-put_definitions.ensures.extends
 
 pub returns-clause-one_each : goal.returns-clause-one_each
 returns-clause-one_each c =
-    let by = subst (AreByRules c.args.f.now c.by_rules.new.graph c.args.rules.now) (sym c.deref.ensures.value) c.in_ok-others.ensures.nodes in
-    (c.in_ok-put_definitions.ensures.outputs c.args.table.now.rows (point_bits c.args.points.now) c.args.rules.now c.requires.points (c.in_ok-nodes.ensures.outputs c.args.rules.now by)).one_each
+    let by = subst (AreByRules c.args.f.now c.by_rules.new.graph c.args.rules.now)
+    (sym c.deref.ensures.value) c.in_ok-others.ensures.nodes in
+    (c.in_ok-put_definitions.ensures.outputs c.args.table.now.rows
+    (point_bits c.args.points.now) c.args.rules.now c.requires.points
+    (c.in_ok-nodes.ensures.outputs c.args.rules.now by)).one_each
 
 pub returns-clause-nodes : goal.returns-clause-nodes
 returns-clause-nodes c =
-    let by = subst (AreByRules c.args.f.now c.by_rules.new.graph c.args.rules.now) (sym c.deref.ensures.value) c.in_ok-others.ensures.nodes in
-    (c.in_ok-put_definitions.ensures.outputs c.args.table.now.rows (point_bits c.args.points.now) c.args.rules.now c.requires.points (c.in_ok-nodes.ensures.outputs c.args.rules.now by)).are_nodes
+    let by = subst (AreByRules c.args.f.now c.by_rules.new.graph c.args.rules.now)
+    (sym c.deref.ensures.value) c.in_ok-others.ensures.nodes in
+    (c.in_ok-put_definitions.ensures.outputs c.args.table.now.rows
+    (point_bits c.args.points.now) c.args.rules.now c.requires.points
+    (c.in_ok-nodes.ensures.outputs c.args.rules.now by)).are_nodes
 
 pub returns-clause-reads : goal.returns-clause-reads
 returns-clause-reads c =
     let f = c.args.f.now in
     let rules = c.args.rules.now in
     let by = subst (AreByRules f c.by_rules.new.graph rules) (sym c.deref.ensures.value) c.in_ok-others.ensures.nodes in
-    read_declared f c.args.ranks.now c.every_formula_is_lawful.ensures c.args.table.now.rows (point_bits c.args.points.now) rules c.args.definitions.now c.put_definitions.new.graph c.put_definitions.new.nodes.items
-    (c.in_ok-put_definitions.ensures.outputs c.args.table.now.rows (point_bits c.args.points.now) rules c.requires.points (c.in_ok-nodes.ensures.outputs rules by))
+    read_declared f c.args.ranks.now c.every_formula_is_lawful.ensures c.args.table.now.rows
+    (point_bits c.args.points.now) rules c.args.definitions.now c.put_definitions.new.graph
+    c.put_definitions.new.nodes.items
+    (c.in_ok-put_definitions.ensures.outputs c.args.table.now.rows
+    (point_bits c.args.points.now) rules c.requires.points (c.in_ok-nodes.ensures.outputs rules by))
 
 pub returns-clause-at_pairs : goal.returns-clause-at_pairs
 returns-clause-at_pairs c =
     let f = c.args.f.now in
     let rules = c.args.rules.now in
     let by = subst (AreByRules f c.by_rules.new.graph rules) (sym c.deref.ensures.value) c.in_ok-others.ensures.nodes in
-    agree_at_pairs f c.args.ranks.now c.every_formula_is_lawful.ensures c.args.table.now.rows (point_bits c.args.points.now) rules c.args.definitions.now c.put_definitions.new.graph c.put_definitions.new.nodes.items
-    (c.in_ok-put_definitions.ensures.outputs c.args.table.now.rows (point_bits c.args.points.now) rules c.requires.points (c.in_ok-nodes.ensures.outputs rules by))
+    agree_at_pairs f c.args.ranks.now c.every_formula_is_lawful.ensures c.args.table.now.rows
+    (point_bits c.args.points.now) rules c.args.definitions.now c.put_definitions.new.graph
+    c.put_definitions.new.nodes.items
+    (c.in_ok-put_definitions.ensures.outputs c.args.table.now.rows
+    (point_bits c.args.points.now) rules c.requires.points (c.in_ok-nodes.ensures.outputs rules by))
 
 pub returns-clause-by_rules : goal.returns-clause-by_rules
 returns-clause-by_rules c =
     let f = c.args.f.now in
     let rules = c.args.rules.now in
     let by = subst (AreByRules f c.by_rules.new.graph rules) (sym c.deref.ensures.value) c.in_ok-others.ensures.nodes in
-    follow_rules f c.args.ranks.now c.every_formula_is_lawful.ensures c.args.table.now.rows (point_bits c.args.points.now) rules c.args.definitions.now c.put_definitions.new.graph c.put_definitions.new.nodes.items
-    (c.in_ok-put_definitions.ensures.outputs c.args.table.now.rows (point_bits c.args.points.now) rules c.requires.points (c.in_ok-nodes.ensures.outputs rules by))
+    follow_rules f c.args.ranks.now c.every_formula_is_lawful.ensures c.args.table.now.rows
+    (point_bits c.args.points.now) rules c.args.definitions.now c.put_definitions.new.graph
+    c.put_definitions.new.nodes.items
+    (c.in_ok-put_definitions.ensures.outputs c.args.table.now.rows
+    (point_bits c.args.points.now) rules c.requires.points (c.in_ok-nodes.ensures.outputs rules by))
 
 pub returns-clause-defined : goal.returns-clause-defined
 returns-clause-defined c =
     let f = c.args.f.now in
     let rules = c.args.rules.now in
     let by = subst (AreByRules f c.by_rules.new.graph rules) (sym c.deref.ensures.value) c.in_ok-others.ensures.nodes in
-    are_defined f c.args.ranks.now c.every_formula_is_lawful.ensures c.args.table.now.rows (point_bits c.args.points.now) rules c.args.definitions.now c.put_definitions.new.graph c.put_definitions.new.nodes.items
-    (c.in_ok-put_definitions.ensures.outputs c.args.table.now.rows (point_bits c.args.points.now) rules c.requires.points (c.in_ok-nodes.ensures.outputs rules by))
+    are_defined f c.args.ranks.now c.every_formula_is_lawful.ensures c.args.table.now.rows
+    (point_bits c.args.points.now) rules c.args.definitions.now c.put_definitions.new.graph
+    c.put_definitions.new.nodes.items
+    (c.in_ok-put_definitions.ensures.outputs c.args.table.now.rows
+    (point_bits c.args.points.now) rules c.requires.points (c.in_ok-nodes.ensures.outputs rules by))

@@ -4,4 +4,5 @@ use Rattle.candidate_functions.specs.Differing.{HasKnownPoint}
 use Rattle.candidate_functions.proofs.differing.has_all_points.Given as goal
 
 abbrev pub invariant-loop-k : goal.invariant-loop-k
-invariant-loop-k l = (k : ℕ) → k < l.k → HasKnownPoint l.own.values.now (point_bits l.known.points.now) l.own.y l.own.place (k + 1)
+invariant-loop-k l = (k : ℕ) → k < l.k → HasKnownPoint l.own.values.now
+    (point_bits l.known.points.now) l.own.y l.own.place (k + 1)

@@ -8,10 +8,12 @@ use Rattle.candidate_functions.proofs.KnownPoints.{values_stay}
 use Rattle.candidate_functions.proofs.outputs.outputs_beside.Goals as goal
 
 pub returns-in_err-node-clause-extends : goal.returns-in_err-node-clause-extends
-returns-in_err-node-clause-extends c = extends-trans c.args.graph.now c.loop-place.graph c.first_output.new.graph c.loop-place.invariant.grown c.first_output.ensures.extends
+returns-in_err-node-clause-extends c = extends-trans c.args.graph.now c.loop-place.graph c.first_output.new.graph
+    c.loop-place.invariant.grown c.first_output.ensures.extends
 
 pub returns-in_err-push-clause-extends : goal.returns-in_err-push-clause-extends
-returns-in_err-push-clause-extends c = extends-trans c.args.graph.now c.loop-place.graph c.first_output.new.graph c.loop-place.invariant.grown c.in_ok-node.ensures.extends
+returns-in_err-push-clause-extends c = extends-trans c.args.graph.now c.loop-place.graph c.first_output.new.graph
+    c.loop-place.invariant.grown c.in_ok-node.ensures.extends
 
 pub loop-place-preserved : goal.loop-place-preserved
 loop-place-preserved c =
@@ -19,18 +21,25 @@ loop-place-preserved c =
     let rows = c.args.known.now.table.now.rows in
     let points = point_bits c.args.known.now.points.now in
     let place = c.loop-place.place in
-    subst (λ ns. OutputsSoFar f rows points c.args.known.now.definitions.now c.args.others.now.nodes.now c.args.graph.now c.first_output.new.graph c.first_output.new.self.classes.items ns (place + 1))
+    subst (λ ns. OutputsSoFar f rows points c.args.known.now.definitions.now c.args.others.now.nodes.now
+    c.args.graph.now c.first_output.new.graph c.first_output.new.self.classes.items ns (place + 1))
     (sym c.in_ok-push.ensures.items)
-    (output_added f rows points c.args.known.now.definitions.now c.args.others.now.nodes.now c.args.graph.now c.loop-place.graph c.first_output.new.graph c.loop-place.classes.classes.items
-    c.first_output.new.self.classes.items c.loop-place.nodes.items place (get_or c.args.others.now.nodes.now place (Constant false)) c.in_ok-node.node c.loop-place.invariant c.in_ok-node.ensures.extends
+    (output_added f rows points c.args.known.now.definitions.now c.args.others.now.nodes.now c.args.graph.now
+    c.loop-place.graph c.first_output.new.graph c.loop-place.classes.classes.items
+    c.first_output.new.self.classes.items c.loop-place.nodes.items place
+    (get_or c.args.others.now.nodes.now place (Constant false)) c.in_ok-node.node c.loop-place.invariant
+    c.in_ok-node.ensures.extends
     c.in_ok-node.ensures.classes refl c.in_ok-node.ensures.output)
 
 pub returns-clause-outputs : goal.returns-clause-outputs
 returns-clause-outputs c = λ rules by.
     let all : c.loop-place.place ≡ length c.args.known.now.f.now.existentials = omega arith in
-    subst (λ n. AreFirstOutputs c.args.known.now.f.now c.args.known.now.table.now.rows (point_bits c.args.known.now.points.now) rules c.args.known.now.definitions.now c.loop-place.graph n c.loop-place.nodes.items) all
+    subst (λ n. AreFirstOutputs c.args.known.now.f.now c.args.known.now.table.now.rows
+    (point_bits c.args.known.now.points.now) rules c.args.known.now.definitions.now c.loop-place.graph n
+    c.loop-place.nodes.items) all
     (c.loop-place.invariant.outputs rules by)
 
 pub first_output-requires-clause-values : goal.first_output-requires-clause-values
 first_output-requires-clause-values c =
-    values_stay c.args.graph.now c.loop-place.graph c.loop-place.invariant.grown c.args.known.now.table.now.rows c.args.others.now.nodes.now c.args.others.now.values.now c.requires.others c.requires.values
+    values_stay c.args.graph.now c.loop-place.graph c.loop-place.invariant.grown c.args.known.now.table.now.rows
+    c.args.others.now.nodes.now c.args.others.now.values.now c.requires.others c.requires.values

@@ -10,9 +10,12 @@ use Rattle.candidate_functions.proofs.patches.at_pair.Goals as goal
 pub loop-pair-preserved : goal.loop-pair-preserved
 loop-pair-preserved c =
     let none : Pair = record { round = 0; cube = Constant false } in
-    one_pair_more c.args.graph.now c.loop-pair.graph c.with_cube.new.graph (has_bit c.args.bit (point_bits c.args.points.now) c.args.y) c.args.pairs.now c.loop-pair.pair-index none
-    c.loop-pair.made c.in_ok-made.made c.has_bit-is_one.result c.loop-pair-test.true (c.requires.cubes c.loop-pair.pair-index none c.loop-pair-test.true) c.has_bit-is_one.ensures
+    one_pair_more c.args.graph.now c.loop-pair.graph c.with_cube.new.graph
+    (has_bit c.args.bit (point_bits c.args.points.now) c.args.y) c.args.pairs.now c.loop-pair.pair-index none
+    c.loop-pair.made c.in_ok-made.made c.has_bit-is_one.result c.loop-pair-test.true
+    (c.requires.cubes c.loop-pair.pair-index none c.loop-pair-test.true) c.has_bit-is_one.ensures
     c.loop-pair.invariant c.in_ok-made.ensures.extends c.in_ok-made.ensures.with
 
 pub returns-in_err-made-clause-extends : goal.returns-in_err-made-clause-extends
-returns-in_err-made-clause-extends c = extends-trans c.args.graph.now c.loop-pair.graph c.with_cube.new.graph c.loop-pair.invariant.grown c.with_cube.ensures.extends
+returns-in_err-made-clause-extends c = extends-trans c.args.graph.now c.loop-pair.graph c.with_cube.new.graph
+    c.loop-pair.invariant.grown c.with_cube.ensures.extends

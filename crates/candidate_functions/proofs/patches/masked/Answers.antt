@@ -11,7 +11,8 @@ pub and-requires-clause-b : goal.and-requires-clause-b
 and-requires-clause-b c = c.not.ensures.node c.at_pair.new.graph c.in_ok-zeros.ensures.at_pair.is_node
 
 pub returns-clause-extends : goal.returns-clause-extends
-returns-clause-extends c = extends-trans c.args.graph.now c.at_pair.new.graph c.and.new.self c.in_ok-zeros.ensures.extends c.and.ensures.extends
+returns-clause-extends c = extends-trans c.args.graph.now c.at_pair.new.graph c.and.new.self
+    c.in_ok-zeros.ensures.extends c.and.ensures.extends
 
 pub returns-clause-masked : goal.returns-clause-masked
 returns-clause-masked c =
@@ -19,6 +20,8 @@ returns-clause-masked c =
     let mid = c.at_pair.new.graph in
     let new = c.and.new.self in
     let bits = has_bit false (point_bits c.args.points.now) c.args.y in
-    IfOk-weaker c.and.result (IsMade (λ x y. x && y) mid new c.args.other c.not.result) (IsMasked old new bits c.args.pairs.now c.args.other)
-    (λ n made. masked_by old mid new bits c.args.pairs.now c.args.other c.in_ok-zeros.zeros c.not.result n c.in_ok-zeros.ensures.extends c.requires.other c.in_ok-zeros.ensures.at_pair
+    IfOk-weaker c.and.result (IsMade (λ x y. x && y) mid new c.args.other c.not.result)
+    (IsMasked old new bits c.args.pairs.now c.args.other)
+    (λ n made. masked_by old mid new bits c.args.pairs.now c.args.other c.in_ok-zeros.zeros c.not.result n
+    c.in_ok-zeros.ensures.extends c.requires.other c.in_ok-zeros.ensures.at_pair
     (c.not.ensures.value mid) (c.not.ensures.support mid) made) c.and.ensures.made

@@ -8,12 +8,14 @@ use Rattle.candidate_functions.proofs.PatchedNodes.{patched_by}
 use Rattle.candidate_functions.proofs.patches.patched.Goals as goal
 
 pub returns-in_err-ones-clause-extends : goal.returns-in_err-ones-clause-extends
-returns-in_err-ones-clause-extends c = extends-trans c.args.graph.now c.masked.new.graph c.at_pair.new.graph c.in_ok-rest.ensures.extends c.at_pair.ensures.extends
+returns-in_err-ones-clause-extends c = extends-trans c.args.graph.now c.masked.new.graph c.at_pair.new.graph
+    c.in_ok-rest.ensures.extends c.at_pair.ensures.extends
 
 pub returns-clause-extends : goal.returns-clause-extends
 returns-clause-extends c =
     let old = c.args.graph.now in
-    extends-trans old c.at_pair.new.graph c.or.new.self (extends-trans old c.masked.new.graph c.at_pair.new.graph c.in_ok-rest.ensures.extends c.in_ok-ones.ensures.extends) c.or.ensures.extends
+    extends-trans old c.at_pair.new.graph c.or.new.self (extends-trans old c.masked.new.graph c.at_pair.new.graph
+    c.in_ok-rest.ensures.extends c.in_ok-ones.ensures.extends) c.or.ensures.extends
 
 pub returns-clause-patched : goal.returns-clause-patched
 returns-clause-patched c =
@@ -22,6 +24,8 @@ returns-clause-patched c =
     let last = c.at_pair.new.graph in
     let new = c.or.new.self in
     let points = point_bits c.args.points.now in
-    IfOk-weaker c.or.result (IsMade (λ x y. x || y) last new c.in_ok-ones.ones c.in_ok-rest.rest) (IsPatched old new points c.args.y c.args.pairs.now c.args.other)
-    (λ n made. patched_by old mid last new points c.args.y c.args.pairs.now c.args.other c.in_ok-rest.rest c.in_ok-ones.ones n c.in_ok-rest.ensures.extends c.in_ok-ones.ensures.extends
+    IfOk-weaker c.or.result (IsMade (λ x y. x || y) last new c.in_ok-ones.ones c.in_ok-rest.rest)
+    (IsPatched old new points c.args.y c.args.pairs.now c.args.other)
+    (λ n made. patched_by old mid last new points c.args.y c.args.pairs.now c.args.other c.in_ok-rest.rest
+    c.in_ok-ones.ones n c.in_ok-rest.ensures.extends c.in_ok-ones.ensures.extends
     c.requires.cubes c.in_ok-rest.ensures.masked c.in_ok-ones.ensures.at_pair made) c.or.ensures.made

@@ -9,7 +9,8 @@ use Rattle.candidate_functions.proofs.rules.cube_node.Goals as goal
 pub cube-requires : goal.cube-requires
 cube-requires c =
     let g = c.args.graph.now in
-    subst (All (IsNode g)) (sym (c.deref.ensures.value ∙ c.in_ok-literals.ensures)) (input_literals_are_nodes c.args.f.now g c.args.cube.now c.requires.inputs c.requires.universals)
+    subst (All (IsNode g)) (sym (c.deref.ensures.value ∙ c.in_ok-literals.ensures))
+    (input_literals_are_nodes c.args.f.now g c.args.cube.now c.requires.inputs c.requires.universals)
 
 pub returns-clause-node : goal.returns-clause-node
 returns-clause-node c =
@@ -17,4 +18,5 @@ returns-clause-node c =
     let new = c.cube.new.self in
     let f = c.args.f.now in
     IfOk-weaker c.cube.result (IsCube old new c.deref.result.now) (IsCubeNode f new c.args.cube.now)
-    (λ n made. cube_node_made f old new c.args.cube.now n c.requires.universals (subst (λ ls. IsCube old new ls n) (c.deref.ensures.value ∙ c.in_ok-literals.ensures) made)) c.cube.ensures.made
+    (λ n made. cube_node_made f old new c.args.cube.now n c.requires.universals
+    (subst (λ ls. IsCube old new ls n) (c.deref.ensures.value ∙ c.in_ok-literals.ensures) made)) c.cube.ensures.made

@@ -7,21 +7,26 @@ use Rattle.candidate_functions.proofs.rules.put_rules.Goals as goal
 
 pub put_rule-requires-clause-nodes : goal.put_rule-requires-clause-nodes
 put_rule-requires-clause-nodes c =
-    rule_nodes_are_nodes c.args.f.now c.loop-at.graph (drop c.loop-at.at c.args.rules.now) c.loop-at.nodes.items c.loop-at.invariant.nodes
+    rule_nodes_are_nodes c.args.f.now c.loop-at.graph (drop c.loop-at.at c.args.rules.now) c.loop-at.nodes.items
+    c.loop-at.invariant.nodes
 
 pub loop-at-preserved : goal.loop-at-preserved
 loop-at-preserved c = record {
-  grown = extends-trans c.args.graph.now c.loop-at.graph c.put_rule.new.graph c.loop-at.invariant.grown c.put_rule.ensures.extends;
+  grown = extends-trans c.args.graph.now c.loop-at.graph c.put_rule.new.graph c.loop-at.invariant.grown
+      c.put_rule.ensures.extends;
   within = omega arith;
   nodes =
-      with_rule c.args.f.now c.put_rule.new.graph c.args.rules.now c.loop-at.at c.index-rules-at.result c.put_rule.new.nodes.items (omega arith) c.loop-at.invariant.within c.index-rules-at.is
+      with_rule c.args.f.now c.put_rule.new.graph c.args.rules.now c.loop-at.at c.index-rules-at.result
+      c.put_rule.new.nodes.items (omega arith) c.loop-at.invariant.within c.index-rules-at.is
       (c.in_ok-put_rule.ensures.nodes (drop c.loop-at.at c.args.rules.now) c.loop-at.invariant.nodes);
 }
 
 pub returns-in_err-put_rule-clause-extends : goal.returns-in_err-put_rule-clause-extends
-returns-in_err-put_rule-clause-extends c = extends-trans c.args.graph.now c.loop-at.graph c.put_rule.new.graph c.loop-at.invariant.grown c.put_rule.ensures.extends
+returns-in_err-put_rule-clause-extends c = extends-trans c.args.graph.now c.loop-at.graph c.put_rule.new.graph
+    c.loop-at.invariant.grown c.put_rule.ensures.extends
 
 pub returns-clause-nodes : goal.returns-clause-nodes
 returns-clause-nodes c =
     let none : c.loop-at.at ≡ 0 = omega arith in
-    subst (λ n. AreByRules c.args.f.now c.loop-at.graph (drop n c.args.rules.now) c.loop-at.nodes.items) none c.loop-at.invariant.nodes
+    subst (λ n. AreByRules c.args.f.now c.loop-at.graph (drop n c.args.rules.now) c.loop-at.nodes.items) none
+    c.loop-at.invariant.nodes

@@ -7,7 +7,8 @@ offset_bounds-literals-start c =
     let p = piece_at c.args.literals.now 0 c.args.ends.now c.args.at c.requires.ends c.requires.at in
     let from = p.from in
     let to = p.to in
-    let within : c.start_of-start.result ≤ length c.args.literals.now = omega (arith, from, to, c.start_of-start.ensures) in
+    let within : c.start_of-start.result ≤ length c.args.literals.now =
+    omega (arith, from, to, c.start_of-start.ensures) in
     search rules
 
 pub slice_bounds-result-count : goal.slice_bounds-result-count
@@ -30,4 +31,5 @@ slice_bounds-result-end c =
 pub returns : goal.returns
 returns c =
     let p = piece_at c.args.literals.now 0 c.args.ends.now c.args.at c.requires.ends c.requires.at in
-    p.at ∙ ap (λ n. Some (take (get_or c.args.ends.now c.args.at 0 - n) (drop n c.args.literals.now))) (sym c.start_of-start.ensures)
+    p.at ∙ ap (λ n. Some (take (get_or c.args.ends.now c.args.at 0 - n) (drop n c.args.literals.now)))
+    (sym c.start_of-start.ensures)

@@ -11,11 +11,13 @@ returns-in-Sat-clause-sat c = λ _.
     let s = c.search.new.s in
     let old = c.args.log.now in
     let new = c.search.new.log in
-    let found : IsAnswered asm s old new Sat = subst (λ (f : Answer). IsAnswered asm s old new f) c.in-Sat.is c.in_ok-search.ensures.ok in
+    let found : IsAnswered asm s old new Sat = subst (λ (f : Answer). IsAnswered asm s old new f) c.in-Sat.is
+    c.in_ok-search.ensures.ok in
     let len = c.keep_values.ensures.len in
     let vars = c.search.ensures.places.variables in
     let first = c.requires.model in (
       found.0,
-      found_model asm (searched s) c.keep_values.new.model old new c.search.ensures.fit found.0 c.requires.assumptions found.1 (omega (arith, len, vars, first))
+      found_model asm (searched s) c.keep_values.new.model old new c.search.ensures.fit found.0 c.requires.assumptions
+          found.1 (omega (arith, len, vars, first))
           (λ i lt. c.keep_values.ensures.values i (omega (arith, lt, len))),
     )

@@ -13,8 +13,11 @@ loop-id-preserved-else-is_some c =
     record {
       within = omega (arith, before, within);
       satisfied =
-          true_further clauses trues c.loop-id.id start c.args.span.down_to c.args.span.from c.loop-id.invariant.satisfied
-          (true_within clauses trues c.loop-id.id start c.args.span.down_to c.larger.result (seen_none _ _ c.newest_in-open.result (sym c.is_some.ensures ∙ c.if-is_some.false) c.newest_in-open.ensures)
+          true_further clauses trues c.loop-id.id start c.args.span.down_to c.args.span.from
+          c.loop-id.invariant.satisfied
+          (true_within clauses trues c.loop-id.id start c.args.span.down_to c.larger.result
+          (seen_none _ _ c.newest_in-open.result (sym c.is_some.ensures ∙ c.if-is_some.false)
+          c.newest_in-open.ensures)
           c.larger.ensures);
     }
 
@@ -28,7 +31,9 @@ loop-id-preserved c =
     record {
       within = omega (arith, before, within);
       satisfied =
-          true_further clauses trues c.loop-id.id start c.args.span.down_to c.args.span.from c.loop-id.invariant.satisfied
+          true_further clauses trues c.loop-id.id start c.args.span.down_to c.args.span.from
+          c.loop-id.invariant.satisfied
           (λ i d low down lt at.
-          true_alike clauses trues c.lits.result.now start c.loop-id.id c.lits.ensures c.start-start.ensures.same (c.begins_true.ensures c.if-not-begins_true.false) i d low lt at);
+          true_alike clauses trues c.lits.result.now start c.loop-id.id c.lits.ensures c.start-start.ensures.same
+          (c.begins_true.ensures c.if-not-begins_true.false) i d low lt at);
     }

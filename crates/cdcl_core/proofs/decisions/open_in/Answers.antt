@@ -11,8 +11,10 @@ is_watch_true-requires c = λ apart.
     let room = c.args.trail.now.room in
     let some = some_clause c.args.clauses.now.clauses c.args.id c.requires.from_one c.requires.is_id in
     let within = live_within c.args.clauses.now.clauses room c.args.id some.0 some.1 c.requires.in_range in
-    let two = (c.watched.ensures some.0 some.1).two apart in
-    (literal_within room some.0 c.watched.result.first within two.0, literal_within room some.0 c.watched.result.second within two.1)
+    let two = (c.watched.ensures some.0 some.1).two apart in (
+      literal_within room some.0 c.watched.result.first within two.0,
+      literal_within room some.0 c.watched.result.second within two.1,
+    )
 
 pub returns-then-is_watch_true : goal.returns-then-is_watch_true
 returns-then-is_watch_true c = λ d at.
@@ -24,15 +26,19 @@ returns-then-is_watch_true c = λ d at.
     ]
 
 pub place_in-place-requires : goal.place_in-place-requires
-place_in-place-requires c = live_within c.args.clauses.now.clauses c.args.trail.now.room c.args.id c.lits-lits.result.now c.lits-lits.ensures c.requires.in_range
+place_in-place-requires c = live_within c.args.clauses.now.clauses c.args.trail.now.room c.args.id
+    c.lits-lits.result.now c.lits-lits.ensures c.requires.in_range
 
 pub open_literal_at-requires-clause-in_range : goal.open_literal_at-requires-clause-in_range
-open_literal_at-requires-clause-in_range c = live_within c.args.clauses.now.clauses c.args.trail.now.room c.args.id c.lits-lits.result.now c.lits-lits.ensures c.requires.in_range
+open_literal_at-requires-clause-in_range c = live_within c.args.clauses.now.clauses c.args.trail.now.room c.args.id
+    c.lits-lits.result.now c.lits-lits.ensures c.requires.in_range
 
 pub returns-in-Some : goal.returns-in-Some
 returns-in-Some c =
-    opening_in c.args.clauses.now.clauses (literals_of c.args.trail.now.steps) c.lits-lits.result.now c.args.id (Some c.in-Some.literal) c.lits-lits.ensures c.in-Some.ensures
+    opening_in c.args.clauses.now.clauses (literals_of c.args.trail.now.steps) c.lits-lits.result.now c.args.id
+    (Some c.in-Some.literal) c.lits-lits.ensures c.in-Some.ensures
 
 pub returns-in-None : goal.returns-in-None
 returns-in-None c =
-    opening_in c.args.clauses.now.clauses (literals_of c.args.trail.now.steps) c.lits-lits.result.now c.args.id None c.lits-lits.ensures c.in-None.ensures
+    opening_in c.args.clauses.now.clauses (literals_of c.args.trail.now.steps) c.lits-lits.result.now c.args.id None
+    c.lits-lits.ensures c.in-None.ensures

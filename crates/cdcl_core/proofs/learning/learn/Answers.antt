@@ -14,7 +14,8 @@ use Rattle.cdcl_core.proofs.learning.learn.Goals as goal
 pub analyse-first-requires-clause-within : goal.analyse-first-requires-clause-within
 analyse-first-requires-clause-within c =
     let s = c.args.s.now in
-    clauses_within s.clauses.clauses s.variables (length s.notes.marks) c.args.log.now.entries c.requires.searching.fit (omega (arith, c.requires.searching.room, c.requires.searching.marks))
+    clauses_within s.clauses.clauses s.variables (length s.notes.marks) c.args.log.now.entries c.requires.searching.fit
+    (omega (arith, c.requires.searching.room, c.requires.searching.marks))
 
 pub log_clause-requires-clause-named : goal.log_clause-requires-clause-named
 log_clause-requires-clause-named c =
@@ -24,7 +25,8 @@ log_clause-requires-clause-named c =
     let step = c.analyse-first.result in
     let noted = c.analyse-first.new.notes in
     let lesson = c.analyse-first.ensures.lesson in
-    learn_named c.args.assumptions.now (searched s) log mid step noted.marks noted.literals noted.hints c.args.decision (at_search c.args.assumptions.now s log c.requires.searching) c.requires.decided c.requires.chosen lesson
+    learn_named c.args.assumptions.now (searched s) log mid step noted.marks noted.literals noted.hints c.args.decision
+    (at_search c.args.assumptions.now s log c.requires.searching) c.requires.decided c.requires.chosen lesson
 
 pub log_clause-requires-clause-hints : goal.log_clause-requires-clause-hints
 log_clause-requires-clause-hints c =
@@ -34,7 +36,8 @@ log_clause-requires-clause-hints c =
     let step = c.analyse-first.result in
     let noted = c.analyse-first.new.notes in
     let lesson = c.analyse-first.ensures.lesson in
-    learn_ids c.args.assumptions.now (searched s) log mid step noted.marks noted.literals noted.hints c.args.decision (at_search c.args.assumptions.now s log c.requires.searching) c.requires.decided c.requires.chosen lesson
+    learn_ids c.args.assumptions.now (searched s) log mid step noted.marks noted.literals noted.hints c.args.decision
+    (at_search c.args.assumptions.now s log c.requires.searching) c.requires.decided c.requires.chosen lesson
 
 pub land-level-requires-clause-variable : goal.land-level-requires-clause-variable
 land-level-requires-clause-variable c =
@@ -44,7 +47,9 @@ land-level-requires-clause-variable c =
     let step = c.analyse-first.result in
     let noted = c.analyse-first.new.notes in
     let lesson = c.analyse-first.ensures.lesson in
-    let low = learn_in_range c.args.assumptions.now (searched s) log mid step noted.marks noted.literals noted.hints c.args.decision (at_search c.args.assumptions.now s log c.requires.searching) c.requires.decided c.requires.chosen lesson in
+    let low = learn_in_range c.args.assumptions.now (searched s) log mid step noted.marks noted.literals noted.hints
+    c.args.decision (at_search c.args.assumptions.now s log c.requires.searching) c.requires.decided
+    c.requires.chosen lesson in
     let room = c.requires.searching.room in
     let q = lesson.room in
     omega (arith, low, room, q)
@@ -57,7 +62,8 @@ land-level-requires-clause-free c =
     let step = c.analyse-first.result in
     let noted = c.analyse-first.new.notes in
     let lesson = c.analyse-first.ensures.lesson in
-    learn_free c.args.assumptions.now (searched s) log mid step noted.marks noted.literals noted.hints c.args.decision (at_search c.args.assumptions.now s log c.requires.searching) c.requires.decided c.requires.chosen lesson
+    learn_free c.args.assumptions.now (searched s) log mid step noted.marks noted.literals noted.hints c.args.decision
+    (at_search c.args.assumptions.now s log c.requires.searching) c.requires.decided c.requires.chosen lesson
 
 pub returns-clause-fit : goal.returns-clause-fit
 returns-clause-fit c =
@@ -67,9 +73,12 @@ returns-clause-fit c =
     let step = c.analyse-first.result in
     let noted = c.analyse-first.new.notes in
     let lesson = c.analyse-first.ensures.lesson in
-    subst (λ (cs : List (List Literal)). Fit cs s.variables c.log_clause.new.log.entries) (sym (c.hold.ensures.held ∙ ap (λ cs. cs ++ noted.literals ∷ []) c.log_clause.ensures.clauses))
-    (subst (λ (l : ProofLog). Fit (s.clauses.clauses ++ noted.literals ∷ []) s.variables l.entries) (sym c.in_ok-id.ensures.ok)
-    (learn_fit c.args.assumptions.now (searched s) log mid step noted.marks noted.literals noted.hints c.args.decision (at_search c.args.assumptions.now s log c.requires.searching) c.requires.decided c.requires.chosen lesson))
+    subst (λ (cs : List (List Literal)). Fit cs s.variables c.log_clause.new.log.entries)
+    (sym (c.hold.ensures.held ∙ ap (λ cs. cs ++ noted.literals ∷ []) c.log_clause.ensures.clauses))
+    (subst (λ (l : ProofLog). Fit (s.clauses.clauses ++ noted.literals ∷ []) s.variables l.entries)
+    (sym c.in_ok-id.ensures.ok)
+    (learn_fit c.args.assumptions.now (searched s) log mid step noted.marks noted.literals noted.hints c.args.decision
+    (at_search c.args.assumptions.now s log c.requires.searching) c.requires.decided c.requires.chosen lesson))
 
 pub returns-clause-learned : goal.returns-clause-learned
 returns-clause-learned c =
@@ -90,20 +99,33 @@ returns-clause-ok c =
     let noted = c.analyse-first.new.notes in
     let lesson = c.analyse-first.ensures.lesson in
     let back = c.land-level.new.trail in
-    let landed = learn_landed c.args.assumptions.now (searched s) log mid step noted.marks noted.literals noted.hints c.args.decision (at_search c.args.assumptions.now s log c.requires.searching) c.requires.decided c.requires.chosen lesson back c.in_ok-id.id c.in_ok-id.ensures.id c.land-level.ensures.landed in
+    let landed = learn_landed c.args.assumptions.now (searched s) log mid step noted.marks noted.literals noted.hints
+    c.args.decision (at_search c.args.assumptions.now s log c.requires.searching) c.requires.decided
+    c.requires.chosen lesson back c.in_ok-id.id c.in_ok-id.ensures.id c.land-level.ensures.landed in
     let room : back.room ≡ s.trail.room = landed.room ∙ lesson.room in
-    let sound_step = learn_step c.args.assumptions.now (searched s) log mid step noted.marks noted.literals noted.hints c.args.decision (at_search c.args.assumptions.now s log c.requires.searching) c.requires.decided c.requires.chosen lesson in
-    let ready = ready_after s.clauses (live_in s.clauses.clauses) s.trail.steps mid step lesson.shrunk sound_step c.requires.searching.levels noted.marks c.in_ok-id.id back c.hold.new.clauses noted.literals c.land-level.result
+    let sound_step = learn_step c.args.assumptions.now (searched s) log mid step noted.marks noted.literals noted.hints
+    c.args.decision (at_search c.args.assumptions.now s log c.requires.searching) c.requires.decided
+    c.requires.chosen lesson in
+    let ready = ready_after s.clauses (live_in s.clauses.clauses) s.trail.steps mid step lesson.shrunk sound_step
+    c.requires.searching.levels noted.marks c.in_ok-id.id back c.hold.new.clauses noted.literals c.land-level.result
     c.land-level.ensures.level (c.hold.ensures.held ∙ ap (λ cs. cs ++ noted.literals ∷ []) c.log_clause.ensures.clauses)
-    (held_watched c.land-level.result s.clauses c.log_clause.new.clauses c.hold.new.clauses step c.log_clause.ensures.clauses c.log_clause.ensures.first c.log_clause.ensures.second c.hold.ensures.watched) in
+    (held_watched c.land-level.result s.clauses c.log_clause.new.clauses c.hold.new.clauses step
+    c.log_clause.ensures.clauses c.log_clause.ensures.first c.log_clause.ensures.second c.hold.ensures.watched) in
     record {
       ready = ready.top;
       searching = record {
-        fit = subst (λ (cs : List (List Literal)). Fit cs s.variables c.log_clause.new.log.entries) (sym (c.hold.ensures.held ∙ ap (λ cs. cs ++ noted.literals ∷ []) c.log_clause.ensures.clauses))
-            (subst (λ (l : ProofLog). Fit (s.clauses.clauses ++ noted.literals ∷ []) s.variables l.entries) (sym c.in_ok-id.ensures.ok)
-            (learn_fit c.args.assumptions.now (searched s) log mid step noted.marks noted.literals noted.hints c.args.decision (at_search c.args.assumptions.now s log c.requires.searching) c.requires.decided c.requires.chosen lesson));
-        sound = subst (λ (cs : List (List Literal)). IsSound (live_in cs) back.steps) (sym (c.hold.ensures.held ∙ ap (λ cs. cs ++ noted.literals ∷ []) c.log_clause.ensures.clauses)) landed.sound;
-        guided = subst (λ (l : ProofLog). IsGuided l.entries c.args.assumptions.now back.steps) (sym c.in_ok-id.ensures.ok) landed.guided;
+        fit = subst (λ (cs : List (List Literal)). Fit cs s.variables c.log_clause.new.log.entries)
+            (sym (c.hold.ensures.held ∙ ap (λ cs. cs ++ noted.literals ∷ []) c.log_clause.ensures.clauses))
+            (subst (λ (l : ProofLog). Fit (s.clauses.clauses ++ noted.literals ∷ []) s.variables l.entries)
+            (sym c.in_ok-id.ensures.ok)
+            (learn_fit c.args.assumptions.now (searched s) log mid step noted.marks noted.literals noted.hints
+            c.args.decision (at_search c.args.assumptions.now s log c.requires.searching) c.requires.decided
+            c.requires.chosen lesson));
+        sound = subst (λ (cs : List (List Literal)). IsSound (live_in cs) back.steps)
+            (sym (c.hold.ensures.held ∙ ap (λ cs. cs ++ noted.literals ∷ []) c.log_clause.ensures.clauses))
+            landed.sound;
+        guided = subst (λ (l : ProofLog). IsGuided l.entries c.args.assumptions.now back.steps)
+            (sym c.in_ok-id.ensures.ok) landed.guided;
         room = let r = c.requires.searching.room in omega (arith, r, room);
         marks = let m = c.requires.searching.marks in omega (arith, m, room, c.analyse-first.ensures.len);
         levels = ready.levels;
@@ -120,8 +142,11 @@ hold-requires-clause-second c =
     let step = c.analyse-first.result in
     let noted = c.analyse-first.new.notes in
     let lesson = c.analyse-first.ensures.lesson in
-    let sound_step = learn_step c.args.assumptions.now (searched s) log mid step noted.marks noted.literals noted.hints c.args.decision (at_search c.args.assumptions.now s log c.requires.searching) c.requires.decided c.requires.chosen lesson in
-    watches_held s.clauses (live_in s.clauses.clauses) s.trail.steps mid step lesson.shrunk sound_step c.requires.searching.levels noted.marks c.in_ok-id.id c.land-level.new.trail noted.literals
+    let sound_step = learn_step c.args.assumptions.now (searched s) log mid step noted.marks noted.literals noted.hints
+    c.args.decision (at_search c.args.assumptions.now s log c.requires.searching) c.requires.decided
+    c.requires.chosen lesson in
+    watches_held s.clauses (live_in s.clauses.clauses) s.trail.steps mid step lesson.shrunk sound_step
+    c.requires.searching.levels noted.marks c.in_ok-id.id c.land-level.new.trail noted.literals
     c.land-level.result c.land-level.ensures.level lesson.has_rest
 
 pub returns-in_err-id-clause-limit : goal.returns-in_err-id-clause-limit
@@ -135,5 +160,7 @@ returns-in_err-id-clause-limit c = λ is.
     let stop : c.in_err-id.field-0.0 ≡ Limit = search rules in
     subst (λ (l : ProofLog). IsAtLimit l c.args.assumptions.now) (sym c.in_err-id.ensures.err) (record {
       reached = c.in_err-id.ensures.limit (ap (λ e. Err e) stop);
-      next = learn_next c.args.assumptions.now (searched s) log mid step noted.marks noted.literals noted.hints c.args.decision (at_search c.args.assumptions.now s log c.requires.searching) c.requires.decided c.requires.chosen lesson;
+      next = learn_next c.args.assumptions.now (searched s) log mid step noted.marks noted.literals noted.hints
+          c.args.decision (at_search c.args.assumptions.now s log c.requires.searching) c.requires.decided
+          c.requires.chosen lesson;
     })

@@ -11,14 +11,17 @@ use Rattle.cdcl_core.proofs.propagation.pass_short.Goals as goal
 use Rattle.cdcl_core.proofs.propagation.pass_short.Goals.{in-Unit, in-Stuck}
 
 pub lits-requires-clause-from_one : goal.lits-requires-clause-from_one
-lits-requires-clause-from_one c = (c.requires.ids (get_or c.args.short.now c.loop-id.id-index 0) (Contains-get_or c.args.short.now c.loop-id.id-index 0 c.loop-id-test.true)).0
+lits-requires-clause-from_one c = (c.requires.ids (get_or c.args.short.now c.loop-id.id-index 0)
+    (Contains-get_or c.args.short.now c.loop-id.id-index 0 c.loop-id-test.true)).0
 
 pub lits-requires-clause-is_id : goal.lits-requires-clause-is_id
-lits-requires-clause-is_id c = (c.requires.ids (get_or c.args.short.now c.loop-id.id-index 0) (Contains-get_or c.args.short.now c.loop-id.id-index 0 c.loop-id-test.true)).1
+lits-requires-clause-is_id c = (c.requires.ids (get_or c.args.short.now c.loop-id.id-index 0)
+    (Contains-get_or c.args.short.now c.loop-id.id-index 0 c.loop-id-test.true)).1
 
 pub status_of-requires : goal.status_of-requires
 status_of-requires c = λ k d lt.
-    let within = live_within c.args.arena.now.clauses c.args.trail.now.room (get_or c.args.short.now c.loop-id.id-index 0) c.lits.result.now c.lits.ensures c.requires.in_range in
+    let within = live_within c.args.arena.now.clauses c.args.trail.now.room
+    (get_or c.args.short.now c.loop-id.id-index 0) c.lits.result.now c.lits.ensures c.requires.in_range in
     let room = c.loop-id.invariant.room in
     let low = within k d lt in
     omega (arith, low, room)
@@ -26,16 +29,19 @@ status_of-requires c = λ k d lt.
 pub push-requires-clause-in_range : goal.push-requires-clause-in_range
 push-requires-clause-in_range c =
     let clause = c.lits.result.now in
-    let status : status_of (literals_of c.loop-id.trail.steps) (Some clause) ≡ unit c.in-Unit.l = sym c.status_of.ensures ∙ ap seen c.in-Unit.is in
+    let status : status_of (literals_of c.loop-id.trail.steps) (Some clause) ≡ unit c.in-Unit.l =
+    sym c.status_of.ensures ∙ ap seen c.in-Unit.is in
     let among = (implied_from (literals_of c.loop-id.trail.steps) clause c.in-Unit.l status).among in
-    let within = live_within c.args.arena.now.clauses c.args.trail.now.room (get_or c.args.short.now c.loop-id.id-index 0) clause c.lits.ensures c.requires.in_range in
+    let within = live_within c.args.arena.now.clauses c.args.trail.now.room
+    (get_or c.args.short.now c.loop-id.id-index 0) clause c.lits.ensures c.requires.in_range in
     let room = c.loop-id.invariant.room in
     let low = literal_within c.args.trail.now.room clause c.in-Unit.l within among in
     omega (arith, low, room)
 
 pub push-requires-clause-free : goal.push-requires-clause-free
 push-requires-clause-free c =
-    let status : status_of (literals_of c.loop-id.trail.steps) (Some c.lits.result.now) ≡ unit c.in-Unit.l = sym c.status_of.ensures ∙ ap seen c.in-Unit.is in
+    let status : status_of (literals_of c.loop-id.trail.steps) (Some c.lits.result.now) ≡ unit c.in-Unit.l =
+    sym c.status_of.ensures ∙ ap seen c.in-Unit.is in
     (implied_from (literals_of c.loop-id.trail.steps) c.lits.result.now c.in-Unit.l status).free
 
 pub loop-id-preserved : goal.loop-id-preserved
@@ -50,8 +56,11 @@ loop-id-preserved c =
     elim c.match-status_of.branch [
       | in-Unit w ↦
           rw w.trail-is
-          (passing_unit c.args.arena.now.clauses c.args.trail.now c.loop-id.trail w.push.new.self short i id clause w.in-Unit.l lt at c.lits.ensures c.loop-id.invariant (sym status ∙ ap seen w.in-Unit.is) w.push.ensures.is w.push.ensures.few)
+          (passing_unit c.args.arena.now.clauses c.args.trail.now c.loop-id.trail w.push.new.self short i id clause
+          w.in-Unit.l lt at c.lits.ensures c.loop-id.invariant
+          (sym status ∙ ap seen w.in-Unit.is) w.push.ensures.is w.push.ensures.few)
       | in-Stuck w ↦
           rw w.trail-is
-          (passing_stuck c.args.arena.now.clauses c.args.trail.now c.loop-id.trail short i id clause lt at c.lits.ensures c.loop-id.invariant (sym status ∙ ap seen w.in-Stuck.is))
+          (passing_stuck c.args.arena.now.clauses c.args.trail.now c.loop-id.trail short i id clause lt at
+          c.lits.ensures c.loop-id.invariant (sym status ∙ ap seen w.in-Stuck.is))
     ]

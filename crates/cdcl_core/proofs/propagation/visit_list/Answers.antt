@@ -8,12 +8,15 @@ use Rattle.cdcl_core.proofs.propagation.visit_list.Goals as goal
 
 pub loop-init : goal.loop-init
 loop-init c =
-    visiting_first c.args.arena.now.clauses c.args.trail.now c.args.these.now c.take_oldest_first-at.new.these c.args.others.now c.args.l c.take_oldest_first-at.result c.requires.visitable c.take_oldest_first-at.ensures.taken
+    visiting_first c.args.arena.now.clauses c.args.trail.now c.args.these.now c.take_oldest_first-at.new.these
+    c.args.others.now c.args.l c.take_oldest_first-at.result c.requires.visitable
+    c.take_oldest_first-at.ensures.taken
     c.take_oldest_first-at.ensures.literals c.take_oldest_first-at.ensures.lists
 
 pub returns-then-at-eq0 : goal.returns-then-at-eq0
 returns-then-at-eq0 c =
-    visiting_end c.args.arena.now.clauses c.args.trail.now c.loop.trail c.args.these.now c.loop.these c.args.others.now c.args.l c.loop.at c.loop.counter c.loop.invariant c.if-at-eq0.true
+    visiting_end c.args.arena.now.clauses c.args.trail.now c.loop.trail c.args.these.now c.loop.these c.args.others.now
+    c.args.l c.loop.at c.loop.counter c.loop.invariant c.if-at-eq0.true
 
 pub visit-requires-clause-is_id : goal.visit-requires-clause-is_id
 visit-requires-clause-is_id c =
@@ -29,18 +32,22 @@ visit-requires-clause-watched c =
     p.watched c.loop.at (ap (λ xs. has xs c.loop.at) f.is ∙ has_first c.loop.at f.later)
 
 pub visit-requires-clause-false_now : goal.visit-requires-clause-false_now
-visit-requires-clause-false_now c = among_grown c.args.trail.now.steps c.loop.trail.steps c.loop.invariant.grown (opposite c.args.l) c.requires.false_now
+visit-requires-clause-false_now c = among_grown c.args.trail.now.steps c.loop.trail.steps c.loop.invariant.grown
+    (opposite c.args.l) c.requires.false_now
 
 pub returns-in-None : goal.returns-in-None
 returns-in-None c =
     let p = c.loop.invariant in
     let f = first_left c.loop.these c.loop.at p.rest p.linked c.if-at-eq0.false in
-    visiting_conflict c.args.arena.now.clauses c.args.trail.now c.loop.trail c.visit.new.trail c.args.these.now c.loop.these c.visit.new.these c.args.others.now c.args.l c.loop.at c.loop.counter c.visit.result
-    p f c.visit.ensures c.requires.false_now c.put_all_back.new.these c.in-None.is c.put_all_back.ensures.linked c.put_all_back.ensures.literals c.put_all_back.ensures.lists
+    visiting_conflict c.args.arena.now.clauses c.args.trail.now c.loop.trail c.visit.new.trail c.args.these.now
+    c.loop.these c.visit.new.these c.args.others.now c.args.l c.loop.at c.loop.counter c.visit.result
+    p f c.visit.ensures c.requires.false_now c.put_all_back.new.these c.in-None.is c.put_all_back.ensures.linked
+    c.put_all_back.ensures.literals c.put_all_back.ensures.lists
 
 pub loop-preserved : goal.loop-preserved
 loop-preserved c =
     let p = c.loop.invariant in
     let f = first_left c.loop.these c.loop.at p.rest p.linked c.if-at-eq0.false in
-    visiting_next c.args.arena.now.clauses c.args.trail.now c.loop.trail c.visit.new.trail c.args.these.now c.loop.these c.visit.new.these c.args.others.now c.args.l c.loop.at c.loop.counter c.visit.result
+    visiting_next c.args.arena.now.clauses c.args.trail.now c.loop.trail c.visit.new.trail c.args.these.now c.loop.these
+    c.visit.new.these c.args.others.now c.args.l c.loop.at c.loop.counter c.visit.result
     p f c.visit.ensures c.requires.false_now c.in-Some.next c.in-Some.is

@@ -8,22 +8,47 @@ use Rattle.cdcl_core.proofs.search.decide_open.Goals as goal
 pub open_clause-requires-clause-in_range : goal.open_clause-requires-clause-in_range
 open_clause-requires-clause-in_range c =
     let s = c.args.s.now in
-    clauses_in_room s.clauses.clauses s.variables s.trail.room c.args.log.now.entries c.requires.searching.fit c.requires.searching.room
+    clauses_in_room s.clauses.clauses s.variables s.trail.room c.args.log.now.entries c.requires.searching.fit
+    c.requires.searching.room
 
 pub decide-requires-clause-searching : goal.decide-requires-clause-searching
 decide-requires-clause-searching c =
     let s = c.args.s.now in
     let r = c.requires.searching in
     let Q : Stored → Type 0 = λ x. IsSearching c.args.assumptions.now
-    record { alloc = s.alloc; variables = s.variables; clauses = x; trail = s.trail; notes = s.notes; activities = s.activities; restarts = s.restarts; positions = c.«open».new.self; focus = s.focus } c.args.log.now in
-    subst Q (sym c.set_cursor.ensures) (record { fit = r.fit; sound = r.sound; guided = r.guided; room = r.room; marks = r.marks; levels = r.levels })
+    record {
+      alloc = s.alloc;
+      variables = s.variables;
+      clauses = x;
+      trail = s.trail;
+      notes = s.notes;
+      activities =
+          s.activities;
+      restarts = s.restarts;
+      positions = c.«open».new.self;
+      focus = s.focus;
+    } c.args.log.now in
+    subst Q (sym c.set_cursor.ensures) (record {
+      fit = r.fit;
+      sound = r.sound;
+      guided = r.guided;
+      room = r.room;
+      marks =
+          r.marks;
+      levels = r.levels;
+    })
 
 pub decide-requires-clause-named : goal.decide-requires-clause-named
 decide-requires-clause-named c =
     let s = c.args.s.now in
-    (opening_stands s.clauses.clauses s.variables c.args.log.now.entries (literals_of s.trail.steps) c.in-Some.«open».literal c.requires.searching.fit c.in-Some.ensures).named
+    (opening_stands s.clauses.clauses s.variables c.args.log.now.entries
+    (literals_of s.trail.steps) c.in-Some.«open».literal c.requires.searching.fit c.in-Some.ensures).named
 
 pub decide-requires-clause-chosen : goal.decide-requires-clause-chosen
 decide-requires-clause-chosen c =
     let s = c.args.s.now in
-    inr (c.requires.assumed, (opening_stands s.clauses.clauses s.variables c.args.log.now.entries (literals_of s.trail.steps) c.in-Some.«open».literal c.requires.searching.fit c.in-Some.ensures).negated)
+    inr (
+      c.requires.assumed,
+      (opening_stands s.clauses.clauses s.variables c.args.log.now.entries
+          (literals_of s.trail.steps) c.in-Some.«open».literal c.requires.searching.fit c.in-Some.ensures).negated,
+    )

@@ -7,11 +7,15 @@ use Rattle.cdcl_core.proofs.watches.add_lists.Goals as goal
 
 pub loop-l-preserved : goal.loop-l-preserved
 loop-l-preserved c = record {
-  added = added_both c.args.heads.now.items c.loop-l.heads.items c.extend.new.heads.items c.loop-l.invariant.added c.extend.ensures.added;
-  lists = listed_more (length c.loop-l.heads.items) (length c.extend.new.heads.items) c.args.lits.now c.l-item.result c.loop-l.l-index c.loop-l-test.true (sym c.l-item.is)
-      (let wide = c.in_ok-extend.ensures.lists in omega (arith, wide, c.var.ensures.value)) c.extend.ensures.added.more c.loop-l.invariant.lists;
+  added = added_both c.args.heads.now.items c.loop-l.heads.items c.extend.new.heads.items c.loop-l.invariant.added
+      c.extend.ensures.added;
+  lists = listed_more (length c.loop-l.heads.items) (length c.extend.new.heads.items) c.args.lits.now c.l-item.result
+      c.loop-l.l-index c.loop-l-test.true (sym c.l-item.is)
+      (let wide = c.in_ok-extend.ensures.lists in omega (arith, wide, c.var.ensures.value)) c.extend.ensures.added.more
+      c.loop-l.invariant.lists;
 }
 
 pub returns-clause-lists : goal.returns-clause-lists
 returns-clause-lists c =
-    subst (λ (xs : List Literal). All (λ l. place_of l + 1 ≤ length c.loop-l.heads.items) xs) (take_all c.loop-l.l-index c.args.lits.now c.loop-l-test.false) c.loop-l.invariant.lists
+    subst (λ (xs : List Literal). All (λ l. place_of l + 1 ≤ length c.loop-l.heads.items) xs)
+    (take_all c.loop-l.l-index c.args.lits.now c.loop-l-test.false) c.loop-l.invariant.lists

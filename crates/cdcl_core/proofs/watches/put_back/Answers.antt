@@ -8,7 +8,11 @@ returns-clause-linked c = λ rest k.
     let w = c.args.watches.now in
     let q = place_of c.args.l in
     let place : c.place_of-place.result ≡ q = c.place_of-place.ensures in
-    let head : c.index.result.now ≡ get_or w.heads.items q 0 = read_zero w.heads.items c.place_of-place.result q c.index.result.now c.index.ensures place (omega (arith, c.requires.list)) in
+    let head : c.index.result.now ≡ get_or w.heads.items q 0 =
+    read_zero w.heads.items c.place_of-place.result q c.index.result.now c.index.ensures place
+    (omega (arith, c.requires.list)) in
     let next : c.index-next.result.now ≡ get_or w.nexts.items (c.args.id - 1) 0 =
-    read_zero w.nexts.items (c.args.id - 1) (c.args.id - 1) c.index-next.result.now c.index-next.ensures refl (omega (arith, c.requires.from_one, c.requires.is_id)) in
-    rw (place, head, next) (linked_put w.heads.items w.nexts.items w.literals.items c.args.id q rest k (ap place_of c.requires.watched) (omega (arith, c.requires.list)))
+    read_zero w.nexts.items (c.args.id - 1) (c.args.id - 1) c.index-next.result.now c.index-next.ensures refl
+    (omega (arith, c.requires.from_one, c.requires.is_id)) in
+    rw (place, head, next) (linked_put w.heads.items w.nexts.items w.literals.items c.args.id q rest k
+    (ap place_of c.requires.watched) (omega (arith, c.requires.list)))

@@ -8,7 +8,8 @@ use Rattle.cdcl_scan.proofs.decisions.newest_open.Given as goal
 abbrev pub invariant-loop-id : goal.invariant-loop-id
 invariant-loop-id l = record {
   within : l.id ≤ length l.clauses.clauses;
-  satisfied : (i : ℕ) (c : List Literal) → l.id ≤ i → slice_get l.clauses.clauses i ≡ Some c → list_any (holds (literals_of l.trail.steps)) c ≡ true;
+  satisfied : (i : ℕ) (c : List Literal) → l.id ≤ i → slice_get l.clauses.clauses i ≡ Some c →
+      list_any (holds (literals_of l.trail.steps)) c ≡ true;
 }
 
 abbrev pub decreases-loop-id : goal.decreases-loop-id

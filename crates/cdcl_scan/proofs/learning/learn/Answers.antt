@@ -12,7 +12,8 @@ use Rattle.cdcl_scan.proofs.learning.learn.Goals as goal
 pub analyse-first-requires-clause-within : goal.analyse-first-requires-clause-within
 analyse-first-requires-clause-within c =
     let s = c.args.s.now in
-    clauses_within s.clauses.clauses s.variables (length s.notes.marks) c.args.log.now.entries c.requires.searching.fit (omega (arith, c.requires.searching.room, c.requires.searching.marks))
+    clauses_within s.clauses.clauses s.variables (length s.notes.marks) c.args.log.now.entries c.requires.searching.fit
+    (omega (arith, c.requires.searching.room, c.requires.searching.marks))
 
 pub keep-requires-clause-named : goal.keep-requires-clause-named
 keep-requires-clause-named c =
@@ -22,7 +23,8 @@ keep-requires-clause-named c =
     let step = c.analyse-first.result in
     let noted = c.analyse-first.new.notes in
     let lesson = c.analyse-first.ensures.lesson in
-    learn_named c.args.assumptions.now (searched s) log mid step noted.marks noted.literals noted.hints c.args.decision c.requires.searching c.requires.decided c.requires.chosen lesson
+    learn_named c.args.assumptions.now (searched s) log mid step noted.marks noted.literals noted.hints c.args.decision
+    c.requires.searching c.requires.decided c.requires.chosen lesson
 
 pub keep-requires-clause-hints : goal.keep-requires-clause-hints
 keep-requires-clause-hints c =
@@ -32,7 +34,8 @@ keep-requires-clause-hints c =
     let step = c.analyse-first.result in
     let noted = c.analyse-first.new.notes in
     let lesson = c.analyse-first.ensures.lesson in
-    learn_ids c.args.assumptions.now (searched s) log mid step noted.marks noted.literals noted.hints c.args.decision c.requires.searching c.requires.decided c.requires.chosen lesson
+    learn_ids c.args.assumptions.now (searched s) log mid step noted.marks noted.literals noted.hints c.args.decision
+    c.requires.searching c.requires.decided c.requires.chosen lesson
 
 pub land-requires-clause-variable : goal.land-requires-clause-variable
 land-requires-clause-variable c =
@@ -42,7 +45,8 @@ land-requires-clause-variable c =
     let step = c.analyse-first.result in
     let noted = c.analyse-first.new.notes in
     let lesson = c.analyse-first.ensures.lesson in
-    let low = learn_in_range c.args.assumptions.now (searched s) log mid step noted.marks noted.literals noted.hints c.args.decision c.requires.searching c.requires.decided c.requires.chosen lesson in
+    let low = learn_in_range c.args.assumptions.now (searched s) log mid step noted.marks noted.literals noted.hints
+    c.args.decision c.requires.searching c.requires.decided c.requires.chosen lesson in
     let room = c.requires.searching.room in
     let q = lesson.room in
     omega (arith, low, room, q)
@@ -55,7 +59,8 @@ land-requires-clause-free c =
     let step = c.analyse-first.result in
     let noted = c.analyse-first.new.notes in
     let lesson = c.analyse-first.ensures.lesson in
-    learn_free c.args.assumptions.now (searched s) log mid step noted.marks noted.literals noted.hints c.args.decision c.requires.searching c.requires.decided c.requires.chosen lesson
+    learn_free c.args.assumptions.now (searched s) log mid step noted.marks noted.literals noted.hints c.args.decision
+    c.requires.searching c.requires.decided c.requires.chosen lesson
 
 pub returns-clause-fit : goal.returns-clause-fit
 returns-clause-fit c =
@@ -66,8 +71,10 @@ returns-clause-fit c =
     let noted = c.analyse-first.new.notes in
     let lesson = c.analyse-first.ensures.lesson in
     subst (λ (cs : List (List Literal)). Fit cs s.variables c.keep.new.log.entries) (sym c.in_ok-id.ensures.held)
-    (subst (λ (l : ProofLog). Fit (s.clauses.clauses ++ noted.literals ∷ []) s.variables l.entries) (sym c.in_ok-id.ensures.ok)
-    (learn_fit c.args.assumptions.now (searched s) log mid step noted.marks noted.literals noted.hints c.args.decision c.requires.searching c.requires.decided c.requires.chosen lesson))
+    (subst (λ (l : ProofLog). Fit (s.clauses.clauses ++ noted.literals ∷ []) s.variables l.entries)
+    (sym c.in_ok-id.ensures.ok)
+    (learn_fit c.args.assumptions.now (searched s) log mid step noted.marks noted.literals noted.hints c.args.decision
+    c.requires.searching c.requires.decided c.requires.chosen lesson))
 
 pub returns-clause-learned : goal.returns-clause-learned
 returns-clause-learned c =
@@ -88,15 +95,22 @@ returns-clause-ok c =
     let noted = c.analyse-first.new.notes in
     let lesson = c.analyse-first.ensures.lesson in
     let back = c.land.new.trail in
-    let landed = learn_landed c.args.assumptions.now (searched s) log mid step noted.marks noted.literals noted.hints c.args.decision c.requires.searching c.requires.decided c.requires.chosen lesson back c.in_ok-id.id c.in_ok-id.ensures.id c.land.ensures.landed in
+    let landed = learn_landed c.args.assumptions.now (searched s) log mid step noted.marks noted.literals noted.hints
+    c.args.decision c.requires.searching c.requires.decided c.requires.chosen lesson back c.in_ok-id.id
+    c.in_ok-id.ensures.id c.land.ensures.landed in
     let room : back.room ≡ s.trail.room = landed.room ∙ lesson.room in
     record {
       searching = record {
-        fit = subst (λ (cs : List (List Literal)). Fit cs s.variables c.keep.new.log.entries) (sym c.in_ok-id.ensures.held)
-            (subst (λ (l : ProofLog). Fit (s.clauses.clauses ++ noted.literals ∷ []) s.variables l.entries) (sym c.in_ok-id.ensures.ok)
-            (learn_fit c.args.assumptions.now (searched s) log mid step noted.marks noted.literals noted.hints c.args.decision c.requires.searching c.requires.decided c.requires.chosen lesson));
-        sound = subst (λ (cs : List (List Literal)). IsSound (live_in cs) back.steps) (sym c.in_ok-id.ensures.held) landed.sound;
-        guided = subst (λ (l : ProofLog). IsGuided l.entries c.args.assumptions.now back.steps) (sym c.in_ok-id.ensures.ok) landed.guided;
+        fit = subst (λ (cs : List (List Literal)). Fit cs s.variables c.keep.new.log.entries)
+            (sym c.in_ok-id.ensures.held)
+            (subst (λ (l : ProofLog). Fit (s.clauses.clauses ++ noted.literals ∷ []) s.variables l.entries)
+            (sym c.in_ok-id.ensures.ok)
+            (learn_fit c.args.assumptions.now (searched s) log mid step noted.marks noted.literals noted.hints
+            c.args.decision c.requires.searching c.requires.decided c.requires.chosen lesson));
+        sound = subst (λ (cs : List (List Literal)). IsSound (live_in cs) back.steps)
+            (sym c.in_ok-id.ensures.held) landed.sound;
+        guided = subst (λ (l : ProofLog). IsGuided l.entries c.args.assumptions.now back.steps)
+            (sym c.in_ok-id.ensures.ok) landed.guided;
         room = let r = c.requires.searching.room in omega (arith, r, room);
         marks = let m = c.requires.searching.marks in omega (arith, m, room, c.analyse-first.ensures.len);
       };
@@ -115,5 +129,6 @@ returns-in_err-id-clause-limit c = λ is.
     let stop : c.in_err-id.field-0.0 ≡ Limit = search rules in
     subst (λ (l : ProofLog). IsAtLimit l c.args.assumptions.now) (sym c.in_err-id.ensures.err) (record {
       reached = c.in_err-id.ensures.limit (ap (λ e. Err e) stop);
-      next = learn_next c.args.assumptions.now (searched s) log mid step noted.marks noted.literals noted.hints c.args.decision c.requires.searching c.requires.decided c.requires.chosen lesson;
+      next = learn_next c.args.assumptions.now (searched s) log mid step noted.marks noted.literals noted.hints
+          c.args.decision c.requires.searching c.requires.decided c.requires.chosen lesson;
     })

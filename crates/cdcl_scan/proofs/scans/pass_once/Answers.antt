@@ -10,11 +10,13 @@ use Rattle.cdcl_scan.proofs.scans.pass_once.Goals.{in-More, in-Quiet}
 
 pub pass_run-requires-clause-last : goal.pass_run-requires-clause-last
 pass_run-requires-clause-last c =
-    (next_run c.runs-runs.result.now c.args.clauses.now.clauses c.loop-run.first c.loop-run.run-index c.run-item.result c.loop-run-test.true (sym c.run-item.is) c.loop-run.invariant.left).last
+    (next_run c.runs-runs.result.now c.args.clauses.now.clauses c.loop-run.first c.loop-run.run-index c.run-item.result
+    c.loop-run-test.true (sym c.run-item.is) c.loop-run.invariant.left).last
 
 pub returns-in-Conflict-clause-grown : goal.returns-in-Conflict-clause-grown
 returns-in-Conflict-clause-grown c =
-    grown_both c.args.trail.now.steps c.loop-run.trail.steps c.pass_run.new.trail.steps c.loop-run.invariant.scanned.grown c.pass_run.ensures.grown
+    grown_both c.args.trail.now.steps c.loop-run.trail.steps c.pass_run.new.trail.steps
+    c.loop-run.invariant.scanned.grown c.pass_run.ensures.grown
 
 pub loop-run-preserved : goal.loop-run-preserved
 loop-run-preserved c =
@@ -25,16 +27,21 @@ loop-run-preserved c =
     let new = c.pass_run.new.trail in
     let run = c.run-item.result in
     let inv = c.loop-run.invariant.scanned in
-    let next = next_run c.runs-runs.result.now clauses c.loop-run.first c.loop-run.run-index run c.loop-run-test.true (sym c.run-item.is) c.loop-run.invariant.left in
+    let next = next_run c.runs-runs.result.now clauses c.loop-run.first c.loop-run.run-index run c.loop-run-test.true
+    (sym c.run-item.is) c.loop-run.invariant.left in
     let e = c.pass_run.ensures in
     record {
       scanned = elim c.match-pass_run.branch [
         | in-More w ↦
-            let more : length now.steps < length new.steps = subst (IsRunPassed live now new c.loop-run.first run.last) w.in-More.is e.passed in
-            rw w.quiet-is (scanned_more live old now new c.loop-run.quiet c.loop-run.first run.last inv e.room e.sound e.grown e.few more)
+            let more : length now.steps < length new.steps =
+            subst (IsRunPassed live now new c.loop-run.first run.last) w.in-More.is e.passed in
+            rw w.quiet-is (scanned_more live old now new c.loop-run.quiet c.loop-run.first run.last inv e.room e.sound
+            e.grown e.few more)
         | in-Quiet w ↦
-            let quiet : IsRunPassed live now new c.loop-run.first run.last Quiet = subst (IsRunPassed live now new c.loop-run.first run.last) w.in-Quiet.is e.passed in
-            rw w.quiet-is (scanned_quiet live old now new c.loop-run.quiet c.loop-run.first run.last inv quiet.0 quiet.1)
+            let quiet : IsRunPassed live now new c.loop-run.first run.last Quiet =
+            subst (IsRunPassed live now new c.loop-run.first run.last) w.in-Quiet.is e.passed in
+            rw w.quiet-is (scanned_quiet live old now new c.loop-run.quiet c.loop-run.first run.last inv quiet.0
+            quiet.1)
       ];
       left = next.left;
     }
@@ -43,5 +50,7 @@ pub returns-then-quiet-clause-passed : goal.returns-then-quiet-clause-passed
 returns-then-quiet-clause-passed c =
     let clauses = c.args.clauses.now.clauses in
     scanned_closed clauses c.args.trail.now c.loop-run.trail c.loop-run.first
-    (no_run_left c.runs-runs.result.now clauses c.loop-run.first c.loop-run.run-index c.loop-run-test.false c.loop-run.invariant.left)
-    (subst (λ q. IsScanned (live_in clauses) c.args.trail.now c.loop-run.trail q 0 c.loop-run.first) c.if-quiet.true c.loop-run.invariant.scanned)
+    (no_run_left c.runs-runs.result.now clauses c.loop-run.first c.loop-run.run-index c.loop-run-test.false
+    c.loop-run.invariant.left)
+    (subst (λ q. IsScanned (live_in clauses) c.args.trail.now c.loop-run.trail q 0 c.loop-run.first) c.if-quiet.true
+    c.loop-run.invariant.scanned)

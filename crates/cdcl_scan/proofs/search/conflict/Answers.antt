@@ -18,10 +18,13 @@ answer_conflict-requires-clause-answering c =
 pub answer_conflict-requires-clause-assumed : goal.answer_conflict-requires-clause-assumed
 answer_conflict-requires-clause-assumed c =
     let s = c.args.s.now in
-    decided_assumed c.args.log.now.entries (live_in s.clauses.clauses) c.args.assumptions.now s.trail.steps c.requires.searching.sound c.requires.searching.guided c.in-None.ensures
+    decided_assumed c.args.log.now.entries (live_in s.clauses.clauses) c.args.assumptions.now s.trail.steps
+    c.requires.searching.sound c.requires.searching.guided c.in-None.ensures
 
 pub returns-in_err-answer-in-None-clause-fit : goal.returns-in_err-answer-in-None-clause-fit
-returns-in_err-answer-in-None-clause-fit c = c.answer_conflict.ensures.fit c.args.s.now.variables c.requires.searching.fit
+returns-in_err-answer-in-None-clause-fit c = c.answer_conflict.ensures.fit c.args.s.now.variables
+    c.requires.searching.fit
 
 pub returns-in_ok-answer-in-None-clause-fit : goal.returns-in_ok-answer-in-None-clause-fit
-returns-in_ok-answer-in-None-clause-fit c = c.answer_conflict.ensures.fit c.args.s.now.variables c.requires.searching.fit
+returns-in_ok-answer-in-None-clause-fit c = c.answer_conflict.ensures.fit c.args.s.now.variables
+    c.requires.searching.fit

@@ -17,8 +17,10 @@ returns-clause-searching c =
     let room = ap (λ (t : Trailed). t.room) c.push.ensures.is in
     record {
       fit = c.requires.searching.fit;
-      sound = subst (IsSound (live_in s.clauses.clauses)) (sym steps) (record { free = c.requires.free; reasoned = c.requires.closed }, c.requires.searching.sound);
-      guided = subst (IsGuided c.args.log.now.entries c.args.assumptions.now) (sym steps) (record { named = λ _. c.requires.named; chosen = λ _. c.requires.chosen }, c.requires.searching.guided);
+      sound = subst (IsSound (live_in s.clauses.clauses)) (sym steps)
+          (record { free = c.requires.free; reasoned = c.requires.closed }, c.requires.searching.sound);
+      guided = subst (IsGuided c.args.log.now.entries c.args.assumptions.now) (sym steps)
+          (record { named = λ _. c.requires.named; chosen = λ _. c.requires.chosen }, c.requires.searching.guided);
       room = let r = c.requires.searching.room in omega (arith, r, room);
       marks = let m = c.requires.searching.marks in omega (arith, m, room);
     }

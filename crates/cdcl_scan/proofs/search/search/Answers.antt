@@ -6,7 +6,8 @@ use Rattle.learning_trail.proofs.SearchTurns.{assumptions_same, learned_both, fo
 use Rattle.cdcl_scan.proofs.search.search.Goals as goal
 
 pub turn-requires-clause-assumptions : goal.turn-requires-clause-assumptions
-turn-requires-clause-assumptions c = assumptions_same c.args.log.now c.turns.log c.args.assumptions.now c.turns.invariant.learned c.requires.assumptions
+turn-requires-clause-assumptions c = assumptions_same c.args.log.now c.turns.log c.args.assumptions.now
+    c.turns.invariant.learned c.requires.assumptions
 
 on_err : {X E : Type 0} (P : Type 0) (r : Result X E) → P → OnErr r P
 on_err P (Ok x) p = tt
@@ -21,7 +22,8 @@ pub turns-preserved : goal.turns-preserved
 turns-preserved c =
     let asm = c.args.assumptions.now in
     let turned : IsTurn asm c.turns.s c.turn.new.s c.turns.log c.turn.new.log =
-    subst (λ (o : Option Answer). MatchOption o (IsTurn asm c.turns.s c.turn.new.s c.turns.log c.turn.new.log) (λ f. IsAnswered asm c.turn.new.s c.turns.log c.turn.new.log f)) c.in-None.is c.in_ok-turn.ensures.ok in
+    subst (λ (o : Option Answer). MatchOption o (IsTurn asm c.turns.s c.turn.new.s c.turns.log c.turn.new.log)
+    (λ f. IsAnswered asm c.turn.new.s c.turns.log c.turn.new.log f)) c.in-None.is c.in_ok-turn.ensures.ok in
     let inv = c.turns.invariant in
     record {
       searching = turned.searching;
@@ -38,5 +40,7 @@ pub returns-in-Some-clause-ok : goal.returns-in-Some-clause-ok
 returns-in-Some-clause-ok c =
     let asm = c.args.assumptions.now in
     let found : IsAnswered asm c.turn.new.s c.turns.log c.turn.new.log c.in-Some.found =
-    subst (λ (o : Option Answer). MatchOption o (IsTurn asm c.turns.s c.turn.new.s c.turns.log c.turn.new.log) (λ f. IsAnswered asm c.turn.new.s c.turns.log c.turn.new.log f)) c.in-Some.is c.in_ok-turn.ensures.ok in
-    found_later asm (searched c.turn.new.s) c.args.log.now c.turns.log c.turn.new.log c.in-Some.found c.turns.invariant.learned found
+    subst (λ (o : Option Answer). MatchOption o (IsTurn asm c.turns.s c.turn.new.s c.turns.log c.turn.new.log)
+    (λ f. IsAnswered asm c.turn.new.s c.turns.log c.turn.new.log f)) c.in-Some.is c.in_ok-turn.ensures.ok in
+    found_later asm (searched c.turn.new.s) c.args.log.now c.turns.log c.turn.new.log c.in-Some.found
+    c.turns.invariant.learned found

@@ -5,7 +5,8 @@ use Rattle.cdcl_scan.proofs.search.turn.Goals as goal
 pub propagate-requires-clause-in_range : goal.propagate-requires-clause-in_range
 propagate-requires-clause-in_range c =
     let s = c.args.s.now in
-    clauses_in_room s.clauses.clauses s.variables s.trail.room c.args.log.now.entries c.requires.searching.fit c.requires.searching.room
+    clauses_in_room s.clauses.clauses s.variables s.trail.room c.args.log.now.entries c.requires.searching.fit
+    c.requires.searching.room
 
 pub conflict-requires-clause-searching : goal.conflict-requires-clause-searching
 conflict-requires-clause-searching c =
@@ -14,7 +15,8 @@ conflict-requires-clause-searching c =
     record {
       fit = r.fit;
       sound = c.propagate.ensures.sound;
-      guided = guided_grown c.args.log.now.entries c.args.assumptions.now s.trail.steps c.propagate.new.trail.steps c.propagate.ensures.grown r.guided;
+      guided = guided_grown c.args.log.now.entries c.args.assumptions.now s.trail.steps c.propagate.new.trail.steps
+          c.propagate.ensures.grown r.guided;
       room = let k = r.room in let e = c.propagate.ensures.room in omega (arith, k, e);
       marks = let k = r.marks in let e = c.propagate.ensures.room in omega (arith, k, e);
     }
@@ -26,7 +28,8 @@ go_on-requires-clause-searching c =
     record {
       fit = r.fit;
       sound = c.propagate.ensures.sound;
-      guided = guided_grown c.args.log.now.entries c.args.assumptions.now s.trail.steps c.propagate.new.trail.steps c.propagate.ensures.grown r.guided;
+      guided = guided_grown c.args.log.now.entries c.args.assumptions.now s.trail.steps c.propagate.new.trail.steps
+          c.propagate.ensures.grown r.guided;
       room = let k = r.room in let e = c.propagate.ensures.room in omega (arith, k, e);
       marks = let k = r.marks in let e = c.propagate.ensures.room in omega (arith, k, e);
     }

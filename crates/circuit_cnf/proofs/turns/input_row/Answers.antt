@@ -10,5 +10,8 @@ loop-place-preserved g c =
     let values = g.O.Oracle.values c.args.oracle.now in
     let i = c.loop-place.place in
     let d = positive 0 in
-    written_more (λ k. values (variable_of k)) inputs (replicate (length inputs) false) c.loop-place.row c.set.new.self i c.index-inputs-place.result c.loop-place-test.true (length-replicate (length inputs) false) c.loop-place.invariant
-    (c.set.ensures ∙ ap (set c.loop-place.row i) (c.value.ensures ∙ ap values (c.var.ensures.value ∙ ap variable_of c.index-inputs-place.is)))
+    written_more (λ k. values (variable_of k)) inputs (replicate (length inputs) false) c.loop-place.row c.set.new.self
+    i c.index-inputs-place.result c.loop-place-test.true
+    (length-replicate (length inputs) false) c.loop-place.invariant
+    (c.set.ensures ∙ ap (set c.loop-place.row i) (c.value.ensures ∙ ap values
+    (c.var.ensures.value ∙ ap variable_of c.index-inputs-place.is)))

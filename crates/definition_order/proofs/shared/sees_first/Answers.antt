@@ -9,11 +9,13 @@ returns-in-FirstOf c = λ e known.
     let f = c.args.f.now in
     let us = f.universals in
     firsts_tested f c.every_formula_is_lawful.ensures c.args.count c.in-FirstOf.n c.args.y e known
-    (ap (dependencies us) (sym c.in-FirstOf.is) ∙ seen_as f c.args.y (dependencies us c.deps_of.result.now) c.deps_of.ensures.set e known) c.requires.few
+    (ap (dependencies us) (sym c.in-FirstOf.is) ∙ seen_as f c.args.y
+    (dependencies us c.deps_of.result.now) c.deps_of.ensures.set e known) c.requires.few
 
 pub returns-in-Listed : goal.returns-in-Listed
 returns-in-Listed c = λ e known.
     let f = c.args.f.now in
     let us = f.universals in
     seen_told c.items.result.now e.sees (take c.args.count us) c.begins_with_first.result
-    (c.items.ensures ∙ ap (dependencies us) (sym c.in-Listed.is) ∙ seen_as f c.args.y (dependencies us c.deps_of.result.now) c.deps_of.ensures.set e known) c.begins_with_first.ensures
+    (c.items.ensures ∙ ap (dependencies us) (sym c.in-Listed.is) ∙ seen_as f c.args.y
+    (dependencies us c.deps_of.result.now) c.deps_of.ensures.set e known) c.begins_with_first.ensures

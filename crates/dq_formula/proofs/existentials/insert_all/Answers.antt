@@ -11,12 +11,15 @@ loop-number-preserved c =
     let done = c.loop-number.numbers in
     let x = get_or more i 0 in
     let next : drop i more ≡ x ∷ drop (i + 1) more = drop_more more i 0 c.loop-number-test.true in
-    let whole : done ++ x ∷ drop (i + 1) more ≡ c.args.numbers.now ++ more = ap (λ rest. done ++ rest) (sym next) ∙ c.loop-number.invariant in
+    let whole : done ++ x ∷ drop (i + 1) more ≡ c.args.numbers.now ++ more =
+    ap (λ rest. done ++ rest) (sym next) ∙ c.loop-number.invariant in
     let absent = new_here done x (drop (i + 1) more) (subst (IsDistinct eqb) (sym whole) c.requires) in
     let added : c.insert.new.self ≡ done ++ x ∷ [] = c.in_ok-insert.ensures.numbers ∙ with_absent done x absent in
     ap (λ xs. xs ++ drop (i + 1) more) added ∙ append_assoc done (x ∷ []) (drop (i + 1) more) ∙ whole
 
 pub returns : goal.returns
 returns c =
-    let none : drop c.loop-number.number-index c.args.more.now ≡ [] = drop_all c.loop-number.number-index c.args.more.now c.loop-number-test.false in
-    sym (append-nil c.loop-number.numbers) ∙ ap (λ rest. c.loop-number.numbers ++ rest) (sym none) ∙ c.loop-number.invariant
+    let none : drop c.loop-number.number-index c.args.more.now ≡ [] =
+    drop_all c.loop-number.number-index c.args.more.now c.loop-number-test.false in
+    sym (append-nil c.loop-number.numbers) ∙ ap (λ rest. c.loop-number.numbers ++ rest) (sym none)
+    ∙ c.loop-number.invariant

@@ -7,4 +7,5 @@ insert_all-requires c = rw c.new-numbers.ensures (distinct_left c.args.xs.now c.
 
 pub returns : goal.returns
 returns c =
-    c.in_ok-insert_all-2.ensures ∙ ap (λ xs. xs ++ c.args.ys.now) (c.in_ok-insert_all.ensures ∙ ap (λ none. none ++ c.args.xs.now) c.new-numbers.ensures)
+    c.in_ok-insert_all-2.ensures ∙ ap (λ xs. xs ++ c.args.ys.now)
+    (c.in_ok-insert_all.ensures ∙ ap (λ none. none ++ c.args.xs.now) c.new-numbers.ensures)

@@ -8,7 +8,12 @@ returns-then-not-stands_at c =
     let xs = c.args.xs.now in
     let ys = c.args.ys.now in
     let i = c.loop-x.x-index in
-    let walked : IsWalked xs ys i c.loop-x.at = record { within = c.loop-x.invariant.within; found = c.loop-x.invariant.found; passed = c.loop-x.invariant.passed } in
+    let walked : IsWalked xs ys i c.loop-x.at = record {
+      within = c.loop-x.invariant.within;
+      found =
+          c.loop-x.invariant.found;
+      passed = c.loop-x.invariant.passed;
+    } in
     let first : IsFirstFrom ys c.loop-x.at c.first_from-at.result (get_or xs i 0) = record {
       start = c.first_from-at.ensures.start;
       end = c.first_from-at.ensures.end;
@@ -16,7 +21,9 @@ returns-then-not-stands_at c =
       here = c.first_from-at.ensures.here;
     } in (
       (λ h. absurd (true≢false (sym h))),
-      (λ all. absurd (not_contained xs ys i c.loop-x.at c.first_from-at.result (get_or xs i 0) c.requires.second walked first c.loop-x-test.true refl (λ h. true≢false (sym (c.stands_at.ensures.1 h) ∙ c.if-not-stands_at.true)) all)),
+      (λ all. absurd (not_contained xs ys i c.loop-x.at c.first_from-at.result
+          (get_or xs i 0) c.requires.second walked first c.loop-x-test.true refl
+          (λ h. true≢false (sym (c.stands_at.ensures.1 h) ∙ c.if-not-stands_at.true)) all)),
     )
 
 pub loop-x-preserved : goal.loop-x-preserved
@@ -24,15 +31,25 @@ loop-x-preserved c =
     let xs = c.args.xs.now in
     let ys = c.args.ys.now in
     let i = c.loop-x.x-index in
-    let walked : IsWalked xs ys i c.loop-x.at = record { within = c.loop-x.invariant.within; found = c.loop-x.invariant.found; passed = c.loop-x.invariant.passed } in
+    let walked : IsWalked xs ys i c.loop-x.at = record {
+      within = c.loop-x.invariant.within;
+      found =
+          c.loop-x.invariant.found;
+      passed = c.loop-x.invariant.passed;
+    } in
     let first : IsFirstFrom ys c.loop-x.at c.first_from-at.result (get_or xs i 0) = record {
       start = c.first_from-at.ensures.start;
       end = c.first_from-at.ensures.end;
       below = c.first_from-at.ensures.below;
       here = c.first_from-at.ensures.here;
     } in
-    let next = walked_more xs ys i c.loop-x.at c.first_from-at.result (get_or xs i 0) c.requires.first walked first c.loop-x-test.true refl (c.stands_at.ensures.0 c.if-not-stands_at.false) in
+    let next = walked_more xs ys i c.loop-x.at c.first_from-at.result
+    (get_or xs i 0) c.requires.first walked first c.loop-x-test.true refl
+    (c.stands_at.ensures.0 c.if-not-stands_at.false) in
     record { within = next.within; found = next.found; passed = next.passed }
 
 pub returns : goal.returns
-returns c = ((λ _. rw (take_all c.loop-x.x-index c.args.xs.now c.loop-x-test.false) at c.loop-x.invariant.found), (λ _. refl))
+returns c = (
+  (λ _. rw (take_all c.loop-x.x-index c.args.xs.now c.loop-x-test.false) at c.loop-x.invariant.found),
+  (λ _. refl),
+)

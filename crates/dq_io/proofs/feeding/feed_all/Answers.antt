@@ -16,11 +16,13 @@ loop-count-preserved g c =
     let size : length piece ≡ n = length-take n c.read.new.buf ∙ whole in
     record {
       fed = k.fed ++ piece;
-      stands = λ text h. subst (λ xs. g.T.Feed.stands c.feed.new.self xs) (append_assoc text k.fed piece) (c.feed.ensures (text ++ k.fed) (k.stands text h));
+      stands = λ text h. subst (λ xs. g.T.Feed.stands c.feed.new.self xs) (append_assoc text k.fed piece)
+          (c.feed.ensures (text ++ k.fed) (k.stands text h));
       count = length-append k.fed piece ∙ ap (λ m. m + length piece) k.count ∙ ap (λ m. c.loop-count.given + m) size;
       given = c.in-Ok.ensures.given ∙ ap (λ m. m + n) k.given;
       within = search rules;
-      told = in_two k.fed piece (g.F.Files.rest c.read.new.self) ∙ ap (prepend_known k.fed) c.in-Ok.ensures.moved ∙ k.told;
+      told = in_two k.fed piece (g.F.Files.rest c.read.new.self) ∙ ap (prepend_known k.fed) c.in-Ok.ensures.moved
+          ∙ k.told;
       unfaulted = search rules;
       held = search rules;
       picked = search rules;

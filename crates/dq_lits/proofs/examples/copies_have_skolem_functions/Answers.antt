@@ -29,13 +29,20 @@ inputs_are_skolem : AreSkolemFunctions two_copies inputs
 inputs_are_skolem = record {
   supported = All-from_recursion (λ y. IsSupported (inputs y)) two_copies.existentials
       (λ m n agree. agree 0 0 (lit< tt), (λ m n agree. agree 0 0 (lit< tt), tt));
-  reads_declared = All-from_recursion (λ y. All (Contains y.sees) (inputs y).support) two_copies.existentials
-      (All-from_recursion (Contains (1 ∷ [])) (1 ∷ []) ((0, lit< tt, refl), tt), (All-from_recursion (Contains (2 ∷ [])) (2 ∷ []) ((0, lit< tt, refl), tt), tt));
+  reads_declared = All-from_recursion (λ y. All (Contains y.sees) (inputs y).support) two_copies.existentials (
+    All-from_recursion (Contains (1 ∷ [])) (1 ∷ []) ((0, lit< tt, refl), tt),
+    (All-from_recursion (Contains (2 ∷ [])) (2 ∷ []) ((0, lit< tt, refl), tt), tt),
+  );
   holds = λ m values.
       let third : m 3 ≡ m 1 = values 0 nobody (lit< tt) in
       let fourth : m 4 ≡ m 2 = values 1 nobody (lit< tt) in
-      All-from_recursion (λ clause. clause_true m clause ≡ true) two_copies.matrix
-      (implied (m 3) (m 1) third, (implies (m 3) (m 1) third, (implied (m 4) (m 2) fourth, (implies (m 4) (m 2) fourth, tt))));
+      All-from_recursion (λ clause. clause_true m clause ≡ true) two_copies.matrix (
+        implied (m 3) (m 1) third,
+        (
+          implies (m 3) (m 1) third,
+          (implied (m 4) (m 2) fourth, (implies (m 4) (m 2) fourth, tt)),
+        ),
+      );
 }
 
 -- 3 doesn't see 2
@@ -61,6 +68,7 @@ returns-clause-foreign_read c h = unseen (h.reads_declared 0 nobody (lit< tt) 1 
 pub returns-clause-wrong_value : goal.returns-clause-wrong_value
 returns-clause-wrong_value c h =
     let m : Assignment = λ v. v == 3 in
-    let values = All-from_recursion (λ y. m y.variable ≡ (outputs_with (literal_output (negative 1) 1) y).value m) two_copies.existentials (refl, (refl, tt)) in
+    let values = All-from_recursion (λ y. m y.variable ≡ (outputs_with (literal_output (negative 1) 1) y).value m)
+    two_copies.existentials (refl, (refl, tt)) in
     let clause : false ≡ true = h.holds m values 1 [] (lit< tt) in
     cc

@@ -7,4 +7,5 @@ returns-in-Ok c text stands = (c.in-Ok.ensures.spelled text stands, c.in-Ok.ensu
 
 pub returns-in-Err-Refused : goal.returns-in-Err-Refused
 returns-in-Err-Refused c text stands =
-    refused_of (reading text) c.in-Err-Refused.field-0 c.in-Err-Refused.line c.in-Err-Refused.name c.in-Err-Refused.field-0-is (c.in-Err-Refused.ensures.exact text stands)
+    refused_of (reading text) c.in-Err-Refused.field-0 c.in-Err-Refused.line c.in-Err-Refused.name
+    c.in-Err-Refused.field-0-is (c.in-Err-Refused.ensures.exact text stands)

@@ -10,7 +10,8 @@ pub returns-clause-token : goal.returns-clause-token
 returns-clause-token c =
     let cursor = c.args.cursor.now in
     cut_parts cursor.place cursor.line cursor.at cursor.rest.now c.split_at.result.0.now c.split_at.result.1.now
-    c.separator_free_length.result (length c.split_at.result.0.now) c.requires.at_token c.requires.not_at_end c.separator_free_length.ensures
+    c.separator_free_length.result (length c.split_at.result.0.now) c.requires.at_token c.requires.not_at_end
+    c.separator_free_length.ensures
     c.split_at.ensures.front c.split_at.ensures.back c.split_at.ensures.front_len
 
 pub returns-clause-lines : goal.returns-clause-lines

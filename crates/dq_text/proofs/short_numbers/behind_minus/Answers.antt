@@ -11,4 +11,5 @@ returns c =
     let others = c.in_ok-value.behind.now in
     let some : 1 ≤ value = omega (arith, c.if-value-eq0.false) in
     negative_begins c.args.digits.now others value some c.in_ok-value.ensures
-    ∙ ap (λ n. Int n ∷ map number_of (line_tokens others)) (sym (above_limit c.negated.result value c.in_ok-value.ensures.small c.negated.ensures))
+    ∙ ap (λ n. Int n ∷ map number_of (line_tokens others)) (sym
+    (above_limit c.negated.result value c.in_ok-value.ensures.small c.negated.ensures))

@@ -20,10 +20,16 @@ overflow_mul-value c =
 pub overflow_add-value : goal.overflow_add-value
 overflow_add-value c =
     let inside : c.loop-i.i < 18 = omega (arith, c.loop-i-test.true, c.requires) in
-    let digit : c.from.result ≤ 9 = grind (arith, c.from.ensures, c.if-not-is_ascii_digit.ensures, c.if-not-is_ascii_digit.false) in
+    let digit : c.from.result ≤ 9 = grind (
+      arith,
+      c.from.ensures,
+      c.if-not-is_ascii_digit.ensures,
+      c.if-not-is_ascii_digit.false,
+    ) in
     omega (arith, digit_fits c.loop-i.i c.loop-i.value c.from.result inside c.loop-i.invariant.below digit)
 
 pub returns : goal.returns
 returns c =
     let whole : length c.args.bytes.now ≡ c.loop-i.i = omega (arith, c.loop-i-test.false, c.loop-i.auto.i-end) in
-    leading_whole c.args.bytes.now c.loop-i.i c.loop-i.value whole c.requires c.loop-i.invariant.are c.loop-i.invariant.value c.loop-i.invariant.below
+    leading_whole c.args.bytes.now c.loop-i.i c.loop-i.value whole c.requires c.loop-i.invariant.are
+    c.loop-i.invariant.value c.loop-i.invariant.below

@@ -10,4 +10,5 @@ returns c =
     let value = c.in_ok-value.value in
     let others = c.in_ok-value.behind.now in
     natural_begins c.args.bytes.now others value c.in_ok-value.ensures
-    ∙ ap (λ n. Int n ∷ map number_of (line_tokens others)) (sym (below_limit c.as_signed.result value c.in_ok-value.ensures.small c.as_signed.ensures))
+    ∙ ap (λ n. Int n ∷ map number_of (line_tokens others)) (sym
+    (below_limit c.as_signed.result value c.in_ok-value.ensures.small c.as_signed.ensures))

@@ -13,4 +13,5 @@ returns c =
     let within = run-le bytes in
     let short : n < length bytes = search (arith, within) in
     cut_whole c.args.pieces.now bytes c.split_at.result.0.now c.split_at.result.1.now n
-    (search rules) c.separator_free_length-length.ensures short c.split_at.ensures.front c.split_at.ensures.back c.split_at.ensures.front_len
+    (search rules) c.separator_free_length-length.ensures short c.split_at.ensures.front c.split_at.ensures.back
+    c.split_at.ensures.front_len

@@ -10,9 +10,13 @@ pub returns : goal.returns
 returns c =
     let flagless_is : app_of c.disable_version_flag.result ≡ flagless (codes "dqcheck") =
     ap app_of_fields c.disable_version_flag.ensures
-    ∙ ap (λ (f : Command-F Command). app_of_fields (record f { disable_version_flag = true })) c.disable_help_flag.ensures
-    ∙ ap (on_top (λ (top : Shape). record top { disable_help_flag = true; disable_version_flag = true })) c.new.ensures.app in
+    ∙ ap (λ (f : Command-F Command). app_of_fields (record f { disable_version_flag = true }))
+    c.disable_help_flag.ensures
+    ∙ ap (on_top (λ (top : Shape). record top { disable_help_flag = true; disable_version_flag = true }))
+    c.new.ensures.app in
     let formula_is : app_of c.in_ok-arg.field-0 ≡ with_rule (flagless (codes "dqcheck")) _ =
-    c.in_ok-arg.ensures.shape c.file_argument-formula.ensures.local ∙ ap₂ with_rule flagless_is c.file_argument-formula.ensures.rule in
+    c.in_ok-arg.ensures.shape c.file_argument-formula.ensures.local
+    ∙ ap₂ with_rule flagless_is c.file_argument-formula.ensures.rule in
     IfOk-weaker c.arg-2.result _ _
-    (λ command added. added.shape c.file_argument-certificate.ensures.local ∙ ap₂ with_rule formula_is c.file_argument-certificate.ensures.rule) c.arg-2.ensures
+    (λ command added. added.shape c.file_argument-certificate.ensures.local
+    ∙ ap₂ with_rule formula_is c.file_argument-certificate.ensures.rule) c.arg-2.ensures

@@ -7,12 +7,14 @@ use Rattle.dqcheck_words.proofs.names.file_names.Goals as goal
 
 pub names_in-requires : goal.names_in-requires
 names_in-requires c =
-    (parse_gives (app_of c.in_ok-command.command) (map string_bytes c.args.words.now) (rows_of (found_of c.in-Ok.matches))
+    (parse_gives (app_of c.in_ok-command.command) (map string_bytes c.args.words.now)
+    (rows_of (found_of c.in-Ok.matches))
     c.in_ok-command.ensures c.in-Ok.ensures.kinds c.in-Ok.ensures.matches).names
 
 pub returns-in-Ok : goal.returns-in-Ok
 returns-in-Ok c =
-    (parse_gives (app_of c.in_ok-command.command) (map string_bytes c.args.words.now) (rows_of (found_of c.in-Ok.matches))
+    (parse_gives (app_of c.in_ok-command.command) (map string_bytes c.args.words.now)
+    (rows_of (found_of c.in-Ok.matches))
     c.in_ok-command.ensures c.in-Ok.ensures.kinds c.in-Ok.ensures.matches).command ∙ ap Some c.names_in.ensures
 
 pub returns : goal.returns

@@ -8,9 +8,11 @@ use Rattle.dqcheck_words.proofs.names.names_in.Goals as goal
 pub unreachable-requires : goal.unreachable-requires
 unreachable-requires c = elim c.in_default.branch [
   | in_default-via-in-Some+in_default w ↦
-      name_there c.get_str-2.result (found_of c.args.matches.now) (codes "CERT") c.get_str-2.ensures c.requires.1 w.in_default.is-1
+      name_there c.get_str-2.result (found_of c.args.matches.now)
+      (codes "CERT") c.get_str-2.ensures c.requires.1 w.in_default.is-1
   | in_default-via-in_default w ↦
-      name_there c.get_str.result (found_of c.args.matches.now) (codes "FORMULA") c.get_str.ensures c.requires.0 w.in_default.is-0
+      name_there c.get_str.result (found_of c.args.matches.now)
+      (codes "FORMULA") c.get_str.ensures c.requires.0 w.in_default.is-0
 ]
 
 abbrev names : List ℕ → List ℕ → Command

@@ -14,7 +14,8 @@ returns-clause-unique c text f g one other =
     let same : Ok f ≡ Ok g = sym (spelled_is_read text f one) ∙ spelled_is_read text g other in
     cc
 
-by_result : (text : List ℕ) (r : Result Dqbf TextFault) → reading text ≡ r → ((f : Dqbf) × SpellsFormula text f) ⊎ ((fault : TextFault) × (reading text ≡ Err fault))
+by_result : (text : List ℕ) (r : Result Dqbf TextFault) → reading text ≡ r →
+    ((f : Dqbf) × SpellsFormula text f) ⊎ ((fault : TextFault) × (reading text ≡ Err fault))
 by_result text (Ok f) h = inl (f, read_is_spelled text f h)
 by_result text (Err fault) h = inr (fault, h)
 

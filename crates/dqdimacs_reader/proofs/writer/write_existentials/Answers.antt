@@ -10,15 +10,18 @@ write_existential-requires c =
     let f = c.args.f.now in
     let vars = c.existentials-existentials.result.now in
     is_some (existential_of f (get_or vars c.loop-i.i 0)) (existential_at f c.loop-i.i)
-    (named_in f vars c.loop-i.i c.every_formula_is_lawful.ensures.named c.existentials-existentials.ensures c.loop-i-test.true)
+    (named_in f vars c.loop-i.i c.every_formula_is_lawful.ensures.named c.existentials-existentials.ensures
+    c.loop-i-test.true)
 
 pub loop-i-preserved : goal.loop-i-preserved
 loop-i-preserved c =
     let f = c.args.f.now in
     let i = c.loop-i.i in
     let vars = c.existentials-existentials.result.now in
-    let named = named_in f vars i c.every_formula_is_lawful.ensures.named c.existentials-existentials.ensures c.loop-i-test.true in
+    let named = named_in f vars i c.every_formula_is_lawful.ensures.named c.existentials-existentials.ensures
+    c.loop-i-test.true in
     let is = is_of f vars i c.existentials-existentials.ensures c.loop-i-test.true in
     let grown = c.in_ok-write_existential.ensures (existential_at f i) named is in
-    one_more (existential_text f.universals) f.existentials i (unseeing 0) c.loop-i.text.items c.write_existential.new.text.items
+    one_more (existential_text f.universals) f.existentials i
+    (unseeing 0) c.loop-i.text.items c.write_existential.new.text.items
     _ (below_existentials f vars i c.existentials-existentials.ensures c.loop-i-test.true) grown c.loop-i.invariant

@@ -17,12 +17,15 @@ returns-then-first-second c =
     let m = row_assignment c.args.f.now c.args.r1.now in
     let n = row_assignment c.args.f.now c.args.r2.now in
     let many = length-dependencies us c.deps_of-deps.result.now c.deps_of-deps.ensures.form in
-    let below : c.loop-i.i < length ds = (let test = c.loop-i-test.true in let end = c.count-i-end.ensures in omega (arith, test, end, many)) in
+    let below : c.loop-i.i < length ds = (let test = c.loop-i-test.true in let end = c.count-i-end.ensures in
+    omega (arith, test, end, many)) in
     let set = set_is (existential_of c.args.f.now c.args.y) ds c.requires.declared c.deps_of-deps.ensures.set in
     let first : c.seen_bit-first.result ≡ get_or (map m ds) c.loop-i.i false = c.seen_bit-first.ensures in
     let second : c.seen_bit-second.result ≡ get_or (map n ds) c.loop-i.i false = c.seen_bit-second.ensures in
-    c.cmp.ensures ∙ ap (λ a. bool_cmp a c.seen_bit-second.result) first ∙ ap (bool_cmp (get_or (map m ds) c.loop-i.i false)) second
-    ∙ cmp_from_difference (map m ds) (map n ds) c.loop-i.i (let l = length-map ds m in omega (arith, below, l)) (let l = length-map ds n in omega (arith, below, l)) c.loop-i.invariant
+    c.cmp.ensures ∙ ap (λ a. bool_cmp a c.seen_bit-second.result) first ∙ ap
+    (bool_cmp (get_or (map m ds) c.loop-i.i false)) second
+    ∙ cmp_from_difference (map m ds) (map n ds) c.loop-i.i (let l = length-map ds m in omega (arith, below, l))
+    (let l = length-map ds n in omega (arith, below, l)) c.loop-i.invariant
     (λ e. differs c.seen_bit-first.result c.seen_bit-second.result c.if-first-second.true (first ∙ e ∙ sym second))
     ∙ ap (λ xs. bits_cmp (map m xs) (map n xs)) set
 
@@ -35,5 +38,6 @@ returns c =
     let many = length-dependencies us c.deps_of-deps.result.now c.deps_of-deps.ensures.form in
     let set = set_is (existential_of c.args.f.now c.args.y) ds c.requires.declared c.deps_of-deps.ensures.set in
     cmp_from_places (map m ds) (map n ds) (length-map ds m ∙ sym (length-map ds n))
-    (λ k l. c.loop-i.invariant k (let a = length-map ds m in let test = c.loop-i-test.false in let end = c.count-i-end.ensures in omega (arith, l, a, many, test, end)))
+    (λ k l. c.loop-i.invariant k (let a = length-map ds m in let test = c.loop-i-test.false in let end =
+    c.count-i-end.ensures in omega (arith, l, a, many, test, end)))
     ∙ ap (λ xs. bits_cmp (map m xs) (map n xs)) set

@@ -10,7 +10,8 @@ pub returns-then-i-n : goal.returns-then-i-n
 returns-then-i-n c =
     let us = c.args.f.now.universals in
     let row = c.args.row.now in
-    let distinct = distinct_universals us (map variable c.args.f.now.existentials) c.every_formula_is_lawful.ensures.prefix.declared_once in
+    let distinct = distinct_universals us (map variable c.args.f.now.existentials)
+    c.every_formula_is_lawful.ensures.prefix.declared_once in
     let within = subst (IsDependencySet us) c.in-FirstOf.is c.requires.form in
     c.get.ensures ∙ bit-first us row c.in-FirstOf.n c.args.i distinct c.requires.row_length within c.if-i-n.true
     ∙ ap (λ deps. bit_of (map (assignment_of us row) (dependencies us deps)) c.args.i) (sym c.in-FirstOf.is)

@@ -7,7 +7,8 @@ invariant_of-self g c =
     let l = c.self.inside in
     let rest : c.len-rest.result - 1 ≡ length l.ends.items - 1 = omega (arith, c.len-rest.ensures, l.ends.ok.0) in
     let some : 0 < length l.ends.items = grind (arith, c.if-is_empty.ensures, l.ends.ok.0) in
-    (popped l.ends.items c.truncate-2.new.self.items c.deref.result.now l.items.items c.truncate.new.self.items (c.len-rest.result - 1) c.start_of-start.result rest some c.deref.ensures.value c.start_of-start.ensures
+    (popped l.ends.items c.truncate-2.new.self.items c.deref.result.now l.items.items c.truncate.new.self.items
+    (c.len-rest.result - 1) c.start_of-start.result rest some c.deref.ensures.value c.start_of-start.ensures
     c.truncate.ensures.items c.truncate-2.ensures.items c.self.invariant).0
 
 pub returns : goal.returns
@@ -15,5 +16,7 @@ returns g c =
     let l = c.self.inside in
     let rest : c.len-rest.result - 1 ≡ length l.ends.items - 1 = omega (arith, c.len-rest.ensures, l.ends.ok.0) in
     let some : 0 < length l.ends.items = grind (arith, c.if-is_empty.ensures, l.ends.ok.0) in
-    (popped l.ends.items c.truncate-2.new.self.items c.deref.result.now l.items.items c.truncate.new.self.items (c.len-rest.result - 1) c.start_of-start.result rest some c.deref.ensures.value c.start_of-start.ensures
-    c.truncate.ensures.items c.truncate-2.ensures.items c.self.invariant).1 ∙ ap (λ ls. take (length ls - 1) ls) c.self.view_is
+    (popped l.ends.items c.truncate-2.new.self.items c.deref.result.now l.items.items c.truncate.new.self.items
+    (c.len-rest.result - 1) c.start_of-start.result rest some c.deref.ensures.value c.start_of-start.ensures
+    c.truncate.ensures.items c.truncate-2.ensures.items c.self.invariant).1 ∙ ap
+    (λ ls. take (length ls - 1) ls) c.self.view_is

@@ -11,16 +11,19 @@ overflow_add-result c =
     let few = c.requires.few in
     let long = ap length c.universals.ensures in
     let many = length-map f.existentials variable in
-    let below = placed_below (existential_variables f) c.args.v c.in-Some.place (sym c.existential_place.ensures ∙ c.in-Some.is) in
+    let below = placed_below (existential_variables f) c.args.v c.in-Some.place
+    (sym c.existential_place.ensures ∙ c.in-Some.is) in
     omega (arith, few, long, many, below)
 
 pub unreachable-requires : goal.unreachable-requires
 unreachable-requires c =
     let f = c.args.f.now in
-    placed_nowhere f.universals (existential_variables f) c.args.v c.requires.no_universal (sym c.existential_place.ensures ∙ c.in-None.is) c.requires.declared
+    placed_nowhere f.universals (existential_variables f) c.args.v c.requires.no_universal
+    (sym c.existential_place.ensures ∙ c.in-None.is) c.requires.declared
 
 pub returns : goal.returns
 returns c =
     let f = c.args.f.now in
     ap (λ us. length us + c.in-Some.place) c.universals.ensures
-    ∙ placed_second f.universals (existential_variables f) c.args.v c.in-Some.place c.requires.no_universal (sym c.existential_place.ensures ∙ c.in-Some.is)
+    ∙ placed_second f.universals (existential_variables f) c.args.v c.in-Some.place c.requires.no_universal
+    (sym c.existential_place.ensures ∙ c.in-Some.is)

@@ -7,4 +7,5 @@ pub existential_input-requires-clause-no_universal : goal.existential_input-requ
 existential_input-requires-clause-no_universal c = sym c.universal_place.ensures ∙ c.in-None.is
 
 pub returns-in-Some : goal.returns-in-Some
-returns-in-Some c = placed_first c.args.f.now.universals (existential_variables c.args.f.now) c.args.v c.in-Some.place (sym c.universal_place.ensures ∙ c.in-Some.is)
+returns-in-Some c = placed_first c.args.f.now.universals (existential_variables c.args.f.now) c.args.v c.in-Some.place
+    (sym c.universal_place.ensures ∙ c.in-Some.is)

@@ -16,13 +16,16 @@ test_node-node_of-input-requires-clause-declared t c =
     let y = c.args.output.now.y in
     let v = variable_of c.args.test.input in
     some_existential f y (Contains (declared f) v) c.args.output.now.existential
-    (λ e known. read_is_declared f ranks c.every_formula_is_lawful.ensures y e known v (subst (MayRead f ranks e) c.var.ensures.value ((c.may_read.ensures e known).0 c.if-not-may_read.false)))
+    (λ e known. read_is_declared f ranks c.every_formula_is_lawful.ensures y e known v
+    (subst (MayRead f ranks e) c.var.ensures.value ((c.may_read.ensures e known).0 c.if-not-may_read.false)))
 
 pub test_node-returns-in_err-zero-clause-extends : goal.test_node-returns-in_err-zero-clause-extends
-test_node-returns-in_err-zero-clause-extends t c = grown_twice c.args.graph.now c.side_node.new.graph c.side_node-2.new.graph c.side_node.ensures.extends c.side_node-2.ensures.extends
+test_node-returns-in_err-zero-clause-extends t c = grown_twice c.args.graph.now c.side_node.new.graph
+    c.side_node-2.new.graph c.side_node.ensures.extends c.side_node-2.ensures.extends
 
 pub test_node-returns-in_default-2-clause-extends : goal.test_node-returns-in_default-2-clause-extends
-test_node-returns-in_default-2-clause-extends t c = grown_twice c.args.graph.now c.side_node.new.graph c.side_node-2.new.graph c.side_node.ensures.extends c.side_node-2.ensures.extends
+test_node-returns-in_default-2-clause-extends t c = grown_twice c.args.graph.now c.side_node.new.graph
+    c.side_node-2.new.graph c.side_node.ensures.extends c.side_node-2.ensures.extends
 
 pub test_node-mux-requires-clause-c : goal.test_node-mux-requires-clause-c
 test_node-mux-requires-clause-c t c =
@@ -34,7 +37,8 @@ test_node-mux-requires-clause-c t c =
     let inputs = c.side_node-2.ensures.extends.inputs ∙ c.side_node.ensures.extends.inputs ∙ c.requires.inputs in
     some_existential f y (IsNode graph c.node_of-input.result) c.args.output.now.existential (λ e known.
     subst (IsNode graph) (sym c.node_of-input.ensures) (literal_is_node f graph inputs c.args.test.input
-    (read_is_declared f ranks c.every_formula_is_lawful.ensures y e known v (subst (MayRead f ranks e) c.var.ensures.value ((c.may_read.ensures e known).0 c.if-not-may_read.false)))))
+    (read_is_declared f ranks c.every_formula_is_lawful.ensures y e known v
+    (subst (MayRead f ranks e) c.var.ensures.value ((c.may_read.ensures e known).0 c.if-not-may_read.false)))))
 
 pub test_node-mux-requires-clause-t : goal.test_node-mux-requires-clause-t
 test_node-mux-requires-clause-t t c =
@@ -42,7 +46,8 @@ test_node-mux-requires-clause-t t c =
     let ranks = c.args.output.now.ranks.now in
     let graph = c.side_node-2.new.graph in
     some_existential f c.args.output.now.y (IsNode graph c.in-Some.one) c.args.output.now.existential (λ e known.
-    let first = subst (λ found. IfSome found (IsDefinitionUnder f ranks c.side_node.new.graph (c.args.test.input ∷ c.args.path.now) e)) c.in-Some.is (c.in_ok-one.ensures.defines e known) in
+    let first = subst (λ found. IfSome found (IsDefinitionUnder f ranks c.side_node.new.graph
+    (c.args.test.input ∷ c.args.path.now) e)) c.in-Some.is (c.in_ok-one.ensures.defines e known) in
     c.side_node-2.ensures.extends.nodes c.in-Some.one first.is_node)
 
 pub test_node-mux-requires-clause-e : goal.test_node-mux-requires-clause-e
@@ -51,17 +56,20 @@ test_node-mux-requires-clause-e t c =
     let ranks = c.args.output.now.ranks.now in
     let graph = c.side_node-2.new.graph in
     some_existential f c.args.output.now.y (IsNode graph c.in-Some-2.zero) c.args.output.now.existential (λ e known.
-    (subst (λ found. IfSome found (IsDefinitionUnder f ranks graph (c.not.result ∷ c.args.path.now) e)) c.in-Some-2.is (c.in_ok-zero.ensures.defines e known)).is_node)
+    (subst (λ found. IfSome found (IsDefinitionUnder f ranks graph (c.not.result ∷ c.args.path.now) e)) c.in-Some-2.is
+    (c.in_ok-zero.ensures.defines e known)).is_node)
 
 pub test_node-returns-in_err-made-clause-extends : goal.test_node-returns-in_err-made-clause-extends
 test_node-returns-in_err-made-clause-extends t c =
     grown_twice c.args.graph.now c.side_node-2.new.graph c.mux.new.self
-    (grown_twice c.args.graph.now c.side_node.new.graph c.side_node-2.new.graph c.side_node.ensures.extends c.side_node-2.ensures.extends) c.mux.ensures.extends
+    (grown_twice c.args.graph.now c.side_node.new.graph c.side_node-2.new.graph c.side_node.ensures.extends
+    c.side_node-2.ensures.extends) c.mux.ensures.extends
 
 pub test_node-returns-clause-extends : goal.test_node-returns-clause-extends
 test_node-returns-clause-extends t c =
     grown_twice c.args.graph.now c.side_node-2.new.graph c.mux.new.self
-    (grown_twice c.args.graph.now c.side_node.new.graph c.side_node-2.new.graph c.side_node.ensures.extends c.side_node-2.ensures.extends) c.mux.ensures.extends
+    (grown_twice c.args.graph.now c.side_node.new.graph c.side_node-2.new.graph c.side_node.ensures.extends
+    c.side_node-2.ensures.extends) c.mux.ensures.extends
 
 pub test_node-returns-clause-defines : goal.test_node-returns-clause-defines
 test_node-returns-clause-defines t c = λ e known.
@@ -71,8 +79,13 @@ test_node-returns-clause-defines t c = λ e known.
     let l = c.args.test.input in
     let graph = c.side_node-2.new.graph in
     let inputs = c.side_node-2.ensures.extends.inputs ∙ c.side_node.ensures.extends.inputs ∙ c.requires.inputs in
-    let first = subst (λ found. IfSome found (IsDefinitionUnder f ranks c.side_node.new.graph (l ∷ path) e)) c.in-Some.is (c.in_ok-one.ensures.defines e known) in
-    let second = subst (λ found. IfSome found (IsDefinitionUnder f ranks graph (c.not.result ∷ path) e)) c.in-Some-2.is (c.in_ok-zero.ensures.defines e known) in
-    test_defines f ranks c.args.output.now.y e known path graph c.mux.new.self inputs c.every_formula_is_lawful.ensures l c.not.result c.node_of-input.result c.in-Some.one c.in-Some-2.zero c.in_ok-made.made c.not.ensures
-    (subst (MayRead f ranks e) c.var.ensures.value ((c.may_read.ensures e known).0 c.if-not-may_read.false)) c.node_of-input.ensures
-    (later f ranks c.side_node.new.graph graph (l ∷ path) e c.in-Some.one c.side_node-2.ensures.extends first) second c.in_ok-made.ensures.made
+    let first = subst (λ found. IfSome found (IsDefinitionUnder f ranks c.side_node.new.graph (l ∷ path) e))
+    c.in-Some.is (c.in_ok-one.ensures.defines e known) in
+    let second = subst (λ found. IfSome found (IsDefinitionUnder f ranks graph (c.not.result ∷ path) e)) c.in-Some-2.is
+    (c.in_ok-zero.ensures.defines e known) in
+    test_defines f ranks c.args.output.now.y e known path graph c.mux.new.self inputs c.every_formula_is_lawful.ensures
+    l c.not.result c.node_of-input.result c.in-Some.one c.in-Some-2.zero c.in_ok-made.made c.not.ensures
+    (subst (MayRead f ranks e) c.var.ensures.value ((c.may_read.ensures e known).0 c.if-not-may_read.false))
+    c.node_of-input.ensures
+    (later f ranks c.side_node.new.graph graph (l ∷ path) e c.in-Some.one c.side_node-2.ensures.extends first) second
+    c.in_ok-made.ensures.made

@@ -11,5 +11,7 @@ returns-in-Some-clause-defines c = λ e known.
     let f = c.args.output.now.f.now in
     let ranks = c.args.output.now.ranks.now in
     let new = c.branch_node.new.graph in
-    IfOk-weaker c.branch_node.result (λ found. IfSome found (IsDefinitionUnder f ranks new [] e)) (λ found. (node : Node) → found ≡ Some node → IsDefinition f ranks new e node)
-    (λ found under node is. whole f ranks new e node (subst (λ o. IfSome o (IsDefinitionUnder f ranks new [] e)) is under)) (c.branch_node.ensures.defines e known)
+    IfOk-weaker c.branch_node.result (λ found. IfSome found (IsDefinitionUnder f ranks new [] e))
+    (λ found. (node : Node) → found ≡ Some node → IsDefinition f ranks new e node)
+    (λ found under node is. whole f ranks new e node (subst (λ o. IfSome o (IsDefinitionUnder f ranks new [] e)) is
+    under)) (c.branch_node.ensures.defines e known)

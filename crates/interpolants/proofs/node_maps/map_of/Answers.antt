@@ -15,7 +15,9 @@ loop-pair-preserved c = λ n.
     elim c.if-is_none.branch [
       | then-is_none+in_ok-put w ↦
           ap (λ m. node_of m n) w.map-is
-          ∙ listed_now pairs i p c.loop-pair-test.true at c.loop-pair.map w.put.new.self c.loop-pair.invariant c.get.result c.get.ensures w.if-is_none.ensures w.in_ok-put.ensures n
+          ∙ listed_now pairs i p c.loop-pair-test.true at c.loop-pair.map w.put.new.self c.loop-pair.invariant
+          c.get.result c.get.ensures w.if-is_none.ensures w.in_ok-put.ensures n
       | else-is_none w ↦
-          ap (λ m. node_of m n) w.map-is ∙ listed_before pairs i p c.loop-pair-test.true at c.loop-pair.map c.loop-pair.map c.loop-pair.invariant c.get.result c.get.ensures w.if-is_none.ensures n
+          ap (λ m. node_of m n) w.map-is ∙ listed_before pairs i p c.loop-pair-test.true at c.loop-pair.map
+          c.loop-pair.map c.loop-pair.invariant c.get.result c.get.ensures w.if-is_none.ensures n
     ]

@@ -13,18 +13,34 @@ pub returns-then-is_on_side-clause-part : goal.returns-then-is_on_side-clause-pa
 returns-then-is_on_side-clause-part c =
     let q = partition_of c.args.split.now in
     let given : IsReachedGiven q c.args.at c.clause-clause.result.now =
-    record { reached = c.requires.reached; given = is_given (origin_at c.args.split.now.log.now.entries c.args.at) c.origin.result c.origin.ensures c.if-is_none.ensures; clause_is = c.clause-clause.ensures } in
-    part_of_clause q (local_of c.args.split.now) c.shared_part.new.graph c.args.at c.clause-clause.result.now c.in_ok-node-2.node c.clause-clause.ensures
-    (leaf_a q c.args.split.now.side.now.variables c.shared_part.new.graph c.args.at c.clause-clause.result.now c.in_ok-node-2.node c.requires.side.variables given
-    (sym (on_a_by_selectors q c.args.split.now.side.now.selectors c.requires.side.selectors c.clause-clause.result.now) ∙ sym c.is_on_side.ensures ∙ c.if-is_on_side.true) c.in_ok-node-2.ensures.part)
+    record {
+      reached = c.requires.reached;
+      given = is_given (origin_at c.args.split.now.log.now.entries c.args.at)
+          c.origin.result c.origin.ensures c.if-is_none.ensures;
+      clause_is = c.clause-clause.ensures;
+    } in
+    part_of_clause q (local_of c.args.split.now) c.shared_part.new.graph c.args.at c.clause-clause.result.now
+    c.in_ok-node-2.node c.clause-clause.ensures
+    (leaf_a q c.args.split.now.side.now.variables c.shared_part.new.graph c.args.at c.clause-clause.result.now
+    c.in_ok-node-2.node c.requires.side.variables given
+    (sym (on_a_by_selectors q c.args.split.now.side.now.selectors c.requires.side.selectors c.clause-clause.result.now)
+    ∙ sym c.is_on_side.ensures ∙ c.if-is_on_side.true) c.in_ok-node-2.ensures.part)
 
 pub returns-clause-part : goal.returns-clause-part
 returns-clause-part c =
     let q = partition_of c.args.split.now in
     let local = local_of c.args.split.now in
     let given : IsReachedGiven q c.args.at c.clause-clause.result.now =
-    record { reached = c.requires.reached; given = is_given (origin_at c.args.split.now.log.now.entries c.args.at) c.origin.result c.origin.ensures c.if-is_none.ensures; clause_is = c.clause-clause.ensures } in
+    record {
+      reached = c.requires.reached;
+      given = is_given (origin_at c.args.split.now.log.now.entries c.args.at)
+          c.origin.result c.origin.ensures c.if-is_none.ensures;
+      clause_is = c.clause-clause.ensures;
+    } in
     subst (IsPartOf q local c.args.graph.now c.args.at) (sym c.constant.ensures)
-    (part_of_clause q local c.args.graph.now c.args.at c.clause-clause.result.now (Constant true) c.clause-clause.ensures
-    (leaf_b q c.args.split.now.side.now.variables c.args.graph.now c.args.at c.clause-clause.result.now c.requires.side.variables c.requires.shares given
-    (sym (on_a_by_selectors q c.args.split.now.side.now.selectors c.requires.side.selectors c.clause-clause.result.now) ∙ sym c.is_on_side.ensures ∙ c.if-is_on_side.false)))
+    (part_of_clause q local c.args.graph.now c.args.at c.clause-clause.result.now
+    (Constant true) c.clause-clause.ensures
+    (leaf_b q c.args.split.now.side.now.variables c.args.graph.now c.args.at c.clause-clause.result.now
+    c.requires.side.variables c.requires.shares given
+    (sym (on_a_by_selectors q c.args.split.now.side.now.selectors c.requires.side.selectors c.clause-clause.result.now)
+    ∙ sym c.is_on_side.ensures ∙ c.if-is_on_side.false)))

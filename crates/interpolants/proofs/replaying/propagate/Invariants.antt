@@ -5,4 +5,5 @@ use Rattle.interpolants.specs.Replay.{IsReplaying}
 use Rattle.interpolants.proofs.replaying.propagate.Given as goal
 
 abbrev pub invariant-loop-hint : goal.invariant-loop-hint
-invariant-loop-hint l = IsReplaying (clause_at l.log.entries) (map opposite l.clause) l.hints l.hint-index l.trues l.chain
+invariant-loop-hint l = IsReplaying (clause_at l.log.entries)
+    (map opposite l.clause) l.hints l.hint-index l.trues l.chain

@@ -7,14 +7,22 @@ use Rattle.interpolants.proofs.shared.or_shared.Goals as goal
 pub or-requires-clause-b : goal.or-requires-clause-b
 or-requires-clause-b c =
     c.literal_node.ensures.node c.args.graph.now
-    (c.requires.nodes (variable_of c.args.l) c.in-Some.n (ap (node_of c.args.shared.now) (sym c.var.ensures.value) ∙ sym c.get.ensures ∙ c.in-Some.is))
+    (c.requires.nodes (variable_of c.args.l) c.in-Some.n (ap (node_of c.args.shared.now) (sym c.var.ensures.value)
+    ∙ sym c.get.ensures ∙ c.in-Some.is))
 
 pub returns-in_ok-made-in-Some-clause-more : goal.returns-in_ok-made-in-Some-clause-more
 returns-in_ok-made-in-Some-clause-more c = λ clause part.
-    let found : node_of c.args.shared.now (variable_of c.args.l) ≡ Some c.in-Some.n = ap (node_of c.args.shared.now) (sym c.var.ensures.value) ∙ sym c.get.ensures ∙ c.in-Some.is in
+    let found : node_of c.args.shared.now (variable_of c.args.l) ≡ Some c.in-Some.n =
+    ap (node_of c.args.shared.now) (sym c.var.ensures.value) ∙ sym c.get.ensures ∙ c.in-Some.is in
     let is : IsLiteralNode c.args.shared.now c.args.graph.now c.args.l c.in-Some.n c.literal_node.result =
-    record { node_is = found; value = c.literal_node.ensures.value c.args.graph.now; support = c.literal_node.ensures.support c.args.graph.now } in
-    shared_more c.args.shared.now c.args.graph.now c.or.new.self clause c.args.l c.args.node c.in-Some.n c.literal_node.result c.in_ok-made-in-Some.made
+    record {
+      node_is = found;
+      value = c.literal_node.ensures.value c.args.graph.now;
+      support =
+          c.literal_node.ensures.support c.args.graph.now;
+    } in
+    shared_more c.args.shared.now c.args.graph.now c.or.new.self clause c.args.l c.args.node c.in-Some.n
+    c.literal_node.result c.in_ok-made-in-Some.made
     c.or.ensures.extends c.requires.nodes is c.in_ok-made-in-Some.ensures.made part
 
 pub returns-in-None-clause-more : goal.returns-in-None-clause-more

@@ -5,15 +5,19 @@ use Rattle.interpolants.proofs.Steps.{extends_both}
 use Rattle.interpolants.proofs.shared.shared_part.Goals as goal
 
 pub returns-in_err-node-clause-extends : goal.returns-in_err-node-clause-extends
-returns-in_err-node-clause-extends c = extends_both c.args.graph.now c.loop-l.graph c.or_shared.new.graph c.loop-l.invariant.extends c.or_shared.ensures.extends
+returns-in_err-node-clause-extends c = extends_both c.args.graph.now c.loop-l.graph c.or_shared.new.graph
+    c.loop-l.invariant.extends c.or_shared.ensures.extends
 
 pub loop-l-preserved : goal.loop-l-preserved
 loop-l-preserved c =
     let xs = c.args.clause.now in
     let i = c.loop-l.l-index in
     record {
-      extends = extends_both c.args.graph.now c.loop-l.graph c.or_shared.new.graph c.loop-l.invariant.extends c.or_shared.ensures.extends;
+      extends = extends_both c.args.graph.now c.loop-l.graph c.or_shared.new.graph c.loop-l.invariant.extends
+          c.or_shared.ensures.extends;
       part =
-          subst (λ ls. IsSharedPart c.args.shared.now c.or_shared.new.graph ls c.in_ok-node.node) (sym (take_more xs i c.l-item.result c.loop-l-test.true ∙ ap (λ k. take i xs ++ k ∷ []) (sym c.l-item.is)))
+          subst (λ ls. IsSharedPart c.args.shared.now c.or_shared.new.graph ls c.in_ok-node.node)
+          (sym (take_more xs i c.l-item.result c.loop-l-test.true ∙ ap (λ k. take i xs ++ k ∷ [])
+          (sym c.l-item.is)))
           (c.in_ok-node.ensures.more (take i xs) c.loop-l.invariant.part);
     }

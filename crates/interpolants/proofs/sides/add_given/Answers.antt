@@ -10,13 +10,15 @@ use Rattle.interpolants.proofs.sides.add_given.Goals.{then-is_some+then-is_on_si
 pub origin-requires : goal.origin-requires
 origin-requires c =
     let ids = c.args.answer.now.ids.now in
-    c.reached_are_ids.ensures c.args.answer.now.log.now.entries c.args.answer.now.id (get_or ids c.loop-at.at-index 0) c.every_log_is_lawful.ensures c.requires.id
+    c.reached_are_ids.ensures c.args.answer.now.log.now.entries c.args.answer.now.id
+    (get_or ids c.loop-at.at-index 0) c.every_log_is_lawful.ensures c.requires.id
     (c.requires.ids.sound (get_or ids c.loop-at.at-index 0) (contains_place ids c.loop-at.at-index c.loop-at-test.true))
 
 pub clause-clause-requires : goal.clause-clause-requires
 clause-clause-requires c =
     let ids = c.args.answer.now.ids.now in
-    c.reached_are_ids.ensures c.args.answer.now.log.now.entries c.args.answer.now.id (get_or ids c.loop-at.at-index 0) c.every_log_is_lawful.ensures c.requires.id
+    c.reached_are_ids.ensures c.args.answer.now.log.now.entries c.args.answer.now.id
+    (get_or ids c.loop-at.at-index 0) c.every_log_is_lawful.ensures c.requires.id
     (c.requires.ids.sound (get_or ids c.loop-at.at-index 0) (contains_place ids c.loop-at.at-index c.loop-at-test.true))
 
 pub loop-at-preserved : goal.loop-at-preserved
@@ -30,25 +32,37 @@ loop-at-preserved c = λ assumed shared selectors first.
     elim c.if-is_some.branch [
       | then-is_some+then-is_on_side+in_ok-add_variables w ↦
           let given : IsReachedGiven q at w.clause-clause.result.now =
-          record { reached = reached; given = is_given (origin_at q.entries at) c.origin.result c.origin.ensures (sym c.is_some.ensures ∙ w.if-is_some.true); clause_is = w.clause-clause.ensures } in
+          record {
+            reached = reached;
+            given = is_given (origin_at q.entries at) c.origin.result c.origin.ensures
+                (sym c.is_some.ensures ∙ w.if-is_some.true);
+            clause_is = w.clause-clause.ensures;
+          } in
           subst (AreOfSome q (take (i + 1) ids)) (sym w.variables-is)
-          (some_more q ids i c.loop-at.variables w.add_variables.new.set w.clause-clause.result.now before c.loop-at-test.true given (sym (on_a_by_selectors q c.args.selectors.now selectors w.clause-clause.result.now) ∙ sym w.is_on_side.ensures ∙ w.if-is_on_side.true)
+          (some_more q ids i c.loop-at.variables w.add_variables.new.set w.clause-clause.result.now before
+          c.loop-at-test.true given (sym (on_a_by_selectors q c.args.selectors.now selectors
+          w.clause-clause.result.now) ∙ sym w.is_on_side.ensures ∙ w.if-is_on_side.true)
           w.in_ok-add_variables.ensures)
       | then-is_some+else-is_on_side w ↦
           subst (AreOfSome q (take (i + 1) ids)) (sym w.variables-is)
           (some_past q ids i c.loop-at.variables before c.loop-at-test.true (λ clause given on_a.
-          let same : clause ≡ w.clause-clause.result.now = some_is clause w.clause-clause.result.now (sym given.clause_is ∙ w.clause-clause.ensures) in
-          true≢false (sym on_a ∙ ap (is_on_a q) same ∙ sym (on_a_by_selectors q c.args.selectors.now selectors w.clause-clause.result.now) ∙ sym w.is_on_side.ensures ∙ w.if-is_on_side.false)))
+          let same : clause ≡ w.clause-clause.result.now = some_is clause w.clause-clause.result.now
+          (sym given.clause_is ∙ w.clause-clause.ensures) in
+          true≢false (sym on_a ∙ ap (is_on_a q) same ∙ sym (on_a_by_selectors q c.args.selectors.now selectors
+          w.clause-clause.result.now) ∙ sym w.is_on_side.ensures ∙ w.if-is_on_side.false)))
       | else-is_some w ↦
           subst (AreOfSome q (take (i + 1) ids)) (sym w.variables-is)
           (some_past q ids i c.loop-at.variables before c.loop-at-test.true (λ clause given on_a.
-          true≢false (sym (given_is (origin_at q.entries at) c.origin.result c.origin.ensures given.given) ∙ sym c.is_some.ensures ∙ w.if-is_some.false)))
+          true≢false (sym (given_is (origin_at q.entries at) c.origin.result c.origin.ensures given.given)
+          ∙ sym c.is_some.ensures ∙ w.if-is_some.false)))
     ]
 
 pub returns : goal.returns
 returns c = λ assumed shared selectors first.
-    some_all (divided c.args.answer.now assumed shared) c.args.answer.now.ids.now c.loop-at.at-index c.loop-at.variables c.requires.ids c.loop-at-test.false
+    some_all (divided c.args.answer.now assumed shared) c.args.answer.now.ids.now c.loop-at.at-index c.loop-at.variables
+    c.requires.ids c.loop-at-test.false
     (c.loop-at.invariant assumed shared selectors first)
 
 pub loop-at-init : goal.loop-at-init
-loop-at-init c = λ assumed shared selectors first. some_first (divided c.args.answer.now assumed shared) c.args.variables.now first
+loop-at-init c = λ assumed shared selectors first. some_first
+    (divided c.args.answer.now assumed shared) c.args.variables.now first

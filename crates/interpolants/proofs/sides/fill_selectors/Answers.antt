@@ -11,12 +11,15 @@ loop-l-preserved c =
     let xs = c.args.lits.now in
     let i = c.loop-l.l-index in
     let x = c.l-item.result in
-    let is = ap (λ v. is_selector es v) (sym c.var.ensures.value) ∙ ap is_selector_name c.name.ensures ∙ sym c.is_selector.ensures in
+    let is = ap (λ v. is_selector es v) (sym c.var.ensures.value) ∙ ap is_selector_name c.name.ensures
+    ∙ sym c.is_selector.ensures in
     elim c.if-is_selector.branch [
       | then-is_selector+in_ok-add w ↦
           subst (AreSelectors es (take (i + 1) xs)) (sym w.set-is)
-          (selector_more xs i x c.loop-l-test.true (sym c.l-item.is) es c.loop-l.set c.loop-l.invariant w.add.new.self (is ∙ w.if-is_selector.true) w.in_ok-add.ensures)
+          (selector_more xs i x c.loop-l-test.true (sym c.l-item.is) es c.loop-l.set c.loop-l.invariant w.add.new.self
+          (is ∙ w.if-is_selector.true) w.in_ok-add.ensures)
       | else-is_selector w ↦
           subst (AreSelectors es (take (i + 1) xs)) (sym w.set-is)
-          (selector_past xs i x c.loop-l-test.true (sym c.l-item.is) es c.loop-l.set c.loop-l.invariant (is ∙ w.if-is_selector.false))
+          (selector_past xs i x c.loop-l-test.true (sym c.l-item.is) es c.loop-l.set c.loop-l.invariant
+          (is ∙ w.if-is_selector.false))
     ]

@@ -11,7 +11,8 @@ invariant-loop-at g l = record {
   long : l.end ≤ length l.steps;
   sorted : IsNonDecreasing l.notes.places;
   below : AreBelow l.fn.notes.marks l.steps l.notes.places l.at l.end;
-  trimmed : IsTrimmed (live_in (g.C.Clauses.clauses l.clauses)) l.trail.steps (reverse (take l.end l.steps)) l.fn.notes l.notes;
+  trimmed : IsTrimmed (live_in (g.C.Clauses.clauses l.clauses)) l.trail.steps
+      (reverse (take l.end l.steps)) l.fn.notes l.notes;
 }
 
 abbrev pub decreases-loop-at : goal.decreases-loop-at

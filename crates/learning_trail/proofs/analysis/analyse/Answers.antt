@@ -18,14 +18,17 @@ back_to_first-first-requires-clause-some g c =
     let steps = c.args.trail.now.steps in
     let k = conflict_of clauses c.args.conflict (literals_of steps) c.requires.conflict in
     let d = is_some_of (decision_of steps) c.requires.decided in
-    conflict_marked (live_in clauses) steps c.begin.new.notes.marks k.clause c.args.conflict d.0 c.requires.sound d.1 k.is k.false_now
-    (λ l m. c.begin.ensures.marked k.clause (variable_of l) k.is ∙ any_one (λ x. variable_of x == variable_of l) k.clause l m (eq-eqb (variable_of l) (variable_of l) refl))
+    conflict_marked (live_in clauses) steps c.begin.new.notes.marks k.clause c.args.conflict d.0 c.requires.sound d.1
+    k.is k.false_now
+    (λ l m. c.begin.ensures.marked k.clause (variable_of l) k.is ∙ any_one
+    (λ x. variable_of x == variable_of l) k.clause l m (eq-eqb (variable_of l) (variable_of l) refl))
 
 pub add_rest-requires-clause-sound : goal.add_rest-requires-clause-sound
 add_rest-requires-clause-sound g c =
     let live = live_in (g.C.Clauses.clauses c.args.clauses.now) in
     let point = c.back_to_first-first.ensures in
-    (sound_later live point.shrunk.popped (c.back_to_first-first.result ∷ c.back_to_first-first.new.trail.steps) (subst (IsSound live) point.shrunk.is c.requires.sound)).1
+    (sound_later live point.shrunk.popped (c.back_to_first-first.result ∷ c.back_to_first-first.new.trail.steps)
+    (subst (IsSound live) point.shrunk.is c.requires.sound)).1
 
 pub returns-clause-lesson : goal.returns-clause-lesson
 returns-clause-lesson g c =
@@ -38,10 +41,19 @@ returns-clause-lesson g c =
     let point = c.back_to_first-first.ensures in
     let k = conflict_of clauses c.args.conflict (literals_of old.steps) c.requires.conflict in
     let hints : reverse c.begin.new.notes.hints ≡ c.args.conflict ∷ [] = ap reverse c.begin.ensures.hints in
-    let sound = sound_later live point.shrunk.popped (step ∷ mid.steps) (subst (IsSound live) point.shrunk.is c.requires.sound) in
-    let added = c.add_literal.ensures ∙ ap (λ l. record { marks = found.marks; places = found.places; hints = found.hints; literals = found.literals ++ l ∷ [] }) c.not.ensures in
-    lesson_made live old mid step c.begin.new.notes found c.add_literal.new.self c.add_rest.new.notes c.turn.new.self sound c.begin.ensures.literals
+    let sound = sound_later live point.shrunk.popped (step ∷ mid.steps)
+    (subst (IsSound live) point.shrunk.is c.requires.sound) in
+    let added = c.add_literal.ensures ∙ ap (λ l. record {
+      marks = found.marks;
+      places = found.places;
+      hints =
+          found.hints;
+      literals = found.literals ++ l ∷ [];
+    }) c.not.ensures in
+    lesson_made live old mid step c.begin.new.notes found c.add_literal.new.self c.add_rest.new.notes c.turn.new.self
+    sound c.begin.ensures.literals
     (λ entries stand. subst (IsAnalysis entries live (literals_of old.steps) [] c.begin.new.notes.marks) (sym hints)
-    (analysis_first entries live c.begin.new.notes.marks (literals_of old.steps) k.clause c.args.conflict k.is k.false_now (λ l m. stand c.args.conflict k.clause l k.is m) (sound_consistent live old.steps c.requires.sound)
+    (analysis_first entries live c.begin.new.notes.marks (literals_of old.steps) k.clause c.args.conflict k.is
+    k.false_now (λ l m. stand c.args.conflict k.clause l k.is m) (sound_consistent live old.steps c.requires.sound)
     (λ v. c.begin.ensures.marked k.clause v k.is)))
     point added c.add_rest.ensures c.turn.ensures

@@ -10,47 +10,61 @@ use Rattle.learning_trail.proofs.analysis.back_to_first.Goals as goal
 pub returns-in-None : goal.returns-in-None
 returns-in-None g c =
     let step = c.in-Some.step in
-    backing_ends (live_in (g.C.Clauses.clauses c.args.clauses.now)) c.args.trail.now c.loop-step.trail c.pop.new.self c.args.notes.now c.loop-step.notes step c.loop-step.invariant
-    c.in-Some.ensures.steps c.pop.ensures.room (sym c.has.ensures ∙ c.if-has.true) (λ implied. absurd (false≢true (sym implied ∙ ap is_no_reason c.in-None.is)))
+    backing_ends (live_in (g.C.Clauses.clauses c.args.clauses.now)) c.args.trail.now c.loop-step.trail c.pop.new.self
+    c.args.notes.now c.loop-step.notes step c.loop-step.invariant
+    c.in-Some.ensures.steps c.pop.ensures.room (sym c.has.ensures ∙ c.if-has.true)
+    (λ implied. absurd (false≢true (sym implied ∙ ap is_no_reason c.in-None.is)))
 
 pub returns-then-not-is_level_marked : goal.returns-then-not-is_level_marked
 returns-then-not-is_level_marked g c =
     let step = c.in-Some.step in
     let none : is_level_marked c.loop-step.notes.marks c.pop.new.self.steps ≡ false =
-    ap (is_level_marked c.loop-step.notes.marks) (sym c.steps.ensures.value) ∙ sym c.is_level_marked.ensures ∙ c.if-not-is_level_marked.true in
-    backing_ends (live_in (g.C.Clauses.clauses c.args.clauses.now)) c.args.trail.now c.loop-step.trail c.pop.new.self c.args.notes.now c.loop-step.notes step c.loop-step.invariant
+    ap (is_level_marked c.loop-step.notes.marks) (sym c.steps.ensures.value) ∙ sym c.is_level_marked.ensures
+    ∙ c.if-not-is_level_marked.true in
+    backing_ends (live_in (g.C.Clauses.clauses c.args.clauses.now)) c.args.trail.now c.loop-step.trail c.pop.new.self
+    c.args.notes.now c.loop-step.notes step c.loop-step.invariant
     c.in-Some.ensures.steps c.pop.ensures.room (sym c.has.ensures ∙ c.if-has.true) (λ _. none)
 
 pub resolve-requires-clause-is_id : goal.resolve-requires-clause-is_id
 resolve-requires-clause-is_id g c =
     let live = live_in (g.C.Clauses.clauses c.args.clauses.now) in
     let step = c.in-Some.step in
-    let status = reason_at live c.loop-step.trail.steps c.pop.new.self.steps step c.in-Some-reason.reason c.loop-step.invariant.sound c.in-Some.ensures.steps c.in-Some-reason.is in
-    (reason_of (g.C.Clauses.clauses c.args.clauses.now) c.in-Some-reason.reason (literals_of c.pop.new.self.steps) step.literal status).is_id
+    let status = reason_at live c.loop-step.trail.steps c.pop.new.self.steps step c.in-Some-reason.reason
+    c.loop-step.invariant.sound c.in-Some.ensures.steps c.in-Some-reason.is in
+    (reason_of (g.C.Clauses.clauses c.args.clauses.now) c.in-Some-reason.reason
+    (literals_of c.pop.new.self.steps) step.literal status).is_id
 
 pub lits-requires-clause-is_id : goal.lits-requires-clause-is_id
 lits-requires-clause-is_id g c =
     let live = live_in (g.C.Clauses.clauses c.args.clauses.now) in
     let step = c.in-Some.step in
-    let status = reason_at live c.loop-step.trail.steps c.pop.new.self.steps step c.in-Some-reason.reason c.loop-step.invariant.sound c.in-Some.ensures.steps c.in-Some-reason.is in
-    (reason_of (g.C.Clauses.clauses c.args.clauses.now) c.in-Some-reason.reason (literals_of c.pop.new.self.steps) step.literal status).is_id
+    let status = reason_at live c.loop-step.trail.steps c.pop.new.self.steps step c.in-Some-reason.reason
+    c.loop-step.invariant.sound c.in-Some.ensures.steps c.in-Some-reason.is in
+    (reason_of (g.C.Clauses.clauses c.args.clauses.now) c.in-Some-reason.reason
+    (literals_of c.pop.new.self.steps) step.literal status).is_id
 
 pub loop-step-preserved-in-Some-reason : goal.loop-step-preserved-in-Some-reason
 loop-step-preserved-in-Some-reason g c =
     let live = live_in (g.C.Clauses.clauses c.args.clauses.now) in
     let step = c.in-Some.step in
     let id = c.in-Some-reason.reason in
-    let status = reason_at live c.loop-step.trail.steps c.pop.new.self.steps step id c.loop-step.invariant.sound c.in-Some.ensures.steps c.in-Some-reason.is in
+    let status = reason_at live c.loop-step.trail.steps c.pop.new.self.steps step id c.loop-step.invariant.sound
+    c.in-Some.ensures.steps c.in-Some-reason.is in
     let mark : marked c.loop-step.notes.marks (variable_of step.literal) ≡ true = sym c.has.ensures ∙ c.if-has.true in
     let some : is_level_marked c.loop-step.notes.marks c.pop.new.self.steps ≡ true =
-    ap (is_level_marked c.loop-step.notes.marks) (sym c.steps.ensures.value) ∙ sym c.is_level_marked.ensures ∙ c.if-not-is_level_marked.false in
-    backing_next (g.C.Clauses.clauses c.args.clauses.now) c.args.trail.now c.loop-step.trail c.pop.new.self c.args.notes.now c.loop-step.notes c.resolve.new.notes
-    step id c.loop-step.invariant c.in-Some.ensures.steps c.pop.ensures.room c.in-Some-reason.is status mark some c.resolve.ensures.len c.resolve.ensures.hints c.resolve.ensures.literals
+    ap (is_level_marked c.loop-step.notes.marks) (sym c.steps.ensures.value) ∙ sym c.is_level_marked.ensures
+    ∙ c.if-not-is_level_marked.false in
+    backing_next (g.C.Clauses.clauses c.args.clauses.now) c.args.trail.now c.loop-step.trail c.pop.new.self
+    c.args.notes.now c.loop-step.notes c.resolve.new.notes
+    step id c.loop-step.invariant c.in-Some.ensures.steps c.pop.ensures.room c.in-Some-reason.is status mark some
+    c.resolve.ensures.len c.resolve.ensures.hints c.resolve.ensures.literals
     c.resolve.ensures.marked
 
 pub loop-step-preserved : goal.loop-step-preserved
 loop-step-preserved g c =
     let step = c.in-Some.step in
-    let unmarked : marked c.loop-step.notes.marks (variable_of step.literal) ≡ false = sym c.has.ensures ∙ c.if-has.false in
-    backing_past (live_in (g.C.Clauses.clauses c.args.clauses.now)) c.args.trail.now c.loop-step.trail c.pop.new.self c.args.notes.now c.loop-step.notes step
+    let unmarked : marked c.loop-step.notes.marks (variable_of step.literal) ≡ false =
+    sym c.has.ensures ∙ c.if-has.false in
+    backing_past (live_in (g.C.Clauses.clauses c.args.clauses.now)) c.args.trail.now c.loop-step.trail c.pop.new.self
+    c.args.notes.now c.loop-step.notes step
     c.loop-step.invariant c.in-Some.ensures.steps c.pop.ensures.room unmarked

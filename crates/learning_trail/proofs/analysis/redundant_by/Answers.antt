@@ -13,7 +13,8 @@ returns-then-are_others_marked g c = record {
       let s : Some c.lits.result.now ≡ Some d = sym c.lits.ensures ∙ at in
       let e : c.lits.result.now ≡ d = cc in
       let v = variable_of c.args.step.now.literal in
-      let one = all_give (λ k. (variable_of k == v) || marked c.args.notes.now.marks (variable_of k)) c.lits.result.now l (sym c.are_others_marked.ensures ∙ c.if-are_others_marked.true) (ap (λ xs. holds xs l) e ∙ h) in
+      let one = all_give (λ k. (variable_of k == v) || marked c.args.notes.now.marks (variable_of k)) c.lits.result.now
+      l (sym c.are_others_marked.ensures ∙ c.if-are_others_marked.true) (ap (λ xs. holds xs l) e ∙ h) in
       elim (or_cases (variable_of l == v) (marked c.args.notes.now.marks (variable_of l)) one) [
         | inl same ↦ absurd (other (eqb-true (variable_of l) v same))
         | inr m ↦ m

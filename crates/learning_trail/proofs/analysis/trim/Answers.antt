@@ -16,17 +16,32 @@ returns-in-Some-clause-trimmed g c = λ steps rest was sound inv.
     let redundant : IsRedundant live c.args.notes.now.marks step c.in-Some.reason = c.in-Some.ensures in
     let here = sound_later live inv.done (step ∷ rest) (subst (IsSound live) inv.split sound) in
     let status = reason_at live (step ∷ rest) rest step c.in-Some.reason here refl redundant.is in
-    trimmed_resolved clauses steps rest was c.args.notes.now c.resolve.new.notes step c.in-Some.reason sound inv status (sym c.has.ensures ∙ c.if-has.true) redundant
+    trimmed_resolved clauses steps rest was c.args.notes.now c.resolve.new.notes step c.in-Some.reason sound inv status
+    (sym c.has.ensures ∙ c.if-has.true) redundant
     c.resolve.ensures.len c.resolve.ensures.hints c.resolve.ensures.literals c.resolve.ensures.marked
 
 pub returns-in-None-clause-trimmed : goal.returns-in-None-clause-trimmed
 returns-in-None-clause-trimmed g c = λ steps rest was sound inv.
     let now = c.args.notes.now in
     let step = c.args.step.now in
-    let added : c.add_literal.new.self ≡ record { marks = now.marks; places = now.places; hints = now.hints; literals = now.literals ++ opposite step.literal ∷ [] } =
-    c.add_literal.ensures ∙ ap (λ l. record { marks = now.marks; places = now.places; hints = now.hints; literals = now.literals ++ l ∷ [] }) c.not.ensures in
-    trimmed_noted (live_in (g.C.Clauses.clauses c.args.clauses.now)) steps rest was now c.add_literal.new.self step sound inv (sym c.has.ensures ∙ c.if-has.true) added
+    let added : c.add_literal.new.self ≡ record {
+      marks = now.marks;
+      places = now.places;
+      hints = now.hints;
+      literals =
+          now.literals ++ opposite step.literal ∷ [];
+    } =
+    c.add_literal.ensures ∙ ap (λ l. record {
+      marks = now.marks;
+      places = now.places;
+      hints = now.hints;
+      literals =
+          now.literals ++ l ∷ [];
+    }) c.not.ensures in
+    trimmed_noted (live_in (g.C.Clauses.clauses c.args.clauses.now)) steps rest was now c.add_literal.new.self step
+    sound inv (sym c.has.ensures ∙ c.if-has.true) added
 
 pub returns-else-has-clause-trimmed : goal.returns-else-has-clause-trimmed
 returns-else-has-clause-trimmed g c = λ steps rest was sound inv.
-    trimmed_past (live_in (g.C.Clauses.clauses c.args.clauses.now)) steps rest was c.args.notes.now c.args.step.now inv (sym c.has.ensures ∙ c.if-has.false)
+    trimmed_past (live_in (g.C.Clauses.clauses c.args.clauses.now)) steps rest was c.args.notes.now c.args.step.now inv
+    (sym c.has.ensures ∙ c.if-has.false)

@@ -3,10 +3,12 @@ use Rattle.learning_trail.proofs.answers.answer_conflict.Goals as goal
 
 pub begin-requires-clause-within : goal.begin-requires-clause-within
 begin-requires-clause-within g c =
-    sought_markable c.args.assumptions.now (g.C.Clauses.clauses c.args.clauses.now) c.args.trail.now c.args.notes.now c.args.log.now c.requires.answering
+    sought_markable c.args.assumptions.now (g.C.Clauses.clauses c.args.clauses.now) c.args.trail.now c.args.notes.now
+    c.args.log.now c.requires.answering
 
 pub answer-requires-clause-analysis : goal.answer-requires-clause-analysis
 answer-requires-clause-analysis g c =
     let now = c.begin.ensures in
-    analysis_of_conflict c.args.assumptions.now (g.C.Clauses.clauses c.args.clauses.now) c.args.trail.now c.args.notes.now c.args.log.now c.requires.answering c.args.conflict c.begin.new.notes
+    analysis_of_conflict c.args.assumptions.now (g.C.Clauses.clauses c.args.clauses.now) c.args.trail.now
+    c.args.notes.now c.args.log.now c.requires.answering c.args.conflict c.begin.new.notes
     c.requires.conflict now.hints now.literals now.marked

@@ -9,7 +9,8 @@ use Rattle.learning_trail.proofs.SoughtAnswers.{sought_markable, analysis_of_rea
 use Rattle.truth_values.proofs.HeldLiterals.{opposite-variable}
 use Rattle.learning_trail.proofs.answers.answer_false.Goals as goal
 
-still_of : (steps : List Literal) (a not_a : Literal) → not_a ≡ opposite a → holds steps not_a ≡ true → holds steps (opposite a) ≡ true
+still_of : (steps : List Literal) (a not_a : Literal) → not_a ≡ opposite a → holds steps not_a ≡ true →
+    holds steps (opposite a) ≡ true
 still_of steps a not_a is h = ap (holds steps) (sym is) ∙ h
 
 pub begin-requires-clause-from_one : goal.begin-requires-clause-from_one
@@ -18,8 +19,10 @@ begin-requires-clause-from_one g c =
     let step = c.back_to-step.result in
     let a = c.args.assumption in
     let new = c.back_to-step.new.trail in
-    (below_id c.args.assumptions.now (g.C.Clauses.clauses c.args.clauses.now) c.args.trail.now c.args.notes.now c.args.log.now c.requires.answering new step a back.shrunk
-    (still_of (literals_of (step ∷ new.steps)) a c.not.result c.not.ensures back.still) (back.variable ∙ ap variable_of c.not.ensures ∙ opposite-variable a) c.requires.assumed
+    (below_id c.args.assumptions.now (g.C.Clauses.clauses c.args.clauses.now) c.args.trail.now c.args.notes.now
+    c.args.log.now c.requires.answering new step a back.shrunk
+    (still_of (literals_of (step ∷ new.steps)) a c.not.result c.not.ensures back.still)
+    (back.variable ∙ ap variable_of c.not.ensures ∙ opposite-variable a) c.requires.assumed
     c.in-Some.reason c.in-Some.is).from_one
 
 pub begin-requires-clause-is_id : goal.begin-requires-clause-is_id
@@ -28,13 +31,16 @@ begin-requires-clause-is_id g c =
     let step = c.back_to-step.result in
     let a = c.args.assumption in
     let new = c.back_to-step.new.trail in
-    (below_id c.args.assumptions.now (g.C.Clauses.clauses c.args.clauses.now) c.args.trail.now c.args.notes.now c.args.log.now c.requires.answering new step a back.shrunk
-    (still_of (literals_of (step ∷ new.steps)) a c.not.result c.not.ensures back.still) (back.variable ∙ ap variable_of c.not.ensures ∙ opposite-variable a) c.requires.assumed
+    (below_id c.args.assumptions.now (g.C.Clauses.clauses c.args.clauses.now) c.args.trail.now c.args.notes.now
+    c.args.log.now c.requires.answering new step a back.shrunk
+    (still_of (literals_of (step ∷ new.steps)) a c.not.result c.not.ensures back.still)
+    (back.variable ∙ ap variable_of c.not.ensures ∙ opposite-variable a) c.requires.assumed
     c.in-Some.reason c.in-Some.is).is_id
 
 pub begin-requires-clause-within : goal.begin-requires-clause-within
 begin-requires-clause-within g c =
-    sought_markable c.args.assumptions.now (g.C.Clauses.clauses c.args.clauses.now) c.args.trail.now c.args.notes.now c.args.log.now c.requires.answering
+    sought_markable c.args.assumptions.now (g.C.Clauses.clauses c.args.clauses.now) c.args.trail.now c.args.notes.now
+    c.args.log.now c.requires.answering
 
 pub answer-requires-clause-answering : goal.answer-requires-clause-answering
 answer-requires-clause-answering g c =
@@ -44,8 +50,10 @@ answer-requires-clause-answering g c =
     let new = c.back_to-step.new.trail in
     let marks : length c.add_literal.new.self.marks ≡ length c.args.notes.now.marks =
     ap (λ (n : Noted). length n.marks) c.add_literal.ensures ∙ c.unmark.ensures.len ∙ c.begin.ensures.len in
-    below_sought c.args.assumptions.now (g.C.Clauses.clauses c.args.clauses.now) c.args.trail.now c.args.notes.now c.args.log.now c.requires.answering new step a back.shrunk
-    (still_of (literals_of (step ∷ new.steps)) a c.not.result c.not.ensures back.still) (back.variable ∙ ap variable_of c.not.ensures ∙ opposite-variable a) c.requires.assumed
+    below_sought c.args.assumptions.now (g.C.Clauses.clauses c.args.clauses.now) c.args.trail.now c.args.notes.now
+    c.args.log.now c.requires.answering new step a back.shrunk
+    (still_of (literals_of (step ∷ new.steps)) a c.not.result c.not.ensures back.still)
+    (back.variable ∙ ap variable_of c.not.ensures ∙ opposite-variable a) c.requires.assumed
     c.add_literal.new.self back.room marks
 
 pub answer-requires-clause-assumed : goal.answer-requires-clause-assumed
@@ -54,8 +62,10 @@ answer-requires-clause-assumed g c =
     let step = c.back_to-step.result in
     let a = c.args.assumption in
     let new = c.back_to-step.new.trail in
-    below_assumed c.args.assumptions.now (g.C.Clauses.clauses c.args.clauses.now) c.args.trail.now c.args.notes.now c.args.log.now c.requires.answering new step a back.shrunk
-    (still_of (literals_of (step ∷ new.steps)) a c.not.result c.not.ensures back.still) (back.variable ∙ ap variable_of c.not.ensures ∙ opposite-variable a) c.requires.assumed
+    below_assumed c.args.assumptions.now (g.C.Clauses.clauses c.args.clauses.now) c.args.trail.now c.args.notes.now
+    c.args.log.now c.requires.answering new step a back.shrunk
+    (still_of (literals_of (step ∷ new.steps)) a c.not.result c.not.ensures back.still)
+    (back.variable ∙ ap variable_of c.not.ensures ∙ opposite-variable a) c.requires.assumed
 
 pub answer-requires-clause-analysis : goal.answer-requires-clause-analysis
 answer-requires-clause-analysis g c =
@@ -68,15 +78,23 @@ answer-requires-clause-analysis g c =
     let noted = c.add_literal.new.self in
     let still = still_of (literals_of (step ∷ new.steps)) a c.not.result c.not.ensures back.still in
     let same = back.variable ∙ ap variable_of c.not.ensures ∙ opposite-variable a in
-    let marks : length noted.marks ≡ length c.args.notes.now.marks = ap (λ (n : Noted). length n.marks) c.add_literal.ensures ∙ c.unmark.ensures.len ∙ c.begin.ensures.len in
-    let sought = below_sought c.args.assumptions.now held c.args.trail.now c.args.notes.now c.args.log.now c.requires.answering new step a back.shrunk still same c.requires.assumed noted back.room marks in
-    let implied = below_implied c.args.assumptions.now held c.args.trail.now c.args.notes.now c.args.log.now c.requires.answering new step a back.shrunk still same c.requires.assumed c.in-Some.reason c.in-Some.is in
-    let told : (k : List Literal) (v : ℕ) → live_in held c.in-Some.reason ≡ Some k → marked noted.marks v ≡ (not (variable_of a == v) && stands_on k v) = λ k v is.
-    ap (λ (n : Noted). marked n.marks v) c.add_literal.ensures ∙ c.unmark.ensures.marked v ∙ ap (λ b. not (variable_of a == v) && b) (c.begin.ensures.marked k v is) in
+    let marks : length noted.marks ≡ length c.args.notes.now.marks =
+    ap (λ (n : Noted). length n.marks) c.add_literal.ensures ∙ c.unmark.ensures.len ∙ c.begin.ensures.len in
+    let sought = below_sought c.args.assumptions.now held c.args.trail.now c.args.notes.now c.args.log.now
+    c.requires.answering new step a back.shrunk still same c.requires.assumed noted back.room marks in
+    let implied = below_implied c.args.assumptions.now held c.args.trail.now c.args.notes.now c.args.log.now
+    c.requires.answering new step a back.shrunk still same c.requires.assumed c.in-Some.reason c.in-Some.is in
+    let told : (k : List Literal) (v : ℕ) → live_in held c.in-Some.reason ≡ Some k →
+    marked noted.marks v ≡ (not (variable_of a == v) && stands_on k v) = λ k v is.
+    ap (λ (n : Noted). marked n.marks v) c.add_literal.ensures ∙ c.unmark.ensures.marked v ∙ ap
+    (λ b. not (variable_of a == v) && b) (c.begin.ensures.marked k v is) in
     let literals : noted.literals ≡ opposite a ∷ [] =
-    ap (λ (n : Noted). n.literals) c.add_literal.ensures ∙ ap (λ ls. ls ++ c.not-in-Some.result ∷ []) (c.unmark.ensures.literals ∙ c.begin.ensures.literals) ∙ ap (λ l. l ∷ []) c.not-in-Some.ensures in
-    let hints : noted.hints ≡ c.in-Some.reason ∷ [] = ap (λ (n : Noted). n.hints) c.add_literal.ensures ∙ c.unmark.ensures.hints ∙ c.begin.ensures.hints in
-    analysis_of_reason c.args.assumptions.now held new noted c.args.log.now sought a c.in-Some.reason noted implied hints literals told
+    ap (λ (n : Noted). n.literals) c.add_literal.ensures ∙ ap (λ ls. ls ++ c.not-in-Some.result ∷ [])
+    (c.unmark.ensures.literals ∙ c.begin.ensures.literals) ∙ ap (λ l. l ∷ []) c.not-in-Some.ensures in
+    let hints : noted.hints ≡ c.in-Some.reason ∷ [] = ap (λ (n : Noted). n.hints) c.add_literal.ensures
+    ∙ c.unmark.ensures.hints ∙ c.begin.ensures.hints in
+    analysis_of_reason c.args.assumptions.now held new noted c.args.log.now sought a c.in-Some.reason noted implied
+    hints literals told
 
 pub unreachable-requires : goal.unreachable-requires
 unreachable-requires g c =
@@ -84,5 +102,7 @@ unreachable-requires g c =
     let step = c.back_to-step.result in
     let a = c.args.assumption in
     let new = c.back_to-step.new.trail in
-    below_reasoned c.args.assumptions.now (g.C.Clauses.clauses c.args.clauses.now) c.args.trail.now c.args.notes.now c.args.log.now c.requires.answering new step a back.shrunk
-    (still_of (literals_of (step ∷ new.steps)) a c.not.result c.not.ensures back.still) (back.variable ∙ ap variable_of c.not.ensures ∙ opposite-variable a) c.requires.assumed c.in-None.is
+    below_reasoned c.args.assumptions.now (g.C.Clauses.clauses c.args.clauses.now) c.args.trail.now c.args.notes.now
+    c.args.log.now c.requires.answering new step a back.shrunk
+    (still_of (literals_of (step ∷ new.steps)) a c.not.result c.not.ensures back.still)
+    (back.variable ∙ ap variable_of c.not.ensures ∙ opposite-variable a) c.requires.assumed c.in-None.is

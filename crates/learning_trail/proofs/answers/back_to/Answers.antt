@@ -12,5 +12,6 @@ loop-step-preserved c =
     record {
       room = c.pop.ensures.room ∙ c.loop-step.invariant.room;
       shrunk = back_more old.steps now.steps new.steps s c.loop-step.invariant.shrunk popped;
-      still = back_still now.steps new.steps s c.args.l popped (λ e. c.if-var.false (c.var.ensures.value ∙ e ∙ sym c.var-in-Some.ensures.value)) c.loop-step.invariant.still;
+      still = back_still now.steps new.steps s c.args.l popped
+          (λ e. c.if-var.false (c.var.ensures.value ∙ e ∙ sym c.var-in-Some.ensures.value)) c.loop-step.invariant.still;
     }

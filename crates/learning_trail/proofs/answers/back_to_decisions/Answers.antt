@@ -10,36 +10,58 @@ pub loop-step-preserved-in-None : goal.loop-step-preserved-in-None
 loop-step-preserved-in-None g c =
     let now = c.loop-step.notes in
     let step = c.in-Some.step in
-    let added : c.add_literal.new.self ≡ record { marks = now.marks; places = now.places; hints = now.hints; literals = now.literals ++ opposite step.literal ∷ [] } =
-    c.add_literal.ensures ∙ ap (λ l. record { marks = now.marks; places = now.places; hints = now.hints; literals = now.literals ++ l ∷ [] }) c.not.ensures in
-    keeping_decision (live_in (g.C.Clauses.clauses c.args.clauses.now)) c.args.trail.now c.loop-step.trail c.pop.new.self c.args.notes.now now
-    c.add_literal.new.self step c.loop-step.invariant c.in-Some.ensures.steps c.pop.ensures.room (ap is_none c.in-None.is) added
+    let added : c.add_literal.new.self ≡ record {
+      marks = now.marks;
+      places = now.places;
+      hints = now.hints;
+      literals =
+          now.literals ++ opposite step.literal ∷ [];
+    } =
+    c.add_literal.ensures ∙ ap (λ l. record {
+      marks = now.marks;
+      places = now.places;
+      hints = now.hints;
+      literals =
+          now.literals ++ l ∷ [];
+    }) c.not.ensures in
+    keeping_decision (live_in (g.C.Clauses.clauses c.args.clauses.now)) c.args.trail.now c.loop-step.trail
+    c.pop.new.self c.args.notes.now now
+    c.add_literal.new.self step c.loop-step.invariant c.in-Some.ensures.steps c.pop.ensures.room
+    (ap is_none c.in-None.is) added
 
 pub resolve-requires-clause-is_id : goal.resolve-requires-clause-is_id
 resolve-requires-clause-is_id g c =
     let live = live_in (g.C.Clauses.clauses c.args.clauses.now) in
     let step = c.in-Some.step in
-    let status = reason_at live c.loop-step.trail.steps c.pop.new.self.steps step c.in-Some-reason.reason c.loop-step.invariant.sound c.in-Some.ensures.steps c.in-Some-reason.is in
-    (reason_of (g.C.Clauses.clauses c.args.clauses.now) c.in-Some-reason.reason (literals_of c.pop.new.self.steps) step.literal status).is_id
+    let status = reason_at live c.loop-step.trail.steps c.pop.new.self.steps step c.in-Some-reason.reason
+    c.loop-step.invariant.sound c.in-Some.ensures.steps c.in-Some-reason.is in
+    (reason_of (g.C.Clauses.clauses c.args.clauses.now) c.in-Some-reason.reason
+    (literals_of c.pop.new.self.steps) step.literal status).is_id
 
 pub loop-step-preserved-in-Some-reason : goal.loop-step-preserved-in-Some-reason
 loop-step-preserved-in-Some-reason g c =
     let live = live_in (g.C.Clauses.clauses c.args.clauses.now) in
     let step = c.in-Some.step in
     let id = c.in-Some-reason.reason in
-    let status = reason_at live c.loop-step.trail.steps c.pop.new.self.steps step id c.loop-step.invariant.sound c.in-Some.ensures.steps c.in-Some-reason.is in
+    let status = reason_at live c.loop-step.trail.steps c.pop.new.self.steps step id c.loop-step.invariant.sound
+    c.in-Some.ensures.steps c.in-Some-reason.is in
     let mark : marked c.loop-step.notes.marks (variable_of step.literal) ≡ true = sym c.has.ensures ∙ c.if-has.true in
-    keeping_next (g.C.Clauses.clauses c.args.clauses.now) c.args.trail.now c.loop-step.trail c.pop.new.self c.args.notes.now c.loop-step.notes c.resolve.new.notes
-    step id c.loop-step.invariant c.in-Some.ensures.steps c.pop.ensures.room status mark c.resolve.ensures.len c.resolve.ensures.hints c.resolve.ensures.literals c.resolve.ensures.marked
+    keeping_next (g.C.Clauses.clauses c.args.clauses.now) c.args.trail.now c.loop-step.trail c.pop.new.self
+    c.args.notes.now c.loop-step.notes c.resolve.new.notes
+    step id c.loop-step.invariant c.in-Some.ensures.steps c.pop.ensures.room status mark c.resolve.ensures.len
+    c.resolve.ensures.hints c.resolve.ensures.literals c.resolve.ensures.marked
 
 pub loop-step-preserved : goal.loop-step-preserved
 loop-step-preserved g c =
     let step = c.in-Some.step in
-    let unmarked : marked c.loop-step.notes.marks (variable_of step.literal) ≡ false = sym c.has.ensures ∙ c.if-has.false in
-    keeping_past (live_in (g.C.Clauses.clauses c.args.clauses.now)) c.args.trail.now c.loop-step.trail c.pop.new.self c.args.notes.now c.loop-step.notes step
+    let unmarked : marked c.loop-step.notes.marks (variable_of step.literal) ≡ false =
+    sym c.has.ensures ∙ c.if-has.false in
+    keeping_past (live_in (g.C.Clauses.clauses c.args.clauses.now)) c.args.trail.now c.loop-step.trail c.pop.new.self
+    c.args.notes.now c.loop-step.notes step
     c.loop-step.invariant c.in-Some.ensures.steps c.pop.ensures.room unmarked
 
 pub returns-clause-kept : goal.returns-clause-kept
 returns-clause-kept g c =
-    keeping_same (live_in (g.C.Clauses.clauses c.args.clauses.now)) c.args.trail.now c.loop-step.trail c.pop.new.self c.args.notes.now c.loop-step.notes
+    keeping_same (live_in (g.C.Clauses.clauses c.args.clauses.now)) c.args.trail.now c.loop-step.trail c.pop.new.self
+    c.args.notes.now c.loop-step.notes
     (c.in_default.ensures.steps.1 ∙ sym c.in_default.ensures.steps.0) c.pop.ensures.room c.loop-step.invariant

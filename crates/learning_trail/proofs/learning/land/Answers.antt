@@ -13,13 +13,26 @@ push-requires-clause-free c =
     let back = c.jump.new.trail.steps in
     let p = c.args.first.now.literal in
     let shrunk = c.jump.ensures.jumped.shrunk in
-    let free = free_suffix shrunk.popped back p (subst (λ (xs : List Step). IsFree (literals_of xs) p) shrunk.is c.requires.free) in
-    let turned : IsFree (literals_of back) (opposite p) = (free.1, ap (holds (literals_of back)) (opposite-opposite p) ∙ free.0) in
+    let free = free_suffix shrunk.popped back p (subst (λ (xs : List Step). IsFree (literals_of xs) p) shrunk.is
+    c.requires.free) in
+    let turned : IsFree (literals_of back) (opposite p) = (
+      free.1,
+      ap (holds (literals_of back)) (opposite-opposite p) ∙ free.0,
+    ) in
     subst (IsFree (literals_of back)) (sym c.not.ensures) turned
 
 pub returns-in-Some-clause-level : goal.returns-in-Some-clause-level
 returns-in-Some-clause-level c = record {
-  behind = record { back = c.jump.new.trail; jump = c.jump.ensures.jumped; is = c.push.ensures.is ∙ ap (λ k. record { room = c.jump.new.trail.room; steps = record { literal = k; reason = Some c.args.id } ∷ c.jump.new.trail.steps }) c.not.ensures };
+  behind = record {
+    back = c.jump.new.trail;
+    jump = c.jump.ensures.jumped;
+    is =
+        c.push.ensures.is ∙ ap (λ k. record {
+          room = c.jump.new.trail.room;
+          steps =
+              record { literal = k; reason = Some c.args.id } ∷ c.jump.new.trail.steps;
+        }) c.not.ensures;
+  };
   under = c.jump.ensures.under;
   level = c.in-Some.ensures.level;
 }

@@ -11,10 +11,14 @@ returns-clause-jumped c =
       | then-is_some w ↦
           let implied = implied_from_some c.args.step.now.reason (sym c.is_some.ensures ∙ w.if-is_some.true) in
           subst (λ (t : Trailed). IsOnJump old t c.args.notes.now.marks) (sym w.trail-is)
-          (on_jump_level old old w.back_over_level.new.trail c.args.notes.now.marks (on_jump_first old c.args.notes.now.marks) (c.requires.first implied) w.back_over_level.ensures.room w.back_over_level.ensures.steps)
-      | else-is_some w ↦ subst (λ (t : Trailed). IsOnJump old t c.args.notes.now.marks) (sym w.trail-is) (on_jump_first old c.args.notes.now.marks)
+          (on_jump_level old old w.back_over_level.new.trail c.args.notes.now.marks
+          (on_jump_first old c.args.notes.now.marks) (c.requires.first implied) w.back_over_level.ensures.room
+          w.back_over_level.ensures.steps)
+      | else-is_some w ↦ subst (λ (t : Trailed). IsOnJump old t c.args.notes.now.marks) (sym w.trail-is)
+          (on_jump_first old c.args.notes.now.marks)
     ] in
-    jump_both old c.if-is_some.trail c.back_to_marked_level.new.trail c.args.notes.now.marks start c.back_to_marked_level.ensures.jumped
+    jump_both old c.if-is_some.trail c.back_to_marked_level.new.trail c.args.notes.now.marks start
+    c.back_to_marked_level.ensures.jumped
 
 pub returns-clause-under : goal.returns-clause-under
 returns-clause-under c =
@@ -23,9 +27,12 @@ returns-clause-under c =
     let start : IsUnder (step ∷ old.steps) c.if-is_some.trail.steps = elim c.if-is_some.branch [
       | then-is_some w ↦
           let implied = implied_from_some step.reason (sym c.is_some.ensures ∙ w.if-is_some.true) in
-          subst (λ (t : Trailed). IsUnder (step ∷ old.steps) t.steps) (sym w.trail-is) (under_step step old.steps w.back_over_level.new.trail.steps implied c.requires.decided w.back_over_level.ensures.steps)
+          subst (λ (t : Trailed). IsUnder (step ∷ old.steps) t.steps) (sym w.trail-is)
+          (under_step step old.steps w.back_over_level.new.trail.steps implied c.requires.decided
+          w.back_over_level.ensures.steps)
       | else-is_some w ↦
           let decided = decided_from_none step.reason (sym c.is_some.ensures ∙ w.if-is_some.false) in
-          subst (λ (t : Trailed). IsUnder (step ∷ old.steps) t.steps) (sym w.trail-is) (under_decision step old.steps decided)
+          subst (λ (t : Trailed). IsUnder (step ∷ old.steps) t.steps) (sym w.trail-is)
+          (under_decision step old.steps decided)
     ] in
     c.back_to_marked_level.ensures.under (step ∷ old.steps) start

@@ -23,6 +23,7 @@ loop-at-preserved c =
     record {
       within = omega (arith, within);
       left = sym (ap (λ b. b || cond (is_decision s) false rest) unmarked ∙ ap (λ b. cond b false rest) implied)
-          ∙ level_step marks steps s k n (is_level_marked marks (reverse steps)) e lt (sym c.index-steps-at.is) c.loop-at.invariant.left;
+          ∙ level_step marks steps s k n (is_level_marked marks (reverse steps)) e lt
+          (sym c.index-steps-at.is) c.loop-at.invariant.left;
       level = level_later steps s k n e lt (sym c.index-steps-at.is) implied c.loop-at.invariant.level;
     }

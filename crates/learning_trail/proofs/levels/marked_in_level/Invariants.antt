@@ -9,7 +9,8 @@ abbrev pub invariant-loop-at : goal.invariant-loop-at
 invariant-loop-at l = record {
   within : l.at ≤ length l.steps;
   left : is_level_marked l.notes.marks (reverse (take l.at l.steps)) ≡ is_level_marked l.notes.marks (reverse l.steps);
-  level : (k : Literal) → holds (level_of (reverse (take l.at l.steps))) k ≡ true → holds (level_of (reverse l.steps)) k ≡ true;
+  level : (k : Literal) → holds (level_of (reverse (take l.at l.steps))) k ≡ true →
+      holds (level_of (reverse l.steps)) k ≡ true;
 }
 
 abbrev pub decreases-loop-at : goal.decreases-loop-at

@@ -8,6 +8,7 @@ use Rattle.learning_trail.proofs.models.keep_values.Given as goal
 abbrev pub invariant-loop-i : goal.invariant-loop-i
 invariant-loop-i l = record {
   len : length l.model ≡ length l.fn.model;
-  values : (j : ℕ) → j < l.i → (slice_index_or l.model j false ≡ true → literal_value (literals_of l.trail.steps) (positive (suc j)) ≡ True)
+  values : (j : ℕ) → j < l.i → (slice_index_or l.model j false ≡ true →
+      literal_value (literals_of l.trail.steps) (positive (suc j)) ≡ True)
       × (literal_value (literals_of l.trail.steps) (positive (suc j)) ≡ True → slice_index_or l.model j false ≡ true);
 }

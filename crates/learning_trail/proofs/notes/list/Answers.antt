@@ -15,12 +15,15 @@ loop-v-preserved c =
     record {
       few = omega (arith, few, was);
       capacity = omega (arith, room, c.list_one.ensures.capacity);
-      listed = listed_next c.args.trail.now.steps c.args.marks.now touched c.loop-v.places.items c.list_one.new.places.items i (get_or touched i 0) lt
-          (get_or_default touched i (get_or touched i 0) 0 lt) c.list_one.ensures.kept c.list_one.ensures.listed inv.listed;
+      listed = listed_next c.args.trail.now.steps c.args.marks.now touched c.loop-v.places.items
+          c.list_one.new.places.items i (get_or touched i 0) lt
+          (get_or_default touched i (get_or touched i 0) 0 lt) c.list_one.ensures.kept c.list_one.ensures.listed
+          inv.listed;
     }
 
 pub returns-clause-listed : goal.returns-clause-listed
 returns-clause-listed c =
     let end : c.loop-v.v-index ≡ length c.args.touched.now = search rules in
     listed_all c.args.trail.now.steps c.args.marks.now c.args.touched.now c.loop-v.places.items c.requires.touched
-    (subst (AreListed c.args.trail.now.steps c.args.marks.now c.args.touched.now c.loop-v.places.items) end c.loop-v.invariant.listed)
+    (subst (AreListed c.args.trail.now.steps c.args.marks.now c.args.touched.now c.loop-v.places.items) end
+    c.loop-v.invariant.listed)

@@ -6,7 +6,8 @@ pub returns-in-Some-clause-listed : goal.returns-in-Some-clause-listed
 returns-in-Some-clause-listed c = λ at l h same on.
     let e : Some c.in-Some.place ≡ Some at = sym c.in-Some.is ∙ c.place.ensures at l h same in
     let q : c.in-Some.place ≡ at = cc in
-    subst (λ (n : ℕ). Contains c.put.new.touched.items n) q (contains_put c.args.places.now.items c.put.new.touched.items c.in-Some.place c.put.ensures.items)
+    subst (λ (n : ℕ). Contains c.put.new.touched.items n) q (contains_put c.args.places.now.items
+    c.put.new.touched.items c.in-Some.place c.put.ensures.items)
 
 pub returns-in_default-clause-listed : goal.returns-in_default-clause-listed
 returns-in_default-clause-listed c = λ at l h same on.

@@ -7,16 +7,19 @@ use Rattle.learning_trail.proofs.statuses.status_of.Goals as goal
 
 pub loop-l-preserved : goal.loop-l-preserved
 loop-l-preserved c =
-    read_more (literals_of c.args.trail.now.steps) c.args.lits.now c.l-item.result c.loop-l.l-index (seen c.loop-l.status) (seen c.with_literal-status.result) c.value.result
+    read_more (literals_of c.args.trail.now.steps) c.args.lits.now c.l-item.result c.loop-l.l-index
+    (seen c.loop-l.status) (seen c.with_literal-status.result) c.value.result
     c.loop-l-test.true (sym c.l-item.is) c.loop-l.invariant c.value.ensures c.with_literal-status.ensures
 
 pub returns-then-is_stuck : goal.returns-then-is_stuck
 returns-then-is_stuck c =
     let trues = literals_of c.args.trail.now.steps in
-    let more = read_more trues c.args.lits.now c.l-item.result c.loop-l.l-index (seen c.loop-l.status) (seen c.with_literal-status.result) c.value.result
+    let more = read_more trues c.args.lits.now c.l-item.result c.loop-l.l-index (seen c.loop-l.status)
+    (seen c.with_literal-status.result) c.value.result
     c.loop-l-test.true (sym c.l-item.is) c.loop-l.invariant c.value.ensures c.with_literal-status.ensures in
     let is : seen c.with_literal-status.result ≡ stuck = ap seen (c.is_stuck.ensures c.if-is_stuck.true) in
     is ∙ stuck_stays trues c.args.lits.now (c.loop-l.l-index + 1) (sym is ∙ more)
 
 pub returns : goal.returns
-returns c = status_whole (literals_of c.args.trail.now.steps) c.args.lits.now c.loop-l.l-index (seen c.loop-l.status) c.loop-l-test.false c.loop-l.invariant
+returns c = status_whole (literals_of c.args.trail.now.steps) c.args.lits.now c.loop-l.l-index
+    (seen c.loop-l.status) c.loop-l-test.false c.loop-l.invariant

@@ -4,11 +4,16 @@ use Rattle.log_laws.proofs.FalseLog.{tried_productive, refuted_logged, refuted_p
 use Rattle.log_laws.proofs.examples.false_formula_is_refuted.Goals as goal
 
 sound : IsSoundLog blind_negation refuted
-sound = record { logged = refuted_logged; givens_match_origins = refuted_productive.givens_match_origins; lemmas_are_derived = refuted_productive.lemmas_are_derived }
+sound = record {
+  logged = refuted_logged;
+  givens_match_origins = refuted_productive.givens_match_origins;
+  lemmas_are_derived = refuted_productive.lemmas_are_derived;
+}
 
 pub returns : goal.returns
 returns c =
-    let is_false = c.decided_false_is_false.ensures blind_negation refuted blind_negation_well_formed sound refuted_decides in
+    let is_false = c.decided_false_is_false.ensures blind_negation refuted blind_negation_well_formed sound
+    refuted_decides in
     record {
       well_formed = blind_negation_well_formed;
       logged = refuted_logged;
@@ -18,5 +23,6 @@ returns c =
       undecided = (tt, (tt, (tt, (tt, (tt, (tt, tt))))));
       decided = refuted_decides;
       is_false = is_false;
-      not_true = λ answer. c.no_formula_is_both.ensures blind_negation (c.decided_true_is_true.ensures blind_negation refuted blind_negation_well_formed sound answer) is_false;
+      not_true = λ answer. c.no_formula_is_both.ensures blind_negation
+          (c.decided_true_is_true.ensures blind_negation refuted blind_negation_well_formed sound answer) is_false;
     }

@@ -7,4 +7,5 @@ use Rattle.padoa_definitions.proofs.copies.copied_clause.Given as goal
 
 abbrev pub invariant-loop-l : goal.invariant-loop-l
 invariant-loop-l l = (entries : List Entry) (side : ℕ) → AreCopiesOf entries side l.f.universals l.copy.universals.items
-    → AreCopiesOf entries side (existential_variables l.f) l.copy.existentials.items → AreNamedAs entries l.lits.items (copy_names side (take l.l-index l.clause))
+    → AreCopiesOf entries side (existential_variables l.f) l.copy.existentials.items →
+    AreNamedAs entries l.lits.items (copy_names side (take l.l-index l.clause))

@@ -9,5 +9,6 @@ pub returns-then-is_neg : goal.returns-then-is_neg
 returns-then-is_neg c = λ entries side us es.
     ap (name_literal entries) c.not.ensures
     ∙ opposite_name entries c.copied_variable-variable.result (CopyOf side (variable_of c.args.l))
-    (c.copied_variable-variable.ensures entries side us es ∙ ap (λ v. Some (named_literal (CopyOf side v) false)) c.var.ensures.value)
+    (c.copied_variable-variable.ensures entries side us es ∙ ap
+    (λ v. Some (named_literal (CopyOf side v) false)) c.var.ensures.value)
     ∙ ap (λ b. Some (named_literal (CopyOf side (variable_of c.args.l)) b)) (sym c.if-is_neg.true ∙ c.is_neg.ensures)

@@ -10,8 +10,10 @@ pub unreachable-requires : goal.unreachable-requires
 unreachable-requires c =
     let f = c.args.f.now in
     elim (Contains-append_cases f.universals (existential_variables f) c.args.v c.requires.bound) [
-      | inl universal ↦ none_contained f.universals c.args.v (sym c.universal_place.ensures ∙ c.in-None-None.is-0) universal
-      | inr existential ↦ none_contained (existential_variables f) c.args.v (sym c.existential_place.ensures ∙ c.in-None-None.is-1) existential
+      | inl universal ↦ none_contained f.universals c.args.v
+          (sym c.universal_place.ensures ∙ c.in-None-None.is-0) universal
+      | inr existential ↦ none_contained (existential_variables f) c.args.v
+          (sym c.existential_place.ensures ∙ c.in-None-None.is-1) existential
     ]
 
 pub returns-in-Some-default : goal.returns-in-Some-default
@@ -21,7 +23,8 @@ returns-in-Some-default c = λ entries side us es.
     let found = sym c.universal_place.ensures ∙ c.in-Some-default.is-0 in
     let lt = subst (λ n. i < n) (sym c.requires.universals) (place_within f.universals c.args.v i found) in
     copy_at entries side f.universals c.args.copy.now.universals.items i c.args.v c.index.result.now us
-    (place_holds f.universals c.args.v i found) (found_at c.args.copy.now.universals.items i c.index.result.now lt c.index.ensures)
+    (place_holds f.universals c.args.v i found) (found_at c.args.copy.now.universals.items i c.index.result.now lt
+    c.index.ensures)
 
 pub returns-in-None-Some : goal.returns-in-None-Some
 returns-in-None-Some c = λ entries side us es.
@@ -29,6 +32,9 @@ returns-in-None-Some c = λ entries side us es.
     let k = c.in-None-Some.k in
     let found = sym c.existential_place.ensures ∙ c.in-None-Some.is-1 in
     let many = length-map f.existentials (λ (y : Existential). y.variable) in
-    let lt = subst (λ n. k < n) (many ∙ sym c.requires.existentials) (place_within (existential_variables f) c.args.v k found) in
-    copy_at entries side (existential_variables f) c.args.copy.now.existentials.items k c.args.v c.index-in-None-Some.result.now es
-    (place_holds (existential_variables f) c.args.v k found) (found_at c.args.copy.now.existentials.items k c.index-in-None-Some.result.now lt c.index-in-None-Some.ensures)
+    let lt = subst (λ n. k < n) (many ∙ sym c.requires.existentials)
+    (place_within (existential_variables f) c.args.v k found) in
+    copy_at entries side (existential_variables f) c.args.copy.now.existentials.items k c.args.v
+    c.index-in-None-Some.result.now es
+    (place_holds (existential_variables f) c.args.v k found)
+    (found_at c.args.copy.now.existentials.items k c.index-in-None-Some.result.now lt c.index-in-None-Some.ensures)

@@ -5,4 +5,5 @@ use Rattle.planted_formulas.proofs.laws.planted_formulas_are_true.Goals as goal
 
 pub returns : goal.returns
 returns c seed size one =
-    c.skolem_functions_show_true.ensures (planted_formula seed size) (planted_function seed (size + 1)) (planted_are_skolem seed size)
+    c.skolem_functions_show_true.ensures (planted_formula seed size) (planted_function seed (size + 1))
+    (planted_are_skolem seed size)

@@ -6,4 +6,5 @@ loop-id-init c = none_forgotten c.args.store.now
 
 pub loop-id-preserved : goal.loop-id-preserved
 loop-id-preserved c =
-    one_forgotten c.args.ids.now c.loop-id.id-index c.args.store.now c.loop-id.store c.gone.new.self c.loop-id-test.true c.loop-id.invariant c.gone.ensures
+    one_forgotten c.args.ids.now c.loop-id.id-index c.args.store.now c.loop-id.store c.gone.new.self c.loop-id-test.true
+    c.loop-id.invariant c.gone.ensures

@@ -8,11 +8,13 @@ loop-l-preserved c =
     elim c.if-place-near.branch [
       | then-place-near w ↦
           rw w.near-is
-          (taken_back c.loop-l.near c.args.literals.now c.loop-l.l-index c.place_of-place.result c.l-item.result c.loop-l-test.true (sym c.l-item.is)
+          (taken_back c.loop-l.near c.args.literals.now c.loop-l.l-index c.place_of-place.result c.l-item.result
+          c.loop-l-test.true (sym c.l-item.is)
           c.place_of-place.ensures c.loop-l.invariant)
       | else-place-near w ↦
           rw w.near-is
-          (beyond_taken_back c.loop-l.near c.args.literals.now c.loop-l.l-index c.place_of-place.result c.l-item.result c.loop-l-test.true (sym c.l-item.is)
+          (beyond_taken_back c.loop-l.near c.args.literals.now c.loop-l.l-index c.place_of-place.result c.l-item.result
+          c.loop-l-test.true (sym c.l-item.is)
           c.place_of-place.ensures w.if-place-near.false c.loop-l.invariant)
     ]
 

@@ -6,7 +6,8 @@ use Rattle.skolem_checker.proofs.mapping.declares.Goals as goal
 
 pub returns-in-Inputs-clause-in_range : goal.returns-in-Inputs-clause-in_range
 returns-in-Inputs-clause-in_range c h =
-    declared-in_range c.args.f.now Inputs c.args.v c.every_formula_is_lawful.ensures.prefix (sym c.is_universal.ensures ∙ h)
+    declared-in_range c.args.f.now Inputs c.args.v c.every_formula_is_lawful.ensures.prefix
+    (sym c.is_universal.ensures ∙ h)
 
 pub returns-in-Outputs-clause-is : goal.returns-in-Outputs-clause-is
 returns-in-Outputs-clause-is c =

@@ -9,7 +9,8 @@ loop-i-preserved c j e lt at =
     let f = c.args.f.now in
     elim (cases_eq j c.loop-i.i) [
       | inl same ↦ subst (λ k. IsDeclared f c.args.literals.now c.args.words.now k e) (sym same)
-          (told_at f c.args.ys.now j c.loop-i.i e (IsDeclared f c.args.literals.now c.args.words.now c.loop-i.i) same at c.in_default.ensures)
+          (told_at f c.args.ys.now j c.loop-i.i e (IsDeclared f c.args.literals.now c.args.words.now c.loop-i.i) same at
+          c.in_default.ensures)
       | inr other ↦ c.loop-i.invariant j e (omega (arith, lt, other)) at
     ]
 

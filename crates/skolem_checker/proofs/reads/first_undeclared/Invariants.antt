@@ -7,4 +7,5 @@ use Rattle.skolem_checker.proofs.reads.first_undeclared.Given as goal
 
 abbrev pub invariant-loop-x : goal.invariant-loop-x
 invariant-loop-x l =
-    (e : Existential) → existential_of l.f l.y ≡ Some e → ReadsDeclaredBefore (ReadsByMarks (marked l.words l.i) l.literals) l.f e l.x-index
+    (e : Existential) → existential_of l.f l.y ≡ Some e → ReadsDeclaredBefore
+    (ReadsByMarks (marked l.words l.i) l.literals) l.f e l.x-index

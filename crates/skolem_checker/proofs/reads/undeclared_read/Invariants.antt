@@ -8,5 +8,6 @@ abbrev pub invariant-loop-batch : goal.invariant-loop-batch
 invariant-loop-batch l = record {
   words : HasWords l.tested.circuit.now l.tested.formula.now l.words;
   first : (p : ℕ) → p < l.batch * 64 → p < length l.tested.formula.now.existentials
-      → ReadsDeclaredBefore (ReadsByTables l.tested.circuit.now l.tested.literals.now l.places) l.tested.formula.now (existential_at l.tested.formula.now p) (length l.tested.formula.now.universals);
+      → ReadsDeclaredBefore (ReadsByTables l.tested.circuit.now l.tested.literals.now l.places) l.tested.formula.now
+      (existential_at l.tested.formula.now p) (length l.tested.formula.now.universals);
 }

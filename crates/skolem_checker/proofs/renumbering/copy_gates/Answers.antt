@@ -35,20 +35,24 @@ add_gate-requires-clause-in_range c =
     let net = c.args.circuit.now in
     let j : ℕ = c.loop-i.i in
     let below : j < length net.gates = omega (arith, c.loop-i-test.true, c.gates-i-end.ensures) in
-    next_gate_in_range net c.every_circuit_is_a_netlist.ensures c.requires.complete j below c.loop-i.copy c.loop-i.invariant c.renumbered_literal-new_lhs.result
+    next_gate_in_range net c.every_circuit_is_a_netlist.ensures c.requires.complete j below c.loop-i.copy
+    c.loop-i.invariant c.renumbered_literal-new_lhs.result
     (literal_is net c.args.known.now c.requires.known (2 * (gate_at net j).variable)
     (gate_variable_known net c.every_circuit_is_a_netlist.ensures c.requires.complete j below)
-    c.gate-lhs.result.0 c.renumbered_literal-new_lhs.result (ap (λ (t : ℕ × ℕ × ℕ). t.0) c.gate-lhs.ensures) c.renumbered_literal-new_lhs.ensures)
+    c.gate-lhs.result.0 c.renumbered_literal-new_lhs.result (ap (λ (t : ℕ × ℕ × ℕ). t.0) c.gate-lhs.ensures)
+    c.renumbered_literal-new_lhs.ensures)
 
 pub add_gate-requires-clause-undefined : goal.add_gate-requires-clause-undefined
 add_gate-requires-clause-undefined c =
     let net = c.args.circuit.now in
     let j : ℕ = c.loop-i.i in
     let below : j < length net.gates = omega (arith, c.loop-i-test.true, c.gates-i-end.ensures) in
-    next_gate_undefined net c.every_circuit_is_a_netlist.ensures c.requires.complete j below c.loop-i.copy c.loop-i.invariant c.renumbered_literal-new_lhs.result
+    next_gate_undefined net c.every_circuit_is_a_netlist.ensures c.requires.complete j below c.loop-i.copy
+    c.loop-i.invariant c.renumbered_literal-new_lhs.result
     (literal_is net c.args.known.now c.requires.known (2 * (gate_at net j).variable)
     (gate_variable_known net c.every_circuit_is_a_netlist.ensures c.requires.complete j below)
-    c.gate-lhs.result.0 c.renumbered_literal-new_lhs.result (ap (λ (t : ℕ × ℕ × ℕ). t.0) c.gate-lhs.ensures) c.renumbered_literal-new_lhs.ensures)
+    c.gate-lhs.result.0 c.renumbered_literal-new_lhs.result (ap (λ (t : ℕ × ℕ × ℕ). t.0) c.gate-lhs.ensures)
+    c.renumbered_literal-new_lhs.ensures)
 
 pub add_gate-requires-clause-a_in_range : goal.add_gate-requires-clause-a_in_range
 add_gate-requires-clause-a_in_range c =
@@ -57,7 +61,8 @@ add_gate-requires-clause-a_in_range c =
     let below : j < length net.gates = omega (arith, c.loop-i-test.true, c.gates-i-end.ensures) in
     literal_in_range net c.args.known.now c.requires.known (gate_at net j).left
     (gate_sides_known net c.every_circuit_is_a_netlist.ensures c.requires.complete j below).0 c.loop-i.copy
-    c.gate-lhs.result.1 c.renumbered_literal-new_left.result (ap (λ (t : ℕ × ℕ × ℕ). t.1) c.gate-lhs.ensures) c.renumbered_literal-new_left.ensures
+    c.gate-lhs.result.1 c.renumbered_literal-new_left.result
+    (ap (λ (t : ℕ × ℕ × ℕ). t.1) c.gate-lhs.ensures) c.renumbered_literal-new_left.ensures
     (ap (λ (n : Netlist). n.max_var) c.loop-i.invariant)
 
 pub add_gate-requires-clause-b_in_range : goal.add_gate-requires-clause-b_in_range
@@ -67,5 +72,6 @@ add_gate-requires-clause-b_in_range c =
     let below : j < length net.gates = omega (arith, c.loop-i-test.true, c.gates-i-end.ensures) in
     literal_in_range net c.args.known.now c.requires.known (gate_at net j).right
     (gate_sides_known net c.every_circuit_is_a_netlist.ensures c.requires.complete j below).1 c.loop-i.copy
-    c.gate-lhs.result.2 c.renumbered_literal-new_right.result (ap (λ (t : ℕ × ℕ × ℕ). t.2) c.gate-lhs.ensures) c.renumbered_literal-new_right.ensures
+    c.gate-lhs.result.2 c.renumbered_literal-new_right.result
+    (ap (λ (t : ℕ × ℕ × ℕ). t.2) c.gate-lhs.ensures) c.renumbered_literal-new_right.ensures
     (ap (λ (n : Netlist). n.max_var) c.loop-i.invariant)

@@ -9,5 +9,6 @@ abbrev pub invariant-loop-literal : goal.invariant-loop-literal
 invariant-loop-literal l = record {
   four : length l.holds ≡ 4;
   bits : (i b : ℕ) → i < 4 → b < 64 → lane_bit l.holds i b
-      ≡ list_any (literal_true (circuit_assignment l.literals (block_bits l.values i b))) (take l.literal-index l.clause);
+      ≡ list_any (literal_true (circuit_assignment l.literals (block_bits l.values i b)))
+      (take l.literal-index l.clause);
 }

@@ -14,21 +14,27 @@ returns-in-Some-clause-first c =
     let within : 256 * c.loop-block.block + c.in-Some.row < 2 ^ length c.args.tested.now.formula.now.universals =
     omega (arith, found.0, c.rows_in_block.ensures.in_range, c.count_rows-rows.ensures.value) in (
       within,
-      rows_more c.args.tested.now.formula.now c.args.tested.now.circuit.now c.args.tested.now.literals.now c.args.places.now (256 * c.loop-block.block) c.eval_block_by.new.values
+      rows_more c.args.tested.now.formula.now c.args.tested.now.circuit.now c.args.tested.now.literals.now
+          c.args.places.now (256 * c.loop-block.block) c.eval_block_by.new.values
           c.matrix_lanes-hold.result c.eval_block_by.ensures.valuation c.matrix_lanes-hold.ensures.bits
-          (2 ^ length c.args.tested.now.formula.now.universals) c.in-Some.row (omega (arith, within)) (omega (arith, few)) c.loop-block.invariant.held found.2,
-      row_test c.args.tested.now.formula.now c.args.tested.now.circuit.now c.args.tested.now.literals.now c.args.places.now (256 * c.loop-block.block) c.eval_block_by.new.values
-          c.matrix_lanes-hold.result c.eval_block_by.ensures.valuation c.matrix_lanes-hold.ensures.bits c.in-Some.row false few found.1,
+          (2 ^ length c.args.tested.now.formula.now.universals) c.in-Some.row (omega (arith, within))
+          (omega (arith, few)) c.loop-block.invariant.held found.2,
+      row_test c.args.tested.now.formula.now c.args.tested.now.circuit.now c.args.tested.now.literals.now
+          c.args.places.now (256 * c.loop-block.block) c.eval_block_by.new.values
+          c.matrix_lanes-hold.result c.eval_block_by.ensures.valuation c.matrix_lanes-hold.ensures.bits c.in-Some.row
+          false few found.1,
     )
 
 pub loop-block-preserved : goal.loop-block-preserved
 loop-block-preserved c = record {
   values_length = c.eval_block_by.ensures.same_length ∙ c.loop-block.invariant.values_length;
   held = λ j j_below j_in.
-      rows_more c.args.tested.now.formula.now c.args.tested.now.circuit.now c.args.tested.now.literals.now c.args.places.now (256 * c.loop-block.block) c.eval_block_by.new.values
+      rows_more c.args.tested.now.formula.now c.args.tested.now.circuit.now c.args.tested.now.literals.now
+      c.args.places.now (256 * c.loop-block.block) c.eval_block_by.new.values
       c.matrix_lanes-hold.result c.eval_block_by.ensures.valuation c.matrix_lanes-hold.ensures.bits
       (2 ^ length c.args.tested.now.formula.now.universals) c.rows_in_block.result
-      (omega (arith, c.rows_in_block.ensures.in_range, c.count_rows-rows.ensures.value)) c.rows_in_block.ensures.in_block
+      (omega (arith, c.rows_in_block.ensures.in_range, c.count_rows-rows.ensures.value))
+      c.rows_in_block.ensures.in_block
       c.loop-block.invariant.held (c.first_false.ensures.none c.in_default.is) j
       (c.rows_in_block.ensures.all j (omega (arith, j_below)) (omega (arith, j_in, c.count_rows-rows.ensures.value)));
 }

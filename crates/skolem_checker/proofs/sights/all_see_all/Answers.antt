@@ -8,7 +8,8 @@ use Rattle.skolem_checker.proofs.sights.all_see_all.Goals as goal
 pub loop-y-preserved : goal.loop-y-preserved
 loop-y-preserved c i e lt at =
     let f = c.args.f.now in
-    let P : Existential → Type 0 = λ d. (q : ℕ) → q < length f.universals → Contains d.sees (slice_index f.universals q) in
+    let P : Existential → Type 0 = λ d. (q : ℕ) → q < length f.universals →
+    Contains d.sees (slice_index f.universals q) in
     elim (cases_eq i c.loop-y.y-index) [
       | inl same ↦ told_at f c.args.ys.now i c.loop-y.y-index e P same at (c.sees_all.ensures c.if-not-sees_all.false)
       | inr other ↦ c.loop-y.invariant i e (omega (arith, lt, other)) at

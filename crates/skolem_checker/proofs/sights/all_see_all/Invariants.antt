@@ -6,4 +6,5 @@ use Rattle.skolem_checker.proofs.sights.all_see_all.Given as goal
 
 abbrev pub invariant-loop-y : goal.invariant-loop-y
 invariant-loop-y l =
-    (i : ℕ) (e : Existential) → i < l.y-index → IsAt l.f l.ys i e → (q : ℕ) → q < length l.f.universals → Contains e.sees (slice_index l.f.universals q)
+    (i : ℕ) (e : Existential) → i < l.y-index → IsAt l.f l.ys i e → (q : ℕ) → q < length l.f.universals →
+    Contains e.sees (slice_index l.f.universals q)

@@ -7,6 +7,7 @@ use Rattle.skolem_checker.proofs.sights.list.Given as goal
 abbrev pub invariant-loop-x : goal.invariant-loop-x
 invariant-loop-x l = record {
   same_length : length l.listed ≡ length l.fn.listed;
-  lists : (q : ℕ) → q < length l.f.universals → marked l.listed l.i q ≡ true → Contains l.universals (slice_index l.f.universals q);
+  lists : (q : ℕ) → q < length l.f.universals → marked l.listed l.i q ≡ true →
+      Contains l.universals (slice_index l.f.universals q);
   others : (j : ℕ) → j ≢ l.i → AreSameAt l.fn.listed l.listed j;
 }

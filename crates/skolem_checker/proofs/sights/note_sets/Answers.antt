@@ -17,10 +17,13 @@ loop-i-preserved c =
             | inl same ↦
                 subst (λ k. IsSetNoted f listed stops k e.sees) (sym same)
                 (told_at f c.args.ys.now j c.loop-i.i e (IsNoted f listed stops c.loop-i.i) same at
-                (λ d is. subst (IsSetNoted f listed stops c.loop-i.i) (set_told _ d f.universals c.deps_of.result.now c.deps_of.result.now c.deps_of.ensures.set is refl) c.note_set.ensures.noted))
+                (λ d is. subst (IsSetNoted f listed stops c.loop-i.i)
+                (set_told _ d f.universals c.deps_of.result.now c.deps_of.result.now c.deps_of.ensures.set is refl)
+                c.note_set.ensures.noted))
             | inr other ↦
                 let stays = c.note_set.ensures.others j other in
-                noted_along f c.loop-i.listed c.loop-i.stops listed stops j e.sees stays.0 stays.1 (c.loop-i.invariant.noted j e (omega (arith, lt, other)) at)
+                noted_along f c.loop-i.listed c.loop-i.stops listed stops j e.sees stays.0 stays.1
+                (c.loop-i.invariant.noted j e (omega (arith, lt, other)) at)
           ];
       unnoted = λ j above.
           let stays = c.note_set.ensures.others j (λ same. omega (arith, above, same)) in

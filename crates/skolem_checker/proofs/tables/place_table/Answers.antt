@@ -8,7 +8,8 @@ write_at-requires-clause-in_range c =
     rw c.deref.ensures.value (λ k d below.
     omega (
       arith,
-      output_keys c.args.f.now c.args.circuit.now (mapping_in c.args.mapped.now) c.every_formula_is_lawful.ensures.prefix c.requires k d below,
+      output_keys c.args.f.now c.args.circuit.now (mapping_in c.args.mapped.now)
+          c.every_formula_is_lawful.ensures.prefix c.requires k d below,
       c.in_ok-places.ensures,
       c.vars.ensures.value,
     ))

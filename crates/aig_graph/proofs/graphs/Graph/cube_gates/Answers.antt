@@ -11,9 +11,13 @@ pub loop-n-preserved : goal.loop-n-preserved
 loop-n-preserved c =
     let at = c.loop-n.n-index in
     let n = get_or c.args.nodes.now at (Constant false) in
-    let whole = longer_cube c.args.self.now c.loop-n.self c.and.new.self (take at c.args.nodes.now) c.loop-n.made n c.in_ok-made.made (extends c.args.self.now c.loop-n.self c.loop-n.invariant.grown)
+    let whole = longer_cube c.args.self.now c.loop-n.self c.and.new.self
+    (take at c.args.nodes.now) c.loop-n.made n c.in_ok-made.made
+    (extends c.args.self.now c.loop-n.self c.loop-n.invariant.grown)
     (c.requires at (Constant false) c.loop-n-test.true) c.loop-n.invariant.cube c.in_ok-made.ensures.made in
     record {
-      grown = more_more c.args.self.now c.loop-n.self c.and.new.self c.loop-n.invariant.grown c.in_ok-made.ensures.grown;
-      cube = subst (λ xs. IsCube c.args.self.now c.and.new.self xs c.in_ok-made.made) (sym (take_more c.args.nodes.now at (Constant false) c.loop-n-test.true)) whole;
+      grown = more_more c.args.self.now c.loop-n.self c.and.new.self c.loop-n.invariant.grown
+          c.in_ok-made.ensures.grown;
+      cube = subst (λ xs. IsCube c.args.self.now c.and.new.self xs c.in_ok-made.made)
+          (sym (take_more c.args.nodes.now at (Constant false) c.loop-n-test.true)) whole;
     }

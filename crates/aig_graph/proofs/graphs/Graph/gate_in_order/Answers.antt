@@ -4,11 +4,14 @@ use Rattle.aig_graph.proofs.LargerGraphs.{gate_is_made}
 use Rattle.aig_graph.proofs.graphs.Graph.gate_in_order.Goals as goal
 
 pub returns-in-Some-clause-made : goal.returns-in-Some-clause-made
-returns-in-Some-clause-made c = gate_is_made c.args.self.now c.every_graph_is_lawful.ensures c.in-Some.g c.args.a c.args.b c.in-Some.ensures
+returns-in-Some-clause-made c = gate_is_made c.args.self.now c.every_graph_is_lawful.ensures c.in-Some.g c.args.a
+    c.args.b c.in-Some.ensures
 
 pub returns-in-None-clause-grown : goal.returns-in-None-clause-grown
-returns-in-None-clause-grown c = pushed_grown c.push.result c.args.self.now c.push.new.self (sides_of c.args.a c.args.b) c.push.ensures.ok c.push.ensures.err
+returns-in-None-clause-grown c = pushed_grown c.push.result c.args.self.now c.push.new.self
+    (sides_of c.args.a c.args.b) c.push.ensures.ok c.push.ensures.err
 
 pub returns-in-None-clause-made : goal.returns-in-None-clause-made
 returns-in-None-clause-made c =
-    pushed_made c.push.result c.args.self.now c.push.new.self c.args.a c.args.b c.every_graph_is_lawful.ensures c.requires.a c.requires.b c.requires.inner c.push.ensures.node c.push.ensures.ok
+    pushed_made c.push.result c.args.self.now c.push.new.self c.args.a c.args.b c.every_graph_is_lawful.ensures
+    c.requires.a c.requires.b c.requires.inner c.push.ensures.node c.push.ensures.ok

@@ -8,4 +8,5 @@ loop-n-init c = no_roots c.args.self.now c.args.marks.now c.requires.none
 
 pub loop-n-preserved : goal.loop-n-preserved
 loop-n-preserved c =
-    root_more c.args.self.now c.args.nodes.now c.args.marks.now c.loop-n.marks c.mark.new.marks c.loop-n.n-index (Constant false) c.loop-n-test.true c.loop-n.invariant c.mark.ensures.marked c.mark.ensures.same_length
+    root_more c.args.self.now c.args.nodes.now c.args.marks.now c.loop-n.marks c.mark.new.marks c.loop-n.n-index
+    (Constant false) c.loop-n-test.true c.loop-n.invariant c.mark.ensures.marked c.mark.ensures.same_length

@@ -6,17 +6,24 @@ use Rattle.aig_graph.proofs.graphs.Graph.mark_sides.Goals as goal
 
 pub returns-then-get-clause-reached : goal.returns-then-get-clause-reached
 returns-then-get-clause-reached c =
-    sides_marked c.args.self.now c.args.g c.sides-sides.result c.args.marks.now c.mark.new.marks c.mark-then-get.new.marks c.every_graph_is_lawful.ensures c.requires.gate c.sides-sides.ensures.at c.sides-sides.ensures.are_sides
-    (ap (bit_of c.args.marks.now) (sym c.gate_place.ensures) ∙ sym c.get.ensures ∙ c.if-get.true) c.mark.ensures.marked c.mark-then-get.ensures.marked
+    sides_marked c.args.self.now c.args.g c.sides-sides.result c.args.marks.now c.mark.new.marks
+    c.mark-then-get.new.marks c.every_graph_is_lawful.ensures c.requires.gate c.sides-sides.ensures.at
+    c.sides-sides.ensures.are_sides
+    (ap (bit_of c.args.marks.now) (sym c.gate_place.ensures) ∙ sym c.get.ensures ∙ c.if-get.true) c.mark.ensures.marked
+    c.mark-then-get.ensures.marked
 
 pub returns-else-get-clause-reached : goal.returns-else-get-clause-reached
-returns-else-get-clause-reached c = λ i small. sides_unmarked c.args.self.now c.args.g c.args.marks.now (ap (bit_of c.args.marks.now) (sym c.gate_place.ensures) ∙ sym c.get.ensures ∙ c.if-get.false) i
+returns-else-get-clause-reached c = λ i small. sides_unmarked c.args.self.now c.args.g c.args.marks.now
+    (ap (bit_of c.args.marks.now) (sym c.gate_place.ensures) ∙ sym c.get.ensures ∙ c.if-get.false) i
 
 pub returns-then-get-clause-hands_on : goal.returns-then-get-clause-hands_on
 returns-then-get-clause-hands_on c =
-    handed_on c.args.self.now c.args.g c.sides-sides.result c.args.marks.now c.mark.new.marks c.mark-then-get.new.marks c.sides-sides.ensures.at
-    (ap (bit_of c.args.marks.now) (sym c.gate_place.ensures) ∙ sym c.get.ensures ∙ c.if-get.true) c.mark.ensures.marked c.mark-then-get.ensures.marked
+    handed_on c.args.self.now c.args.g c.sides-sides.result c.args.marks.now c.mark.new.marks c.mark-then-get.new.marks
+    c.sides-sides.ensures.at
+    (ap (bit_of c.args.marks.now) (sym c.gate_place.ensures) ∙ sym c.get.ensures ∙ c.if-get.true) c.mark.ensures.marked
+    c.mark-then-get.ensures.marked
 
 pub returns-else-get-clause-hands_on : goal.returns-else-get-clause-hands_on
 returns-else-get-clause-hands_on c =
-    not_handed_on c.args.self.now c.args.g c.args.marks.now (ap (bit_of c.args.marks.now) (sym c.gate_place.ensures) ∙ sym c.get.ensures ∙ c.if-get.false)
+    not_handed_on c.args.self.now c.args.g c.args.marks.now (ap (bit_of c.args.marks.now) (sym c.gate_place.ensures)
+    ∙ sym c.get.ensures ∙ c.if-get.false)

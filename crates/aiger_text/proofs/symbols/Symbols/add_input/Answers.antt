@@ -10,5 +10,6 @@ returns-clause-ok c =
     let name = c.args.name in
     let absent = ap (λ (t : SymbolTable). name_at t.inputs i) c.self.view_is ∙ c.requires in
     let table : SymbolTable = record { inputs = before.inputs.entries; outputs = before.outputs.entries } in
-    ap (λ es. record table { inputs = es }) (c.in_ok-insert.ensures.entries ∙ insert-absent before.inputs.entries i name absent)
+    ap (λ es. record table { inputs = es }) (c.in_ok-insert.ensures.entries
+    ∙ insert-absent before.inputs.entries i name absent)
     ∙ ap (λ (t : SymbolTable). record t { inputs = t.inputs ++ (i, name) ∷ [] }) c.self.view_is

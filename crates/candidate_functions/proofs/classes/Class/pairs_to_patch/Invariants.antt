@@ -11,5 +11,7 @@ invariant-loop-at l = record {
   y : l.self.y ≡ l.fn.self.y;
   rounds : l.self.rounds ≡ l.fn.self.rounds;
   class : IsPlacedClass l.known.table.now.rows l.graph l.places l.self;
-  pairs : ArePatches l.known.table.now.rows l.own.values.now (point_bits l.known.points.now) l.graph l.places l.own.y l.own.place (take l.at l.fn.self.rounds.items) l.pairs.items;
+  pairs : ArePatches l.known.table.now.rows l.own.values.now
+      (point_bits l.known.points.now) l.graph l.places l.own.y l.own.place
+      (take l.at l.fn.self.rounds.items) l.pairs.items;
 }

@@ -15,10 +15,12 @@ use Rattle.candidate_functions.proofs.UndefinedOutputs.{undefined_is_candidate, 
 use Rattle.candidate_functions.proofs.classes.Classes.patched_output.Goals as goal
 
 pub pairs_to_patch-requires-clause-existential : goal.pairs_to_patch-requires-clause-existential
-pairs_to_patch-requires-clause-existential c = subst (λ vs. Contains vs c.args.own.now.y) (sym c.requires.variables) (is_variable c.args.known.now.f.now c.args.own.now.y c.requires.declared)
+pairs_to_patch-requires-clause-existential c = subst (λ vs. Contains vs c.args.own.now.y) (sym c.requires.variables)
+    (is_variable c.args.known.now.f.now c.args.own.now.y c.requires.declared)
 
 pub patched-requires-clause-existential : goal.patched-requires-clause-existential
-patched-requires-clause-existential c = subst (λ vs. Contains vs c.args.own.now.y) (sym c.requires.variables) (is_variable c.args.known.now.f.now c.args.own.now.y c.requires.declared)
+patched-requires-clause-existential c = subst (λ vs. Contains vs c.args.own.now.y) (sym c.requires.variables)
+    (is_variable c.args.known.now.f.now c.args.own.now.y c.requires.declared)
 
 pub pairs_to_patch-requires-clause-whole : goal.pairs_to_patch-requires-clause-whole
 pairs_to_patch-requires-clause-whole c =
@@ -26,9 +28,12 @@ pairs_to_patch-requires-clause-whole c =
     let v = c.args.own.now.y in
     let places = c.in_ok-places.places.items in
     let told = places_told f v places c.in_ok-places.ensures.places in
-    let below = places_below f c.every_formula_is_lawful.ensures v places (length f.universals) refl c.requires.declared told in
+    let below = places_below f c.every_formula_is_lawful.ensures v places
+    (length f.universals) refl c.requires.declared told in
     subst (λ ps. All (HasPlaces ps) c.args.known.now.table.now.rows) (sym c.deref.ensures.value)
-    (All-weaker (λ (row : List Bool). length row ≡ length f.universals) (HasPlaces places) (λ row long. subst (λ n. All (λ p. p < n) places) (sym long) below) c.args.known.now.table.now.rows c.requires.whole)
+    (All-weaker (λ (row : List Bool). length row ≡ length f.universals) (HasPlaces places)
+    (λ row long. subst (λ n. All (λ p. p < n) places) (sym long) below) c.args.known.now.table.now.rows
+    c.requires.whole)
 
 pub pairs_to_patch-requires-clause-places : goal.pairs_to_patch-requires-clause-places
 pairs_to_patch-requires-clause-places c =
@@ -36,9 +41,12 @@ pairs_to_patch-requires-clause-places c =
     let v = c.args.own.now.y in
     let places = c.in_ok-places.places.items in
     let told = places_told f v places c.in_ok-places.ensures.places in
-    let below = places_below f c.every_formula_is_lawful.ensures v places (length f.universals) refl c.requires.declared told in
+    let below = places_below f c.every_formula_is_lawful.ensures v places
+    (length f.universals) refl c.requires.declared told in
     let room = c.requires.inputs in
-    subst (All (λ p. p < c.args.graph.now.inputs)) (sym c.deref.ensures.value) (All-weaker (λ p. p < length f.universals) (λ p. p < c.args.graph.now.inputs) (λ p b. omega (arith, room, b)) places below)
+    subst (All (λ p. p < c.args.graph.now.inputs)) (sym c.deref.ensures.value)
+    (All-weaker (λ p. p < length f.universals) (λ p. p < c.args.graph.now.inputs)
+    (λ p b. omega (arith, room, b)) places below)
 
 pub pairs_to_patch-requires-clause-class : goal.pairs_to_patch-requires-clause-class
 pairs_to_patch-requires-clause-class c =
@@ -48,22 +56,27 @@ pairs_to_patch-requires-clause-class c =
     let told = places_told f v places c.in_ok-places.ensures.places in
     let rows = c.args.known.now.table.now.rows in
     subst (λ ps. IsPlacedClass rows c.args.graph.now ps c.index_mut-class.result.now) (sym c.deref.ensures.value)
-    (placed_there f rows c.args.graph.now c.args.self.now.classes.items c.args.place v c.index_mut-class.result.now places c.requires.place c.index_mut-class.ensures.value c.requires.declared told)
+    (placed_there f rows c.args.graph.now c.args.self.now.classes.items c.args.place v c.index_mut-class.result.now
+    places c.requires.place c.index_mut-class.ensures.value c.requires.declared told)
 
 pub patched-requires-clause-rounds : goal.patched-requires-clause-rounds
 patched-requires-clause-rounds c =
     let rows = c.args.known.now.table.now.rows in
     let each = c.in_ok-pairs.ensures.pairs.each in
     subst (AreRounds (length c.args.known.now.points.now.rows)) (sym c.deref-2.ensures.value)
-    (subst (λ n. AreRounds n c.in_ok-pairs.pairs.items) (sym c.requires.as_many) (pair_rounds_within rows c.pairs_to_patch.new.graph c.deref.result.now c.in_ok-pairs.pairs.items each))
+    (subst (λ n. AreRounds n c.in_ok-pairs.pairs.items) (sym c.requires.as_many)
+    (pair_rounds_within rows c.pairs_to_patch.new.graph c.deref.result.now c.in_ok-pairs.pairs.items each))
 
 pub patched-requires-clause-cubes : goal.patched-requires-clause-cubes
 patched-requires-clause-cubes c =
     let g = c.pairs_to_patch.new.graph in
-    subst (All (λ (p : Pair). IsNode g p.cube)) (sym c.deref-2.ensures.value) (pair_cubes c.args.known.now.table.now.rows g c.deref.result.now c.in_ok-pairs.pairs.items c.in_ok-pairs.ensures.pairs.each)
+    subst (All (λ (p : Pair). IsNode g p.cube)) (sym c.deref-2.ensures.value)
+    (pair_cubes c.args.known.now.table.now.rows g c.deref.result.now c.in_ok-pairs.pairs.items
+    c.in_ok-pairs.ensures.pairs.each)
 
 pub returns-clause-extends : goal.returns-clause-extends
-returns-clause-extends c = extends-trans c.args.graph.now c.pairs_to_patch.new.graph c.patched.new.graph c.in_ok-pairs.ensures.extends c.patched.ensures.extends
+returns-clause-extends c = extends-trans c.args.graph.now c.pairs_to_patch.new.graph c.patched.new.graph
+    c.in_ok-pairs.ensures.extends c.patched.ensures.extends
 
 pub returns-clause-classes : goal.returns-clause-classes
 returns-clause-classes c =
@@ -78,9 +91,12 @@ returns-clause-classes c =
     let class = c.pairs_to_patch.new.self in
     let after = set c.args.self.now.classes.items c.args.place class in
     let grown = extends-trans old mid new c.in_ok-pairs.ensures.extends c.patched.ensures.extends in
-    on_ok c.patched.result (All (IsClass f rows new) after) (some_existential f v (All (IsClass f rows new) after) c.requires.declared (λ e found.
-    class_put f rows old new c.args.self.now.classes.items c.args.place v class e grown c.requires.classes c.requires.place found c.index_mut-class.result.now c.index_mut-class.ensures.value c.pairs_to_patch.ensures.y
-    (subst (λ ps. IsPlacedClass rows new ps class) (c.deref.ensures.value ∙ told e found) (placed_stays mid new c.patched.ensures.extends rows c.deref.result.now class c.in_ok-pairs.ensures.class))))
+    on_ok c.patched.result (All (IsClass f rows new) after) (some_existential f v
+    (All (IsClass f rows new) after) c.requires.declared (λ e found.
+    class_put f rows old new c.args.self.now.classes.items c.args.place v class e grown c.requires.classes
+    c.requires.place found c.index_mut-class.result.now c.index_mut-class.ensures.value c.pairs_to_patch.ensures.y
+    (subst (λ ps. IsPlacedClass rows new ps class) (c.deref.ensures.value ∙ told e found)
+    (placed_stays mid new c.patched.ensures.extends rows c.deref.result.now class c.in_ok-pairs.ensures.class))))
 
 pub returns-clause-output : goal.returns-clause-output
 returns-clause-output c = λ rules e found by.
@@ -96,10 +112,16 @@ returns-clause-output c = λ rules e found by.
     let own = c.args.own.now in
     let before = c.index_mut-class.result.now in
     let are = c.deref.ensures.value ∙ told e found in
-    let placed = placed_there f rows old c.args.self.now.classes.items c.args.place v before (universal_places f e.sees) c.requires.place c.index_mut-class.ensures.value c.requires.declared
-    (λ d known. let one : Some e ≡ Some d = sym found ∙ known in let same : e ≡ d = cc in ap (λ (z : Existential). universal_places f z.sees) same) in
-    let patches = subst (λ ps. ArePatches rows own.values.now points mid ps own.y own.place before.rounds.items c.in_ok-pairs.pairs.items) are c.in_ok-pairs.ensures.pairs in
-    IfOk-weaker c.patched.result (IsPatched mid new points own.y c.deref-2.result.now own.node) (IsCandidate f rows points rules new e)
-    (λ n patched. undefined_is_candidate f c.every_formula_is_lawful.ensures rows points c.requires.whole c.requires.points rules own.y own.place e found old mid new c.in_ok-pairs.ensures.extends
+    let placed = placed_there f rows old c.args.self.now.classes.items c.args.place v before
+    (universal_places f e.sees) c.requires.place c.index_mut-class.ensures.value c.requires.declared
+    (λ d known. let one : Some e ≡ Some d = sym found ∙ known in let same : e ≡ d = cc in
+    ap (λ (z : Existential). universal_places f z.sees) same) in
+    let patches = subst (λ ps. ArePatches rows own.values.now points mid ps own.y own.place before.rounds.items
+    c.in_ok-pairs.pairs.items) are c.in_ok-pairs.ensures.pairs in
+    IfOk-weaker c.patched.result (IsPatched mid new points own.y c.deref-2.result.now own.node)
+    (IsCandidate f rows points rules new e)
+    (λ n patched. undefined_is_candidate f c.every_formula_is_lawful.ensures rows points c.requires.whole
+    c.requires.points rules own.y own.place e found old mid new c.in_ok-pairs.ensures.extends
     before.rounds.items placed.rounds c.in_ok-pairs.pairs.items own.values.now own.node n by c.requires.known patches
-    (subst (λ ps. IsPatched mid new points own.y ps own.node n) c.deref-2.ensures.value patched)) c.patched.ensures.patched
+    (subst (λ ps. IsPatched mid new points own.y ps own.node n) c.deref-2.ensures.value patched))
+    c.patched.ensures.patched

@@ -13,14 +13,16 @@ pub input-input-requires : goal.input-input-requires
 input-input-requires c =
     let found = c.in-Some.ensures.lookup in
     let room = c.requires.inputs in
-    let below = place_within c.args.f.now c.args.seen.now c.in-Some.x.now c.place_of.result c.requires.seen (c.in-Some-Test.tested, found.3.0, sym found.1) c.place_of.ensures.place in
+    let below = place_within c.args.f.now c.args.seen.now c.in-Some.x.now c.place_of.result c.requires.seen
+    (c.in-Some-Test.tested, found.3.0, sym found.1) c.place_of.ensures.place in
     omega (arith, room, below)
 
 pub mux-requires-clause-c : goal.mux-requires-clause-c
 mux-requires-clause-c c =
     let found = c.in-Some.ensures.lookup in
     let room = c.requires.inputs in
-    let below = place_within c.args.f.now c.args.seen.now c.in-Some.x.now c.place_of.result c.requires.seen (c.in-Some-Test.tested, found.3.0, sym found.1) c.place_of.ensures.place in
+    let below = place_within c.args.f.now c.args.seen.now c.in-Some.x.now c.place_of.result c.requires.seen
+    (c.in-Some-Test.tested, found.3.0, sym found.1) c.place_of.ensures.place in
     subst (IsNode c.args.graph.now) (sym c.input-input.ensures) (omega (arith, room, below))
 
 pub returns-in-Some-clause-node : goal.returns-in-Some-clause-node
@@ -29,10 +31,14 @@ returns-in-Some-clause-node c =
     let nodes = c.args.nodes.now in
     let old = c.args.graph.now in
     let found = c.in-Some.ensures.lookup in
-    let among = place_among c.args.f.now c.args.seen.now c.in-Some.x.now c.place_of.result (c.in-Some-Test.tested, found.3.0, sym found.1) c.place_of.ensures.place in
+    let among = place_among c.args.f.now c.args.seen.now c.in-Some.x.now c.place_of.result
+    (c.in-Some-Test.tested, found.3.0, sym found.1) c.place_of.ensures.place in
     let at : (k : ℕ) (n : Node) → n ≡ get_or nodes k (Constant false) → IsOver old places n =
     λ k n is. subst (IsOver old places) (sym is) (at_over old places nodes c.requires.nodes k) in
-    IfOk-weaker c.mux.result (IsChosen old c.mux.new.self c.input-input.result c.node_at.result c.node_at-in-Some.result) (IsOver c.mux.new.self places)
+    IfOk-weaker c.mux.result (IsChosen old c.mux.new.self c.input-input.result c.node_at.result
+    c.node_at-in-Some.result) (IsOver c.mux.new.self places)
     (λ n made. chosen_over old c.mux.new.self places c.place_of.result c.node_at.result c.node_at-in-Some.result n among
-    (at c.in-Some-Test.yes c.node_at.result c.node_at.ensures) (at c.in-Some-Test.no c.node_at-in-Some.result c.node_at-in-Some.ensures)
-    (subst (λ (g : Node). IsChosen old c.mux.new.self g c.node_at.result c.node_at-in-Some.result n) c.input-input.ensures made)) c.mux.ensures.made
+    (at c.in-Some-Test.yes c.node_at.result c.node_at.ensures)
+    (at c.in-Some-Test.no c.node_at-in-Some.result c.node_at-in-Some.ensures)
+    (subst (λ (g : Node). IsChosen old c.mux.new.self g c.node_at.result c.node_at-in-Some.result n)
+    c.input-input.ensures made)) c.mux.ensures.made

@@ -5,9 +5,12 @@ use Rattle.candidate_functions.proofs.TreeNodes.{tree_more}
 use Rattle.candidate_functions.proofs.trees.Tree.node.Goals as goal
 
 pub returns-in_err-nodes-2-clause-extends : goal.returns-in_err-nodes-2-clause-extends
-returns-in_err-nodes-2-clause-extends c = extends-trans c.args.graph.now c.loop-at.graph c.branch_node.new.graph c.loop-at.invariant.grown c.branch_node.ensures.extends
+returns-in_err-nodes-2-clause-extends c = extends-trans c.args.graph.now c.loop-at.graph c.branch_node.new.graph
+    c.loop-at.invariant.grown c.branch_node.ensures.extends
 
 pub loop-at-preserved : goal.loop-at-preserved
 loop-at-preserved c =
-    tree_more c.args.graph.now c.loop-at.graph c.branch_node.new.graph (universal_places c.args.f.now c.args.seen.now) c.loop-at.at c.loop-at.nodes.items c.in_ok-nodes-2.field-0 (omega arith) c.loop-at.invariant
+    tree_more c.args.graph.now c.loop-at.graph c.branch_node.new.graph
+    (universal_places c.args.f.now c.args.seen.now) c.loop-at.at c.loop-at.nodes.items c.in_ok-nodes-2.field-0
+    (omega arith) c.loop-at.invariant
     c.branch_node.ensures.extends c.in_ok-nodes-2.ensures.node

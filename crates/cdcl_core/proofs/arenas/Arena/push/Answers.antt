@@ -15,18 +15,31 @@ invariant_of-self c =
     let old = pieces s.literals.items 0 s.ends.items in
     let total : c.len.result ≡ length all = omega (arith, c.len.ensures, c.append.new.literals.ok.0) in
     let ends : c.put_end.new.ends.items ≡ s.ends.items ++ c.len.result ∷ [] = c.put_end.ensures in
-    let starts : c.put_start.new.starts.items ≡ s.starts.items ++ c.next_start-start.result ∷ [] = c.put_start.ensures in
+    let starts : c.put_start.new.starts.items ≡ s.starts.items ++ c.next_start-start.result ∷ [] =
+    c.put_start.ensures in
     let more : pieces all 0 c.put_end.new.ends.items ≡ old ++ lits ∷ [] =
-    ap (pieces all 0) ends ∙ pieces_more s.literals.items lits all s.ends.items c.len.result c.self.invariant.ends c.append.ensures total in
+    ap (pieces all 0) ends ∙ pieces_more s.literals.items lits all s.ends.items c.len.result c.self.invariant.ends
+    c.append.ensures total in
     let next : IsNextStart old lits c.next_start-start.result =
-    subst (λ (v : Arranged). IsNextStart v.clauses lits c.next_start-start.result) (sym c.self.view_is) c.next_start-start.ensures in
+    subst (λ (v : Arranged). IsNextStart v.clauses lits c.next_start-start.result)
+    (sym c.self.view_is) c.next_start-start.ensures in
     let begin =
-    starts_more old s.starts.items lits c.next_start-start.result (c.self.invariant.count ∙ sym (pieces-length s.literals.items 0 s.ends.items)) c.self.invariant.starts next in
+    starts_more old s.starts.items lits c.next_start-start.result
+    (c.self.invariant.count ∙ sym (pieces-length s.literals.items 0 s.ends.items)) c.self.invariant.starts next in
     record {
-      ends = subst (λ (es : List ℕ). AreEnds 0 es (length all)) (sym ends) (ends_more s.literals.items lits all s.ends.items c.len.result c.self.invariant.ends c.append.ensures total);
+      ends = subst (λ (es : List ℕ). AreEnds 0 es (length all)) (sym ends)
+          (ends_more s.literals.items lits all s.ends.items c.len.result c.self.invariant.ends c.append.ensures total);
       count = let count = c.self.invariant.count in
-          omega (arith, count, ap length ends, ap length starts, length-append s.ends.items (c.len.result ∷ []), length-append s.starts.items (c.next_start-start.result ∷ []));
-      starts = subst (λ (cs : List (List Literal)). AreStarts cs c.put_start.new.starts.items) (sym more) (subst (λ (xs : List ℕ). AreStarts (old ++ lits ∷ []) xs) (sym starts) begin);
+          omega (
+            arith,
+            count,
+            ap length ends,
+            ap length starts,
+            length-append s.ends.items (c.len.result ∷ []),
+            length-append s.starts.items (c.next_start-start.result ∷ []),
+          );
+      starts = subst (λ (cs : List (List Literal)). AreStarts cs c.put_start.new.starts.items) (sym more)
+          (subst (λ (xs : List ℕ). AreStarts (old ++ lits ∷ []) xs) (sym starts) begin);
       spare = λ h. absurd (omega (arith, h));
     }
 
@@ -36,5 +49,6 @@ returns c =
     let all = c.append.new.literals.items in
     let total : c.len.result ≡ length all = omega (arith, c.len.ensures, c.append.new.literals.ok.0) in
     let ends : c.put_end.new.ends.items ≡ s.ends.items ++ c.len.result ∷ [] = c.put_end.ensures in
-    ap (pieces all 0) ends ∙ pieces_more s.literals.items c.args.lits.now all s.ends.items c.len.result c.self.invariant.ends c.append.ensures total
+    ap (pieces all 0) ends ∙ pieces_more s.literals.items c.args.lits.now all s.ends.items c.len.result
+    c.self.invariant.ends c.append.ensures total
     ∙ ap (λ (v : Arranged). v.clauses ++ c.args.lits.now ∷ []) c.self.view_is

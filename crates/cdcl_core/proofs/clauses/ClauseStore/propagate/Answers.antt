@@ -31,10 +31,14 @@ returns-clause-ended c =
     let e = c.propagate.ensures in
     let clauses = c.self.inside.arena.clauses in
     let new = c.propagate.new.trail in
-    by clauses new c.propagate.new.first.literals.items c.propagate.new.second.literals.items c.propagate.result e.visitable.watched e.visitable.sound e.ended
+    by clauses new c.propagate.new.first.literals.items c.propagate.new.second.literals.items c.propagate.result
+    e.visitable.watched e.visitable.sound e.ended
   where
-    by : (clauses : List (List Literal)) (new : Trailed) (first second : List Literal) (found : Option ℕ) → AreWatched clauses first second → IsSound (live_in clauses) new.steps
-        → MatchOption found (IsGuarded clauses first second (literals_of new.steps) (literals_of new.steps)) (λ id. status_of (literals_of new.steps) (live_in clauses id) ≡ falsified)
+    by : (clauses : List (List Literal)) (new : Trailed) (first second : List Literal) (found : Option ℕ) →
+        AreWatched clauses first second → IsSound (live_in clauses) new.steps
+        → MatchOption found (IsGuarded clauses first second (literals_of new.steps) (literals_of new.steps))
+        (λ id. status_of (literals_of new.steps) (live_in clauses id) ≡ falsified)
         → IsPropagated (live_in clauses) new found
-    by clauses new first second None watched sound g = guarded_closed clauses first second (literals_of new.steps) watched (sound_consistent (live_in clauses) new.steps sound) g
+    by clauses new first second None watched sound g = guarded_closed clauses first second
+        (literals_of new.steps) watched (sound_consistent (live_in clauses) new.steps sound) g
     by clauses new first second (Some id) watched sound g = g

@@ -20,18 +20,38 @@ invariant_of-self c =
     let fits : HasLists _ lits = subst (λ (v : Stored). HasLists v lits) (sym c.self.view_is) c.requires.lists in
     let lists : length first.heads.items ≡ length s.first.heads.items = c.add_watch.ensures.lists in
     let lists' : length second.heads.items ≡ length s.second.heads.items = c.add_watch-2.ensures.lists in
-    let on_first : All (λ m. place_of m + 1 ≤ length first.heads.items) lits = λ j d lt. let r = (fits.all j d lt).first in omega (arith, r, lists) in
-    let on_second : All (λ m. place_of m + 1 ≤ length second.heads.items) lits = λ j d lt. let r = (fits.all j d lt).second in omega (arith, r, lists') in
+    let on_first : All (λ m. place_of m + 1 ≤ length first.heads.items) lits = λ j d lt. let r =
+    (fits.all j d lt).first in omega (arith, r, lists) in
+    let on_second : All (λ m. place_of m + 1 ≤ length second.heads.items) lits = λ j d lt. let r =
+    (fits.all j d lt).second in omega (arith, r, lists') in
     let long = length-append held (lits ∷ []) in
     record {
       linked = c.add_watch.ensures.linked;
       second_linked = c.add_watch-2.ensures.linked;
-      watched = rw (clauses, c.add_watch.ensures.literals, c.add_watch-2.ensures.literals) (watched_more held a b lits k l inv.watched inv.count inv.second_count c.requires.watched);
-      count = omega (arith, ap length clauses, ap length c.add_watch.ensures.literals, length-append a (k ∷ []), long, inv.count);
-      second_count = omega (arith, ap length clauses, ap length c.add_watch-2.ensures.literals, length-append b (l ∷ []), long, inv.second_count);
-      listed = rw clauses (listed_clause held lits s.first first inv.listed (omega (arith, lists)) (list_of (length first.heads.items) lits on_first));
-      second_listed = rw clauses (listed_clause held lits s.second second inv.second_listed (omega (arith, lists')) (list_of (length second.heads.items) lits on_second));
+      watched = rw (clauses, c.add_watch.ensures.literals, c.add_watch-2.ensures.literals)
+          (watched_more held a b lits k l inv.watched inv.count inv.second_count c.requires.watched);
+      count = omega (
+        arith,
+        ap length clauses,
+        ap length c.add_watch.ensures.literals,
+        length-append a (k ∷ []),
+        long,
+        inv.count,
+      );
+      second_count = omega (
+        arith,
+        ap length clauses,
+        ap length c.add_watch-2.ensures.literals,
+        length-append b (l ∷ []),
+        long,
+        inv.second_count,
+      );
+      listed = rw clauses (listed_clause held lits s.first first inv.listed (omega (arith, lists))
+          (list_of (length first.heads.items) lits on_first));
+      second_listed = rw clauses (listed_clause held lits s.second second inv.second_listed (omega (arith, lists'))
+          (list_of (length second.heads.items) lits on_second));
       short = rw (clauses, c.add_watch.ensures.literals, c.add_watch-2.ensures.literals)
-          (short_more held a b s.short.items c.note_short.new.short.items lits k l c.len.result inv.short inv.count inv.second_count (omega (arith, c.len.ensures, ap length clauses, long)) c.note_short.ensures);
+          (short_more held a b s.short.items c.note_short.new.short.items lits k l c.len.result inv.short inv.count
+          inv.second_count (omega (arith, c.len.ensures, ap length clauses, long)) c.note_short.ensures);
       spare = λ h. absurd (omega (arith, h));
     }

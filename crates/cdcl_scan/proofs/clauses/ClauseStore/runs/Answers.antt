@@ -12,4 +12,5 @@ returns c =
     let cs = pieces s.literals.items 0 s.ends.items in
     subst (λ (v : Stored). AreRuns 0 c.deref.result.now v.clauses (length v.clauses)) c.self.view_is
     (subst (λ (rs : List Run). AreRuns 0 rs cs (length cs)) (sym c.deref.ensures.value)
-    (subst (λ (n : ℕ). AreRuns 0 s.runs.items cs n) (sym (pieces-length s.literals.items 0 s.ends.items)) c.self.invariant.runs))
+    (subst (λ (n : ℕ). AreRuns 0 s.runs.items cs n) (sym (pieces-length s.literals.items 0 s.ends.items))
+    c.self.invariant.runs))

@@ -16,11 +16,15 @@ returns-clause-fit c =
     let es = c.args.log.now.entries in
     let s = c.self.inside.searcher in
     let clause = c.deref.result.now in
-    let is : clause ≡ opposite c.args.g.now.selector ∷ c.args.lits.now = c.deref.ensures.value ∙ c.in_ok-clause.ensures in
-    let fit : Fit s.clauses.clauses s.variables es = subst (λ (v : Shown). Fit v.held v.variables es) (sym c.self.view_is) c.requires.fit in
+    let is : clause ≡ opposite c.args.g.now.selector ∷ c.args.lits.now =
+    c.deref.ensures.value ∙ c.in_ok-clause.ensures in
+    let fit : Fit s.clauses.clauses s.variables es = subst (λ (v : Shown). Fit v.held v.variables es)
+    (sym c.self.view_is) c.requires.fit in
     let stands : (l : Literal) → holds clause l ≡ true → Stands es l = λ l h.
-    given_stands es c.args.g.now c.args.lits.now c.requires.made (of_all (IsPlain es) c.args.lits.now c.requires.plain) l (ap (λ xs. holds xs l) (sym is) ∙ h) in
+    given_stands es c.args.g.now c.args.lits.now c.requires.made
+    (of_all (IsPlain es) c.args.lits.now c.requires.plain) l (ap (λ xs. holds xs l) (sym is) ∙ h) in
     subst (λ (cs : List (List Literal)). Fit cs s.variables c.keep_given.new.log.entries) (sym c.in_ok-id.ensures.held)
     (subst (λ (l : ProofLog). Fit (s.clauses.clauses ++ clause ∷ []) s.variables l.entries) (sym c.in_ok-id.ensures.ok)
     (fit_given s.clauses.clauses s.variables es c.args.origin clause fit (all_named es clause stands) stands
-    (given_grouped es c.args.g.now c.args.lits.now clause c.requires.made (of_all (IsPlain es) c.args.lits.now c.requires.plain) is)))
+    (given_grouped es c.args.g.now c.args.lits.now clause c.requires.made
+    (of_all (IsPlain es) c.args.lits.now c.requires.plain) is)))

@@ -11,8 +11,10 @@ pub returns : goal.returns
 returns g c =
     let values = g.O.Oracle.values c.args.oracle.now in
     let inputs = c.args.self.now.inputs.items in
-    let row_is : c.in_ok-row.row ≡ map (λ l. values (variable_of l)) inputs = c.in_ok-row.ensures ∙ ap (map (λ l. values (variable_of l))) c.deref.ensures.value in
-    failure_is c.args.circuit.now.f.now c.args.circuit.now.graph.now c.args.circuit.now.outputs.now c.in_ok-row.row c.in_ok-values.values c.in-Some.j c.requires.formula.prefix c.args.circuit.now.a_node_an_existential
+    let row_is : c.in_ok-row.row ≡ map (λ l. values (variable_of l)) inputs =
+    c.in_ok-row.ensures ∙ ap (map (λ l. values (variable_of l))) c.deref.ensures.value in
+    failure_is c.args.circuit.now.f.now c.args.circuit.now.graph.now c.args.circuit.now.outputs.now c.in_ok-row.row
+    c.in_ok-values.values c.in-Some.j c.requires.formula.prefix c.args.circuit.now.a_node_an_existential
     (ap length row_is ∙ mapped_long (λ l. values (variable_of l)) inputs ∙ c.requires.input_count)
     c.in_ok-values.ensures c.in-Some.ensures.some
 
@@ -20,8 +22,13 @@ pub unreachable-requires : goal.unreachable-requires
 unreachable-requires g c =
     let values = g.O.Oracle.values c.args.oracle.now in
     let inputs = c.args.self.now.inputs.items in
-    let row_is : c.in_ok-row.row ≡ map (λ l. values (variable_of l)) inputs = c.in_ok-row.ensures ∙ ap (map (λ l. values (variable_of l))) c.deref.ensures.value in
-    let values_are : c.in_ok-values.values ≡ map (node_value c.args.circuit.now.graph.now (bit_of (map (λ l. values (variable_of l)) inputs))) c.args.circuit.now.outputs.now =
-    c.in_ok-values.ensures ∙ ap (λ r. map (node_value c.args.circuit.now.graph.now (bit_of r)) c.args.circuit.now.outputs.now) row_is in
-    let failing = subst (λ r. HasFalseClause c.args.circuit.now.f.now r c.in_ok-values.values) (sym row_is) (subst (λ vs. HasFalseClause c.args.circuit.now.f.now (map (λ l. values (variable_of l)) inputs) vs) (sym values_are) c.requires.failing) in
+    let row_is : c.in_ok-row.row ≡ map (λ l. values (variable_of l)) inputs =
+    c.in_ok-row.ensures ∙ ap (map (λ l. values (variable_of l))) c.deref.ensures.value in
+    let values_are : c.in_ok-values.values ≡ map (node_value c.args.circuit.now.graph.now
+    (bit_of (map (λ l. values (variable_of l)) inputs))) c.args.circuit.now.outputs.now =
+    c.in_ok-values.ensures ∙ ap (λ r. map (node_value c.args.circuit.now.graph.now (bit_of r))
+    c.args.circuit.now.outputs.now) row_is in
+    let failing = subst (λ r. HasFalseClause c.args.circuit.now.f.now r c.in_ok-values.values) (sym row_is)
+    (subst (λ vs. HasFalseClause c.args.circuit.now.f.now (map (λ l. values (variable_of l)) inputs) vs)
+    (sym values_are) c.requires.failing) in
     false≢true (sym failing.2 ∙ c.in-None.ensures.none refl failing.0 failing.1)

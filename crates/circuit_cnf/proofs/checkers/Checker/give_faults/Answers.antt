@@ -30,7 +30,8 @@ returns-in_err-give-clause-turned g c =
       grouped = (g.met.O.Oracle.searched c.args.oracle.now c.args.log.now c.requires.fit).grouped;
       few = c.requires.few;
     } in
-    faults_turned c.args.f.now c.args.self.now leaf c.args.log.now c.group.new.log c.in_ok-group.group m c.give.new.log c.give.ensures.said _
+    faults_turned c.args.f.now c.args.self.now leaf c.args.log.now c.group.new.log c.in_ok-group.group m c.give.new.log
+    c.give.ensures.said _
 
 pub returns-clause-turned : goal.returns-clause-turned
 returns-clause-turned g c =
@@ -44,7 +45,8 @@ returns-clause-turned g c =
       grouped = (g.met.O.Oracle.searched c.args.oracle.now c.args.log.now c.requires.fit).grouped;
       few = c.requires.few;
     } in
-    faults_turned c.args.f.now c.args.self.now leaf c.args.log.now c.group.new.log c.in_ok-group.group m c.give.new.log c.give.ensures.said _
+    faults_turned c.args.f.now c.args.self.now leaf c.args.log.now c.group.new.log c.in_ok-group.group m c.give.new.log
+    c.give.ensures.said _
 
 pub returns-clause-given : goal.returns-clause-given
 returns-clause-given g c =
@@ -58,5 +60,8 @@ returns-clause-given g c =
       grouped = (g.met.O.Oracle.searched c.args.oracle.now c.args.log.now c.requires.fit).grouped;
       few = c.requires.few;
     } in
-    subst (λ xs. HaveFaultGroup c.args.f.now c.args.self.now (leaf_of c.args.f.now xs c.args.leaves.now) c.args.log.now.entries c.give.new.log.entries c.in_ok-group.group) c.deref.ensures.value
-    (faults_grouped c.args.f.now c.args.self.now leaf c.args.log.now c.group.new.log c.in_ok-group.group m c.give.new.log c.give.ensures.said c.in_ok-give.ensures.given)
+    subst (λ xs. HaveFaultGroup c.args.f.now c.args.self.now
+    (leaf_of c.args.f.now xs c.args.leaves.now) c.args.log.now.entries c.give.new.log.entries c.in_ok-group.group)
+    c.deref.ensures.value
+    (faults_grouped c.args.f.now c.args.self.now leaf c.args.log.now c.group.new.log c.in_ok-group.group m
+    c.give.new.log c.give.ensures.said c.in_ok-give.ensures.given)

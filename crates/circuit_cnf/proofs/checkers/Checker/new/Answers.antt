@@ -11,12 +11,22 @@ pub returns-clause-grew : goal.returns-clause-grew
 returns-clause-grew g c group =
     let P = IsAddedBy c.args.f.now circuits group true c.args.log.now.entries in
     let v = variable_of c.in_ok-group.group.selector in
-    let named : IsNamedBy c.args.f.now circuits c.name_inputs.new.log.entries v (Selector v) = record { unnamed = c.in_ok-group.ensures.unnamed; own = inl refl; rightly = tt } in
+    let named : IsNamedBy c.args.f.now circuits c.name_inputs.new.log.entries v (Selector v) =
+    record { unnamed = c.in_ok-group.ensures.unnamed; own = inl refl; rightly = tt } in
     grown_then P c.args.log.now c.name_inputs.new.log c.group.new.log (c.name_inputs.ensures.grew group)
     (grown_by P c.name_inputs.new.log c.group.new.log (Named v (Selector v)) c.in_ok-group.ensures.ok named)
 
 pub returns-clause-made : goal.returns-clause-made
 returns-clause-made g c =
     new_checker c.args.f.now c.name_inputs.new.log c.group.new.log
-    (record { alloc = c.args.alloc; tenant = c.in_ok-tenant.tenant; gates = record { group = c.in_ok-group.group; variables = c.new.result; unfinished = None }; inputs = c.in_ok-inputs.inputs })
-    c.in_ok-inputs.ensures.none c.in_ok-inputs.ensures.inputs c.in_ok-group.ensures.made c.in_ok-group.ensures.unnamed c.in_ok-group.ensures.ok c.new.ensures.empty refl (g.met.O.Oracle.searched c.name_inputs.new.oracle c.name_inputs.new.log c.name_inputs.ensures.fit).grouped
+    (record {
+      alloc = c.args.alloc;
+      tenant = c.in_ok-tenant.tenant;
+      gates =
+          record { group = c.in_ok-group.group; variables = c.new.result; unfinished = None };
+      inputs =
+          c.in_ok-inputs.inputs;
+    })
+    c.in_ok-inputs.ensures.none c.in_ok-inputs.ensures.inputs c.in_ok-group.ensures.made c.in_ok-group.ensures.unnamed
+    c.in_ok-group.ensures.ok c.new.ensures.empty refl (g.met.O.Oracle.searched c.name_inputs.new.oracle
+    c.name_inputs.new.log c.name_inputs.ensures.fit).grouped

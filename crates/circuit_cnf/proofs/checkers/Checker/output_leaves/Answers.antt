@@ -11,37 +11,48 @@ use Rattle.circuit_cnf.proofs.checkers.Checker.output_leaves.Goals as goal
 
 pub cone_literals-requires-clause-few : goal.cone_literals-requires-clause-few
 cone_literals-requires-clause-few g c =
-    few_by_gates (variable_of c.args.self.now.gates.group.selector) c.args.log.now c.finish.new.log c.finish.ensures.grew c.finish.ensures.faults c.requires.few
+    few_by_gates (variable_of c.args.self.now.gates.group.selector) c.args.log.now c.finish.new.log
+    c.finish.ensures.grew c.finish.ensures.faults c.requires.few
 
 pub invariant_of-cone-clause-closed : goal.invariant_of-cone-clause-closed
-invariant_of-cone-clause-closed g c = cones_are_closed c.args.circuit.now.graph.now c.args.circuit.now.outputs.now c.cones.new.marks c.cones.ensures.marked
+invariant_of-cone-clause-closed g c = cones_are_closed c.args.circuit.now.graph.now c.args.circuit.now.outputs.now
+    c.cones.new.marks c.cones.ensures.marked
 
 pub returns-in_err-literals-clause-checker : goal.returns-in_err-literals-clause-checker
 returns-in_err-literals-clause-checker g c =
-    cone_checker c.args.circuit.now.f.now c.args.self.now c.cone_literals.new.gates (variable_of c.finish.new.self.group.selector) c.args.log.now c.finish.new.log c.cone_literals.new.log c.requires.checker c.finish.ensures.names
+    cone_checker c.args.circuit.now.f.now c.args.self.now c.cone_literals.new.gates
+    (variable_of c.finish.new.self.group.selector) c.args.log.now c.finish.new.log c.cone_literals.new.log
+    c.requires.checker c.finish.ensures.names
     c.cone_literals.ensures.grew c.cone_literals.ensures.bads c.cone_literals.ensures.known
 
 pub returns-in_err-literals-clause-grew : goal.returns-in_err-literals-clause-grew
 returns-in_err-literals-clause-grew g c =
-    grew_in_all c.args.self.now.gates c.finish.new.self c.args.log.now c.finish.new.log c.cone_literals.new.log c.finish.ensures.grew c.finish.ensures.group c.cone_literals.ensures.grew
+    grew_in_all c.args.self.now.gates c.finish.new.self c.args.log.now c.finish.new.log c.cone_literals.new.log
+    c.finish.ensures.grew c.finish.ensures.group c.cone_literals.ensures.grew
 
 pub returns-in_err-leaves-clause-checker : goal.returns-in_err-leaves-clause-checker
 returns-in_err-leaves-clause-checker g c =
-    cone_checker c.args.circuit.now.f.now c.args.self.now c.cone_literals.new.gates (variable_of c.finish.new.self.group.selector) c.args.log.now c.finish.new.log c.cone_literals.new.log c.requires.checker c.finish.ensures.names
+    cone_checker c.args.circuit.now.f.now c.args.self.now c.cone_literals.new.gates
+    (variable_of c.finish.new.self.group.selector) c.args.log.now c.finish.new.log c.cone_literals.new.log
+    c.requires.checker c.finish.ensures.names
     c.cone_literals.ensures.grew c.cone_literals.ensures.bads c.cone_literals.ensures.known
 
 pub returns-in_err-leaves-clause-grew : goal.returns-in_err-leaves-clause-grew
 returns-in_err-leaves-clause-grew g c =
-    grew_in_all c.args.self.now.gates c.finish.new.self c.args.log.now c.finish.new.log c.cone_literals.new.log c.finish.ensures.grew c.finish.ensures.group c.cone_literals.ensures.grew
+    grew_in_all c.args.self.now.gates c.finish.new.self c.args.log.now c.finish.new.log c.cone_literals.new.log
+    c.finish.ensures.grew c.finish.ensures.group c.cone_literals.ensures.grew
 
 pub returns-clause-checker : goal.returns-clause-checker
 returns-clause-checker g c =
-    cone_checker c.args.circuit.now.f.now c.args.self.now c.cone_literals.new.gates (variable_of c.finish.new.self.group.selector) c.args.log.now c.finish.new.log c.cone_literals.new.log c.requires.checker c.finish.ensures.names
+    cone_checker c.args.circuit.now.f.now c.args.self.now c.cone_literals.new.gates
+    (variable_of c.finish.new.self.group.selector) c.args.log.now c.finish.new.log c.cone_literals.new.log
+    c.requires.checker c.finish.ensures.names
     c.cone_literals.ensures.grew c.cone_literals.ensures.bads c.cone_literals.ensures.known
 
 pub returns-clause-grew : goal.returns-clause-grew
 returns-clause-grew g c =
-    grew_in_all c.args.self.now.gates c.finish.new.self c.args.log.now c.finish.new.log c.cone_literals.new.log c.finish.ensures.grew c.finish.ensures.group c.cone_literals.ensures.grew
+    grew_in_all c.args.self.now.gates c.finish.new.self c.args.log.now c.finish.new.log c.cone_literals.new.log
+    c.finish.ensures.grew c.finish.ensures.group c.cone_literals.ensures.grew
 
 pub returns-clause-leaves : goal.returns-clause-leaves
 returns-clause-leaves g c =
@@ -49,17 +60,25 @@ returns-clause-leaves g c =
     let nodes = c.args.circuit.now.outputs.now in
     let inputs = c.args.self.now.inputs.items in
     let literals = c.in_ok-literals.literals.items in
-    let earlier = subst (λ n. All (IsEarlierNode graph.inputs n) nodes) (sym c.in_ok-literals.ensures.count) c.requires.nodes in
-    are_leaves c.args.circuit.now.f.now graph c.cone_literals.new.log.entries inputs literals c.cones.new.marks nodes c.in_ok-leaves.leaves.items
-    (marked_universals c.args.circuit.now.f.now graph nodes c.cones.new.marks c.every_graph_is_lawful.ensures c.requires.nodes c.requires.read_universals c.cones.ensures.marked)
-    (cone_checker c.args.circuit.now.f.now c.args.self.now c.cone_literals.new.gates (variable_of c.finish.new.self.group.selector) c.args.log.now c.finish.new.log c.cone_literals.new.log c.requires.checker c.finish.ensures.names
+    let earlier = subst (λ n. All (IsEarlierNode graph.inputs n) nodes)
+    (sym c.in_ok-literals.ensures.count) c.requires.nodes in
+    are_leaves c.args.circuit.now.f.now graph c.cone_literals.new.log.entries inputs literals c.cones.new.marks nodes
+    c.in_ok-leaves.leaves.items
+    (marked_universals c.args.circuit.now.f.now graph nodes c.cones.new.marks c.every_graph_is_lawful.ensures
+    c.requires.nodes c.requires.read_universals c.cones.ensures.marked)
+    (cone_checker c.args.circuit.now.f.now c.args.self.now c.cone_literals.new.gates
+    (variable_of c.finish.new.self.group.selector) c.args.log.now c.finish.new.log c.cone_literals.new.log
+    c.requires.checker c.finish.ensures.names
     c.cone_literals.ensures.grew c.cone_literals.ensures.bads c.cone_literals.ensures.known).inputs
     c.in_ok-literals.ensures.leaves c.cones.ensures.marked earlier
-    (c.in_ok-leaves.ensures ∙ ap (λ xs. map (leaf_by xs c.deref-3.result.now) nodes) c.deref-2.ensures.value ∙ ap (λ ls. map (leaf_by inputs ls) nodes) c.deref-3.ensures.value)
+    (c.in_ok-leaves.ensures ∙ ap (λ xs. map (leaf_by xs c.deref-3.result.now) nodes) c.deref-2.ensures.value ∙ ap
+    (λ ls. map (leaf_by inputs ls) nodes) c.deref-3.ensures.value)
 
 pub invariant_of-cone-clause-universals : goal.invariant_of-cone-clause-universals
 invariant_of-cone-clause-universals g c =
-    marked_universals c.args.circuit.now.f.now c.args.circuit.now.graph.now c.args.circuit.now.outputs.now c.cones.new.marks c.every_graph_is_lawful.ensures c.requires.nodes c.requires.read_universals c.cones.ensures.marked
+    marked_universals c.args.circuit.now.f.now c.args.circuit.now.graph.now c.args.circuit.now.outputs.now
+    c.cones.new.marks c.every_graph_is_lawful.ensures c.requires.nodes c.requires.read_universals
+    c.cones.ensures.marked
 
 pub node_leaves-requires : goal.node_leaves-requires
 node_leaves-requires g c =
@@ -68,9 +87,16 @@ node_leaves-requires g c =
     let marks = c.cones.new.marks in
     let inputs = c.args.self.now.inputs.items in
     let literals = c.in_ok-literals.literals.items in
-    let low = marked_universals c.args.circuit.now.f.now graph nodes marks c.every_graph_is_lawful.ensures c.requires.nodes c.requires.read_universals c.cones.ensures.marked in
-    let earlier = subst (λ n. All (IsEarlierNode graph.inputs n) nodes) (sym c.in_ok-literals.ensures.count) c.requires.nodes in
-    let over = all_over_universals c.args.circuit.now.f.now graph nodes marks (length literals) low c.cones.ensures.marked earlier in
-    let first = subst (λ n. All (IsEarlierNode n (length literals)) nodes) (sym (inputs_count c.args.log.now.entries c.args.circuit.now.f.now.universals inputs c.requires.checker.inputs)) over in
-    let second = subst (λ ls. All (IsEarlierNode (length ls) (length literals)) nodes) (sym c.deref-2.ensures.value) first in
-    subst (λ ls. All (IsEarlierNode (length c.deref-2.result.now) (length ls)) nodes) (sym c.deref-3.ensures.value) second
+    let low = marked_universals c.args.circuit.now.f.now graph nodes marks c.every_graph_is_lawful.ensures
+    c.requires.nodes c.requires.read_universals c.cones.ensures.marked in
+    let earlier = subst (λ n. All (IsEarlierNode graph.inputs n) nodes)
+    (sym c.in_ok-literals.ensures.count) c.requires.nodes in
+    let over = all_over_universals c.args.circuit.now.f.now graph nodes marks
+    (length literals) low c.cones.ensures.marked earlier in
+    let first = subst (λ n. All (IsEarlierNode n (length literals)) nodes)
+    (sym (inputs_count c.args.log.now.entries c.args.circuit.now.f.now.universals inputs
+    c.requires.checker.inputs)) over in
+    let second = subst (λ ls. All (IsEarlierNode (length ls) (length literals)) nodes)
+    (sym c.deref-2.ensures.value) first in
+    subst (λ ls. All (IsEarlierNode (length c.deref-2.result.now) (length ls)) nodes)
+    (sym c.deref-3.ensures.value) second

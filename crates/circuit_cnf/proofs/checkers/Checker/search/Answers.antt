@@ -15,16 +15,19 @@ use Rattle.circuit_cnf.proofs.checkers.Checker.search.Goals as goal
 pub returns-in_err-id-clause-turned : goal.returns-in_err-id-clause-turned
 returns-in_err-id-clause-turned g c =
     quiet_turned c.args.f.now c.args.self.now c.args.self.now _ c.args.log.now c.solve.new.log
-    (learned_turned c.args.f.now c.args.self.now c.args.log.now c.give_faults.new.log c.solve.new.log c.give_faults.ensures.turned c.in_err-id.ensures.stop)
+    (learned_turned c.args.f.now c.args.self.now c.args.log.now c.give_faults.new.log c.solve.new.log
+    c.give_faults.ensures.turned c.in_err-id.ensures.stop)
 
 pub returns-in-Unsat-clause-turned : goal.returns-in-Unsat-clause-turned
 returns-in-Unsat-clause-turned g c =
-    answered_turned c.args.f.now c.args.self.now c.args.log.now c.give_faults.new.log c.solve.new.log c.give_faults.ensures.turned _ c.in-Unsat.id
+    answered_turned c.args.f.now c.args.self.now c.args.log.now c.give_faults.new.log c.solve.new.log
+    c.give_faults.ensures.turned _ c.in-Unsat.id
     (c.solve.ensures.unsat c.in-Unsat.id (c.in_ok-id.was ∙ ap Ok c.in-Unsat.is))
 
 pub returns-in-Sat-clause-turned : goal.returns-in-Sat-clause-turned
 returns-in-Sat-clause-turned g c =
-    learned_turned c.args.f.now c.args.self.now c.args.log.now c.give_faults.new.log c.solve.new.log c.give_faults.ensures.turned (c.solve.ensures.sat (c.in_ok-id.was ∙ ap Ok c.in-Sat.is)).0
+    learned_turned c.args.f.now c.args.self.now c.args.log.now c.give_faults.new.log c.solve.new.log
+    c.give_faults.ensures.turned (c.solve.ensures.sat (c.in_ok-id.was ∙ ap Ok c.in-Sat.is)).0
 
 pub solve-requires-clause-made : goal.solve-requires-clause-made
 solve-requires-clause-made g c =
@@ -39,9 +42,12 @@ returns-in-Unsat-clause-held g c id e =
     let gates = c.args.self.now.gates.group.selector in
     let faults = c.in_ok-group.group.selector in
     let switches : gates ∷ faults ∷ [] ≡ positive (variable_of gates) ∷ positive (variable_of faults) ∷ [] =
-    ap (λ l. l ∷ faults ∷ []) (switch_is gates c.requires.checker.gates.made.positive) ∙ ap (λ l. positive (variable_of gates) ∷ l ∷ []) (switch_is faults c.in_ok-group.ensures.given.made.positive) in
+    ap (λ l. l ∷ faults ∷ []) (switch_is gates c.requires.checker.gates.made.positive) ∙ ap
+    (λ l. positive (variable_of gates) ∷ l ∷ []) (switch_is faults c.in_ok-group.ensures.given.made.positive) in
     let mine = subst (λ ls. IsRefutedUnder c.give_faults.new.log c.solve.new.log ls c.in-Unsat.id) switches r in
-    let held = held_by c.args.f.now leaf (variable_of gates) (variable_of faults) c.args.log.now.entries c.give_faults.new.log c.solve.new.log c.in-Unsat.id c.in_ok-group.ensures.given.two
+    let held = held_by c.args.f.now leaf (variable_of gates)
+    (variable_of faults) c.args.log.now.entries c.give_faults.new.log c.solve.new.log c.in-Unsat.id
+    c.in_ok-group.ensures.given.two
     (g.met.O.Oracle.searched c.solve.new.self c.solve.new.log c.solve.ensures.fit) mine in
     let same : c.in-Unsat.id ≡ id = cc in
     subst (λ i. IsHeldBy c.args.f.now leaf c.args.log.now.entries c.solve.new.log.entries i) same held
@@ -54,8 +60,10 @@ returns-in-Sat-clause-failing g c e =
     let gates = c.args.self.now.gates.group.selector in
     let faults = c.in_ok-group.group.selector in
     let given = c.in_ok-group.ensures.given in
-    let on = switched_on values (clause_at c.solve.new.log.entries) gates faults c.requires.checker.gates.made.positive given.made.positive found.1 in
-    are_failing c.args.f.now c.args.self.now.gates leaf (variable_of faults) values c.args.log.now.entries c.give_faults.new.log c.solve.new.log found.0 found.1.clauses on.0 on.1
+    let on = switched_on values (clause_at c.solve.new.log.entries) gates faults c.requires.checker.gates.made.positive
+    given.made.positive found.1 in
+    are_failing c.args.f.now c.args.self.now.gates leaf (variable_of faults) values c.args.log.now.entries
+    c.give_faults.new.log c.solve.new.log found.0 found.1.clauses on.0 on.1
     c.give_faults.ensures.turned.checker.gates c.requires.ready given.two.names given.given
 
 pub returns-in_err-id-clause-limit : goal.returns-in_err-id-clause-limit
@@ -63,6 +71,7 @@ returns-in_err-id-clause-limit g c = λ is.
     let gates = c.args.self.now.gates.group.selector in
     let faults = c.in_ok-group.group.selector in
     let switches : gates ∷ faults ∷ [] ≡ positive (variable_of gates) ∷ positive (variable_of faults) ∷ [] =
-    ap (λ l. l ∷ faults ∷ []) (switch_is gates c.requires.checker.gates.made.positive) ∙ ap (λ l. positive (variable_of gates) ∷ l ∷ []) (switch_is faults c.in_ok-group.ensures.given.made.positive) in
+    ap (λ l. l ∷ faults ∷ []) (switch_is gates c.requires.checker.gates.made.positive) ∙ ap
+    (λ l. positive (variable_of gates) ∷ l ∷ []) (switch_is faults c.in_ok-group.ensures.given.made.positive) in
     let stop : c.in_err-id.field-0.0 ≡ Limit = search rules in
     (variable_of faults, subst (IsAtLimit c.solve.new.log) switches (c.in_err-id.ensures.limit (ap (λ e. Err e) stop)))

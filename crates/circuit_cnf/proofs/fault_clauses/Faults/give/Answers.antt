@@ -10,7 +10,8 @@ returns-in_err-bads-clause-said g c =
     let leaf = leaf_in c.args.self.now in
     let named = c.name_bads.ensures in
     so_far_is_said f sel leaf c.args.log.now c.name_bads.new.log
-    (after_bads f sel leaf c.args.log.now c.name_bads.new.log named.grew named.faults named.alone c.requires.few c.requires.one_leaf)
+    (after_bads f sel leaf c.args.log.now c.name_bads.new.log named.grew named.faults named.alone c.requires.few
+    c.requires.one_leaf)
 
 pub say-requires-clause-may : goal.say-requires-clause-may
 say-requires-clause-may g c =
@@ -25,7 +26,9 @@ say-requires-clause-may g c =
       one_leaf = c.requires.one_leaf;
     } in
     may_say_named c.args.self.now c.args.log.now c.name_bads.new.log may
-    (after_bads c.args.self.now.f.now (selector_in c.args.self.now) (leaf_in c.args.self.now) c.args.log.now c.name_bads.new.log named.grew named.faults named.alone c.requires.few c.requires.one_leaf)
+    (after_bads c.args.self.now.f.now (selector_in c.args.self.now)
+    (leaf_in c.args.self.now) c.args.log.now c.name_bads.new.log named.grew named.faults named.alone c.requires.few
+    c.requires.one_leaf)
 
 pub returns-clause-said : goal.returns-clause-said
 returns-clause-said g c =
@@ -35,4 +38,5 @@ returns-clause-said g c =
     let named = c.name_bads.ensures in
     so_far_is_said f sel leaf c.args.log.now c.say.new.log
     (after_all f sel leaf c.args.log.now c.name_bads.new.log c.say.new.log
-    (after_bads f sel leaf c.args.log.now c.name_bads.new.log named.grew named.faults named.alone c.requires.few c.requires.one_leaf) c.say.ensures.said)
+    (after_bads f sel leaf c.args.log.now c.name_bads.new.log named.grew named.faults named.alone c.requires.few
+    c.requires.one_leaf) c.say.ensures.said)

@@ -8,28 +8,41 @@ use Rattle.circuit_cnf.proofs.NamedBads.{BadsSoFar, no_bads, bad_more}
 use Rattle.circuit_cnf.proofs.fault_clauses.Faults.name_bads.Goals as goal
 
 pub loop-j-init : goal.loop-j-init
-loop-j-init g c =
-    (c.requires.fit, subst (λ xs. BadsSoFar (selector_in c.args.self.now) c.args.log.now c.args.log.now xs 0) (sym c.new-bads.ensures.items) (no_bads (selector_in c.args.self.now) c.args.log.now c.requires.fresh))
+loop-j-init g c = (
+  c.requires.fit,
+  subst (λ xs. BadsSoFar (selector_in c.args.self.now) c.args.log.now c.args.log.now xs 0)
+      (sym c.new-bads.ensures.items) (no_bads (selector_in c.args.self.now) c.args.log.now c.requires.fresh),
+)
 
 pub returns-in_err-push-clause-grew : goal.returns-in_err-push-clause-grew
 returns-in_err-push-clause-grew g c =
     let group = selector_in c.args.self.now in
     let number : c.var.result ≡ group = c.var.ensures.value ∙ ap variable_of c.selector.ensures in
-    let added : c.new_var.new.log ≡ with_entry c.loop-j.log (Named c.in_ok-v.v (Bad group (c.loop-j.j + 1))) = c.in_ok-v.ensures.ok ∙ ap (λ n. with_entry c.loop-j.log (Named c.in_ok-v.v (Bad n (c.loop-j.j + 1)))) number in
-    (bad_more group c.args.log.now c.loop-j.log c.new_var.new.log c.loop-j.bads.items c.loop-j.j c.in_ok-v.v c.loop-j.invariant.1 c.in_ok-v.ensures.unnamed added).grew
+    let added : c.new_var.new.log ≡ with_entry c.loop-j.log (Named c.in_ok-v.v (Bad group (c.loop-j.j + 1))) =
+    c.in_ok-v.ensures.ok ∙ ap (λ n. with_entry c.loop-j.log (Named c.in_ok-v.v (Bad n (c.loop-j.j + 1)))) number in
+    (bad_more group c.args.log.now c.loop-j.log c.new_var.new.log c.loop-j.bads.items c.loop-j.j c.in_ok-v.v
+    c.loop-j.invariant.1 c.in_ok-v.ensures.unnamed added).grew
 
 pub loop-j-preserved : goal.loop-j-preserved
 loop-j-preserved g c =
     let group = selector_in c.args.self.now in
     let number : c.var.result ≡ group = c.var.ensures.value ∙ ap variable_of c.selector.ensures in
-    let added : c.new_var.new.log ≡ with_entry c.loop-j.log (Named c.in_ok-v.v (Bad group (c.loop-j.j + 1))) = c.in_ok-v.ensures.ok ∙ ap (λ n. with_entry c.loop-j.log (Named c.in_ok-v.v (Bad n (c.loop-j.j + 1)))) number in
-    let more = bad_more group c.args.log.now c.loop-j.log c.new_var.new.log c.loop-j.bads.items c.loop-j.j c.in_ok-v.v c.loop-j.invariant.1 c.in_ok-v.ensures.unnamed added in
-    let items : c.push.new.self.items ≡ c.loop-j.bads.items ++ positive c.in_ok-v.v ∷ [] = c.in_ok-push.ensures.items ∙ ap (λ l. c.loop-j.bads.items ++ l ∷ []) c.pos.ensures in
-    (c.new_var.ensures.fit, subst (λ xs. BadsSoFar group c.args.log.now c.new_var.new.log xs (c.loop-j.j + 1)) (sym items) more)
+    let added : c.new_var.new.log ≡ with_entry c.loop-j.log (Named c.in_ok-v.v (Bad group (c.loop-j.j + 1))) =
+    c.in_ok-v.ensures.ok ∙ ap (λ n. with_entry c.loop-j.log (Named c.in_ok-v.v (Bad n (c.loop-j.j + 1)))) number in
+    let more = bad_more group c.args.log.now c.loop-j.log c.new_var.new.log c.loop-j.bads.items c.loop-j.j c.in_ok-v.v
+    c.loop-j.invariant.1 c.in_ok-v.ensures.unnamed added in
+    let items : c.push.new.self.items ≡ c.loop-j.bads.items ++ positive c.in_ok-v.v ∷ [] =
+    c.in_ok-push.ensures.items ∙ ap (λ l. c.loop-j.bads.items ++ l ∷ []) c.pos.ensures in (
+      c.new_var.ensures.fit,
+      subst (λ xs. BadsSoFar group c.args.log.now c.new_var.new.log xs (c.loop-j.j + 1))
+          (sym items) more,
+    )
 
 pub returns-in_err-push-clause-alone : goal.returns-in_err-push-clause-alone
 returns-in_err-push-clause-alone g c =
     let group = selector_in c.args.self.now in
     let number : c.var.result ≡ group = c.var.ensures.value ∙ ap variable_of c.selector.ensures in
-    let added : c.new_var.new.log ≡ with_entry c.loop-j.log (Named c.in_ok-v.v (Bad group (c.loop-j.j + 1))) = c.in_ok-v.ensures.ok ∙ ap (λ n. with_entry c.loop-j.log (Named c.in_ok-v.v (Bad n (c.loop-j.j + 1)))) number in
-    (bad_more group c.args.log.now c.loop-j.log c.new_var.new.log c.loop-j.bads.items c.loop-j.j c.in_ok-v.v c.loop-j.invariant.1 c.in_ok-v.ensures.unnamed added).alone
+    let added : c.new_var.new.log ≡ with_entry c.loop-j.log (Named c.in_ok-v.v (Bad group (c.loop-j.j + 1))) =
+    c.in_ok-v.ensures.ok ∙ ap (λ n. with_entry c.loop-j.log (Named c.in_ok-v.v (Bad n (c.loop-j.j + 1)))) number in
+    (bad_more group c.args.log.now c.loop-j.log c.new_var.new.log c.loop-j.bads.items c.loop-j.j c.in_ok-v.v
+    c.loop-j.invariant.1 c.in_ok-v.ensures.unnamed added).alone

@@ -8,13 +8,16 @@ use Rattle.circuit_cnf.proofs.SomeFault.{bads_are_plain}
 use Rattle.circuit_cnf.proofs.fault_clauses.Faults.some_fault.Goals as goal
 
 pub add-requires-clause-plain : goal.add-requires-clause-plain
-add-requires-clause-plain g c = bads_are_plain c.args.log.now.entries (selector_in c.args.self.now) c.args.bads.now (range_with_len 1 (length c.args.self.now.f.now.matrix)) c.requires.bads
+add-requires-clause-plain g c = bads_are_plain c.args.log.now.entries (selector_in c.args.self.now) c.args.bads.now
+    (range_with_len 1 (length c.args.self.now.f.now.matrix)) c.requires.bads
 
 pub returns-clause-said : goal.returns-clause-said
 returns-clause-said g c =
     let sel = c.args.self.now.group.now.selector in
     some_is_said c.args.self.now c.args.log.now c.requires.may c.args.bads.now c.add.new.log c.requires.bads
-    (c.in_ok-add.ensures.ok ∙ ap (λ o. with_entry c.args.log.now (Given o (opposite sel ∷ c.args.bads.now))) c.fault.ensures)
+    (c.in_ok-add.ensures.ok ∙ ap (λ o. with_entry c.args.log.now (Given o (opposite sel ∷ c.args.bads.now)))
+    c.fault.ensures)
 
 pub returns-in_err-add-clause-said : goal.returns-in_err-add-clause-said
-returns-in_err-add-clause-said g c = same_said c.args.self.now c.args.log.now c.requires.may c.add.new.log c.in_err-add.ensures.err
+returns-in_err-add-clause-said g c = same_said c.args.self.now c.args.log.now c.requires.may c.add.new.log
+    c.in_err-add.ensures.err

@@ -10,25 +10,32 @@ give_part-requires-clause-from_one g c =
     let gate = c.args.gate.now in
     let so_far = c.loop-parts.invariant.1 in
     let here = so_far.known.last (record gate { parts = c.loop-parts.parts }) so_far.last in
-    (name_in_range c.loop-parts.log.entries gate.variable (And gate.left gate.right) (g.met.O.Oracle.searched c.loop-parts.oracle c.loop-parts.log c.loop-parts.invariant.0).logged here.named).0
+    (name_in_range c.loop-parts.log.entries gate.variable (And gate.left gate.right)
+    (g.met.O.Oracle.searched c.loop-parts.oracle c.loop-parts.log c.loop-parts.invariant.0).logged here.named).0
 
 pub give_part-requires-clause-in_range : goal.give_part-requires-clause-in_range
 give_part-requires-clause-in_range g c =
     let gate = c.args.gate.now in
     let so_far = c.loop-parts.invariant.1 in
     let here = so_far.known.last (record gate { parts = c.loop-parts.parts }) so_far.last in
-    (name_in_range c.loop-parts.log.entries gate.variable (And gate.left gate.right) (g.met.O.Oracle.searched c.loop-parts.oracle c.loop-parts.log c.loop-parts.invariant.0).logged here.named).1
+    (name_in_range c.loop-parts.log.entries gate.variable (And gate.left gate.right)
+    (g.met.O.Oracle.searched c.loop-parts.oracle c.loop-parts.log c.loop-parts.invariant.0).logged here.named).1
 
 pub give_part-requires-clause-sides : goal.give_part-requires-clause-sides
 give_part-requires-clause-sides g c =
     let gate = c.args.gate.now in
     let so_far = c.loop-parts.invariant.1 in
     let here = so_far.known.last (record gate { parts = c.loop-parts.parts }) so_far.last in
-    sides c.loop-parts.log.entries gate.variable gate.left gate.right (g.met.O.Oracle.searched c.loop-parts.oracle c.loop-parts.log c.loop-parts.invariant.0).logged here.named
+    sides c.loop-parts.log.entries gate.variable gate.left gate.right
+    (g.met.O.Oracle.searched c.loop-parts.oracle c.loop-parts.log c.loop-parts.invariant.0).logged here.named
 
 pub loop-parts-preserved : goal.loop-parts-preserved
-loop-parts-preserved g c =
-    (c.give_part.ensures.fit, part_given c.args.self.now c.args.log.now c.args.gate.now c.loop-parts.self c.loop-parts.log c.give_part.new.log c.loop-parts.parts c.loop-parts.invariant.1 c.loop-parts-test.true c.in_ok-give_part.ensures.given)
+loop-parts-preserved g c = (
+  c.give_part.ensures.fit,
+  part_given c.args.self.now c.args.log.now c.args.gate.now c.loop-parts.self
+      c.loop-parts.log c.give_part.new.log c.loop-parts.parts c.loop-parts.invariant.1 c.loop-parts-test.true
+      c.in_ok-give_part.ensures.given,
+)
 
 pub returns-clause-last : goal.returns-clause-last
 returns-clause-last g c =

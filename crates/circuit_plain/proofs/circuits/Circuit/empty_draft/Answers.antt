@@ -8,11 +8,13 @@ loop-variable-preserved c =
     let items : c.deref-variable-items.result.now ≡ c.args.self.now.inputs =
     c.deref-variable-items.ensures.value ∙ ap (λ (net : Netlist). net.inputs) c.self.view_is in
     leaves_more c.args.self.now _ _ c.loop-variable.variable-index _
-    (ap (λ (xs : List ℕ). get_or xs c.loop-variable.variable-index 0) items) c.in_ok-insert-2.ensures.there c.loop-variable.invariant
+    (ap (λ (xs : List ℕ). get_or xs c.loop-variable.variable-index 0) items) c.in_ok-insert-2.ensures.there
+    c.loop-variable.invariant
 
 pub returns : goal.returns
 returns c =
     let items : c.deref-variable-items.result.now ≡ c.args.self.now.inputs =
     c.deref-variable-items.ensures.value ∙ ap (λ (net : Netlist). net.inputs) c.self.view_is in
     rw c.new.ensures.items
-    (leaves_draft c.args.self.now _ c.loop-variable.variable-index (omega (arith, ap length items)) c.loop-variable.invariant)
+    (leaves_draft c.args.self.now _ c.loop-variable.variable-index
+    (omega (arith, ap length items)) c.loop-variable.invariant)

@@ -16,7 +16,8 @@ returns-then-not-contains-clause-some c place e =
     subst (IsFirstUngrounded net) here
     (first_outside net c.args.draft.now.places.items c.loop-place.place c.requires.draft.partial c.requires.closed n_in
     c.loop-place.invariant
-    (not_put net _ c.args.draft.now.places.items (has_number c.args.draft.now.settled) c.loop-place.place _ items c.loop-place-test.true
+    (not_put net _ c.args.draft.now.places.items (has_number c.args.draft.now.settled) c.loop-place.place _ items
+    c.loop-place-test.true
     c.requires.draft (sym c.contains.ensures ∙ c.if-not-contains.true)))
 
 pub loop-place-preserved : goal.loop-place-preserved
@@ -24,8 +25,10 @@ loop-place-preserved c =
     let net = c.args.self.now in
     let items : c.deref-gate-items.result.now ≡ net.gates =
     c.deref-gate-items.ensures.value ∙ ap (λ (n : Netlist). n.gates) c.self.view_is in
-    below_more (λ (p : ℕ). IsSettled net c.args.draft.now.places.items (gate_at net p).variable) c.loop-place.place c.loop-place.invariant
-    (is_put net _ c.args.draft.now.places.items (has_number c.args.draft.now.settled) c.loop-place.place _ items c.loop-place-test.true
+    below_more (λ (p : ℕ). IsSettled net c.args.draft.now.places.items (gate_at net p).variable) c.loop-place.place
+    c.loop-place.invariant
+    (is_put net _ c.args.draft.now.places.items (has_number c.args.draft.now.settled) c.loop-place.place _ items
+    c.loop-place-test.true
     c.requires.draft (sym c.contains.ensures ∙ c.if-not-contains.false))
 
 pub returns-clause-none : goal.returns-clause-none

@@ -10,12 +10,14 @@ loop-place-preserved c =
     elim c.if-branch.branch [
       | then-branch w ↦
           rw w.added-is
-          (round_grown c.args.self.now c.args.draft.now.places.items c.loop-place.draft.places.items _ (has_number c.loop-place.draft.settled) _
+          (round_grown c.args.self.now c.args.draft.now.places.items c.loop-place.draft.places.items _
+          (has_number c.loop-place.draft.settled) _
           c.loop-place.added c.loop-place.place so_far c.in_ok-put.ensures.draft
           (OnTrue_at w.if-branch.true c.in_ok-put.ensures.added))
       | else-branch w ↦
           let passed = OnFalse_at w.if-branch.false c.in_ok-put.ensures.passed in
           rw w.added-is
-          (round_passed c.args.self.now c.args.draft.now.places.items c.loop-place.draft.places.items _ (has_number c.loop-place.draft.settled) _
+          (round_passed c.args.self.now c.args.draft.now.places.items c.loop-place.draft.places.items _
+          (has_number c.loop-place.draft.settled) _
           c.loop-place.added c.loop-place.place so_far c.in_ok-put.ensures.draft passed.0 passed.1)
     ]

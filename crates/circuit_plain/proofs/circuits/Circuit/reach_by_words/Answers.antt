@@ -7,7 +7,11 @@ use Rattle.circuit_plain.proofs.WordsLaws.{spread_on, spread_off}
 use Rattle.circuit_plain.proofs.circuits.Circuit.reach_by_words.Goals as goal
 
 pub loop-i-init : goal.loop-i-init
-loop-i-init c = record { long = c.requires.a_word_a_variable; sides = λ j. rw c.places-places.ensures (nothing_marked _ c.args.order.now _) }
+loop-i-init c = record {
+  long = c.requires.a_word_a_variable;
+  sides =
+      λ j. rw c.places-places.ensures (nothing_marked _ c.args.order.now _);
+}
 
 pub loop-i-preserved : goal.loop-i-preserved
 loop-i-preserved c =
@@ -21,9 +25,11 @@ loop-i-preserved c =
       sides = λ j.
           let before = rw next at (c.loop-i.invariant.sides j) in
           elim (cases_Bool (marked c.loop-i.words j g.variable)) [
-            | inl on ↦ walk_on c.args.self.now c.args.order.now _ _ n g kept c.requires.ordered c.places-places.ensures gates (omega arith) c.index-gate.ensures
+            | inl on ↦ walk_on c.args.self.now c.args.order.now _ _ n g kept c.requires.ordered c.places-places.ensures
+                gates (omega arith) c.index-gate.ensures
                 _ _ _ before on (spread_on _ _ _ _ _ (c.spread.ensures.spread j) on)
-            | inr off ↦ walk_past c.args.self.now c.args.order.now _ _ n g kept c.requires.ordered c.places-places.ensures gates (omega arith) c.index-gate.ensures
+            | inr off ↦ walk_past c.args.self.now c.args.order.now _ _ n g kept c.requires.ordered
+                c.places-places.ensures gates (omega arith) c.index-gate.ensures
                 _ _ _ before off (spread_off _ _ _ _ _ (c.spread.ensures.spread j) off)
           ];
     }

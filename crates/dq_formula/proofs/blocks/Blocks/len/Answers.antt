@@ -4,4 +4,9 @@ use Rattle.dq_formula.proofs.ClauseBlocks.{length_clauses_at}
 use Rattle.dq_formula.proofs.blocks.Blocks.len.Goals as goal
 
 pub returns : goal.returns
-returns c = let s = c.args.self.now in omega (arith, c.len.ensures, s.places.ok.0, length_clauses_at (blocks_of s) s.places.items)
+returns c = let s = c.args.self.now in omega (
+  arith,
+  c.len.ensures,
+  s.places.ok.0,
+  length_clauses_at (blocks_of s) s.places.items,
+)

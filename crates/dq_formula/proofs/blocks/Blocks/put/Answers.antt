@@ -9,12 +9,22 @@ pub overflow_cast-place : goal.overflow_cast-place
 overflow_cast-place c =
     let s = c.args.self.now in
     let few = few_blocks (blocks_of s) 0 0 s.places.items c.requires.arranged in
-    omega (arith, c.len.ensures, s.full.ok.0, few, length-append (before s) (s.current.items ∷ []), length-map s.full.items (λ block. block.items), length_clauses_at (blocks_of s) s.places.items, c.requires.few)
+    omega (
+      arith,
+      c.len.ensures,
+      s.full.ok.0,
+      few,
+      length-append (before s) (s.current.items ∷ []),
+      length-map s.full.items (λ block. block.items),
+      length_clauses_at (blocks_of s) s.places.items,
+      c.requires.few,
+    )
 
 pub returns : goal.returns
 returns c =
     let s = c.args.self.now in
-    are_put s (record { places = c.push.new.self; full = s.full; current = c.extend_from_slice.new.self }) c.args.clause.now (record { block = c.len.result; start = c.len-2.result }) (record {
+    are_put s (record { places = c.push.new.self; full = s.full; current = c.extend_from_slice.new.self })
+    c.args.clause.now (record { block = c.len.result; start = c.len-2.result }) (record {
       full = refl;
       places = rw c.unwrap.ensures at c.push.ensures.items;
       current = rw c.unwrap-2.ensures at c.extend_from_slice.ensures.items;

@@ -7,4 +7,5 @@ use Rattle.dq_formula.proofs.existentials.Existentials.contains.Goals as goal
 pub returns : goal.returns
 returns c =
     let e = c.self.inside in
-    c.contains.ensures ∙ ap (λ ks. has_number ks c.args.y) (sym (ap keys_of (sym c.self.view_is) ∙ keys e.variables e.sets.items c.self.invariant))
+    c.contains.ensures ∙ ap (λ ks. has_number ks c.args.y) (sym
+    (ap keys_of (sym c.self.view_is) ∙ keys e.variables e.sets.items c.self.invariant))

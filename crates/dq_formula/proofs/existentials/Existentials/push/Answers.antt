@@ -8,15 +8,29 @@ use Rattle.dq_formula.proofs.existentials.Existentials.push.Goals as goal
 pub invariant_of-self-2 : goal.invariant_of-self-2
 invariant_of-self-2 c =
     let e = c.self.inside in
-    let absent = ap (λ xs. has_number xs c.args.y) (sym (ap keys_of (sym c.self.view_is) ∙ keys e.variables e.sets.items c.self.invariant)) ∙ c.requires in
-    let variables : c.insert.new.self ≡ e.variables ++ c.args.y ∷ [] = c.in_ok-insert.ensures.numbers ∙ with_absent e.variables c.args.y absent in
-    let sets : c.push.new.self.items ≡ e.sets.items ++ c.args.set ∷ [] = rw c.unwrap.ensures at c.push.ensures.items ∙ ap (λ vs. vs ++ c.args.set ∷ []) c.reserve.ensures.items in
-    omega (arith, c.self.invariant, ap length variables, ap length sets, length_push e.variables c.args.y, length_push e.sets.items c.args.set)
+    let absent = ap (λ xs. has_number xs c.args.y) (sym (ap keys_of (sym c.self.view_is)
+    ∙ keys e.variables e.sets.items c.self.invariant)) ∙ c.requires in
+    let variables : c.insert.new.self ≡ e.variables ++ c.args.y ∷ [] =
+    c.in_ok-insert.ensures.numbers ∙ with_absent e.variables c.args.y absent in
+    let sets : c.push.new.self.items ≡ e.sets.items ++ c.args.set ∷ [] =
+    rw c.unwrap.ensures at c.push.ensures.items ∙ ap (λ vs. vs ++ c.args.set ∷ []) c.reserve.ensures.items in
+    omega (
+      arith,
+      c.self.invariant,
+      ap length variables,
+      ap length sets,
+      length_push e.variables c.args.y,
+      length_push e.sets.items c.args.set,
+    )
 
 pub returns-clause-ok : goal.returns-clause-ok
 returns-clause-ok c =
     let e = c.self.inside in
-    let absent = ap (λ xs. has_number xs c.args.y) (sym (ap keys_of (sym c.self.view_is) ∙ keys e.variables e.sets.items c.self.invariant)) ∙ c.requires in
-    let variables : c.insert.new.self ≡ e.variables ++ c.args.y ∷ [] = c.in_ok-insert.ensures.numbers ∙ with_absent e.variables c.args.y absent in
-    let sets : c.push.new.self.items ≡ e.sets.items ++ c.args.set ∷ [] = rw c.unwrap.ensures at c.push.ensures.items ∙ ap (λ vs. vs ++ c.args.set ∷ []) c.reserve.ensures.items in
-    rw (← c.self.view_is, variables, sets) (zip-append e.variables e.sets.items (c.args.y ∷ []) (c.args.set ∷ []) c.self.invariant)
+    let absent = ap (λ xs. has_number xs c.args.y) (sym (ap keys_of (sym c.self.view_is)
+    ∙ keys e.variables e.sets.items c.self.invariant)) ∙ c.requires in
+    let variables : c.insert.new.self ≡ e.variables ++ c.args.y ∷ [] =
+    c.in_ok-insert.ensures.numbers ∙ with_absent e.variables c.args.y absent in
+    let sets : c.push.new.self.items ≡ e.sets.items ++ c.args.set ∷ [] =
+    rw c.unwrap.ensures at c.push.ensures.items ∙ ap (λ vs. vs ++ c.args.set ∷ []) c.reserve.ensures.items in
+    rw (← c.self.view_is, variables, sets) (zip-append e.variables e.sets.items (c.args.y ∷ [])
+    (c.args.set ∷ []) c.self.invariant)

@@ -9,13 +9,15 @@ use Rattle.dq_formula.proofs.existentials.Existentials.push_unseeing.Goals as go
 pub joined-requires : goal.joined-requires
 joined-requires c =
     let e = c.self.inside in
-    subst (λ ks. IsDistinct eqb (ks ++ c.args.ys.now)) (ap keys_of (sym c.self.view_is) ∙ keys e.variables e.sets.items c.self.invariant ∙ sym c.items.ensures) c.requires
+    subst (λ ks. IsDistinct eqb (ks ++ c.args.ys.now)) (ap keys_of (sym c.self.view_is)
+    ∙ keys e.variables e.sets.items c.self.invariant ∙ sym c.items.ensures) c.requires
 
 pub invariant_of-self-2 : goal.invariant_of-self-2
 invariant_of-self-2 c =
     let e = c.self.inside in
     let variables = c.in_ok-variables.ensures ∙ ap (λ ks. ks ++ c.args.ys.now) c.items.ensures in
-    let sets = c.push_empty_sets.ensures ∙ ap (λ vs. vs ++ replicate (length c.args.ys.now) (FirstOf 0)) c.reserve.ensures.items in
+    let sets = c.push_empty_sets.ensures ∙ ap (λ vs. vs ++ replicate (length c.args.ys.now) (FirstOf 0))
+    c.reserve.ensures.items in
     omega (
       arith,
       c.self.invariant,
@@ -32,4 +34,5 @@ returns-clause-ok c =
     let more = replicate (length c.args.ys.now) (FirstOf 0) in
     let variables = c.in_ok-variables.ensures ∙ ap (λ ks. ks ++ c.args.ys.now) c.items.ensures in
     let sets = c.push_empty_sets.ensures ∙ ap (λ vs. vs ++ more) c.reserve.ensures.items in
-    rw (← c.self.view_is, variables, sets) (zip-append e.variables e.sets.items c.args.ys.now more c.self.invariant ∙ ap (λ rest. zip e.variables e.sets.items ++ rest) (zip-unseeing c.args.ys.now))
+    rw (← c.self.view_is, variables, sets) (zip-append e.variables e.sets.items c.args.ys.now more c.self.invariant ∙ ap
+    (λ rest. zip e.variables e.sets.items ++ rest) (zip-unseeing c.args.ys.now))

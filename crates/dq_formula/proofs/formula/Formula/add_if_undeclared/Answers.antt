@@ -12,6 +12,8 @@ returns-then-is_declared c =
 pub returns : goal.returns
 returns c =
     let f = c.args.self.now in
-    let undeclared = ap (is_declared f) (sym c.var-v.ensures.value) ∙ sym c.is_declared.ensures ∙ c.if-is_declared.false in
+    let undeclared = ap (is_declared f) (sym c.var-v.ensures.value) ∙ sym c.is_declared.ensures
+    ∙ c.if-is_declared.false in
     let inserted = rw c.var-v.ensures.value at c.in_ok-insert.ensures.numbers in
-    λ clauses clause are. undeclared_literal f clauses clause c.args.lit c.args.vars.now c.insert.new.self undeclared (omega (arith, c.var-v.ensures.value, c.var-v.ensures.from_one)) c.requires inserted are
+    λ clauses clause are. undeclared_literal f clauses clause c.args.lit c.args.vars.now c.insert.new.self undeclared
+    (omega (arith, c.var-v.ensures.value, c.var-v.ensures.from_one)) c.requires inserted are

@@ -8,8 +8,11 @@ loop-lit-preserved c =
     let i = c.loop-lit.lit-index in
     let clause = c.args.clause.now in
     let next : take (i + 1) clause ≡ take i clause ++ c.lit-item.result ∷ [] =
-    let e : i + 1 ≡ suc i = omega arith in rw e (take-suc clause i c.lit-item.result c.loop-lit-test.true ∙ ap (λ l. take i clause ++ l ∷ []) (sym c.lit-item.is)) in
-    λ earlier are. rw next (c.in_ok-add_if_undeclared.ensures earlier (take i clause) (c.loop-lit.invariant earlier are))
+    let e : i + 1 ≡ suc i = omega arith in rw e (take-suc clause i c.lit-item.result c.loop-lit-test.true ∙ ap
+    (λ l. take i clause ++ l ∷ []) (sym c.lit-item.is)) in
+    λ earlier are. rw next (c.in_ok-add_if_undeclared.ensures earlier (take i clause)
+    (c.loop-lit.invariant earlier are))
 
 pub returns : goal.returns
-returns c = λ earlier are. rw (take_all c.loop-lit.lit-index c.args.clause.now c.loop-lit-test.false) at (c.loop-lit.invariant earlier are)
+returns c = λ earlier are. rw (take_all c.loop-lit.lit-index c.args.clause.now c.loop-lit-test.false) at
+    (c.loop-lit.invariant earlier are)

@@ -11,4 +11,5 @@ invariant_of-self-2 c =
     let f = c.self.inside in
     let within = All-xor f.vars c.args.lits.now (rw (← c.self.view_is) at c.requires.in_range) in
     let few = rw (← c.self.view_is) at c.requires.few_clauses in
-    rw c.in_ok-push_xor.ensures.ok (IsKept-clauses f.vars f.universals f.existentials f.matrix (xor_clauses c.args.lits.now) c.self.invariant within few)
+    rw c.in_ok-push_xor.ensures.ok (IsKept-clauses f.vars f.universals f.existentials f.matrix
+    (xor_clauses c.args.lits.now) c.self.invariant within few)

@@ -16,12 +16,15 @@ unreachable-requires c =
 pub returns-clause-set : goal.returns-clause-set
 returns-clause-set c =
     let f = c.self.inside in
-    let some : lookup (eqb c.args.y) f.existentials ≡ Some c.in-Some.deps.now = sym c.set_of.ensures ∙ ap option_copied c.in-Some.is in
+    let some : lookup (eqb c.args.y) f.existentials ≡ Some c.in-Some.deps.now =
+    sym c.set_of.ensures ∙ ap option_copied c.in-Some.is in
     rw (← c.self.view_is, find-existential f.universals c.args.y f.existentials, some) refl
 
 pub returns-clause-form : goal.returns-clause-form
 returns-clause-form c =
     let f = c.self.inside in
-    let some : lookup (eqb c.args.y) f.existentials ≡ Some c.in-Some.deps.now = sym c.set_of.ensures ∙ ap option_copied c.in-Some.is in
-    let form = IfSome-lookup_from_All (IsDependencySet f.universals) (eqb c.args.y) f.existentials c.self.invariant.sets in
+    let some : lookup (eqb c.args.y) f.existentials ≡ Some c.in-Some.deps.now =
+    sym c.set_of.ensures ∙ ap option_copied c.in-Some.is in
+    let form = IfSome-lookup_from_All (IsDependencySet f.universals)
+    (eqb c.args.y) f.existentials c.self.invariant.sets in
     rw (← c.self.view_is) (rw some at form)

@@ -10,6 +10,8 @@ returns c =
     let f = c.self.inside in
     let v = c.args.v in
     rw (← c.self.view_is)
-    (c.contains.ensures ∙ sym (is_some-find (λ (y : Existential). eqb y.variable v) (map (existential f.universals) f.existentials)
-    ∙ sym (list_any-map (λ n. eqb n v) (λ (y : Existential). y.variable) (map (existential f.universals) f.existentials))
+    (c.contains.ensures ∙ sym (is_some-find (λ (y : Existential). eqb y.variable v)
+    (map (existential f.universals) f.existentials)
+    ∙ sym (list_any-map (λ n. eqb n v) (λ (y : Existential). y.variable)
+    (map (existential f.universals) f.existentials))
     ∙ ap (λ ks. has ks v) (map-variable f.universals f.existentials)))

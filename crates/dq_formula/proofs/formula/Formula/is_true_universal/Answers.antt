@@ -6,8 +6,10 @@ pub returns-in-Some : goal.returns-in-Some
 returns-in-Some c =
     turned c.get.result c.is_neg.result
     ∙ ap (λ n. cond n (not c.get.result) c.get.result) c.is_neg.ensures
-    ∙ sym (true_universal c.args.self.now c.args.row.now c.args.l c.var.result c.in-Some.place c.get.result c.var.ensures.value c.requires
+    ∙ sym (true_universal c.args.self.now c.args.row.now c.args.l c.var.result c.in-Some.place c.get.result
+    c.var.ensures.value c.requires
     (sym c.universal_place.ensures ∙ c.in-Some.is) c.get.ensures)
 
 pub returns-in-None : goal.returns-in-None
-returns-in-None c = sym (no_universal c.args.self.now c.args.row.now c.args.l c.var.result c.var.ensures.value (sym c.universal_place.ensures ∙ c.in-None.is))
+returns-in-None c = sym (no_universal c.args.self.now c.args.row.now c.args.l c.var.result c.var.ensures.value
+    (sym c.universal_place.ensures ∙ c.in-None.is))

@@ -4,12 +4,15 @@ use Rattle.dq_formula.proofs.Subsets.{none_contained, place_holds}
 use Rattle.dq_formula.proofs.formula.Formula.place_of.Goals as goal
 
 pub returns-in-Some-clause-found : goal.returns-in-Some-clause-found
-returns-in-Some-clause-found c = λ among. place_holds c.args.self.now.universals c.args.x c.in-Some.place (sym c.universal_place.ensures ∙ c.in-Some.is)
+returns-in-Some-clause-found c = λ among. place_holds c.args.self.now.universals c.args.x c.in-Some.place
+    (sym c.universal_place.ensures ∙ c.in-Some.is)
 
 pub returns-in-None-clause-place : goal.returns-in-None-clause-place
 returns-in-None-clause-place c =
     let none = rw (← c.self.view_is) at c.universal_place.ensures in
-    rw (← c.self.view_is) (c.len.ensures.value ∙ sym (place-absent (λ u. u == c.args.x) c.self.inside.universals (sym none ∙ c.in-None.is)))
+    rw (← c.self.view_is) (c.len.ensures.value ∙ sym (place-absent (λ u. u == c.args.x) c.self.inside.universals
+    (sym none ∙ c.in-None.is)))
 
 pub returns-in-None-clause-found : goal.returns-in-None-clause-found
-returns-in-None-clause-found c = λ among. absurd (none_contained c.args.self.now.universals c.args.x (sym c.universal_place.ensures ∙ c.in-None.is) among)
+returns-in-None-clause-found c = λ among. absurd (none_contained c.args.self.now.universals c.args.x
+    (sym c.universal_place.ensures ∙ c.in-None.is) among)

@@ -16,8 +16,11 @@ returns-then-first-second c =
     let m = assignment_of us c.args.r1.now in
     let n = assignment_of us c.args.r2.now in
     let differ : false ≡ same_bits (map m (dependencies us deps)) (map n (dependencies us deps)) =
-    sym (same_bits-from_difference (map m (dependencies us deps)) (map n (dependencies us deps)) c.loop-i.i (λ e. differs c.seen_bit-first.result c.seen_bit-second.result c.if-first-second.true (c.seen_bit-first.ensures ∙ e ∙ sym c.seen_bit-second.ensures))) in
-    IfSome_then (existential_of c.args.self.now c.args.y) c.deps_of-deps.ensures.set (λ (e : Existential) set. subst (λ ds. false ≡ same_bits (map m ds) (map n ds)) set differ)
+    sym (same_bits-from_difference (map m (dependencies us deps)) (map n (dependencies us deps)) c.loop-i.i
+    (λ e. differs c.seen_bit-first.result c.seen_bit-second.result c.if-first-second.true
+    (c.seen_bit-first.ensures ∙ e ∙ sym c.seen_bit-second.ensures))) in
+    IfSome_then (existential_of c.args.self.now c.args.y) c.deps_of-deps.ensures.set
+    (λ (e : Existential) set. subst (λ ds. false ≡ same_bits (map m ds) (map n ds)) set differ)
 
 pub returns : goal.returns
 returns c =
@@ -30,5 +33,13 @@ returns c =
     length-map (dependencies us deps) m ∙ sym (length-map (dependencies us deps) n) in
     let same : true ≡ same_bits (map m (dependencies us deps)) (map n (dependencies us deps)) =
     sym (same_bits-from_places (map m (dependencies us deps)) (map n (dependencies us deps)) size
-    (λ k l. c.loop-i.invariant k (omega (arith, l, length-map (dependencies us deps) m, length-dependencies us deps form, c.count-i-end.ensures, c.loop-i-test.false)))) in
-    IfSome_then (existential_of c.args.self.now c.args.y) c.deps_of-deps.ensures.set (λ (e : Existential) set. subst (λ ds. true ≡ same_bits (map m ds) (map n ds)) set same)
+    (λ k l. c.loop-i.invariant k (omega (
+      arith,
+      l,
+      length-map (dependencies us deps) m,
+      length-dependencies us deps form,
+      c.count-i-end.ensures,
+      c.loop-i-test.false,
+    )))) in
+    IfSome_then (existential_of c.args.self.now c.args.y) c.deps_of-deps.ensures.set
+    (λ (e : Existential) set. subst (λ ds. true ≡ same_bits (map m ds) (map n ds)) set same)

@@ -6,4 +6,5 @@ use Rattle.dq_formula.proofs.formula.Formula.same_on.Given as goal
 -- the rows agree on the universals before place i of the set
 abbrev pub invariant-loop-i : goal.invariant-loop-i
 invariant-loop-i l =
-    (k : ℕ) → k < l.i → bit_of (map (assignment_of l.self.universals l.r1) (dependencies l.self.universals l.deps)) k ≡ bit_of (map (assignment_of l.self.universals l.r2) (dependencies l.self.universals l.deps)) k
+    (k : ℕ) → k < l.i → bit_of (map (assignment_of l.self.universals l.r1) (dependencies l.self.universals l.deps)) k
+    ≡ bit_of (map (assignment_of l.self.universals l.r2) (dependencies l.self.universals l.deps)) k

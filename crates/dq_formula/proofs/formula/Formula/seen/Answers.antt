@@ -7,5 +7,7 @@ use Rattle.dq_formula.proofs.formula.Formula.seen.Goals as goal
 pub returns-in-FirstOf-clause-ordered : goal.returns-in-FirstOf-clause-ordered
 returns-in-FirstOf-clause-ordered c =
     let f = c.args.self.now in
-    let within : c.in-FirstOf.n ≤ length f.universals = subst (IsDependencySet f.universals) c.in-FirstOf.is c.deps_of.ensures.form in
-    rw c.universals.ensures (take-filter c.in-FirstOf.n f.universals (distinct_universals f c.every_formula_is_lawful.ensures.prefix) within)
+    let within : c.in-FirstOf.n ≤ length f.universals = subst
+    (IsDependencySet f.universals) c.in-FirstOf.is c.deps_of.ensures.form in
+    rw c.universals.ensures (take-filter c.in-FirstOf.n f.universals
+    (distinct_universals f c.every_formula_is_lawful.ensures.prefix) within)

@@ -35,5 +35,6 @@ returns-in-Some c =
     let x = c.in-Some.x.now in
     let l : c.args.i < length vs = rw (sym c.items.ensures) c.in-Some.ensures.lookup.3.0 in
     let at : x ≡ get_or vs c.args.i x = c.in-Some.ensures.lookup.1 ∙ ap (λ ws. get_or ws c.args.i x) c.items.ensures in
-    c.get-in-Some.ensures ∙ ap (bit_of row) c.place_of.ensures.place ∙ bit-listed us vs row c.args.i x c.requires.row_length l at
+    c.get-in-Some.ensures ∙ ap (bit_of row) c.place_of.ensures.place
+    ∙ bit-listed us vs row c.args.i x c.requires.row_length l at
     ∙ ap (λ deps. bit_of (map (assignment_of us row) (dependencies us deps)) c.args.i) (sym c.in-Listed.is)

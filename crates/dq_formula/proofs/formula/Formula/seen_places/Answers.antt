@@ -8,4 +8,5 @@ returns-clause-ascend c =
     let f = c.args.self.now in
     let seen = c.seen-seen.result.now in
     let places : c.in_ok-collect.field-0.items ≡ universal_places f seen = search rules in
-    rw places (places_ascend f.universals seen (distinct_universals f c.every_formula_is_lawful.ensures.prefix) c.seen-seen.ensures.ordered)
+    rw places (places_ascend f.universals seen (distinct_universals f c.every_formula_is_lawful.ensures.prefix)
+    c.seen-seen.ensures.ordered)

@@ -12,8 +12,10 @@ returns-in_default c =
     let us = c.args.self.now.universals in
     let same : c.self.inside.universals ≡ us = ap (λ (f : Dqbf). f.universals) c.self.view_is in
     let none : position (eqb c.args.x) us ≡ None =
-    subst (λ xs. position (eqb c.args.x) xs ≡ None) same (ap (λ p. position p c.self.inside.universals) (flip c.args.x) ∙ sym c.place.ensures.place ∙ c.in_default.is) in
-    IfSome_then _ c.deps_of-deps.ensures.set (λ (e : Existential) set. sees-none us c.deps_of-deps.result.now e.sees c.args.x c.deps_of-deps.ensures.form set none)
+    subst (λ xs. position (eqb c.args.x) xs ≡ None) same (ap (λ p. position p c.self.inside.universals) (flip c.args.x)
+    ∙ sym c.place.ensures.place ∙ c.in_default.is) in
+    IfSome_then _ c.deps_of-deps.ensures.set (λ (e : Existential) set. sees-none us c.deps_of-deps.result.now e.sees
+    c.args.x c.deps_of-deps.ensures.form set none)
 
 pub returns-in-FirstOf : goal.returns-in-FirstOf
 returns-in-FirstOf c =
@@ -22,9 +24,11 @@ returns-in-FirstOf c =
     let same : c.self.inside.universals ≡ us = ap (λ (f : Dqbf). f.universals) c.self.view_is in
     let distinct : IsDistinct eqb us = subst (IsDistinct eqb) same c.self.invariant.distinct_universals in
     let place : position (eqb c.args.x) us ≡ Some c.in-Some.place =
-    subst (λ xs. position (eqb c.args.x) xs ≡ Some c.in-Some.place) same (ap (λ p. position p c.self.inside.universals) (flip c.args.x) ∙ sym c.place.ensures.place ∙ c.in-Some.is) in
+    subst (λ xs. position (eqb c.args.x) xs ≡ Some c.in-Some.place) same
+    (ap (λ p. position p c.self.inside.universals) (flip c.args.x) ∙ sym c.place.ensures.place ∙ c.in-Some.is) in
     let form = subst (IsDependencySet us) c.in-FirstOf.is c.deps_of-deps.ensures.form in
-    IfSome_then _ c.deps_of-deps.ensures.set (λ (e : Existential) set. sees-first us n e.sees c.args.x c.in-Some.place distinct form (ap (dependencies us) (sym c.in-FirstOf.is) ∙ set) place)
+    IfSome_then _ c.deps_of-deps.ensures.set (λ (e : Existential) set. sees-first us n e.sees c.args.x c.in-Some.place
+    distinct form (ap (dependencies us) (sym c.in-FirstOf.is) ∙ set) place)
 
 pub returns-in-Listed : goal.returns-in-Listed
 returns-in-Listed c =
@@ -33,9 +37,12 @@ returns-in-Listed c =
     let same : c.self.inside.universals ≡ us = ap (λ (f : Dqbf). f.universals) c.self.view_is in
     let distinct : IsDistinct eqb us = subst (IsDistinct eqb) same c.self.invariant.distinct_universals in
     let place : position (eqb c.args.x) us ≡ Some c.in-Some.place =
-    subst (λ xs. position (eqb c.args.x) xs ≡ Some c.in-Some.place) same (ap (λ p. position p c.self.inside.universals) (flip c.args.x) ∙ sym c.place.ensures.place ∙ c.in-Some.is) in
+    subst (λ xs. position (eqb c.args.x) xs ≡ Some c.in-Some.place) same
+    (ap (λ p. position p c.self.inside.universals) (flip c.args.x) ∙ sym c.place.ensures.place ∙ c.in-Some.is) in
     let form = subst (IsDependencySet us) c.in-Listed.is c.deps_of-deps.ensures.form in
     let range = rw c.items.ensures at c.finds.ensures.within in
     let result = rw c.items.ensures at c.finds.ensures.found in
     rw c.is_ok.ensures.value
-    (IfSome_then _ c.deps_of-deps.ensures.set (λ (e : Existential) set. sees-listed us vs e.sees c.args.x c.in-Some.place c.finds.result distinct form (ap (dependencies us) (sym c.in-Listed.is) ∙ set) place range result))
+    (IfSome_then _ c.deps_of-deps.ensures.set (λ (e : Existential) set. sees-listed us vs e.sees c.args.x
+    c.in-Some.place c.finds.result distinct form (ap (dependencies us) (sym c.in-Listed.is) ∙ set) place range
+    result))

@@ -24,4 +24,5 @@ returns-clause-form c =
     let sets = values_of f.existentials in
     let set = c.set_at.result.now in
     let here = get_or_from_slice_get sets c.args.place set (FirstOf 0) c.set_at.ensures in
-    rw (← c.self.view_is, ← here) (c.self.invariant.sets c.args.place (FirstOf 0) (slice_get_within sets c.args.place set c.set_at.ensures))
+    rw (← c.self.view_is, ← here) (c.self.invariant.sets c.args.place (FirstOf 0)
+    (slice_get_within sets c.args.place set c.set_at.ensures))

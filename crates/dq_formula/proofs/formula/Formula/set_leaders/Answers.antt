@@ -18,5 +18,6 @@ loop-place-preserved c =
     let last : IsLeader f c.in_ok-latest.latest (length leaders) = rw many c.in_ok-latest.ensures in
     rw c.in_ok-push.ensures.items (record {
       many = omega (arith, length_push leaders c.in_ok-latest.latest, many);
-      each = rw many at (leaders_more f leaders c.in_ok-latest.latest (rw (← many) at c.loop-place.invariant.each) last);
+      each = rw many at (leaders_more f leaders c.in_ok-latest.latest
+          (rw (← many) at c.loop-place.invariant.each) last);
     })

@@ -11,5 +11,7 @@ loop-j-preserved c =
     let j = c.loop-j.j in
     let matrix = c.args.self.now.matrix in
     let next : take (j + 1) matrix ≡ take j matrix ++ c.clause.result.now ∷ [] =
-    let e : j + 1 ≡ suc j = omega arith in rw e (take-suc matrix j [] (omega (arith, c.loop-j-test.true, c.clauses-j-end.ensures.value)) ∙ ap (λ clause. take j matrix ++ clause ∷ []) (sym c.clause.ensures)) in
+    let e : j + 1 ≡ suc j = omega arith in rw e (take-suc matrix j []
+    (omega (arith, c.loop-j-test.true, c.clauses-j-end.ensures.value)) ∙ ap (λ clause. take j matrix ++ clause ∷ [])
+    (sym c.clause.ensures)) in
     rw next (c.in_ok-add_undeclared.ensures (take j matrix) c.loop-j.invariant)

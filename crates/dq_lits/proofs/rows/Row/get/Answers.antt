@@ -18,7 +18,8 @@ returns c =
     let long = sym (length-unpacked c.self.inside.len words) ∙ ap length c.self.view_is in
     let inside : i < c.self.inside.len = omega (arith, long) in
     let there : i / 64 < length words = omega arith in
-    let word : c.index.result.now ≡ get_or words (i / 64) 0 = c.index.ensures ∙ get_or_default words (i / 64) c.index.result.now 0 there in
+    let word : c.index.result.now ≡ get_or words (i / 64) 0 =
+    c.index.ensures ∙ get_or_default words (i / 64) c.index.result.now 0 there in
     ap (λ w. bit_at w (i % 64) == 1) word
     ∙ sym (get_or-unpacked c.self.inside.len words i false inside)
     ∙ ap (λ row. bit_of row i) c.self.view_is

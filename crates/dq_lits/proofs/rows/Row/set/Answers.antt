@@ -23,7 +23,8 @@ returns c =
     let long = sym (length-unpacked c.self.inside.len words) ∙ ap length c.self.view_is in
     let inside : i < c.self.inside.len = omega (arith, long) in
     let there : i / 64 < length words = omega arith in
-    let word : c.index.result.now ≡ get_or words (i / 64) 0 = c.index.ensures ∙ get_or_default words (i / 64) c.index.result.now 0 there in
+    let word : c.index.result.now ≡ get_or words (i / 64) 0 =
+    c.index.ensures ∙ get_or_default words (i / 64) c.index.result.now 0 there in
     unpacked-set_word c.self.inside.len words i c.with_bit.result c.args.b inside there
     c.with_bit.ensures.here
     (λ j below other. c.with_bit.ensures.others j below other ∙ ap (λ w. bit_at w j) word)

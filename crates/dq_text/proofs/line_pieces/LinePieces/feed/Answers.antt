@@ -12,7 +12,8 @@ loop-line-preserved g c =
     (subst (λ lines. g.T.TakesLines.gives c.loop-line.taker lines answer)
     (sym (joined_line before c.loop-line.rest.now c.in-Some.line.now behind bytes c.in-Some.ensures))
     (c.in_ok-take_line.ensures.given (lines_to_come [] (behind ++ bytes)) answer
-    (subst (λ u. g.T.TakesLines.gives c.take_line.new.taker (lines_to_come u (behind ++ bytes)) answer) c.in_ok-take_line.ensures.taken h)))
+    (subst (λ u. g.T.TakesLines.gives c.take_line.new.taker (lines_to_come u (behind ++ bytes)) answer)
+    c.in_ok-take_line.ensures.taken h)))
 
 pub returns : goal.returns
 returns g c =
@@ -22,4 +23,5 @@ returns g c =
     c.loop-line.invariant bytes answer
     (subst (λ lines. g.T.TakesLines.gives c.loop-line.taker lines answer)
     (sym (last_part before rest bytes c.in_default.ensures))
-    (subst (λ u. g.T.TakesLines.gives c.loop-line.taker (lines_to_come u bytes) answer) c.in_ok-extend_from_slice.ensures.items h))
+    (subst (λ u. g.T.TakesLines.gives c.loop-line.taker (lines_to_come u bytes) answer)
+    c.in_ok-extend_from_slice.ensures.items h))

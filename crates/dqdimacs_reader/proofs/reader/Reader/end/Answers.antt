@@ -9,8 +9,13 @@ use Rattle.dqdimacs_reader.proofs.ReadIsSpelled.{read_is_spelled}
 use Rattle.dqdimacs_reader.proofs.SpelledClauses.{spelled_is_bound, spelled_is_distinct}
 use Rattle.dqdimacs_reader.proofs.reader.Reader.end.Goals as goal
 
-is_well_formed : (text : List ℕ) (r : Result Dqbf ReadStop) → IsReading (reading text) r → IfOk r HasLawfulPrefix → IfOk r IsWellFormed
-is_well_formed text (Ok f) read lawful = record { prefix = lawful; bound = spelled_is_bound text f (read_is_spelled text f read) }
+is_well_formed : (text : List ℕ) (r : Result Dqbf ReadStop) → IsReading (reading text) r → IfOk r HasLawfulPrefix →
+    IfOk r IsWellFormed
+is_well_formed text (Ok f) read lawful = record {
+  prefix = lawful;
+  bound =
+      spelled_is_bound text f (read_is_spelled text f read);
+}
 is_well_formed text (Err stop) read lawful = tt
 
 is_distinct : (text : List ℕ) (r : Result Dqbf ReadStop) → IsReading (reading text) r → IfOk r HasDistinctClauses
@@ -25,7 +30,8 @@ pub returns-clause-spelled : goal.returns-clause-spelled
 returns-clause-spelled c text stands = is_spelled text c.finish.result (c.finish.ensures.exact text stands)
 
 pub returns-clause-well_formed : goal.returns-clause-well_formed
-returns-clause-well_formed c text stands = is_well_formed text c.finish.result (c.finish.ensures.exact text stands) c.finish.ensures.lawful
+returns-clause-well_formed c text stands = is_well_formed text c.finish.result
+    (c.finish.ensures.exact text stands) c.finish.ensures.lawful
 
 pub returns-clause-distinct : goal.returns-clause-distinct
 returns-clause-distinct c text stands = is_distinct text c.finish.result (c.finish.ensures.exact text stands)

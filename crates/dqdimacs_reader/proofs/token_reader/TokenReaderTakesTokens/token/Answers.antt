@@ -6,5 +6,6 @@ use Rattle.dqdimacs_reader.proofs.token_reader.TokenReaderTakesTokens.token.Goal
 pub returns : goal.returns
 returns c tokens last answer may =
     let told = c.summaries_tell_words_and_numbers.ensures in
-    let is = summary_is (record { head = told.head; minus = told.minus; number = told.number }) c.args.text.now ∙ sym c.classify.ensures in
+    let is = summary_is (record { head = told.head; minus = told.minus; number = told.number }) c.args.text.now
+    ∙ sym c.classify.ensures in
     c.take.ensures (record { summary = summary_of c.args.text.now; line = c.args.line }) tokens last answer is refl may

@@ -18,9 +18,13 @@ returns-clause-order c =
     elim c.match-search.branch [
       | in-Err+in_ok-insert w ↦
           subst (λ ps. IsRowOrder f sees rows (record { places = ps; learnt = k + 1 }))
-          (sym (ap (λ v. v.places.items) w.self-inside-is ∙ w.in_ok-insert.ensures.items ∙ ap (λ ps. insert ps w.in-Err.at k) (sym c.deref.ensures.value)))
-          (learnt_new f sees rows o c.requires.order c.deref.result.now same row k c.index-rows-k.is c.requires.next c.requires.row w.in-Err.at w.in-Err.ensures.within w.in-Err.ensures.found)
+          (sym (ap (λ v. v.places.items) w.self-inside-is ∙ w.in_ok-insert.ensures.items ∙ ap
+          (λ ps. insert ps w.in-Err.at k) (sym c.deref.ensures.value)))
+          (learnt_new f sees rows o c.requires.order c.deref.result.now same row k c.index-rows-k.is c.requires.next
+          c.requires.row w.in-Err.at w.in-Err.ensures.within w.in-Err.ensures.found)
       | in_default w ↦
-          subst (λ ps. IsRowOrder f sees rows (record { places = ps; learnt = k + 1 })) (sym (ap (λ v. v.places.items) w.self-inside-is ∙ sym c.deref.ensures.value))
-          (learnt_found f sees rows o c.requires.order c.deref.result.now same row k c.index-rows-k.is c.requires.next c.requires.row w.in_default.field-0 w.in_default.ensures.within w.in_default.ensures.found)
+          subst (λ ps. IsRowOrder f sees rows (record { places = ps; learnt = k + 1 }))
+          (sym (ap (λ v. v.places.items) w.self-inside-is ∙ sym c.deref.ensures.value))
+          (learnt_found f sees rows o c.requires.order c.deref.result.now same row k c.index-rows-k.is c.requires.next
+          c.requires.row w.in_default.field-0 w.in_default.ensures.within w.in_default.ensures.found)
     ]

@@ -7,15 +7,20 @@ use Rattle.expansion.proofs.AddedRows.{begin, finish_as, on_both}
 use Rattle.expansion.proofs.tables.Table.add_found.Goals as goal
 
 pub row_pairs-requires-clause-adding : goal.row_pairs-requires-clause-adding
-row_pairs-requires-clause-adding g c = begin c.args.new.now.f.now c.args.self.now c.args.new.now.row.now c.args.log.now.entries c.requires.table c.requires.rows c.args.new.now.long c.requires.few
+row_pairs-requires-clause-adding g c = begin c.args.new.now.f.now c.args.self.now c.args.new.now.row.now
+    c.args.log.now.entries c.requires.table c.requires.rows c.args.new.now.long c.requires.few
 
 pub returns-in_err-give_instances-clause-grew : goal.returns-in_err-give_instances-clause-grew
 returns-in_err-give_instances-clause-grew g c first =
-    grown_then (IsAddedBy c.args.new.now.f.now instances c.args.self.now.group true first) c.args.log.now c.row_pairs.new.log c.give_instances.new.log (c.row_pairs.ensures.grew first) (c.give_instances.ensures.grew first)
+    grown_then (IsAddedBy c.args.new.now.f.now instances c.args.self.now.group true first) c.args.log.now
+    c.row_pairs.new.log c.give_instances.new.log (c.row_pairs.ensures.grew first)
+    (c.give_instances.ensures.grew first)
 
 pub returns-clause-grew : goal.returns-clause-grew
 returns-clause-grew g c first =
-    grown_then (IsAddedBy c.args.new.now.f.now instances c.args.self.now.group true first) c.args.log.now c.row_pairs.new.log c.give_instances.new.log (c.row_pairs.ensures.grew first) (c.give_instances.ensures.grew first)
+    grown_then (IsAddedBy c.args.new.now.f.now instances c.args.self.now.group true first) c.args.log.now
+    c.row_pairs.new.log c.give_instances.new.log (c.row_pairs.ensures.grew first)
+    (c.give_instances.ensures.grew first)
 
 pub returns-clause-table : goal.returns-clause-table
 returns-clause-table g c =
@@ -23,9 +28,16 @@ returns-clause-table g c =
     let t = c.args.self.now in
     let row = c.args.new.now.row.now in
     let entries = c.give_instances.new.log.entries in
-    let variables : AreNewArbiters f t row entries c.in_ok-variables.variables.items = subst (AreNewArbiters f t row entries) c.deref.ensures.value c.in_ok-give_instances.ensures.variables in
-    on_both (c.push.new.self.rows ≡ t.rows ++ c.in_ok-copy.copy ∷ []) (c.push.new.self.pairs ≡ t.pairs ++ c.deref-2.result.now ∷ []) (IsFullTable f c.push.new.self entries) c.push.result
+    let variables : AreNewArbiters f t row entries c.in_ok-variables.variables.items =
+    subst (AreNewArbiters f t row entries) c.deref.ensures.value c.in_ok-give_instances.ensures.variables in
+    on_both (c.push.new.self.rows ≡ t.rows ++ c.in_ok-copy.copy ∷ [])
+    (c.push.new.self.pairs ≡ t.pairs ++ c.deref-2.result.now ∷ [])
+    (IsFullTable f c.push.new.self entries) c.push.result
     (λ rows pairs.
-    finish_as f t row c.in_ok-variables.variables.items entries c.in_ok-give_instances.ensures.adding (g.met.O.Oracle.searched c.give_instances.new.oracle c.give_instances.new.log c.give_instances.ensures.fit).logged c.requires.table.first_rows variables c.push.new.self c.requires.formula c.push.ensures.group c.push.ensures.existentials
-    (rows ∙ ap (λ r. t.rows ++ r ∷ []) c.in_ok-copy.ensures) (pairs ∙ ap (λ vs. t.pairs ++ vs ∷ []) c.deref-2.ensures.value) c.push.ensures.first_rows)
+    finish_as f t row c.in_ok-variables.variables.items entries c.in_ok-give_instances.ensures.adding
+    (g.met.O.Oracle.searched c.give_instances.new.oracle c.give_instances.new.log
+    c.give_instances.ensures.fit).logged c.requires.table.first_rows variables c.push.new.self
+    c.requires.formula c.push.ensures.group c.push.ensures.existentials
+    (rows ∙ ap (λ r. t.rows ++ r ∷ []) c.in_ok-copy.ensures)
+    (pairs ∙ ap (λ vs. t.pairs ++ vs ∷ []) c.deref-2.ensures.value) c.push.ensures.first_rows)
     c.push.ensures.rows c.push.ensures.pairs

@@ -6,12 +6,14 @@ use Rattle.expansion.proofs.tables.Table.new.Goals as goal
 
 pub returns-clause-grew : goal.returns-clause-grew
 returns-clause-grew g c group =
-    group_grew c.args.f.now instances group (variable_of c.in_ok-group.group.selector) c.args.log.now c.group.new.log c.in_ok-group.ensures.unnamed c.in_ok-group.ensures.ok
+    group_grew c.args.f.now instances group (variable_of c.in_ok-group.group.selector) c.args.log.now c.group.new.log
+    c.in_ok-group.ensures.unnamed c.in_ok-group.ensures.ok
 
 pub returns-clause-made : goal.returns-clause-made
 returns-clause-made g c =
     let logged = (g.met.O.Oracle.searched c.args.oracle.now c.args.log.now c.requires.fit).logged in
     let v = variable_of c.in_ok-group.group.selector in
-    let t = no_rows c.args.f.now v c.in_ok-existentials.existentials.items c.in_ok-first_rows.first_rows c.args.log.now c.group.new.log logged c.requires.none c.in_ok-group.ensures.unnamed c.in_ok-group.ensures.ok
+    let t = no_rows c.args.f.now v c.in_ok-existentials.existentials.items c.in_ok-first_rows.first_rows c.args.log.now
+    c.group.new.log logged c.requires.none c.in_ok-group.ensures.unnamed c.in_ok-group.ensures.ok
     (c.in_ok-existentials.ensures.items ∙ c.existentials.ensures) c.in_ok-first_rows.ensures in
     rw (c.new-2.ensures, c.new-3.ensures) t

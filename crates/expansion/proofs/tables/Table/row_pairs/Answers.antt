@@ -12,8 +12,10 @@ returns-in_err-push-clause-grew g c =
     let many = ap length c.existentials-place-end.ensures ∙ length-map f.existentials variable in
     let test = c.loop-place-test.true in
     let below : place < length f.existentials = omega (arith, test, many) in
-    let next = c.in_ok-v.ensures.named f c.args.new.now.row.now c.requires.formula c.loop-place.invariant.2.adding (c.requires.firsts.1 place below) in
-    (pair_more f c.args.self.now c.args.new.now.row.now place c.in_ok-v.v c.loop-place.variables.items c.args.log.now c.loop-place.log c.arbiter.new.log c.loop-place.invariant.2 next).grew
+    let next = c.in_ok-v.ensures.named f c.args.new.now.row.now c.requires.formula c.loop-place.invariant.2.adding
+    (c.requires.firsts.1 place below) in
+    (pair_more f c.args.self.now c.args.new.now.row.now place c.in_ok-v.v c.loop-place.variables.items c.args.log.now
+    c.loop-place.log c.arbiter.new.log c.loop-place.invariant.2 next).grew
 
 pub loop-place-preserved : goal.loop-place-preserved
 loop-place-preserved g c =
@@ -22,11 +24,14 @@ loop-place-preserved g c =
     let many = ap length c.existentials-place-end.ensures ∙ length-map f.existentials variable in
     let test = c.loop-place-test.true in
     let below : place < length f.existentials = omega (arith, test, many) in
-    let next = c.in_ok-v.ensures.named f c.args.new.now.row.now c.requires.formula c.loop-place.invariant.2.adding (c.requires.firsts.1 place below) in (
+    let next = c.in_ok-v.ensures.named f c.args.new.now.row.now c.requires.formula c.loop-place.invariant.2.adding
+    (c.requires.firsts.1 place below) in (
       c.arbiter.ensures.fit,
       omega (arith, below),
-      subst (λ vs. ArePairsSoFar f c.args.self.now c.args.new.now.row.now (place + 1) vs c.args.log.now c.arbiter.new.log) (sym c.in_ok-push.ensures.items)
-          (pair_more f c.args.self.now c.args.new.now.row.now place c.in_ok-v.v c.loop-place.variables.items c.args.log.now c.loop-place.log c.arbiter.new.log c.loop-place.invariant.2 next),
+      subst (λ vs. ArePairsSoFar f c.args.self.now c.args.new.now.row.now
+          (place + 1) vs c.args.log.now c.arbiter.new.log) (sym c.in_ok-push.ensures.items)
+          (pair_more f c.args.self.now c.args.new.now.row.now place c.in_ok-v.v c.loop-place.variables.items
+          c.args.log.now c.loop-place.log c.arbiter.new.log c.loop-place.invariant.2 next),
     )
 
 pub returns-clause-adding : goal.returns-clause-adding
@@ -36,4 +41,5 @@ returns-clause-adding g c =
     let test = c.loop-place-test.false in
     let within = c.loop-place.invariant.1 in
     let all : c.loop-place.place ≡ length f.existentials = omega (arith, many, test, within) in
-    subst (λ n. IsAdding f c.args.self.now c.args.new.now.row.now n 0 c.loop-place.log.entries) all c.loop-place.invariant.2.adding
+    subst (λ n. IsAdding f c.args.self.now c.args.new.now.row.now n 0 c.loop-place.log.entries) all
+    c.loop-place.invariant.2.adding

@@ -11,7 +11,8 @@ loop-id-preserved c =
     let ids = c.args.ids.now in
     let i = c.loop-id.id-index in
     subst (IsWith c.args.self.now c.insert.new.self) (sym (take_more ids i 0 c.loop-id-test.true))
-    (with_one_more c.args.self.now c.loop-id.self c.insert.new.self (take i ids) (get_or ids i 0) c.loop-id.invariant c.in_ok-insert.ensures)
+    (with_one_more c.args.self.now c.loop-id.self c.insert.new.self (take i ids)
+    (get_or ids i 0) c.loop-id.invariant c.in_ok-insert.ensures)
 
 pub returns-clause-kept : goal.returns-clause-kept
 returns-clause-kept c = c.loop-id.invariant.kept
@@ -19,9 +20,11 @@ returns-clause-kept c = c.loop-id.invariant.kept
 pub returns-clause-added : goal.returns-clause-added
 returns-clause-added c =
     let ids = c.args.ids.now in
-    (subst (IsWith c.args.self.now c.loop-id.self) (take_all c.loop-id.id-index ids c.loop-id-test.false) c.loop-id.invariant).added
+    (subst (IsWith c.args.self.now c.loop-id.self) (take_all c.loop-id.id-index ids c.loop-id-test.false)
+    c.loop-id.invariant).added
 
 pub returns-clause-only : goal.returns-clause-only
 returns-clause-only c =
     let ids = c.args.ids.now in
-    (subst (IsWith c.args.self.now c.loop-id.self) (take_all c.loop-id.id-index ids c.loop-id-test.false) c.loop-id.invariant).only
+    (subst (IsWith c.args.self.now c.loop-id.self) (take_all c.loop-id.id-index ids c.loop-id-test.false)
+    c.loop-id.invariant).only

@@ -4,4 +4,5 @@ use Rattle.interpolants.proofs.node_maps.NodeMap.put.Goals as goal
 
 pub returns : goal.returns
 returns c = λ n.
-    c.in_ok-insert.ensures.updates.0 n ∙ ap (λ pairs. cond (c.args.number == n) (Some c.args.node) (node_of pairs n)) c.self.view_is
+    c.in_ok-insert.ensures.updates.0 n ∙ ap (λ pairs. cond (c.args.number == n) (Some c.args.node) (node_of pairs n))
+    c.self.view_is

@@ -10,7 +10,8 @@ returns-then-is_selector_of c =
     let s = c.self.inside in
     let l = c.args.l in
     let same = ap (λ xs. holds xs l) (sym c.self.view_is) ∙ among_assumed s.active.now s.literals.now l in
-    let on : list_any (λ g. same_literal l g.selector) s.active.now ≡ true = sym c.is_selector_of.ensures ∙ c.if-is_selector_of.true in
+    let on : list_any (λ g. same_literal l g.selector) s.active.now ≡ true =
+    sym c.is_selector_of.ensures ∙ c.if-is_selector_of.true in
     c.if-is_selector_of.true ∙ sym (same ∙ ap (λ b. b || holds s.literals.now l) on)
 
 pub returns-else-is_selector_of : goal.returns-else-is_selector_of
@@ -18,5 +19,6 @@ returns-else-is_selector_of c =
     let s = c.self.inside in
     let l = c.args.l in
     let same = ap (λ xs. holds xs l) (sym c.self.view_is) ∙ among_assumed s.active.now s.literals.now l in
-    let off : list_any (λ g. same_literal l g.selector) s.active.now ≡ false = sym c.is_selector_of.ensures ∙ c.if-is_selector_of.false in
+    let off : list_any (λ g. same_literal l g.selector) s.active.now ≡ false =
+    sym c.is_selector_of.ensures ∙ c.if-is_selector_of.false in
     c.holds.ensures ∙ sym (same ∙ ap (λ b. b || holds s.literals.now l) off)

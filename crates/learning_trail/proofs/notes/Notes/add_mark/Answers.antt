@@ -11,6 +11,13 @@ returns-clause-marked c = λ w.
     let marks = c.self.inside.marks.items in
     let v = c.var.result in
     let shown : map is_marked marks ≡ c.args.self.now.marks = ap (λ (n : Noted). n.marks) c.self.view_is in
-    let lt : v < length marks = omega (arith, c.requires, c.var.ensures.value, ap length shown, length-map marks is_marked) in
+    let lt : v < length marks = omega (
+      arith,
+      c.requires,
+      c.var.ensures.value,
+      ap length shown,
+      length-map marks is_marked,
+    ) in
     ap (λ ms. marked (map is_marked ms) w) c.set_mark.ensures.marks ∙ mark_set marks v w Marked lt refl
-    ∙ ap (λ (ms : List Bool). marked ms w || (v == w)) shown ∙ ap (λ n. marked c.args.self.now.marks w || (n == w)) c.var.ensures.value
+    ∙ ap (λ (ms : List Bool). marked ms w || (v == w)) shown ∙ ap
+    (λ n. marked c.args.self.now.marks w || (n == w)) c.var.ensures.value

@@ -9,7 +9,8 @@ use Rattle.learning_trail.proofs.TouchedMarks.{mark_shown}
 use Rattle.learning_trail.proofs.notes.Notes.list_places.Goals as goal
 
 pub returns-clause-sorted : goal.returns-clause-sorted
-returns-clause-sorted c = IsNonDecreasingBy-from_sort (λ x. x) c.sort_unstable.new.self.items c.sort_unstable.ensures.sorted
+returns-clause-sorted c = IsNonDecreasingBy-from_sort (λ x. x) c.sort_unstable.new.self.items
+    c.sort_unstable.ensures.sorted
 
 pub returns-clause-covered : goal.returns-clause-covered
 returns-clause-covered c = λ at l h on.
@@ -17,4 +18,5 @@ returns-clause-covered c = λ at l h on.
     let v = variable_of l in
     let here = sym (mark_shown inside.marks.items v) ∙ ap (λ (n : Noted). marked n.marks v) c.self.view_is ∙ on in
     Contains-permutation c.list.new.places.items c.sort_unstable.new.self.items at c.sort_unstable.ensures.permutation
-    (c.list.ensures.listed at v l h refl (ap (λ (ms : List Mark). is_marked (get_or ms v Clear)) c.deref.ensures.value ∙ here))
+    (c.list.ensures.listed at v l h refl (ap (λ (ms : List Mark). is_marked (get_or ms v Clear)) c.deref.ensures.value
+    ∙ here))

@@ -10,13 +10,16 @@ pub returns-then-at-len-clause-at : goal.returns-then-at-len-clause-at
 returns-then-at-len-clause-at c =
     let xs = c.self.inside.steps.items in
     let lt : c.args.at < length xs = omega (arith, c.if-at-len.true, c.len.ensures, c.self.inside.steps.ok.0) in
-    subst (λ (t : Trailed). IsAt t.steps c.args.at c.index.result.now.literal) c.self.view_is (at_place xs (reverse xs) c.args.at c.index.result.now refl lt c.index.ensures)
+    subst (λ (t : Trailed). IsAt t.steps c.args.at c.index.result.now.literal) c.self.view_is
+    (at_place xs (reverse xs) c.args.at c.index.result.now refl lt c.index.ensures)
 
 pub returns-then-at-len-clause-in_range : goal.returns-then-at-len-clause-in_range
 returns-then-at-len-clause-in_range c =
     let xs = c.self.inside.steps.items in
     let lt : c.args.at < length xs = omega (arith, c.if-at-len.true, c.len.ensures, c.self.inside.steps.ok.0) in
-    let all = all_reverse (λ (s : Step). variable_of s.literal ≤ length c.self.inside.values.items) xs c.self.invariant.kept.in_range in
+    let all = all_reverse (λ (s : Step). variable_of s.literal ≤ length c.self.inside.values.items) xs
+    c.self.invariant.kept.in_range in
     let here : variable_of c.index.result.now.literal ≤ length c.self.inside.values.items =
-    subst (λ (s : Step). variable_of s.literal ≤ length c.self.inside.values.items) (sym c.index.ensures) (all c.args.at c.index.result.now lt) in
+    subst (λ (s : Step). variable_of s.literal ≤ length c.self.inside.values.items) (sym c.index.ensures)
+    (all c.args.at c.index.result.now lt) in
     subst (λ (t : Trailed). variable_of c.index.result.now.literal ≤ t.room) c.self.view_is here

@@ -7,7 +7,8 @@ use Rattle.learning_trail.proofs.trails.Trail.place.Goals as goal
 pub returns-then-v-eq0 : goal.returns-then-v-eq0
 returns-then-v-eq0 c = λ at k h same.
     let inside = c.self.inside in
-    let f = placed_at inside.places.items (length inside.values.items) (reverse inside.steps.items) at k c.self.invariant.placed c.self.invariant.kept.in_range
+    let f = placed_at inside.places.items (length inside.values.items)
+    (reverse inside.steps.items) at k c.self.invariant.placed c.self.invariant.kept.in_range
     (subst (λ (t : Trailed). IsAt t.steps at k) (sym c.self.view_is) h) in
     let one = f.from_one in
     absurd (omega (arith, one, same, c.if-v-eq0.true))
@@ -15,7 +16,8 @@ returns-then-v-eq0 c = λ at k h same.
 pub returns-then-v-len : goal.returns-then-v-len
 returns-then-v-len c = λ at k h same.
     let inside = c.self.inside in
-    let f = placed_at inside.places.items (length inside.values.items) (reverse inside.steps.items) at k c.self.invariant.placed c.self.invariant.kept.in_range
+    let f = placed_at inside.places.items (length inside.values.items)
+    (reverse inside.steps.items) at k c.self.invariant.placed c.self.invariant.kept.in_range
     (subst (λ (t : Trailed). IsAt t.steps at k) (sym c.self.view_is) h) in
     let high = f.in_range in
     let count = c.self.invariant.places in
@@ -24,7 +26,8 @@ returns-then-v-len c = λ at k h same.
 pub returns : goal.returns
 returns c = λ at k h same.
     let inside = c.self.inside in
-    let f = placed_at inside.places.items (length inside.values.items) (reverse inside.steps.items) at k c.self.invariant.placed c.self.invariant.kept.in_range
+    let f = placed_at inside.places.items (length inside.values.items)
+    (reverse inside.steps.items) at k c.self.invariant.placed c.self.invariant.kept.in_range
     (subst (λ (t : Trailed). IsAt t.steps at k) (sym c.self.view_is) h) in
     let one = f.from_one in
     let high = f.in_range in

@@ -16,14 +16,28 @@ invariant_of-self-2 c =
     let at : variable_of step.literal ≡ suc place = omega (arith, c.place_of.ensures) in
     let split : inside.steps.items ≡ c.pop.new.self.items ++ step ∷ [] = c.in_ok-step.ensures.items in
     let P : List Step → Type 0 = λ xs. IsKept inside.values.items xs in
-    let old : IsKept inside.values.items (step ∷ reverse c.pop.new.self.items) = subst P (ap reverse split ∙ newest c.pop.new.self.items step) c.self.invariant.kept in
-    let placed : ArePlaced inside.places.items (step ∷ reverse c.pop.new.self.items) = subst (ArePlaced inside.places.items) (ap reverse split ∙ newest c.pop.new.self.items step) c.self.invariant.placed in
+    let old : IsKept inside.values.items (step ∷ reverse c.pop.new.self.items) =
+    subst P (ap reverse split ∙ newest c.pop.new.self.items step) c.self.invariant.kept in
+    let placed : ArePlaced inside.places.items (step ∷ reverse c.pop.new.self.items) =
+    subst (ArePlaced inside.places.items) (ap reverse split ∙ newest c.pop.new.self.items step)
+    c.self.invariant.placed in
     record {
-      starts = c.take_start.ensures.starts (length (reverse c.pop.new.self.items)) (starts_of (reverse c.pop.new.self.items))
+      starts = c.take_start.ensures.starts (length (reverse c.pop.new.self.items))
+          (starts_of (reverse c.pop.new.self.items))
           (c.self.invariant.starts ∙ ap starts_of (ap reverse split ∙ newest c.pop.new.self.items step));
-      starts_room = omega (arith, length-set inside.values.items place Unassigned, c.self.invariant.starts_room, c.take_start.ensures.capacity);
+      starts_room = omega (
+        arith,
+        length-set inside.values.items place Unassigned,
+        c.self.invariant.starts_room,
+        c.take_start.ensures.capacity,
+      );
       placed = placed.1;
       places = let n = c.self.invariant.places in omega (arith, n, length-set inside.values.items place Unassigned);
       kept = kept_popped inside.values.items (reverse c.pop.new.self.items) step place at old;
-      room = omega (arith, length-set inside.values.items place Unassigned, c.self.invariant.room, c.pop.ensures.capacity);
+      room = omega (
+        arith,
+        length-set inside.values.items place Unassigned,
+        c.self.invariant.room,
+        c.pop.ensures.capacity,
+      );
     }

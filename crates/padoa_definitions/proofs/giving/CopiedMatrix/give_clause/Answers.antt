@@ -13,12 +13,15 @@ use Rattle.padoa_definitions.proofs.giving.CopiedMatrix.give_clause.Goals as goa
 
 pub copied_clause-requires-clause-bound : goal.copied_clause-requires-clause-bound
 copied_clause-requires-clause-bound g c =
-    subst (All (λ l. Contains (declared c.args.self.now.f.now) (variable_of l))) (sym c.clause.ensures) (c.requires.formula.bound c.args.j [] c.requires.clause)
+    subst (All (λ l. Contains (declared c.args.self.now.f.now) (variable_of l))) (sym c.clause.ensures)
+    (c.requires.formula.bound c.args.j [] c.requires.clause)
 
 pub add-requires-clause-plain : goal.add-requires-clause-plain
 add-requires-clause-plain g c =
     subst (All (IsPlain c.args.log.now.entries)) (sym c.deref.ensures.value)
-    (copies_plain c.args.log.now.entries c.args.self.now.side c.clause.result.now c.in_ok-lits.lits.items (c.in_ok-lits.ensures c.args.log.now.entries c.args.self.now.side c.requires.universals c.requires.existentials))
+    (copies_plain c.args.log.now.entries c.args.self.now.side c.clause.result.now c.in_ok-lits.lits.items
+    (c.in_ok-lits.ensures c.args.log.now.entries c.args.self.now.side c.requires.universals
+    c.requires.existentials))
 
 pub returns-clause-given : goal.returns-clause-given
 returns-clause-given g c =
@@ -26,9 +29,13 @@ returns-clause-given g c =
     let log = c.args.log.now in
     record {
       rest = lits;
-      added = c.in_ok-add.ensures.ok ∙ ap (λ ls. with_entry log (Given (Copy c.args.self.now.side (c.args.j + 1)) (opposite c.args.self.now.copy.now.group.selector ∷ ls))) c.deref.ensures.value
-          ∙ ap (λ s. with_entry log (Given (Copy c.args.self.now.side (c.args.j + 1)) (s ∷ lits))) (switch_off c.args.self.now.copy.now.group.selector c.requires.made.positive);
+      added = c.in_ok-add.ensures.ok ∙ ap (λ ls. with_entry log
+          (Given (Copy c.args.self.now.side (c.args.j + 1)) (opposite c.args.self.now.copy.now.group.selector ∷ ls)))
+          c.deref.ensures.value
+          ∙ ap (λ s. with_entry log (Given (Copy c.args.self.now.side (c.args.j + 1)) (s ∷ lits)))
+          (switch_off c.args.self.now.copy.now.group.selector c.requires.made.positive);
       named = λ clause is.
-          subst (λ d. AreNamedAs log.entries lits (copy_names c.args.self.now.side d)) (c.clause.ensures ∙ get_or_from_slice_get c.args.self.now.f.now.matrix c.args.j clause [] is)
+          subst (λ d. AreNamedAs log.entries lits (copy_names c.args.self.now.side d))
+          (c.clause.ensures ∙ get_or_from_slice_get c.args.self.now.f.now.matrix c.args.j clause [] is)
           (c.in_ok-lits.ensures log.entries c.args.self.now.side c.requires.universals c.requires.existentials);
     }

@@ -6,11 +6,17 @@ use Rattle.padoa_definitions.proofs.GivenClauses.{none_given, given_more}
 use Rattle.padoa_definitions.proofs.giving.CopiedMatrix.give_clauses.Goals as goal
 
 pub loop-j-init : goal.loop-j-init
-loop-j-init g c = (c.requires.fit, none_given c.args.self.now.f.now c.args.self.now.side (group_variable c.args.self.now.copy.now.group) c.args.log.now c.requires.few c.requires.own c.requires.ungiven)
+loop-j-init g c = (
+  c.requires.fit,
+  none_given c.args.self.now.f.now c.args.self.now.side
+      (group_variable c.args.self.now.copy.now.group) c.args.log.now c.requires.few c.requires.own c.requires.ungiven,
+)
 
 pub returns-in_err-give_clause-clause-givens : goal.returns-in_err-give_clause-clause-givens
 returns-in_err-give_clause-clause-givens g c =
-    (subst (AreGivenSoFar c.args.self.now.f.now c.args.self.now.side (group_variable c.args.self.now.copy.now.group) c.loop-j.j c.args.log.now) (sym c.in_err-give_clause.ensures.err) c.loop-j.invariant.1).givens
+    (subst (AreGivenSoFar c.args.self.now.f.now c.args.self.now.side
+    (group_variable c.args.self.now.copy.now.group) c.loop-j.j c.args.log.now)
+    (sym c.in_err-give_clause.ensures.err) c.loop-j.invariant.1).givens
 
 pub loop-j-preserved : goal.loop-j-preserved
 loop-j-preserved g c =
@@ -20,6 +26,8 @@ loop-j-preserved g c =
     let lt = subst (λ n. j < n) c.clauses-j-end.ensures.value c.loop-j-test.true in
     let at = slice_get-get_or f.matrix j [] lt in (
       c.give_clause.ensures.fit,
-      given_more c.args.self.now.f.now c.args.self.now.side (group_variable c.args.self.now.copy.now.group) j c.args.log.now c.loop-j.log c.give_clause.new.log (get_or f.matrix j []) step.rest c.requires.side
-          (c.loop-j.invariant.1.names (group_variable c.args.self.now.copy.now.group) ∙ c.requires.made.named) c.loop-j.invariant.1 at (step.named (get_or f.matrix j []) at) step.added,
+      given_more c.args.self.now.f.now c.args.self.now.side (group_variable c.args.self.now.copy.now.group) j
+          c.args.log.now c.loop-j.log c.give_clause.new.log (get_or f.matrix j []) step.rest c.requires.side
+          (c.loop-j.invariant.1.names (group_variable c.args.self.now.copy.now.group) ∙ c.requires.made.named)
+          c.loop-j.invariant.1 at (step.named (get_or f.matrix j []) at) step.added,
     )

@@ -3,4 +3,5 @@ use Rattle.padoa_definitions.specs.Growing.{AreGivenSoFar}
 use Rattle.padoa_definitions.proofs.giving.CopiedMatrix.give_clauses.Given as goal
 
 abbrev pub invariant-loop-j : goal.invariant-loop-j
-invariant-loop-j g l = (g.O.Oracle.Fits l.oracle l.log) × AreGivenSoFar l.self.f.now l.self.side (group_variable l.self.copy.now.group) l.j l.fn.log l.log
+invariant-loop-j g l = (g.O.Oracle.Fits l.oracle l.log) × AreGivenSoFar l.self.f.now l.self.side
+    (group_variable l.self.copy.now.group) l.j l.fn.log l.log

@@ -3,4 +3,5 @@ use Rattle.padoa_definitions.proofs.SelectedPlaces.{links_at}
 use Rattle.padoa_definitions.proofs.padoa.Padoa.active.Given as goal
 
 abbrev pub invariant-loop-place : goal.invariant-loop-place
-invariant-loop-place l = l.active.items ≡ l.self.first.group ∷ l.self.second.group ∷ links_at l.self (take l.place-index l.places)
+invariant-loop-place l = l.active.items ≡ l.self.first.group ∷ l.self.second.group ∷ links_at l.self
+    (take l.place-index l.places)

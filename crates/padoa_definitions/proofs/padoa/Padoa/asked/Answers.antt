@@ -11,10 +11,13 @@ returns c = λ entries padoa.
     let conditions = c.args.question.now.conditions.now in
     let one = c.copied_variable-one.ensures entries 1 padoa.first.universals padoa.first.existentials in
     let other = c.copied_variable.ensures entries 2 padoa.second.universals padoa.second.existentials in
-    let negated = ap (name_literal entries) c.not-other.ensures ∙ opposite_name entries c.copied_variable.result (CopyOf 2 y) other in
+    let negated = ap (name_literal entries) c.not-other.ensures ∙ opposite_name entries c.copied_variable.result
+    (CopyOf 2 y) other in
     record {
       first = copied_last entries 1 conditions c.in_ok-first.first.items (positive y)
-          (c.in_ok-first.ensures entries 1 (named_literal (CopyOf 1 y) false) padoa.first.universals padoa.first.existentials one);
+          (c.in_ok-first.ensures entries 1 (named_literal (CopyOf 1 y) false) padoa.first.universals
+          padoa.first.existentials one);
       second = copied_last entries 2 conditions c.in_ok-second.second.items (negative y)
-          (c.in_ok-second.ensures entries 2 (named_literal (CopyOf 2 y) true) padoa.second.universals padoa.second.existentials negated);
+          (c.in_ok-second.ensures entries 2 (named_literal (CopyOf 2 y) true) padoa.second.universals
+          padoa.second.existentials negated);
     }

@@ -11,7 +11,8 @@ pub ask-requires-clause-posed : goal.ask-requires-clause-posed
 ask-requires-clause-posed g c =
     let f = c.args.f.now in
     posed_of f (MayRead f c.args.ranks.now) c.args.y [] c.deref.result.now c.requires.existential
-    (λ e found. subst (ArePlaces (declared f) (MayRead f c.args.ranks.now e)) (sym c.deref.ensures.value) (c.in_ok-places.ensures e found)) (All-nil _) refl (All-nil _)
+    (λ e found. subst (ArePlaces (declared f) (MayRead f c.args.ranks.now e)) (sym c.deref.ensures.value)
+    (c.in_ok-places.ensures e found)) (All-nil _) refl (All-nil _)
 
 pub returns-in-Node-clause-found : goal.returns-in-Node-clause-found
 returns-in-Node-clause-found g c = λ e found.
@@ -19,7 +20,9 @@ returns-in-Node-clause-found g c = λ e found.
     let ranks = c.args.ranks.now in
     let places = c.deref.result.now in
     let graph = c.ask.new.graph in
-    is_defined f ranks graph c.args.y e places c.in-Node.node found (subst (ArePlaces (declared f) (MayRead f ranks e)) (sym c.deref.ensures.value) (c.in_ok-places.ensures e found))
+    is_defined f ranks graph c.args.y e places c.in-Node.node found
+    (subst (ArePlaces (declared f) (MayRead f ranks e)) (sym c.deref.ensures.value)
+    (c.in_ok-places.ensures e found))
     (subst (IsAnswerAt f places c.args.y [] graph) c.in-Node.is c.in_ok-node.ensures.answer)
 
 pub returns-clause-found : goal.returns-clause-found
@@ -28,5 +31,6 @@ returns-clause-found g c = λ e found.
     let ranks = c.args.ranks.now in
     let places = c.deref.result.now in
     let graph = c.ask.new.graph in
-    is_free f ranks c.args.y e places c.in-Pair.pair found (subst (ArePlaces (declared f) (MayRead f ranks e)) (sym c.deref.ensures.value) (c.in_ok-places.ensures e found))
+    is_free f ranks c.args.y e places c.in-Pair.pair found (subst (ArePlaces (declared f) (MayRead f ranks e))
+    (sym c.deref.ensures.value) (c.in_ok-places.ensures e found))
     (subst (IsAnswerAt f places c.args.y [] graph) c.in-Pair.is c.in_ok-node.ensures.answer)

@@ -20,7 +20,8 @@ row_copies-requires-clause-row g c =
     let f = c.args.f.now in
     let n = length c.args.row.now in
     some_existential f c.args.y (All (λ p. p < n) c.deref.result.now) c.requires.existential (λ e found.
-    subst (All (λ p. p < n)) (sym c.deref.ensures.value) (seen_within f e.sees c.in_ok-places.places.items n (c.in_ok-places.ensures e found) c.requires.row))
+    subst (All (λ p. p < n)) (sym c.deref.ensures.value) (seen_within f e.sees c.in_ok-places.places.items n
+    (c.in_ok-places.ensures e found) c.requires.row))
 
 pub row_copies-requires-clause-copies : goal.row_copies-requires-clause-copies
 row_copies-requires-clause-copies g c =
@@ -28,7 +29,8 @@ row_copies-requires-clause-copies g c =
     let lits = c.args.self.now.first.universals.items in
     some_existential f c.args.y (All (λ p. p < length lits) c.deref.result.now) c.requires.existential (λ e found.
     subst (All (λ p. p < length lits)) (sym c.deref.ensures.value)
-    (seen_within f e.sees c.in_ok-places.places.items (length lits) (c.in_ok-places.ensures e found) (copies_long c.args.log.now.entries 1 f.universals lits c.requires.padoa.first.universals)))
+    (seen_within f e.sees c.in_ok-places.places.items (length lits) (c.in_ok-places.ensures e found)
+    (copies_long c.args.log.now.entries 1 f.universals lits c.requires.padoa.first.universals)))
 
 pub search_first-requires-clause-copies : goal.search_first-requires-clause-copies
 search_first-requires-clause-copies g c =
@@ -36,8 +38,10 @@ search_first-requires-clause-copies g c =
     let p = c.args.self.now in
     let es = c.args.log.now.entries in
     some_existential f c.args.y (AreFirstCopies es c.deref-2.result.now) c.requires.existential (λ e found.
-    copies_asked f c.every_formula_is_lawful.ensures c.args.y e found p c.args.row.now c.args.bit c.in_ok-places.places.items c.deref.result.now c.copied_variable.result c.signed-own.result
-    c.deref-2.result.now (c.in_ok-places.ensures e found) c.deref.ensures.value c.signed-own.ensures (c.deref-2.ensures.value ∙ c.in_ok-asked.ensures) es c.requires.padoa
+    copies_asked f c.every_formula_is_lawful.ensures c.args.y e found p c.args.row.now c.args.bit
+    c.in_ok-places.places.items c.deref.result.now c.copied_variable.result c.signed-own.result
+    c.deref-2.result.now (c.in_ok-places.ensures e found) c.deref.ensures.value c.signed-own.ensures
+    (c.deref-2.ensures.value ∙ c.in_ok-asked.ensures) es c.requires.padoa
     (c.copied_variable.ensures es 1 c.requires.padoa.first.universals c.requires.padoa.first.existentials))
 
 pub search_first-requires-clause-apart : goal.search_first-requires-clause-apart
@@ -46,8 +50,10 @@ search_first-requires-clause-apart g c =
     let p = c.args.self.now in
     let es = c.args.log.now.entries in
     some_existential f c.args.y (is_tautology c.deref-2.result.now ≡ false) c.requires.existential (λ e found.
-    apart_asked f c.every_formula_is_lawful.ensures c.args.y e found p c.args.row.now c.args.bit c.in_ok-places.places.items c.deref.result.now c.copied_variable.result c.signed-own.result
-    c.deref-2.result.now (c.in_ok-places.ensures e found) c.deref.ensures.value c.signed-own.ensures (c.deref-2.ensures.value ∙ c.in_ok-asked.ensures) es c.requires.padoa
+    apart_asked f c.every_formula_is_lawful.ensures c.args.y e found p c.args.row.now c.args.bit
+    c.in_ok-places.places.items c.deref.result.now c.copied_variable.result c.signed-own.result
+    c.deref-2.result.now (c.in_ok-places.ensures e found) c.deref.ensures.value c.signed-own.ensures
+    (c.deref-2.ensures.value ∙ c.in_ok-asked.ensures) es c.requires.padoa
     (c.copied_variable.ensures es 1 c.requires.padoa.first.universals c.requires.padoa.first.existentials))
 
 pub cube-requires-clause-id : goal.cube-requires-clause-id
@@ -59,10 +65,14 @@ cube-requires-clause-names g c = λ clause is.
     let p = c.args.self.now in
     let es = c.search_first.new.log.entries in
     let padoa = c.search_first.ensures.padoa in
-    some_existential f c.args.y (All (λ l. IsLiteralName (name_of es (variable_of l))) clause) c.requires.existential (λ e found.
-    names_shown f c.every_formula_is_lawful.ensures c.args.y e found p c.args.row.now c.args.bit c.in_ok-places.places.items c.deref.result.now c.copied_variable.result c.signed-own.result
-    c.deref-2.result.now (c.in_ok-places.ensures e found) c.deref.ensures.value c.signed-own.ensures (c.deref-2.ensures.value ∙ c.in_ok-asked.ensures) es padoa
-    (c.copied_variable.ensures es 1 padoa.first.universals padoa.first.existentials) c.in-Unsat.id (c.search_first.ensures.unsat c.in-Unsat.id (c.in_ok-id.was ∙ ap Ok c.in-Unsat.is)) clause is)
+    some_existential f c.args.y (All (λ l. IsLiteralName (name_of es (variable_of l))) clause) c.requires.existential
+    (λ e found.
+    names_shown f c.every_formula_is_lawful.ensures c.args.y e found p c.args.row.now c.args.bit
+    c.in_ok-places.places.items c.deref.result.now c.copied_variable.result c.signed-own.result
+    c.deref-2.result.now (c.in_ok-places.ensures e found) c.deref.ensures.value c.signed-own.ensures
+    (c.deref-2.ensures.value ∙ c.in_ok-asked.ensures) es padoa
+    (c.copied_variable.ensures es 1 padoa.first.universals padoa.first.existentials) c.in-Unsat.id
+    (c.search_first.ensures.unsat c.in-Unsat.id (c.in_ok-id.was ∙ ap Ok c.in-Unsat.is)) clause is)
 
 pub returns-in-Unsat-clause-forced : goal.returns-in-Unsat-clause-forced
 returns-in-Unsat-clause-forced g c = λ e found.
@@ -70,9 +80,12 @@ returns-in-Unsat-clause-forced g c = λ e found.
     let p = c.args.self.now in
     let es = c.search_first.new.log.entries in
     let padoa = c.search_first.ensures.padoa in
-    rule_shown f c.every_formula_is_lawful.ensures c.args.y e found p c.args.row.now c.args.bit c.in_ok-places.places.items c.deref.result.now c.copied_variable.result c.signed-own.result
-    c.deref-2.result.now (c.in_ok-places.ensures e found) c.deref.ensures.value c.signed-own.ensures (c.deref-2.ensures.value ∙ c.in_ok-asked.ensures) es padoa
-    (c.copied_variable.ensures es 1 padoa.first.universals padoa.first.existentials) c.in-Unsat.id (c.search_first.ensures.unsat c.in-Unsat.id (c.in_ok-id.was ∙ ap Ok c.in-Unsat.is))
+    rule_shown f c.every_formula_is_lawful.ensures c.args.y e found p c.args.row.now c.args.bit
+    c.in_ok-places.places.items c.deref.result.now c.copied_variable.result c.signed-own.result
+    c.deref-2.result.now (c.in_ok-places.ensures e found) c.deref.ensures.value c.signed-own.ensures
+    (c.deref-2.ensures.value ∙ c.in_ok-asked.ensures) es padoa
+    (c.copied_variable.ensures es 1 padoa.first.universals padoa.first.existentials) c.in-Unsat.id
+    (c.search_first.ensures.unsat c.in-Unsat.id (c.in_ok-id.was ∙ ap Ok c.in-Unsat.is))
     c.in_ok-cube-in-Unsat.cube c.in_ok-cube-in-Unsat.ensures
 
 pub row_of_values-requires-clause-made : goal.row_of_values-requires-clause-made
@@ -80,16 +93,20 @@ row_of_values-requires-clause-made g c =
     let lits = c.args.self.now.first.universals.items in
     let has = g.O.Oracle.HasVariable c.search_first.new.oracle in
     subst (All (λ l. has (variable_of l))) (sym c.deref-in-Sat.ensures.value)
-    (copies_told c.search_first.new.log.entries 1 c.args.f.now.universals lits has c.search_first.ensures.padoa.first.universals
-    (λ v named. g.met.O.Oracle.made c.search_first.new.oracle c.search_first.new.log v c.search_first.ensures.fit named))
+    (copies_told c.search_first.new.log.entries 1 c.args.f.now.universals lits has
+    c.search_first.ensures.padoa.first.universals
+    (λ v named. g.met.O.Oracle.made c.search_first.new.oracle c.search_first.new.log v
+    c.search_first.ensures.fit named))
 
 pub row_of_values-requires-in-Sat-clause-made : goal.row_of_values-requires-in-Sat-clause-made
 row_of_values-requires-in-Sat-clause-made g c =
     let lits = c.args.self.now.first.existentials.items in
     let has = g.O.Oracle.HasVariable c.search_first.new.oracle in
     subst (All (λ l. has (variable_of l))) (sym c.deref-in-Sat-2.ensures.value)
-    (copies_told c.search_first.new.log.entries 1 (existential_variables c.args.f.now) lits has c.search_first.ensures.padoa.first.existentials
-    (λ v named. g.met.O.Oracle.made c.search_first.new.oracle c.search_first.new.log v c.search_first.ensures.fit named))
+    (copies_told c.search_first.new.log.entries 1 (existential_variables c.args.f.now) lits has
+    c.search_first.ensures.padoa.first.existentials
+    (λ v named. g.met.O.Oracle.made c.search_first.new.oracle c.search_first.new.log v
+    c.search_first.ensures.fit named))
 
 pub returns-clause-forced : goal.returns-clause-forced
 returns-clause-forced g c = λ e found.
@@ -98,9 +115,15 @@ returns-clause-forced g c = λ e found.
     let es = c.search_first.new.log.entries in
     let padoa = c.search_first.ensures.padoa in
     let values = g.O.Oracle.values c.search_first.new.oracle in
-    let logged = (g.met.O.Oracle.searched c.search_first.new.oracle c.search_first.new.log c.search_first.ensures.fit).logged in
-    loose_shown f c.every_formula_is_lawful.ensures c.args.y e found p c.args.row.now c.args.bit c.in_ok-places.places.items c.deref.result.now c.copied_variable.result c.signed-own.result
-    c.deref-2.result.now (c.in_ok-places.ensures e found) c.deref.ensures.value c.signed-own.ensures (c.deref-2.ensures.value ∙ c.in_ok-asked.ensures) es padoa
-    (c.copied_variable.ensures es 1 padoa.first.universals padoa.first.existentials) c.requires.formula (λ v w name a b. c.names_are_unique.ensures es v w name logged a b) values
-    (c.search_first.ensures.sat (c.in_ok-id.was ∙ ap Ok c.in-Sat.is)) c.in_ok-row-in-Sat.row c.in_ok-values-in-Sat.values
-    (c.in_ok-row-in-Sat.ensures ∙ ap (values_at values) c.deref-in-Sat.ensures.value) (c.in_ok-values-in-Sat.ensures ∙ ap (values_at values) c.deref-in-Sat-2.ensures.value)
+    let logged = (g.met.O.Oracle.searched c.search_first.new.oracle c.search_first.new.log
+    c.search_first.ensures.fit).logged in
+    loose_shown f c.every_formula_is_lawful.ensures c.args.y e found p c.args.row.now c.args.bit
+    c.in_ok-places.places.items c.deref.result.now c.copied_variable.result c.signed-own.result
+    c.deref-2.result.now (c.in_ok-places.ensures e found) c.deref.ensures.value c.signed-own.ensures
+    (c.deref-2.ensures.value ∙ c.in_ok-asked.ensures) es padoa
+    (c.copied_variable.ensures es 1 padoa.first.universals padoa.first.existentials) c.requires.formula
+    (λ v w name a b. c.names_are_unique.ensures es v w name logged a b) values
+    (c.search_first.ensures.sat (c.in_ok-id.was ∙ ap Ok c.in-Sat.is)) c.in_ok-row-in-Sat.row
+    c.in_ok-values-in-Sat.values
+    (c.in_ok-row-in-Sat.ensures ∙ ap (values_at values) c.deref-in-Sat.ensures.value)
+    (c.in_ok-values-in-Sat.ensures ∙ ap (values_at values) c.deref-in-Sat-2.ensures.value)

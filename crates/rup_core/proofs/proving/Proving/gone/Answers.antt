@@ -13,4 +13,6 @@ returns-then-is_going-clause-run c live behind =
       marks = i.trail.variables;
       line = record { trues = i.trail.trues; progress = i.progress };
     } in
-    gone_state live before c.args.self.now c.forget.new.store c.args.ids.now c.self.view_is (sym (none_said i.underived c.is_none-is_going.result c.is_none-is_going.ensures) ∙ c.if-is_going.true) c.forget.ensures behind
+    gone_state live before c.args.self.now c.forget.new.store c.args.ids.now c.self.view_is
+    (sym (none_said i.underived c.is_none-is_going.result c.is_none-is_going.ensures) ∙ c.if-is_going.true)
+    c.forget.ensures behind

@@ -19,6 +19,7 @@ returns-clause-run g c =
     let step : ProofStep = record { id = c.args.id; literals = c.args.lits.now; hints = c.args.hints.now } in
     let view = ap state c.in_ok-is_derived.ensures.same ∙ c.self.view_is ∙ c.rest.ensures in
     on_ok_weaker c.add.result
-    (line_state (g.B.Base.clauses c.args.base.now) (state c.is_derived.new.trail) c.args.self.now c.in_ok-is_derived.is_derived step view (ap not (sym c.if-is_some.ensures))
+    (line_state (g.B.Base.clauses c.args.base.now) (state c.is_derived.new.trail) c.args.self.now
+    c.in_ok-is_derived.is_derived step view (ap not (sym c.if-is_some.ensures))
     c.in_ok-is_derived.ensures.answer c.requires.above c.add.new.self)
     c.add.ensures.ok

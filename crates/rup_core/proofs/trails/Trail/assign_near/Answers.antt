@@ -14,9 +14,16 @@ unreachable-requires c =
     let inside = c.self.inside in
     let place = c.place_of.result in
     let at : variable_of c.args.l ≡ suc place = omega (arith, c.place_of.ensures) in
-    let in_range : place < length inside.near.items = omega (arith, ap (λ a. a.variables) c.self.view_is, at, c.requires.in_range) in
-    let free : literal_value (reverse inside.literals.items) c.args.l ≡ Unassigned = ap (λ a. literal_value a.trues c.args.l) c.self.view_is ∙ c.requires.unassigned in
-    let room = assign_room inside.near.items inside.literals.items c.args.l place _ c.self.invariant.told c.self.invariant.room at in_range free in
+    let in_range : place < length inside.near.items = omega (
+      arith,
+      ap (λ a. a.variables) c.self.view_is,
+      at,
+      c.requires.in_range,
+    ) in
+    let free : literal_value (reverse inside.literals.items) c.args.l ≡ Unassigned =
+    ap (λ a. literal_value a.trues c.args.l) c.self.view_is ∙ c.requires.unassigned in
+    let room = assign_room inside.near.items inside.literals.items c.args.l place _ c.self.invariant.told
+    c.self.invariant.room at in_range free in
     let pushed = c.push.ensures.succeeds (omega (arith, room, inside.literals.ok.0)) in
     both_ways (is_ok c.push.result) (c.is_err.ensures.negation ∙ ap not c.if-is_err.true) pushed
 
@@ -26,17 +33,29 @@ invariant_of-self c =
     let place = c.place_of.result in
     let more = c.push.new.self.items in
     let at : variable_of c.args.l ≡ suc place = omega (arith, c.place_of.ensures) in
-    let in_range : place < length inside.near.items = omega (arith, ap (λ a. a.variables) c.self.view_is, at, c.requires.in_range) in
-    let free : literal_value (reverse inside.literals.items) c.args.l ≡ Unassigned = ap (λ a. literal_value a.trues c.args.l) c.self.view_is ∙ c.requires.unassigned in
-    let value : c.truth.result ≡ value_where_true c.args.l = c.truth.ensures ∙ ap (λ b. cond (not b) True False) c.is_neg.ensures in
+    let in_range : place < length inside.near.items = omega (
+      arith,
+      ap (λ a. a.variables) c.self.view_is,
+      at,
+      c.requires.in_range,
+    ) in
+    let free : literal_value (reverse inside.literals.items) c.args.l ≡ Unassigned =
+    ap (λ a. literal_value a.trues c.args.l) c.self.view_is ∙ c.requires.unassigned in
+    let value : c.truth.result ≡ value_where_true c.args.l =
+    c.truth.ensures ∙ ap (λ b. cond (not b) True False) c.is_neg.ensures in
     let longer : more ≡ inside.literals.items ++ c.args.l ∷ [] =
-    c.push.ensures.items ∙ ap (λ b. cond b (inside.literals.items ++ c.args.l ∷ []) inside.literals.items) (c.is_err.ensures.negation ∙ ap not c.if-is_err.false) in
+    c.push.ensures.items ∙ ap (λ b. cond b (inside.literals.items ++ c.args.l ∷ []) inside.literals.items)
+    (c.is_err.ensures.negation ∙ ap not c.if-is_err.false) in
     let same = length-set inside.near.items place c.truth.result in
-    let counted = assign_counted inside.near.items inside.literals.items c.args.l place c.truth.result c.self.invariant.told at in_range free value in
-    let long : length more ≡ length inside.literals.items + 1 = ap length longer ∙ length-append inside.literals.items (c.args.l ∷ []) in
+    let counted = assign_counted inside.near.items inside.literals.items c.args.l place c.truth.result
+    c.self.invariant.told at in_range free value in
+    let long : length more ≡ length inside.literals.items + 1 =
+    ap length longer ∙ length-append inside.literals.items (c.args.l ∷ []) in
     record {
-      told = assign_told inside.near.items inside.literals.items more c.args.l place c.truth.result c.self.invariant.told at in_range free value longer;
-      far_told = near_keeps_far _ _ inside.far inside.literals.items more c.args.l c.self.invariant.far_told (omega (arith, at, in_range)) same longer;
+      told = assign_told inside.near.items inside.literals.items more c.args.l place c.truth.result
+          c.self.invariant.told at in_range free value longer;
+      far_told = near_keeps_far _ _ inside.far inside.literals.items more c.args.l c.self.invariant.far_told
+          (omega (arith, at, in_range)) same longer;
       room = omega (arith, same, counted, long, c.self.invariant.room, c.push.ensures.capacity);
       whole = omega (arith, same, c.self.invariant.whole, c.push.ensures.capacity);
     }

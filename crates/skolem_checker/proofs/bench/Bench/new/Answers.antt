@@ -6,17 +6,20 @@ use Rattle.skolem_checker.proofs.OriginalLaws.{mapping_copied, complete_copied}
 use Rattle.skolem_checker.proofs.bench.Bench.new.Goals as goal
 
 pub ordered-requires : goal.ordered-requires
-ordered-requires c = complete_copied c.args.a.now.circuit c.in_ok-copy.copy c.renumbered.ensures.kept c.requires.complete c.in_ok-copy.ensures.copy
+ordered-requires c = complete_copied c.args.a.now.circuit c.in_ok-copy.copy c.renumbered.ensures.kept
+    c.requires.complete c.in_ok-copy.ensures.copy
 
 pub literal_table-requires : goal.literal_table-requires
 literal_table-requires c =
-    mapping_copied c.args.f.now c.args.a.now.circuit c.in_ok-copy.copy (mapping_in c.in_ok-mapped.mapped) c.in_ok-copy.ensures.copy
+    mapping_copied c.args.f.now c.args.a.now.circuit c.in_ok-copy.copy
+    (mapping_in c.in_ok-mapped.mapped) c.in_ok-copy.ensures.copy
     (subst (IsMapped c.args.f.now c.args.a.now.circuit) c.in_ok-mapped.ensures
     (mapped c.args.f.now c.args.a.now.circuit c.args.a.now.symbols c.requires.well_formed.prefix))
 
 pub place_table-requires : goal.place_table-requires
 place_table-requires c =
-    mapping_copied c.args.f.now c.args.a.now.circuit c.in_ok-copy.copy (mapping_in c.in_ok-mapped.mapped) c.in_ok-copy.ensures.copy
+    mapping_copied c.args.f.now c.args.a.now.circuit c.in_ok-copy.copy
+    (mapping_in c.in_ok-mapped.mapped) c.in_ok-copy.ensures.copy
     (subst (IsMapped c.args.f.now c.args.a.now.circuit) c.in_ok-mapped.ensures
     (mapped c.args.f.now c.args.a.now.circuit c.args.a.now.symbols c.requires.well_formed.prefix))
 
@@ -34,7 +37,8 @@ invariant_of-result c =
       copy_kept = c.row_block.ensures.kept;
       ordered = c.in_ok-order.ensures;
       tables = record {
-        mapped = mapping_copied c.args.f.now c.args.a.now.circuit c.in_ok-copy.copy (mapping_in c.in_ok-mapped.mapped) c.in_ok-copy.ensures.copy is_mapping;
+        mapped = mapping_copied c.args.f.now c.args.a.now.circuit c.in_ok-copy.copy
+            (mapping_in c.in_ok-mapped.mapped) c.in_ok-copy.ensures.copy is_mapping;
         by_literal = c.in_ok-literals.ensures;
         by_place = c.in_ok-places.ensures;
       };

@@ -10,25 +10,31 @@ pub undeclared_read-requires-clause-universals_fit : goal.undeclared_read-requir
 undeclared_read-requires-clause-universals_fit c =
     let b = c.self.inside in
     rw c.deref.ensures.value
-    (universals_fit b.formula.now b.copy (mapping_in b.mapped) b.literals.items b.places.items c.self.invariant.formed c.self.invariant.tables c.self.invariant.copy_kept)
+    (universals_fit b.formula.now b.copy (mapping_in b.mapped) b.literals.items b.places.items c.self.invariant.formed
+    c.self.invariant.tables c.self.invariant.copy_kept)
 
 pub undeclared_read-requires-clause-places_fit : goal.undeclared_read-requires-clause-places_fit
 undeclared_read-requires-clause-places_fit c =
     let b = c.self.inside in
     rw c.deref-2.ensures.value
-    (places_fit b.formula.now b.copy (mapping_in b.mapped) b.literals.items b.places.items c.self.invariant.formed c.self.invariant.tables)
+    (places_fit b.formula.now b.copy (mapping_in b.mapped) b.literals.items b.places.items c.self.invariant.formed
+    c.self.invariant.tables)
 
 pub undeclared_read-requires-clause-outputs_fit : goal.undeclared_read-requires-clause-outputs_fit
 undeclared_read-requires-clause-outputs_fit c =
     let b = c.self.inside in
     rw c.deref-2.ensures.value
-    (outputs_fit b.formula.now b.copy (mapping_in b.mapped) b.literals.items b.places.items c.self.invariant.formed c.self.invariant.tables)
+    (outputs_fit b.formula.now b.copy (mapping_in b.mapped) b.literals.items b.places.items c.self.invariant.formed
+    c.self.invariant.tables)
 
 pub returns-clause-answer : goal.returns-clause-answer
 returns-clause-answer c =
     let b = c.self.inside in
-    subst (λ (v : Candidate). IsReadsAnswer (ReadsUniversal v.circuit) v.formula c.undeclared_read.result) c.self.view_is
-    (reads_answer_copied b.formula.now b.circuit.now b.copy (mapping_in b.mapped) b.literals.items b.places.items c.self.invariant.formed
-    c.self.invariant.kept c.self.invariant.complete c.self.invariant.mapped c.self.invariant.copied c.self.invariant.copy_kept
+    subst (λ (v : Candidate). IsReadsAnswer (ReadsUniversal v.circuit) v.formula c.undeclared_read.result)
+    c.self.view_is
+    (reads_answer_copied b.formula.now b.circuit.now b.copy (mapping_in b.mapped) b.literals.items b.places.items
+    c.self.invariant.formed
+    c.self.invariant.kept c.self.invariant.complete c.self.invariant.mapped c.self.invariant.copied
+    c.self.invariant.copy_kept
     c.self.invariant.tables c.undeclared_read.result
     (rw c.deref.ensures.value at (rw c.deref-2.ensures.value at c.undeclared_read.ensures.answer)))
