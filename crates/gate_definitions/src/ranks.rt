@@ -67,13 +67,19 @@ impl<'f> Placing<'f> {
         self.place_ready()?;
         self.place_tables()?;
         for at in 0..self.is_placed.len() {
-            if at >= self.order.len() {
-                self.place_late()?;
-            }
-            if at >= self.order.len() {
-                self.place_next()?;
-            }
+            self.place_one(at)?;
             self.release(at)?;
+        }
+        Ok(())
+    }
+
+    // Places one more, where so many have been placed before.
+    fn place_one(&mut self, at: usize) -> Result<(), Memory> {
+        if at >= self.order.len() {
+            self.place_late()?;
+        }
+        if at >= self.order.len() {
+            self.place_next()?;
         }
         Ok(())
     }
