@@ -11,11 +11,8 @@ use dq_lits::{Memory, Row};
 use padoa_definitions::{Forced, Found, Pair};
 use std::alloc::Global;
 
-// How often a walk goes through all existentials at most, and how many occurrences and literals it
-// looks at for each of them.
+// How often a walk goes through all existentials at most.
 const MOST_PASSES: usize = 6;
-
-const WORK: usize = 16;
 // After so many questions in a row that found none no definition is asked for.
 const MOST_IN_VAIN: usize = 32;
 // Whether a bit is forced isn't asked where an existential sees few universals, so that rows give it
@@ -168,15 +165,7 @@ impl Questions {
     fn walk(&mut self, f: &Formula, row: &Row, values: &Row) -> Result<(), Memory> {
         let values = bits_of(self.alloc, values)?;
         let sample = Sample::new(self.alloc, f, row, values)?;
-        let mut walk = Walk {
-            f,
-            occurrences: &self.occurrences,
-            numbers: &self.numbers,
-            sample,
-            turned: Vec::new(self.alloc),
-            broken: Vec::new(self.alloc),
-            left: self.occurrences.count().saturating_mul(WORK),
-        };
+        let mut walk = Walk::new(self.alloc, f, &self.occurrences, &self.numbers, sample);
         for number in 0..MOST_PASSES {
             let is_back = number % 2 == 1;
             if !pass(&mut walk, &self.order, is_back, &mut self.is_free)? {
@@ -209,15 +198,22 @@ fn pass(
         } else {
             number
         };
-        let place = order[at];
-        if place < is_free.len() {
-            if is_free[place] {
-                walk.turn_alone(place);
-            } else if walk.turn(place)? {
-                is_free[place] = true;
-                is_new = true;
-            }
+        if visit(walk, order[at], is_free)? {
+            is_new = true;
         }
     }
     Ok(is_new)
+}
+
+// Turns the existential at a place if it can be turned, and marks it; says whether it is a new one.
+fn visit(walk: &mut Walk, place: usize, is_free: &mut [bool]) -> Result<bool, Memory> {
+    if place >= is_free.len() {
+        return Ok(false);
+    }
+    if is_free[place] {
+        walk.turn_alone(place);
+        return Ok(false);
+    }
+    is_free[place] = walk.turn(place)?;
+    Ok(is_free[place])
 }

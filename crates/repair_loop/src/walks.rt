@@ -5,30 +5,52 @@ use crate::occurrences::Occurrences;
 use crate::samples::Sample;
 use dq_formula::Formula;
 use dq_lits::{Lit, Memory};
+use std::alloc::Global;
 
 // How many others are turned with an existential at most, and in clauses of how many literals they
 // are looked for.
 const MOST_REPAIRS: usize = 8;
 
 const MOST_LITERALS: usize = 64;
+// How many occurrences and literals a walk looks at for each existential at most.
+const WORK: usize = 16;
 
 /// A walk. No contract speaks of it: an existential that is wrongly said to have no definition isn't
 /// asked for one.
 #[derive(Drop)]
 pub(crate) struct Walk<'f, 'o, 'n> {
-    pub f: &'f Formula,
-    pub occurrences: &'o Occurrences,
-    // The number of each existential in the order in which they are asked for.
-    pub numbers: &'n [usize],
-    pub sample: Sample,
+    f: &'f Formula,
+    occurrences: &'o Occurrences,
+    numbers: &'n [usize],
+    sample: Sample,
     // What was turned in the last step, and clauses that may be false since.
-    pub turned: Vec<usize>,
-    pub broken: Vec<u32>,
+    turned: Vec<usize>,
+    broken: Vec<u32>,
     // How many occurrences and literals may still be looked at.
-    pub left: usize,
+    left: usize,
 }
 
-impl Walk<'_, '_, '_> {
+impl<'f, 'o, 'n> Walk<'f, 'o, 'n> {
+    /// From the values of a sample. The numbers are those of the existentials in the order in which
+    /// they are asked for.
+    pub(crate) fn new(
+        alloc: Global,
+        f: &'f Formula,
+        occurrences: &'o Occurrences,
+        numbers: &'n [usize],
+        sample: Sample,
+    ) -> Walk<'f, 'o, 'n> {
+        Walk {
+            f,
+            occurrences,
+            numbers,
+            sample,
+            turned: Vec::new(alloc),
+            broken: Vec::new(alloc),
+            left: occurrences.count().saturating_mul(WORK),
+        }
+    }
+
     /// Turns the existential at a place if it can be turned alone.
     pub(crate) fn turn_alone(&mut self, place: usize) {
         if self.sample.is_loose(self.occurrences, place) {
@@ -43,20 +65,33 @@ impl Walk<'_, '_, '_> {
         self.broken.clear();
         self.turn_one(place)?;
         for _ in 0..MOST_REPAIRS {
-            let Some(number) = self.next_false() else {
-                return Ok(true);
-            };
-            let Some(other) = self.best_in(number, place) else {
-                self.go_back();
-                return Ok(false);
-            };
-            self.turn_one(other)?;
+            if !self.repair(place)? {
+                break;
+            }
         }
-        if let None = self.next_false() {
-            return Ok(true);
+        Ok(self.keep_or_go_back())
+    }
+
+    // Turns one that comes after the existential at a place, for a clause that is false, and says
+    // whether it did.
+    fn repair(&mut self, place: usize) -> Result<bool, Memory> {
+        let Some(number) = self.next_false() else {
+            return Ok(false);
+        };
+        let Some(other) = self.best_in(number, place) else {
+            return Ok(false);
+        };
+        self.turn_one(other)?;
+        Ok(true)
+    }
+
+    // Whether no clause is false. What was turned is turned back, where one is.
+    fn keep_or_go_back(&mut self) -> bool {
+        if self.next_false().is_none() {
+            return true;
         }
         self.go_back();
-        Ok(false)
+        false
     }
 
     // Turns an existential, and notes the clauses that needed its bit.
@@ -73,12 +108,12 @@ impl Walk<'_, '_, '_> {
         Ok(())
     }
 
-    // A clause that is false; the ones that aren't are dropped.
+    // A clause that is false; the ones behind it that aren't are dropped.
     fn next_false(&mut self) -> Option<u32> {
         for _ in 0..self.broken.len() {
-            match self.broken.pop() {
-                Some(number) if self.sample.count(number) == 0 => return Some(number),
-                _ => {}
+            match self.broken.last() {
+                Some(number) if self.sample.count(*number) == 0 => return Some(*number),
+                _ => drop_last(&mut self.broken),
             }
         }
         None
@@ -113,13 +148,18 @@ impl Walk<'_, '_, '_> {
         if self.left == 0 || !self.is_after(other, place) || self.turned.contains(&other) {
             return best;
         }
-        let cost = self.occurrences.with(other, self.sample.bit(other)).len();
-        self.left = self.left.saturating_sub(cost.saturating_add(1));
-        let needs = self.sample.needs(self.occurrences, other);
+        let needs = self.needs(other);
         match best {
             Some((fewest, _)) if fewest <= needs => best,
             _ => Some((needs, other)),
         }
+    }
+
+    // How many clauses need the bit of an existential.
+    fn needs(&mut self, other: usize) -> usize {
+        let cost = self.occurrences.with(other, self.sample.bit(other)).len();
+        self.left = self.left.saturating_sub(cost.saturating_add(1));
+        self.sample.needs(self.occurrences, other)
     }
 
     fn is_after(&self, other: usize, place: usize) -> bool {
@@ -137,4 +177,8 @@ impl Walk<'_, '_, '_> {
             }
         }
     }
+}
+
+fn drop_last(numbers: &mut Vec<u32>) {
+    let _ = numbers.pop();
 }

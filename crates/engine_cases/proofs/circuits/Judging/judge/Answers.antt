@@ -10,7 +10,7 @@ returns-in_ok-round-in-Ok-Fails-clause-fit g c = λ e.
 pub returns-in_ok-round-in-Ok-Fails-clause-open : goal.returns-in_ok-round-in-Ok-Fails-clause-open
 returns-in_ok-round-in-Ok-Fails-clause-open g c = λ e.
     turn_failed c.checkers_stay_with_rounds.ensures c.args.f.now c.args.self.now.graph c.turn.new.self c.turn.new.log c.round.new.self _ _ _
-    c.requires.«open».inputs c.turn.ensures.checker c.turn.ensures.few c.in_ok-round-in-Ok-Fails.ensures.ok
+    c.requires.«open».inputs c.turn.ensures.turned.checker c.turn.ensures.turned.few c.in_ok-round-in-Ok-Fails.ensures.ok
 
 pub turn-requires-clause-read_universals : goal.turn-requires-clause-read_universals
 turn-requires-clause-read_universals g c =

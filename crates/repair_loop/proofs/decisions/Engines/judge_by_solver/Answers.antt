@@ -14,14 +14,14 @@ use Rattle.repair_loop.proofs.UniversalInputs.{outputs_read_universals}
 use Rattle.repair_loop.proofs.decisions.Engines.judge_by_solver.Goals as goal
 
 pub returns-in_err-id-clause-grew : goal.returns-in_err-id-clause-grew
-returns-in_err-id-clause-grew g c = log_grew _ c.args.log.now c.turn.new.log c.turn.ensures.grew
+returns-in_err-id-clause-grew g c = log_grew _ c.args.log.now c.turn.new.log c.turn.ensures.turned.grew
 
 pub returns-in_err-round-in-Fails-clause-grew : goal.returns-in_err-round-in-Fails-clause-grew
 returns-in_err-round-in-Fails-clause-grew g c =
-    log_then c.args.log.now c.turn.new.log c.round.new.self (log_grew _ c.args.log.now c.turn.new.log c.turn.ensures.grew) (log_same c.turn.new.log c.round.new.self c.in_err-round-in-Fails.ensures.err)
+    log_then c.args.log.now c.turn.new.log c.round.new.self (log_grew _ c.args.log.now c.turn.new.log c.turn.ensures.turned.grew) (log_same c.turn.new.log c.round.new.self c.in_err-round-in-Fails.ensures.err)
 
 pub returns-in-Holds-clause-grew : goal.returns-in-Holds-clause-grew
-returns-in-Holds-clause-grew g c = log_grew _ c.args.log.now c.turn.new.log c.turn.ensures.grew
+returns-in-Holds-clause-grew g c = log_grew _ c.args.log.now c.turn.new.log c.turn.ensures.turned.grew
 
 pub returns-in-Holds-clause-hold : goal.returns-in-Holds-clause-hold
 returns-in-Holds-clause-hold g c id e =
@@ -46,8 +46,8 @@ returns-in_ok-round-in-Fails-clause-kept g c =
     (outputs_of c.args.f.now c.args.candidates.now.graph.now c.args.candidates.now.outputs.now)
     (after_turn c.engines_leave_the_rest.ensures c.engines_leave_tables.ensures c.engines_leave_copies.ensures c.args.f.now c.args.candidates.now.graph.now c.args.self.now.table c.args.self.now.checker c.turn.new.self
     c.args.self.now.definitions.padoa
-    (is_silent c.turn.result) c.args.log.now c.turn.new.log (ap is_silent (c.in_ok-id.was ∙ ap Ok c.in-Fails.is)) c.requires.search c.turn.ensures.grew c.turn.ensures.group
-    c.turn.ensures.checker c.turn.ensures.few)
+    (is_silent c.turn.result) c.args.log.now c.turn.new.log (ap is_silent (c.in_ok-id.was ∙ ap Ok c.in-Fails.is)) c.requires.search c.turn.ensures.turned.grew c.turn.ensures.turned.group
+    c.turn.ensures.turned.checker c.turn.ensures.turned.few)
     c.requires.candidates.candidates c.in-Fails.row c.in-Fails.values c.in-Fails.j
     (subst (λ ns. IsFailure c.args.f.now (outputs_of c.args.f.now c.args.candidates.now.graph.now ns) c.in-Fails.row c.in-Fails.values c.in-Fails.j) c.items-nodes.ensures
     (c.turn.ensures.fails c.in-Fails.row c.in-Fails.values c.in-Fails.j (c.in_ok-id.was ∙ ap Ok c.in-Fails.is)))
@@ -56,7 +56,7 @@ returns-in_ok-round-in-Fails-clause-kept g c =
 
 pub returns-in_ok-round-in-Fails-clause-grew : goal.returns-in_ok-round-in-Fails-clause-grew
 returns-in_ok-round-in-Fails-clause-grew g c =
-    log_then c.args.log.now c.turn.new.log c.round.new.self (log_grew _ c.args.log.now c.turn.new.log c.turn.ensures.grew)
+    log_then c.args.log.now c.turn.new.log c.round.new.self (log_grew _ c.args.log.now c.turn.new.log c.turn.ensures.turned.grew)
     (round_grew c.turn.new.log c.round.new.self c.in-Fails.row c.in-Fails.values c.in-Fails.j c.in_ok-round-in-Fails.ensures.ok)
 
 pub returns-in_ok-round-in-Fails-clause-fail : goal.returns-in_ok-round-in-Fails-clause-fail
@@ -65,8 +65,8 @@ returns-in_ok-round-in-Fails-clause-fail g c row e =
     (outputs_of c.args.f.now c.args.candidates.now.graph.now c.args.candidates.now.outputs.now)
     (after_turn c.engines_leave_the_rest.ensures c.engines_leave_tables.ensures c.engines_leave_copies.ensures c.args.f.now c.args.candidates.now.graph.now c.args.self.now.table c.args.self.now.checker c.turn.new.self
     c.args.self.now.definitions.padoa
-    (is_silent c.turn.result) c.args.log.now c.turn.new.log (ap is_silent (c.in_ok-id.was ∙ ap Ok c.in-Fails.is)) c.requires.search c.turn.ensures.grew c.turn.ensures.group
-    c.turn.ensures.checker c.turn.ensures.few)
+    (is_silent c.turn.result) c.args.log.now c.turn.new.log (ap is_silent (c.in_ok-id.was ∙ ap Ok c.in-Fails.is)) c.requires.search c.turn.ensures.turned.grew c.turn.ensures.turned.group
+    c.turn.ensures.turned.checker c.turn.ensures.turned.few)
     c.requires.candidates.candidates c.in-Fails.row c.in-Fails.values c.in-Fails.j
     (subst (λ ns. IsFailure c.args.f.now (outputs_of c.args.f.now c.args.candidates.now.graph.now ns) c.in-Fails.row c.in-Fails.values c.in-Fails.j) c.items-nodes.ensures
     (c.turn.ensures.fails c.in-Fails.row c.in-Fails.values c.in-Fails.j (c.in_ok-id.was ∙ ap Ok c.in-Fails.is)))
@@ -76,7 +76,7 @@ returns-in_ok-round-in-Fails-clause-fail g c row e =
 
 pub returns-in_ok-round-in-Fails-clause-step : goal.returns-in_ok-round-in-Fails-clause-step
 returns-in_ok-round-in-Fails-clause-step g c row e =
-    let before = (log_grew _ c.args.log.now c.turn.new.log c.turn.ensures.grew).steps in
+    let before = (log_grew _ c.args.log.now c.turn.new.log c.turn.ensures.turned.grew).steps in
     let round = round_counts c.turn.new.log c.round.new.self c.in-Fails.row c.in-Fails.values c.in-Fails.j c.in_ok-round-in-Fails.ensures.ok in
     omega (arith, before, round)
 
@@ -85,7 +85,7 @@ returns-in_ok-round-in-Fails-clause-within g c row e =
     let full : steps_of c.turn.new.log.entries ≡ c.turn.new.log.limit → ⊥ = λ is. let stopped = c.round.ensures.limit.1 is in let was = c.in_ok-round-in-Fails.was in cc in
     let value = c.steps.ensures.value in
     let within = c.steps.ensures.within in
-    steps_left c.args.log.now c.turn.new.log (log_grew _ c.args.log.now c.turn.new.log c.turn.ensures.grew) (omega (arith, value, within)) full
+    steps_left c.args.log.now c.turn.new.log (log_grew _ c.args.log.now c.turn.new.log c.turn.ensures.turned.grew) (omega (arith, value, within)) full
 
 pub turn-requires-clause-read_universals : goal.turn-requires-clause-read_universals
 turn-requires-clause-read_universals g c =
@@ -106,8 +106,8 @@ returns-in_err-round-in-Fails-clause-limit g c = λ is.
     (outputs_of f c.args.candidates.now.graph.now c.args.candidates.now.outputs.now)
     (after_turn c.engines_leave_the_rest.ensures c.engines_leave_tables.ensures c.engines_leave_copies.ensures f c.args.candidates.now.graph.now c.args.self.now.table c.args.self.now.checker c.turn.new.self
     c.args.self.now.definitions.padoa
-    (is_silent c.turn.result) c.args.log.now c.turn.new.log (ap is_silent (c.in_ok-id.was ∙ ap Ok c.in-Fails.is)) c.requires.search c.turn.ensures.grew c.turn.ensures.group
-    c.turn.ensures.checker c.turn.ensures.few)
+    (is_silent c.turn.result) c.args.log.now c.turn.new.log (ap is_silent (c.in_ok-id.was ∙ ap Ok c.in-Fails.is)) c.requires.search c.turn.ensures.turned.grew c.turn.ensures.turned.group
+    c.turn.ensures.turned.checker c.turn.ensures.turned.few)
     c.requires.candidates.candidates c.in-Fails.row c.in-Fails.values c.in-Fails.j
     (subst (λ ns. IsFailure f (outputs_of f c.args.candidates.now.graph.now ns) c.in-Fails.row c.in-Fails.values c.in-Fails.j) c.items-nodes.ensures
     (c.turn.ensures.fails c.in-Fails.row c.in-Fails.values c.in-Fails.j (c.in_ok-id.was ∙ ap Ok c.in-Fails.is)))
