@@ -20,7 +20,7 @@ import tempfile
 import decisions
 import reference
 from bench import CHECKER
-from reference import DerivationLine
+from reference import Deletion, DerivationLine
 
 MOST_DIFFERENCES = 10
 
@@ -295,8 +295,36 @@ def derivation(choose, cases, variables, spoiled_part):
     return [spoiled_line(choose, line, variables) if chance(choose, spoiled_part) else line for line in lines]
 
 
-def texts_of(lines):
-    return [[line.id, *line.literals, 0, *line.hints, 0] for line in lines]
+def with_deletions(choose, lines, first_id):
+    """The lines with deletions between them, mostly of lines that no later line hints, and each once."""
+    items, live, foreign_part = [], [], choose.choice((0, 0, 0.1))
+    for place, line in enumerate(lines):
+        items.append(line)
+        live.append(line.id)
+        unused = live if chance(choose, 0.1) else [id for id in live if all(id not in later.hints for later in lines[place + 1 :])]
+        while chance(choose, 0.4):
+            ids = choose.sample(unused, choose.randrange(len(unused) + 1))
+            live = [id for id in live if id not in ids]
+            unused = [id for id in unused if id not in ids]
+            if chance(choose, foreign_part):
+                ids.insert(choose.randrange(len(ids) + 1), choose.randrange(1, first_id + len(lines) + 2))
+            if ids:
+                items.append(Deletion(ids))
+    return items
+
+
+def versioned(choose, lines, first_id):
+    """The items, and what stands behind the header's word: in version 2 some are deletions."""
+    if chance(choose, 0.5):
+        return lines, ""
+    return with_deletions(choose, lines, first_id), "" if chance(choose, 0.05) else "2"
+
+
+def texts_of(items):
+    return [
+        ["d", *item.ids, 0] if isinstance(item, Deletion) else [item.id, *item.literals, 0, *item.hints, 0]
+        for item in items
+    ]
 
 
 def stated_count(choose, lines):
@@ -318,8 +346,9 @@ def with_proof(choose, formula, text, spoiled_part):
     first_id = reference.first_id_of_proof(formula, circuit)
     cases = Cases(choose, clauses, first_id, some_variables(choose, clauses))
     lines = derivation(choose, cases, circuit.variables + len(formula.clauses), spoiled_part)
+    items, version = versioned(choose, lines, first_id)
     free_text = [["free", "text"], []] if chance(choose, 0.1) else []
-    return text + text_of([["c"], ["dqp", stated_count(choose, lines)], *texts_of(lines), *free_text])
+    return text + text_of([["c"], [f"dqp{version}", stated_count(choose, items)], *texts_of(items), *free_text])
 
 
 def some_variables(choose, clauses):
@@ -353,9 +382,10 @@ def random_refutation(choose, formula, spoiled_part):
         DerivationLine(id, [renamed(choose, formula, rows, literal) for literal in literals], hints)
         for id, literals, hints in lines
     ]
-    header = ["p", "dqr", len(rows), stated_count(choose, lines)]
+    items, version = versioned(choose, lines, cases.first_id)
+    header = ["p", f"dqr{version}", len(rows), stated_count(choose, items)]
     blank_lines = [[], [""]] if chance(choose, 0.1) else []
-    return text_of([header, *(["u", *row, 0] for row in signed_rows), *texts_of(lines), *blank_lines])
+    return text_of([header, *(["u", *row, 0] for row in signed_rows), *texts_of(items), *blank_lines])
 
 
 def renamed(choose, formula, rows, literal):
@@ -371,7 +401,7 @@ def renamed(choose, formula, rows, literal):
 
 # Spoiled texts
 
-WORDS = b"a e d p s u c aag cnf dqr dqp i0 o0 TRUE FALSE x -0 +1 -".split()
+WORDS = b"a e d p s u c aag cnf dqr dqr2 dqp dqp2 i0 o0 TRUE FALSE x -0 +1 -".split()
 LINES = [b"", b" ", b"\t", b"\r", b"c", b"c ", b"c x", b" c", b"0", b"-1", b"i0 1", b"o0 1", b"dqp 0", b"s TRUE"]
 ENDS = [b"\r", b"\r\r", b" ", b"\t", b" 0", b" 1", b" x"]
 

@@ -418,13 +418,42 @@ class DerivationLine(NamedTuple):
     hints: list
 
 
-def read_derivation(reader, count, first_id, is_variable):
-    """So many derivation lines; `is_variable` tells the variables that the proof has."""
-    return [read_derivation_line(reader, first_id + place, is_variable) for place in range(count)]
+class Deletion(NamedTuple):
+    ids: list
 
 
-def read_derivation_line(reader, next_id, is_variable):
-    values = [number(token) for token in tokens_of(reader.take())]
+VERSIONS = {b"dqr": 1, b"dqr2": 2, b"dqp": 1, b"dqp2": 2}
+
+
+def read_derivation(reader, count, first_id, is_variable, version):
+    """So many derivation and deletion lines; `is_variable` tells the variables that the proof has."""
+    items, next_id, live = [], first_id, set()
+    for _ in range(count):
+        tokens = tokens_of(reader.take())
+        if version == 2 and tokens[:1] == [b"d"]:
+            items.append(read_deletion(reader, tokens, live))
+        else:
+            items.append(read_derivation_line(reader, tokens, next_id, is_variable))
+            live.add(next_id)
+            next_id += 1
+    return items
+
+
+def read_deletion(reader, tokens, live):
+    """A deletion line; its ids leave those of the lines that can be deleted."""
+    values = [number(token) for token in tokens[1:]]
+    reader.check(None not in values, "BadLine")
+    reader.check(all(abs(value) < TOO_BIG for value in values), "TooBig")
+    *ids, end = values or [None]
+    reader.check(end == 0 and ids and all(id > 0 for id in ids), "BadLine")
+    for id in ids:
+        reader.check(id in live, "NotLive")
+        live.remove(id)
+    return Deletion(ids)
+
+
+def read_derivation_line(reader, tokens, next_id, is_variable):
+    values = [number(token) for token in tokens]
     reader.check(values and None not in values, "BadLine")
     reader.check(all(abs(value) < TOO_BIG for value in values), "TooBig")
     zeros = [place for place, value in enumerate(values) if value == 0]
@@ -451,14 +480,19 @@ def is_derived(line, clauses):
     return last in clauses and all(-literal in true for literal in clauses[last])
 
 
-def derivation_fault(clauses, lines):
+def derivation_fault(clauses, items):
     """What is wrong with a derivation from these clauses that is to end on the empty clause, or None."""
-    clauses = dict(clauses)
-    for line in lines:
-        if not is_derived(line, clauses):
-            return f"INVALID step {line.id}"
-        clauses[line.id] = frozenset(line.literals)
-    return None if lines and not lines[-1].literals else "INVALID end"
+    clauses, last = dict(clauses), None
+    for item in items:
+        if isinstance(item, Deletion):
+            for id in item.ids:
+                del clauses[id]
+            continue
+        last = item
+        if not is_derived(last, clauses):
+            return f"INVALID step {last.id}"
+        clauses[last.id] = frozenset(last.literals)
+    return None if last and not last.literals else "INVALID end"
 
 
 # Circuits' proofs
@@ -469,17 +503,18 @@ def first_id_of_proof(formula, circuit):
 
 
 def read_proof(reader, formula, circuit):
-    """The derivation lines of the proof in a circuit's comment, or None where it begins none."""
+    """The items of the proof in a circuit's comment, or None where it begins none."""
     if not circuit.has_comment or reader.is_done():
         return None
     header = tokens_of(reader.take())
-    if header[:1] != [b"dqp"]:
+    if header[:1] not in ([b"dqp"], [b"dqp2"]):
         return None
     counts = [natural(token) for token in header[1:]]
     reader.check(len(counts) == 1 and None not in counts, "BadHeader")
     reader.check(counts[0] <= LARGEST_COUNT, "TooBig")
     largest = circuit.variables + len(formula.clauses)
-    return read_derivation(reader, counts[0], first_id_of_proof(formula, circuit), lambda variable: variable <= largest)
+    first_id, version = first_id_of_proof(formula, circuit), VERSIONS[header[0]]
+    return read_derivation(reader, counts[0], first_id, lambda variable: variable <= largest, version)
 
 
 def negated_matrix(formula, circuit, inputs, outputs):
@@ -564,16 +599,18 @@ def is_true(clause, assignment):
 
 
 def read_refutation(reader, header, formula):
-    """The rows and the derivation lines of the refutation whose header line, with these tokens, was taken."""
+    """The rows and the items of the refutation whose header line, with these tokens, was taken."""
     counts = [natural(token) for token in header[2:]]
-    reader.check(header[:2] == [b"p", b"dqr"] and len(counts) == 2 and None not in counts, "BadHeader")
+    is_header = header[:2] in ([b"p", b"dqr"], [b"p", b"dqr2"])
+    reader.check(is_header and len(counts) == 2 and None not in counts, "BadHeader")
     reader.check(max(counts) <= LARGEST_COUNT, "TooBig")
     rows = [read_row(reader, formula) for _ in range(counts[0])]
     first_id = len(rows) * len(formula.clauses) + 1
-    lines = read_derivation(reader, counts[1], first_id, lambda variable: is_pair(formula, rows, variable))
+    version = VERSIONS[header[1]]
+    items = read_derivation(reader, counts[1], first_id, lambda variable: is_pair(formula, rows, variable), version)
     while not reader.is_done():
         reader.check(not tokens_of(reader.take()), "BadLine")
-    return rows, lines
+    return rows, items
 
 
 def read_row(reader, formula):
@@ -643,12 +680,15 @@ def judge_circuit(reader, header, formula):
     return fault or "VALID TRUE"
 
 
+def shared_item(formula, rows, item):
+    if isinstance(item, Deletion):
+        return item
+    return item._replace(literals=[shared_literal(formula, rows, literal) for literal in item.literals])
+
+
 def judge_refutation(reader, header, formula):
-    rows, lines = read_refutation(reader, header, formula)
-    shared = [
-        DerivationLine(id, [shared_literal(formula, rows, literal) for literal in literals], hints)
-        for id, literals, hints in lines
-    ]
+    rows, items = read_refutation(reader, header, formula)
+    shared = [shared_item(formula, rows, item) for item in items]
     return derivation_fault(instances(formula, rows), shared) or "VALID FALSE"
 
 

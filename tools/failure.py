@@ -18,14 +18,17 @@ class Failure(Exception):
         self.status = status
 
 
-def run(script, usage, least_words, most_words, work):
-    """Calls `work` with the command's words, of which there must be so many; answers the exit status."""
+def run(script, usage, least_words, most_words, work, option=None):
+    """Calls `work` with the command's words, of which there must be so many; answers the exit status. With the option as first
+    word, `work` is called with one argument more."""
     words = sys.argv[1:]
+    is_given = option is not None and words[:1] == [option]
+    words = words[is_given:]
     if not least_words <= len(words) <= most_words or any(word.startswith("-") for word in words):
         print(usage, file=sys.stderr)
         return USAGE
     try:
-        work(*words)
+        work(*words, **({"deletes": True} if is_given else {}))
     except Failure as failure:
         print(f"{script}: {failure}", file=sys.stderr)
         return failure.status

@@ -48,6 +48,15 @@ class Line(NamedTuple):
         return " ".join(map(str, (self.id, *self.literals, 0, *self.hints, 0)))
 
 
+class Deletion(NamedTuple):
+    """A deletion line."""
+
+    ids: list
+
+    def text(self):
+        return " ".join(map(str, ("d", *self.ids, 0)))
+
+
 def is_tautology(clause):
     return len(set(map(abs, clause))) < len(set(clause))
 
@@ -249,8 +258,28 @@ class Propagation:
 # Derivations
 
 
+def with_deletions(lines):
+    """The lines, and behind each but the last one a deletion of those that no later one hints, where there are such."""
+    last_uses = {hint: line.id for line in lines for hint in line.hints}
+    own = {line.id for line in lines}
+    gone = {}
+    for id in sorted(own & last_uses.keys()):
+        gone.setdefault(last_uses[id], []).append(id)
+    items = []
+    for line in lines:
+        items.append(line)
+        if line.id in gone and line is not lines[-1]:
+            items.append(Deletion(gone[line.id]))
+    return items
+
+
+def version_of(items):
+    """What stands behind the word of a header: 2 where something is deleted."""
+    return "2" if any(isinstance(item, Deletion) for item in items) else ""
+
+
 def write(lines):
-    """Writes lines to standard output."""
+    """Writes lines and deletions to standard output."""
     sys.stdout.flush()
     for line in lines:
         sys.stdout.write(line.text() + "\n")

@@ -3,7 +3,9 @@
 `c`, in place of a comment that it has, a `dqp` proof as docs/FORMATS.md describes it. The proof is found by the solver
 cadical. Nothing here is trusted: dqcheck judges what is written.
 
-Usage: tools/prove_circuit.py FORMULA CIRCUIT > CERT     DQDIMACS, and ASCII AIGER
+Usage: tools/prove_circuit.py [--v2] FORMULA CIRCUIT > CERT     DQDIMACS, and ASCII AIGER
+
+With --v2 a line is deleted behind the last one that hints it.
 
 The exit status is 0 where a proof was written, 1 for words that aren't two files, and else, with a message: 2 a text can't be
 read, 3 there is no cadical, 4 cadical failed, 5 a clause is false under some row, 6 an output reaches a universal that its
@@ -16,7 +18,7 @@ import hinted
 from failure import FOREIGN_READ, WRONG_CIRCUIT, Failure, run
 from texts import number, read_circuit, read_formula
 
-USAGE = "usage: tools/prove_circuit.py FORMULA CIRCUIT > CERT"
+USAGE = "usage: tools/prove_circuit.py [--v2] FORMULA CIRCUIT > CERT"
 
 
 # Inputs, outputs and variables
@@ -141,7 +143,7 @@ def failing_row(formula, circuit, inputs, true):
     return f"{' '.join(map(str, ['under row', *row]))}, clause {place} is false: {clause}"
 
 
-def prove(formula_path, circuit_path):
+def prove(formula_path, circuit_path, deletes=False):
     formula, circuit = read_formula(formula_path), read_circuit(circuit_path)
     inputs, outputs = mapping(formula, circuit)
     check_reads(formula, circuit, inputs, outputs)
@@ -150,9 +152,10 @@ def prove(formula_path, circuit_path):
     if answer.has_model:
         raise Failure(WRONG_CIRCUIT, failing_row(formula, circuit, inputs, answer.true))
     lines = hinted.derivation(clauses, answer.steps, first_id(formula, circuit))
-    sys.stdout.buffer.write(circuit.text + f"c\ndqp {len(lines)}\n".encode())
-    hinted.write(lines)
+    items = hinted.with_deletions(lines) if deletes else lines
+    sys.stdout.buffer.write(circuit.text + f"c\ndqp{hinted.version_of(items)} {len(items)}\n".encode())
+    hinted.write(items)
 
 
 if __name__ == "__main__":
-    sys.exit(run("prove_circuit", USAGE, 2, 2, prove))
+    sys.exit(run("prove_circuit", USAGE, 2, 2, prove, "--v2"))

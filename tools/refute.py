@@ -3,8 +3,10 @@
 clauses' instances there, a `dqr` text as docs/FORMATS.md describes it. The solver cadical finds the lines. Nothing here is
 trusted: dqcheck judges what is written.
 
-Usage: tools/refute.py FORMULA > CERT            DQDIMACS; the rows are found here
-       tools/refute.py FORMULA ROWS > CERT       a row a line, each universal with its sign
+Usage: tools/refute.py [--v2] FORMULA > CERT            DQDIMACS; the rows are found here
+       tools/refute.py [--v2] FORMULA ROWS > CERT       a row a line, each universal with its sign
+
+With --v2 a line is deleted behind the last one that hints it.
 
 Rows are found so: a model of the instances so far gives each existential a bit in each row, and decision trees that agree with
 these bits give it a function of what it sees; where a clause is then false under some row, that row is added. At worst all rows
@@ -21,7 +23,7 @@ import hinted
 from failure import NOT_FALSE, TOO_FEW_ROWS, Failure, run
 from texts import Place, bytes_of, lines_of, number, read_formula, tokens_of
 
-USAGE = "usage: tools/refute.py FORMULA [ROWS] > CERT"
+USAGE = "usage: tools/refute.py [--v2] FORMULA [ROWS] > CERT"
 
 
 def read_rows(formula, path):
@@ -201,18 +203,19 @@ def refutation_under(formula, rows):
     return rows, expansion.lines(answer.steps)
 
 
-def refute(formula_path, rows_path=None):
+def refute(formula_path, rows_path=None, deletes=False):
     formula = read_formula(formula_path)
     if rows_path is None:
         rows, lines = found_refutation(formula)
     else:
         rows, lines = refutation_under(formula, read_rows(formula, rows_path))
-    sys.stdout.write(f"p dqr {len(rows)} {len(lines)}\n")
+    items = hinted.with_deletions(lines) if deletes else lines
+    sys.stdout.write(f"p dqr{hinted.version_of(items)} {len(rows)} {len(items)}\n")
     for row in rows:
         literals = [universal if universal in row else -universal for universal in formula.universals]
         sys.stdout.write(" ".join(map(str, ["u", *literals, 0])) + "\n")
-    hinted.write(lines)
+    hinted.write(items)
 
 
 if __name__ == "__main__":
-    sys.exit(run("refute", USAGE, 1, 2, refute))
+    sys.exit(run("refute", USAGE, 1, 2, refute, "--v2"))

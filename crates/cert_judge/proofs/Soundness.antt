@@ -2,7 +2,8 @@
 use Rattle.std.proofs.Common.{◌≡◌, ℕ, inl, inr, List, Option, None, Some, Result, Ok, Err, refl, ap}
 use Rattle.std.specs.Prelude.{drop}
 use Rattle.dq_lits.specs.Formula.{Dqbf, HasLawfulPrefix, IsWellFormed}
-use Rattle.dq_lits.specs.Derivation.{ProofStep, ProofFault, underived, unfinished}
+use Rattle.dq_lits.specs.Derivation.{ProofFault, underived, unfinished}
+use Rattle.rup_core.specs.Items.{ProofItem}
 use Rattle.dq_lits.specs.Henkin.{IsTrueFormula, IsFalseFormula}
 use Rattle.circuit_plain.specs.Netlist.{Netlist, IsNetlist}
 use Rattle.aiger_text.specs.Symbol.{SymbolTable}
@@ -33,10 +34,10 @@ pub record TestsLaw : Type 0 where
       → IsSkolemCircuit c.formula c.circuit.netlist symbols
   pub is_true : (f : Dqbf) (net : Netlist) (symbols : SymbolTable) → HasLawfulPrefix f → IsNetlist net → IsComplete net
       → IsSkolemCircuit f net symbols → IsTrueFormula f
-  pub proved : (c : Candidate) (symbols : SymbolTable) (steps : List ProofStep) → IsWellFormed c.formula
+  pub proved : (c : Candidate) (symbols : SymbolTable) (items : List ProofItem) → IsWellFormed c.formula
       → IsNetlist c.circuit.netlist → IsComplete c.circuit.netlist
       → candidate_of c.formula c.circuit.netlist symbols ≡ Ok c
-      → IsReadsAnswer (ReadsUniversal c.circuit) c.formula (Ok tt) → circuit_proof_fault c steps ≡ None
+      → IsReadsAnswer (ReadsUniversal c.circuit) c.formula (Ok tt) → circuit_proof_fault c items ≡ None
       → IsSkolemCircuit c.formula c.circuit.netlist symbols
 
 -- what the law of refutations gives
@@ -66,8 +67,8 @@ module _ (law : TestsLaw) (f : Dqbf) (net : Netlist) (symbols : SymbolTable) (fo
   true_by_tests None mapping is (inr r) =
       law.skolem (mapped_by mapping) symbols formed.prefix (ap (with_mapping f net) is) r.reads r.tested.1
   true_by_tests (Some d) mapping is (inr r) =
-      law.proved (mapped_by mapping) symbols d.steps formed kept complete (ap (with_mapping f net) is) r.reads
-      (no_fault (circuit_proof_fault (mapped_by mapping) d.steps) r.tested)
+      law.proved (mapped_by mapping) symbols d.items formed kept complete (ap (with_mapping f net) is) r.reads
+      (no_fault (circuit_proof_fault (mapped_by mapping) d.items) r.tested)
 
   true_by_mapping : (h : ℕ) (proof : Option Dqp) (mapped : Result Mapping MapError) → mapping_of f net symbols ≡ mapped
       → BehindMapping h net proof (with_mapping f net mapped) ValidTrue → IsSkolemCircuit f net symbols
@@ -120,7 +121,7 @@ false_is_no_proof (Some unfinished) same = cc
 false_by_tests : (proof : Option Dqp) (c : Candidate) → IsTested proof c ValidFalse → ⊥
 false_by_tests proof c (inl r) = false_is_no_read r.existential r.universal r.is
 false_by_tests None c (inr r) = r.tested
-false_by_tests (Some d) c (inr r) = false_is_no_proof (circuit_proof_fault c d.steps) r.tested
+false_by_tests (Some d) c (inr r) = false_is_no_proof (circuit_proof_fault c d.items) r.tested
 
 false_by_mapping : (h : ℕ) (net : Netlist) (proof : Option Dqp) (mapped : Result Candidate MapError) → BehindMapping h net proof mapped ValidFalse → ⊥
 false_by_mapping h net proof (Err fault) r = false_is_no_refusal (mapping_line h net fault.at) (BadMapping fault.name) r

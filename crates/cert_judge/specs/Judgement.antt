@@ -1,6 +1,6 @@
 -- What is to be said of a certificate: the first of its faults, or that it proves the formula true
 -- or false.
-use Rattle.std.specs.Prelude.{◌≡◌, ℕ, ◌+◌, ◌-◌, ◌<◌, ◌≤◌, ◌==◌, ◌⊎◌, Bool, false, List, [], ◌∷◌, length, take, drop, Option, None, Some, Result, Ok, Err, codes, if◌then◌else◌}
+use Rattle.std.specs.Prelude.{◌≡◌, ℕ, ◌+◌, ◌-◌, ◌<◌, ◌≤◌, ◌==◌, ◌⊎◌, Bool, false, ◌||◌, List, [], ◌∷◌, length, take, drop, Option, None, Some, Result, Ok, Err, if◌then◌else◌}
 use Rattle.std.specs.List.{filter, position}
 use Rattle.std.specs.Str.{bytes_eq}
 use Rattle.dq_lits.specs.Derivation.{ProofFault, underived, unfinished}
@@ -12,6 +12,7 @@ use Rattle.aiger_text.specs.Grammar.{SpellsCircuit}
 use Rattle.aiger_text.specs.Scan.{LineFault}
 use Rattle.aiger_text.specs.declared.files.AagFile.{AagFile}
 use Rattle.cert_text.specs.CircuitProof.{circuit_proof_of}
+use Rattle.cert_text.specs.Header.{proof_word}
 use Rattle.cert_text.specs.Kind.{certificate_kind}
 use Rattle.cert_text.specs.Scan.{refutation_of}
 use Rattle.cert_text.specs.declared.circuit_proofs.Dqp.{Dqp}
@@ -19,6 +20,7 @@ use Rattle.cert_text.specs.declared.faults.CertRefusal.{CertRefusal}
 use Rattle.cert_text.specs.declared.kinds.Kind.{Kind}
 use Rattle.cert_text.specs.declared.kinds.Kind.TheVariants.{Circuit as CircuitText, Refutation}
 use Rattle.cert_text.specs.declared.refutations.Dqr.{Dqr}
+use Rattle.cert_text.specs.declared.versions.Version.TheVariants.{One, Two}
 use Rattle.proof_checker.specs.CircuitProof.{circuit_proof_fault}
 use Rattle.refutation_checker.specs.Refutation.{refutation_fault}
 use Rattle.skolem_checker.specs.Checks.{Candidate, candidate_of, IsReadsAnswer, IsRowsAnswer}
@@ -50,9 +52,11 @@ line_ends bytes = length (filter (λ byte. byte == 10) bytes)
 abbrev pub comment_line : ℕ → ℕ → List ℕ → ℕ
 comment_line h ends comment = h + (ends - line_ends comment)
 
--- a comment is a proof where its first line begins one
+-- a comment is a proof where its first line begins one, in either version
 abbrev pub begins_proof : List ℕ → Bool
-begins_proof comment = begins_with (codes "dqp") (line_tokens (first_line comment))
+begins_proof comment =
+    begins_with (proof_word One) (line_tokens (first_line comment))
+    || begins_with (proof_word Two) (line_tokens (first_line comment))
 
 abbrev pub as_proof : Result Dqp CertRefusal → Result (Option Dqp) CertRefusal
 as_proof (Ok d) = Ok (Some d)
@@ -93,7 +97,7 @@ IsTestedByRows f c _ = ⊥
 -- by its proof, or by its rows where it has none
 abbrev pub IsTestedBy : Option Dqp → Candidate → Answer → Type 0
 IsTestedBy (Some d) c answer =
-    answer ≡ answer_of_derivation ValidTrue (circuit_proof_fault c d.steps)
+    answer ≡ answer_of_derivation ValidTrue (circuit_proof_fault c d.items)
 IsTestedBy None c answer = IsTestedByRows c.formula c.circuit answer
 
 -- an output reads a universal that its existential may not see

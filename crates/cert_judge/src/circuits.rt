@@ -104,7 +104,8 @@ fn first_line(bytes: &[u8]) -> &[u8]
 fn begins_proof(comment: &[u8]) -> bool
     ensures { result ≡ begins_proof comment.now }
 {
-    begins_with(first_line(comment), b"dqp")
+    let line = first_line(comment);
+    begins_with(line, b"dqp") || begins_with(line, b"dqp2")
 }
 
 fn line_ends(bytes: &[u8]) -> usize
@@ -283,7 +284,7 @@ fn judge_proof(alloc: Global, bench: &Bench, proof: &Dqp) -> Result<Answer, Memo
     requires lawful { IsDqpOf bench.now.formula bench.now.circuit.netlist proof.now }
     ensures { IfOk result
         (λ answer. answer
-        ≡ answer_of_derivation ValidTrue (circuit_proof_fault bench.now proof.now.steps)) }
+        ≡ answer_of_derivation ValidTrue (circuit_proof_fault bench.now proof.now.items)) }
 {
     match by_proof(alloc, bench, proof) {
         Ok(()) => Ok(Answer::ValidTrue),

@@ -1,23 +1,29 @@
 -- The canonical text of a refutation spells it.
-use Rattle.std.proofs.Common.{◌≡◌, ℕ, ◌+◌, ◌*◌, ◌^◌, ◌≤◌, ◌<◌, pos, Bool, true, false, not, List, [], ◌∷◌, ◌++◌, map, length, codes, refl, sym, ◌∙◌, ap, ap₂, arith, subst, append_assoc, append-nil}
+use Rattle.std.proofs.Common.{◌≡◌, ℕ, ◌+◌, ◌*◌, ◌^◌, ◌≤◌, ◌<◌, pos, Bool, true, false, not, ◌||◌, cond, List, [], ◌∷◌, ◌++◌, map, length, codes, refl, sym, ◌∙◌, ap, ap₂, arith, subst, append_assoc, append-nil}
 use Rattle.std.specs.Fmt.{decimal}
-use Rattle.std.specs.List.{AllByRecursion, AllZip, flat_map, zip}
+use Rattle.std.specs.List.{AllByRecursion, AllZip, flat_map, list_any, zip}
 use Rattle.std.proofs.Math.Nat.{mul-le-mul}
 use Rattle.std.proofs.lemmas.Grind.{flat_map-append}
 use Rattle.std.proofs.lemmas.List.Elements.{recursion_from_All}
 use Rattle.dq_lits.specs.Derivation.{ProofStep}
 use Rattle.dq_lits.specs.Formula.{Dqbf}
 use Rattle.dq_lits.specs.Literal.{Literal, positive, negative, variable_of, is_negative, dimacs_number}
+use Rattle.rup_core.specs.Items.{ProofItem, derived, gone}
 use Rattle.dq_formula.specs.Prefix.{IsLawful}
 use Rattle.dq_text.specs.Number.{number_of}
 use Rattle.dq_text.specs.declared.numbers.Number.TheVariants.{Int}
 use Rattle.dq_text.specs.Written.{number_text, line_end}
-use Rattle.cert_text.specs.Canonical.{signed_text, literal_text, header_text, row_text, step_text, canonical}
-use Rattle.cert_text.specs.Grammar.{Tokens, integers, row_numbers, SpellsRow, SpellsStep, AreSteps, IsDqrOf, SpellsRefutation}
-use Rattle.cert_text.specs.Header.{max_count}
+use Rattle.cert_text.specs.Canonical.{signed_text, literal_text, header_text, row_text, step_text, deletion_text, item_text, version_for, canonical}
+use Rattle.cert_text.specs.Grammar.{Tokens, integers, row_numbers, SpellsRow, SpellsStep, SpellsDeletion, SpellsItem, AreItems, IsDqrOf, SpellsRefutation}
+use Rattle.cert_text.specs.Header.{max_count, refutation_word}
+use Rattle.cert_text.specs.KeptItems.{is_deletion}
+use Rattle.cert_text.specs.Numbering.{Numbering, numbered_from, with_next, without_all}
 use Rattle.cert_text.specs.Pairs.{is_pair_number}
 use Rattle.cert_text.specs.Scan.{first_id}
 use Rattle.cert_text.specs.declared.refutations.Dqr.{Dqr}
+use Rattle.cert_text.specs.declared.versions.Version.{Version}
+use Rattle.cert_text.specs.declared.versions.Version.TheVariants.{One, Two}
+use Rattle.cert_text.proofs.Numberings.{Live, live_line, live_gone, live_ids, none_live, next_kept}
 use Rattle.cert_text.proofs.LineTokens.{tokens_by_text}
 use Rattle.dq_text.proofs.LineWords.{IsWord, AreWords, spaced, natural_is_word}
 use Rattle.cert_text.proofs.LineWords.{tokens_of, line_of_words}
@@ -30,17 +36,24 @@ zero_is_word : IsWord (codes "0")
 zero_is_word = (refl, tt)
 
 -- the header
-abbrev header_tokens : ℕ → ℕ → Tokens
-header_tokens rows steps = codes "p" ∷ codes "dqr" ∷ decimal rows ∷ decimal steps ∷ []
+abbrev header_tokens : Version → ℕ → ℕ → Tokens
+header_tokens version rows items = codes "p" ∷ refutation_word version ∷ decimal rows ∷ decimal items ∷ []
 
-header_line : (rows steps : ℕ) (rest : List ℕ) → rows < 10 ^ 18 → steps < 10 ^ 18 → tokens_of (header_text rows steps ++ rest) ≡ header_tokens rows steps ∷ tokens_of rest
-header_line rows steps rest few_rows few_steps =
-    let words = codes "p" ∷ codes "dqr" ∷ decimal rows ∷ [] in
-    let behind : (number_text rows ++ (decimal steps ++ 10 ∷ [])) ++ rest ≡ spaced (decimal rows ∷ []) ++ (decimal steps ++ 10 ∷ rest) =
-    append_assoc (number_text rows) (decimal steps ++ 10 ∷ []) rest
-    ∙ ap₂ (λ xs ys. xs ++ ys) (sym (append-nil (number_text rows))) (append_assoc (decimal steps) (10 ∷ []) rest) in
-    ap (λ bytes. tokens_of (112 ∷ 32 ∷ 100 ∷ 113 ∷ 114 ∷ 32 ∷ bytes)) behind
-    ∙ line_of_words words (decimal steps) rest ((refl, tt), ((refl, (refl, (refl, tt))), (natural_is_word rows few_rows, tt))) (natural_is_word steps few_steps)
+counts_bytes : (rows items : ℕ) (rest : List ℕ) → (number_text rows ++ (decimal items ++ 10 ∷ [])) ++ rest ≡ spaced (decimal rows ∷ []) ++ (decimal items ++ 10 ∷ rest)
+counts_bytes rows items rest =
+    append_assoc (number_text rows) (decimal items ++ 10 ∷ []) rest
+    ∙ ap₂ (λ xs ys. xs ++ ys) (sym (append-nil (number_text rows))) (append_assoc (decimal items) (10 ∷ []) rest)
+
+header_line : (version : Version) (rows items : ℕ) (rest : List ℕ) → rows < 10 ^ 18 → items < 10 ^ 18 →
+    tokens_of (header_text version rows items ++ rest) ≡ header_tokens version rows items ∷ tokens_of rest
+header_line One rows items rest few_rows few_items =
+    ap (λ bytes. tokens_of (112 ∷ 32 ∷ 100 ∷ 113 ∷ 114 ∷ 32 ∷ bytes)) (counts_bytes rows items rest)
+    ∙ line_of_words (codes "p" ∷ codes "dqr" ∷ decimal rows ∷ []) (decimal items) rest
+    ((refl, tt), ((refl, (refl, (refl, tt))), (natural_is_word rows few_rows, tt))) (natural_is_word items few_items)
+header_line Two rows items rest few_rows few_items =
+    ap (λ bytes. tokens_of (112 ∷ 32 ∷ 100 ∷ 113 ∷ 114 ∷ 50 ∷ 32 ∷ bytes)) (counts_bytes rows items rest)
+    ∙ line_of_words (codes "p" ∷ codes "dqr2" ∷ decimal rows ∷ []) (decimal items) rest
+    ((refl, tt), ((refl, (refl, (refl, (refl, tt)))), (natural_is_word rows few_rows, tt))) (natural_is_word items few_items)
 
 -- a row
 abbrev Bits : Type 0
@@ -183,16 +196,63 @@ literals_numbers (l ∷ ls) hs are small = ap₂ (λ n ns. n ∷ ns) (literal_nu
 step_spells : (s : ProofStep) → IsSmallStep s → SpellsStep (step_tokens s) s
 step_spells s is = ap₂ (λ n ns. n ∷ ns) (natural_is_read s.id is.id) (literals_numbers s.literals s.hints is.literals is.hints)
 
-abbrev pub AreSmallSteps : List ProofStep → Type 0
-AreSmallSteps ss = AllByRecursion IsSmallStep ss
+-- a deletion
+abbrev pub deletion_tokens : List ℕ → Tokens
+deletion_tokens ids = codes "d" ∷ (map decimal ids ++ codes "0" ∷ [])
 
-pub steps_lines : (ss : List ProofStep) → AreSmallSteps ss → tokens_of (flat_map step_text ss) ≡ map step_tokens ss
-steps_lines [] are = refl
-steps_lines (s ∷ ss) are = step_line s (flat_map step_text ss) are.0 ∙ ap (λ lines. step_tokens s ∷ lines) (steps_lines ss are.1)
+deletion_line : (ids : List ℕ) (rest : List ℕ) → AreSmall ids → tokens_of (deletion_text ids ++ rest) ≡ deletion_tokens ids ∷ tokens_of rest
+deletion_line ids rest small =
+    ap (λ bytes. tokens_of (100 ∷ 32 ∷ bytes))
+    (append_assoc (flat_map number_text ids) line_end rest ∙ ap (λ front. front ++ (48 ∷ 10 ∷ rest)) (numbers_spaced ids))
+    ∙ line_of_words (codes "d" ∷ map decimal ids) (codes "0") rest ((refl, tt), numbers_are_words ids small) zero_is_word
 
-pub steps_spell : (ss : List ProofStep) → AreSmallSteps ss → AllZip SpellsStep (map step_tokens ss) ss
-steps_spell [] are = tt
-steps_spell (s ∷ ss) are = (step_spells s are.0, steps_spell ss are.1)
+deletion_spells : (ids : List ℕ) → AreSmall ids → SpellsDeletion (deletion_tokens ids) ids
+deletion_spells ids small = record { rest = map decimal ids ++ codes "0" ∷ []; letter = refl; numbers = hints_numbers ids small }
+
+-- an item
+abbrev pub IsSpelledSmall : ProofItem → Type 0
+IsSpelledSmall (derived s) = IsSmallStep s
+IsSpelledSmall (gone ids) = AreSmall ids
+
+abbrev pub AreSpelledSmall : List ProofItem → Type 0
+AreSpelledSmall items = AllByRecursion IsSpelledSmall items
+
+abbrev pub item_tokens : ProofItem → Tokens
+item_tokens (derived s) = step_tokens s
+item_tokens (gone ids) = deletion_tokens ids
+
+item_line : (item : ProofItem) (rest : List ℕ) → IsSpelledSmall item → tokens_of (item_text item ++ rest) ≡ item_tokens item ∷ tokens_of rest
+item_line (derived s) rest is = step_line s rest is
+item_line (gone ids) rest is = deletion_line ids rest is
+
+pub items_lines : (items : List ProofItem) → AreSpelledSmall items → tokens_of (flat_map item_text items) ≡ map item_tokens items
+items_lines [] are = refl
+items_lines (item ∷ items) are = item_line item (flat_map item_text items) are.0 ∙ ap (λ lines. item_tokens item ∷ lines) (items_lines items are.1)
+
+item_spells : (version : Version) (item : ProofItem) → IsSpelledSmall item → (is_deletion item ≡ true → version ≡ Two) → SpellsItem version (item_tokens item) item
+item_spells version (derived s) is two = step_spells s is
+item_spells version (gone ids) is two = (two refl, deletion_spells ids is)
+
+either : (a b : Bool) (version : Version) → (a || b ≡ true → version ≡ Two) → (a ≡ true → version ≡ Two) × (b ≡ true → version ≡ Two)
+either true b version h = (h, λ _. h refl)
+either false b version h = ((λ k. absurd (apart k)), h)
+  where
+    apart : false ≡ true → ⊥
+    apart k = cc
+
+items_spell_in : (version : Version) (items : List ProofItem) → AreSpelledSmall items → (list_any is_deletion items ≡ true → version ≡ Two) →
+    AllZip (SpellsItem version) (map item_tokens items) items
+items_spell_in version [] are two = tt
+items_spell_in version (item ∷ items) are two =
+    let both = either (is_deletion item) (list_any is_deletion items) version two in
+    (item_spells version item are.0 both.0, items_spell_in version items are.1 both.1)
+
+needs_two : (b : Bool) → b ≡ true → cond b Two One ≡ Two
+needs_two true h = refl
+needs_two false h = cc
+
+pub items_spell : (items : List ProofItem) → AreSpelledSmall items → AllZip (SpellsItem (version_for items)) (map item_tokens items) items
+items_spell items are = items_spell_in (version_for items) items are (needs_two (list_any is_deletion items))
 
 -- what the format allows has small numbers
 spellable : (variables : ℕ) (us : List ℕ) → variables < 10 ^ 18 → AllByRecursion (λ v. (1 ≤ v) × (v ≤ variables)) us → AllByRecursion IsSpellable us
@@ -207,46 +267,56 @@ pub small_hints : (id : ℕ) (hs : List ℕ) → id < 10 ^ 18 → AllByRecursion
 small_hints id [] small are = tt
 small_hints id (h ∷ hs) small are = (omega (arith, are.0.1, small), small_hints id hs small are.1)
 
-small_steps : (p : ℕ → Bool) (id : ℕ) (ss : List ProofStep) → ((v : ℕ) → p v ≡ true → IsSpellable v) → id + length ss < 10 ^ 18 → AreSteps p id ss → AreSmallSteps ss
-small_steps p id [] small few are = tt
-small_steps p id (s ∷ ss) small few are =
+abbrev IsSmallId : ℕ → Type 0
+IsSmallId id = id < 10 ^ 18
+
+small_items : (p : ℕ → Bool) (n : Numbering) (items : List ProofItem) → ((v : ℕ) → p v ≡ true → IsSpellable v) → n.next + length items < 10 ^ 18 → Live IsSmallId n →
+    AreItems p n items → AreSpelledSmall items
+small_items p n [] small few live are = tt
+small_items p n (derived s ∷ items) small few live are =
     let is = are.0 in
-    let below : id < 10 ^ 18 = omega (arith, few) in (
+    let below : n.next < 10 ^ 18 = omega (arith, few) in (
       record {
-        id = subst (λ n. n < 10 ^ 18) (sym is.numbered) below;
+        id = subst (λ id. id < 10 ^ 18) (sym is.numbered) below;
         literals = small_literals p s.literals small (recursion_from_All (λ l. p (variable_of l) ≡ true) s.literals is.on_variables);
-        hints = small_hints id s.hints below (recursion_from_All (λ h. (1 ≤ h) × (h < id)) s.hints is.hints_before);
+        hints = small_hints n.next s.hints below (recursion_from_All (λ h. (1 ≤ h) × (h < n.next)) s.hints is.hints_before);
       },
-      small_steps p (id + 1) ss small (omega (arith, few)) are.1,
+      small_items p (with_next n) items small (omega (arith, few)) (live_line IsSmallId n below live) are.1,
     )
+small_items p n (gone ids ∷ items) small few live are = (
+  live_ids IsSmallId n ids live are.0.live,
+  small_items p (without_all n ids) items small (omega (arith, few, next_kept n ids)) (live_gone IsSmallId n ids live) are.1,
+)
 
 pub canonical_spells : (f : Dqbf) (d : Dqr) → IsLawful f → IsDqrOf f d → SpellsRefutation (canonical f.universals d) f d
 canonical_spells f d lawful is =
     let us = f.universals in
     let rows = length d.rows in
-    let steps = length d.steps in
+    let items = length d.items in
+    let version = version_for d.items in
     let p : ℕ → Bool = is_pair_number f rows in
     let few_ids : rows * length f.matrix ≤ max_count * 10000000 = mul-le-mul is.few_rows lawful.few_clauses in
     let spelled_universals = spellable f.variables us (omega (arith, lawful.few_variables)) (universals_in_range f lawful) in
-    let small = small_steps p (first_id f rows) d.steps (λ v h. (pair_positive f rows v h, pair_small f rows v lawful is.few_rows h))
-    (omega (arith, few_ids, is.few_steps)) is.steps in
+    let small = small_items p (numbered_from (first_id f rows)) d.items (λ v h. (pair_positive f rows v h, pair_small f rows v lawful is.few_rows h))
+    (omega (arith, few_ids, is.few_items)) (none_live IsSmallId (first_id f rows)) is.items in
     record {
-      header = header_tokens rows steps;
+      version = version;
+      header = header_tokens version rows items;
       row_lines = map (row_tokens us) d.rows;
-      step_lines = map step_tokens d.steps;
+      item_lines = map item_tokens d.items;
       blank_lines = 0;
       lines = tokens_by_text 1 (canonical us d)
-          ∙ header_line rows steps (flat_map (row_text us) d.rows ++ flat_map step_text d.steps) (omega (arith, is.few_rows)) (omega (arith, is.few_steps))
-          ∙ ap (λ lines. header_tokens rows steps ∷ lines) (rows_lines us d.rows (flat_map step_text d.steps) spelled_universals
-          ∙ ap (λ lines. map (row_tokens us) d.rows ++ lines) (steps_lines d.steps small ∙ sym (append-nil (map step_tokens d.steps))));
+          ∙ header_line version rows items (flat_map (row_text us) d.rows ++ flat_map item_text d.items) (omega (arith, is.few_rows)) (omega (arith, is.few_items))
+          ∙ ap (λ lines. header_tokens version rows items ∷ lines) (rows_lines us d.rows (flat_map item_text d.items) spelled_universals
+          ∙ ap (λ lines. map (row_tokens us) d.rows ++ lines) (items_lines d.items small ∙ sym (append-nil (map item_tokens d.items))));
       header_spelled = record {
         rows_token = decimal rows;
-        steps_token = decimal steps;
+        items_token = decimal items;
         words = refl;
         rows_number = natural_is_read rows (omega (arith, is.few_rows));
-        steps_number = natural_is_read steps (omega (arith, is.few_steps));
+        items_number = natural_is_read items (omega (arith, is.few_items));
       };
       rows_spelled = rows_spell us d.rows spelled_universals;
-      steps_spelled = steps_spell d.steps small;
+      items_spelled = items_spell d.items small;
       allowed = is;
     }

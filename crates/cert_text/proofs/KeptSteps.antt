@@ -1,9 +1,8 @@
 -- Steps that are kept apart.
-use Rattle.std.proofs.Common.{◌≡◌, ℕ, zero, suc, ◌+◌, ◌<◌, List, [], ◌∷◌, ◌++◌, length, drop, get_or, Some, refl, sym, ◌∙◌, ap, ap₂, arith, append_assoc}
-use Rattle.std.specs.List.{flat_map, slice_get}
+use Rattle.std.proofs.Common.{◌≡◌, ℕ, zero, suc, ◌<◌, List, [], ◌∷◌, ◌++◌, length, get_or, Some, refl, sym, ◌∙◌, ap, ap₂, arith}
+use Rattle.std.specs.List.{slice_get}
 use Rattle.dq_lits.specs.Derivation.{ProofStep}
 use Rattle.dq_lits.specs.Literal.{Literal}
-use Rattle.cert_text.specs.Canonical.{step_text}
 use Rattle.cert_text.specs.KeptSteps.{steps_from, AreAsMany}
 
 -- the same for lists without their first lines
@@ -52,18 +51,3 @@ step_got ids ls hs k steps id l h many below is id_is l_is h_is =
     ap (λ all. slice_get all k) (sym is) ∙ step_at ids ls hs k id many below
     ∙ ap (λ n. Some (record { id = n; literals = get_or ls k []; hints = get_or hs k [] })) (sym id_is)
     ∙ ap₂ (λ a b. Some (record { id = id; literals = a; hints = b })) (sym l_is) (sym h_is)
-
-got : (xs : List ProofStep) (k : ℕ) (x : ProofStep) → slice_get xs k ≡ Some x → drop k xs ≡ x ∷ drop (suc k) xs
-got [] k x h = cc
-got (y ∷ ys) zero x h = let same : y ≡ x = cc in ap (λ z. z ∷ ys) same
-got (y ∷ ys) (suc k) x h = got ys k x h
-
--- one line more is written
-pub step_written : (steps : List ProofStep) (k : ℕ) (s : ProofStep) (text more start : List ℕ) → slice_get steps k ≡ Some s → more ≡ text ++ step_text s →
-    text ++ flat_map step_text (drop k steps) ≡ start → more ++ flat_map step_text (drop (k + 1) steps) ≡ start
-step_written steps k s text more start is written so_far =
-    let next : k + 1 ≡ suc k = omega arith in
-    ap₂ (λ a n. a ++ flat_map step_text (drop n steps)) written next
-    ∙ append_assoc text (step_text s) (flat_map step_text (drop (suc k) steps))
-    ∙ ap (λ rest. text ++ flat_map step_text rest) (sym (got steps k s is))
-    ∙ so_far

@@ -22,3 +22,8 @@ pub mod SignsTaken
 pub mod SmallNumbers
 pub mod SpelledSteps
 pub mod RowUniversals
+pub mod Numberings
+pub mod ReadItems
+pub mod SpelledItems
+pub mod KeptItems
+pub mod StepsAlone

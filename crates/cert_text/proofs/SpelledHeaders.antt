@@ -1,71 +1,98 @@
 -- Header lines, as their reader takes them and as the grammar spells them.
-use Rattle.std.proofs.Common.{◌≡◌, ℕ, ◌≤◌, nat_lt, Bool, true, false, cond, ◌&&◌, ◌||◌, List, [], ◌∷◌, Option, Some, None, Result, Ok, Err, codes, refl, ◌∙◌, ap, ap₂, arith, subst}
+use Rattle.std.proofs.Common.{◌≡◌, ℕ, ◌≤◌, nat_lt, Bool, true, false, cond, ◌||◌, List, [], ◌∷◌, Option, Some, None, Result, Ok, Err, codes, refl, ◌∙◌, ap, ap₂, arith, subst}
 use Rattle.std.specs.Str.{bytes_eq}
-use Rattle.std.proofs.lemmas.Bool.{and_parts, or_from, or_parts, le-ltb, ltb-false, cond-false}
+use Rattle.std.proofs.lemmas.Bool.{or_from, or_parts, le-ltb, ltb-false, cond-false}
 use Rattle.std.proofs.lemmas.Slice.Eq.{bytes_eq-Decides}
 use Rattle.cert_text.specs.Grammar.{Tokens, SpellsHeader}
-use Rattle.cert_text.specs.Header.{max_count, counts_of, header_of}
+use Rattle.cert_text.specs.Header.{max_count, counts_of, count_of, header_of, proof_header, proof_word, refutation_word, version_of}
+use Rattle.cert_text.specs.ProofGrammar.{SpellsProofHeader}
 use Rattle.dq_text.proofs.Naturals.{natural_taken, natural_spelled}
 use Rattle.dq_text.specs.Number.{natural_of}
 use Rattle.cert_text.specs.declared.faults.CertFault.{CertFault}
 use Rattle.cert_text.specs.declared.faults.CertFault.TheVariants.{BadHeader, TooBig}
 use Rattle.cert_text.specs.declared.headers.Counts.{Counts}
+use Rattle.cert_text.specs.declared.headers.ItemCount.{ItemCount}
+use Rattle.cert_text.specs.declared.versions.Version.{Version}
+use Rattle.cert_text.specs.declared.versions.Version.TheVariants.{One, Two}
 use Rattle.cert_text.proofs.Integers.{passed}
 
-pub header_taken : (tokens : Tokens) (rows steps : ℕ) → SpellsHeader tokens rows steps → rows ≤ max_count → steps ≤ max_count →
-    header_of tokens ≡ Ok (record { rows = rows; steps = steps })
-header_taken tokens rows steps spelled few_rows few_steps =
+refutation_version : (version : Version) → version_of refutation_word (refutation_word version) ≡ Some version
+refutation_version One = refl
+refutation_version Two = refl
+
+proof_version : (version : Version) → version_of proof_word (proof_word version) ≡ Some version
+proof_version One = refl
+proof_version Two = refl
+
+by_words : (one two : Bool) (word_of : Version → List ℕ) (word : List ℕ) (version : Version) → (one ≡ true → word ≡ word_of One) → (two ≡ true → word ≡ word_of Two) →
+    cond one (Some One) (cond two (Some Two) None) ≡ Some version → word ≡ word_of version
+by_words true two word_of word version first second h = let is : One ≡ version = cc in first refl ∙ ap word_of is
+by_words false true word_of word version first second h = let is : Two ≡ version = cc in second refl ∙ ap word_of is
+by_words false false word_of word version first second h = cc
+
+word_is : (word_of : Version → List ℕ) (word : List ℕ) (version : Version) → version_of word_of word ≡ Some version → word ≡ word_of version
+word_is word_of word version h =
+    by_words (bytes_eq word (word_of One)) (bytes_eq word (word_of Two)) word_of word version (bytes_eq-Decides word (word_of One)).0 (bytes_eq-Decides word (word_of Two)).0 h
+
+pub header_taken : (tokens : Tokens) (version : Version) (rows items : ℕ) → SpellsHeader tokens version rows items → rows ≤ max_count → items ≤ max_count →
+    header_of tokens ≡ Ok (record { version = version; rows = rows; items = items })
+header_taken tokens version rows items spelled few_rows few_items =
     ap header_of spelled.words
-    ∙ ap₂ counts_of (natural_taken spelled.rows_token rows spelled.rows_number) (natural_taken spelled.steps_token steps spelled.steps_number)
-    ∙ cond-false (nat_lt max_count rows || nat_lt max_count steps) (Err TooBig) (Ok (record { rows = rows; steps = steps }))
-    (or_from (nat_lt max_count rows) (nat_lt max_count steps) (le-ltb max_count rows (omega (arith, few_rows))) (le-ltb max_count steps (omega (arith, few_steps))))
+    ∙ ap (λ v. counts_of v (natural_of spelled.rows_token) (natural_of spelled.items_token)) (refutation_version version)
+    ∙ ap₂ (counts_of (Some version)) (natural_taken spelled.rows_token rows spelled.rows_number) (natural_taken spelled.items_token items spelled.items_number)
+    ∙ cond-false (nat_lt max_count rows || nat_lt max_count items) (Err TooBig) (Ok (record { version = version; rows = rows; items = items }))
+    (or_from (nat_lt max_count rows) (nat_lt max_count items) (le-ltb max_count rows (omega (arith, few_rows))) (le-ltb max_count items (omega (arith, few_items))))
 
 pub record IsHeader (tokens : Tokens) (c : Counts) : Type 0 where
-  pub spelled : SpellsHeader tokens c.rows c.steps
+  pub spelled : SpellsHeader tokens c.version c.rows c.items
   pub few_rows : c.rows ≤ max_count
-  pub few_steps : c.steps ≤ max_count
+  pub few_items : c.items ≤ max_count
 
--- the words stand there, and the numbers are counts
-passed_words : (words : Bool) (r : Result Counts CertFault) (c : Counts) → cond words r (Err BadHeader) ≡ Ok c → (words ≡ true) × (r ≡ Ok c)
-passed_words true r c h = (refl, h)
-passed_words false r c h = cc
+-- the word stands there, and the numbers are counts
+passed_word : {A : Type 0} (word : Bool) (r : Result A CertFault) (c : A) → cond word r (Err BadHeader) ≡ Ok c → (word ≡ true) × (r ≡ Ok c)
+passed_word true r c h = (refl, h)
+passed_word false r c h = cc
 
-are_counts : (rows steps : Option ℕ) (c : Counts) → counts_of rows steps ≡ Ok c →
-    (rows ≡ Some c.rows) × (steps ≡ Some c.steps) × (c.rows ≤ max_count) × (c.steps ≤ max_count)
-are_counts None steps c h = cc
-are_counts (Some k) None c h = cc
-are_counts (Some k) (Some n) c h =
-    let made : Result Counts CertFault = Ok (record { rows = k; steps = n }) in
-    let checked = passed (nat_lt max_count k || nat_lt max_count n) TooBig made c h in
+record AreCounts (version : Option Version) (rows items : Option ℕ) (c : Counts) : Type 0 where
+  version_is : version ≡ Some c.version
+  rows_are : rows ≡ Some c.rows
+  items_are : items ≡ Some c.items
+  few_rows : c.rows ≤ max_count
+  few_items : c.items ≤ max_count
+
+are_counts : (version : Option Version) (rows items : Option ℕ) (c : Counts) → counts_of version rows items ≡ Ok c → AreCounts version rows items c
+are_counts None rows items c h = cc
+are_counts (Some v) None items c h = cc
+are_counts (Some v) (Some k) None c h = cc
+are_counts (Some v) (Some k) (Some n) c h =
+    let made : Counts = record { version = v; rows = k; items = n } in
+    let checked = passed (nat_lt max_count k || nat_lt max_count n) TooBig (Ok made) c h in
     let small = or_parts (nat_lt max_count k) (nat_lt max_count n) checked.0 in
-    let is : record { rows = k; steps = n } ≡ c = cc in
-    let rows_are : k ≡ c.rows = ap (λ (x : Counts). x.rows) is in
-    let steps_are : n ≡ c.steps = ap (λ (x : Counts). x.steps) is in (
-      ap Some rows_are,
-      ap Some steps_are,
-      subst (λ x. x ≤ max_count) rows_are (ltb-false max_count k small.0),
-      subst (λ x. x ≤ max_count) steps_are (ltb-false max_count n small.1),
-    )
+    let is : made ≡ c = cc in
+    subst (AreCounts (Some v) (Some k) (Some n)) is (record {
+      version_is = refl;
+      rows_are = refl;
+      items_are = refl;
+      few_rows = ltb-false max_count k small.0;
+      few_items = ltb-false max_count n small.1;
+    })
 
 four_tokens : (letter word k n : List ℕ) (c : Counts) → header_of (letter ∷ word ∷ k ∷ n ∷ []) ≡ Ok c → IsHeader (letter ∷ word ∷ k ∷ n ∷ []) c
 four_tokens letter word k n c h =
-    let p = bytes_eq letter (codes "p") in
-    let dqr = bytes_eq word (codes "dqr") in
-    let outer = passed_words (p && dqr) (counts_of (natural_of k) (natural_of n)) c h in
-    let both = and_parts p dqr outer.0 in
-    let counted = are_counts (natural_of k) (natural_of n) c outer.1 in
-    let letter_is = (bytes_eq-Decides letter (codes "p")).0 both.0 in
-    let word_is = (bytes_eq-Decides word (codes "dqr")).0 both.1 in
+    let outer = passed_word (bytes_eq letter (codes "p")) (counts_of (version_of refutation_word word) (natural_of k) (natural_of n)) c h in
+    let counted = are_counts (version_of refutation_word word) (natural_of k) (natural_of n) c outer.1 in
+    let few_rows = counted.few_rows in
+    let few_items = counted.few_items in
     record {
       spelled = record {
         rows_token = k;
-        steps_token = n;
-        words = ap₂ (λ a b. a ∷ b ∷ k ∷ n ∷ []) letter_is word_is;
-        rows_number = natural_spelled k c.rows counted.0 (omega (arith, counted.2));
-        steps_number = natural_spelled n c.steps counted.1 (omega (arith, counted.3));
+        items_token = n;
+        words = ap₂ (λ a b. a ∷ b ∷ k ∷ n ∷ []) ((bytes_eq-Decides letter (codes "p")).0 outer.0) (word_is refutation_word word c.version counted.version_is);
+        rows_number = natural_spelled k c.rows counted.rows_are (omega (arith, few_rows));
+        items_number = natural_spelled n c.items counted.items_are (omega (arith, few_items));
       };
-      few_rows = counted.2;
-      few_steps = counted.3;
+      few_rows = few_rows;
+      few_items = few_items;
     }
 
 pub header_spelled : (tokens : Tokens) (c : Counts) → header_of tokens ≡ Ok c → IsHeader tokens c
@@ -75,3 +102,48 @@ header_spelled (a ∷ b ∷ []) c h = cc
 header_spelled (a ∷ b ∷ k ∷ []) c h = cc
 header_spelled (a ∷ b ∷ k ∷ n ∷ []) c h = four_tokens a b k n c h
 header_spelled (a ∷ b ∷ k ∷ n ∷ more ∷ rest) c h = cc
+
+-- the same of a circuit's proof
+pub proof_header_taken : (tokens : Tokens) (version : Version) (items : ℕ) → SpellsProofHeader tokens version items → items ≤ max_count →
+    proof_header tokens ≡ Ok (record { version = version; items = items })
+proof_header_taken tokens version items spelled few =
+    ap proof_header spelled.words
+    ∙ ap₂ count_of (proof_version version) (natural_taken spelled.items_token items spelled.items_number)
+    ∙ cond-false (nat_lt max_count items) (Err TooBig) (Ok (record { version = version; items = items })) (le-ltb max_count items (omega (arith, few)))
+
+pub record IsProofHeader (tokens : Tokens) (c : ItemCount) : Type 0 where
+  pub spelled : SpellsProofHeader tokens c.version c.items
+  pub few : c.items ≤ max_count
+
+record IsCount (version : Option Version) (items : Option ℕ) (c : ItemCount) : Type 0 where
+  version_is : version ≡ Some c.version
+  items_are : items ≡ Some c.items
+  few : c.items ≤ max_count
+
+is_count : (version : Option Version) (items : Option ℕ) (c : ItemCount) → count_of version items ≡ Ok c → IsCount version items c
+is_count None items c h = cc
+is_count (Some v) None c h = cc
+is_count (Some v) (Some n) c h =
+    let made : ItemCount = record { version = v; items = n } in
+    let checked = passed (nat_lt max_count n) TooBig (Ok made) c h in
+    let is : made ≡ c = cc in
+    subst (IsCount (Some v) (Some n)) is (record { version_is = refl; items_are = refl; few = ltb-false max_count n checked.0 })
+
+two_tokens : (word token : List ℕ) (c : ItemCount) → proof_header (word ∷ token ∷ []) ≡ Ok c → IsProofHeader (word ∷ token ∷ []) c
+two_tokens word token c h =
+    let counted = is_count (version_of proof_word word) (natural_of token) c h in
+    let few = counted.few in
+    record {
+      spelled = record {
+        items_token = token;
+        words = ap (λ w. w ∷ token ∷ []) (word_is proof_word word c.version counted.version_is);
+        items_number = natural_spelled token c.items counted.items_are (omega (arith, few));
+      };
+      few = few;
+    }
+
+pub proof_header_spelled : (tokens : Tokens) (c : ItemCount) → proof_header tokens ≡ Ok c → IsProofHeader tokens c
+proof_header_spelled [] c h = cc
+proof_header_spelled (word ∷ []) c h = cc
+proof_header_spelled (word ∷ token ∷ []) c h = two_tokens word token c h
+proof_header_spelled (word ∷ token ∷ more ∷ rest) c h = cc

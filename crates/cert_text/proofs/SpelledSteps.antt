@@ -31,7 +31,7 @@ zero_place (n ∷ front) rest none =
     ap (λ b. cond (not b) (1 + position_or_len is_zero (front ++ pos 0 ∷ rest)) 0) none.0
     ∙ omega (arith, zero_place front rest none.1)
 
-cut : (front rest : List ℤ) → AreNonzero front → cut_at_zero (front ++ pos 0 ∷ rest) ≡ Some (front, rest)
+pub cut : (front rest : List ℤ) → AreNonzero front → cut_at_zero (front ++ pos 0 ∷ rest) ≡ Some (front, rest)
 cut front rest none =
     let all = front ++ pos 0 ∷ rest in
     let parts : ℕ → Option (List ℤ × List ℤ) = λ end. Some (take end all, drop (end + 1) all) in
@@ -65,10 +65,10 @@ literals_back (l ∷ ls) some = ap₂ (λ x xs. x ∷ xs) (literal_back l some.0
 abbrev pub AreIds : List ℕ → Type 0
 AreIds hs = AllByRecursion (λ h. 1 ≤ h) hs
 
-abbrev hint_numbers : List ℕ → List ℤ
+abbrev pub hint_numbers : List ℕ → List ℤ
 hint_numbers hs = map (λ hint. pos hint) hs
 
-hints_nonzero : (hs : List ℕ) → AreIds hs → AreNonzero (hint_numbers hs)
+pub hints_nonzero : (hs : List ℕ) → AreIds hs → AreNonzero (hint_numbers hs)
 hints_nonzero [] some = tt
 hints_nonzero (h ∷ hs) some = (ne_eqb h 0 (λ e. omega (arith, some.0, e)), hints_nonzero hs some.1)
 
@@ -76,11 +76,11 @@ id_positive : (n : ℕ) → 1 ≤ n → is_positive (pos n) ≡ true
 id_positive zero some = absurd (omega (arith, some))
 id_positive (suc n) some = positive_is n
 
-hints_positive : (hs : List ℕ) → AreIds hs → list_all is_positive (hint_numbers hs) ≡ true
+pub hints_positive : (hs : List ℕ) → AreIds hs → list_all is_positive (hint_numbers hs) ≡ true
 hints_positive [] some = refl
 hints_positive (h ∷ hs) some = and_from (is_positive (pos h)) (list_all is_positive (hint_numbers hs)) (id_positive h some.0) (hints_positive hs some.1)
 
-hints_back : (hs : List ℕ) → map nat_abs (hint_numbers hs) ≡ hs
+pub hints_back : (hs : List ℕ) → map nat_abs (hint_numbers hs) ≡ hs
 hints_back [] = refl
 hints_back (h ∷ hs) = ap (λ rest. h ∷ rest) (hints_back hs)
 
@@ -162,7 +162,7 @@ cut_at ns front rest (Some end) is h =
     sym (take-append-drop end ns)
     ∙ ap₂ (λ a b. a ++ b) front_is (drop_more ns end (pos 0) found.0 ∙ ap₂ (λ n more. n ∷ more) zero_there rest_is)
 
-cut_back : (ns : List ℤ) (parts : List ℤ × List ℤ) → cut_at_zero ns ≡ Some parts → ns ≡ parts.0 ++ pos 0 ∷ parts.1
+pub cut_back : (ns : List ℤ) (parts : List ℤ × List ℤ) → cut_at_zero ns ≡ Some parts → ns ≡ parts.0 ++ pos 0 ∷ parts.1
 cut_back ns parts h = cut_at ns parts.0 parts.1 (position is_zero ns) refl h
 
 positive_back : (n : ℤ) → is_positive n ≡ true → (n ≡ pos (nat_abs n)) × (1 ≤ nat_abs n)
@@ -178,7 +178,7 @@ numbers_back : (ns : List ℤ) → map dimacs_number (map dimacs_literal ns) ≡
 numbers_back [] = refl
 numbers_back (n ∷ ns) = ap₂ (λ x xs. x ∷ xs) (number_back n) (numbers_back ns)
 
-hints_are : (ns : List ℤ) → list_all is_positive ns ≡ true → (hint_numbers (map nat_abs ns) ≡ ns) × AreIds (map nat_abs ns)
+pub hints_are : (ns : List ℤ) → list_all is_positive ns ≡ true → (hint_numbers (map nat_abs ns) ≡ ns) × AreIds (map nat_abs ns)
 hints_are [] h = (refl, tt)
 hints_are (n ∷ ns) h =
     let both = and_parts (is_positive n) (list_all is_positive ns) h in
@@ -186,7 +186,7 @@ hints_are (n ∷ ns) h =
     let rest = hints_are ns both.1 in
     (ap₂ (λ x xs. x ∷ xs) (sym here.0) rest.0, (here.1, rest.1))
 
-nil_is : (ns : List ℤ) → is_nil ns ≡ true → ns ≡ []
+pub nil_is : (ns : List ℤ) → is_nil ns ≡ true → ns ≡ []
 nil_is [] h = refl
 nil_is (n ∷ ns) h = cc
 

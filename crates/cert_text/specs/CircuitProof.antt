@@ -5,14 +5,16 @@ use Rattle.dq_lits.specs.Formula.{Dqbf}
 use Rattle.dq_text.specs.Line.{TextLine, line_tokens, lines_from}
 use Rattle.circuit_plain.specs.Netlist.{Netlist}
 use Rattle.cert_text.specs.Header.{proof_header}
+use Rattle.cert_text.specs.ItemLine.{item_lines}
 use Rattle.cert_text.specs.Kind.{refusal}
 use Rattle.cert_text.specs.Lines.{and_read, at_line, read_some}
 use Rattle.cert_text.specs.NegatedMatrix.{negated_clause_count}
-use Rattle.cert_text.specs.StepLine.{step_line}
+use Rattle.cert_text.specs.Numbering.{numbered_from}
 use Rattle.cert_text.specs.Variables.{is_up_to}
 use Rattle.cert_text.specs.declared.circuit_proofs.Dqp.{Dqp}
 use Rattle.cert_text.specs.declared.faults.CertFault.TheVariants.{BadHeader}
 use Rattle.cert_text.specs.declared.faults.CertRefusal.{CertRefusal}
+use Rattle.cert_text.specs.declared.headers.ItemCount.{ItemCount}
 
 -- the circuit's variables, and one for each clause
 abbrev pub is_proof_variable : Dqbf → Netlist → ℕ → Bool
@@ -22,13 +24,14 @@ is_proof_variable f net = is_up_to (net.max_var + length f.matrix)
 abbrev pub first_proof_id : Dqbf → Netlist → ℕ
 first_proof_id f net = negated_clause_count f net + 1
 
--- the steps behind the header
-abbrev pub read_proof_lines : Dqbf → Netlist → ℕ → List TextLine → ℕ → Result Dqp CertRefusal
+-- the items behind the header
+abbrev pub read_proof_lines : Dqbf → Netlist → ItemCount → List TextLine → ℕ
+    → Result Dqp CertRefusal
 read_proof_lines f net count lines number =
     and_read
-    (read_some (step_line (is_proof_variable f net)) (first_proof_id f net) count lines number)
-    (λ steps.
-    Ok (record { steps = steps.items }))
+    (read_some (item_lines count.version (is_proof_variable f net))
+    (numbered_from (first_proof_id f net)) count.items lines number) (λ items.
+    Ok (record { items = items.items }))
 
 abbrev pub read_proof : Dqbf → Netlist → List TextLine → ℕ → Result Dqp CertRefusal
 read_proof f net [] number = Err (refusal number BadHeader)
@@ -37,6 +40,6 @@ read_proof f net (line ∷ lines) number =
     (λ count. read_proof_lines f net count lines (line.number + 1))
 
 -- a proof over a formula and a circuit, or the first fault of its text, whose first line has this
--- number; what stands behind the last step is free text
+-- number; what stands behind the last item is free text
 abbrev pub circuit_proof_of : Dqbf → Netlist → List ℕ → ℕ → Result Dqp CertRefusal
 circuit_proof_of f net bytes first = read_proof f net (lines_from first bytes) first

@@ -6,4 +6,4 @@ use Rattle.cert_text.specs.declared.headers.TheConstants.{MAX_COUNT}
 -- the counts are within their limit
 pub record AreSmall (c : Counts) : Type 0 where
   pub rows : c.rows ≤ MAX_COUNT
-  pub steps : c.steps ≤ MAX_COUNT
+  pub items : c.items ≤ MAX_COUNT

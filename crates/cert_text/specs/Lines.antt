@@ -28,23 +28,26 @@ pub record LinesRead (A : Type 0) : Type 0 where
 abbrev pub with_item : {A : Type 0} → A → LinesRead A → Result (LinesRead A) CertRefusal
 with_item item read = Ok (record read { items = item ∷ read.items })
 
--- so many lines, where the line at a place is read by `line_at`; a missing one would have the
--- number
-abbrev pub read_some : {A : Type 0} → (ℕ → List (List ℕ) → Result A CertFault) → ℕ → ℕ
-    → List TextLine → ℕ → Result (LinesRead A) CertRefusal
-read_some line_at place zero lines number =
-    Ok (record { items = []; rest = lines; number = number })
-read_some line_at place (suc count) [] number = Err (refusal number Truncated)
-read_some line_at place (suc count) (line ∷ lines) number =
-    and_read (at_line line.number (line_at place (line_tokens line.text)))
+-- what lines are read as: what a line has, by what stands before it, and what stands before the
+-- next one
+pub record Format (S A : Type 0) : Type 0 where
+  pub line : S → List (List ℕ) → Result A CertFault
+  pub behind : S → A → S
+
+-- so many lines, where `at` stands before the first one; a missing one would have the number
+abbrev pub read_some : {S A : Type 0} → Format S A → S → ℕ → List TextLine → ℕ
+    → Result (LinesRead A) CertRefusal
+read_some F at zero lines number = Ok (record { items = []; rest = lines; number = number })
+read_some F at (suc count) [] number = Err (refusal number Truncated)
+read_some F at (suc count) (line ∷ lines) number =
+    and_read (at_line line.number (F.line at (line_tokens line.text)))
     (λ item.
-    and_read (read_some line_at (place + 1) count lines (line.number + 1)) (with_item item))
+    and_read (read_some F (F.behind at item) count lines (line.number + 1)) (with_item item))
 
 -- the lines of the bytes that are left
-abbrev pub read_from : {A : Type 0} → (ℕ → List (List ℕ) → Result A CertFault) → ℕ → ℕ → LineCursor
+abbrev pub read_from : {S A : Type 0} → Format S A → S → ℕ → LineCursor
     → Result (LinesRead A) CertRefusal
-read_from line_at place count left =
-    read_some line_at place count (lines_from left.number left.rest) left.number
+read_from F at count left = read_some F at count (lines_from left.number left.rest) left.number
 
 -- this was read, and these bytes are left
 abbrev pub read_up_to : {A : Type 0} → List A → LineCursor → LinesRead A

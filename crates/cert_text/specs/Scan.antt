@@ -1,15 +1,16 @@
 -- The first fault of a refutation's text, line by line, or the refutation: this project's own
 -- format.
-use Rattle.std.specs.Prelude.{ℕ, ◌+◌, ◌*◌, List, [], ◌∷◌, length, Result, Ok, Err, if◌then◌else◌}
+use Rattle.std.specs.Prelude.{ℕ, ◌+◌, ◌*◌, Bool, List, [], ◌∷◌, length, Result, Ok, Err, if◌then◌else◌}
 use Rattle.dq_lits.specs.Formula.{Dqbf}
 use Rattle.dq_text.specs.BlankLine.{is_blank_line}
 use Rattle.dq_text.specs.Line.{TextLine, line_tokens, lines_from}
 use Rattle.cert_text.specs.Header.{header_of}
+use Rattle.cert_text.specs.ItemLine.{item_lines}
 use Rattle.cert_text.specs.Kind.{refusal}
-use Rattle.cert_text.specs.Lines.{and_read, at_line, read_some}
+use Rattle.cert_text.specs.Lines.{Format, and_read, at_line, read_some}
+use Rattle.cert_text.specs.Numbering.{numbered_from}
 use Rattle.cert_text.specs.Pairs.{is_pair_number}
 use Rattle.cert_text.specs.RowLine.{row_line}
-use Rattle.cert_text.specs.StepLine.{step_line}
 use Rattle.cert_text.specs.declared.faults.CertFault.TheVariants.{BadHeader, BadLine}
 use Rattle.cert_text.specs.declared.faults.CertRefusal.{CertRefusal}
 use Rattle.cert_text.specs.declared.headers.Counts.{Counts}
@@ -25,15 +26,19 @@ blank_lines [] = Ok tt
 blank_lines (line ∷ lines) =
     if is_blank_line line.text then blank_lines lines else Err (refusal line.number BadLine)
 
--- the rows, the steps, and nothing behind them
+-- row lines over these universals
+abbrev pub row_lines : List ℕ → Format (Unit {0}) (List Bool)
+row_lines universals = record { line = λ _. row_line universals; behind = λ at _. at }
+
+-- the rows, the items of the proof, and nothing behind them
 abbrev pub read_body : Dqbf → Counts → List TextLine → ℕ → Result Dqr CertRefusal
 read_body f counts lines number =
-    and_read (read_some (λ _. row_line f.universals) 0 counts.rows lines number) (λ rows.
+    and_read (read_some (row_lines f.universals) tt counts.rows lines number) (λ rows.
     and_read
-    (read_some (step_line (is_pair_number f counts.rows)) (first_id f counts.rows) counts.steps
-    rows.rest rows.number) (λ steps.
-    and_read (blank_lines steps.rest)
-    (λ _. Ok (record { rows = rows.items; steps = steps.items }))))
+    (read_some (item_lines counts.version (is_pair_number f counts.rows))
+    (numbered_from (first_id f counts.rows)) counts.items rows.rest rows.number) (λ items.
+    and_read (blank_lines items.rest)
+    (λ _. Ok (record { rows = rows.items; items = items.items }))))
 
 abbrev pub read_lines : Dqbf → List TextLine → ℕ → Result Dqr CertRefusal
 read_lines f [] number = Err (refusal number BadHeader)

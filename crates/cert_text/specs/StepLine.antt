@@ -38,9 +38,9 @@ step_of (id ∷ ns) =
     option_and_then (λ back. step_of_parts id front.0 back.0 back.1) (cut_at_zero front.1))
     (cut_at_zero ns)
 
-abbrev pub shaped : Option ProofStep → Result ProofStep CertFault
+abbrev pub shaped : {A : Type 0} → Option A → Result A CertFault
 shaped None = Err BadLine
-shaped (Some step) = Ok step
+shaped (Some value) = Ok value
 
 -- a line has the next id, stands on variables of the proof, and hints at clauses before it
 abbrev pub checked_step : (ℕ → Bool) → ℕ → ProofStep → Result ProofStep CertFault

@@ -29,6 +29,8 @@ pub enum CertFault {
     BadVariable,
     /// The line `s TRUE` before a refutation, or `s FALSE` before a circuit.
     WrongVerdict,
+    /// A deleted id that isn't that of a line before, or was deleted already.
+    NotLive,
 }
 
 /// The first fault of a certificate's text, by line and name.

@@ -2,77 +2,115 @@
 
 ghost use Rattle.std.specs.Prelude.{◌≡◌, ◌≤◌, IfOk};
 ghost use Rattle.dq_text.specs.Line.{line_tokens};
-ghost use Rattle.cert_text.specs.Header.{count_of, counts_of, header_of, proof_header};
+ghost use Rattle.cert_text.specs.Header.{count_of, counts_of, header_of, proof_header, proof_word, refutation_word, version_of};
 ghost use Rattle.cert_text.specs.HeaderCounts.{AreSmall};
 
 use crate::faults::CertFault;
+use crate::versions::Version;
 use dq_text::{LineTokens, is_word, natural};
 
-/// How many rows and steps a header announces.
+/// How many rows and items of a proof a header announces, and the version of these.
 #[derive(Clone, Copy, PartialEq, Eq)]
 pub struct Counts {
+    pub version: Version,
     pub rows: u64,
-    pub steps: u64,
+    pub items: u64,
+}
+
+/// How many items of a proof a header announces.
+#[derive(Clone, Copy, PartialEq, Eq)]
+pub struct ItemCount {
+    pub version: Version,
+    pub items: u64,
 }
 
 /// The largest count of a header.
 pub const MAX_COUNT: u64 = 1_000_000_000;
 
-/// Reads the header line: exactly the tokens `p`, `dqr` and two natural numbers.
+/// Reads the header line: exactly the tokens `p`, `dqr` or `dqr2`, and two natural numbers.
 pub fn read_header(line: &[u8]) -> Result<Counts, CertFault>
     ensures header { result ≡ header_of (line_tokens line.now) }
     ensures small { IfOk result AreSmall }
 {
     let mut tokens = LineTokens::new(line);
     match (tokens.next(), tokens.next(), tokens.next(), tokens.next()) {
-        (Some(letter), Some(word), Some(rows), Some(steps)) if tokens.next().is_none() => {
-            if !is_word(letter, b"p") || !is_word(word, b"dqr") {
+        (Some(letter), Some(word), Some(rows), Some(items)) if tokens.next().is_none() => {
+            if !is_word(letter, b"p") {
                 return Err(CertFault::BadHeader);
             }
-            counts_from(natural(rows), natural(steps))
+            counts_from(refutation_version(word), natural(rows), natural(items))
         }
         _ => Err(CertFault::BadHeader),
     }
 }
 
-fn counts_from(rows: Option<u64>, steps: Option<u64>) -> Result<Counts, CertFault>
-    ensures counts { result ≡ counts_of rows steps }
-    ensures small { IfOk result AreSmall }
+fn refutation_version(word: &[u8]) -> Option<Version>
+    ensures { result ≡ version_of refutation_word word.now }
 {
-    let (Some(rows), Some(steps)) = (rows, steps) else {
-        return Err(CertFault::BadHeader);
-    };
-    if rows > MAX_COUNT || steps > MAX_COUNT {
-        return Err(CertFault::TooBig);
+    if is_word(word, b"dqr") {
+        Some(Version::One)
+    } else if is_word(word, b"dqr2") {
+        Some(Version::Two)
+    } else {
+        None
     }
-    Ok(Counts { rows, steps })
 }
 
-/// Reads the header line of a circuit's proof: exactly the tokens `dqp` and a natural number, which
-/// is how many steps follow.
-pub fn read_proof_header(line: &[u8]) -> Result<u64, CertFault>
+fn counts_from(
+    version: Option<Version>,
+    rows: Option<u64>,
+    items: Option<u64>,
+) -> Result<Counts, CertFault>
+    ensures counts { result ≡ counts_of version rows items }
+    ensures small { IfOk result AreSmall }
+{
+    let (Some(version), Some(rows), Some(items)) = (version, rows, items) else {
+        return Err(CertFault::BadHeader);
+    };
+    if rows > MAX_COUNT || items > MAX_COUNT {
+        return Err(CertFault::TooBig);
+    }
+    Ok(Counts {
+        version,
+        rows,
+        items,
+    })
+}
+
+/// Reads the header line of a circuit's proof: exactly the tokens `dqp` or `dqp2`, and a natural
+/// number, which is how many items follow.
+pub fn read_proof_header(line: &[u8]) -> Result<ItemCount, CertFault>
     ensures { result ≡ proof_header (line_tokens line.now) }
 {
     let mut tokens = LineTokens::new(line);
     match (tokens.next(), tokens.next()) {
-        (Some(word), Some(count)) if tokens.next().is_none() => {
-            if !is_word(word, b"dqp") {
-                return Err(CertFault::BadHeader);
-            }
-            count_from(natural(count))
+        (Some(word), Some(items)) if tokens.next().is_none() => {
+            count_from(proof_version(word), natural(items))
         }
         _ => Err(CertFault::BadHeader),
     }
 }
 
-fn count_from(count: Option<u64>) -> Result<u64, CertFault>
-    ensures { result ≡ count_of count }
+fn proof_version(word: &[u8]) -> Option<Version>
+    ensures { result ≡ version_of proof_word word.now }
 {
-    let Some(count) = count else {
+    if is_word(word, b"dqp") {
+        Some(Version::One)
+    } else if is_word(word, b"dqp2") {
+        Some(Version::Two)
+    } else {
+        None
+    }
+}
+
+fn count_from(version: Option<Version>, items: Option<u64>) -> Result<ItemCount, CertFault>
+    ensures { result ≡ count_of version items }
+{
+    let (Some(version), Some(items)) = (version, items) else {
         return Err(CertFault::BadHeader);
     };
-    if count > MAX_COUNT {
+    if items > MAX_COUNT {
         return Err(CertFault::TooBig);
     }
-    Ok(count)
+    Ok(ItemCount { version, items })
 }

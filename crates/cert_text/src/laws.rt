@@ -1,16 +1,22 @@
 //! What joins the grammars, the first faults and the canonical text. A law is the contract of a
 //! function without parameters and with an empty body.
 
-ghost use Rattle.std.specs.Prelude.{◌≡◌, ℕ, ◌⊎◌, length, ◌↔◌, true, List, Ok, Err};
+ghost use Rattle.std.specs.Prelude.{◌≡◌, ℕ, Bool, map, ◌⊎◌, length, ◌↔◌, true, List, Ok, Err};
+ghost use Rattle.dq_lits.specs.Derivation.{ProofStep};
 ghost use Rattle.dq_lits.specs.Formula.{Dqbf};
+ghost use Rattle.dq_text.specs.Line.{TextLine};
 ghost use Rattle.dq_formula.specs.Prefix.{IsLawful};
 ghost use Rattle.circuit_plain.specs.Netlist.{Netlist};
+ghost use Rattle.rup_core.specs.Items.{derived};
 ghost use Rattle.cert_text.specs.Beginning.{Begins};
-ghost use Rattle.cert_text.specs.Canonical.{canonical, canonical_proof};
+ghost use Rattle.cert_text.specs.Canonical.{canonical, canonical_proof, version_for};
 ghost use Rattle.cert_text.specs.CircuitProof.{circuit_proof_of};
-ghost use Rattle.cert_text.specs.Grammar.{IsDqrOf, IsPairNumber, SpellsRefutation};
+ghost use Rattle.cert_text.specs.Grammar.{AreItems, AreSteps, IsDqrOf, IsPairNumber, SpellsRefutation};
+ghost use Rattle.cert_text.specs.ItemLine.{as_items, item_lines, step_lines};
 ghost use Rattle.cert_text.specs.Kind.{certificate_kind};
+ghost use Rattle.cert_text.specs.Lines.{read_some};
 ghost use Rattle.cert_text.specs.NegatedMatrix.{negated_clauses, negated_clause_count};
+ghost use Rattle.cert_text.specs.Numbering.{numbered_from};
 ghost use Rattle.cert_text.specs.Pairs.{is_pair_number};
 ghost use Rattle.cert_text.specs.ProofGrammar.{IsDqpOf, SpellsProof};
 ghost use Rattle.cert_text.specs.Scan.{refutation_of};
@@ -18,6 +24,7 @@ ghost use Rattle.cert_text.specs.declared.circuit_proofs.Dqp.{Dqp};
 ghost use Rattle.cert_text.specs.declared.faults.CertRefusal.{CertRefusal};
 ghost use Rattle.cert_text.specs.declared.kinds.Kind.{Kind};
 ghost use Rattle.cert_text.specs.declared.refutations.Dqr.{Dqr};
+ghost use Rattle.cert_text.specs.declared.versions.Version.TheVariants.{One};
 
 /// How a text begins tells its kind, and where its header line stands.
 pub fn beginning_tells_kind()
@@ -79,4 +86,16 @@ pub fn canonical_proof_spells()
 pub fn negated_clauses_are_counted()
     ensures { (f : Dqbf) (net : Netlist) (circuit_literal : ℕ → ℕ)
         → length (negated_clauses f net circuit_literal) ≡ negated_clause_count f net }
+{}
+
+/// Version 1 has steps alone: its lines are read as they are where nothing can be deleted. Proofs
+/// that delete nothing, also those that were read in version 2, are written in version 1.
+pub fn version_one_has_steps_alone()
+    ensures read { (is_variable : ℕ → Bool) (first count : ℕ) (lines : List TextLine) (number : ℕ)
+        → read_some (item_lines One is_variable) (numbered_from first) count lines number
+        ≡ as_items (read_some (step_lines is_variable) first count lines number) }
+    ensures allowed { (is_variable : ℕ → Bool) (first : ℕ) (steps : List ProofStep)
+        → AreSteps is_variable first steps
+        → AreItems is_variable (numbered_from first) (map derived steps) }
+    ensures written { (steps : List ProofStep) → version_for (map derived steps) ≡ One }
 {}

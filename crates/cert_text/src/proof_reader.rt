@@ -1,6 +1,6 @@
 //! Reading a circuit's proof.
 
-ghost use Rattle.std.specs.Prelude.{◌≡◌, ◌+◌, ◌<◌, ◌^◌, length, IfOk};
+ghost use Rattle.std.specs.Prelude.{◌≡◌, ◌+◌, ◌≤◌, ◌<◌, ◌^◌, length, IfOk};
 ghost use Rattle.std.specs.List.{sum_by};
 ghost use Rattle.dq_text.specs.Line.{lines_from};
 ghost use Rattle.cert_text.specs.CircuitProof.{circuit_proof_of, first_proof_id, read_proof_lines};
@@ -9,17 +9,18 @@ ghost use Rattle.cert_text.specs.ProofGrammar.{IsDqpOf};
 
 use crate::circuit_proofs::Dqp;
 use crate::faults::{CertFault, CertStop, refused};
-use crate::headers::read_proof_header;
-use crate::step_lists::{Announced, read_steps};
+use crate::headers::{ItemCount, read_proof_header};
+use crate::item_lines::ProofLines;
+use crate::item_lists::{Announced, read_items};
 use crate::variables::Variables;
 use circuit_plain::Circuit;
 use dq_formula::Formula;
 use dq_text::Lines;
 use std::alloc::Global;
 
-/// Reads a circuit's proof for a formula and a circuit, from the line `dqp N` on, which has the
-/// number `first`: exactly the proof that the text spells, or its first fault by line and name.
-/// What stands behind the N steps is free text.
+/// Reads a circuit's proof for a formula and a circuit, from the line `dqp N` or `dqp2 N` on, which has
+/// the number `first`: exactly the proof that the text spells, or its first fault by line and name.
+/// What stands behind the N lines is free text.
 ///
 /// The variables are those of the circuit, 1 to M, and M + j for 'clause j is false'. Which clauses
 /// have the ids before the first line's, the definition `negated_matrix` says.
@@ -50,7 +51,7 @@ fn read_proof_lines(
     alloc: Global,
     f: &Formula,
     c: &Circuit,
-    count: u64,
+    count: ItemCount,
     lines: &mut Lines,
 ) -> Result<Dqp, CertStop>
     ensures { IsReading
@@ -58,12 +59,15 @@ fn read_proof_lines(
         lines.old.number) result }
 {
     let announced = Announced {
-        variables: Variables::UpTo(last_variable(f, c)),
+        lines: ProofLines {
+            version: count.version,
+            variables: Variables::UpTo(last_variable(f, c)),
+        },
         first_id: first_id(f, c),
-        count,
+        count: count.items,
     };
-    let steps = read_steps(alloc, &announced, lines)?;
-    Ok(Dqp { steps })
+    let items = read_items(alloc, &announced, lines)?;
+    Ok(Dqp { items })
 }
 
 // The variable of the last clause.
@@ -74,10 +78,11 @@ fn last_variable(f: &Formula, c: &Circuit) -> u64
     c.max_var() + f.clauses() as u64
 }
 
-// The id of the first step. No contract says how long the clauses are in all, but 128 bits hold any
+// The id of the first line. No contract says how long the clauses are in all, but 128 bits hold any
 // such sum.
 fn first_id(f: &Formula, c: &Circuit) -> u128
     ensures id { result ≡ first_proof_id f.now c.now }
+    ensures from_one { 1 ≤ result }
     ensures small { result < 2 ^ 127 }
 {
     3 * c.gates() as u128 + literals_in_all(f) + 2

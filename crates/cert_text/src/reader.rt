@@ -9,10 +9,11 @@ ghost use Rattle.cert_text.specs.Scan.{blank_lines, first_id, read_body, refutat
 
 use crate::faults::{CertFault, CertRefusal, CertStop, refused};
 use crate::headers::{Counts, MAX_COUNT, read_header};
+use crate::item_lines::ProofLines;
+use crate::item_lists::{Announced, read_items};
 use crate::pairs::Pairs;
 use crate::refutations::Dqr;
 use crate::row_lists::read_rows;
-use crate::step_lists::{Announced, read_steps};
 use crate::variables::Variables;
 use dq_formula::Formula;
 use dq_text::{Lines, is_blank};
@@ -50,19 +51,23 @@ fn read_body(alloc: Global, f: &Formula, counts: Counts, lines: &mut Lines) -> R
     });
     let id = first_id(f, counts.rows);
     let announced = Announced {
-        variables,
+        lines: ProofLines {
+            version: counts.version,
+            variables,
+        },
         first_id: id,
-        count: counts.steps,
+        count: counts.items,
     };
-    let steps = read_steps(alloc, &announced, lines)?;
+    let items = read_items(alloc, &announced, lines)?;
     check_blank(lines)?;
-    Ok(Dqr { rows, steps })
+    Ok(Dqr { rows, items })
 }
 
-// The id of the first step behind the instances of the clauses under so many rows.
+// The id of the first line behind the instances of the clauses under so many rows.
 fn first_id(f: &Formula, rows: u64) -> u128
     requires { rows ≤ MAX_COUNT }
     ensures id { result ≡ first_id f.now rows }
+    ensures from_one { 1 ≤ result }
     ensures small { result < 2 ^ 127 }
 {
     rows as u128 * f.clauses() as u128 + 1

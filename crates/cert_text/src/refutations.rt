@@ -1,6 +1,6 @@
 //! An expansion refutation as a value.
 
-use crate::steps::StepList;
+use crate::items::ItemList;
 use dq_lits::RowList;
 
 /// An expansion refutation (`dqr`): rows of the universals, and a derivation from the instances of
@@ -8,5 +8,5 @@ use dq_lits::RowList;
 #[derive(Drop)]
 pub struct Dqr {
     pub rows: RowList,
-    pub steps: StepList,
+    pub items: ItemList,
 }

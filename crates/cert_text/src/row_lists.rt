@@ -1,7 +1,7 @@
 //! Lists of rows.
 
 ghost use Rattle.cert_text.specs.Lines.{IsReadingUpTo, IsReadInto, put_behind, read_from};
-ghost use Rattle.cert_text.specs.RowLine.{row_line};
+ghost use Rattle.cert_text.specs.Scan.{row_lines};
 
 use crate::faults::{CertFault, CertStop, at_line, refused};
 use crate::row_lines::read_row;
@@ -16,7 +16,7 @@ pub fn read_rows(
     count: u64,
     lines: &mut Lines,
 ) -> Result<RowList, CertStop>
-    ensures { IsReadingUpTo (read_from (λ _. row_line universals.now) 0 count lines.old) result
+    ensures { IsReadingUpTo (read_from (row_lines universals.now) tt count lines.old) result
         lines.new }
 {
     let mut rows = RowList::new(alloc);
@@ -33,7 +33,7 @@ fn take_rows(
     rows: &mut RowList,
 ) -> Result<(), CertStop>
     ensures { IsReadInto
-        (put_behind rows.old (read_from (λ _. row_line universals.now) 0 count lines.old)) result
+        (put_behind rows.old (read_from (row_lines universals.now) tt count lines.old)) result
         rows.new lines.new }
 {
     let mut integers = Vec::new(alloc);

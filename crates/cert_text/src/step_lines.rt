@@ -107,8 +107,8 @@ fn step_numbers(integers: &[i64]) -> Option<StepNumbers<'_>>
     })
 }
 
-// The numbers before the first 0, and those behind it.
-fn before_zero(numbers: &[i64]) -> Option<(&[i64], &[i64])>
+/// The numbers before the first 0, and those behind it.
+pub fn before_zero(numbers: &[i64]) -> Option<(&[i64], &[i64])>
     ensures { option_map (λ parts. (parts.0.now, parts.1.now)) result ≡ cut_at_zero numbers.now }
 {
     let end = first_zero(numbers)?;
@@ -128,7 +128,8 @@ fn first_zero(numbers: &[i64]) -> Option<usize>
     numbers.iter().position(|n| *n == 0)
 }
 
-fn are_positive(numbers: &[i64]) -> bool
+/// Whether all numbers are positive.
+pub fn are_positive(numbers: &[i64]) -> bool
     ensures { result ≡ list_all is_positive numbers.now }
 {
     numbers.iter().all(|n| *n > 0)
@@ -183,8 +184,8 @@ fn keep_literals(numbers: &[i64], literals: &mut Vec<Lit>) -> Result<(), Memory>
     Ok(())
 }
 
-// Puts hints in place of those in the buffer.
-fn keep_hints(numbers: &[i64], hints: &mut Vec<u64>) -> Result<(), Memory>
+/// Puts hints in place of those in the buffer.
+pub fn keep_hints(numbers: &[i64], hints: &mut Vec<u64>) -> Result<(), Memory>
     ensures { OnOk result (hints.new.items ≡ map nat_abs numbers.now) }
 {
     hints.clear();

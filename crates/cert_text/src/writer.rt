@@ -8,20 +8,25 @@ ghost use Rattle.cert_text.specs.CircuitProof.{circuit_proof_of};
 ghost use Rattle.cert_text.specs.Grammar.{IsDqrOf};
 ghost use Rattle.cert_text.specs.ProofGrammar.{IsDqpOf};
 ghost use Rattle.cert_text.specs.Scan.{refutation_of};
+ghost use Rattle.cert_text.specs.Header.{proof_word, refutation_word};
+ghost use Rattle.cert_text.specs.Items.{item_seen};
 ghost use Rattle.cert_text.specs.Steps.{step_seen};
-ghost use Rattle.cert_text.specs.Canonical.{signed_text, literal_text, header_text, proof_header_text, row_text, step_text, canonical, canonical_proof};
+ghost use Rattle.cert_text.specs.Canonical.{signed_text, literal_text, header_text, proof_header_text, row_text, step_text, deletion_text, item_text, version_for, canonical, canonical_proof};
 
 use crate::circuit_proofs::Dqp;
+use crate::items::{Item, ItemList};
 use crate::refutations::Dqr;
-use crate::steps::{Step, StepList};
+use crate::steps::Step;
+use crate::versions::Version;
 use dq_formula::Formula;
 use dq_lits::{Lit, Memory, Row};
 use dq_text::{push_all_spaced, push_last, push_spaced, push_word};
 use std::alloc::Global;
 
-/// The canonical text of a refutation for a formula: the header `p dqr K N`; for each row `u`, the
-/// universals in the formula's order, each with its bit as its sign, and `0`; then the steps. Where
-/// the refutation is one that a text can hold for the formula, reading the text gives it back.
+/// The canonical text of a refutation for a formula: the header `p dqr K N`, or `p dqr2 K N` where
+/// something is deleted; for each row `u`, the universals in the formula's order, each with its bit
+/// as its sign, and `0`; then the items. Where the refutation is one that a text can hold for the
+/// formula, reading the text gives it back.
 pub fn write_dqr(alloc: Global, d: &Dqr, f: &Formula) -> Result<Vec<u8>, Memory>
     ensures canonical { IfOk result (λ text. text.items ≡ canonical f.now.universals d.now) }
     ensures reads_back { IsDqrOf f.now d.now
@@ -30,39 +35,76 @@ pub fn write_dqr(alloc: Global, d: &Dqr, f: &Formula) -> Result<Vec<u8>, Memory>
     f.every_formula_is_lawful();
     let mut text = Vec::new(alloc);
     let rows = d.rows.items();
-    write_header(rows.len(), d.steps.len(), &mut text)?;
+    write_header(version_for(&d.items), rows.len(), d.items.len(), &mut text)?;
     write_rows(f.universals(), rows, &mut text)?;
-    write_steps(&d.steps, &mut text)?;
+    write_items(&d.items, &mut text)?;
     Ok(text)
 }
 
-/// The canonical text of a circuit's proof: the header `dqp N`, and then the steps. Where the proof
-/// is one that a text can hold over a formula and a circuit, reading the text over these gives it
-/// back.
+/// The canonical text of a circuit's proof: the header `dqp N`, or `dqp2 N` where something is
+/// deleted, and then the items. Where the proof is one that a text can hold over a formula and a
+/// circuit, reading the text over these gives it back.
 pub fn write_dqp(alloc: Global, d: &Dqp) -> Result<Vec<u8>, Memory>
     ensures canonical { IfOk result (λ text. text.items ≡ canonical_proof d.now) }
     ensures reads_back { (f : Dqbf) (net : Netlist) (first : ℕ) → IsDqpOf f net d.now
         → IfOk result (λ text. circuit_proof_of f net text.items first ≡ Ok d.now) }
 {
     let mut text = Vec::new(alloc);
-    write_proof_header(d.steps.len(), &mut text)?;
-    write_steps(&d.steps, &mut text)?;
+    write_proof_header(version_for(&d.items), d.items.len(), &mut text)?;
+    write_items(&d.items, &mut text)?;
     Ok(text)
 }
 
-fn write_header(rows: usize, steps: usize, text: &mut Vec<u8>) -> Result<(), Memory>
-    ensures { OnOk result (text.new.items ≡ text.old.items ++ header_text rows steps) }
+// The version that has what these items need.
+fn version_for(items: &ItemList) -> Version
+    ensures { result ≡ version_for items.now }
 {
-    push_word(text, b"p dqr ")?;
-    push_spaced(text, rows as u64)?;
-    push_last(text, steps as u64)
+    if items.deletes() {
+        Version::Two
+    } else {
+        Version::One
+    }
 }
 
-fn write_proof_header(steps: usize, text: &mut Vec<u8>) -> Result<(), Memory>
-    ensures { OnOk result (text.new.items ≡ text.old.items ++ proof_header_text steps) }
+fn refutation_word(version: Version) -> &'static [u8]
+    ensures { result.now ≡ refutation_word version }
 {
-    push_word(text, b"dqp ")?;
-    push_last(text, steps as u64)
+    match version {
+        Version::One => b"dqr",
+        Version::Two => b"dqr2",
+    }
+}
+
+fn proof_word(version: Version) -> &'static [u8]
+    ensures { result.now ≡ proof_word version }
+{
+    match version {
+        Version::One => b"dqp",
+        Version::Two => b"dqp2",
+    }
+}
+
+fn write_header(
+    version: Version,
+    rows: usize,
+    items: usize,
+    text: &mut Vec<u8>,
+) -> Result<(), Memory>
+    ensures { OnOk result (text.new.items ≡ text.old.items ++ header_text version rows items) }
+{
+    push_word(text, b"p ")?;
+    push_word(text, refutation_word(version))?;
+    push_word(text, b" ")?;
+    push_spaced(text, rows as u64)?;
+    push_last(text, items as u64)
+}
+
+fn write_proof_header(version: Version, items: usize, text: &mut Vec<u8>) -> Result<(), Memory>
+    ensures { OnOk result (text.new.items ≡ text.old.items ++ proof_header_text version items) }
+{
+    push_word(text, proof_word(version))?;
+    push_word(text, b" ")?;
+    push_last(text, items as u64)
 }
 
 // A variable, behind a minus where it is negated, and a space.
@@ -128,11 +170,28 @@ fn write_step(step: Step, text: &mut Vec<u8>) -> Result<(), Memory>
     push_word(text, b"0\n")
 }
 
-fn write_steps(steps: &StepList, text: &mut Vec<u8>) -> Result<(), Memory>
-    ensures { OnOk result (text.new.items ≡ text.old.items ++ flat_map step_text steps.now) }
+fn write_deletion(ids: &[u64], text: &mut Vec<u8>) -> Result<(), Memory>
+    ensures { OnOk result (text.new.items ≡ text.old.items ++ deletion_text ids.now) }
 {
-    for k in 0..steps.len() {
-        write_step(steps.get(k), text)?;
+    push_word(text, b"d ")?;
+    push_all_spaced(text, ids)?;
+    push_word(text, b"0\n")
+}
+
+fn write_item(item: Item, text: &mut Vec<u8>) -> Result<(), Memory>
+    ensures { OnOk result (text.new.items ≡ text.old.items ++ item_text (item_seen item.entry)) }
+{
+    match item {
+        Item::Line(step) => write_step(step, text),
+        Item::Gone(ids) => write_deletion(ids, text),
+    }
+}
+
+fn write_items(items: &ItemList, text: &mut Vec<u8>) -> Result<(), Memory>
+    ensures { OnOk result (text.new.items ≡ text.old.items ++ flat_map item_text items.now) }
+{
+    for k in 0..items.len() {
+        write_item(items.get(k), text)?;
     }
     Ok(())
 }

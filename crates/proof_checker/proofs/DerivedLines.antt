@@ -1,28 +1,39 @@
--- Lines that are judged one after another.
-use Rattle.std.proofs.Common.{◌≡◌, ℕ, zero, suc, ◌+◌, ◌<◌, ◌≤◌, Bool, true, false, List, [], ◌∷◌, ◌++◌, map, drop, length, get_or, slice_get, Option, None, Some, is_none, is_some, refl, sym, ◌∙◌, ap, subst, arith, add-one}
-use Rattle.std.specs.List.{All, AllByRecursion}
+-- Items that are judged one after another.
+use Rattle.std.proofs.Common.{◌≡◌, ℕ, zero, suc, ◌+◌, ◌<◌, ◌≤◌, Bool, true, false, not, cond, List, [], ◌∷◌, ◌++◌, drop, length, get_or, slice_get, Option, None, Some, is_none, is_some, refl, sym, ◌∙◌, ap, subst, arith, add-one}
+use Rattle.std.specs.List.{All, AllByRecursion, filter}
 use Rattle.std.proofs.Math.Seq.{drop-cons}
 use Rattle.std.proofs.lemmas.List.Elements.{All-from_recursion}
 use Rattle.std.proofs.lemmas.Option.{slice_get_within, get_or_from_slice_get}
-use Rattle.dq_lits.specs.Derivation.{LiveClauses, ProofStep, ProofFault, underived, line_fault, fault_of_step, steps_fault, proof_fault, is_empty, with_clause}
+use Rattle.dq_lits.specs.Derivation.{LiveClauses, ProofStep, underived}
 use Rattle.dq_lits.specs.Literal.{Literal}
-use Rattle.rup_core.specs.Judging.{derive_line, no_line}
-use Rattle.rup_core.specs.Proving.{ProofState, with_lines, with_derived, ended}
-use Rattle.rup_core.specs.Runs.{fault_so_far}
-use Rattle.rup_core.proofs.JudgedLines.{line_derives, live_put}
+use Rattle.rup_core.specs.Items.{ProofItem, derived, gone, items_fault, is_among}
+use Rattle.rup_core.specs.Proving.{ProofState, run_over, with_lines, with_derived, without_lines, ended}
+use Rattle.rup_core.specs.Runs.{fault_so_far, run_fault, with_item, with_items}
+use Rattle.rup_core.proofs.DeletedClauses.{going_is_fault}
+use Rattle.cert_text.specs.Grammar.{AreItems}
+use Rattle.cert_text.specs.Numbering.{Numbering, behind_item, numbered_from}
+use Rattle.cert_text.proofs.Numberings.{Live, live_line, live_gone, live_ids, next_kept, none_live}
+use Rattle.proof_checker.specs.Lines.{AreBehind}
 
--- the first k lines are derived, and what is left has the fault of all
-pub record AreDerived (live : LiveClauses) (p : ProofState) (steps : List ProofStep) (first k : ℕ) : Type 0 where
-  pub going : p.fault ≡ None
-  pub above : AllByRecursion (λ line. line.0 < first + k) p.lines
-  pub left : steps_fault p.finished (with_lines live p.lines) (drop k steps) ≡ proof_fault live steps
+-- the first k items are judged, and what is left has the fault of all
+pub record AreJudged (live : LiveClauses) (p : ProofState) (items : List ProofItem) (k : ℕ) : Type 0 where
+  pub is_variable : ℕ → Bool
+  pub first : ℕ
+  pub from_one : 1 ≤ first
+  pub none : (id : ℕ) → first ≤ id → live id ≡ None
+  pub at : Numbering
+  pub behind : first ≤ at.next
+  pub ids : Live (λ id. first ≤ id) at
+  pub numbered : AreItems is_variable at (drop k items)
+  pub above : AllByRecursion (λ line. line.0 < at.next) p.lines
+  pub left : run_fault (with_items (run_over live p) (drop k items)) ≡ items_fault false live items
 
-pub line_there : (steps : List ProofStep) (k : ℕ) (step : ProofStep) → slice_get steps k ≡ Some step → drop k steps ≡ step ∷ drop (k + 1) steps
-line_there steps k step at =
-    (let lt = slice_get_within steps k step at in let e : drop k steps ≡ get_or steps k step ∷ drop (k + 1) steps = rw (add-one) (drop-cons steps k step lt) in e)
-    ∙ ap (λ s. s ∷ drop (k + 1) steps) (get_or_from_slice_get steps k step step at)
+item_there : (items : List ProofItem) (k : ℕ) (item : ProofItem) → slice_get items k ≡ Some item → drop k items ≡ item ∷ drop (k + 1) items
+item_there items k item at =
+    (let lt = slice_get_within items k item at in let e : drop k items ≡ get_or items k item ∷ drop (k + 1) items = rw (add-one) (drop-cons items k item lt) in e)
+    ∙ ap (λ s. s ∷ drop (k + 1) items) (get_or_from_slice_get items k item item at)
 
-pub drop_end : (xs : List ProofStep) (i : ℕ) → length xs ≤ i → drop i xs ≡ []
+drop_end : (xs : List ProofItem) (i : ℕ) → length xs ≤ i → drop i xs ≡ []
 drop_end [] zero le = refl
 drop_end [] (suc i) le = refl
 drop_end (x ∷ xs) zero le = absurd (omega (arith, le))
@@ -33,77 +44,126 @@ all_later : (lines : List (ℕ × List Literal)) (id : ℕ) (literals : List Lit
 all_later [] id literals above = (omega arith, tt)
 all_later (line ∷ lines) id literals above = ((let lt = above.0 in omega (arith, lt)), all_later lines id literals above.1)
 
-fault_is : (o : Option ℕ) → is_none o ≡ true → o ≡ None
-fault_is None h = refl
-fault_is (Some p) h = cc
+one_later : (lines : List (ℕ × List Literal)) (id : ℕ) → AllByRecursion (λ line. line.0 < id) lines → AllByRecursion (λ line. line.0 < id + 1) lines
+one_later [] id above = tt
+one_later (line ∷ lines) id above = ((let lt = above.0 in omega (arith, lt)), one_later lines id above.1)
 
-fault_there : (o : Option ℕ) (id : ℕ) (rest : Option ProofFault) → is_none o ≡ false → fault_of_step o id rest ≡ Some (underived id)
-fault_there None id rest h = cc
-fault_there (Some p) id rest h = refl
+by_fault : (fault : Option ℕ) (d : Bool) (id : ℕ) (literals : List Literal) (p : ProofState) → AllByRecursion (λ line. line.0 < id) p.lines →
+    AllByRecursion (λ line. line.0 < id + 1) (with_derived fault d id literals p).lines
+by_fault (Some _) d id literals p above = one_later p.lines id above
+by_fault None false id literals p above = one_later p.lines id above
+by_fault None true id literals p above = all_later p.lines id literals above
 
-after : (p : ProofState) (d : Bool) (id : ℕ) (literals : List Literal) → p.fault ≡ None → ended d id literals p ≡ record (with_derived None d id literals p) { line = no_line }
-after p d id literals going = ap (λ fault. record (with_derived fault d id literals p) { line = no_line }) going
+kept_left : (P : ℕ × List Literal → Type 0) (b : Bool) (line : ℕ × List Literal) (rest : List (ℕ × List Literal)) → P line → AllByRecursion P rest → AllByRecursion P (cond b (line ∷ rest) rest)
+kept_left P true line rest here later = (here, later)
+kept_left P false line rest here later = later
 
--- one line more
-pub one_derived : (live : LiveClauses) (p q : ProofState) (steps : List ProofStep) (first k : ℕ) (step : ProofStep) (d : Bool) → slice_get steps k ≡ Some step
-    → step.id ≡ first + k → AreDerived live p steps first k → derive_line step.literals (map (with_lines live p.lines) step.hints) ≡ d
-    → q ≡ ended d step.id step.literals p → q.fault ≡ None → AreDerived live q steps first (k + 1)
-one_derived live p q steps first k step false at id_is before says q_is going =
-    absurd (apart (sym (ap (λ (s : ProofState). s.fault) (q_is ∙ after p false step.id step.literals before.going)) ∙ going))
-  where
-    apart : Some step.id ≡ None → ⊥
-    apart h = cc
-one_derived live p q steps first k step true at id_is before says q_is going =
-    let above : AllByRecursion (λ line. line.0 < step.id) p.lines = subst (λ i. AllByRecursion (λ line. line.0 < i) p.lines) (sym id_is) before.above in
-    let none : line_fault (with_lines live p.lines) step.literals step.hints ≡ None =
-    fault_is (line_fault (with_lines live p.lines) step.literals step.hints) (line_derives (with_lines live p.lines) step.literals step.hints ∙ says) in
-    subst (λ s. AreDerived live s steps first (k + 1)) (sym (q_is ∙ after p true step.id step.literals before.going))
-    (record {
-      going = before.going;
-      above = subst (λ i. AllByRecursion (λ line. line.0 < i) (p.lines ++ (step.id, step.literals) ∷ []))
-          (let e : step.id + 1 ≡ first + (k + 1) = omega (arith, id_is) in e) (all_later p.lines step.id step.literals above);
-      left =
-          ap (λ l. steps_fault (is_empty step.literals) l (drop (k + 1) steps))
-          (live_put live p.lines step.id step.literals (All-from_recursion (λ line. line.0 < step.id) p.lines above))
-          ∙ sym (ap (λ o. fault_of_step o step.id (steps_fault (is_empty step.literals) (with_clause (with_lines live p.lines) step.id step.literals) (drop (k + 1) steps))) none)
-          ∙ ap (steps_fault p.finished (with_lines live p.lines)) (sym (line_there steps k step at))
-          ∙ before.left;
-    })
+some_left : (P : ℕ × List Literal → Type 0) (keeps : ℕ × List Literal → Bool) (lines : List (ℕ × List Literal)) → AllByRecursion P lines → AllByRecursion P (filter keeps lines)
+some_left P keeps [] all = tt
+some_left P keeps (line ∷ lines) all = kept_left P (keeps line) line (filter keeps lines) all.0 (some_left P keeps lines all.1)
 
--- the first that isn't derived
-pub one_faulty : (live : LiveClauses) (p q : ProofState) (steps : List ProofStep) (first k : ℕ) (step : ProofStep) (d : Bool) → slice_get steps k ≡ Some step
-    → AreDerived live p steps first k → derive_line step.literals (map (with_lines live p.lines) step.hints) ≡ d
-    → q ≡ ended d step.id step.literals p → is_none q.fault ≡ false → fault_so_far q.fault q.finished ≡ proof_fault live steps
-one_faulty live p q steps first k step true at before says q_is faulty =
-    absurd (apart (sym (ap (λ (s : ProofState). is_none s.fault) (q_is ∙ after p true step.id step.literals before.going) ∙ ap is_none before.going) ∙ faulty))
-  where
-    apart : true ≡ false → ⊥
-    apart h = cc
-one_faulty live p q steps first k step false at before says q_is faulty =
-    ap (λ (s : ProofState). fault_so_far s.fault s.finished) (q_is ∙ after p false step.id step.literals before.going)
-    ∙ sym (fault_there (line_fault (with_lines live p.lines) step.literals step.hints) step.id
-    (steps_fault (is_empty step.literals) (with_clause (with_lines live p.lines) step.id step.literals) (drop (k + 1) steps))
-    (line_derives (with_lines live p.lines) step.literals step.hints ∙ says))
-    ∙ ap (steps_fault p.finished (with_lines live p.lines)) (sym (line_there steps k step at))
-    ∙ before.left
+without_above : (fault : Option ℕ) (ids : List ℕ) (p : ProofState) (next : ℕ) → AllByRecursion (λ line. line.0 < next) p.lines →
+    AllByRecursion (λ line. line.0 < next) (without_lines fault ids p).lines
+without_above (Some _) ids p next above = above
+without_above None ids p next above = some_left (λ line. line.0 < next) (λ line. not (is_among ids line.0)) p.lines above
 
-pub none_derived : (live : LiveClauses) (p : ProofState) (steps : List ProofStep) (first : ℕ) → p.lines ≡ [] → p.fault ≡ None → p.finished ≡ false
-    → AreDerived live p steps first 0
-none_derived live p steps first none going open_end = record {
-  going = going;
-  above = subst (AllByRecursion (λ line. line.0 < first + 0)) (sym none) tt;
-  left = ap (λ lines. steps_fault p.finished (with_lines live lines) steps) none ∙ ap (λ b. steps_fault b live steps) open_end;
+module _ (live : LiveClauses) (p q : ProofState) (items : List ProofItem) (k : ℕ) where
+  pub line_id : (step : ProofStep) → slice_get items k ≡ Some (derived step) → (before : AreJudged live p items k) → step.id ≡ before.at.next
+  line_id step at before = (subst (AreItems before.is_variable before.at) (item_there items k (derived step) at) before.numbered).0.numbered
+
+  -- a line more
+  pub line_judged : (step : ProofStep) (d : Bool) → slice_get items k ≡ Some (derived step) → q ≡ ended d step.id step.literals p →
+      run_over live q ≡ with_item (run_over live p) (derived step) → AreJudged live p items k → AreJudged live q items (k + 1)
+  line_judged step d at q_is run before =
+      let there = item_there items k (derived step) at in
+      let numbered = subst (AreItems before.is_variable before.at) there before.numbered in
+      let id = numbered.0.numbered in
+      record {
+        is_variable = before.is_variable;
+        first = before.first;
+        from_one = before.from_one;
+        none = before.none;
+        at = behind_item before.at (derived step);
+        behind = (let le = before.behind in omega (arith, le));
+        ids = live_line (λ i. before.first ≤ i) before.at before.behind before.ids;
+        numbered = numbered.1;
+        above = subst (λ (s : ProofState). AllByRecursion (λ line. line.0 < before.at.next + 1) s.lines) (sym q_is)
+            (subst (λ i. AllByRecursion (λ line. line.0 < i + 1) (with_derived p.fault d step.id step.literals p).lines) id
+            (by_fault p.fault d step.id step.literals p (subst (λ i. AllByRecursion (λ line. line.0 < i) p.lines) (sym id) before.above)));
+        left = ap (λ r. run_fault (with_items r (drop (k + 1) items))) run
+            ∙ sym (ap (λ rest. run_fault (with_items (run_over live p) rest)) there) ∙ before.left;
+      }
+
+  -- ids that are deleted
+  pub ids_free : (ids : List ℕ) → slice_get items k ≡ Some (gone ids) → AreJudged live p items k → All (λ id. live id ≡ None) ids
+  ids_free ids at before =
+      let is = (subst (AreItems before.is_variable before.at) (item_there items k (gone ids) at) before.numbered).0 in
+      All-from_recursion (λ id. live id ≡ None) ids
+      (live_ids (λ id. live id ≡ None) before.at ids (λ id h. before.none id (before.ids id h)) is.live)
+
+  pub ids_judged : (ids : List ℕ) → slice_get items k ≡ Some (gone ids) → q ≡ without_lines p.fault ids p →
+      run_over live q ≡ with_item (run_over live p) (gone ids) → AreJudged live p items k → AreJudged live q items (k + 1)
+  ids_judged ids at q_is run before =
+      let there = item_there items k (gone ids) at in
+      let numbered = subst (AreItems before.is_variable before.at) there before.numbered in
+      record {
+        is_variable = before.is_variable;
+        first = before.first;
+        from_one = before.from_one;
+        none = before.none;
+        at = behind_item before.at (gone ids);
+        behind = (let le = before.behind in let same = next_kept before.at ids in omega (arith, le, same));
+        ids = live_gone (λ i. before.first ≤ i) before.at ids before.ids;
+        numbered = numbered.1;
+        above = subst (λ next. AllByRecursion (λ line. line.0 < next) q.lines) (sym (next_kept before.at ids))
+            (subst (λ (s : ProofState). AllByRecursion (λ line. line.0 < before.at.next) s.lines) (sym q_is) (without_above p.fault ids p before.at.next before.above));
+        left = ap (λ r. run_fault (with_items r (drop (k + 1) items))) run
+            ∙ sym (ap (λ rest. run_fault (with_items (run_over live p) rest)) there) ∙ before.left;
+      }
+
+-- nothing is judged yet
+pub none_judged : (live : LiveClauses) (p : ProofState) (items : List ProofItem) → AreBehind live items → p.lines ≡ [] → p.fault ≡ None → p.finished ≡ false
+    → AreJudged live p items 0
+none_judged live p items b none going open_end = record {
+  is_variable = b.is_variable;
+  first = b.first;
+  from_one = b.from_one;
+  none = b.none;
+  at = numbered_from b.first;
+  behind = omega arith;
+  ids = none_live (λ id. b.first ≤ id) b.first;
+  numbered = b.are;
+  above = subst (AllByRecursion (λ line. line.0 < b.first)) (sym none) tt;
+  left =
+      ap (λ lines. run_fault (with_items (record { finished = p.finished; live = with_lines live lines; fault = p.fault }) items)) none
+      ∙ ap (λ fault. run_fault (with_items (record { finished = p.finished; live = live; fault = fault }) items)) going
+      ∙ ap (λ b. run_fault (with_items (record { finished = b; live = live; fault = None }) items)) open_end
+      ∙ going_is_fault false live items;
 }
 
-pub all_derived : (live : LiveClauses) (p : ProofState) (steps : List ProofStep) (first k : ℕ) → length steps ≤ k → AreDerived live p steps first k
-    → fault_so_far p.fault p.finished ≡ proof_fault live steps
-all_derived live p steps first k end are =
-    ap (λ o. fault_so_far o p.finished) are.going
-    ∙ sym (ap (steps_fault p.finished (with_lines live p.lines)) (drop_end steps k end)) ∙ are.left
+pub all_judged : (live : LiveClauses) (p : ProofState) (items : List ProofItem) (k : ℕ) → length items ≤ k → AreJudged live p items k
+    → fault_so_far p.fault p.finished ≡ items_fault false live items
+all_judged live p items k end are =
+    sym (ap (λ rest. run_fault (with_items (run_over live p) rest)) (drop_end items k end)) ∙ are.left
 
-pub ids_above : (live : LiveClauses) (p : ProofState) (steps : List ProofStep) (first k id : ℕ) → id ≡ first + k → AreDerived live p steps first k
+-- behind a line that isn't derived nothing changes
+stays : (finished : Bool) (live : LiveClauses) (id : ℕ) (items : List ProofItem) →
+    run_fault (with_items (record { finished = finished; live = live; fault = Some id }) items) ≡ Some (underived id)
+stays finished live id [] = refl
+stays finished live id (item ∷ items) = stays finished live id items
+
+fault_stays : (o : Option ℕ) (finished : Bool) (live : LiveClauses) (items : List ProofItem) → is_none o ≡ false →
+    fault_so_far o finished ≡ run_fault (with_items (record { finished = finished; live = live; fault = o }) items)
+fault_stays None finished live items h = cc
+fault_stays (Some id) finished live items h = sym (stays finished live id items)
+
+pub faulty_judged : (live : LiveClauses) (p : ProofState) (items : List ProofItem) (k : ℕ) → is_none p.fault ≡ false → AreJudged live p items k
+    → fault_so_far p.fault p.finished ≡ items_fault false live items
+faulty_judged live p items k faulty are = fault_stays p.fault p.finished (with_lines live p.lines) (drop k items) faulty ∙ are.left
+
+pub ids_above : (live : LiveClauses) (p : ProofState) (items : List ProofItem) (k id : ℕ) → (are : AreJudged live p items k) → id ≡ are.at.next
     → All (λ line. line.0 < id) p.lines
-ids_above live p steps first k id id_is are =
+ids_above live p items k id are id_is =
     All-from_recursion (λ line. line.0 < id) p.lines (subst (λ i. AllByRecursion (λ line. line.0 < i) p.lines) (sym id_is) are.above)
 
 -- whether there is a fault
@@ -113,10 +173,3 @@ fault_some o None is some = absurd (apart (sym (ap is_some is) ∙ some))
     apart : false ≡ true → ⊥
     apart h = cc
 fault_some o (Some id) is some = refl
-
-pub fault_none : (o p : Option ℕ) → o ≡ p → is_some o ≡ false → p ≡ None
-fault_none o None is none = refl
-fault_none o (Some id) is none = absurd (apart (sym (ap is_some is) ∙ none))
-  where
-    apart : true ≡ false → ⊥
-    apart h = cc

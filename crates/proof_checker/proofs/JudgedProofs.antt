@@ -1,55 +1,54 @@
--- What the judgement of a circuit's proof asks of its base and its lines.
-use Rattle.std.proofs.Common.{◌≡◌, ℕ, zero, suc, ◌+◌, ◌≤◌, ◌<◌, ◌^◌, Bool, List, [], ◌∷◌, length, None, Some, ap, sym, ◌∙◌, subst, arith}
-use Rattle.std.specs.List.{All, slice_get}
+-- What the judgement of a circuit's proof asks of its base and its items.
+use Rattle.std.proofs.Common.{◌≡◌, ℕ, zero, suc, ◌≤◌, ◌<◌, ◌^◌, Bool, true, List, [], ◌∷◌, length, None, ap, subst, arith}
+use Rattle.std.specs.List.{All, AllByRecursion}
 use Rattle.std.specs.Option.{option_and_then}
-use Rattle.std.proofs.lemmas.List.Elements.{All-head}
+use Rattle.std.proofs.lemmas.List.Elements.{recursion_from_All}
 use Rattle.std.proofs.lemmas.Option.{slice_get_past}
-use Rattle.dq_lits.specs.Derivation.{ProofStep}
+use Rattle.rup_core.specs.Items.{ProofItem, derived, gone}
 use Rattle.aiger_text.specs.Lines.{max_count}
 use Rattle.cert_text.specs.CircuitProof.{is_proof_variable, first_proof_id}
-use Rattle.cert_text.specs.Grammar.{AreSteps, HasSmallNumbers}
+use Rattle.cert_text.specs.Grammar.{AreItems, IsSmallItem}
 use Rattle.cert_text.specs.Header.{max_count as max_lines}
 use Rattle.cert_text.specs.NegatedMatrix.{negated_clauses, without_constants}
+use Rattle.cert_text.specs.Numbering.{numbered_from, are_live}
 use Rattle.cert_text.proofs.NegatedClauses.{clauses_counted}
 use Rattle.skolem_checker.specs.Checks.{Candidate}
 use Rattle.proof_checker.specs.CircuitProof.{circuit_literal, negated_candidate}
-use Rattle.proof_checker.specs.Lines.{AreNumbered, AreProofLines}
+use Rattle.proof_checker.specs.Lines.{AreBehind, AreProofLines}
 
 -- no clause of the negated matrix has the id of a line or a later one
-pub none_behind : (c : Candidate) (first id : ℕ) → first ≡ first_proof_id c.formula c.circuit.netlist → first ≤ id → negated_candidate c id ≡ None
-none_behind c first zero is le = absurd (omega (arith, le, is))
-none_behind c first (suc i) is le =
+none_behind : (c : Candidate) (id : ℕ) → first_proof_id c.formula c.circuit.netlist ≤ id → negated_candidate c id ≡ None
+none_behind c zero le = absurd (omega (arith, le))
+none_behind c (suc i) le =
     let counted = clauses_counted c.formula c.circuit.netlist (circuit_literal c.circuit) in
-    ap (option_and_then without_constants) (slice_get_past (negated_clauses c.formula c.circuit.netlist (circuit_literal c.circuit)) i (omega (arith, counted, is, le)))
+    ap (option_and_then without_constants) (slice_get_past (negated_clauses c.formula c.circuit.netlist (circuit_literal c.circuit)) i (omega (arith, counted, le)))
 
-pub first_from_one : (c : Candidate) (first : ℕ) → first ≡ first_proof_id c.formula c.circuit.netlist → 1 ≤ first
-first_from_one c first is = omega (arith, is)
+pub proof_is_behind : (c : Candidate) (items : List ProofItem) → AreProofLines c items → AreBehind (negated_candidate c) items
+proof_is_behind c items lines = record {
+  is_variable = is_proof_variable c.formula c.circuit.netlist;
+  first = first_proof_id c.formula c.circuit.netlist;
+  from_one = omega arith;
+  none = none_behind c;
+  are = lines.are;
+}
 
--- the lines have their ids
-some_step : (s t : ProofStep) → Some s ≡ Some t → t.id ≡ s.id
-some_step s t h = cc
+-- nothing can be deleted at first, so that the first item is a line
+first_small : (p : ℕ → Bool) (first : ℕ) (items : List ProofItem) → 1 ≤ length items → AreItems p (numbered_from first) items → AllByRecursion IsSmallItem items → first < 10 ^ 18
+first_small p first [] some are small = absurd (omega (arith, some))
+first_small p first (derived s ∷ items) some are small = subst (λ id. id < 10 ^ 18) are.0.numbered small.0.id
+first_small p first (gone ids ∷ items) some are small = absurd (no_ids ids are.0.some are.0.live)
+  where
+    no_ids : (ids : List ℕ) → 1 ≤ length ids → are_live (numbered_from first) ids ≡ true → ⊥
+    no_ids [] some live = omega (arith, some)
+    no_ids (id ∷ ids) some live = cc
 
-pub lines_numbered : (is_variable : ℕ → Bool) (steps : List ProofStep) (first : ℕ) → AreSteps is_variable first steps → AreNumbered first steps
-lines_numbered is_variable [] first all k step at = cc
-lines_numbered is_variable (s ∷ steps) first all zero step at = let same = some_step _ step at in let own = all.0.numbered in omega (arith, same, own)
-lines_numbered is_variable (s ∷ steps) first all (suc k) step at =
-    let later = lines_numbered is_variable steps (first + 1) all.1 k step at in omega (arith, later)
-
--- the lines of a proof are numbered from the first one's id on
-pub proof_lines : (c : Candidate) (steps : List ProofStep) (s : ProofStep) → slice_get steps 0 ≡ Some s → c.circuit.netlist.max_var ≤ max_count →
-    length steps ≤ max_lines → AreSteps (is_proof_variable c.formula c.circuit.netlist) (first_proof_id c.formula c.circuit.netlist) steps →
-    All HasSmallNumbers steps → AreProofLines c s.id steps
-proof_lines c [] s is few few_lines all small = cc
-proof_lines c (t ∷ steps) s is few few_lines all small =
-    let same : t ≡ s = cc in
-    let number : s.id ≡ first_proof_id c.formula c.circuit.netlist = ap (λ (x : ProofStep). x.id) (sym same) ∙ all.0.numbered in
-    let head = All-head HasSmallNumbers t steps small in
-    let below : t.id < 10 ^ 18 = head.id in
-    record {
-      few_variables = few;
-      few_lines = few_lines;
-      small_id = subst (λ (x : ProofStep). x.id < 10 ^ 18) same below;
-      small = small;
-      behind = number;
-      lines = subst (λ n. AreSteps (is_proof_variable c.formula c.circuit.netlist) n (t ∷ steps)) (sym number) all;
-    }
+pub proof_lines : (c : Candidate) (items : List ProofItem) → 1 ≤ length items → c.circuit.netlist.max_var ≤ max_count →
+    length items ≤ max_lines → AreItems (is_proof_variable c.formula c.circuit.netlist) (numbered_from (first_proof_id c.formula c.circuit.netlist)) items →
+    All IsSmallItem items → AreProofLines c items
+proof_lines c items some few few_lines are small = record {
+  few_variables = few;
+  few_lines = few_lines;
+  small_id = first_small (is_proof_variable c.formula c.circuit.netlist) (first_proof_id c.formula c.circuit.netlist) items some are
+      (recursion_from_All IsSmallItem items small);
+  are = are;
+}

@@ -7,7 +7,8 @@ use Rattle.std.proofs.lemmas.Bool.Decides.{Decides-eqb}
 use Rattle.std.proofs.lemmas.List.{get_or-map, length-map}
 use Rattle.std.proofs.lemmas.List.Elements.{All-contains, Contains-append_cases}
 use Rattle.std.proofs.lemmas.Map.Made.{IsDistinct-from_AllPairs}
-use Rattle.dq_lits.specs.Derivation.{LiveClauses, ProofStep, Derives, MakesTrue}
+use Rattle.dq_lits.specs.Derivation.{LiveClauses, MakesTrue}
+use Rattle.rup_core.specs.Items.{ProofItem, ItemsDerive}
 use Rattle.dq_lits.specs.Formula.{Existential, Dqbf, declared, IsWellFormed}
 use Rattle.dq_lits.specs.Henkin.{MatrixHolds}
 use Rattle.dq_lits.specs.Literal.{Assignment, Literal, variable_of, clause_true}
@@ -119,14 +120,14 @@ module _ (f : Dqbf) (c : MappedCircuit) (formed : IsWellFormed f) (kept : IsNetl
             ap whole next ∙ h (suc j) (omega (arith, below))),
       )
 
-  pub solves : (steps : List ProofStep)
-      → ((live : LiveClauses) (steps : List ProofStep) → Derives live steps → (a : Assignment) → MakesTrue a live → ⊥)
-      → Derives (negated_matrix f c.netlist (circuit_literal c)) steps → MatrixHolds f m
-  solves steps sound derives =
+  pub solves : (items : List ProofItem)
+      → ((live : LiveClauses) (items : List ProofItem) → ItemsDerive live items → (a : Assignment) → MakesTrue a live → ⊥)
+      → ItemsDerive (negated_matrix f c.netlist (circuit_literal c)) items → MatrixHolds f m
+  solves items sound derives =
       elim (cases_Bool (list_all (clause_true m) f.matrix)) [
         | inl holds ↦ list_all-each (clause_true m) f.matrix holds
         | inr fails ↦
-            absurd (sound (negated_matrix f c.netlist (circuit_literal c)) steps derives whole
+            absurd (sound (negated_matrix f c.netlist (circuit_literal c)) items derives whole
             (makes_true whole (value_is 0 false constant) f c.netlist (circuit_literal c)
             (negated_true whole m (circuit_literal c) f c.netlist
             (each (MeetsGate whole) c.netlist.gates (witness_meets c.netlist kept complete bits clause_fails))
@@ -142,13 +143,13 @@ module _ (f : Dqbf) (c : MappedCircuit) (formed : IsWellFormed f) (kept : IsNetl
           All-contains (λ k. Contains (declared f) (variable_of k)) clause l
           (All-contains (λ ls. All (λ k. Contains (declared f) (variable_of k)) ls) f.matrix clause formed.bound clause_in) l_in
 
-pub refuted_solves : (c : Candidate) (symbols : SymbolTable) (steps : List ProofStep)
-    → ((live : LiveClauses) (steps : List ProofStep) → Derives live steps → (a : Assignment) → MakesTrue a live → ⊥)
+pub refuted_solves : (c : Candidate) (symbols : SymbolTable) (items : List ProofItem)
+    → ((live : LiveClauses) (items : List ProofItem) → ItemsDerive live items → (a : Assignment) → MakesTrue a live → ⊥)
     → IsWellFormed c.formula → IsNetlist c.circuit.netlist → IsComplete c.circuit.netlist
-    → candidate_of c.formula c.circuit.netlist symbols ≡ Ok c → circuit_proof_fault c steps ≡ None
+    → candidate_of c.formula c.circuit.netlist symbols ≡ Ok c → circuit_proof_fault c items ≡ None
     → (m : Assignment) → FollowsCircuit c.formula c.circuit m → MatrixHolds c.formula m
-refuted_solves c symbols steps sound formed kept complete is derives m follows =
+refuted_solves c symbols items sound formed kept complete is derives m follows =
     solves c.formula c.circuit formed kept complete
     (candidate_mapped c.formula c.circuit.netlist (mapping_of c.formula c.circuit.netlist symbols) c
     (mapped c.formula c.circuit.netlist symbols formed.prefix) is)
-    m follows steps sound derives
+    m follows items sound derives

@@ -1,8 +1,9 @@
 -- Whether a derivation shows that a circuit makes every clause of a formula true: it refutes that
 -- the gates have their values and some clause is false.
-use Rattle.std.specs.Prelude.{ℕ, ◌*◌, ◌==◌, List, slice_index, Option, if◌then◌else◌}
+use Rattle.std.specs.Prelude.{ℕ, ◌*◌, ◌==◌, false, List, slice_index, Option, if◌then◌else◌}
 use Rattle.std.specs.List.{list_any, position_or_len}
-use Rattle.dq_lits.specs.Derivation.{LiveClauses, ProofStep, ProofFault, proof_fault}
+use Rattle.dq_lits.specs.Derivation.{LiveClauses, ProofFault}
+use Rattle.rup_core.specs.Items.{ProofItem, items_fault}
 use Rattle.cert_text.specs.NegatedMatrix.{negated_matrix}
 use Rattle.skolem_checker.specs.Checks.{Candidate}
 use Rattle.skolem_checker.specs.SkolemCircuit.{MappedCircuit}
@@ -19,7 +20,7 @@ circuit_literal c v =
 abbrev pub negated_candidate : Candidate → LiveClauses
 negated_candidate c = negated_matrix c.formula c.circuit.netlist (circuit_literal c.circuit)
 
--- the first line that isn't derived from these clauses and the lines before it, or that the last
--- one isn't empty
-abbrev pub circuit_proof_fault : Candidate → List ProofStep → Option ProofFault
-circuit_proof_fault c steps = proof_fault (negated_candidate c) steps
+-- the first line that isn't derived from these clauses and the lines before it that weren't deleted,
+-- or that the last line isn't empty
+abbrev pub circuit_proof_fault : Candidate → List ProofItem → Option ProofFault
+circuit_proof_fault c items = items_fault false (negated_candidate c) items

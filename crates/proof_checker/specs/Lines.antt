@@ -1,23 +1,26 @@
--- Words of private contracts: the lines of a circuit's proof.
-use Rattle.std.specs.Prelude.{◌≡◌, ℕ, ◌+◌, ◌<◌, ◌≤◌, ◌^◌, List, length, Some}
-use Rattle.std.specs.List.{All, slice_get}
-use Rattle.dq_lits.specs.Derivation.{ProofStep}
+-- Words of private contracts: the items of a circuit's proof.
+use Rattle.std.specs.Prelude.{◌≡◌, ℕ, ◌<◌, ◌≤◌, ◌^◌, Bool, List, length, None}
+use Rattle.dq_lits.specs.Derivation.{LiveClauses}
 use Rattle.aiger_text.specs.Lines.{max_count}
+use Rattle.rup_core.specs.Items.{ProofItem}
 use Rattle.cert_text.specs.CircuitProof.{is_proof_variable, first_proof_id}
-use Rattle.cert_text.specs.Grammar.{AreSteps, HasSmallNumbers}
+use Rattle.cert_text.specs.Grammar.{AreItems}
 use Rattle.cert_text.specs.Header.{max_count as max_lines}
+use Rattle.cert_text.specs.Numbering.{numbered_from}
 use Rattle.skolem_checker.specs.Checks.{Candidate}
 
--- the lines of a proof, of which the first has this id
-pub record AreProofLines (c : Candidate) (first : ℕ) (steps : List ProofStep) : Type 0 where
+-- the items of a proof
+pub record AreProofLines (c : Candidate) (items : List ProofItem) : Type 0 where
   pub few_variables : c.circuit.netlist.max_var ≤ max_count
-  pub few_lines : length steps ≤ max_lines
-  pub small_id : first < 10 ^ 18
-  pub small : All HasSmallNumbers steps
-  pub behind : first ≡ first_proof_id c.formula c.circuit.netlist
-  pub lines : AreSteps (is_proof_variable c.formula c.circuit.netlist) first steps
+  pub few_lines : length items ≤ max_lines
+  pub small_id : first_proof_id c.formula c.circuit.netlist < 10 ^ 18
+  pub are : AreItems (is_proof_variable c.formula c.circuit.netlist)
+      (numbered_from (first_proof_id c.formula c.circuit.netlist)) items
 
--- lines have the ids from `first` on, one by one
-abbrev pub AreNumbered : ℕ → List ProofStep → Type 0
-AreNumbered first steps =
-    (k : ℕ) (step : ProofStep) → slice_get steps k ≡ Some step → step.id ≡ first + k
+-- items whose ids no clause has yet
+pub record AreBehind (live : LiveClauses) (items : List ProofItem) : Type 0 where
+  pub is_variable : ℕ → Bool
+  pub first : ℕ
+  pub from_one : 1 ≤ first
+  pub none : (id : ℕ) → first ≤ id → live id ≡ None
+  pub are : AreItems is_variable (numbered_from first) items

@@ -2,40 +2,40 @@
 //! nothing: who calls it may use what it ensures.
 
 ghost use Rattle.std.specs.Prelude.{◌≡◌, List, Ok, None};
-ghost use Rattle.dq_lits.specs.Derivation.{ProofStep};
 ghost use Rattle.dq_lits.specs.Formula.{IsWellFormed};
 ghost use Rattle.dq_lits.specs.Henkin.{MatrixHolds, IsTrueFormula};
 ghost use Rattle.dq_lits.specs.Literal.{Assignment};
 ghost use Rattle.circuit_plain.specs.Netlist.{IsNetlist};
 ghost use Rattle.aiger_text.specs.Symbol.{SymbolTable};
+ghost use Rattle.rup_core.specs.Items.{ProofItem};
 ghost use Rattle.skolem_checker.specs.Checks.{Candidate, candidate_of, IsReadsAnswer};
 ghost use Rattle.skolem_checker.specs.SkolemCircuit.{FollowsCircuit, IsComplete, IsSkolemCircuit, ReadsUniversal};
 ghost use Rattle.proof_checker.specs.CircuitProof.{circuit_proof_fault};
 
-use dq_lits::laws::derivation_is_sound;
+use rup_core::laws::deleting_derivation_is_sound;
 use skolem_checker::laws::{skolem_circuit_shows_true, tested_circuit_is_skolem};
 
 /// Where the negated matrix is refuted, every clause is true under every row of the universals with
 /// the outputs' values.
 pub fn refuted_negation_solves()
-    ensures { (c : Candidate) (symbols : SymbolTable) (steps : List ProofStep)
+    ensures { (c : Candidate) (symbols : SymbolTable) (items : List ProofItem)
         → IsWellFormed c.formula
         → IsNetlist c.circuit.netlist → IsComplete c.circuit.netlist
         → candidate_of c.formula c.circuit.netlist symbols ≡ Ok c
-        → circuit_proof_fault c steps ≡ None
+        → circuit_proof_fault c items ≡ None
         → (m : Assignment) → FollowsCircuit c.formula c.circuit m → MatrixHolds c.formula m }
 {
-    derivation_is_sound();
+    deleting_derivation_is_sound();
 }
 
 /// A circuit that is mapped, reads declared universals alone and has a proof is a Skolem circuit.
 pub fn proved_circuit_is_skolem()
-    ensures { (c : Candidate) (symbols : SymbolTable) (steps : List ProofStep)
+    ensures { (c : Candidate) (symbols : SymbolTable) (items : List ProofItem)
         → IsWellFormed c.formula
         → IsNetlist c.circuit.netlist → IsComplete c.circuit.netlist
         → candidate_of c.formula c.circuit.netlist symbols ≡ Ok c
         → IsReadsAnswer (ReadsUniversal c.circuit) c.formula (Ok tt)
-        → circuit_proof_fault c steps ≡ None
+        → circuit_proof_fault c items ≡ None
         → IsSkolemCircuit c.formula c.circuit.netlist symbols }
 {
     refuted_negation_solves();
@@ -44,12 +44,12 @@ pub fn proved_circuit_is_skolem()
 
 /// Such a circuit shows that the formula is true.
 pub fn proved_circuit_shows_true()
-    ensures { (c : Candidate) (symbols : SymbolTable) (steps : List ProofStep)
+    ensures { (c : Candidate) (symbols : SymbolTable) (items : List ProofItem)
         → IsWellFormed c.formula
         → IsNetlist c.circuit.netlist → IsComplete c.circuit.netlist
         → candidate_of c.formula c.circuit.netlist symbols ≡ Ok c
         → IsReadsAnswer (ReadsUniversal c.circuit) c.formula (Ok tt)
-        → circuit_proof_fault c steps ≡ None
+        → circuit_proof_fault c items ≡ None
         → IsTrueFormula c.formula }
 {
     proved_circuit_is_skolem();

@@ -1,16 +1,15 @@
 -- Lines that are judged on the names of their pairs.
-use Rattle.std.proofs.Common.{◌≡◌, ◌≢◌, ℕ, zero, suc, ◌+◌, ◌<◌, ◌≤◌, ◌==◌, Bool, true, false, cond, inl, inr, List, [], ◌∷◌, ◌++◌, map, drop, length, get_or, Option, None, Some, is_some, is_none, IsSome, refl, sym, ◌∙◌, ap, subst, arith}
-use Rattle.std.specs.List.{All, AllByRecursion}
+use Rattle.std.proofs.Common.{◌≡◌, ℕ, ◌+◌, ◌<◌, ◌≤◌, ◌==◌, Bool, true, false, cond, inl, inr, List, [], ◌∷◌, ◌++◌, map, drop, length, Option, None, Some, is_some, is_none, refl, sym, ◌∙◌, ap, subst}
+use Rattle.std.specs.List.{All}
 use Rattle.std.specs.Option.{option_map}
 use Rattle.std.proofs.lemmas.Bool.{cases_Bool, eqb-true}
-use Rattle.std.proofs.lemmas.List.{map-append}
-use Rattle.dq_lits.specs.Derivation.{LiveClauses, line_fault, is_empty}
+use Rattle.dq_lits.specs.Derivation.{LiveClauses, is_empty}
 use Rattle.dq_lits.specs.Expansion.{instance_at}
 use Rattle.dq_lits.specs.Literal.{Literal, positive, negative, variable_of, on_variable}
 use Rattle.dq_formula.specs.Prefix.{IsLawful}
 use Rattle.rup_core.specs.Judging.{Hinted, derive_line, is_derived_by, is_faulty, LineState, no_line}
 use Rattle.rup_core.specs.Lines.{clause_of_id}
-use Rattle.rup_core.specs.Proving.{ProofState, or_clause, with_lines, with_derived, ended}
+use Rattle.rup_core.specs.Proving.{ProofState, or_clause, with_derived, ended}
 use Rattle.rup_core.specs.Renaming.{AreKnown, AreKnownHints, IsKnownClause, renamed}
 use Rattle.rup_core.specs.declared.progress.Progress.{Progress}
 use Rattle.rup_core.specs.declared.progress.Progress.TheVariants.{Going, Refuted, Faulty}

@@ -1,10 +1,10 @@
 -- Names of pairs.
-use Rattle.std.proofs.Common.{◌≡◌, ◌≢◌, ℕ, zero, suc, ◌⊎◌, ◌+◌, ◌-◌, ◌*◌, ◌/◌, ◌%◌, ◌<◌, ◌≤◌, ◌==◌, nat_lt, Bool, true, false, not, ◌&&◌, cond, inl, inr, List, [], ◌∷◌, map, set, length, get_or, Option, None, Some, is_some, IsSome, refl, sym, ◌∙◌, ap, subst, arith, get_or-set_other, get_or-set_same}
+use Rattle.std.proofs.Common.{◌≡◌, ◌≢◌, ℕ, ◌⊎◌, ◌+◌, ◌*◌, ◌<◌, ◌≤◌, ◌==◌, nat_lt, Bool, true, false, not, ◌&&◌, cond, inl, inr, List, [], map, set, length, Option, None, Some, IsSome, refl, sym, ◌∙◌, ap, subst, arith, get_or-set_other, get_or-set_same}
 use Rattle.std.specs.List.{All, position_or_len, prefix_len}
 use Rattle.std.specs.Option.{option_map}
 use Rattle.std.proofs.lemmas.Bool.{cases_Bool, cases_eq, cases_lt, eqb-true, eq-eqb, lt-ltb, ltb-true, and_parts, and_from, both_ways}
 use Rattle.std.proofs.lemmas.List.{length-set}
-use Rattle.std.proofs.lemmas.List.Sums.{prefix_len_passes, prefix_len_stops, prefix_len-le-length}
+use Rattle.std.proofs.lemmas.List.Sums.{prefix_len_passes, prefix_len_stops}
 use Rattle.dq_lits.specs.Expansion.{agree_on, row_assignment}
 use Rattle.dq_lits.specs.Formula.{Existential, Dqbf, existential_of}
 use Rattle.dq_lits.specs.Henkin.{same_bits}
@@ -14,13 +14,13 @@ use Rattle.rup_core.specs.Renaming.{KeepsApart}
 use Rattle.refutation_checker.specs.Rows.{agree_over, row_of}
 use Rattle.refutation_checker.specs.Pairs.{first_agreeing, first_row, pair_of}
 use Rattle.refutation_checker.specs.RowTrees.{sees_in, sees_of, found, IsTree, AreNumbered, number_or}
-use Rattle.refutation_checker.specs.Bindings.{set_at, binding_at, IsBinding, AreBindings, AreAllBound}
-use Rattle.refutation_checker.specs.Namings.{Frame, Names, sees_at, tree_at, base_of, name_by, row_number, variable_number, is_pair, name_of, new_number, is_named, AreApart, IsWhole, IsNaming, Extends}
+use Rattle.refutation_checker.specs.Bindings.{set_at, binding_at, IsBinding, AreAllBound}
+use Rattle.refutation_checker.specs.Namings.{Frame, Names, sees_at, tree_at, base_of, name_by, row_number, variable_number, is_pair, name_of, new_number, AreApart, IsWhole, IsNaming, Extends}
 use Rattle.refutation_checker.specs.declared.row_trees.Node.{Node}
 use Rattle.refutation_checker.specs.declared.bindings.Binding.{Binding}
 use Rattle.refutation_checker.specs.declared.bindings.Binding.TheVariants.{Universal, Existential as Bound, Free}
 use Rattle.refutation_checker.proofs.PairNames.{row_is, variable_is, same_bits-equal}
-use Rattle.refutation_checker.proofs.TreeNumbers.{agree_first, agree_second, agree_itself, agree_turned, found_same}
+use Rattle.refutation_checker.proofs.TreeNumbers.{agree_second, agree_itself, found_same}
 
 -- One set's pairs with one row get a name, or have it.
 pub record IsGrowth (x : Frame) (n : Names) (c k base next : ℕ) (nodes : List Node) : Type 0 where

@@ -1,5 +1,5 @@
 -- The numbers of pairs.
-use Rattle.std.proofs.Common.{◌≡◌, ℕ, ◌+◌, ◌-◌, ◌*◌, ◌/◌, ◌%◌, ◌<◌, ◌==◌, ◌&&◌, Bool, true, not, cond, inl, inr, List, [], ◌∷◌, map, length, get_or, Option, None, Some, IsSome, is_some, nat_lt, refl, sym, ◌∙◌, ap, subst}
+use Rattle.std.proofs.Common.{◌≡◌, ℕ, ◌+◌, ◌-◌, ◌*◌, ◌/◌, ◌%◌, ◌<◌, ◌==◌, Bool, true, not, cond, inl, inr, List, [], ◌∷◌, map, length, get_or, Option, None, Some, IsSome, is_some, nat_lt, refl, sym, ◌∙◌, ap, subst}
 use Rattle.std.specs.List.{find, position_or_len, filter_map}
 use Rattle.std.proofs.lemmas.Bool.{cases_Bool, eqb-true, and_parts, ltb-true}
 use Rattle.std.proofs.lemmas.Option.{slice_get-get_or}

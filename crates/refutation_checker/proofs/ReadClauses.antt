@@ -1,13 +1,12 @@
 -- Clauses that are read literal by literal, on the names of their pairs.
-use Rattle.std.proofs.Common.{◌≡◌, ℕ, zero, suc, ◌+◌, ◌<◌, ◌≤◌, ◌==◌, Bool, true, false, not, cond, ◌&&◌, ◌||◌, inl, inr, List, [], ◌∷◌, ◌++◌, map, take, drop, length, get_or, Option, None, Some, is_some, IsSome, refl, sym, ◌∙◌, ap, subst, arith, add-one}
+use Rattle.std.proofs.Common.{◌≡◌, ℕ, zero, suc, ◌+◌, ◌<◌, ◌≤◌, ◌==◌, Bool, true, false, not, cond, ◌&&◌, ◌||◌, List, [], ◌∷◌, ◌++◌, map, take, drop, length, get_or, None, Some, is_some, IsSome, refl, sym, ◌∙◌, ap, subst, arith, add-one}
 use Rattle.std.specs.List.{All, list_any, filter_map}
 use Rattle.std.proofs.Math.Seq.{drop-cons}
-use Rattle.std.proofs.lemmas.Bool.{cases_Bool}
 use Rattle.std.specs.Bool.{beq}
 use Rattle.std.proofs.lemmas.List.Quantifiers.{position-Some}
 use Rattle.std.proofs.lemmas.List.{get_or_default, map_more}
 use Rattle.dq_lits.specs.Expansion.{instance_clause, pair_literal, row_assignment, universal_literal_true}
-use Rattle.dq_lits.specs.Formula.{Dqbf, existential_of}
+use Rattle.dq_lits.specs.Formula.{existential_of}
 use Rattle.dq_lits.specs.Literal.{Literal, positive, negative, variable_of, on_variable, is_negative, literal_true}
 use Rattle.dq_lits.specs.Row.{bit_of}
 use Rattle.dq_formula.proofs.TrueUniversals.{true_universal, turned}
@@ -15,7 +14,7 @@ use Rattle.cert_text.specs.Pairs.{is_pair_number}
 use Rattle.refutation_checker.specs.Bindings.{binding_at, IsBinding, is_existential as binds_existential}
 use Rattle.refutation_checker.specs.PairNames.{names_in, IsFrame, AreNames}
 use Rattle.refutation_checker.specs.declared.bindings.Binding.{Binding}
-use Rattle.refutation_checker.specs.declared.bindings.Binding.TheVariants.{Universal, Existential as Bound, Free}
+use Rattle.refutation_checker.specs.declared.bindings.Binding.TheVariants.{Universal, Existential as Bound}
 use Rattle.refutation_checker.specs.declared.pair_names.PairNames.{PairNames}
 use Rattle.refutation_checker.specs.Judging.{IsNamed, AreNamed, on_pair, pair_part, IsRead, IsClause, clause_under, normal_literals}
 use Rattle.refutation_checker.specs.Namings.{Frame, Names, Extends, base_of, name_of}

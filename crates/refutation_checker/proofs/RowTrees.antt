@@ -1,9 +1,7 @@
 -- Trees that find rows by their bits on a dependency set.
-use Rattle.std.proofs.Common.{◌≡◌, ◌≢◌, ℕ, zero, suc, ◌+◌, ◌<◌, ◌≤◌, ◌==◌, Bool, true, false, cond, List, [], ◌∷◌, length, get_or, Option, None, Some, refl, sym, ◌∙◌, ap, subst, arith}
-use Rattle.dq_lits.specs.Formula.{Dqbf}
+use Rattle.std.proofs.Common.{◌≡◌, ℕ, zero, suc, ◌+◌, ◌<◌, ◌≤◌, Bool, true, false, cond, List, length, Option, None, Some, refl, ◌∙◌, ap, arith}
 use Rattle.dq_lits.specs.Row.{bit_of}
-use Rattle.refutation_checker.specs.Rows.{agree_over, row_of}
-use Rattle.refutation_checker.specs.RowTrees.{node_at, next_of, walk_by, walk, reached, IsOrderedNode, IsOrdered}
+use Rattle.refutation_checker.specs.RowTrees.{node_at, next_of, walk_by, walk, IsOrderedNode, IsOrdered}
 use Rattle.refutation_checker.specs.declared.row_trees.Node.{Node}
 use Rattle.refutation_checker.specs.declared.row_trees.Node.TheVariants.{Leaf, Test}
 

@@ -1,8 +1,8 @@
 -- Words of private contracts: lines that are judged on the names of their pairs.
-use Rattle.std.specs.Prelude.{◌≡◌, ℕ, ◌+◌, ◌<◌, ◌≤◌, Bool, true, false, List, [], ◌∷◌, ◌++◌, map, drop, Option, None, Some, slice_index_or}
-use Rattle.std.specs.List.{All, AllByRecursion}
+use Rattle.std.specs.Prelude.{◌≡◌, ℕ, Bool, true, false, List, [], ◌∷◌, ◌++◌, map, drop, Option, None, Some, slice_index_or}
+use Rattle.std.specs.List.{AllByRecursion}
 use Rattle.std.specs.Option.{option_map}
-use Rattle.dq_lits.specs.Derivation.{ProofStep, is_empty}
+use Rattle.dq_lits.specs.Derivation.{is_empty}
 use Rattle.dq_lits.specs.Expansion.{instance_at, instance_clause, universal_literal_true}
 use Rattle.dq_lits.specs.Literal.{Literal, variable_of, on_variable}
 use Rattle.rup_core.specs.Judging.{LineState, derive_line, is_derived_by}

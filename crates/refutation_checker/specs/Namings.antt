@@ -1,5 +1,5 @@
 -- Words of private contracts: names of pairs, given when the pairs first occur.
-use Rattle.std.specs.Prelude.{◌≡◌, ℕ, ◌+◌, ◌-◌, ◌/◌, ◌%◌, ◌==◌, ◌<◌, ◌≤◌, ◌⊎◌, nat_lt, Bool, true, ◌&&◌, List, [], length, Option, None, Some, is_some, IsSome, slice_index_or, if◌then◌else◌}
+use Rattle.std.specs.Prelude.{◌≡◌, ℕ, ◌+◌, ◌-◌, ◌/◌, ◌%◌, ◌==◌, ◌<◌, ◌≤◌, ◌⊎◌, nat_lt, Bool, true, ◌&&◌, List, [], length, Option, None, Some, is_some, slice_index_or, if◌then◌else◌}
 use Rattle.std.specs.Option.{option_map}
 use Rattle.dq_lits.specs.Formula.{Dqbf}
 use Rattle.refutation_checker.specs.Rows.{agree_over, row_of}

@@ -1,11 +1,13 @@
 -- Whether an expansion refutation proves that a formula is false: its lines are derived from the
--- instances of the clauses under its rows, and the last line is the empty clause.
-use Rattle.std.specs.Prelude.{ℕ, ◌+◌, ◌-◌, ◌/◌, ◌%◌, Bool, List, map, Option, None, Some}
+-- instances of the clauses under its rows and from lines before that weren't deleted, and the last
+-- line is the empty clause.
+use Rattle.std.specs.Prelude.{ℕ, ◌+◌, ◌-◌, ◌/◌, ◌%◌, Bool, false, List, map, Option, None, Some}
 use Rattle.std.specs.List.{slice_get}
-use Rattle.dq_lits.specs.Derivation.{ProofStep, ProofFault, proof_fault}
+use Rattle.dq_lits.specs.Derivation.{ProofStep, ProofFault}
 use Rattle.dq_lits.specs.Expansion.{pair_number, instance_at}
 use Rattle.dq_lits.specs.Formula.{Existential, Dqbf, existential_of}
 use Rattle.dq_lits.specs.Literal.{Literal, variable_of, on_variable}
+use Rattle.rup_core.specs.Items.{ProofItem, derived, gone, items_fault}
 use Rattle.cert_text.specs.declared.refutations.Dqr.{Dqr}
 
 -- the pair of a row and an existential by its own number, whichever row's number it was given by
@@ -27,6 +29,11 @@ normal_literal f rows l = on_variable (normal_number f rows (variable_of l)) l
 abbrev pub normal_step : Dqbf → List (List Bool) → ProofStep → ProofStep
 normal_step f rows step = record step { literals = map (normal_literal f rows) step.literals }
 
+abbrev pub normal_item : Dqbf → List (List Bool) → ProofItem → ProofItem
+normal_item f rows (derived step) = derived (normal_step f rows step)
+normal_item f rows (gone ids) = gone ids
+
 -- the first line that isn't derived, or that the last one isn't empty
 abbrev pub refutation_fault : Dqbf → Dqr → Option ProofFault
-refutation_fault f d = proof_fault (instance_at f d.rows) (map (normal_step f d.rows) d.steps)
+refutation_fault f d =
+    items_fault false (instance_at f d.rows) (map (normal_item f d.rows) d.items)

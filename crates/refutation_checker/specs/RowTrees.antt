@@ -1,5 +1,5 @@
 -- Words of private contracts: trees that find rows by their bits on a dependency set.
-use Rattle.std.specs.Prelude.{◌≡◌, ◌≢◌, ℕ, zero, suc, ◌+◌, ◌<◌, Bool, true, false, List, [], length, Option, None, Some, slice_index_or, if◌then◌else◌}
+use Rattle.std.specs.Prelude.{◌≡◌, ◌≢◌, ℕ, zero, suc, ◌+◌, ◌<◌, Bool, true, List, [], length, Option, None, Some, slice_index_or, if◌then◌else◌}
 use Rattle.dq_lits.specs.Formula.{Existential, Dqbf, existential_of}
 use Rattle.dq_lits.specs.Row.{bit_of}
 use Rattle.refutation_checker.specs.Rows.{agree_over, row_of}

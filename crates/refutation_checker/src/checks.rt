@@ -1,33 +1,34 @@
 //! The check of a refutation.
 
 ghost use Rattle.std.specs.Prelude.{◌≡◌, ◌≤◌, length, map, IfOk, OnOk, [], None, false};
-ghost use Rattle.dq_lits.specs.Derivation.{proof_fault};
 ghost use Rattle.dq_lits.specs.Expansion.{instance_at};
 ghost use Rattle.dq_lits.specs.Formula.{IsWellFormed};
-ghost use Rattle.cert_text.specs.Grammar.{AreSteps, IsDqrOf};
+ghost use Rattle.cert_text.specs.Grammar.{AreItems, IsDqrOf};
+ghost use Rattle.cert_text.specs.Numbering.{numbered_from};
 ghost use Rattle.cert_text.specs.Pairs.{is_pair_number};
 ghost use Rattle.cert_text.specs.Scan.{first_id};
+ghost use Rattle.rup_core.specs.Items.{items_fault};
 ghost use Rattle.rup_core.specs.ProofVerdict.{proof_fault_in};
 ghost use Rattle.rup_core.specs.Judging.{no_line};
 ghost use Rattle.rup_core.specs.Runs.{fault_so_far};
 ghost use Rattle.refutation_checker.specs.Answer.{IsAnswer};
 ghost use Rattle.refutation_checker.specs.PairNames.{frame, names_in, IsFrame, AreNames};
-ghost use Rattle.refutation_checker.specs.Refutation.{normal_step, refutation_fault};
+ghost use Rattle.refutation_checker.specs.Refutation.{normal_item, refutation_fault};
 
 use crate::bindings::Bindings;
 use crate::faults::RefFault;
 use crate::judging::Judging;
 use crate::pair_names::Expansion;
-use cert_text::{Dqr, StepList};
+use cert_text::{Dqr, Item, ItemList};
 use dq_formula::Formula;
 use dq_lits::Memory;
 use rup_core::ProofFault;
 use std::alloc::Global;
 
 /// Whether a refutation shows that a formula is false: every line is derived, in order, from the
-/// instances of the clauses under the rows and from the lines before it, and the last line is the
-/// empty clause. Else it answers the first line that isn't derived, or that the empty clause is
-/// missing. A pair may stand in a line by the number of any row that agrees on what its existential
+/// instances of the clauses under the rows and from the lines before it that weren't deleted, and
+/// the last line is the empty clause. Else it answers the first line that isn't derived, or that
+/// the empty clause is missing. A pair may stand in a line by the number of any row that agrees on what its existential
 /// sees.
 pub fn check(alloc: Global, f: &Formula, d: &Dqr) -> Result<(), RefFault>
     requires well_formed { IsWellFormed f.now }
@@ -41,7 +42,7 @@ pub fn check(alloc: Global, f: &Formula, d: &Dqr) -> Result<(), RefFault>
         rows: d.rows.items(),
         bindings: &bindings,
     };
-    let fault = lines_fault(alloc, &e, &d.steps)?;
+    let fault = items_fault(alloc, &e, &d.items)?;
     answer(fault)
 }
 
@@ -55,37 +56,41 @@ fn answer(fault: Option<ProofFault>) -> Result<(), RefFault>
     }
 }
 
-// The first fault of some lines.
-fn lines_fault(alloc: Global, e: &Expansion, steps: &StepList) -> Result<Option<ProofFault>, Memory>
+// The first fault of some items.
+fn items_fault(alloc: Global, e: &Expansion, items: &ItemList) -> Result<Option<ProofFault>, Memory>
     requires frame { IsFrame (frame e.now) }
-    requires numbered { AreSteps (is_pair_number (frame e.now).formula (length (frame e.now).rows))
-        (first_id (frame e.now).formula (length (frame e.now).rows)) steps.now }
+    requires numbered { AreItems (is_pair_number (frame e.now).formula (length (frame e.now).rows))
+        (numbered_from (first_id (frame e.now).formula (length (frame e.now).rows))) items.now }
     ensures { IfOk result (λ fault. proof_fault_in fault
-        ≡ proof_fault (instance_at (frame e.now).formula (frame e.now).rows)
-        (map (normal_step (frame e.now).formula (frame e.now).rows) steps.now)) }
+        ≡ items_fault false (instance_at (frame e.now).formula (frame e.now).rows)
+        (map (normal_item (frame e.now).formula (frame e.now).rows) items.now)) }
 {
     let mut judging = Judging::new(alloc, e)?;
-    judge_all(e, steps, &mut judging)?;
+    judge_all(e, items, &mut judging)?;
     Ok(judging.proving.fault())
 }
 
-// Judges lines up to the first that isn't derived.
-fn judge_all(e: &Expansion, steps: &StepList, judging: &mut Judging) -> Result<(), Memory>
+// Judges items up to the first line that isn't derived.
+fn judge_all(e: &Expansion, items: &ItemList, judging: &mut Judging) -> Result<(), Memory>
     requires frame { IsFrame (frame e.now) }
-    requires numbered { AreSteps (is_pair_number (frame e.now).formula (length (frame e.now).rows))
-        (first_id (frame e.now).formula (length (frame e.now).rows)) steps.now }
+    requires numbered { AreItems (is_pair_number (frame e.now).formula (length (frame e.now).rows))
+        (numbered_from (first_id (frame e.now).formula (length (frame e.now).rows))) items.now }
     requires names { AreNames (frame e.now) judging.old.names }
     requires none { (judging.old.proving.lines ≡ []) × (judging.old.proving.fault ≡ None)
         × (judging.old.proving.finished ≡ false) }
     ensures { OnOk result (fault_so_far judging.new.proving.fault judging.new.proving.finished
-        ≡ proof_fault (instance_at (frame e.now).formula (frame e.now).rows)
-        (map (normal_step (frame e.now).formula (frame e.now).rows) steps.now)) }
+        ≡ items_fault false (instance_at (frame e.now).formula (frame e.now).rows)
+        (map (normal_item (frame e.now).formula (frame e.now).rows) items.now)) }
 {
-    for k in 0..steps.len() {
-        let step = steps.get(k);
-        judging.judge(e, step.id, step.lits, step.hints)?;
-        if judging.proving.underived().is_some() {
-            return Ok(());
+    for k in 0..items.len() {
+        match items.get(k) {
+            Item::Gone(ids) => judging.proving.gone(ids),
+            Item::Line(step) => {
+                judging.judge(e, step.id, step.lits, step.hints)?;
+                if judging.proving.underived().is_some() {
+                    return Ok(());
+                }
+            }
         }
     }
     Ok(())

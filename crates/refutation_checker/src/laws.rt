@@ -9,14 +9,15 @@ ghost use Rattle.cert_text.specs.declared.refutations.Dqr.{Dqr};
 ghost use Rattle.refutation_checker.specs.Rows.{row_of};
 ghost use Rattle.refutation_checker.specs.Refutation.{normal_number, refutation_fault};
 
-use dq_lits::laws::{derivation_refutes_expansion, expansion_lifts};
+use dq_lits::laws::expansion_lifts;
+use rup_core::laws::deleting_derivation_is_sound;
 
 /// A refutation without a fault shows that the formula is false: no choice of functions solves it.
 pub fn refutation_shows_false()
     ensures { (f : Dqbf) (d : Dqr) → IsWellFormed f → refutation_fault f d ≡ None
         → IsFalseFormula f }
 {
-    derivation_refutes_expansion();
+    deleting_derivation_is_sound();
     expansion_lifts();
 }
 

@@ -1,5 +1,5 @@
 use Rattle.std.proofs.Common.{rules, ◌≡◌, Err}
-use Rattle.cert_text.proofs.ReadBodies.{handed_on, rows_stop, steps_stop, whole}
+use Rattle.cert_text.proofs.ReadBodies.{handed_on, rows_stop, items_stop, whole}
 use Rattle.cert_text.proofs.reader.read_body.Goals as goal
 
 pub returns-in_err-rows : goal.returns-in_err-rows
@@ -9,15 +9,15 @@ returns-in_err-rows c =
     handed_on _ stop c.from_residual.result
     (rows_stop c.args.f.now c.args.counts c.args.lines.now c.universals.result.now c.universals.ensures stop c.read_rows.new.lines c.in_err-rows.ensures) same
 
-pub returns-in_err-steps : goal.returns-in_err-steps
-returns-in_err-steps c =
-    let stop = c.in_err-steps.field-0.0 in
-    let same : c.from_residual-in_err-steps.result ≡ Err stop = search rules in
-    handed_on _ stop c.from_residual-in_err-steps.result
-    (steps_stop c.args.f.now c.args.counts c.args.lines.now c.universals.result.now c.universals.ensures c.in_ok-rows.rows c.read_rows.new.lines c.in_ok-rows.ensures
-    c.first_id-id.result c.first_id-id.ensures.id stop c.read_steps.new.lines c.in_err-steps.ensures) same
+pub returns-in_err-items : goal.returns-in_err-items
+returns-in_err-items c =
+    let stop = c.in_err-items.field-0.0 in
+    let same : c.from_residual-in_err-items.result ≡ Err stop = search rules in
+    handed_on _ stop c.from_residual-in_err-items.result
+    (items_stop c.args.f.now c.args.counts c.args.lines.now c.universals.result.now c.universals.ensures c.in_ok-rows.rows c.read_rows.new.lines c.in_ok-rows.ensures
+    c.first_id-id.result c.first_id-id.ensures.id stop c.read_items.new.lines c.in_err-items.ensures) same
 
 pub returns : goal.returns
 returns c =
     whole c.args.f.now c.args.counts c.args.lines.now c.universals.result.now c.universals.ensures c.in_ok-rows.rows c.read_rows.new.lines c.in_ok-rows.ensures
-    c.first_id-id.result c.first_id-id.ensures.id c.in_ok-steps.steps c.read_steps.new.lines c.in_ok-steps.ensures c.in_ok-check_blank.ensures
+    c.first_id-id.result c.first_id-id.ensures.id c.in_ok-items.items c.read_items.new.lines c.in_ok-items.ensures c.in_ok-check_blank.ensures

@@ -9,6 +9,6 @@ use Rattle.cert_text.proofs.writer.write_dqp.Goals as goal
 pub returns-clause-reads_back : goal.returns-clause-reads_back
 returns-clause-reads_back c f net first allowed =
     let d = c.args.d.now in
-    let is : c.write_steps.new.text.items ≡ canonical_proof d = grind (arith, common_steps) in
+    let is : c.write_items.new.text.items ≡ canonical_proof d = grind (arith, common_steps) in
     subst (λ (text : List ℕ). circuit_proof_of f net text first ≡ Ok d) (sym is)
     (spelled_is_read (canonical_proof d) first f net d (canonical_spells f net d allowed))

@@ -11,6 +11,6 @@ returns-clause-reads_back c allowed first =
     let f = c.args.f.now in
     let d = c.args.d.now in
     let lawful = c.every_formula_is_lawful.ensures in
-    let is : c.write_steps.new.text.items ≡ canonical f.universals d = grind (arith, common_steps) in
+    let is : c.write_items.new.text.items ≡ canonical f.universals d = grind (arith, common_steps) in
     subst (λ (text : List ℕ). refutation_of f text first ≡ Ok d) (sym is)
     (spelled_is_read (canonical f.universals d) first f d lawful (canonical_spells f d lawful allowed))

@@ -1,17 +1,14 @@
-use Rattle.std.proofs.Common.{◌≡◌, ap, subst, sym, ◌∙◌, arith}
-use Rattle.rup_core.specs.Runs.{fault_so_far}
-use Rattle.cert_text.specs.CircuitProof.{is_proof_variable}
+use Rattle.std.proofs.Common.{ap, subst, sym, ◌∙◌}
 use Rattle.skolem_checker.specs.Checks.{Candidate}
-use Rattle.proof_checker.specs.CircuitProof.{circuit_proof_fault}
-use Rattle.proof_checker.proofs.JudgedProofs.{first_from_one, lines_numbered}
+use Rattle.proof_checker.specs.CircuitProof.{circuit_proof_fault, negated_candidate}
+use Rattle.proof_checker.specs.Lines.{AreBehind}
+use Rattle.proof_checker.proofs.JudgedProofs.{proof_is_behind}
 use Rattle.proof_checker.proofs.checks.lines_fault.Goals as goal
 
-pub judge_all-requires-clause-from_one : goal.judge_all-requires-clause-from_one
-judge_all-requires-clause-from_one c = first_from_one c.args.bench.now c.args.first c.requires.behind
-
-pub judge_all-requires-clause-numbered : goal.judge_all-requires-clause-numbered
-judge_all-requires-clause-numbered c =
-    lines_numbered (is_proof_variable c.args.bench.now.formula c.args.bench.now.circuit.netlist) c.args.steps.now c.args.first c.requires.lines
+pub judge_all-requires-clause-behind : goal.judge_all-requires-clause-behind
+judge_all-requires-clause-behind c =
+    subst (λ (k : Candidate). AreBehind (negated_candidate k) c.args.items.now) (sym c.in_ok-matrix.ensures)
+    (proof_is_behind c.args.bench.now c.args.items.now c.requires)
 
 pub returns : goal.returns
-returns c = c.fault.ensures ∙ c.in_ok-judge_all.ensures ∙ ap (λ (k : Candidate). circuit_proof_fault k c.args.steps.now) c.in_ok-matrix.ensures
+returns c = c.fault.ensures ∙ c.in_ok-judge_all.ensures ∙ ap (λ (k : Candidate). circuit_proof_fault k c.args.items.now) c.in_ok-matrix.ensures

@@ -1,4 +1,4 @@
-use Rattle.std.proofs.Common.{◌∙◌, sym}
+use Rattle.std.proofs.Common.{sym}
 use Rattle.refutation_checker.proofs.BoundVariables.{universal_bound}
 use Rattle.refutation_checker.proofs.bindings.bind_universal.Goals as goal
 

@@ -1,4 +1,4 @@
-use Rattle.std.proofs.Common.{◌≡◌, Bool, List, get_or}
+use Rattle.std.proofs.Common.{get_or}
 use Rattle.std.proofs.lemmas.List.{get_or_default}
 use Rattle.dq_lits.specs.Literal.{variable_of}
 use Rattle.refutation_checker.specs.PairNames.{frame}

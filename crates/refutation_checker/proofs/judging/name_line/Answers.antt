@@ -1,4 +1,4 @@
-use Rattle.std.proofs.Common.{◌+◌, ◌-◌, ◌/◌, ◌%◌, ap, ◌∙◌}
+use Rattle.std.proofs.Common.{◌+◌, ◌-◌, ◌/◌, ◌%◌}
 use Rattle.refutation_checker.specs.PairNames.{frame, names_in}
 use Rattle.refutation_checker.proofs.NamedLines.{then_extends}
 use Rattle.refutation_checker.proofs.PairNumbers.{named_by}

@@ -1,8 +1,10 @@
 use Rattle.std.proofs.Common.{map}
-use Rattle.refutation_checker.specs.Refutation.{normal_step}
+use Rattle.dq_lits.specs.Expansion.{instance_at}
+use Rattle.refutation_checker.specs.Refutation.{normal_item}
+use Rattle.refutation_checker.proofs.TrueInstances.{instances_true}
 use Rattle.refutation_checker.proofs.laws.refutation_shows_false.Goals as goal
 
 pub returns : goal.returns
 returns c f d well_formed none =
     c.expansion_lifts.ensures f d.rows well_formed
-    (c.derivation_refutes_expansion.ensures f d.rows (map (normal_step f d.rows) d.steps) none)
+    (λ m model. c.deleting_derivation_is_sound.ensures (instance_at f d.rows) (map (normal_item f d.rows) d.items) none m (instances_true f d.rows m model))

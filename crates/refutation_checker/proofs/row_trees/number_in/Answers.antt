@@ -1,6 +1,6 @@
 use Rattle.std.proofs.Common.{◌≡◌, ◌<◌, [], length, sym, ◌∙◌, ap, subst, arith}
 use Rattle.std.proofs.lemmas.List.{get_or_default}
-use Rattle.refutation_checker.specs.RowTrees.{sees_of, number_or, reached, found, IsStanding}
+use Rattle.refutation_checker.specs.RowTrees.{sees_of, number_or, reached, IsStanding}
 use Rattle.refutation_checker.specs.Rows.{row_of}
 use Rattle.refutation_checker.specs.declared.row_trees.Standing.TheVariants.{Numbered, Differs}
 use Rattle.refutation_checker.proofs.BoundVariables.{few_places}

@@ -1,4 +1,4 @@
-use Rattle.std.proofs.Common.{◌≡◌, ◌<◌, ◌+◌, length, get_or, ap, subst, sym, ◌∙◌, arith}
+use Rattle.std.proofs.Common.{◌≡◌, ◌+◌, length, get_or, ap, ◌∙◌, arith}
 use Rattle.refutation_checker.specs.Bindings.{variable_at}
 use Rattle.refutation_checker.proofs.BoundVariables.{few_places, variable_small, bind_done}
 use Rattle.refutation_checker.proofs.bindings.Bindings.bind.Goals as goal

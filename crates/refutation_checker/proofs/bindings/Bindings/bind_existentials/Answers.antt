@@ -1,4 +1,4 @@
-use Rattle.std.proofs.Common.{◌≡◌, ◌<◌, ◌≤◌, length, arith}
+use Rattle.std.proofs.Common.{◌<◌, length, arith}
 use Rattle.refutation_checker.proofs.BoundVariables.{bound_more, all_bound, leader_sees}
 use Rattle.refutation_checker.proofs.bindings.Bindings.bind_existentials.Goals as goal
 

@@ -1,8 +1,6 @@
-use Rattle.std.proofs.Common.{◌≡◌, ◌+◌, ℕ, List, true, sym, ◌∙◌, ap, subst}
-use Rattle.dq_lits.specs.Literal.{Literal}
-use Rattle.rup_core.specs.Judging.{is_faulty}
+use Rattle.std.proofs.Common.{◌+◌, sym, ◌∙◌, ap, subst}
 use Rattle.rup_core.specs.Proving.{ProofState}
-use Rattle.refutation_checker.specs.Judging.{AreLines, AreBehind, HintsLeft}
+use Rattle.refutation_checker.specs.Judging.{AreLines}
 use Rattle.refutation_checker.specs.PairNames.{frame, names_in}
 use Rattle.refutation_checker.proofs.NamedLines.{then_extends, lines_later, hints_next, hints_end, hints_fault}
 use Rattle.refutation_checker.proofs.ReadClauses.{drop_at, drop_end}

@@ -1,10 +1,10 @@
-use Rattle.std.proofs.Common.{◌≡◌, [], None, List, sym, ◌∙◌, ap, subst}
+use Rattle.std.proofs.Common.{◌≡◌, [], None, sym, ◌∙◌, ap, subst}
 use Rattle.rup_core.specs.Judging.{is_derived_by, derive_line}
 use Rattle.rup_core.specs.Proving.{ProofState}
-use Rattle.refutation_checker.specs.Judging.{AreNamed, AreLines, IsJudged, normal_literals, is_line}
+use Rattle.refutation_checker.specs.Judging.{AreNamed, AreLines, IsJudged, normal_literals}
 use Rattle.refutation_checker.specs.PairNames.{frame, names_in}
 use Rattle.refutation_checker.specs.declared.pair_names.PairNames.{PairNames}
-use Rattle.refutation_checker.proofs.NamedLines.{then_extends, named_later, lines_later, hints_begin, line_judged}
+use Rattle.refutation_checker.proofs.NamedLines.{named_later, lines_later, hints_begin, line_judged}
 use Rattle.refutation_checker.proofs.judging.Judging.judge.Goals as goal
 
 pub returns-clause-judged : goal.returns-clause-judged

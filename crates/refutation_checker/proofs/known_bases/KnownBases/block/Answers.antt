@@ -1,4 +1,4 @@
-use Rattle.std.proofs.Common.{◌≡◌, ◌<◌, false, Some, length, sym, ◌∙◌, ap, arith}
+use Rattle.std.proofs.Common.{◌≡◌, false, Some, length, sym, ◌∙◌, ap, arith}
 use Rattle.number_tables.specs.Numbers.{has_number}
 use Rattle.refutation_checker.proofs.KnownBases.{block_more}
 use Rattle.refutation_checker.proofs.known_bases.KnownBases.block.Goals as goal

@@ -1,4 +1,4 @@
-use Rattle.std.proofs.Common.{◌≡◌, ◌==◌, ◌+◌, cond, refl, sym, ap, arith}
+use Rattle.std.proofs.Common.{◌+◌, cond, refl, sym, ap, arith}
 use Rattle.std.proofs.lemmas.Bool.{eq-eqb, ne_eqb}
 use Rattle.refutation_checker.specs.PairNames.{frame}
 use Rattle.refutation_checker.proofs.GivenNames.{name_read, tree_read, size_read}

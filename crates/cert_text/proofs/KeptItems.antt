@@ -1,0 +1,49 @@
+-- Items that are kept as steps.
+use Rattle.std.proofs.Common.{◌≡◌, ℕ, zero, suc, ◌+◌, ◌≤◌, false, ◌||◌, cond, List, [], ◌∷◌, ◌++◌, map, length, drop, Some, refl, sym, ◌∙◌, ap, ap₂, arith, append_assoc}
+use Rattle.std.specs.List.{AllByRecursion, flat_map, list_any, slice_get}
+use Rattle.std.proofs.lemmas.Bool.{ne_eqb}
+use Rattle.dq_lits.specs.Derivation.{ProofStep}
+use Rattle.rup_core.specs.Items.{ProofItem, derived, gone}
+use Rattle.cert_text.specs.Canonical.{item_text}
+use Rattle.cert_text.specs.KeptItems.{kept_item, is_deletion}
+
+-- a line is kept as it is
+pub line_kept : (step : ProofStep) → 1 ≤ step.id → kept_item step ≡ derived step
+line_kept step some = ap (λ b. cond b (gone step.hints) (derived step)) (ne_eqb step.id 0 (λ e. omega (arith, some, e)))
+
+pub lines_kept : (steps : List ProofStep) → AllByRecursion (λ step. 1 ≤ step.id) steps → map kept_item steps ≡ map derived steps
+lines_kept [] some = refl
+lines_kept (step ∷ steps) some = ap₂ (λ item items. item ∷ items) (line_kept step some.0) (lines_kept steps some.1)
+
+pub item_at : (steps : List ProofStep) (k : ℕ) (step : ProofStep) → slice_get steps k ≡ Some step → slice_get (map kept_item steps) k ≡ Some (kept_item step)
+item_at [] k step h = cc
+item_at (s ∷ steps) zero step h = let same : s ≡ step = cc in ap (λ x. Some (kept_item x)) same
+item_at (s ∷ steps) (suc k) step h = item_at steps k step h
+
+got : (xs : List ProofItem) (k : ℕ) (x : ProofItem) → slice_get xs k ≡ Some x → drop k xs ≡ x ∷ drop (suc k) xs
+got [] k x h = cc
+got (y ∷ ys) zero x h = let same : y ≡ x = cc in ap (λ z. z ∷ ys) same
+got (y ∷ ys) (suc k) x h = got ys k x h
+
+-- one item more is written
+pub item_written : (items : List ProofItem) (k : ℕ) (item : ProofItem) (text more start : List ℕ) → slice_get items k ≡ Some item → more ≡ text ++ item_text item →
+    text ++ flat_map item_text (drop k items) ≡ start → more ++ flat_map item_text (drop (k + 1) items) ≡ start
+item_written items k item text more start is written so_far =
+    let next : k + 1 ≡ suc k = omega arith in
+    ap₂ (λ a n. a ++ flat_map item_text (drop n items)) written next
+    ∙ append_assoc text (item_text item) (flat_map item_text (drop (suc k) items))
+    ∙ ap (λ rest. text ++ flat_map item_text rest) (sym (got items k item is))
+    ∙ so_far
+
+-- one item more is looked at
+pub deletion_at : (items : List ProofItem) (k : ℕ) (item : ProofItem) → slice_get items k ≡ Some item →
+    list_any is_deletion (drop k items) ≡ is_deletion item || list_any is_deletion (drop (k + 1) items)
+deletion_at items k item is =
+    let next : suc k ≡ k + 1 = omega arith in
+    ap (list_any is_deletion) (got items k item is) ∙ ap (λ n. is_deletion item || list_any is_deletion (drop n items)) next
+
+pub none_left : (items : List ProofItem) (k : ℕ) → length items ≤ k → list_any is_deletion (drop k items) ≡ false
+none_left [] zero le = refl
+none_left [] (suc k) le = refl
+none_left (item ∷ items) zero le = absurd (omega (arith, le))
+none_left (item ∷ items) (suc k) le = none_left items k (omega (arith, le))

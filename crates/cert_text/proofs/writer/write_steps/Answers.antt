@@ -1,8 +1,0 @@
-use Rattle.cert_text.specs.Steps.{step_seen}
-use Rattle.cert_text.proofs.KeptSteps.{step_written}
-use Rattle.cert_text.proofs.writer.write_steps.Goals as goal
-
-pub loop-k-preserved : goal.loop-k-preserved
-loop-k-preserved c =
-    step_written c.args.steps.now c.loop-k.k (step_seen c.get.result) c.loop-k.text.items c.write_step.new.text.items _
-    c.get.ensures c.in_ok-write_step.ensures c.loop-k.invariant

@@ -1,0 +1,141 @@
+//! Lines of a proof.
+
+ghost use Rattle.std.specs.Prelude.{◌≡◌, ◌<◌, ◌^◌, nat_abs, map};
+ghost use Rattle.std.specs.Option.{option_map};
+ghost use Rattle.dq_text.specs.Line.{line_tokens};
+ghost use Rattle.cert_text.specs.ItemLine.{as_item, checked_ids, deletion_of, deleted_ids, item_line, marked_line};
+ghost use Rattle.cert_text.specs.LineIds.{numbering};
+ghost use Rattle.cert_text.specs.LineStop.{IsMadeOf, and_then};
+ghost use Rattle.cert_text.specs.ReadItem.{GoesOn, IsItemOf};
+ghost use Rattle.cert_text.specs.StepLine.{step_line};
+ghost use Rattle.cert_text.specs.Variables.{is_variable};
+
+use crate::faults::{CertFault, LineStop};
+use crate::line_ids::LineIds;
+use crate::numbers::take_integers;
+use crate::step_lines::{StepBuffers, are_positive, before_zero, keep_hints, read_step};
+use crate::variables::Variables;
+use crate::versions::Version;
+use dq_text::{LineTokens, is_word};
+
+/// What was read of a line. A step's literals and hints stand in the buffers, or else the ids that
+/// are deleted, in the place of hints.
+#[derive(Clone, Copy)]
+pub enum ItemRead {
+    /// A step with this id.
+    Line(u64),
+    /// Ids that are deleted.
+    Gone,
+}
+
+/// What the lines of a proof may be.
+#[derive(Clone, Copy)]
+pub struct ProofLines<'a> {
+    pub version: Version,
+    /// The variables that literals may stand on.
+    pub variables: Variables<'a>,
+}
+
+/// Reads the next line of a proof.
+pub fn read_item(
+    kind: ProofLines,
+    line: &[u8],
+    ids: &mut LineIds,
+    buffers: &mut StepBuffers,
+) -> Result<ItemRead, LineStop>
+    requires { ids.old.first < 2 ^ 127 }
+    ensures item { IsItemOf (item_line kind.entry.version (is_variable kind.entry.variables)
+        (numbering ids.old) (line_tokens line.now)) result buffers.new.literals.items
+        buffers.new.hints.items }
+    ensures numbering { GoesOn (numbering ids.old) (numbering ids.new) result
+        buffers.new.literals.items buffers.new.hints.items }
+    ensures first { ids.new.first ≡ ids.old.first }
+{
+    match kind.version {
+        Version::One => read_line(kind.variables, line, ids, buffers),
+        Version::Two => read_marked(kind.variables, line, ids, buffers),
+    }
+}
+
+// The same in version 2.
+fn read_marked(
+    variables: Variables,
+    line: &[u8],
+    ids: &mut LineIds,
+    buffers: &mut StepBuffers,
+) -> Result<ItemRead, LineStop>
+    requires { ids.old.first < 2 ^ 127 }
+    ensures item { IsItemOf (marked_line (is_variable variables.entry) (numbering ids.old)
+        (line_tokens line.now)) result buffers.new.literals.items buffers.new.hints.items }
+    ensures numbering { GoesOn (numbering ids.old) (numbering ids.new) result
+        buffers.new.literals.items buffers.new.hints.items }
+    ensures first { ids.new.first ≡ ids.old.first }
+{
+    let mut tokens = LineTokens::new(line);
+    match tokens.next() {
+        Some(letter) if is_word(letter, b"d") => take_deletion(&mut tokens, ids, buffers),
+        _ => read_line(variables, line, ids, buffers),
+    }
+}
+
+// Reads a step's line.
+fn read_line(
+    variables: Variables,
+    line: &[u8],
+    ids: &mut LineIds,
+    buffers: &mut StepBuffers,
+) -> Result<ItemRead, LineStop>
+    requires { ids.old.first < 2 ^ 127 }
+    ensures item { IsItemOf (as_item (step_line (is_variable variables.entry)
+        (numbering ids.old).next (line_tokens line.now))) result buffers.new.literals.items
+        buffers.new.hints.items }
+    ensures numbering { GoesOn (numbering ids.old) (numbering ids.new) result
+        buffers.new.literals.items buffers.new.hints.items }
+    ensures first { ids.new.first ≡ ids.old.first }
+{
+    let id = read_step(variables, ids.next(), line, buffers)?;
+    ids.push()?;
+    Ok(ItemRead::Line(id))
+}
+
+// Reads what stands behind the `d` of a deletion.
+fn take_deletion(
+    tokens: &mut LineTokens,
+    ids: &mut LineIds,
+    buffers: &mut StepBuffers,
+) -> Result<ItemRead, LineStop>
+    ensures item { IsItemOf (and_then (checked_ids (numbering ids.old)) (deleted_ids tokens.old))
+        result buffers.new.literals.items buffers.new.hints.items }
+    ensures numbering { GoesOn (numbering ids.old) (numbering ids.new) result
+        buffers.new.literals.items buffers.new.hints.items }
+    ensures first { ids.new.first ≡ ids.old.first }
+{
+    take_ids(tokens, buffers)?;
+    if !ids.delete_all(&buffers.hints) {
+        return Err(LineStop::Fault(CertFault::NotLive));
+    }
+    Ok(ItemRead::Gone)
+}
+
+// Puts the ids of a deletion in place of the hints in the buffer.
+fn take_ids(tokens: &mut LineTokens, buffers: &mut StepBuffers) -> Result<(), LineStop>
+    ensures { IsMadeOf (deleted_ids tokens.old) result buffers.new.hints.items }
+{
+    take_integers(tokens, &mut buffers.integers)?;
+    let Some(ids) = deletion_numbers(&buffers.integers) else {
+        return Err(LineStop::Fault(CertFault::BadLine));
+    };
+    keep_hints(ids, &mut buffers.hints)?;
+    Ok(())
+}
+
+// At least one id, each positive, 0, and nothing more.
+fn deletion_numbers(integers: &[i64]) -> Option<&[i64]>
+    ensures { option_map (λ ids. map nat_abs ids.now) result ≡ deletion_of integers.now }
+{
+    let (ids, more) = before_zero(integers)?;
+    if ids.is_empty() || !are_positive(ids) || !more.is_empty() {
+        return None;
+    }
+    Some(ids)
+}
