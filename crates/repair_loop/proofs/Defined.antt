@@ -29,7 +29,6 @@ use Rattle.padoa_definitions.specs.Defining.{IsFound}
 use Rattle.padoa_definitions.specs.declared.defining.Found.{Found}
 use Rattle.padoa_definitions.specs.declared.defining.Found.TheVariants.{Defined, Free}
 use Rattle.padoa_definitions.specs.Guessing.{IsGuess as IsRightGuess}
-use Rattle.padoa_definitions.specs.declared.guessing.Guess.{Guess}
 use Rattle.padoa_definitions.specs.declared.guessing.Guess.TheVariants.{Node as NodeFound}
 use Rattle.padoa_definitions.specs.Forcing.{IsForced}
 use Rattle.padoa_definitions.specs.declared.forcing.Forced.{Forced}

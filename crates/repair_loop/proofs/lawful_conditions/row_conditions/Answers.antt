@@ -1,7 +1,6 @@
 use Rattle.std.proofs.Common.{◌≡◌, ◌∙◌, ◌<◌, ◌≤◌, ◌+◌, ◌^◌, ◌++◌, ◌∷◌, [], length, map, take, get_or, refl, sym, ap, subst, arith}
 use Rattle.std.proofs.lemmas.List.{take_more, map-append}
 use Rattle.dq_lits.specs.Literal.{variable_of}
-use Rattle.repair_loop.specs.Guessing.{AreConditions}
 use Rattle.repair_loop.proofs.ConsistentConditions.{no_conditions, next_universal, universal_range}
 use Rattle.repair_loop.proofs.lawful_conditions.row_conditions.Goals as goal
 

@@ -1,17 +1,47 @@
 use Rattle.std.proofs.Common.{rules, ◌≡◌, ◌∙◌, ap, sym, subst, Ok, Err, arith}
 use Rattle.oracle.proofs.SomeLimits.{some_limit}
 use Rattle.std.specs.List.{All}
-use Rattle.hint_log.specs.Entries.{steps_of}
+use Rattle.hint_log.specs.Deciding.{IsUndecided}
+use Rattle.hint_log.specs.Entries.{ProofLog, steps_of}
+use Rattle.log_laws.specs.Engines.{circuits}
+use Rattle.circuit_cnf.specs.Checking.{group_of}
 use Rattle.hint_log.specs.declared.stops.Stop.TheVariants.{Limit}
 use Rattle.circuit_cnf.specs.Failing.{is_silent, IsFailure}
 use Rattle.circuit_cnf.specs.Shown.{HoldEverywhere, IsShownBy}
 use Rattle.aig_graph.specs.Outputs.{ReadsUniversals, outputs_of}
-use Rattle.repair_loop.specs.Searching.{IsRoundLogged, IsShownTrue}
+use Rattle.repair_loop.specs.Searching.{IsKept, IsRoundLogged, IsShownTrue}
 use Rattle.repair_loop.specs.Stopping.{IsStoppedAtLimit}
 use Rattle.repair_loop.proofs.Stops.{by_lemma, by_round}
-use Rattle.repair_loop.proofs.Stages.{outputs_supported, after_turn, after_round, log_grew, log_same, log_then, round_grew, round_counts, steps_left}
+use Rattle.repair_loop.proofs.Stages.{on_err, outputs_supported, still_kept, still_undecided, after_turn, after_round, log_grew, log_same, log_then, round_grew, round_counts, steps_left}
 use Rattle.repair_loop.proofs.UniversalInputs.{outputs_read_universals}
 use Rattle.repair_loop.proofs.decisions.Engines.judge_by_solver.Goals as goal
+
+pub returns-in_err-id-clause-kept : goal.returns-in_err-id-clause-kept
+returns-in_err-id-clause-kept g c =
+    still_kept c.engines_leave_the_rest.ensures c.args.f.now circuits (group_of c.args.self.now.checker) _ c.args.log.now c.turn.new.log
+    c.turn.ensures.turned.grew c.requires.search.kept
+
+pub returns-in_err-id-clause-undecided : goal.returns-in_err-id-clause-undecided
+returns-in_err-id-clause-undecided g c =
+    on_err _ _ (still_undecided c.engines_leave_the_rest.ensures c.args.f.now circuits (group_of c.args.self.now.checker) (is_silent c.turn.result)
+    c.args.log.now c.turn.new.log (ap is_silent c.in_err-id.was) c.turn.ensures.turned.grew c.requires.search.undecided)
+
+pub returns-in_err-round-in-Fails-clause-kept : goal.returns-in_err-round-in-Fails-clause-kept
+returns-in_err-round-in-Fails-clause-kept g c =
+    subst (λ (l : ProofLog). IsKept c.args.f.now l.entries) (sym c.in_err-round-in-Fails.ensures.err)
+    (still_kept c.engines_leave_the_rest.ensures c.args.f.now circuits (group_of c.args.self.now.checker) _ c.args.log.now c.turn.new.log
+    c.turn.ensures.turned.grew c.requires.search.kept)
+
+pub returns-in_err-round-in-Fails-clause-undecided : goal.returns-in_err-round-in-Fails-clause-undecided
+returns-in_err-round-in-Fails-clause-undecided g c =
+    on_err _ _ (subst (λ (l : ProofLog). IsUndecided c.args.f.now l.entries) (sym c.in_err-round-in-Fails.ensures.err)
+    (still_undecided c.engines_leave_the_rest.ensures c.args.f.now circuits (group_of c.args.self.now.checker) (is_silent c.turn.result)
+    c.args.log.now c.turn.new.log (ap is_silent (c.in_ok-id.was ∙ ap Ok c.in-Fails.is)) c.turn.ensures.turned.grew c.requires.search.undecided))
+
+pub returns-in-Holds-clause-kept : goal.returns-in-Holds-clause-kept
+returns-in-Holds-clause-kept g c =
+    still_kept c.engines_leave_the_rest.ensures c.args.f.now circuits (group_of c.args.self.now.checker) _ c.args.log.now c.turn.new.log
+    c.turn.ensures.turned.grew c.requires.search.kept
 
 pub returns-in_err-id-clause-grew : goal.returns-in_err-id-clause-grew
 returns-in_err-id-clause-grew g c = log_grew _ c.args.log.now c.turn.new.log c.turn.ensures.turned.grew

@@ -1,4 +1,4 @@
-use Rattle.std.proofs.Common.{rules, ◌≡◌, refl, ap, sym, subst, Ok, Err, arith}
+use Rattle.std.proofs.Common.{rules, ◌≡◌, refl, ap, sym, subst, Err, arith}
 use Rattle.hint_log.specs.Deciding.{IsUndecided}
 use Rattle.hint_log.specs.Entries.{ProofLog, steps_of}
 use Rattle.hint_log.specs.declared.stops.Stop.TheVariants.{Limit}

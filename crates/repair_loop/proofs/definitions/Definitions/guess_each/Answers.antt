@@ -1,4 +1,4 @@
-use Rattle.std.proofs.Common.{◌≡◌, ◌∙◌, ◌<◌, length, set, refl, sym, ap, arith, length-set}
+use Rattle.std.proofs.Common.{◌≡◌, ◌∙◌, ◌<◌, length, refl, ap, arith, length-set}
 use Rattle.std.proofs.lemmas.List.{length-map}
 use Rattle.candidate_functions.proofs.LargerGraphs.{extends-refl, extends-trans}
 use Rattle.dq_formula.specs.Prefix.{existential_variables}

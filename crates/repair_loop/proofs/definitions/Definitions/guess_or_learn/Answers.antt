@@ -1,7 +1,7 @@
 use Rattle.std.proofs.Common.{◌∙◌, refl, subst}
 use Rattle.candidate_functions.proofs.LargerGraphs.{extends-trans}
 use Rattle.padoa_definitions.specs.Guessing.{IsGuess}
-use Rattle.repair_loop.proofs.Defined.{still_fresh, left-trans, found_guess}
+use Rattle.repair_loop.proofs.Defined.{still_fresh, found_guess}
 use Rattle.repair_loop.proofs.definitions.Definitions.guess_or_learn.Goals as goal
 
 pub learn_clash-requires-clause-inputs : goal.learn_clash-requires-clause-inputs

@@ -1,8 +1,7 @@
-use Rattle.std.proofs.Common.{◌≡◌, ◌∙◌, refl, sym, subst, ap, arith}
+use Rattle.std.proofs.Common.{◌≡◌, ◌∙◌, sym, subst, ap, arith}
 use Rattle.std.proofs.lemmas.Bool.{eqb-true}
 use Rattle.oracle.specs.Limits.{IsAtSomeLimit}
 use Rattle.hint_log.specs.Entries.{ProofLog}
-use Rattle.repair_loop.specs.Searching.{IsFresh}
 use Rattle.repair_loop.proofs.Defined.{found_within}
 use Rattle.repair_loop.proofs.definitions.Definitions.guess_within.Goals as goal
 
