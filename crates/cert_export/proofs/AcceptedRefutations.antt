@@ -8,14 +8,16 @@ use Rattle.std.proofs.lemmas.Nat.{div-mul-add, mod-mul-add}
 use Rattle.dq_lits.specs.Literal.{Literal, positive, negative, variable_of, on_variable}
 use Rattle.dq_lits.specs.Formula.{Dqbf, existential_of, IsWellFormed}
 use Rattle.dq_lits.specs.Expansion.{agree_on, instance_at}
-use Rattle.dq_lits.specs.Derivation.{is_empty, proof_fault}
+use Rattle.dq_lits.specs.Derivation.{ProofStep, is_empty}
 use Rattle.hint_log.specs.Entries.{has_id, numbered, last_id, name_of}
 use Rattle.hint_log.specs.Reached.{Reaches, AreReached}
 use Rattle.hint_log.specs.declared.origins.Origin.{Origin}
 use Rattle.hint_log.specs.Entries.{Given, Answer}
 use Rattle.hint_log.specs.declared.names.Name.{Name}
 use Rattle.hint_log.specs.Entries.{Entry}
-use Rattle.refutation_checker.specs.Refutation.{normal_of, normal_number, normal_literal, normal_step}
+use Rattle.refutation_checker.specs.Refutation.{normal_of, normal_number, normal_literal, normal_step, normal_item, refutation_fault}
+use Rattle.rup_core.specs.Items.{derived, items_fault}
+use Rattle.rup_core.proofs.DeletedClauses.{steps_alone}
 use Rattle.hint_log.specs.Naming.{rows_of}
 use Rattle.cert_export.specs.Renaming.{Renaming, IsInjective, renamed_clause, IsPartOf}
 use Rattle.expansion.specs.Table.{IsRefutedBy}
@@ -148,6 +150,11 @@ module _ (f : Dqbf) (entries : List Entry) (id : ℕ) (lawful : Each MayFollow e
           by_option None e = refl
           by_option (Some x) e = let both : None ≡ Some x = sym (ap (pair_of f (rows_of entries)) there) ∙ part v x e in cc
 
+-- lines are put on their pairs one by one
+normal_lines : (f : Dqbf) (all : List (List Bool)) (steps : List ProofStep) → map (normal_item f all) (map derived steps) ≡ map derived (map (normal_step f all) steps)
+normal_lines f all [] = refl
+normal_lines f all (s ∷ ss) = ap (λ items. derived (normal_step f all s) ∷ items) (normal_lines f all ss)
+
 module _ (f : Dqbf) (live : List ℕ) (entries : List Entry) (id : ℕ) (ids : List ℕ) (r : Renaming) (well : IsWellFormed f) (lawful : AreLogged entries)
     (given : EachGivenReached (IsInstanceClause f live entries) entries id)
     (shown : IsRefutedBy entries id) (are : AreReached entries id ids) (names : IsPairRenaming f entries ids r) where
@@ -178,11 +185,13 @@ module _ (f : Dqbf) (live : List ℕ) (entries : List Entry) (id : ℕ) (ids : L
   finished = are_finished IsUsed entries lawful id (exported_number f entries ids) (last_instance f entries) numbers used r ids are
       (ap is_derived (answer_at f entries id lawful shown)) (answer_empty f entries id lawful shown r names.right)
 
-  accepted : Each IsDerivedByHints entries → proof_fault (instance_at f (rows_of entries)) (map (normal_step f (rows_of entries)) (exported_steps f live entries ids r)) ≡ None
-  accepted derived =
-      ap (proof_fault (instance_at f (rows_of entries))) (normal_steps f well entries r names.right (instance_id live C) (exported_number f entries ids) (derived_ids entries ids))
+  accepted : Each IsDerivedByHints entries → refutation_fault f (record { rows = rows_of entries; items = map derived (exported_steps f live entries ids r) }) ≡ None
+  accepted lemmas =
+      ap (items_fault false (instance_at f (rows_of entries))) (normal_lines f (rows_of entries) (exported_steps f live entries ids r)
+      ∙ ap (map derived) (normal_steps f well entries r names.right (instance_id live C) (exported_number f entries ids) (derived_ids entries ids)))
+      ∙ steps_alone false (instance_at f (rows_of entries)) (exported_steps f live entries ids r)
       ∙ lines_are_derived r (instance_id live C) IsUsed (instance_at f (rows_of entries)) (last_instance f entries) entries (exported_number f entries ids) (derived_ids entries ids)
-      injective lawful derived base_right lines false finished
+      injective lawful lemmas base_right lines false finished
 
   allowed : AreSteps (is_pair_number f (length (rows_of entries))) (first_id f (length (rows_of entries))) (exported_steps f live entries ids r)
   allowed =
@@ -193,7 +202,7 @@ module _ (f : Dqbf) (live : List ℕ) (entries : List Entry) (id : ℕ) (ids : L
       lines (consecutive base (derived_ids entries ids) rising) (omega arith) (λ h inside. absurd (let b = inside.1 in omega arith))
 
 pub exported_answer_refutes : ExportedAnswerRefutes
-exported_answer_refutes f live entries id ids r well lawful given derived shown are names = accepted f live entries id ids r well lawful given shown are names derived
+exported_answer_refutes f live entries id ids r well lawful given lemmas shown are names = accepted f live entries id ids r well lawful given shown are names lemmas
 
 pub exported_lines_are_allowed : ExportedLinesAreAllowed
 exported_lines_are_allowed f live entries id ids r well lawful given shown are names = allowed f live entries id ids r well lawful given shown are names

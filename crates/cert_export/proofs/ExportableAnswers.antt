@@ -1,5 +1,5 @@
 -- What an answer reaches can be exported.
-use Rattle.std.proofs.Common.{◌≡◌, ℕ, ◌+◌, ◌*◌, ◌≤◌, mul-le-mul_right, true, false, List, [], ◌∷◌, length, get_or, Option, None, Some, refl, sym, ◌∙◌, ap, subst, arith}
+use Rattle.std.proofs.Common.{◌≡◌, ℕ, ◌+◌, ◌*◌, ◌≤◌, mul-le-mul_right, Bool, map, true, false, List, [], ◌∷◌, length, get_or, Option, None, Some, refl, sym, ◌∙◌, ap, subst, arith}
 use Rattle.std.specs.List.{All}
 use Rattle.dq_lits.specs.Derivation.{is_tautology, IsDerived, ProofStep}
 use Rattle.dq_lits.specs.Formula.{Dqbf, IsWellFormed}
@@ -7,7 +7,7 @@ use Rattle.hint_log.specs.Entries.{Entry, Named, Given, Learned, Answer, Round, 
 use Rattle.hint_log.specs.Growth.{Each}
 use Rattle.hint_log.specs.ProductiveLog.{IsDerivedByHints, RefutesNewRow}
 use Rattle.log_laws.proofs.Found.{each_at, split_at}
-use Rattle.cert_export.specs.Exportable.{IsKnownInstance, AreExportable, AreExportedSteps}
+use Rattle.cert_export.specs.Exportable.{IsKnownInstance, AreExportable, AreExportedSteps, AreExportedItems}
 use Rattle.cert_export.specs.Exported.{IsPairRenaming, last_instance, exported_steps, CanExportFalse}
 use Rattle.cert_export.specs.Expansion.{instance_id}
 use Rattle.cert_export.specs.Lines.{is_derived, clause_or_empty, line_clause, line_number, line_steps, derived_ids}
@@ -18,7 +18,10 @@ use Rattle.std.proofs.lemmas.List.Elements.{All-nil, All-push, Contains-get_or}
 use Rattle.hint_log.specs.Conditions.{IsId, AreLogged}
 use Rattle.hint_log.specs.Naming.{rows_of}
 use Rattle.hint_log.specs.Reached.{Reaches, by_hint, AreReached}
-use Rattle.cert_text.specs.Grammar.{AreSteps, IsDqrOf}
+use Rattle.cert_text.specs.Grammar.{AreItems, IsDqrOf}
+use Rattle.cert_text.specs.Numbering.{numbered_from}
+use Rattle.cert_text.proofs.StepsAlone.{steps_are_items}
+use Rattle.rup_core.specs.Items.{derived}
 use Rattle.cert_text.specs.Pairs.{is_pair_number}
 use Rattle.cert_text.specs.Scan.{first_id}
 use Rattle.cert_text.specs.declared.refutations.Dqr.{Dqr}
@@ -42,7 +45,7 @@ module _ (f : Dqbf) (live : List ℕ) (entries : List Entry) (ids : List ℕ) (e
     injective v w x h k = pairs_are_injective f e.well_formed entries e.logged v w x (names.right v x h) (names.right w x k)
 
     consistent : (id : ℕ) → is_derived (numbered has_id entries id) ≡ true → is_tautology (line_clause r entries id) ≡ false
-    consistent id derived = by_entry (numbered has_id entries id) refl derived where
+    consistent id is_lemma = by_entry (numbered has_id entries id) refl is_lemma where
       by_entry : (o : Option Entry) → numbered has_id entries id ≡ o → is_derived o ≡ true → is_tautology (renamed_clause r (clause_or_empty (numbered has_id entries id))) ≡ false
       by_entry None at d = cc
       by_entry (Some (Named v n)) at d = cc
@@ -64,7 +67,7 @@ module _ (f : Dqbf) (live : List ℕ) (entries : List Entry) (ids : List ℕ) (e
       are_ids = e.are_ids;
       closed = e.closed;
       known = λ id origin c inside at. known_given f live entries e.well_formed e.logged e.few_rounds e.numbers_ascend id origin c (e.instances id origin c inside at) at;
-      consistent = λ id inside derived. consistent id derived;
+      consistent = λ id inside is_lemma. consistent id is_lemma;
     }
 
 -- lines that are written so are exported
@@ -118,22 +121,28 @@ rows_whole f (Begun live ∷ es) h = rows_whole f es h.1
 
 -- the checker finds no fault in the exported lines
 pub exported_accepted : (f : Dqbf) (live : List ℕ) (entries : List Entry) (id : ℕ) (ids : List ℕ) (d : Dqr) → AreExportable f live entries ids → CanExportFalse f live entries id → AreReached entries id ids
-    → d.rows ≡ rows_of entries → AreExportedSteps f live entries ids d.steps → refutation_fault f d ≡ None
-exported_accepted f live entries id ids d e can are rows steps =
-    let same : d ≡ record { rows = rows_of entries; steps = exported_steps f live entries ids steps.0 } = ap (λ rs. record { rows = rs; steps = d.steps }) rows ∙ ap (λ ss. record { rows = rows_of entries; steps = ss }) steps.2 in
-    ap (refutation_fault f) same ∙ exported_answer_refutes f live entries id ids steps.0 e.well_formed e.logged can.instances e.lemmas_are_derived can.refuted are steps.1
+    → d.rows ≡ rows_of entries → AreExportedItems f live entries ids d.items → refutation_fault f d ≡ None
+exported_accepted f live entries id ids d e can are rows items =
+    let exported = items.1 in
+    let same : d ≡ record { rows = rows_of entries; items = map derived (exported_steps f live entries ids exported.0) } =
+    ap (λ rs. record { rows = rs; items = d.items }) rows ∙ ap (λ xs. record { rows = rows_of entries; items = xs }) (items.2 ∙ ap (map derived) exported.2) in
+    ap (refutation_fault f) same ∙ exported_answer_refutes f live entries id ids exported.0 e.well_formed e.logged can.instances e.lemmas_are_derived can.refuted are exported.1
 
 -- and they are such as a text can hold
 pub exported_spelled : (f : Dqbf) (live : List ℕ) (entries : List Entry) (id : ℕ) (ids : List ℕ) (d : Dqr) → AreExportable f live entries ids → CanExportFalse f live entries id → AreReached entries id ids
-    → d.rows ≡ rows_of entries → AreExportedSteps f live entries ids d.steps → length d.steps ≤ 1000000000 → IsDqrOf f d
-exported_spelled f live entries id ids d e can are rows steps few =
+    → d.rows ≡ rows_of entries → AreExportedItems f live entries ids d.items → length d.items ≤ 1000000000 → IsDqrOf f d
+exported_spelled f live entries id ids d e can are rows items few =
+    let exported = items.1 in
+    let p : ℕ → Bool = is_pair_number f (length (rows_of entries)) in
+    let first = first_id f (length (rows_of entries)) in
     let many = ap length rows in
     let rounds_few = e.few_rounds in
     record {
       few_rows = omega (arith, many, rounds_few);
-      few_steps = few;
+      few_items = few;
       whole = subst (All (λ row. length row ≡ length f.universals)) (sym rows) can.whole_rows;
-      steps = subst (λ n. AreSteps (is_pair_number f n) (first_id f n) d.steps) (sym many)
-          (subst (AreSteps (is_pair_number f (length (rows_of entries))) (first_id f (length (rows_of entries)))) (sym steps.2)
-          (exported_lines_are_allowed f live entries id ids steps.0 e.well_formed e.logged can.instances can.refuted are steps.1));
+      items = subst (λ n. AreItems (is_pair_number f n) (numbered_from (first_id f n)) d.items) (sym many)
+          (subst (AreItems p (numbered_from first)) (sym (items.2 ∙ ap (map derived) exported.2))
+          (steps_are_items p (numbered_from first) (exported_steps f live entries ids exported.0)
+          (exported_lines_are_allowed f live entries id ids exported.0 e.well_formed e.logged can.instances can.refuted are exported.1)));
     }

@@ -21,7 +21,10 @@ use Rattle.hint_log.specs.declared.origins.Origin.TheVariants.{Instance, Gate, F
 use Rattle.log_laws.proofs.Found.{each_at, split_at}
 use Rattle.log_laws.proofs.Solved.{split_literal}
 use Rattle.cert_text.specs.CircuitProof.{is_proof_variable, first_proof_id}
-use Rattle.cert_text.specs.Grammar.{AreSteps, HasSmallNumbers}
+use Rattle.cert_text.specs.Grammar.{AreItems, AreSteps, IsSmallItem}
+use Rattle.cert_text.specs.Numbering.{numbered_from}
+use Rattle.cert_text.proofs.StepsAlone.{steps_are_items}
+use Rattle.rup_core.specs.Items.{derived}
 use Rattle.cert_text.specs.ProofGrammar.{IsDqpOf}
 use Rattle.cert_text.specs.declared.circuit_proofs.Dqp.{Dqp}
 use Rattle.aiger_text.specs.declared.files.AagFile.{AagFile}
@@ -50,7 +53,7 @@ gate_at f entries e v = gate_of (circuit_renaming f entries e) v (name_of entrie
 
 -- derived clauses stay consistent under an injective renaming
 pub derived_consistent : (entries : List Entry) (r : Renaming) → Each IsDerivedByHints entries → IsInjective r → (id : ℕ) → is_derived (numbered has_id entries id) ≡ true → is_tautology (line_clause r entries id) ≡ false
-derived_consistent entries r lemmas injective id derived = by_entry (numbered has_id entries id) refl derived where
+derived_consistent entries r lemmas injective id learned = by_entry (numbered has_id entries id) refl learned where
   by_entry : (o : Option Entry) → numbered has_id entries id ≡ o → is_derived o ≡ true → is_tautology (renamed_clause r (clause_or_empty (numbered has_id entries id))) ≡ false
   by_entry None at d = cc
   by_entry (Some (Named v n)) at d = cc
@@ -107,8 +110,8 @@ module _ (f : Dqbf) (entries : List Entry) (id : ℕ) (ids : List ℕ) (e : Circ
     are_ids = d.decided.are_ids;
     closed = λ at hint hints inside own among. d.decided.reached.complete hint (by_hint at hint hints (d.decided.reached.sound at inside) own among);
     known = known;
-    consistent = λ h inside derived. derived_consistent entries r d.decided.lemmas_are_derived
-        (λ v w n a b. circuit_numbers_are_injective f entries e d.decided.logged v w n (names.right v n a) (names.right w n b)) h derived;
+    consistent = λ h inside learned. derived_consistent entries r d.decided.lemmas_are_derived
+        (λ v w n a b. circuit_numbers_are_injective f entries e d.decided.logged v w n (names.right v n a) (names.right w n b)) h learned;
   }
 
   -- the ids' base
@@ -165,13 +168,13 @@ small_part f gates prefix few_variables few_clauses few_gates =
     let long = length-append f.universals (map (λ y. y.variable) f.existentials) in
     record { few_inputs = omega (arith, most, long, few_variables); few_gates = few_gates; few_clauses = few_clauses }
 
--- steps with small numbers
-small_steps : (is_variable : ℕ → Bool) (first : ℕ) (steps : List ProofStep) → AreSteps is_variable first steps → first + length steps ≤ 1000000000000000000 → ((v : ℕ) → is_variable v ≡ true → v < 1000000000000000000) → All HasSmallNumbers steps
-small_steps is_variable first [] are few vars = All-nil HasSmallNumbers
-small_steps is_variable first (s ∷ ss) are few vars =
+-- lines with small numbers
+small_lines : (is_variable : ℕ → Bool) (first : ℕ) (steps : List ProofStep) → AreSteps is_variable first steps → first + length steps ≤ 1000000000000000000 → ((v : ℕ) → is_variable v ≡ true → v < 1000000000000000000) → All IsSmallItem (map derived steps)
+small_lines is_variable first [] are few vars = All-nil IsSmallItem
+small_lines is_variable first (s ∷ ss) are few vars =
     let is = are.0.numbered in
-    All-cons HasSmallNumbers s ss (record { id = omega (arith, is, few); variables = λ k d below. vars (variable_of (get_or s.literals k d)) (are.0.on_variables k d below) })
-    (small_steps is_variable (first + 1) ss are.1 (omega (arith, few)) vars)
+    All-cons IsSmallItem (derived s) (map derived ss) (record { id = omega (arith, is, few); variables = λ k d below. vars (variable_of (get_or s.literals k d)) (are.0.on_variables k d below) })
+    (small_lines is_variable (first + 1) ss are.1 (omega (arith, few)) vars)
 
 module _ (f : Dqbf) (entries : List Entry) (id : ℕ) (ids : List ℕ) (file : AagFile) (proof : Dqp) (x : IsExportedCircuit f entries id ids file proof) where
   abbrev decided : AreDecided f entries id ids
@@ -180,11 +183,13 @@ module _ (f : Dqbf) (entries : List Entry) (id : ℕ) (ids : List ℕ) (file : A
   pub is_proved : ExportedAnswerIsProved → IsProvedCircuit f file proof
   is_proved law =
       let few = decided.few_variables in
-      law f entries id x.part ids x.lines.0 file proof decided.well_formed decided.logged decided.inputs decided.givens decided.lemmas_are_derived x.from.part decided.reached x.lines.1
-      (small_numbers f entries id ids x.part x.from) (omega (arith, few)) x.written.circuit x.written.symbols x.lines.2
+      law f entries id x.part ids x.lines.1.0 file proof decided.well_formed decided.logged decided.inputs decided.givens decided.lemmas_are_derived x.from.part decided.reached x.lines.1.1
+      (small_numbers f entries id ids x.part x.from) (omega (arith, few)) x.written.circuit x.written.symbols (x.lines.2 ∙ ap (map derived) x.lines.1.2)
 
-  pub is_few : length proof.steps ≤ count is_lemma entries
-  is_few = lines_few entries ids x.lines.0 (circuit_id f x.part) (proof_number f entries x.part ids) proof.steps decided.reached.ascending x.lines.2
+  pub is_few : length proof.items ≤ count is_lemma entries
+  is_few =
+      subst (λ n. n ≤ count is_lemma entries) (sym (ap length x.lines.2 ∙ length-map x.lines.0 derived))
+      (lines_few entries ids x.lines.1.0 (circuit_id f x.part) (proof_number f entries x.part ids) x.lines.0 decided.reached.ascending x.lines.1.2)
 
   number_is : file.circuit.max_var ≡ max_number f x.part
   number_is = ap (λ (n : Netlist). n.max_var) x.written.circuit
@@ -199,11 +204,11 @@ module _ (f : Dqbf) (entries : List Entry) (id : ℕ) (ids : List ℕ) (file : A
       law f entries x.part (record { circuit = file.circuit; symbols = file.symbols; comment = comment }) decided.well_formed.prefix (omega (arith, vars)) decided.logged decided.inputs x.from.part.part
       x.written.circuit x.written.symbols (omega (arith, few, is)) (omega (arith, most, long, mapped, vars))
 
-  steps_allowed : AreSteps (is_proof_variable f file.circuit) (first_proof_id f file.circuit) proof.steps
+  steps_allowed : AreSteps (is_proof_variable f file.circuit) (first_proof_id f file.circuit) x.lines.0
   steps_allowed =
-      let allowed = exported_proof_is_allowed f entries id x.part ids x.lines.0 decided.well_formed decided.logged decided.inputs decided.givens x.from.part decided.reached x.lines.1 in
-      subst (λ (n : Netlist). AreSteps (is_proof_variable f n) (first_proof_id f n) proof.steps) (sym x.written.circuit)
-      (subst (AreSteps (is_proof_variable f (exported_netlist f entries x.part)) (first_proof_id f (exported_netlist f entries x.part))) (sym x.lines.2) allowed)
+      let allowed = exported_proof_is_allowed f entries id x.part ids x.lines.1.0 decided.well_formed decided.logged decided.inputs decided.givens x.from.part decided.reached x.lines.1.1 in
+      subst (λ (n : Netlist). AreSteps (is_proof_variable f n) (first_proof_id f n) x.lines.0) (sym x.written.circuit)
+      (subst (AreSteps (is_proof_variable f (exported_netlist f entries x.part)) (first_proof_id f (exported_netlist f entries x.part))) (sym x.lines.1.2) allowed)
 
   first_small : first_proof_id f file.circuit ≤ 100000000000000001
   first_small =
@@ -212,11 +217,13 @@ module _ (f : Dqbf) (entries : List Entry) (id : ℕ) (ids : List ℕ) (file : A
       let long : length (exported_netlist f entries x.part).gates ≡ length x.part.gates = length-map x.part.gates (gate_at f entries x.part) in
       omega (arith, base, gates, long)
 
-  pub is_allowed : length proof.steps ≤ 1000000000 → IsDqpOf f file.circuit proof
+  pub is_allowed : length proof.items ≤ 1000000000 → IsDqpOf f file.circuit proof
   is_allowed few = record {
-    few_steps = few;
-    steps = steps_allowed;
-    small = small_steps (is_proof_variable f file.circuit) (first_proof_id f file.circuit) proof.steps steps_allowed (let first = first_small in omega (arith, first, few)) variables;
+    few_items = few;
+    items = subst (AreItems (is_proof_variable f file.circuit) (numbered_from (first_proof_id f file.circuit))) (sym x.lines.2)
+        (steps_are_items (is_proof_variable f file.circuit) (numbered_from (first_proof_id f file.circuit)) x.lines.0 steps_allowed);
+    small = subst (All IsSmallItem) (sym x.lines.2) (small_lines (is_proof_variable f file.circuit) (first_proof_id f file.circuit) x.lines.0 steps_allowed
+        (let first = first_small in let many = ap length x.lines.2 ∙ length-map x.lines.0 derived in omega (arith, first, few, many)) variables);
   } where
     variables : (v : ℕ) → is_proof_variable f file.circuit v ≡ true → v < 1000000000000000000
     variables v h =

@@ -1,5 +1,5 @@
 -- An answer that shows outputs to be right is exported as a proof that the checker accepts and that a text can hold.
-use Rattle.std.proofs.Common.{◌≡◌, nat_le, ℕ, ◌+◌, ◌≤◌, true, false, inl, inr, List, [], ◌∷◌, length, Option, None, Some, refl, sym, ◌∙◌, ap, subst, arith}
+use Rattle.std.proofs.Common.{◌≡◌, nat_le, ℕ, ◌+◌, ◌≤◌, true, false, inl, inr, List, [], ◌∷◌, map, length, Option, None, Some, refl, sym, ◌∙◌, ap, subst, arith}
 use Rattle.std.proofs.lemmas.Bool.{and_from, le-leb}
 use Rattle.std.proofs.lemmas.List.{length-map}
 use Rattle.std.proofs.lemmas.List.Kept.{AllPairs-from_increasing}
@@ -17,6 +17,8 @@ use Rattle.hint_log.specs.declared.origins.Leaf.{Leaf}
 use Rattle.hint_log.specs.declared.origins.Leaf.TheVariants.{Constant, Literal as LeafLiteral}
 use Rattle.hint_log.specs.declared.origins.Origin.{Origin}
 use Rattle.hint_log.specs.declared.origins.Origin.TheVariants.{Instance, Gate, Fault, Copy, Link, TermGate, Differ}
+use Rattle.rup_core.specs.Items.{derived}
+use Rattle.rup_core.proofs.DeletedClauses.{steps_alone}
 use Rattle.cert_text.specs.CircuitProof.{is_proof_variable, first_proof_id}
 use Rattle.cert_text.specs.Grammar.{AreSteps}
 use Rattle.proof_checker.specs.CircuitProof.{negated_candidate, circuit_proof_fault}
@@ -132,10 +134,11 @@ module _ (f : Dqbf) (entries : List Entry) (id : ℕ) (e : CircuitPart) (ids : L
   finished = are_finished IsUsed entries lawful id (proof_number f entries e ids) (last_base_id f e) numbers used r ids are
       (ap is_derived (answer_at f entries id e lawful x)) (answer_empty f entries id e lawful x r names.right)
 
-  accepted : Each IsDerivedByHints entries → circuit_proof_fault (exported_candidate f entries e) (proof_steps f entries e ids r) ≡ None
-  accepted derived =
-      lines_are_derived r (circuit_id f e) IsUsed (negated_candidate (exported_candidate f entries e)) (last_base_id f e) entries (proof_number f entries e ids) (derived_ids entries ids)
-      injective lawful derived base_right lines false finished
+  accepted : Each IsDerivedByHints entries → circuit_proof_fault (exported_candidate f entries e) (map derived (proof_steps f entries e ids r)) ≡ None
+  accepted lemmas =
+      steps_alone false (negated_candidate (exported_candidate f entries e)) (proof_steps f entries e ids r)
+      ∙ lines_are_derived r (circuit_id f e) IsUsed (negated_candidate (exported_candidate f entries e)) (last_base_id f e) entries (proof_number f entries e ids) (derived_ids entries ids)
+      injective lawful lemmas base_right lines false finished
 
   allowed : AreSteps (is_proof_variable f (exported_netlist f entries e)) (first_proof_id f (exported_netlist f entries e)) (proof_steps f entries e ids r)
   allowed =
@@ -147,7 +150,7 @@ module _ (f : Dqbf) (entries : List Entry) (id : ℕ) (e : CircuitPart) (ids : L
       lines (consecutive base (derived_ids entries ids) rising) (omega arith) (λ h inside. absurd (let b = inside.1 in omega arith)))
 
 pub exported_answer_is_accepted : ExportedAnswerIsAccepted
-exported_answer_is_accepted f entries id e ids r well lawful inputs given derived x are names = accepted f entries id e ids r well lawful inputs given x are names derived
+exported_answer_is_accepted f entries id e ids r well lawful inputs given lemmas x are names = accepted f entries id e ids r well lawful inputs given x are names lemmas
 
 pub exported_proof_is_allowed : ExportedProofIsAllowed
 exported_proof_is_allowed f entries id e ids r well lawful inputs given x are names = allowed f entries id e ids r well lawful inputs given x are names

@@ -9,7 +9,8 @@ use Rattle.std.specs.List.Sorted.{IsStrictlyIncreasing}
 use Rattle.dq_lits.specs.Derivation.{ProofStep}
 use Rattle.dq_lits.specs.Formula.{Dqbf}
 use Rattle.hint_log.specs.Entries.{Entry, Named, Given, Learned, Answer, Round, Begun, has_id, numbered, count}
-use Rattle.cert_export.specs.Exportable.{AreExportedSteps}
+use Rattle.cert_export.specs.Exportable.{AreExportedItems}
+use Rattle.rup_core.specs.Items.{ProofItem, derived}
 use Rattle.cert_export.specs.Exported.{exported_number}
 use Rattle.cert_export.specs.Expansion.{instance_id}
 use Rattle.hint_log.specs.declared.origins.Origin.{Origin}
@@ -96,5 +97,8 @@ lines_few entries ids r base_id number steps ascending are =
     let few = few_lemmas entries (derived_ids entries ids) (rising_filter p ids (rising_of ids (AllPairs-from_increasing ids ascending))) (all_derived entries ids) in
     omega (arith, many, few)
 
-pub few_steps : (f : Dqbf) (live : List ℕ) (entries : List Entry) (ids : List ℕ) (steps : List ProofStep) → IsStrictlyIncreasing ids → AreExportedSteps f live entries ids steps → length steps ≤ count is_lemma entries
-few_steps f live entries ids steps ascending exported = lines_few entries ids exported.0 (instance_id live (length f.matrix)) (exported_number f entries ids) steps ascending exported.2
+pub few_items : (f : Dqbf) (live : List ℕ) (entries : List Entry) (ids : List ℕ) (items : List ProofItem) → IsStrictlyIncreasing ids → AreExportedItems f live entries ids items → length items ≤ count is_lemma entries
+few_items f live entries ids items ascending exported =
+    let few = lines_few entries ids exported.1.0 (instance_id live (length f.matrix)) (exported_number f entries ids) exported.0 ascending exported.1.2 in
+    let many : length items ≡ length exported.0 = ap length exported.2 ∙ length-map exported.0 derived in
+    omega (arith, many, few)

@@ -3,7 +3,7 @@ use Rattle.std.proofs.Common.{◌≡◌, Result, Ok, Err, OnOk, IfOk, ℕ, zero,
 use Rattle.std.specs.List.{All, Contains, filter, position_or_len}
 use Rattle.std.specs.Option.{option_map, option_and_then}
 use Rattle.std.proofs.lemmas.List.{get_or-append-add, get_or_default, take-append-drop, length-map, map-append, append-nil, take_more}
-use Rattle.std.proofs.lemmas.List.Elements.{All-contains, All-head, All-tail, Contains-get_or, filter-append}
+use Rattle.std.proofs.lemmas.List.Elements.{All-nil, All-cons, All-contains, All-head, All-tail, Contains-get_or, filter-append}
 use Rattle.std.proofs.lemmas.List.Kept.{AllPairs-from_increasing}
 use Rattle.dq_lits.specs.Literal.{Literal, opposite}
 use Rattle.dq_lits.specs.Derivation.{is_tautology, ProofStep}
@@ -27,6 +27,13 @@ on_ok_more (Err e) more h = tt
 pub if_ok_more : {T E : Type 0} (result : Result T E) {P Q : T → Type 0} → ((x : T) → P x → Q x) → IfOk result P → IfOk result Q
 if_ok_more (Ok x) more h = more x h
 if_ok_more (Err e) more h = tt
+
+-- lines have ids from 1 on
+pub ids_from_one : (r : Renaming) (base_id : Origin → ℕ) (entries : List Entry) (last : ℕ) (lines ids : List ℕ) → All (λ s. 1 ≤ s.id) (line_steps r base_id entries (line_number last lines) ids)
+ids_from_one r base_id entries last lines [] = All-nil (λ (s : ProofStep). 1 ≤ s.id)
+ids_from_one r base_id entries last lines (id ∷ ids) =
+    All-cons (λ (s : ProofStep). 1 ≤ s.id) (line_step r base_id entries (line_number last lines) id) (line_steps r base_id entries (line_number last lines) ids)
+    (omega arith) (ids_from_one r base_id entries last lines ids)
 
 -- what an id's entry is, by what the log tells of it
 pub given_entry : (o : Option Entry) (origin : Origin) (clause : List Literal) → option_and_then origin_of o ≡ Some origin → option_and_then clause_of o ≡ Some clause → o ≡ Some (Given origin clause)

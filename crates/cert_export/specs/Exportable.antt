@@ -1,5 +1,5 @@
 -- What the parts of an export ask for.
-use Rattle.std.specs.Prelude.{◌≡◌, ℕ, ◌≤◌, List, length, Some}
+use Rattle.std.specs.Prelude.{◌≡◌, ℕ, ◌≤◌, List, map, length, Some}
 use Rattle.std.specs.List.{All, Contains}
 use Rattle.std.specs.List.Sorted.{IsStrictlyIncreasing}
 use Rattle.dq_lits.specs.Literal.{Literal}
@@ -12,6 +12,7 @@ use Rattle.hint_log.specs.Naming.{rows_of}
 use Rattle.hint_log.specs.ProductiveLog.{IsDerivedByHints}
 use Rattle.hint_log.specs.declared.origins.Origin.{Origin}
 use Rattle.hint_log.specs.declared.origins.Origin.TheVariants.{Instance}
+use Rattle.rup_core.specs.Items.{ProofItem, derived}
 use Rattle.cert_text.specs.Header.{max_count}
 use Rattle.dq_formula.specs.declared.formula.TheConstants.{MAX_CLAUSES}
 use Rattle.cert_export.specs.Expansion.{IsInstanceClause}
@@ -46,3 +47,9 @@ pub record AreExportable (f : Dqbf) (live : List ℕ) (entries : List Entry)
 abbrev pub AreExportedSteps : Dqbf → List ℕ → List Entry → List ℕ → List ProofStep → Type 0
 AreExportedSteps f live entries ids steps =
     (r : Renaming) × IsPairRenaming f entries ids r × (steps ≡ exported_steps f live entries ids r)
+
+-- the same as items, of which none is a deletion
+abbrev pub AreExportedItems : Dqbf → List ℕ → List Entry → List ℕ → List ProofItem → Type 0
+AreExportedItems f live entries ids items =
+    (steps : List ProofStep) × AreExportedSteps f live entries ids steps
+    × (items ≡ map derived steps)

@@ -1,5 +1,5 @@
 -- What is exported for a false formula, and that the checker of refutations accepts it.
-use Rattle.std.specs.Prelude.{◌≡◌, ℕ, ◌*◌, List, length, None}
+use Rattle.std.specs.Prelude.{◌≡◌, ℕ, ◌*◌, List, map, length, None}
 use Rattle.std.specs.List.{All}
 use Rattle.std.specs.List.Sorted.{IsStrictlyIncreasing}
 use Rattle.dq_lits.specs.Derivation.{ProofStep}
@@ -10,6 +10,7 @@ use Rattle.hint_log.specs.Growth.{Each}
 use Rattle.hint_log.specs.Naming.{rows_of}
 use Rattle.hint_log.specs.ProductiveLog.{IsDerivedByHints}
 use Rattle.hint_log.specs.Reached.{AreReached}
+use Rattle.rup_core.specs.Items.{derived}
 use Rattle.cert_text.specs.Grammar.{AreSteps}
 use Rattle.cert_text.specs.Pairs.{is_pair_number}
 use Rattle.cert_text.specs.Scan.{first_id}
@@ -46,7 +47,7 @@ ExportedAnswerRefutes =
     → Each IsDerivedByHints entries → IsRefutedBy entries id → AreReached entries id ids
     → IsPairRenaming f entries ids r
     → refutation_fault f
-    (record { rows = rows_of entries; steps = exported_steps f live entries ids r })
+    (record { rows = rows_of entries; items = map derived (exported_steps f live entries ids r) })
     ≡ None
 
 -- the lines are such as the format allows: numbered behind the instances, on pairs, with earlier

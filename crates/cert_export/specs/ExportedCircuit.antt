@@ -1,10 +1,11 @@
 -- What is exported for a true formula, and that the checkers of circuits and of their proofs accept
 -- it.
-use Rattle.std.specs.Prelude.{◌≡◌, ℕ, ◌+◌, ◌<◌, ◌≤◌, ◌^◌, Bool, true, false, List, [], ◌∷◌, length, slice_index, Option, None, Some, Ok}
+use Rattle.std.specs.Prelude.{◌≡◌, ℕ, ◌+◌, ◌<◌, ◌≤◌, ◌^◌, Bool, true, false, List, [], ◌∷◌, map, length, slice_index, Option, None, Some, Ok}
 use Rattle.std.specs.Fmt.{decimal}
 use Rattle.std.specs.List.{All, Contains, range_with_len}
 use Rattle.dq_lits.specs.Derivation.{ProofStep}
 use Rattle.dq_lits.specs.Formula.{Dqbf, IsWellFormed, HasLawfulPrefix}
+use Rattle.rup_core.specs.Items.{derived}
 use Rattle.dq_lits.specs.Literal.{Literal, negative}
 use Rattle.dq_formula.specs.Prefix.{existential_variables}
 use Rattle.hint_log.specs.Conditions.{AreLogged}
@@ -157,7 +158,7 @@ ExportedAnswerIsAccepted =
     → EachGivenReached (IsGivenRightly f entries) entries id → Each IsDerivedByHints entries
     → IsExportedPart f entries id e → AreReached entries id ids
     → IsCircuitRenaming f entries e ids r
-    → circuit_proof_fault (exported_candidate f entries e) (proof_steps f entries e ids r) ≡ None
+    → circuit_proof_fault (exported_candidate f entries e) (map derived (proof_steps f entries e ids r)) ≡ None
 
 -- the lines are such as the format allows: numbered behind the negated matrix, on its variables,
 -- with earlier hints
@@ -181,7 +182,7 @@ ExportedAnswerIsProved =
     → Each IsDerivedByHints entries → IsExportedPart f entries id e → AreReached entries id ids
     → IsCircuitRenaming f entries e ids r → max_number f e < 2 ^ 62 → f.variables < 10 ^ 18
     → file.circuit ≡ exported_netlist f entries e → file.symbols ≡ number_symbols f
-    → proof.steps ≡ proof_steps f entries e ids r → IsProvedCircuit f file proof
+    → proof.items ≡ map derived (proof_steps f entries e ids r) → IsProvedCircuit f file proof
 
 -- a text can hold the circuit with these symbols, and any comment, where its numbers are within the
 -- format's limits

@@ -1,5 +1,5 @@
 -- What is exported of an answer, as it is kept.
-use Rattle.std.specs.Prelude.{◌≡◌, ℕ, ◌≤◌, ◌^◌, List, length}
+use Rattle.std.specs.Prelude.{◌≡◌, ℕ, ◌≤◌, ◌^◌, List, map, length}
 use Rattle.std.specs.List.{All, sum_by}
 use Rattle.dq_lits.specs.Formula.{Dqbf, IsWellFormed}
 use Rattle.dq_lits.specs.Derivation.{ProofStep}
@@ -8,6 +8,7 @@ use Rattle.hint_log.specs.Entries.{Entry, count}
 use Rattle.hint_log.specs.Growth.{Each}
 use Rattle.hint_log.specs.ProductiveLog.{IsDerivedByHints}
 use Rattle.hint_log.specs.Reached.{AreReached}
+use Rattle.rup_core.specs.Items.{ProofItem, derived}
 use Rattle.aiger_text.specs.declared.files.AagFile.{AagFile}
 use Rattle.cert_text.specs.declared.circuit_proofs.Dqp.{Dqp}
 use Rattle.cert_export.specs.CircuitPart.{CircuitPart, exported_netlist}
@@ -52,6 +53,11 @@ abbrev pub AreProofSteps : Dqbf → List Entry → CircuitPart → List ℕ → 
 AreProofSteps f entries e ids steps =
     (r : Renaming) × IsCircuitRenaming f entries e ids r × (steps ≡ proof_steps f entries e ids r)
 
+-- the same as items, of which none is a deletion
+abbrev pub AreProofItems : Dqbf → List Entry → CircuitPart → List ℕ → List ProofItem → Type 0
+AreProofItems f entries e ids items =
+    (steps : List ProofStep) × AreProofSteps f entries e ids steps × (items ≡ map derived steps)
+
 -- the circuit, with the variables' numbers as symbols
 pub record IsCircuitFile (f : Dqbf) (entries : List Entry) (e : CircuitPart)
     (file : AagFile) : Type 0 where
@@ -65,4 +71,4 @@ pub record IsExportedCircuit (f : Dqbf) (entries : List Entry) (id : ℕ) (ids :
   pub from : AreCircuitIds f entries id ids part
   pub few_gates : length part.gates ≤ count is_gate_name entries
   pub written : IsCircuitFile f entries part file
-  pub lines : AreProofSteps f entries part ids proof.steps
+  pub lines : AreProofItems f entries part ids proof.items

@@ -11,7 +11,7 @@ ghost use Rattle.cert_export.specs.ExportedCircuit.{CanExportTrue, IsNumberedFil
 ghost use Rattle.proof_checker.specs.ProvedCircuit.{IsProvedCircuit};
 ghost use Rattle.cert_export.specs.Lines.{is_lemma};
 ghost use Rattle.cert_export.specs.Negated.{AreLengthsBefore};
-ghost use Rattle.cert_export.specs.Parts.{part_of, AreDecided, AreCircuitIds, AreProofSteps, IsCircuitFile, IsExportedCircuit};
+ghost use Rattle.cert_export.specs.Parts.{part_of, AreDecided, AreCircuitIds, AreProofItems, IsCircuitFile, IsExportedCircuit};
 
 use crate::circuit_numbers::{CircuitNumbers, MOST};
 use crate::given_names::given_names;
@@ -22,7 +22,7 @@ use crate::parts::exported_part;
 use crate::symbols::number_symbols;
 use crate::written::{LineSource, write_lines};
 use aiger_text::AagFile;
-use cert_text::{Dqp, StepList};
+use cert_text::{Dqp, ItemList};
 use dq_formula::Formula;
 use dq_lits::Memory;
 use hint_log::Log;
@@ -41,11 +41,11 @@ pub fn export_true(alloc: Global, log: &Log, id: u64, f: &Formula) -> Result<(Aa
     ensures gates { IfOk result
         (λ c. length c.0.circuit.gates ≤ count is_gate_name log.now.entries) }
     ensures numbers { IfOk result (λ c. IsNumberedFile f.now c.0) }
-    ensures few { IfOk result (λ c. length c.1.steps ≤ count is_lemma log.now.entries) }
+    ensures few { IfOk result (λ c. length c.1.items ≤ count is_lemma log.now.entries) }
     ensures spelled { IfOk result (λ c. IsWritable c.0) }
     ensures allowed { IfOk result
-        (λ c. length c.1.steps ≤ max_count → IsDqpOf f.now c.0.circuit c.1) }
-    // Every line is that of an id that the answer reaches.
+        (λ c. length c.1.items ≤ max_count → IsDqpOf f.now c.0.circuit c.1) }
+    // Every item is the line of an id that the answer reaches.
     ensures exported { IfOk result (λ c. (ids : List ℕ)
         × IsExportedCircuit f.now log.now.entries id ids c.0 c.1) }
 {
@@ -79,9 +79,9 @@ fn export_ids(
         log,
         part: &part,
     };
-    let steps = proof_steps(alloc, &numbers, id, ids, &before)?;
+    let items = proof_items(alloc, &numbers, id, ids, &before)?;
     let file = circuit_file(alloc, &numbers, id, ids)?;
-    Ok((file, Dqp { steps }))
+    Ok((file, Dqp { items }))
 }
 
 // The circuit, with the variables' numbers as symbols.
@@ -104,17 +104,17 @@ fn circuit_file(
 }
 
 // The lines of the derived clauses among some ids.
-fn proof_steps(
+fn proof_items(
     alloc: Global,
     numbers: &CircuitNumbers,
     id: u64,
     ids: &[u64],
     before: &[u64],
-) -> Result<StepList, Memory>
+) -> Result<ItemList, Memory>
     requires ids { AreCircuitIds numbers.now.f.now numbers.now.log.now.entries id ids.now
         (part_of numbers.now.part.now) }
     requires lengths { AreLengthsBefore numbers.now.f.now.matrix before.now }
-    ensures { IfOk result (AreProofSteps numbers.now.f.now numbers.now.log.now.entries
+    ensures { IfOk result (AreProofItems numbers.now.f.now numbers.now.log.now.entries
         (part_of numbers.now.part.now) ids.now) }
 {
     clauses_are_named();
@@ -134,5 +134,6 @@ fn proof_steps(
         base: &base,
         last,
     };
-    write_lines(alloc, &source)
+    let steps = write_lines(alloc, &source)?;
+    Ok(ItemList::of_lines(steps))
 }

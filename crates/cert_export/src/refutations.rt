@@ -13,14 +13,14 @@ ghost use Rattle.refutation_checker.specs.Refutation.{refutation_fault};
 ghost use Rattle.cert_export.specs.Expansion.{instance_id};
 ghost use Rattle.cert_export.specs.Lines.{is_lemma};
 ghost use Rattle.cert_export.specs.Exported.{CanExportFalse};
-ghost use Rattle.cert_export.specs.Exportable.{IsKnownInstance, AreExportable, AreExportedSteps};
+ghost use Rattle.cert_export.specs.Exportable.{IsKnownInstance, AreExportable, AreExportedItems};
 
 use crate::bases::Ground;
 use crate::given_names::given_names;
 use crate::lines::place;
 use crate::pairs::PairNumbers;
 use crate::written::{LineSource, write_lines};
-use cert_text::{Dqr, StepList};
+use cert_text::{Dqr, ItemList};
 use dq_formula::Formula;
 use dq_lits::{Memory, RowList};
 use hint_log::laws::{reached_are_ids, rounds_are_steps};
@@ -43,11 +43,11 @@ pub fn export_false(
     requires limit { log.now.limit ≤ max_count }
     ensures rows { IfOk result (λ d. d.rows ≡ rows_of log.now.entries) }
     ensures accepted { IfOk result (λ d. refutation_fault f.now d ≡ None) }
-    ensures few { IfOk result (λ d. length d.steps ≤ count is_lemma log.now.entries) }
-    ensures spelled { IfOk result (λ d. length d.steps ≤ max_count → IsDqrOf f.now d) }
-    // Every line is that of an id that the answer reaches.
+    ensures few { IfOk result (λ d. length d.items ≤ count is_lemma log.now.entries) }
+    ensures spelled { IfOk result (λ d. length d.items ≤ max_count → IsDqrOf f.now d) }
+    // Every item is the line of an id that the answer reaches.
     ensures lines { IfOk result (λ d. (ids : List ℕ) × AreReached log.now.entries id ids
-        × AreExportedSteps f.now live.now log.now.entries ids d.steps) }
+        × AreExportedItems f.now live.now log.now.entries ids d.items) }
 {
     f.every_formula_is_lawful();
     log.every_log_is_lawful();
@@ -56,8 +56,8 @@ pub fn export_false(
     log.steps();
     let rows = round_rows(alloc, log)?;
     let ids = log.trim(id)?;
-    let steps = refutation_steps(alloc, log, ids.items(), f, live)?;
-    Ok(Dqr { rows, steps })
+    let items = refutation_items(alloc, log, ids.items(), f, live)?;
+    Ok(Dqr { rows, items })
 }
 
 /// The numbers of a formula's clauses in a log that is about no other: from 1 on, without gaps.
@@ -84,15 +84,15 @@ fn round_rows(alloc: Global, log: &Log) -> Result<RowList, Memory>
 }
 
 // The lines of the derived clauses among some ids.
-fn refutation_steps(
+fn refutation_items(
     alloc: Global,
     log: &Log,
     ids: &[u64],
     f: &Formula,
     live: &[u64],
-) -> Result<StepList, Memory>
+) -> Result<ItemList, Memory>
     requires { AreExportable f.now live.now log.now.entries ids.now }
-    ensures { IfOk result (AreExportedSteps f.now live.now log.now.entries ids.now) }
+    ensures { IfOk result (AreExportedItems f.now live.now log.now.entries ids.now) }
 {
     let names = given_names(alloc, log, ids, &PairNumbers { f, log })?;
     let base = Instances {
@@ -107,7 +107,8 @@ fn refutation_steps(
         base: &base,
         last,
     };
-    write_lines(alloc, &source)
+    let steps = write_lines(alloc, &source)?;
+    Ok(ItemList::of_lines(steps))
 }
 
 // The instances of so many clauses, which have these numbers in the log, by row and clause.

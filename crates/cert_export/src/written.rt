@@ -56,11 +56,12 @@ pub(crate) fn write_lines<B: Ground>(
     requires can { CanBeWritten (renaming source.now.names.now) (B.Knows source.now.base.now)
         source.now.log.now.entries source.now.ids.now }
     requires few { source.now.last < 2 ^ 63 }
-    ensures { IfOk result (λ steps. steps
+    ensures lines { IfOk result (λ steps. steps
         ≡ line_steps (renaming source.now.names.now) (B.ids source.now.base.now)
         source.now.log.now.entries
         (line_number source.now.last (derived_ids source.now.log.now.entries source.now.ids.now))
         (derived_ids source.now.log.now.entries source.now.ids.now)) }
+    ensures from_one { IfOk result (λ steps. All (λ step. 1 ≤ step.id) steps) }
 {
     let mut written = Written::new(alloc);
     let mut marks = Marks::new(alloc, source.ids.len())?;

@@ -7,8 +7,8 @@ pub invariant_of-numbers : goal.invariant_of-numbers
 invariant_of-numbers c =
     record { small = small_part c.args.f.now c.in_ok-part.part.gates c.requires.well_formed.prefix c.requires.few_variables c.requires.few_clauses (let n = c.len.ensures.value in let few = c.if-len-gt-MOST.false in omega (arith, n, few)) }
 
-pub proof_steps-requires-clause-ids : goal.proof_steps-requires-clause-ids
-proof_steps-requires-clause-ids c = record {
+pub proof_items-requires-clause-ids : goal.proof_items-requires-clause-ids
+proof_items-requires-clause-ids c = record {
   decided = c.requires;
   part = c.in_ok-part.ensures.part;
   small = small_part c.args.f.now c.in_ok-part.part.gates c.requires.well_formed.prefix c.requires.few_variables c.requires.few_clauses (let n = c.len.ensures.value in let few = c.if-len-gt-MOST.false in omega (arith, n, few));
@@ -34,5 +34,5 @@ returns c = record {
   };
   few_gates = c.in_ok-part.ensures.few;
   written = c.in_ok-file.ensures;
-  lines = c.in_ok-steps.ensures;
+  lines = c.in_ok-items.ensures;
 }

@@ -2,8 +2,7 @@ use Rattle.std.proofs.Common.{◌+◌, ◌*◌, slice_index, arith}
 use Rattle.cert_export.specs.Names.{renaming}
 use Rattle.cert_export.specs.Parts.{part_of}
 use Rattle.cert_export.proofs.ExportableCircuits.{given_named, can_be_written, last_is, last_small, are_proof_steps}
-use Rattle.cert_export.proofs.WrittenLines.{if_ok_more}
-use Rattle.cert_export.proofs.circuits.proof_steps.Goals as goal
+use Rattle.cert_export.proofs.circuits.proof_items.Goals as goal
 
 pub given_names-requires-clause-known : goal.given_names-requires-clause-known
 given_names-requires-clause-known c = given_named c.args.numbers.now.f.now c.args.numbers.now.log.now.entries c.args.id c.args.ids.now (part_of c.args.numbers.now.part.now) c.requires.ids c.clauses_are_named.ensures
@@ -27,5 +26,9 @@ returns c =
     let entries = c.args.numbers.now.log.now.entries in
     let e = part_of c.args.numbers.now.part.now in
     let is = last_is f entries c.args.id c.args.ids.now e c.requires.ids c.len.result c.clauses.result c.args.before.now c.requires.lengths c.len.ensures.value c.clauses.ensures.value in
-    if_ok_more c.write_lines.result (λ steps written. are_proof_steps f entries c.args.id c.args.ids.now e c.requires.ids (renaming c.in_ok-names.names) (3 * c.len.result + slice_index c.args.before.now c.clauses.result + 1) steps
-    c.in_ok-names.ensures is written) c.write_lines.ensures
+    let steps = c.in_ok-steps.steps in (
+      steps,
+      are_proof_steps f entries c.args.id c.args.ids.now e c.requires.ids (renaming c.in_ok-names.names) (3 * c.len.result + slice_index c.args.before.now c.clauses.result + 1) steps
+          c.in_ok-names.ensures is c.in_ok-steps.ensures.lines,
+      c.of_lines.ensures,
+    )

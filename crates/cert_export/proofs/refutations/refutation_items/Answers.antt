@@ -3,8 +3,7 @@ use Rattle.hint_log.specs.Entries.{rounds_of}
 use Rattle.cert_export.specs.Names.{renaming}
 use Rattle.cert_export.proofs.Instances.{rounds_are}
 use Rattle.cert_export.proofs.ExportableAnswers.{have_own_names, can_be_written, few_instances, are_exported}
-use Rattle.cert_export.proofs.WrittenLines.{if_ok_more}
-use Rattle.cert_export.proofs.refutations.refutation_steps.Goals as goal
+use Rattle.cert_export.proofs.refutations.refutation_items.Goals as goal
 
 pub given_names-requires-clause-known : goal.given_names-requires-clause-known
 given_names-requires-clause-known c = have_own_names c.args.f.now c.args.live.now c.args.log.now.entries c.args.ids.now c.requires
@@ -34,6 +33,9 @@ returns c =
     let entries = c.args.log.now.entries in
     let ids = c.args.ids.now in
     let r = renaming c.in_ok-names.names in
-    if_ok_more c.write_lines.result (λ steps written.
-    are_exported f c.args.live.now entries ids r steps c.clauses.result (c.rounds.result * c.clauses-2.result) c.in_ok-names.ensures c.clauses.ensures.value
-    (ap (λ n. n * c.clauses-2.result) c.rounds.ensures ∙ ap (λ n. rounds_of entries * n) (c.clauses-2.ensures.value ∙ sym c.clauses.ensures.value)) written) c.write_lines.ensures
+    let steps = c.in_ok-steps.steps in (
+      steps,
+      are_exported f c.args.live.now entries ids r steps c.clauses.result (c.rounds.result * c.clauses-2.result) c.in_ok-names.ensures c.clauses.ensures.value
+          (ap (λ n. n * c.clauses-2.result) c.rounds.ensures ∙ ap (λ n. rounds_of entries * n) (c.clauses-2.ensures.value ∙ sym c.clauses.ensures.value)) c.in_ok-steps.ensures.lines,
+      c.of_lines.ensures,
+    )
