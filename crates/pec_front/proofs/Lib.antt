@@ -1,7 +1,9 @@
+mod AddedClauses
 mod Choosing
 mod Circuits
 mod Clauses
 mod CyclicBox
+mod DeclaredRanges
 mod Distinct
 mod Encoded
 mod Filled

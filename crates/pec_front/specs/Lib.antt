@@ -2,9 +2,12 @@ pub mod BoxLine
 pub mod Boxes
 pub mod Choices
 pub mod Encoding
+pub mod Kept
 pub mod Latest
 pub mod Laws
+pub mod Layout
 pub mod Outputs
+pub mod Prefixes
 pub mod Reading
 pub mod Rows
 pub mod Steps
