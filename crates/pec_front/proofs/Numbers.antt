@@ -150,7 +150,7 @@ pub map-join : {X Y : Type 0} (f : X → Y) (xs ys : List X) → map f (xs ++ ys
 map-join f [] ys = refl
 map-join f (x ∷ xs) ys = ap (λ zs. f x ∷ zs) (map-join f xs ys)
 
-driven-numbers : (d : PartialDesign) (n i v : ℕ) → inputs_of d ≤ i → v ≡ first_driven d + (i - inputs_of d)
+pub driven-numbers : (d : PartialDesign) (n i v : ℕ) → inputs_of d ≤ i → v ≡ first_driven d + (i - inputs_of d)
     → map (λ (y : Existential). y.variable) (map (driven_existential d) (range_with_len i n)) ≡ range_with_len v n
 driven-numbers d zero i v low e = refl
 driven-numbers d (suc n) i v low e =
