@@ -1,6 +1,5 @@
 -- Clauses that are added one by one.
 use Rattle.std.proofs.Common.{◌≡◌, ℕ, ◌+◌, ◌*◌, ◌<◌, Result, Ok, Err, List, [], ◌∷◌, ◌++◌, sym, ◌∙◌, ap, append_assoc}
-use Rattle.std.specs.List.{filter_map}
 use Rattle.std.specs.Option.{option_map}
 use Rattle.std.specs.Result.{OnOk}
 use Rattle.std.proofs.lemmas.List.Elements.{All-from_recursion}

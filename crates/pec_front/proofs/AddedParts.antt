@@ -1,11 +1,8 @@
 -- Parts of a design's clauses that are added one by one.
-use Rattle.std.proofs.Common.{◌≡◌, ℕ, zero, suc, ◌+◌, ◌*◌, ◌<◌, ◌≤◌, List, [], ◌∷◌, ◌++◌, map, length, get_or, take, refl, sym, ◌∙◌, ap, subst, arith, append_assoc}
+use Rattle.std.proofs.Common.{◌≡◌, ℕ, zero, suc, ◌+◌, ◌*◌, ◌<◌, ◌≤◌, List, [], ◌∷◌, ◌++◌, map, length, get_or, take, refl, sym, ◌∙◌, ap, arith, append_assoc}
 use Rattle.std.specs.List.{flat_map, range_with_len}
 use Rattle.std.proofs.lemmas.List.{append-nil}
 use Rattle.dq_lits.specs.Formula.{Dqbf}
-use Rattle.circuit_plain.specs.Netlist.{Netlist}
-use Rattle.circuit_plain.specs.declared.circuits.Gate.{Gate}
-use Rattle.cert_text.specs.NegatedMatrix.{gate_clauses}
 use Rattle.pec_front.specs.Boxes.{PartialDesign}
 use Rattle.pec_front.specs.Encoder.{AreAdded}
 use Rattle.pec_front.specs.Encoding.{first_copy, first_same, first_agree, specified_variable, implemented_variable, on_number, agreement_clauses, all_copies, all_outputs, demand}
@@ -53,7 +50,8 @@ copy_clauses d i signal =
     agreement_clauses (first_same d + i) (2 * (first_copy d + i)) (on_number (implemented_variable d) signal)
 
 pub next-copy : (d : PartialDesign) (first : ℕ) (ss : List ℕ) (i : ℕ) → i < length ss
-    → all_copies d first (take (suc i) ss) ≡ all_copies d first (take i ss) ++ copy_clauses d (first + i) (get_or ss i 0)
+    → all_copies d first (take (suc i) ss)
+    ≡ all_copies d first (take i ss) ++ copy_clauses d (first + i) (get_or ss i 0)
 next-copy d first [] i below = absurd (omega (arith, below))
 next-copy d first (s ∷ ss) zero below =
     append-nil (copy_clauses d first s)

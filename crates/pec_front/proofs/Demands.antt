@@ -1,13 +1,13 @@
 -- The clause that a pair of outputs agrees where all copies have their signals' values is kept as
 -- it stands: it has no constant, and no literal twice.
-use Rattle.std.proofs.Common.{◌≡◌, ◌≢◌, ℕ, zero, suc, ◌+◌, ◌-◌, ◌*◌, ◌/◌, ◌%◌, ◌<◌, ◌≤◌, ◌==◌, Bool, false, not, cond, ◌||◌, List, [], ◌∷◌, ◌++◌, map, None, Some, refl, sym, ◌∙◌, ap, arith, append_assoc}
+use Rattle.std.proofs.Common.{◌≡◌, ℕ, zero, suc, ◌+◌, ◌-◌, ◌*◌, ◌/◌, ◌%◌, ◌≤◌, ◌==◌, Bool, false, not, cond, ◌||◌, List, [], ◌∷◌, ◌++◌, map, None, Some, refl, sym, ◌∙◌, ap, arith, append_assoc}
 use Rattle.std.specs.Prelude.{fold}
-use Rattle.std.specs.List.{list_any, filter, filter_map, range_with_len, cons_option}
+use Rattle.std.specs.List.{list_any, filter, range_with_len, cons_option}
 use Rattle.std.specs.Option.{option_map}
 use Rattle.std.proofs.lemmas.Bool.{ne_eqb, cond-false, cond-true}
 use Rattle.std.proofs.lemmas.List.Folds.{list_any-append}
 use Rattle.dq_lits.specs.Literal.{Literal, positive, negative, same_literal}
-use Rattle.cert_text.specs.NegatedMatrix.{opposite_of, as_literal, without_constants}
+use Rattle.cert_text.specs.NegatedMatrix.{opposite_of, as_literal}
 use Rattle.dqdimacs_reader.specs.Building.{add_literal, distinct}
 use Rattle.pec_front.specs.Boxes.{PartialDesign}
 use Rattle.pec_front.specs.Encoder.{demand_clause}

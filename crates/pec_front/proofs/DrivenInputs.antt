@@ -1,16 +1,15 @@
 -- Driven inputs that are declared one by one.
-use Rattle.std.proofs.Common.{◌≡◌, ◌≢◌, ℕ, zero, suc, ◌+◌, ◌-◌, ◌*◌, ◌%◌, ◌<◌, ◌≤◌, ◌^◌, ◌==◌, nat_lt, Bool, true, false, cond, ◌||◌, inl, inr, List, [], ◌∷◌, ◌++◌, map, length, get_or, drop, refl, sym, ◌∙◌, ap, subst, arith}
-use Rattle.std.specs.List.{All, Contains, list_any, filter, range_with_len, flat_map}
-use Rattle.std.proofs.lemmas.Bool.{ne_eqb, eq-eqb, cond-true, cond-false, le-ltb, cases_lt}
+use Rattle.std.proofs.Common.{◌≡◌, ℕ, zero, suc, ◌+◌, ◌-◌, ◌*◌, ◌<◌, ◌≤◌, ◌^◌, ◌==◌, nat_lt, Bool, true, false, cond, ◌||◌, List, [], ◌∷◌, ◌++◌, map, length, get_or, drop, refl, sym, ◌∙◌, ap, subst, arith}
+use Rattle.std.specs.List.{All, list_any, filter, range_with_len}
+use Rattle.std.proofs.lemmas.Bool.{ne_eqb, eq-eqb, cond-true, cond-false, le-ltb}
 use Rattle.std.proofs.lemmas.List.{append-nil, get_or_default, get_or-drop, length-drop}
-use Rattle.std.proofs.lemmas.List.Elements.{All-contains}
 use Rattle.std.proofs.lemmas.List.Folds.{list_any-append}
 use Rattle.std.proofs.lemmas.List.FromFn.{get_or-range_with_len, length-range_with_len}
 use Rattle.dq_lits.specs.Formula.{Existential, Dqbf, declared, is_universal}
 use Rattle.dq_formula.specs.Dependencies.{listed_universals}
 use Rattle.circuit_plain.specs.Netlist.{literal_variable}
 use Rattle.number_tables.specs.Numbers.{has_number}
-use Rattle.pec_front.specs.Boxes.{BlackBox, PartialDesign, AreBoxes, IsFurtherInput, signals, driven, inputs_of}
+use Rattle.pec_front.specs.Boxes.{PartialDesign, AreBoxes, IsFurtherInput, signals, driven, inputs_of}
 use Rattle.pec_front.specs.Copies.{numbers_in, AreCopies, IsKnownOut}
 use Rattle.pec_front.specs.Encoding.{signals_of, driven_of, first_copy, first_driven, first_specified, implemented_input, copies_for, driven_existential, design_universals}
 use Rattle.pec_front.specs.declared.copies.Span.{Span}
@@ -202,8 +201,7 @@ known-outs d further boxes is k e below =
     get_or-drop (inputs_of d) inputs (i - inputs_of d) (literal_variable out)
     ∙ ap (λ j. get_or inputs j (literal_variable out)) (let j : inputs_of d + (i - inputs_of d) ≡ i =
     omega (arith, low) in j)
-    ∙ get_or_default inputs i (literal_variable out) 0 high ∙ half in
-    (
+    ∙ get_or_default inputs i (literal_variable out) 0 high ∙ half in (
       omega (arith, double),
       ap (λ vs. has_number vs (literal_variable out)) is
           ∙ any-contained (λ x. x == literal_variable out) (drop (inputs_of d) inputs) (i - inputs_of d)

@@ -1,5 +1,5 @@
 -- Steps of the loops that add a design's clauses.
-use Rattle.std.proofs.Common.{◌≡◌, ℕ, zero, suc, ◌+◌, ◌-◌, ◌*◌, ◌/◌, ◌<◌, ◌≤◌, ◌==◌, nat_lt, Bool, true, false, cond, List, [], ◌∷◌, ◌++◌, map, length, get_or, take, drop, set, refl, sym, ◌∙◌, ap, subst, arith, length-append}
+use Rattle.std.proofs.Common.{◌≡◌, ℕ, zero, suc, ◌+◌, ◌-◌, ◌*◌, ◌<◌, ◌≤◌, ◌==◌, nat_lt, Bool, true, false, cond, List, [], ◌∷◌, ◌++◌, map, length, get_or, take, drop, set, refl, sym, ◌∙◌, ap, subst, arith, length-append}
 use Rattle.std.specs.List.{All, flat_map, list_any, range_with_len, position_or_len}
 use Rattle.std.proofs.lemmas.Bool.{cond-true, lt-ltb}
 use Rattle.std.proofs.lemmas.List.{take_all}
@@ -12,7 +12,7 @@ use Rattle.dq_lits.specs.Formula.{Dqbf}
 use Rattle.dq_lits.specs.Literal.{Literal, positive, negative, variable_of}
 use Rattle.pec_front.specs.Boxes.{PartialDesign, IsDesign, signals, inputs_of}
 use Rattle.pec_front.specs.Encoder.{AreAdded, IsEncoder, demand_clause}
-use Rattle.pec_front.specs.Encoding.{signals_of, first_copy, first_driven, first_specified, first_implemented, first_same, first_agree, end_of, numbered_variable, specified_variable, implemented_input, implemented_variable, on_number, numbered_gate, agreement_clauses, all_copies, all_outputs, demand, raw_clauses}
+use Rattle.pec_front.specs.Encoding.{signals_of, first_copy, first_driven, first_specified, first_implemented, first_same, first_agree, end_of, numbered_variable, specified_variable, implemented_variable, on_number, numbered_gate, agreement_clauses, all_copies, all_outputs, demand, raw_clauses}
 use Rattle.pec_front.specs.Kept.{kept, AreWithin}
 use Rattle.pec_front.specs.Numbering.{input_number, number_in, IsNumberingOf, AreNumbersWithin}
 use Rattle.pec_front.specs.declared.encoders.Encoder.{Encoder}

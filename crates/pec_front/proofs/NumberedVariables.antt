@@ -1,10 +1,10 @@
 -- The number of a circuit's variable by its place among inputs and gates.
-use Rattle.std.proofs.Common.{◌≡◌, ℕ, zero, suc, ◌+◌, ◌-◌, ◌*◌, ◌/◌, ◌%◌, ◌<◌, ◌≤◌, ◌==◌, nat_lt, Bool, true, false, cond, not, ◌||◌, inl, inr, List, [], ◌∷◌, ◌++◌, map, length, get_or, Option, Some, refl, sym, ◌∙◌, ap, subst, arith, length-append}
-use Rattle.std.specs.List.{Contains, list_any, position_or_len}
-use Rattle.std.proofs.lemmas.Bool.{true≢false, cond-true, cond-false, lt-ltb, le-ltb}
+use Rattle.std.proofs.Common.{◌≡◌, ℕ, zero, suc, ◌+◌, ◌-◌, ◌*◌, ◌/◌, ◌%◌, ◌<◌, ◌≤◌, ◌==◌, nat_lt, Bool, true, false, cond, not, ◌||◌, inl, inr, List, [], ◌∷◌, ◌++◌, map, length, Some, refl, sym, ◌∙◌, ap, arith}
+use Rattle.std.specs.List.{list_any, position_or_len}
+use Rattle.std.proofs.lemmas.Bool.{cond-true, cond-false, lt-ltb, le-ltb}
 use Rattle.std.proofs.lemmas.List.{get_or_default}
 use Rattle.dq_formula.proofs.Places.{place-found}
-use Rattle.circuit_plain.specs.Netlist.{Netlist, IsNetlist, gate_at, gate_variables, literal_variable, left_variable, right_variable}
+use Rattle.circuit_plain.specs.Netlist.{Netlist, IsNetlist, gate_at, gate_variables, left_variable, right_variable}
 use Rattle.circuit_plain.specs.Ground.{IsGrounded}
 use Rattle.circuit_plain.specs.declared.circuits.Gate.{Gate}
 use Rattle.number_tables.specs.Numbers.{has_number, place_of}
@@ -12,7 +12,7 @@ use Rattle.pec_front.specs.BoxLine.{variables_of}
 use Rattle.pec_front.specs.Encoding.{numbered_variable, on_number, numbered_gate}
 use Rattle.pec_front.proofs.Numbers.{first-place}
 use Rattle.pec_front.proofs.RaisedLevels.{input-known, gate-known, no-gate}
-use Rattle.pec_front.proofs.Values.{ground_cases, sides, contained_at, any-contained}
+use Rattle.pec_front.proofs.Values.{ground_cases, sides, contained_at}
 
 place-joined : (p : ℕ → Bool) (xs ys : List ℕ) → position_or_len p (xs ++ ys)
     ≡ cond (list_any p xs) (position_or_len p xs) (length xs + position_or_len p ys)

@@ -1,5 +1,5 @@
 -- Words of private contracts: the copies that driven inputs see, as ranges.
-use Rattle.std.specs.Prelude.{◌≡◌, ℕ, ◌+◌, ◌*◌, ◌%◌, ◌<◌, ◌==◌, true, List, length, slice_index_or, Option, None, Some, if◌then◌else◌}
+use Rattle.std.specs.Prelude.{◌≡◌, ℕ, ◌*◌, ◌%◌, ◌==◌, true, List, length, slice_index_or, Option, None, Some, if◌then◌else◌}
 use Rattle.std.specs.List.{list_any, range_with_len}
 use Rattle.circuit_plain.specs.Netlist.{literal_variable}
 use Rattle.number_tables.specs.Numbers.{has_number, place_of}

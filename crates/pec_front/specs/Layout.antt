@@ -1,5 +1,5 @@
 -- Words of private contracts: the numbers at which the kinds of a formula's variables begin.
-use Rattle.std.specs.Prelude.{◌≡◌, ℕ, ◌+◌, ◌-◌, ◌<◌, ◌≤◌, Option, None, Some}
+use Rattle.std.specs.Prelude.{◌≡◌, ◌+◌, ◌-◌, ◌<◌, ◌≤◌, Option, None, Some}
 use Rattle.dq_formula.specs.declared.formula.TheConstants.{MAX_VARIABLES}
 use Rattle.pec_front.specs.Boxes.{PartialDesign}
 use Rattle.pec_front.specs.Encoding.{first_copy, first_driven, first_specified, first_implemented, first_same, first_agree, end_of}

@@ -8,7 +8,8 @@ use Rattle.pec_front.specs.declared.numberings.Numbering.{Numbering}
 
 -- an input's variable by its place: the first ones, so many, have those from 1 on
 abbrev pub input_number : ℕ → ℕ → ℕ → ℕ
-input_number shared first_further i = if nat_lt i shared then 1 + i else first_further + (i - shared)
+input_number shared first_further i =
+    if nat_lt i shared then 1 + i else first_further + (i - shared)
 
 -- the formula's variable
 abbrev pub number_in : Numbering → ℕ → ℕ

@@ -32,11 +32,7 @@ pub(crate) struct Encoder<'e> {
 }
 
 // Adds the clauses of a circuit's gates.
-fn add_gates(
-    f: &mut Formula,
-    buffer: &mut Vec<Lit>,
-    numbering: &Numbering,
-) -> Result<(), Memory>
+fn add_gates(f: &mut Formula, buffer: &mut Vec<Lit>, numbering: &Numbering) -> Result<(), Memory>
     requires numbering { IsNumbering numbering.now }
     requires grounded { All (λ g. IsGrounded numbering.now.circuit.now g.variable)
         numbering.now.circuit.now.gates }

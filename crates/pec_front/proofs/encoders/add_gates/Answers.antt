@@ -1,4 +1,4 @@
-use Rattle.std.proofs.Common.{◌≡◌, ℕ, ◌+◌, ◌<◌, length, sym, ap, subst, arith}
+use Rattle.std.proofs.Common.{◌≡◌, ◌+◌, ◌<◌, length, sym, ap, subst, arith}
 use Rattle.dq_lits.specs.Formula.{Dqbf}
 use Rattle.pec_front.specs.Numbering.{number_in}
 use Rattle.pec_front.proofs.EncoderSteps.{gate-within, gates-next, gates-all}

@@ -1,4 +1,4 @@
-use Rattle.std.proofs.Common.{◌≡◌, ℕ, ◌+◌, ◌-◌, ◌<◌, ◌≤◌, ◌^◌, length, get_or, ap, ◌∙◌, subst, arith, List}
+use Rattle.std.proofs.Common.{◌≡◌, ℕ, ◌+◌, ◌-◌, ◌≤◌, length, ap, ◌∙◌, subst, arith, List}
 use Rattle.circuit_plain.specs.Netlist.{Netlist}
 use Rattle.dq_formula.specs.Dependencies.{listed_universals}
 use Rattle.dq_lits.specs.Formula.{Dqbf}
@@ -25,7 +25,8 @@ add_listed-requires-clause-undeclared c =
     let i = c.loop-i.i in
     let first = c.requires.first in
     let shared : length c.inputs-shared.result.now ≡ inputs_of d =
-    ap (λ (xs : List ℕ). length xs) (c.inputs-shared.ensures ∙ ap (λ (n : Netlist). n.inputs) c.specification.ensures) in
+    ap (λ (xs : List ℕ). length xs)
+    (c.inputs-shared.ensures ∙ ap (λ (n : Netlist). n.inputs) c.specification.ensures) in
     driven-new d c.args.f.now c.loop-i.f (i - inputs_of d) (c.args.first + (i - length c.inputs-shared.result.now))
     c.requires.universals c.loop-i.invariant
     (ap (λ n. n + (i - length c.inputs-shared.result.now)) first ∙ ap (λ n. first_driven d + (i - n)) shared)
@@ -46,7 +47,8 @@ loop-i-preserved c =
     let i = c.loop-i.i in
     let first = c.requires.first in
     let shared : length c.inputs-shared.result.now ≡ inputs_of d =
-    ap (λ (xs : List ℕ). length xs) (c.inputs-shared.ensures ∙ ap (λ (n : Netlist). n.inputs) c.specification.ensures) in
+    ap (λ (xs : List ℕ). length xs)
+    (c.inputs-shared.ensures ∙ ap (λ (n : Netlist). n.inputs) c.specification.ensures) in
     let from = c.loop-i.auto.i in
     let low : inputs_of d ≤ i = omega (arith, shared, from) in
     let seen = span-seen d (span_in c.args.copies.now) c.inputs-inputs.result.now i c.span.result c.requires.copies
@@ -67,7 +69,8 @@ returns c =
     let d = c.args.design.now in
     let i = c.loop-i.i in
     let shared : length c.inputs-shared.result.now ≡ inputs_of d =
-    ap (λ (xs : List ℕ). length xs) (c.inputs-shared.ensures ∙ ap (λ (n : Netlist). n.inputs) c.specification.ensures) in
+    ap (λ (xs : List ℕ). length xs)
+    (c.inputs-shared.ensures ∙ ap (λ (n : Netlist). n.inputs) c.specification.ensures) in
     let all : length c.inputs-inputs.result.now ≡ length d.implementation.inputs =
     ap (λ (xs : List ℕ). length xs)
     (c.inputs-inputs.ensures ∙ ap (λ (n : Netlist). n.inputs) c.implementation.ensures) in

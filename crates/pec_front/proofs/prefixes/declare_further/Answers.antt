@@ -1,7 +1,7 @@
 use Rattle.std.proofs.Common.{ℕ, List, length, drop, sym, ◌∙◌, ap, subst}
 use Rattle.std.specs.List.{All}
 use Rattle.circuit_plain.specs.Netlist.{Netlist}
-use Rattle.pec_front.specs.Boxes.{BlackBox, inputs_of, driven}
+use Rattle.pec_front.specs.Boxes.{BlackBox, driven}
 use Rattle.pec_front.specs.Copies.{IsKnownOut}
 use Rattle.pec_front.proofs.DrivenInputs.{known-outs}
 use Rattle.pec_front.proofs.prefixes.declare_further.Goals as goal

@@ -1,6 +1,5 @@
 use Rattle.std.proofs.Common.{◌≡◌}
 use Rattle.std.specs.List.{range_with_len}
-use Rattle.dq_lits.specs.Formula.{Dqbf}
 use Rattle.pec_front.proofs.prefixes.declare_universals.Given as goal
 
 abbrev pub invariant-loop-x : goal.invariant-loop-x
