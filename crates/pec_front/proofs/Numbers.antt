@@ -146,11 +146,11 @@ range-once a n i j d less below e =
     let two = get_or-range_with_len a n j d (omega (arith, below, long)) in
     omega (arith, less, (let s : a + i ≡ a + j = sym one ∙ e ∙ two in s))
 
-map-join : {X Y : Type 0} (f : X → Y) (xs ys : List X) → map f (xs ++ ys) ≡ map f xs ++ map f ys
+pub map-join : {X Y : Type 0} (f : X → Y) (xs ys : List X) → map f (xs ++ ys) ≡ map f xs ++ map f ys
 map-join f [] ys = refl
 map-join f (x ∷ xs) ys = ap (λ zs. f x ∷ zs) (map-join f xs ys)
 
-driven-numbers : (d : PartialDesign) (n i v : ℕ) → inputs_of d ≤ i → v ≡ first_driven d + (i - inputs_of d)
+pub driven-numbers : (d : PartialDesign) (n i v : ℕ) → inputs_of d ≤ i → v ≡ first_driven d + (i - inputs_of d)
     → map (λ (y : Existential). y.variable) (map (driven_existential d) (range_with_len i n)) ≡ range_with_len v n
 driven-numbers d zero i v low e = refl
 driven-numbers d (suc n) i v low e =

@@ -50,10 +50,10 @@ opposite-small end l small = by (l % 2 == 1) refl
         let whole : opposite_of l / 2 ≡ l / 2 = ap (λ n. n / 2) is ∙ half in
         omega (arith, whole, small)
 
-double-small : (end v : ℕ) → v < end → Small end (2 * v)
+pub double-small : (end v : ℕ) → v < end → Small end (2 * v)
 double-small end v h = let half : 2 * v / 2 ≡ v = omega arith in omega (arith, half, h)
 
-on-small : (end : ℕ) (number : ℕ → ℕ) (l : ℕ) → number (l / 2) < end → Small end (on_number number l)
+pub on-small : (end : ℕ) (number : ℕ → ℕ) (l : ℕ) → number (l / 2) < end → Small end (on_number number l)
 on-small end number l h = let half : (2 * number (l / 2) + l % 2) / 2 ≡ number (l / 2) =
     omega arith in omega (arith, half, h)
 
@@ -88,11 +88,11 @@ number-small end net input first_gate low inputs gates v ground =
       | inr (inr w) ↦ (let e = w.numbered in let s = w.below in omega (arith, e, s, gates))
     ]
 
-spec-small : (d : PartialDesign) (v : ℕ) → IsGrounded d.specification v → specified_variable d v < end_of d
+pub spec-small : (d : PartialDesign) (v : ℕ) → IsGrounded d.specification v → specified_variable d v < end_of d
 spec-small d v ground = number-small (end_of d) d.specification (λ i. 1 + i) (first_specified d) (omega arith)
     (λ i below. omega (arith, below)) (omega arith) v ground
 
-imp-small : (d : PartialDesign) → IsDesign d → (v : ℕ) → IsGrounded d.implementation v
+pub imp-small : (d : PartialDesign) → IsDesign d → (v : ℕ) → IsGrounded d.implementation v
     → implemented_variable d v < end_of d
 imp-small d keeps v ground = number-small (end_of d) d.implementation (implemented_input d) (first_implemented d)
     (omega arith) inputs (omega arith) v ground

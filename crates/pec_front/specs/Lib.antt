@@ -1,10 +1,17 @@
 pub mod BoxLine
 pub mod Boxes
 pub mod Choices
+pub mod Copies
+pub mod Encoder
 pub mod Encoding
+pub mod Formulas
+pub mod Kept
 pub mod Latest
 pub mod Laws
+pub mod Layout
+pub mod Numbering
 pub mod Outputs
+pub mod Prefixes
 pub mod Reading
 pub mod Rows
 pub mod Steps

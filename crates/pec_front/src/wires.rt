@@ -45,8 +45,12 @@ pub(crate) fn variables_of(alloc: Global, circuit: &Circuit) -> Result<NumberSet
     Ok(variables)
 }
 
-// The inputs behind the first ones, so many.
-fn further_inputs(alloc: Global, circuit: &Circuit, first: usize) -> Result<NumberSet, Memory>
+/// The inputs behind the first ones, so many.
+pub(crate) fn further_inputs(
+    alloc: Global,
+    circuit: &Circuit,
+    first: usize,
+) -> Result<NumberSet, Memory>
     requires { first ≤ length circuit.now.inputs }
     ensures { IfOk result (λ further. further ≡ drop first circuit.now.inputs) }
 {

@@ -1,0 +1,22 @@
+use Rattle.std.proofs.Common.{ℕ, ◌+◌, List, ◌∷◌, ◌++◌, [], ◌∙◌, ap, arith}
+use Rattle.std.proofs.lemmas.List.FromFn.{get_or-range_with_len, length-range_with_len}
+use Rattle.pec_front.proofs.Numbers.{range-join}
+use Rattle.pec_front.proofs.copies.write_numbers.Goals as goal
+
+pub overflow_add-span : goal.overflow_add-span
+overflow_add-span c =
+    let start = c.args.span.start in
+    let count = c.args.span.count in
+    let i = c.loop-i.i in
+    let below = c.loop-i-test.true in
+    let long = length-range_with_len start count in
+    let at = get_or-range_with_len start count i 0 below in
+    let small = c.requires i 0 (omega (arith, long, below)) in
+    omega (arith, at, small)
+
+pub loop-i-preserved : goal.loop-i-preserved
+loop-i-preserved c =
+    let start = c.args.span.start in
+    let i = c.loop-i.i in
+    c.in_ok-push.ensures.items ∙ ap (λ (xs : List ℕ). xs ++ (start + i) ∷ []) c.loop-i.invariant
+    ∙ range-join start i 1
