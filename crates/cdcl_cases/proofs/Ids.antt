@@ -18,13 +18,20 @@ entry_known : (es : List Entry) (id : ℕ) (e : Entry) → numbered has_id es id
 entry_known [] id e at = cc
 entry_known (x ∷ es) id e at = by (has_id x) refl (id == last_id es + 1) refl (λ h. entry_known es id e h) at
   where
-    by : (a : Bool) → has_id x ≡ a → (b : Bool) → (id == last_id es + 1) ≡ b → (numbered has_id es id ≡ Some e → (1 ≤ id) × (id ≤ last_id es))
-        → cond (a && b) (Some x) (numbered has_id es id) ≡ Some e → (1 ≤ id) × (id ≤ cond (has_id x) (last_id es + 1) (last_id es))
+    by : (a : Bool) → has_id x ≡ a → (b : Bool) → (id == last_id es + 1) ≡ b →
+        (numbered has_id es id ≡ Some e → (1 ≤ id) × (id ≤ last_id es))
+        → cond (a && b) (Some x) (numbered has_id es id) ≡ Some e →
+        (1 ≤ id) × (id ≤ cond (has_id x) (last_id es + 1) (last_id es))
     by true p true q before h =
         let same : id ≡ last_id es + 1 = eqb-true id (last_id es + 1) q in
         (omega (arith, same), subst (λ a. id ≤ cond a (last_id es + 1) (last_id es)) (sym p) (omega (arith, same)))
-    by true p false q before h = let r = before h in let high = r.1 in (r.0, subst (λ a. id ≤ cond a (last_id es + 1) (last_id es)) (sym p) (omega (arith, high)))
-    by false p b q before h = let r = before h in (r.0, subst (λ a. id ≤ cond a (last_id es + 1) (last_id es)) (sym p) r.1)
+    by true p false q before h = let r = before h in let high = r.1 in
+        (r.0, subst (λ a. id ≤ cond a (last_id es + 1) (last_id es)) (sym p) (omega (arith, high)))
+    by false p b q before h = let r = before h in (
+      r.0,
+      subst (λ a. id ≤ cond a (last_id es + 1) (last_id es))
+          (sym p) r.1,
+    )
 
 pub clause_known : (es : List Entry) (id : ℕ) (c : List Literal) → clause_at es id ≡ Some c → IsId es id
 clause_known es id c at = by (numbered has_id es id) refl at
@@ -53,14 +60,18 @@ literal_known es id i some = by (clause_at es id) refl some
     by None e h = absurd (false≢true h)
     by (Some c) e h = record { clause = c; at = e; known = clause_known es id c e }
 
-pub named_within : (m : Made) (es : List Entry) (c : List Literal) → AreMade m es → AreNamed es c → StandsWithin m.largest c
-named_within m es c made are = All-weaker (λ (l : Literal). IsSome (name_of es (variable_of l))) (λ (l : Literal). variable_of l ≤ m.largest) (λ l h. made.low (variable_of l) h) c are
+pub named_within : (m : Made) (es : List Entry) (c : List Literal) → AreMade m es → AreNamed es c →
+    StandsWithin m.largest c
+named_within m es c made are = All-weaker (λ (l : Literal). IsSome (name_of es (variable_of l)))
+    (λ (l : Literal). variable_of l ≤ m.largest) (λ l h. made.low (variable_of l) h) c are
 
-pub hinted_within : (m : Made) (es : List Entry) (hints : List ℕ) → AreMade m es → ((id : ℕ) (c : List Literal) → clause_at es id ≡ Some c → AreNamed es c)
+pub hinted_within : (m : Made) (es : List Entry) (hints : List ℕ) → AreMade m es →
+    ((id : ℕ) (c : List Literal) → clause_at es id ≡ Some c → AreNamed es c)
     → All (λ id. IfSome (clause_at es id) (StandsWithin m.largest)) hints
 hinted_within m es [] made are = All-nil (λ id. IfSome (clause_at es id) (StandsWithin m.largest))
 hinted_within m es (h ∷ hints) made are =
-    All-cons (λ id. IfSome (clause_at es id) (StandsWithin m.largest)) h hints (by (clause_at es h) refl) (hinted_within m es hints made are)
+    All-cons (λ id. IfSome (clause_at es id) (StandsWithin m.largest)) h hints (by (clause_at es h) refl)
+    (hinted_within m es hints made are)
   where
     by : (o : Option (List Literal)) → clause_at es h ≡ o → IfSome o (StandsWithin m.largest)
     by None e = tt

@@ -17,9 +17,11 @@ use Rattle.learning_trail.proofs.SearchTurns.{names_same}
 use Rattle.cdcl_cases.specs.declared.calls.Made.{Made}
 use Rattle.cdcl_cases.specs.Making.{AreMade}
 
-same_names : (m : Made) (old new : List Entry) → ((v : ℕ) → name_of new v ≡ name_of old v) → AreMade m old → AreMade m new
+same_names : (m : Made) (old new : List Entry) → ((v : ℕ) → name_of new v ≡ name_of old v) → AreMade m old →
+    AreMade m new
 same_names m old new same made = record {
-  named = All-weaker (λ v. IsSome (name_of old v)) (λ v. IsSome (name_of new v)) (λ v h. ap is_some (same v) ∙ h) m.variables.items made.named;
+  named = All-weaker (λ v. IsSome (name_of old v)) (λ v. IsSome (name_of new v))
+      (λ v h. ap is_some (same v) ∙ h) m.variables.items made.named;
   low = λ v some. made.low v (sym (ap is_some (same v)) ∙ some);
   inputs = λ v k is. made.inputs v k (sym (same v) ∙ is);
 }
@@ -27,19 +29,26 @@ same_names m old new same made = record {
 pub made_learned : (m : Made) (old new : ProofLog) → HasLearned old new → AreMade m old.entries → AreMade m new.entries
 made_learned m old new learned made = same_names m old.entries new.entries (names_same old new learned) made
 
-made_refuted : (m : Made) (old new : ProofLog) (assumptions : List Literal) (id : ℕ) → IsRefutedUnder old new assumptions id → AreMade m old.entries → AreMade m new.entries
+made_refuted : (m : Made) (old new : ProofLog) (assumptions : List Literal) (id : ℕ) →
+    IsRefutedUnder old new assumptions id → AreMade m old.entries → AreMade m new.entries
 made_refuted m old new assumptions id refuted made =
     subst (λ (l : ProofLog). AreMade m l.entries) (sym refuted.answered)
-    (same_names m old.entries (Answer refuted.clause refuted.hints ∷ refuted.before.entries) (λ v. names_same old refuted.before refuted.learned v) made)
+    (same_names m old.entries (Answer refuted.clause refuted.hints ∷ refuted.before.entries)
+    (λ v. names_same old refuted.before refuted.learned v) made)
 
-pub refuted_id : (old new : ProofLog) (assumptions : List Literal) (id : ℕ) → IsRefutedUnder old new assumptions id → IsId new.entries id
+pub refuted_id : (old new : ProofLog) (assumptions : List Literal) (id : ℕ) → IsRefutedUnder old new assumptions id →
+    IsId new.entries id
 refuted_id old new assumptions id refuted =
     let last = refuted.last in
-    let count : last_id new.entries ≡ last_id refuted.before.entries + 1 = ap (λ (l : ProofLog). last_id l.entries) refuted.answered in
+    let count : last_id new.entries ≡ last_id refuted.before.entries + 1 =
+    ap (λ (l : ProofLog). last_id l.entries) refuted.answered in
     record { from_one = omega (arith, last, count); last = omega (arith, last) }
 
 -- whatever a search answered
-pub made_answered : (m : Made) (old new : ProofLog) (assumptions : List Literal) (answer : SearchAnswer) → AreMade m old.entries
-    → (answer ≡ Sat → HasLearned old new) → ((id : ℕ) → answer ≡ Unsat id → IsRefutedUnder old new assumptions id) → AreMade m new.entries
+pub made_answered : (m : Made) (old new : ProofLog) (assumptions : List Literal) (answer : SearchAnswer) →
+    AreMade m old.entries
+    → (answer ≡ Sat → HasLearned old new) → ((id : ℕ) → answer ≡ Unsat id → IsRefutedUnder old new assumptions id) →
+    AreMade m new.entries
 made_answered m old new assumptions Sat made sat unsat = made_learned m old new (sat refl) made
-made_answered m old new assumptions (Unsat id) made sat unsat = made_refuted m old new assumptions id (unsat id refl) made
+made_answered m old new assumptions (Unsat id) made sat unsat =
+    made_refuted m old new assumptions id (unsat id refl) made

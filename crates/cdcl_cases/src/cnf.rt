@@ -3,7 +3,7 @@
 ghost use Rattle.std.specs.Prelude.{◌≡◌, ◌<◌, [], IfOk, length};
 ghost use Rattle.cdcl_cases.specs.Making.{AreMade};
 
-use crate::calls::{Outcome, Made, make_group, make_var, no_variables};
+use crate::calls::{Made, Outcome, make_group, make_var, no_variables};
 use crate::judging::Line;
 use crate::tables::{Given, Question, add_given, found_by};
 use anyhow::Result;

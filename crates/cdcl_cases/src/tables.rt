@@ -12,7 +12,7 @@ ghost use Rattle.std.specs.Prelude.{[], IfOk};
 ghost use Rattle.cdcl_cases.specs.Making.{AreMade};
 
 use crate::calls::{
-    Outcome, Made, add_clause, make_group, make_var, no_variables, outcome_of, seal, search,
+    Made, Outcome, add_clause, make_group, make_var, no_variables, outcome_of, seal, search,
 };
 use crate::numbers::{excludes_itself, group_at, groups_at, plain_lits};
 use anyhow::{Result, anyhow};

@@ -70,7 +70,8 @@ module _ (f : Dqbf) (well : IsWellFormed f) (entries : List Entry) where
       let back : (x - 1) % V + 1 ≡ e.variable = omega arith in
       let place = p.place in
       let before : p.k - 1 ≡ k = omega arith in
-      let row_there : slice_get rows k ≡ Some p.row = ap (slice_get rows) (sym before) ∙ (from_one rows p.k p.row p.row_is).1 in
+      let row_there : slice_get rows k ≡ Some p.row = ap (slice_get rows) (sym before) ∙
+      (from_one rows p.k p.row p.row_is).1 in
       let own_there : existential_of f ((x - 1) % V + 1) ≡ Some e = ap (existential_of f) (back ∙ own.1) ∙ p.own in
       ap (λ n. normal_of f rows x (slice_get rows n) (existential_of f ((x - 1) % V + 1))) quotient
       ∙ ap (λ o. normal_of f rows x o (existential_of f ((x - 1) % V + 1))) row_there
@@ -81,22 +82,27 @@ module _ (f : Dqbf) (well : IsWellFormed f) (entries : List Entry) where
     normal_clause : (c : List Literal) → map (normal_literal f rows) (renamed_clause r c) ≡ renamed_clause r c
     normal_clause [] = refl
     normal_clause (l ∷ ls) = by_option (normal_clause ls) (r (variable_of l)) refl where
-      by_option : map (normal_literal f rows) (renamed_clause r ls) ≡ renamed_clause r ls → (o : Option ℕ) → r (variable_of l) ≡ o →
-          map (normal_literal f rows) (cons_option (option_map (λ w. on_variable w l) o) (renamed_clause r ls)) ≡ cons_option (option_map (λ w. on_variable w l) o) (renamed_clause r ls)
+      by_option : map (normal_literal f rows) (renamed_clause r ls) ≡ renamed_clause r ls → (o : Option ℕ) →
+          r (variable_of l) ≡ o →
+          map (normal_literal f rows) (cons_option (option_map (λ w. on_variable w l) o) (renamed_clause r ls))
+          ≡ cons_option (option_map (λ w. on_variable w l) o) (renamed_clause r ls)
       by_option later None e = later
       by_option later (Some x) e =
           let p = pair_parts f rows (name_of entries (variable_of l)) x (part (variable_of l) x e) in
           let same : normal_literal f rows (on_variable x l) ≡ on_variable x l =
           ap (λ n. on_variable (normal_number f rows n) (on_variable x l)) (variable_of-on x l)
-          ∙ ap (λ n. on_variable n (on_variable x l)) (normal_pair x (name_of entries (variable_of l)) p) ∙ on-on x x l in
+          ∙ ap (λ n. on_variable n (on_variable x l)) (normal_pair x (name_of entries (variable_of l)) p)
+          ∙ on-on x x l in
           ap (λ q. q ∷ map (normal_literal f rows) (renamed_clause r ls)) same ∙ ap (λ qs. on_variable x l ∷ qs) later
 
-    normal_steps : (base_id : Origin → ℕ) (number : ℕ → ℕ) (ids : List ℕ) → map (normal_step f rows) (line_steps r base_id entries number ids) ≡ line_steps r base_id entries number ids
+    normal_steps : (base_id : Origin → ℕ) (number : ℕ → ℕ) (ids : List ℕ) →
+        map (normal_step f rows) (line_steps r base_id entries number ids) ≡ line_steps r base_id entries number ids
     normal_steps base_id number [] = refl
     normal_steps base_id number (id ∷ ids) =
         let step = line_step r base_id entries number id in
         let here : normal_step f rows step ≡ step = ap (λ ls. record step { literals = ls }) (normal_clause _) in
-        ap (λ s. s ∷ map (normal_step f rows) (line_steps r base_id entries number ids)) here ∙ ap (λ ss. step ∷ ss) (normal_steps base_id number ids)
+        ap (λ s. s ∷ map (normal_step f rows) (line_steps r base_id entries number ids)) here ∙ ap (λ ss. step ∷ ss)
+        (normal_steps base_id number ids)
 
   pair_right : (x : ℕ) (o : Option Name) → IsPair f rows o x → is_pair_number f (length rows) x ≡ true
   pair_right x o p =
@@ -120,11 +126,15 @@ module _ (f : Dqbf) (well : IsWellFormed f) (entries : List Entry) where
       let own_there : existential_of f ((x - 1) % V + 1) ≡ Some e = ap (existential_of f) (back ∙ own.1) ∙ p.own in
       let v_there : not (V == 0) ≡ true = ap not (ne_eqb V 0 (λ z. omega (arith, z, low, high))) in
       let x_there : not (x == 0) ≡ true = ap not (ne_eqb x 0 (λ z. omega (arith, z, is, low))) in
-      and_from (not (V == 0)) (not (x == 0) && (nat_lt ((x - 1) / V) (length rows) && is_some (existential_of f ((x - 1) % V + 1)))) v_there
-      (and_from (not (x == 0)) (nat_lt ((x - 1) / V) (length rows) && is_some (existential_of f ((x - 1) % V + 1))) x_there
-      (and_from (nat_lt ((x - 1) / V) (length rows)) (is_some (existential_of f ((x - 1) % V + 1))) (lt-ltb ((x - 1) / V) (length rows) q_small) (ap is_some own_there)))
+      and_from (not (V == 0)) (not (x == 0) && (nat_lt ((x - 1) / V) (length rows) && is_some
+      (existential_of f ((x - 1) % V + 1)))) v_there
+      (and_from (not (x == 0)) (nat_lt ((x - 1) / V) (length rows) && is_some
+      (existential_of f ((x - 1) % V + 1))) x_there
+      (and_from (nat_lt ((x - 1) / V) (length rows)) (is_some (existential_of f ((x - 1) % V + 1)))
+      (lt-ltb ((x - 1) / V) (length rows) q_small) (ap is_some own_there)))
 
-module _ (f : Dqbf) (entries : List Entry) (id : ℕ) (lawful : Each MayFollow entries) (shown : IsRefutedBy entries id) where
+module _ (f : Dqbf) (entries : List Entry) (id : ℕ) (lawful : Each MayFollow entries)
+    (shown : IsRefutedBy entries id) where
   abbrev all : List Entry
   all = Answer shown.clause shown.hints ∷ shown.earlier
 
@@ -135,12 +145,14 @@ module _ (f : Dqbf) (entries : List Entry) (id : ℕ) (lawful : Each MayFollow e
   id_is = shown.last ∙ ap last_id shown.answered
 
   answer_at : numbered has_id entries id ≡ Some (Answer shown.clause shown.hints)
-  answer_at = ap (λ xs. numbered has_id xs id) shown.answered ∙ ap (numbered has_id all) id_is ∙ answer_there shown.earlier shown.clause shown.hints lawful'
+  answer_at = ap (λ xs. numbered has_id xs id) shown.answered ∙ ap (numbered has_id all) id_is
+      ∙ answer_there shown.earlier shown.clause shown.hints lawful'
 
   answer_empty : (r : Renaming) → IsPartOf r (pair_renaming f entries) → is_empty (line_clause r entries id) ≡ true
   answer_empty r part =
       ap (λ o. is_empty (renamed_clause r (clause_or_empty o))) answer_at
-      ∙ ap is_empty (selectors_dropped shown.earlier shown.clause shown.hints lawful' r no_selector shown.clause shown.decides.selectors) where
+      ∙ ap is_empty (selectors_dropped shown.earlier shown.clause shown.hints lawful' r no_selector shown.clause
+      shown.decides.selectors) where
         no_selector : (v : ℕ) → name_of shown.earlier v ≡ Some (Selector v) → r v ≡ None
         no_selector v named = by_option (r v) refl where
           there : name_of entries v ≡ Some (Selector v)
@@ -148,26 +160,32 @@ module _ (f : Dqbf) (entries : List Entry) (id : ℕ) (lawful : Each MayFollow e
 
           by_option : (o : Option ℕ) → r v ≡ o → o ≡ None
           by_option None e = refl
-          by_option (Some x) e = let both : None ≡ Some x = sym (ap (pair_of f (rows_of entries)) there) ∙ part v x e in cc
+          by_option (Some x) e = let both : None ≡ Some x = sym (ap (pair_of f (rows_of entries)) there)
+              ∙ part v x e in cc
 
 -- lines are put on their pairs one by one
-normal_lines : (f : Dqbf) (all : List (List Bool)) (steps : List ProofStep) → map (normal_item f all) (map derived steps) ≡ map derived (map (normal_step f all) steps)
+normal_lines : (f : Dqbf) (all : List (List Bool)) (steps : List ProofStep) →
+    map (normal_item f all) (map derived steps) ≡ map derived (map (normal_step f all) steps)
 normal_lines f all [] = refl
 normal_lines f all (s ∷ ss) = ap (λ items. derived (normal_step f all s) ∷ items) (normal_lines f all ss)
 
-module _ (f : Dqbf) (live : List ℕ) (entries : List Entry) (id : ℕ) (ids : List ℕ) (r : Renaming) (well : IsWellFormed f) (lawful : AreLogged entries)
+module _ (f : Dqbf) (live : List ℕ) (entries : List Entry) (id : ℕ) (ids : List ℕ) (r : Renaming)
+    (well : IsWellFormed f) (lawful : AreLogged entries)
     (given : EachGivenReached (IsInstanceClause f live entries) entries id)
     (shown : IsRefutedBy entries id) (are : AreReached entries id ids) (names : IsPairRenaming f entries ids r) where
   abbrev C : ℕ
   C = length f.matrix
 
   abbrev IsUsed : Origin → List Literal → Type 0
-  IsUsed origin c = IsInstanceClause f live entries origin c × (renamed_clause r c ≡ renamed_clause (pair_renaming f entries) c)
+  IsUsed origin c = IsInstanceClause f live entries origin c ×
+      (renamed_clause r c ≡ renamed_clause (pair_renaming f entries) c)
 
-  used : (h : ℕ) (origin : Origin) (c : List Literal) → Reaches entries id h → numbered has_id entries h ≡ Some (Given origin c) → IsUsed origin c
+  used : (h : ℕ) (origin : Origin) (c : List Literal) → Reaches entries id h →
+      numbered has_id entries h ≡ Some (Given origin c) → IsUsed origin c
   used h origin c reached at = (given h origin c reached at, names.whole h origin c (are.complete h reached) at)
 
-  base_right : IsRenamedBase r (instance_id live C) IsUsed (instance_at f (rows_of entries)) (last_instance f entries) entries
+  base_right : IsRenamedBase r (instance_id live C) IsUsed (instance_at f (rows_of entries))
+      (last_instance f entries) entries
   base_right h origin c at kept =
       let b = instances_are_expansion f live entries well lawful h origin c at kept.0 in
       (b.0 ∙ ap Some (sym kept.1), b.1)
@@ -179,30 +197,44 @@ module _ (f : Dqbf) (live : List ℕ) (entries : List Entry) (id : ℕ) (ids : L
   numbers = lines_have_numbers entries id (last_instance f entries) ids are
 
   lines : AreLines IsUsed entries (exported_number f entries ids) (last_instance f entries) [] (derived_ids entries ids)
-  lines = are_lines IsUsed entries lawful id (exported_number f entries ids) (last_instance f entries) numbers used ids are
+  lines = are_lines IsUsed entries lawful id (exported_number f entries ids)
+      (last_instance f entries) numbers used ids are
 
   finished : AreFinished r entries false (derived_ids entries ids)
-  finished = are_finished IsUsed entries lawful id (exported_number f entries ids) (last_instance f entries) numbers used r ids are
+  finished = are_finished IsUsed entries lawful id (exported_number f entries ids)
+      (last_instance f entries) numbers used r ids are
       (ap is_derived (answer_at f entries id lawful shown)) (answer_empty f entries id lawful shown r names.right)
 
-  accepted : Each IsDerivedByHints entries → refutation_fault f (record { rows = rows_of entries; items = map derived (exported_steps f live entries ids r) }) ≡ None
+  accepted : Each IsDerivedByHints entries → refutation_fault f
+      (record { rows = rows_of entries; items = map derived (exported_steps f live entries ids r) }) ≡ None
   accepted lemmas =
-      ap (items_fault false (instance_at f (rows_of entries))) (normal_lines f (rows_of entries) (exported_steps f live entries ids r)
-      ∙ ap (map derived) (normal_steps f well entries r names.right (instance_id live C) (exported_number f entries ids) (derived_ids entries ids)))
+      ap (items_fault false (instance_at f (rows_of entries)))
+      (normal_lines f (rows_of entries) (exported_steps f live entries ids r)
+      ∙ ap (map derived) (normal_steps f well entries r names.right (instance_id live C) (exported_number f entries ids)
+      (derived_ids entries ids)))
       ∙ steps_alone false (instance_at f (rows_of entries)) (exported_steps f live entries ids r)
-      ∙ lines_are_derived r (instance_id live C) IsUsed (instance_at f (rows_of entries)) (last_instance f entries) entries (exported_number f entries ids) (derived_ids entries ids)
+      ∙ lines_are_derived r (instance_id live C) IsUsed (instance_at f (rows_of entries))
+      (last_instance f entries) entries (exported_number f entries ids) (derived_ids entries ids)
       injective lawful lemmas base_right lines false finished
 
-  allowed : AreSteps (is_pair_number f (length (rows_of entries))) (first_id f (length (rows_of entries))) (exported_steps f live entries ids r)
+  allowed : AreSteps (is_pair_number f (length (rows_of entries))) (first_id f (length (rows_of entries)))
+      (exported_steps f live entries ids r)
   allowed =
       let base = last_instance f entries in
-      let rising = rising_filter (λ h. is_derived (numbered has_id entries h)) ids (rising_of ids (AllPairs-from_increasing ids are.ascending)) in
-      steps_allowed r (instance_id live C) IsUsed (instance_at f (rows_of entries)) base entries (exported_number f entries ids) (is_pair_number f (length (rows_of entries)))
-      refl base_right (λ v x h. pair_right f well entries x (name_of entries v) (pair_parts f (rows_of entries) (name_of entries v) x (names.right v x h))) (derived_ids entries ids) [] (base + 1)
-      lines (consecutive base (derived_ids entries ids) rising) (omega arith) (λ h inside. absurd (let b = inside.1 in omega arith))
+      let rising = rising_filter (λ h. is_derived (numbered has_id entries h)) ids
+      (rising_of ids (AllPairs-from_increasing ids are.ascending)) in
+      steps_allowed r (instance_id live C) IsUsed (instance_at f (rows_of entries)) base entries
+      (exported_number f entries ids) (is_pair_number f (length (rows_of entries)))
+      refl base_right (λ v x h. pair_right f well entries x (name_of entries v)
+      (pair_parts f (rows_of entries) (name_of entries v) x (names.right v x h))) (derived_ids entries ids) []
+      (base + 1)
+      lines (consecutive base (derived_ids entries ids) rising) (omega arith)
+      (λ h inside. absurd (let b = inside.1 in omega arith))
 
 pub exported_answer_refutes : ExportedAnswerRefutes
-exported_answer_refutes f live entries id ids r well lawful given lemmas shown are names = accepted f live entries id ids r well lawful given shown are names lemmas
+exported_answer_refutes f live entries id ids r well lawful given lemmas shown are names =
+    accepted f live entries id ids r well lawful given shown are names lemmas
 
 pub exported_lines_are_allowed : ExportedLinesAreAllowed
-exported_lines_are_allowed f live entries id ids r well lawful given shown are names = allowed f live entries id ids r well lawful given shown are names
+exported_lines_are_allowed f live entries id ids r well lawful given shown are names =
+    allowed f live entries id ids r well lawful given shown are names

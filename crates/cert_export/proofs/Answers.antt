@@ -18,7 +18,8 @@ use Rattle.hint_log.specs.Deciding.{ReachesGiven, AreNegatedSelectors}
 use Rattle.log_laws.proofs.ReachedClauses.{numbered_kept}
 use Rattle.cert_export.proofs.ReachedLines.{hints_below}
 
-module _ (earlier : List Entry) (clause : List Literal) (hints : List ℕ) (lawful : Each MayFollow (Answer clause hints ∷ earlier)) where
+module _ (earlier : List Entry) (clause : List Literal) (hints : List ℕ)
+    (lawful : Each MayFollow (Answer clause hints ∷ earlier)) where
   abbrev all : List Entry
   all = Answer clause hints ∷ earlier
 
@@ -26,7 +27,8 @@ module _ (earlier : List Entry) (clause : List Literal) (hints : List ℕ) (lawf
   last = last_id all
 
   pub answer_there : numbered has_id all last ≡ Some (Answer clause hints)
-  answer_there = cond-true (last == count has_id earlier + 1) (Some (Answer clause hints)) (numbered has_id earlier last) (eq-eqb last (count has_id earlier + 1) refl)
+  answer_there = cond-true (last == count has_id earlier + 1) (Some (Answer clause hints))
+      (numbered has_id earlier last) (eq-eqb last (count has_id earlier + 1) refl)
 
   -- what the answer reaches is reached by its hints
   abbrev IsBelow : ℕ → Type 0
@@ -51,17 +53,28 @@ module _ (earlier : List Entry) (clause : List Literal) (hints : List ℕ) (lawf
   ]
 
   -- the given clauses that the answer reaches
-  pub reached_given : (h : ℕ) (origin : Origin) (c : List Literal) → Reaches all last h → numbered has_id all h ≡ Some (Given origin c) → ReachesGiven earlier hints origin c
+  pub reached_given : (h : ℕ) (origin : Origin) (c : List Literal) → Reaches all last h →
+      numbered has_id all h ≡ Some (Given origin c) → ReachesGiven earlier hints origin c
   reached_given h origin c reached at = elim (reached_by_hint h reached) [
-    | inl same ↦ (let both : Some (Answer clause hints) ≡ Some (Given origin c) = sym answer_there ∙ ap (numbered has_id all) (sym same) ∙ at in cc)
-    | inr below ↦ record { hint = below.0; id = h; hinted = below.1; reached = below.2; is_given = sym (numbered_kept (Answer clause hints ∷ []) earlier h below.3) ∙ at }
+    | inl same ↦ (let both : Some (Answer clause hints) ≡ Some (Given origin c) =
+        sym answer_there ∙ ap (numbered has_id all) (sym same) ∙ at in cc)
+    | inr below ↦ record {
+      hint = below.0;
+      id = h;
+      hinted = below.1;
+      reached = below.2;
+      is_given =
+          sym (numbered_kept (Answer clause hints ∷ []) earlier h below.3) ∙ at;
+    }
   ]
 
   -- a clause of selectors is exported as the empty one
-  pub selectors_dropped : (r : Renaming) → ((v : ℕ) → name_of earlier v ≡ Some (Selector v) → r v ≡ None) → (c : List Literal) → AreNegatedSelectors earlier c → renamed_clause r c ≡ []
+  pub selectors_dropped : (r : Renaming) → ((v : ℕ) → name_of earlier v ≡ Some (Selector v) → r v ≡ None) →
+      (c : List Literal) → AreNegatedSelectors earlier c → renamed_clause r c ≡ []
   selectors_dropped r none [] h = refl
   selectors_dropped r none (l ∷ ls) h =
-      let P : Literal → Type 0 = λ q. (q ≡ negative (variable_of q)) × (name_of earlier (variable_of q) ≡ Some (Selector (variable_of q))) in
+      let P : Literal → Type 0 = λ q. (q ≡ negative (variable_of q)) ×
+      (name_of earlier (variable_of q) ≡ Some (Selector (variable_of q))) in
       let here = All-head P l ls h in
       ap (λ o. cons_option (option_map (λ w. on_variable w l) o) (renamed_clause r ls)) (none (variable_of l) here.1)
       ∙ selectors_dropped r none ls (All-tail P l ls h)

@@ -21,23 +21,27 @@ index_rises : (a b p : ℕ) → a ≤ b → ordering_index (nat_cmp a p) ≤ ord
 index_rises a b p le = grind (arith, nat_tests)
 
 -- what is found is at its place
-pub place_found : (ids : List ℕ) (id at : ℕ) → IsStrictlyIncreasing ids → at < length ids → IsBinarySearchResult (λ y. nat_cmp y id) ids (Ok at) → at ≡ place_in ids id
+pub place_found : (ids : List ℕ) (id at : ℕ) → IsStrictlyIncreasing ids → at < length ids →
+    IsBinarySearchResult (λ y. nat_cmp y id) ids (Ok at) → at ≡ place_in ids id
 place_found ids id at ascending below found =
     let same : get_or ids at id ≡ id = same_at (get_or ids at id) id (found id) in
     sym (place_of ids (rising_of ids (AllPairs-from_increasing ids ascending)) at id below) ∙ ap (place_in ids) same
 
 -- an id that is there is found
-pub found_there : (ids : List ℕ) (id i : ℕ) → IsStrictlyIncreasing ids → Contains ids id → IsBinarySearchResult (λ y. nat_cmp y id) ids (Err i) → ⊥
+pub found_there : (ids : List ℕ) (id i : ℕ) → IsStrictlyIncreasing ids → Contains ids id →
+    IsBinarySearchResult (λ y. nat_cmp y id) ids (Err i) → ⊥
 found_there ids id i ascending m result =
     no (result (λ a b d le l. index_rises (get_or ids a d) (get_or ids b d) id (rises a b d le l))) where
       rises : (a b d : ℕ) → a ≤ b → b < length ids → get_or ids a d ≤ get_or ids b d
       rises a b d le l = by_case (cases_lt a b) where
         by_case : (a < b) ⊎ (b ≤ a) → get_or ids a d ≤ get_or ids b d
         by_case (inl less) = let h = AllPairs-from_increasing ids ascending a b d less l in omega (arith, h)
-        by_case (inr more) = let same : a ≡ b = omega (arith, le, more) in let e = ap (λ n. get_or ids n d) same in omega (arith, e)
+        by_case (inr more) = let same : a ≡ b = omega (arith, le, more) in let e = ap (λ n. get_or ids n d) same in
+            omega (arith, e)
 
       at_member : nat_cmp (get_or ids m.0 id) id ≡ Equal
       at_member = rw m.2 (equal_at id)
 
       no : AllWithin (λ y. nat_cmp y id ≡ Less) ids 0 i × AllWithin (λ y. nat_cmp y id ≡ Greater) ids i (length ids) → ⊥
-      no parts = ⊎_elim (λ l. let a = parts.0 m.0 id (omega arith) l in let b = at_member in cc) (λ l. let a = parts.1 m.0 id l m.1 in let b = at_member in cc) (cases_lt m.0 i)
+      no parts = ⊎_elim (λ l. let a = parts.0 m.0 id (omega arith) l in let b = at_member in cc)
+          (λ l. let a = parts.1 m.0 id l m.1 in let b = at_member in cc) (cases_lt m.0 i)

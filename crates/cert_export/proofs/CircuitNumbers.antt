@@ -22,10 +22,12 @@ use Rattle.hint_log.specs.ProductiveLog.{MatchesOrigin, IsRightlyNamed}
 use Rattle.cert_export.proofs.Codes.{opposite_even, opposite_odd, as_even, as_odd, AreVariables, no_constants}
 use Rattle.cert_export.proofs.PairNames.{same_name}
 
-pub position_below : (v : ℕ) (xs : List ℕ) → list_any (λ x. x == v) xs ≡ true → position_or_len (λ x. x == v) xs < length xs
+pub position_below : (v : ℕ) (xs : List ℕ) → list_any (λ x. x == v) xs ≡ true →
+    position_or_len (λ x. x == v) xs < length xs
 position_below v [] h = absurd (false≢true h)
 position_below v (x ∷ xs) h = by_bit (x == v) (position_below v xs) h where
-  by_bit : (b : Bool) → (list_any (λ z. z == v) xs ≡ true → position_or_len (λ z. z == v) xs < length xs) → (b || list_any (λ z. z == v) xs) ≡ true → cond (not b) (1 + position_or_len (λ z. z == v) xs) 0 < suc (length xs)
+  by_bit : (b : Bool) → (list_any (λ z. z == v) xs ≡ true → position_or_len (λ z. z == v) xs < length xs) →
+      (b || list_any (λ z. z == v) xs) ≡ true → cond (not b) (1 + position_or_len (λ z. z == v) xs) 0 < suc (length xs)
   by_bit true later h = omega arith
   by_bit false later h = let r = later h in omega (arith, r)
 
@@ -37,28 +39,42 @@ pub record IsPlace (xs : List ℕ) (v n : ℕ) : Type 0 where
   pub number : n ≡ place + 1
   pub first : position_or_len (λ x. x == v) xs ≡ place
 
-pub position_is : (xs : List ℕ) (v : ℕ) → list_any (λ x. x == v) xs ≡ true → IsPlace xs v (position_or_len (λ x. x == v) xs + 1)
+pub position_is : (xs : List ℕ) (v : ℕ) → list_any (λ x. x == v) xs ≡ true →
+    IsPlace xs v (position_or_len (λ x. x == v) xs + 1)
 position_is xs v h =
     let below = position_below v xs h in
-    record { place = position_or_len (λ x. x == v) xs; below = below; there = eqb-true _ v (passes_at_first (λ x. x == v) xs 0 below); number = refl; first = refl }
+    record {
+      place = position_or_len (λ x. x == v) xs;
+      below = below;
+      there =
+          eqb-true _ v (passes_at_first (λ x. x == v) xs 0 below);
+      number = refl;
+      first = refl;
+    }
 
 pub place_parts : (xs : List ℕ) (v n : ℕ) → place_from_one xs v ≡ Some n → IsPlace xs v n
 place_parts xs v n h = by_bit (list_any (λ x. x == v) xs) refl h where
-  by_bit : (b : Bool) → list_any (λ x. x == v) xs ≡ b → cond b (Some (position_or_len (λ x. x == v) xs + 1)) None ≡ Some n → IsPlace xs v n
-  by_bit true e h = let same : position_or_len (λ x. x == v) xs + 1 ≡ n = cc in subst (IsPlace xs v) same (position_is xs v e)
+  by_bit : (b : Bool) → list_any (λ x. x == v) xs ≡ b → cond b (Some (position_or_len (λ x. x == v) xs + 1)) None
+      ≡ Some n → IsPlace xs v n
+  by_bit true e h = let same : position_or_len (λ x. x == v) xs + 1 ≡ n = cc in
+      subst (IsPlace xs v) same (position_is xs v e)
   by_bit false e h = cc
 
 pub among : (xs : List ℕ) (v : ℕ) → Contains xs v → list_any (λ x. x == v) xs ≡ true
 among xs v inside = list_any_at (λ x. x == v) xs inside.0 v inside.1 (eq-eqb (get_or xs inside.0 v) v inside.2)
 
-pub place_there : (xs : List ℕ) (v : ℕ) → Contains xs v → place_from_one xs v ≡ Some (position_or_len (λ x. x == v) xs + 1)
-place_there xs v inside = cond-true (list_any (λ x. x == v) xs) (Some (position_or_len (λ x. x == v) xs + 1)) None (among xs v inside)
+pub place_there : (xs : List ℕ) (v : ℕ) → Contains xs v → place_from_one xs v ≡ Some
+    (position_or_len (λ x. x == v) xs + 1)
+place_there xs v inside = cond-true (list_any (λ x. x == v) xs) (Some (position_or_len (λ x. x == v) xs + 1)) None
+    (among xs v inside)
 
-pub number_below : {X : Type 0} (xs : List X) (j : ℕ) (x : X) → numbered_from_one xs j ≡ Some x → (1 ≤ j) × (j ≤ length xs)
+pub number_below : {X : Type 0} (xs : List X) (j : ℕ) (x : X) → numbered_from_one xs j ≡ Some x →
+    (1 ≤ j) × (j ≤ length xs)
 number_below xs zero x h = cc
 number_below [] (suc j) x h = cc
 number_below (y ∷ ys) (suc zero) x h = (omega arith, omega arith)
-number_below (y ∷ ys) (suc (suc j)) x h = let r = number_below ys (suc j) x h in let s = r.1 in (omega arith, omega arith)
+number_below (y ∷ ys) (suc (suc j)) x h = let r = number_below ys (suc j) x h in let s = r.1 in
+    (omega arith, omega arith)
 
 module _ (f : Dqbf) (e : CircuitPart) where
   abbrev pub IsInputNumber : Option Name → ℕ → Type 0
@@ -79,17 +95,27 @@ module _ (f : Dqbf) (e : CircuitPart) where
   number_cases v (Some (Pair k y)) x h = cc
   number_cases v (Some (Input u)) x h = inl (u, refl, place_parts f.universals u x h)
   number_cases v (Some (And a b)) x h = by_option (place_from_one e.gates v) refl h where
-    by_option : (o : Option ℕ) → place_from_one e.gates v ≡ o → option_map (λ p. length f.universals + p) o ≡ Some x → IsNumbered v (Some (And a b)) x
+    by_option : (o : Option ℕ) → place_from_one e.gates v ≡ o → option_map (λ p. length f.universals + p) o ≡ Some x →
+        IsNumbered v (Some (And a b)) x
     by_option None is h = cc
-    by_option (Some n) is h = let same : length f.universals + n ≡ x = cc in inr (inl (n, place_parts e.gates v n is, sym same))
+    by_option (Some n) is h = let same : length f.universals + n ≡ x = cc in
+        inr (inl (n, place_parts e.gates v n is, sym same))
   number_cases v (Some (Bad g j)) x h = by_bit (g == e.group) refl h where
-    by_option : g ≡ e.group → (o : Option (List Literal)) → numbered_from_one f.matrix j ≡ o → option_map (λ clause. max_number f e + j) o ≡ Some x → IsNumbered v (Some (Bad g j)) x
+    by_option : g ≡ e.group → (o : Option (List Literal)) → numbered_from_one f.matrix j ≡ o →
+        option_map (λ clause. max_number f e + j) o ≡ Some x → IsNumbered v (Some (Bad g j)) x
     by_option same None is h = cc
     by_option same (Some clause) is h =
         let number : max_number f e + j ≡ x = cc in
-        inr (inr (j, ap (λ k. Some (Bad k j)) same, (number_below f.matrix j clause is).0, sym number, (number_below f.matrix j clause is).1))
+        inr (inr (
+          j,
+          ap (λ k. Some (Bad k j)) same,
+          (number_below f.matrix j clause is).0,
+          sym number,
+          (number_below f.matrix j clause is).1,
+        ))
 
-    by_bit : (b : Bool) → (g == e.group) ≡ b → cond b (option_map (λ clause. max_number f e + j) (numbered_from_one f.matrix j)) None ≡ Some x → IsNumbered v (Some (Bad g j)) x
+    by_bit : (b : Bool) → (g == e.group) ≡ b → cond b (option_map (λ clause. max_number f e + j)
+        (numbered_from_one f.matrix j)) None ≡ Some x → IsNumbered v (Some (Bad g j)) x
     by_bit true is h = by_option (eqb-true g e.group is) (numbered_from_one f.matrix j) refl h
     by_bit false is h = cc
   number_cases v (Some (CopyOf side u)) x h = cc
@@ -114,18 +140,25 @@ module _ (f : Dqbf) (e : CircuitPart) where
     one_name n m same h k = same_name entries v w n lawful h (k ∙ ap Some (sym same))
 
     by_cases : IsNumbered v (name_of entries v) x → IsNumbered w (name_of entries w) x → v ≡ w
-    by_cases (inl i) (inl k) = one_name (Input i.0) (Input k.0) (ap Input (same_place f.universals i.0 k.0 x i.2 k.2)) i.1 k.1
-    by_cases (inl i) (inr (inl g)) = let a = i.2.number in let b = i.2.below in let c = g.1.number in let d = g.2 in absurd (omega (arith, a, b, c, d))
-    by_cases (inl i) (inr (inr j)) = let a = i.2.number in let b = i.2.below in let c = j.2 in let d = j.3 in absurd (omega (arith, a, b, c, d))
-    by_cases (inr (inl g)) (inl i) = let a = i.2.number in let b = i.2.below in let c = g.1.number in let d = g.2 in absurd (omega (arith, a, b, c, d))
+    by_cases (inl i) (inl k) = one_name (Input i.0) (Input k.0)
+        (ap Input (same_place f.universals i.0 k.0 x i.2 k.2)) i.1 k.1
+    by_cases (inl i) (inr (inl g)) = let a = i.2.number in let b = i.2.below in let c = g.1.number in let d = g.2 in
+        absurd (omega (arith, a, b, c, d))
+    by_cases (inl i) (inr (inr j)) = let a = i.2.number in let b = i.2.below in let c = j.2 in let d = j.3 in
+        absurd (omega (arith, a, b, c, d))
+    by_cases (inr (inl g)) (inl i) = let a = i.2.number in let b = i.2.below in let c = g.1.number in let d = g.2 in
+        absurd (omega (arith, a, b, c, d))
     by_cases (inr (inl g)) (inr (inl h)) =
         let a = g.2 in
         let b = h.2 in
         let same : g.0 ≡ h.0 = omega (arith, a, b) in
         same_place e.gates v w h.0 (subst (IsPlace e.gates v) same g.1) h.1
-    by_cases (inr (inl g)) (inr (inr j)) = let a = g.1.number in let b = g.1.below in let c = j.2 in let d = j.3 in let i = g.2 in absurd (omega (arith, a, b, c, d, i))
-    by_cases (inr (inr j)) (inl i) = let a = i.2.number in let b = i.2.below in let c = j.2 in let d = j.3 in absurd (omega (arith, a, b, c, d))
-    by_cases (inr (inr j)) (inr (inl g)) = let a = g.1.number in let b = g.1.below in let c = j.2 in let d = j.3 in let i = g.2 in absurd (omega (arith, a, b, c, d, i))
+    by_cases (inr (inl g)) (inr (inr j)) = let a = g.1.number in let b = g.1.below in let c = j.2 in let d = j.3 in
+        let i = g.2 in absurd (omega (arith, a, b, c, d, i))
+    by_cases (inr (inr j)) (inl i) = let a = i.2.number in let b = i.2.below in let c = j.2 in let d = j.3 in
+        absurd (omega (arith, a, b, c, d))
+    by_cases (inr (inr j)) (inr (inl g)) = let a = g.1.number in let b = g.1.below in let c = j.2 in let d = j.3 in
+        let i = g.2 in absurd (omega (arith, a, b, c, d, i))
     by_cases (inr (inr j)) (inr (inr k)) =
         let a = j.3 in
         let b = k.3 in
@@ -134,13 +167,16 @@ module _ (f : Dqbf) (e : CircuitPart) where
 
 pub circuit_numbers_are_injective : CircuitNumbersAreInjective
 circuit_numbers_are_injective f entries e lawful v w x h k =
-    by_cases f e entries lawful v w x (number_cases f e v (name_of entries v) x h) (number_cases f e w (name_of entries w) x k)
+    by_cases f e entries lawful v w x (number_cases f e v (name_of entries v) x h)
+    (number_cases f e w (name_of entries w) x k)
 
 -- inputs are the formula's
-pub input_universal : (f : Dqbf) (es : List Entry) (v x : ℕ) → Each (MatchesOrigin f) es → name_of es v ≡ Some (Input x) → Contains f.universals x
+pub input_universal : (f : Dqbf) (es : List Entry) (v x : ℕ) → Each (MatchesOrigin f) es →
+    name_of es v ≡ Some (Input x) → Contains f.universals x
 input_universal f [] v x given h = cc
 input_universal f (Named w n ∷ es) v x given h = by_bit (input_universal f es v x given.1) (v == w) h where
-  by_bit : (name_of es v ≡ Some (Input x) → Contains f.universals x) → (b : Bool) → cond b (Some n) (name_of es v) ≡ Some (Input x) → Contains f.universals x
+  by_bit : (name_of es v ≡ Some (Input x) → Contains f.universals x) → (b : Bool) →
+      cond b (Some n) (name_of es v) ≡ Some (Input x) → Contains f.universals x
   by_bit later true h = let same : n ≡ Input x = cc in subst (IsRightlyNamed f) same given.0
   by_bit later false h = later h
 input_universal f (Given origin c ∷ es) v x given h = input_universal f es v x given.1 h
@@ -155,19 +191,30 @@ pub record HasNumber (r : Renaming) (l : Literal) : Type 0 where
   pub is : r (variable_of l) ≡ Some number
   pub from_one : 1 ≤ number
 
-pub circuit_numbered : (f : Dqbf) (entries : List Entry) (e : CircuitPart) → HasUniversalInputs f entries → (l : Literal) → is_circuit_name (name_of entries (variable_of l)) ≡ true →
+pub circuit_numbered : (f : Dqbf) (entries : List Entry) (e : CircuitPart) → HasUniversalInputs f entries →
+    (l : Literal) → is_circuit_name (name_of entries (variable_of l)) ≡ true →
     IsInFile entries e.gates l → HasNumber (circuit_renaming f entries e) l
 circuit_numbered f entries e given l circuit in_file = by_option (name_of entries (variable_of l)) refl circuit where
-  numbered : (n : ℕ) → circuit_renaming f entries e (variable_of l) ≡ Some n → HasNumber (circuit_renaming f entries e) l
-  numbered n is = record { number = n; is = is; from_one = number_from_one f e (variable_of l) (name_of entries (variable_of l)) n is }
+  numbered : (n : ℕ) → circuit_renaming f entries e (variable_of l) ≡ Some n →
+      HasNumber (circuit_renaming f entries e) l
+  numbered n is = record {
+    number = n;
+    is = is;
+    from_one = number_from_one f e (variable_of l)
+        (name_of entries (variable_of l)) n is;
+  }
 
-  by_option : (o : Option Name) → name_of entries (variable_of l) ≡ o → is_circuit_name o ≡ true → HasNumber (circuit_renaming f entries e) l
+  by_option : (o : Option Name) → name_of entries (variable_of l) ≡ o → is_circuit_name o ≡ true →
+      HasNumber (circuit_renaming f entries e) l
   by_option None is h = cc
   by_option (Some (Selector g)) is h = cc
   by_option (Some (Pair k y)) is h = cc
-  by_option (Some (Input x)) is h = numbered (position_or_len (λ z. z == x) f.universals + 1) (ap (circuit_number f e (variable_of l)) is ∙ place_there f.universals x (given (variable_of l) x is))
-  by_option (Some (And a b)) is h = numbered (length f.universals + (position_or_len (λ z. z == variable_of l) e.gates + 1))
-      (ap (circuit_number f e (variable_of l)) is ∙ ap (option_map (λ p. length f.universals + p)) (place_there e.gates (variable_of l) (in_file a b is)))
+  by_option (Some (Input x)) is h = numbered (position_or_len (λ z. z == x) f.universals + 1)
+      (ap (circuit_number f e (variable_of l)) is ∙ place_there f.universals x (given (variable_of l) x is))
+  by_option (Some (And a b)) is h = numbered (length f.universals +
+      (position_or_len (λ z. z == variable_of l) e.gates + 1))
+      (ap (circuit_number f e (variable_of l)) is ∙ ap (option_map (λ p. length f.universals + p))
+      (place_there e.gates (variable_of l) (in_file a b is)))
   by_option (Some (Bad g j)) is h = cc
   by_option (Some (CopyOf side u)) is h = cc
   by_option (Some (Term p q)) is h = cc
@@ -194,7 +241,8 @@ module _ (r : Renaming) where
   opposite_number (positive v) h = record { number = h.number; is = h.is; from_one = h.from_one }
   opposite_number (negative v) h = record { number = h.number; is = h.is; from_one = h.from_one }
 
-  pub renamed_is : (l : Literal) (h : HasNumber r l) (ls : List Literal) → renamed_clause r (l ∷ ls) ≡ on_variable h.number l ∷ renamed_clause r ls
+  pub renamed_is : (l : Literal) (h : HasNumber r l) (ls : List Literal) →
+      renamed_clause r (l ∷ ls) ≡ on_variable h.number l ∷ renamed_clause r ls
   renamed_is l h ls = ap (λ o. cons_option (option_map (λ w. on_variable w l) o) (renamed_clause r ls)) h.is
 
   abbrev pub AllNumbered : List Literal → Type 0
@@ -207,8 +255,10 @@ module _ (r : Renaming) where
 
   codes_are : (ls : List Literal) → AllNumbered ls → map as_literal (map (literal_code r) ls) ≡ renamed_clause r ls
   codes_are [] h = refl
-  codes_are (l ∷ ls) h = ap (λ x. x ∷ map as_literal (map (literal_code r) ls)) (as_code l h.0) ∙ ap (λ xs. on_variable h.0.number l ∷ xs) (codes_are ls h.1) ∙ sym (renamed_is l h.0 ls)
+  codes_are (l ∷ ls) h = ap (λ x. x ∷ map as_literal (map (literal_code r) ls)) (as_code l h.0) ∙ ap
+      (λ xs. on_variable h.0.number l ∷ xs) (codes_are ls h.1) ∙ sym (renamed_is l h.0 ls)
 
   -- a clause of codes is the renamed clause
-  pub clause_codes : (ls : List Literal) → AllNumbered ls → without_constants (map (literal_code r) ls) ≡ Some (renamed_clause r ls)
+  pub clause_codes : (ls : List Literal) → AllNumbered ls → without_constants (map (literal_code r) ls) ≡ Some
+      (renamed_clause r ls)
   clause_codes ls h = no_constants (map (literal_code r) ls) (codes_big ls h) ∙ ap Some (codes_are ls h)

@@ -43,8 +43,10 @@ own_number n j one last =
     let long = length-range_with_len 1 n in
     let place : position_or_len (λ i. i == j) (range_with_len 1 n) ≡ j - 1 =
     position_or_len_is (λ i. i == j) (range_with_len 1 n) (j - 1) 0 (omega (arith, one, last, long))
-    (λ k below. ne_eqb (get_or (range_with_len 1 n) k 0) j (λ same. let at = get_or-range_with_len 1 n k 0 (omega (arith, below, last)) in omega (arith, at, same, below)))
-    (λ below. eq-eqb (get_or (range_with_len 1 n) (j - 1) 0) j (let at = get_or-range_with_len 1 n (j - 1) 0 (omega (arith, one, last)) in omega (arith, at, one))) in
+    (λ k below. ne_eqb (get_or (range_with_len 1 n) k 0) j (λ same. let at =
+    get_or-range_with_len 1 n k 0 (omega (arith, below, last)) in omega (arith, at, same, below)))
+    (λ below. eq-eqb (get_or (range_with_len 1 n) (j - 1) 0) j
+    (let at = get_or-range_with_len 1 n (j - 1) 0 (omega (arith, one, last)) in omega (arith, at, one))) in
     omega (arith, place, one)
 
 all_ascend : (n : ℕ) → IsStrictlyIncreasing (range_with_len 1 n)
@@ -55,19 +57,24 @@ all_ascend n k below =
     omega (arith, here, next)
 
 all_live : (n j : ℕ) → 1 ≤ j → j ≤ n → Contains (range_with_len 1 n) j
-all_live n j one last = subst (Contains (range_with_len 1 n)) (let e : 1 + (j - 1) ≡ j = omega (arith, one) in e) (in_range 1 n (j - 1) (omega (arith, one, last)))
+all_live n j one last = subst (Contains (range_with_len 1 n)) (let e : 1 + (j - 1) ≡ j = omega (arith, one) in e)
+    (in_range 1 n (j - 1) (omega (arith, one, last)))
 
 -- a given clause that the last answer reaches is reached by its hints
-reached_here : (entries earlier : List Entry) (id : ℕ) (clause : List Literal) (hints : List ℕ) → Each MayFollow entries → entries ≡ Answer clause hints ∷ earlier → id ≡ last_id entries
-    → (h : ℕ) (origin : Origin) (c : List Literal) → Reaches entries id h → numbered has_id entries h ≡ Some (Given origin c) → ReachesGiven earlier hints origin c
+reached_here : (entries earlier : List Entry) (id : ℕ) (clause : List Literal) (hints : List ℕ) →
+    Each MayFollow entries → entries ≡ Answer clause hints ∷ earlier → id ≡ last_id entries
+    → (h : ℕ) (origin : Origin) (c : List Literal) → Reaches entries id h →
+    numbered has_id entries h ≡ Some (Given origin c) → ReachesGiven earlier hints origin c
 reached_here entries earlier id clause hints lawful answered last h origin c reached at =
     let all = Answer clause hints ∷ earlier in
     let id_is : id ≡ last_id all = last ∙ ap last_id answered in
     reached_given earlier clause hints (subst (Each MayFollow) answered lawful) h origin c
-    (subst (λ n. Reaches all n h) id_is (subst (λ xs. Reaches xs id h) answered reached)) (ap (λ xs. numbered has_id xs h) (sym answered) ∙ at)
+    (subst (λ n. Reaches all n h) id_is (subst (λ xs. Reaches xs id h) answered reached))
+    (ap (λ xs. numbered has_id xs h) (sym answered) ∙ at)
 
 -- the numbers of an instance's clause
-instance_number : (f : Dqbf) (before : List Entry) (k j : ℕ) (c : List Literal) → IsOriginsClause f before (Instance k j) c → (1 ≤ j) × (j ≤ length f.matrix)
+instance_number : (f : Dqbf) (before : List Entry) (k j : ℕ) (c : List Literal) →
+    IsOriginsClause f before (Instance k j) c → (1 ≤ j) × (j ≤ length f.matrix)
 instance_number f before k j c own =
     let rest : IsInstanceRest f before k j own.rest = own.rest_is in
     let there = from_one f.matrix j rest.clause rest.clause_is in
@@ -75,9 +82,12 @@ instance_number f before k j c own =
     let one = there.0 in
     (one, omega (arith, one, small))
 
-module _ (f : Dqbf) (entries : List Entry) (id : ℕ) (lawful : Each MayFollow entries) (log : IsProductiveLog f entries) where
-  own_origin : (origin : Origin) (c : List Literal) (more before : List Entry) → entries ≡ more ++ Given origin c ∷ before → IsOriginsClause f before origin c
-  own_origin origin c more before is = each_at (MatchesOrigin f) more before (Given origin c) (subst (Each (MatchesOrigin f)) is log.givens_match_origins)
+module _ (f : Dqbf) (entries : List Entry) (id : ℕ) (lawful : Each MayFollow entries)
+    (log : IsProductiveLog f entries) where
+  own_origin : (origin : Origin) (c : List Literal) (more before : List Entry) →
+      entries ≡ more ++ Given origin c ∷ before → IsOriginsClause f before origin c
+  own_origin origin c more before is = each_at (MatchesOrigin f) more before (Given origin c)
+      (subst (Each (MatchesOrigin f)) is log.givens_match_origins)
 
   can_export_true : IsDecidedTrue f entries id → CanExportTrue f entries id
   can_export_true decided = record {
@@ -87,12 +97,15 @@ module _ (f : Dqbf) (entries : List Entry) (id : ℕ) (lawful : Each MayFollow e
     lemmas_are_derived = log.lemmas_are_derived;
   }
 
-  instance_clause : (h : ℕ) (origin : Origin) (c : List Literal) → IsInstance origin → numbered has_id entries h ≡ Some (Given origin c) → IsInstanceClause f (range_with_len 1 (length f.matrix)) entries origin c
+  instance_clause : (h : ℕ) (origin : Origin) (c : List Literal) → IsInstance origin →
+      numbered has_id entries h ≡ Some (Given origin c) → IsInstanceClause f
+      (range_with_len 1 (length f.matrix)) entries origin c
   instance_clause h (Instance k j) c mine at =
       let place = split_at entries h (Given (Instance k j) c) at in
       let number = instance_number f place.1 k j c (own_origin (Instance k j) c place.0 place.1 place.2) in (
         all_live (length f.matrix) j number.0 number.1,
-        λ more before is. subst (λ i. IsOriginsClause f before (Instance k i) c) (sym (own_number (length f.matrix) j number.0 number.1)) (own_origin (Instance k j) c more before is),
+        λ more before is. subst (λ i. IsOriginsClause f before (Instance k i) c)
+            (sym (own_number (length f.matrix) j number.0 number.1)) (own_origin (Instance k j) c more before is),
       )
   instance_clause h (Gate v i) c mine at = absurd mine
   instance_clause h (Fault j i leaf) c mine at = absurd mine
@@ -104,7 +117,9 @@ module _ (f : Dqbf) (entries : List Entry) (id : ℕ) (lawful : Each MayFollow e
   can_export_false : IsRefutedBy entries id → CanExportFalse f (range_with_len 1 (length f.matrix)) entries id
   can_export_false refuted = record {
     refuted = refuted;
-    instances = λ h origin c reached at. instance_clause h origin c (refuted.decides.instances origin c (reached_here entries refuted.earlier id refuted.clause refuted.hints lawful refuted.answered refuted.last h origin c reached at)) at;
+    instances = λ h origin c reached at. instance_clause h origin c
+        (refuted.decides.instances origin c (reached_here entries refuted.earlier id refuted.clause refuted.hints lawful
+        refuted.answered refuted.last h origin c reached at)) at;
     numbers_ascend = all_ascend (length f.matrix);
     one_each = length-range_with_len 1 (length f.matrix);
     lemmas_are_derived = log.lemmas_are_derived;
@@ -112,13 +127,18 @@ module _ (f : Dqbf) (entries : List Entry) (id : ℕ) (lawful : Each MayFollow e
   }
 
 pub productive_answers : ProductiveAnswersCanExport
-productive_answers f entries id lawful log = (can_export_true f entries id lawful log, can_export_false f entries id lawful log)
+productive_answers f entries id lawful log = (
+  can_export_true f entries id lawful log,
+  can_export_false f entries id lawful log,
+)
 
 -- inputs of a session are universals of all that was numbered
-input_live : (all : Dqbf) (es : List Entry) (v x : ℕ) → Each (MatchesLiveOrigin all) es → name_of es v ≡ Some (Input x) → Contains all.universals x
+input_live : (all : Dqbf) (es : List Entry) (v x : ℕ) → Each (MatchesLiveOrigin all) es →
+    name_of es v ≡ Some (Input x) → Contains all.universals x
 input_live all [] v x given h = cc
 input_live all (Named w n ∷ es) v x given h = by_bit (input_live all es v x given.1) (v == w) h where
-  by_bit : (name_of es v ≡ Some (Input x) → Contains all.universals x) → (b : Bool) → cond b (Some n) (name_of es v) ≡ Some (Input x) → Contains all.universals x
+  by_bit : (name_of es v ≡ Some (Input x) → Contains all.universals x) → (b : Bool) →
+      cond b (Some n) (name_of es v) ≡ Some (Input x) → Contains all.universals x
   by_bit later true h = let same : n ≡ Input x = cc in subst (IsRightlyNamed all) same given.0
   by_bit later false h = later h
 input_live all (Given origin c ∷ es) v x given h = input_live all es v x given.1 h
@@ -128,32 +148,37 @@ input_live all (Round row values j ∷ es) v x given h = input_live all es v x g
 input_live all (Begun live ∷ es) v x given h = input_live all es v x given.1 h
 
 -- the live numbers are those of clauses
-live_are_numbers : (all : Dqbf) (es : List Entry) (live : List ℕ) → Each (MatchesLiveOrigin all) es → live_numbers es ≡ Some live → AreNumbers all live
+live_are_numbers : (all : Dqbf) (es : List Entry) (live : List ℕ) → Each (MatchesLiveOrigin all) es →
+    live_numbers es ≡ Some live → AreNumbers all live
 live_are_numbers all [] live given h = cc
 live_are_numbers all (Named v n ∷ es) live given h = live_are_numbers all es live given.1 h
 live_are_numbers all (Given origin c ∷ es) live given h = live_are_numbers all es live given.1 h
 live_are_numbers all (Learned c hints ∷ es) live given h = live_are_numbers all es live given.1 h
 live_are_numbers all (Answer c hints ∷ es) live given h = live_are_numbers all es live given.1 h
 live_are_numbers all (Round row values j ∷ es) live given h = live_are_numbers all es live given.1 h
-live_are_numbers all (Begun numbers ∷ es) live given h = let same : numbers ≡ live = cc in subst (AreNumbers all) same given.0
+live_are_numbers all (Begun numbers ∷ es) live given h = let same : numbers ≡ live = cc in
+    subst (AreNumbers all) same given.0
 
 -- rows are whole by the prefix, which all searches share
 same_universals : (all : Dqbf) (o : Option (List ℕ)) → length (formula_by all o).universals ≡ length all.universals
 same_universals all None = refl
 same_universals all (Some live) = refl
 
-live_rows_whole : (all : Dqbf) (es : List Entry) → Each (RefutesNewLiveRow all) es → All (λ row. length row ≡ length all.universals) (rows_of es)
+live_rows_whole : (all : Dqbf) (es : List Entry) → Each (RefutesNewLiveRow all) es →
+    All (λ row. length row ≡ length all.universals) (rows_of es)
 live_rows_whole all [] h = All-nil (λ row. length row ≡ length all.universals)
 live_rows_whole all (Named v n ∷ es) h = live_rows_whole all es h.1
 live_rows_whole all (Given origin c ∷ es) h = live_rows_whole all es h.1
 live_rows_whole all (Learned c hints ∷ es) h = live_rows_whole all es h.1
 live_rows_whole all (Answer c hints ∷ es) h = live_rows_whole all es h.1
 live_rows_whole all (Round row values j ∷ es) h =
-    All-push (λ r. length r ≡ length all.universals) (rows_of es) row (live_rows_whole all es h.1) (h.0.row_length ∙ same_universals all (live_numbers es))
+    All-push (λ r. length r ≡ length all.universals) (rows_of es) row (live_rows_whole all es h.1)
+    (h.0.row_length ∙ same_universals all (live_numbers es))
 live_rows_whole all (Begun live ∷ es) h = live_rows_whole all es h.1
 
 -- the clauses of live numbers, each at its number's place
-live_clauses_long : (all : Dqbf) (live : List ℕ) → All (λ i. (1 ≤ i) × (i ≤ length all.matrix)) live → length (filter_map (numbered_from_one all.matrix) live) ≡ length live
+live_clauses_long : (all : Dqbf) (live : List ℕ) → All (λ i. (1 ≤ i) × (i ≤ length all.matrix)) live →
+    length (filter_map (numbered_from_one all.matrix) live) ≡ length live
 live_clauses_long all [] are = refl
 live_clauses_long all (i ∷ live) are =
     let P : ℕ → Type 0 = λ n. (1 ≤ n) × (n ≤ length all.matrix) in
@@ -162,7 +187,8 @@ live_clauses_long all (i ∷ live) are =
     let later = live_clauses_long all live (All-tail P i live are) in
     ap (λ o. length (cons_option o (filter_map (numbered_from_one all.matrix) live))) clause.1 ∙ ap suc later
 
-live_clause_there : (all : Dqbf) (live : List ℕ) (j : ℕ) (c : List Literal) → All (λ i. (1 ≤ i) × (i ≤ length all.matrix)) live → Contains live j → numbered_from_one all.matrix j ≡ Some c
+live_clause_there : (all : Dqbf) (live : List ℕ) (j : ℕ) (c : List Literal) →
+    All (λ i. (1 ≤ i) × (i ≤ length all.matrix)) live → Contains live j → numbered_from_one all.matrix j ≡ Some c
     → slice_get (filter_map (numbered_from_one all.matrix) live) (position_or_len (λ i. i == j) live) ≡ Some c
 live_clause_there all [] j c are (k, below, is) at = absurd (omega (arith, below))
 live_clause_there all (i ∷ live) j c are inside at =
@@ -178,7 +204,8 @@ live_clause_there all (i ∷ live) j c are inside at =
     first : (x : List Literal) × (numbered_from_one all.matrix i ≡ Some x)
     first = let here = All-head P i live are in there_is all.matrix i here.0 here.1
 
-    by_bit : (b : Bool) → (i == j) ≡ b → Contains (i ∷ live) j → (Contains live j → slice_get clauses (position_or_len (λ n. n == j) live) ≡ Some c)
+    by_bit : (b : Bool) → (i == j) ≡ b → Contains (i ∷ live) j →
+        (Contains live j → slice_get clauses (position_or_len (λ n. n == j) live) ≡ Some c)
         → slice_get (first.0 ∷ clauses) (cond (not b) (1 + position_or_len (λ n. n == j) live) 0) ≡ Some c
     by_bit true same inside behind = sym first.1 ∙ ap (numbered_from_one all.matrix) (eqb-true i j same) ∙ at
     by_bit false other (zero, below, is) behind = let same = eq-eqb i j is in absurd (false≢true (sym other ∙ same))
@@ -188,7 +215,8 @@ live_clause_there all (i ∷ live) j c are inside at =
         ap (slice_get (first.0 ∷ clauses)) next ∙ behind (k, (let b = below in omega (arith, b)), is)
 
 -- an instance of a live clause, by the formula of the live ones
-live_instance : (all : Dqbf) (live : List ℕ) (before : List Entry) (k j : ℕ) (c : List Literal) → AreNumbers all live → Contains live j → IsOriginsClause all before (Instance k j) c
+live_instance : (all : Dqbf) (live : List ℕ) (before : List Entry) (k j : ℕ) (c : List Literal) → AreNumbers all live →
+    Contains live j → IsOriginsClause all before (Instance k j) c
     → IsOriginsClause (formula_of all live) before (Instance k (number_among live j)) c
 live_instance all live before k j c are inside own =
     let rest : IsInstanceRest all before k j own.rest = own.rest_is in
@@ -203,15 +231,18 @@ live_instance all live before k j c are inside own =
         row = rest.row;
         clause = rest.clause;
         row_is = rest.row_is;
-        clause_is = ap (numbered_from_one (formula_of all live).matrix) next ∙ live_clause_there all live j rest.clause are.numbers inside rest.clause_is;
+        clause_is = ap (numbered_from_one (formula_of all live).matrix) next
+            ∙ live_clause_there all live j rest.clause are.numbers inside rest.clause_is;
         open_row = rest.open_row;
         named = rest.named;
       };
       one_leaf = λ v a b a' b' leaf leaf' other is. cc;
     }
 
-module _ (all : Dqbf) (frames live : List ℕ) (entries : List Entry) (id : ℕ) (lawful : Each MayFollow entries) (log : IsProductiveSession all frames entries) (is_live : live_numbers entries ≡ Some live) where
-  module _ (decided : IsDecidedTrue (formula_of all live) entries id) (since : IsSinceBeginning decided.earlier decided.decides.rests.group) where
+module _ (all : Dqbf) (frames live : List ℕ) (entries : List Entry) (id : ℕ) (lawful : Each MayFollow entries)
+    (log : IsProductiveSession all frames entries) (is_live : live_numbers entries ≡ Some live) where
+  module _ (decided : IsDecidedTrue (formula_of all live) entries id)
+      (since : IsSinceBeginning decided.earlier decided.decides.rests.group) where
     lives : live_numbers decided.earlier ≡ Some live
     lives = ap live_numbers (sym decided.answered) ∙ is_live
 
@@ -221,7 +252,8 @@ module _ (all : Dqbf) (frames live : List ℕ) (entries : List Entry) (id : ℕ)
         rests = decided.decides.rests;
         reads = subst
             (λ m. All
-            (λ y. (leaf : Leaf) → IsFaultLeaf (formula_by all m) decided.earlier decided.hints y leaf → (x : ℕ) → LeafReads decided.earlier leaf x → Contains y.sees x) (formula_by all m).existentials)
+            (λ y. (leaf : Leaf) → IsFaultLeaf (formula_by all m) decided.earlier decided.hints y leaf → (x : ℕ) →
+            LeafReads decided.earlier leaf x → Contains y.sees x) (formula_by all m).existentials)
             (sym lives) decided.decides.reads;
       };
       current = since;
@@ -232,13 +264,17 @@ module _ (all : Dqbf) (frames live : List ℕ) (entries : List Entry) (id : ℕ)
         let given = subst (Each (MatchesLiveOrigin all)) decided.answered log.givens_match_origins in
         let derived = subst (Each IsDerivedByHints) decided.answered log.lemmas_are_derived in
         subst (λ m. IsSoundAnswer (formula_by all m) decided.earlier decided.clause decided.hints) lives
-        (live_sound all decided.earlier decided.clause decided.hints (subst (Each MayFollow) decided.answered lawful).1 given.1 derived.1 derived.0 live_true)
+        (live_sound all decided.earlier decided.clause decided.hints
+        (subst (Each MayFollow) decided.answered lawful).1 given.1 derived.1 derived.0 live_true)
 
-    live_givens : (origin : Origin) (c : List Literal) → ReachesGiven decided.earlier decided.hints origin c → (more before : List Entry) → entries ≡ more ++ Given origin c ∷ before
+    live_givens : (origin : Origin) (c : List Literal) → ReachesGiven decided.earlier decided.hints origin c →
+        (more before : List Entry) → entries ≡ more ++ Given origin c ∷ before
         → IsOriginsClause (formula_of all live) before origin c
-    live_givens origin c reached [] before is = let both : Answer decided.clause decided.hints ∷ decided.earlier ≡ Given origin c ∷ before = sym decided.answered ∙ is in cc
+    live_givens origin c reached [] before is = let both : Answer decided.clause decided.hints ∷ decided.earlier
+        ≡ Given origin c ∷ before = sym decided.answered ∙ is in cc
     live_givens origin c reached (e ∷ more) before is =
-        let both : Answer decided.clause decided.hints ∷ decided.earlier ≡ e ∷ more ++ Given origin c ∷ before = sym decided.answered ∙ is in
+        let both : Answer decided.clause decided.hints ∷ decided.earlier ≡ e ∷ more ++ Given origin c ∷ before =
+        sym decided.answered ∙ is in
         let behind : decided.earlier ≡ more ++ Given origin c ∷ before = cc in
         sound.givens_match_origins more before origin c behind reached
 
@@ -246,18 +282,27 @@ module _ (all : Dqbf) (frames live : List ℕ) (entries : List Entry) (id : ℕ)
     session_true = record {
       decided = decided;
       inputs = λ v x named. input_live all entries v x log.givens_match_origins named;
-      givens = λ h origin c reached at. live_givens origin c (reached_here entries decided.earlier id decided.clause decided.hints lawful decided.answered decided.last h origin c reached at);
+      givens = λ h origin c reached at. live_givens origin c
+          (reached_here entries decided.earlier id decided.clause decided.hints lawful decided.answered decided.last h
+          origin c reached at);
       lemmas_are_derived = log.lemmas_are_derived;
     }
 
   numbers : AreNumbers all live
   numbers = live_are_numbers all entries live log.givens_match_origins is_live
 
-  live_origin : (k j : ℕ) (c : List Literal) (more before : List Entry) → entries ≡ more ++ Given (Instance k j) c ∷ before → IsOriginsClause all before (Instance k j) c
-  live_origin k j c more before is = each_at (MatchesLiveOrigin all) more before (Given (Instance k j) c) (subst (Each (MatchesLiveOrigin all)) is log.givens_match_origins)
+  live_origin : (k j : ℕ) (c : List Literal) (more before : List Entry) →
+      entries ≡ more ++ Given (Instance k j) c ∷ before → IsOriginsClause all before (Instance k j) c
+  live_origin k j c more before is = each_at (MatchesLiveOrigin all) more before (Given (Instance k j) c)
+      (subst (Each (MatchesLiveOrigin all)) is log.givens_match_origins)
 
-  live_instance_clause : (origin : Origin) (c : List Literal) → IsInstance origin → ((k j : ℕ) → origin ≡ Instance k j → Contains live j) → IsInstanceClause (formula_of all live) live entries origin c
-  live_instance_clause (Instance k j) c mine among = (among k j refl, λ more before is. live_instance all live before k j c numbers (among k j refl) (live_origin k j c more before is))
+  live_instance_clause : (origin : Origin) (c : List Literal) → IsInstance origin →
+      ((k j : ℕ) → origin ≡ Instance k j → Contains live j) →
+      IsInstanceClause (formula_of all live) live entries origin c
+  live_instance_clause (Instance k j) c mine among = (
+    among k j refl,
+    λ more before is. live_instance all live before k j c numbers (among k j refl) (live_origin k j c more before is),
+  )
   live_instance_clause (Gate v i) c mine among = absurd mine
   live_instance_clause (Fault j i leaf) c mine among = absurd mine
   live_instance_clause (Copy side j) c mine among = absurd mine
@@ -265,12 +310,15 @@ module _ (all : Dqbf) (frames live : List ℕ) (entries : List Entry) (id : ℕ)
   live_instance_clause (TermGate v i) c mine among = absurd mine
   live_instance_clause (Differ y leaf part) c mine among = absurd mine
 
-  session_false : (refuted : IsRefutedBy entries id) → RestsOnLive live entries id refuted → CanExportFalse (formula_of all live) live entries id
+  session_false : (refuted : IsRefutedBy entries id) → RestsOnLive live entries id refuted →
+      CanExportFalse (formula_of all live) live entries id
   session_false refuted rests = record {
     refuted = refuted;
     instances = λ h origin c reached at.
-        let mine = reached_here entries refuted.earlier id refuted.clause refuted.hints lawful refuted.answered refuted.last h origin c reached at in
-        live_instance_clause origin c (refuted.decides.instances origin c mine) (λ k j is. rests k j c (subst (λ o. ReachesGiven refuted.earlier refuted.hints o c) is mine));
+        let mine = reached_here entries refuted.earlier id refuted.clause refuted.hints lawful refuted.answered
+        refuted.last h origin c reached at in
+        live_instance_clause origin c (refuted.decides.instances origin c mine)
+        (λ k j is. rests k j c (subst (λ o. ReachesGiven refuted.earlier refuted.hints o c) is mine));
     numbers_ascend = numbers.ascending;
     one_each = sym (live_clauses_long all live numbers.numbers);
     lemmas_are_derived = log.lemmas_are_derived;
@@ -278,4 +326,7 @@ module _ (all : Dqbf) (frames live : List ℕ) (entries : List Entry) (id : ℕ)
   }
 
 pub session_answers : SessionAnswersCanExport
-session_answers all frames live entries id lawful log is_live = (session_true all frames live entries id lawful log is_live, session_false all frames live entries id lawful log is_live)
+session_answers all frames live entries id lawful log is_live = (
+  session_true all frames live entries id lawful log is_live,
+  session_false all frames live entries id lawful log is_live,
+)

@@ -43,11 +43,13 @@ module _ (clause : List Literal) (hints : List ℕ) (earlier : List Entry) where
   reads_before l x (left _ a b _ named reads) = left l a b x named (reads_before a x reads)
   reads_before l x (right _ a b _ named reads) = right l a b x named (reads_before b x reads)
 
-  leaf_reads_before : (leaf : Leaf) (x : ℕ) → LeafReads (Answer clause hints ∷ earlier) leaf x → LeafReads earlier leaf x
+  leaf_reads_before : (leaf : Leaf) (x : ℕ) → LeafReads (Answer clause hints ∷ earlier) leaf x →
+      LeafReads earlier leaf x
   leaf_reads_before (Constant b) x reads = absurd reads
   leaf_reads_before (LeafLiteral l) x reads = reads_before l x reads
 
-module _ (f : Dqbf) (entries : List Entry) (id : ℕ) (e : CircuitPart) (lawful : AreLogged entries) (x : IsExportedPart f entries id e) where
+module _ (f : Dqbf) (entries : List Entry) (id : ℕ) (e : CircuitPart) (lawful : AreLogged entries)
+    (x : IsExportedPart f entries id e) where
   abbrev all : List Entry
   all = Answer x.decided.clause x.decided.hints ∷ x.decided.earlier
 
@@ -57,13 +59,18 @@ module _ (f : Dqbf) (entries : List Entry) (id : ℕ) (e : CircuitPart) (lawful 
   id_is : id ≡ last_id all
   id_is = x.decided.last ∙ ap last_id x.decided.answered
 
-  pub usable : (h : ℕ) (origin : Origin) (c : List Literal) → Reaches entries id h → numbered has_id entries h ≡ Some (Given origin c) → IsCircuitClause f e origin c
+  pub usable : (h : ℕ) (origin : Origin) (c : List Literal) → Reaches entries id h →
+      numbered has_id entries h ≡ Some (Given origin c) → IsCircuitClause f e origin c
   usable h origin c reached at =
-      let reached' : Reaches all (last_id all) h = subst (λ n. Reaches all n h) id_is (subst (λ xs. Reaches xs id h) x.decided.answered reached) in
-      let at' : numbered has_id all h ≡ Some (Given origin c) = ap (λ xs. numbered has_id xs h) (sym x.decided.answered) ∙ at in
+      let reached' : Reaches all (last_id all) h = subst (λ n. Reaches all n h) id_is
+      (subst (λ xs. Reaches xs id h) x.decided.answered reached) in
+      let at' : numbered has_id all h ≡ Some (Given origin c) =
+      ap (λ xs. numbered has_id xs h) (sym x.decided.answered) ∙ at in
       let there = reached_given x.decided.earlier x.decided.clause x.decided.hints lawful' h origin c reached' at' in
       by_origin origin there (x.decided.decides.rests.circuit origin c there) at where
-        by_origin : (o : Origin) → ReachesGiven x.decided.earlier x.decided.hints o c → IsCircuitGiven x.decided.decides.rests.group o c → numbered has_id entries h ≡ Some (Given o c) → IsCircuitClause f e o c
+        by_origin : (o : Origin) → ReachesGiven x.decided.earlier x.decided.hints o c →
+            IsCircuitGiven x.decided.decides.rests.group o c → numbered has_id entries h ≡ Some (Given o c) →
+            IsCircuitClause f e o c
         by_origin (Instance k j) there mine at = absurd mine
         by_origin (Gate v i) there mine at = x.used h v i c reached at
         by_origin (Fault j i out) there mine at = (
@@ -76,12 +83,14 @@ module _ (f : Dqbf) (entries : List Entry) (id : ℕ) (e : CircuitPart) (lawful 
         by_origin (Differ y leaf part) there mine at = absurd mine
 
   answer_at : numbered has_id entries id ≡ Some (Answer x.decided.clause x.decided.hints)
-  answer_at = ap (λ xs. numbered has_id xs id) x.decided.answered ∙ ap (numbered has_id all) id_is ∙ answer_there x.decided.earlier x.decided.clause x.decided.hints lawful'
+  answer_at = ap (λ xs. numbered has_id xs id) x.decided.answered ∙ ap (numbered has_id all) id_is
+      ∙ answer_there x.decided.earlier x.decided.clause x.decided.hints lawful'
 
   answer_empty : (r : Renaming) → IsPartOf r (circuit_renaming f entries e) → is_empty (line_clause r entries id) ≡ true
   answer_empty r part =
       ap (λ o. is_empty (renamed_clause r (clause_or_empty o))) answer_at
-      ∙ ap is_empty (selectors_dropped x.decided.earlier x.decided.clause x.decided.hints lawful' r no_selector x.decided.clause x.decided.decides.rests.selectors) where
+      ∙ ap is_empty (selectors_dropped x.decided.earlier x.decided.clause x.decided.hints lawful' r no_selector
+      x.decided.clause x.decided.decides.rests.selectors) where
         no_selector : (v : ℕ) → name_of x.decided.earlier v ≡ Some (Selector v) → r v ≡ None
         no_selector v named = by_option (r v) refl where
           there : name_of entries v ≡ Some (Selector v)
@@ -93,13 +102,16 @@ module _ (f : Dqbf) (entries : List Entry) (id : ℕ) (e : CircuitPart) (lawful 
 
 -- the numbers are those of the proof's variables
 module _ (f : Dqbf) (entries : List Entry) (e : CircuitPart) where
-  in_proof : (v x : ℕ) → circuit_renaming f entries e v ≡ Some x → is_proof_variable f (exported_netlist f entries e) x ≡ true
+  in_proof : (v x : ℕ) → circuit_renaming f entries e v ≡ Some x →
+      is_proof_variable f (exported_netlist f entries e) x ≡ true
   in_proof v x h =
       let b = bounds (number_cases f e v (name_of entries v) x h) in
-      and_from (nat_le 1 x) (nat_le x (max_number f e + length f.matrix)) (le-leb 1 x b.0) (le-leb x (max_number f e + length f.matrix) b.1) where
+      and_from (nat_le 1 x) (nat_le x (max_number f e + length f.matrix)) (le-leb 1 x b.0)
+      (le-leb x (max_number f e + length f.matrix) b.1) where
         bounds : IsNumbered f e v (name_of entries v) x → (1 ≤ x) × (x ≤ max_number f e + length f.matrix)
         bounds (inl i) = let a = i.2.number in let b = i.2.below in (omega (arith, a), omega (arith, a, b))
-        bounds (inr (inl g)) = let a = g.1.number in let b = g.1.below in let c = g.2 in (omega (arith, a, c), omega (arith, a, b, c))
+        bounds (inr (inl g)) = let a = g.1.number in let b = g.1.below in let c = g.2 in
+            (omega (arith, a, c), omega (arith, a, b, c))
         bounds (inr (inr j)) = let a = j.2 in let b = j.3 in let c = j.4 in (omega (arith, a, b), omega (arith, b, c))
 
   first_is : last_base_id f e + 1 ≡ first_proof_id f (exported_netlist f entries e)
@@ -107,16 +119,25 @@ module _ (f : Dqbf) (entries : List Entry) (e : CircuitPart) where
       let gates = length-map e.gates (λ v. gate_of (circuit_renaming f entries e) v (name_of entries v)) in
       omega (arith, gates)
 
-module _ (f : Dqbf) (entries : List Entry) (id : ℕ) (e : CircuitPart) (ids : List ℕ) (r : Renaming) (well : IsWellFormed f)
-    (lawful : AreLogged entries) (inputs : HasUniversalInputs f entries) (given : EachGivenReached (IsGivenRightly f entries) entries id) (x : IsExportedPart f entries id e) (are : AreReached entries id ids)
+module _ (f : Dqbf) (entries : List Entry) (id : ℕ) (e : CircuitPart) (ids : List ℕ) (r : Renaming)
+    (well : IsWellFormed f)
+    (lawful : AreLogged entries) (inputs : HasUniversalInputs f entries)
+    (given : EachGivenReached (IsGivenRightly f entries) entries id) (x : IsExportedPart f entries id e)
+    (are : AreReached entries id ids)
     (names : IsCircuitRenaming f entries e ids r) where
   abbrev IsUsed : Origin → List Literal → Type 0
-  IsUsed origin c = IsRightCircuitClause f entries e origin c × (renamed_clause r c ≡ renamed_clause (circuit_renaming f entries e) c)
+  IsUsed origin c = IsRightCircuitClause f entries e origin c ×
+      (renamed_clause r c ≡ renamed_clause (circuit_renaming f entries e) c)
 
-  used : (h : ℕ) (origin : Origin) (c : List Literal) → Reaches entries id h → numbered has_id entries h ≡ Some (Given origin c) → IsUsed origin c
-  used h origin c reached at = ((usable f entries id e lawful x h origin c reached at, given h origin c reached at), names.whole h origin c (are.complete h reached) at)
+  used : (h : ℕ) (origin : Origin) (c : List Literal) → Reaches entries id h →
+      numbered has_id entries h ≡ Some (Given origin c) → IsUsed origin c
+  used h origin c reached at = (
+    (usable f entries id e lawful x h origin c reached at, given h origin c reached at),
+    names.whole h origin c (are.complete h reached) at,
+  )
 
-  base_right : IsRenamedBase r (circuit_id f e) IsUsed (negated_candidate (exported_candidate f entries e)) (last_base_id f e) entries
+  base_right : IsRenamedBase r (circuit_id f e) IsUsed (negated_candidate (exported_candidate f entries e))
+      (last_base_id f e) entries
   base_right h origin c at kept =
       let b = circuit_clauses_are_negated_matrix f entries e well lawful inputs x.part h origin c at kept.0 in
       (b.0 ∙ ap Some (sym kept.1), b.1)
@@ -131,26 +152,37 @@ module _ (f : Dqbf) (entries : List Entry) (id : ℕ) (e : CircuitPart) (ids : L
   lines = are_lines IsUsed entries lawful id (proof_number f entries e ids) (last_base_id f e) numbers used ids are
 
   finished : AreFinished r entries false (derived_ids entries ids)
-  finished = are_finished IsUsed entries lawful id (proof_number f entries e ids) (last_base_id f e) numbers used r ids are
+  finished = are_finished IsUsed entries lawful id (proof_number f entries e ids)
+      (last_base_id f e) numbers used r ids are
       (ap is_derived (answer_at f entries id e lawful x)) (answer_empty f entries id e lawful x r names.right)
 
-  accepted : Each IsDerivedByHints entries → circuit_proof_fault (exported_candidate f entries e) (map derived (proof_steps f entries e ids r)) ≡ None
+  accepted : Each IsDerivedByHints entries → circuit_proof_fault (exported_candidate f entries e)
+      (map derived (proof_steps f entries e ids r)) ≡ None
   accepted lemmas =
       steps_alone false (negated_candidate (exported_candidate f entries e)) (proof_steps f entries e ids r)
-      ∙ lines_are_derived r (circuit_id f e) IsUsed (negated_candidate (exported_candidate f entries e)) (last_base_id f e) entries (proof_number f entries e ids) (derived_ids entries ids)
+      ∙ lines_are_derived r (circuit_id f e) IsUsed (negated_candidate (exported_candidate f entries e))
+      (last_base_id f e) entries (proof_number f entries e ids) (derived_ids entries ids)
       injective lawful lemmas base_right lines false finished
 
-  allowed : AreSteps (is_proof_variable f (exported_netlist f entries e)) (first_proof_id f (exported_netlist f entries e)) (proof_steps f entries e ids r)
+  allowed : AreSteps (is_proof_variable f (exported_netlist f entries e))
+      (first_proof_id f (exported_netlist f entries e)) (proof_steps f entries e ids r)
   allowed =
       let base = last_base_id f e in
-      let rising = rising_filter (λ h. is_derived (numbered has_id entries h)) ids (rising_of ids (AllPairs-from_increasing ids are.ascending)) in
-      subst (λ n. AreSteps (is_proof_variable f (exported_netlist f entries e)) n (proof_steps f entries e ids r)) (first_is f entries e)
-      (steps_allowed r (circuit_id f e) IsUsed (negated_candidate (exported_candidate f entries e)) base entries (proof_number f entries e ids)
-      (is_proof_variable f (exported_netlist f entries e)) refl base_right (λ v n h. in_proof f entries e v n (names.right v n h)) (derived_ids entries ids) [] (base + 1)
-      lines (consecutive base (derived_ids entries ids) rising) (omega arith) (λ h inside. absurd (let b = inside.1 in omega arith)))
+      let rising = rising_filter (λ h. is_derived (numbered has_id entries h)) ids
+      (rising_of ids (AllPairs-from_increasing ids are.ascending)) in
+      subst (λ n. AreSteps (is_proof_variable f (exported_netlist f entries e)) n (proof_steps f entries e ids r))
+      (first_is f entries e)
+      (steps_allowed r (circuit_id f e) IsUsed (negated_candidate (exported_candidate f entries e)) base entries
+      (proof_number f entries e ids)
+      (is_proof_variable f (exported_netlist f entries e)) refl base_right
+      (λ v n h. in_proof f entries e v n (names.right v n h)) (derived_ids entries ids) [] (base + 1)
+      lines (consecutive base (derived_ids entries ids) rising) (omega arith)
+      (λ h inside. absurd (let b = inside.1 in omega arith)))
 
 pub exported_answer_is_accepted : ExportedAnswerIsAccepted
-exported_answer_is_accepted f entries id e ids r well lawful inputs given lemmas x are names = accepted f entries id e ids r well lawful inputs given x are names lemmas
+exported_answer_is_accepted f entries id e ids r well lawful inputs given lemmas x are names =
+    accepted f entries id e ids r well lawful inputs given x are names lemmas
 
 pub exported_proof_is_allowed : ExportedProofIsAllowed
-exported_proof_is_allowed f entries id e ids r well lawful inputs given x are names = allowed f entries id e ids r well lawful inputs given x are names
+exported_proof_is_allowed f entries id e ids r well lawful inputs given x are names =
+    allowed f entries id e ids r well lawful inputs given x are names

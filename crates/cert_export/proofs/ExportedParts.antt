@@ -32,9 +32,11 @@ use Rattle.cert_export.proofs.Answers.{answer_there, reached_given}
 use Rattle.cert_export.proofs.ListedGates.{sides_over, sides_are, over_grows, over_closed, gates_over, gates_are, gate_named, gate_there, gates_distinct, gates_few}
 
 -- the given entry of an origin
-pub given_of : (es : List Entry) (id : ℕ) (o : Origin) → origin_at es id ≡ Some o → (c : List Literal) × (numbered has_id es id ≡ Some (Given o c))
+pub given_of : (es : List Entry) (id : ℕ) (o : Origin) → origin_at es id ≡ Some o →
+    (c : List Literal) × (numbered has_id es id ≡ Some (Given o c))
 given_of es id o at = by_entry (numbered has_id es id) refl at where
-  by_entry : (e : Option Entry) → numbered has_id es id ≡ e → option_and_then origin_of e ≡ Some o → (c : List Literal) × (numbered has_id es id ≡ Some (Given o c))
+  by_entry : (e : Option Entry) → numbered has_id es id ≡ e → option_and_then origin_of e ≡ Some o →
+      (c : List Literal) × (numbered has_id es id ≡ Some (Given o c))
   by_entry None is at = cc
   by_entry (Some (Named v n)) is at = cc
   by_entry (Some (Given p c)) is at = let same : p ≡ o = cc in (c, is ∙ ap (λ q. Some (Given q c)) same)
@@ -47,50 +49,64 @@ given_of es id o at = by_entry (numbered has_id es id) refl at where
 within : (es : List Entry) (id : ℕ) (e : Entry) → numbered has_id es id ≡ Some e → id ≤ last_id es
 within [] id e h = cc
 within (x ∷ es) id e h = by_bits (has_id x) (id == count has_id es + 1) refl (within es id e) h where
-  by_bits : (b c : Bool) → (id == count has_id es + 1) ≡ c → (numbered has_id es id ≡ Some e → id ≤ count has_id es) → cond (b && c) (Some x) (numbered has_id es id) ≡ Some e → id ≤ cond b (count has_id es + 1) (count has_id es)
+  by_bits : (b c : Bool) → (id == count has_id es + 1) ≡ c → (numbered has_id es id ≡ Some e → id ≤ count has_id es) →
+      cond (b && c) (Some x) (numbered has_id es id) ≡ Some e → id ≤ cond b (count has_id es + 1) (count has_id es)
   by_bits true true is later h = let same = eqb-true id (count has_id es + 1) is in omega (arith, same)
   by_bits true false is later h = let below = later h in omega (arith, below)
   by_bits false c is later h = later h
 
-newer : (f : Dqbf) (es : List Entry) (g v j i k m : ℕ) (out other : Leaf) (c d : List Literal) → IsOriginsClause f es (Fault j i out) (negative g ∷ c) → Contains es (Given (Fault k m other) (negative g ∷ d)) →
-    option_map variable_of (matrix_literal f j i) ≡ Some v → option_map variable_of (matrix_literal f k m) ≡ Some v → out ≡ other
+newer : (f : Dqbf) (es : List Entry) (g v j i k m : ℕ) (out other : Leaf) (c d : List Literal) →
+    IsOriginsClause f es (Fault j i out) (negative g ∷ c) → Contains es (Given (Fault k m other) (negative g ∷ d)) →
+    option_map variable_of (matrix_literal f j i) ≡ Some v → option_map variable_of (matrix_literal f k m) ≡ Some v →
+    out ≡ other
 newer f es g v j i k m out other c d o inside own own' =
     let both : negative g ∷ c ≡ negative o.group ∷ o.rest = o.clause_is in
     let same : g ≡ o.group = cc in
-    o.one_leaf v j i k m out other d refl (subst (λ h. Contains es (Given (Fault k m other) (negative h ∷ d))) same inside) own own'
+    o.one_leaf v j i k m out other d refl (subst (λ h. Contains es (Given (Fault k m other) (negative h ∷ d))) same
+    inside) own own'
 
 -- what is right in a log is right in its older part
-given_before : (f : Dqbf) (e : Entry) (es : List Entry) (origin : Origin) (c : List Literal) → IsGivenRightly f (e ∷ es) origin c → IsGivenRightly f es origin c
+given_before : (f : Dqbf) (e : Entry) (es : List Entry) (origin : Origin) (c : List Literal) →
+    IsGivenRightly f (e ∷ es) origin c → IsGivenRightly f es origin c
 given_before f e es origin c rightly more before is = rightly (e ∷ more) before (ap (λ xs. e ∷ xs) is)
 
 -- in one group a variable has one leaf
-pub same_leaf : (f : Dqbf) (es : List Entry) (g v j i k m : ℕ) (out other : Leaf) (c d : List Literal) → IsGivenRightly f es (Fault j i out) (negative g ∷ c) → IsGivenRightly f es (Fault k m other) (negative g ∷ d) →
+pub same_leaf : (f : Dqbf) (es : List Entry) (g v j i k m : ℕ) (out other : Leaf) (c d : List Literal) →
+    IsGivenRightly f es (Fault j i out) (negative g ∷ c) → IsGivenRightly f es (Fault k m other) (negative g ∷ d) →
     Contains es (Given (Fault j i out) (negative g ∷ c)) → Contains es (Given (Fault k m other) (negative g ∷ d)) →
-    option_map variable_of (matrix_literal f j i) ≡ Some v → option_map variable_of (matrix_literal f k m) ≡ Some v → out ≡ other
+    option_map variable_of (matrix_literal f j i) ≡ Some v → option_map variable_of (matrix_literal f k m) ≡ Some v →
+    out ≡ other
 same_leaf f [] g v j i k m out other c d mine theirs (p, below, is) there own own' = absurd (omega arith)
 same_leaf f (e ∷ es) g v j i k m out other c d mine theirs (zero, below, is) (zero, below', is') own own' =
     let both : Given (Fault j i out) (negative g ∷ c) ≡ Given (Fault k m other) (negative g ∷ d) = sym is ∙ is' in cc
 same_leaf f (e ∷ es) g v j i k m out other c d mine theirs (zero, below, is) (suc q, below', is') own own' =
-    let inside : Contains es (Given (Fault k m other) (negative g ∷ d)) = (q, (let b : q < length es = omega arith in b), is') in
+    let inside : Contains es (Given (Fault k m other) (negative g ∷ d)) =
+    (q, (let b : q < length es = omega arith in b), is') in
     newer f es g v j i k m out other c d (mine [] es (ap (λ x. x ∷ es) is)) inside own own'
 same_leaf f (e ∷ es) g v j i k m out other c d mine theirs (suc p, below, is) (zero, below', is') own own' =
-    let inside : Contains es (Given (Fault j i out) (negative g ∷ c)) = (p, (let b : p < length es = omega arith in b), is) in
+    let inside : Contains es (Given (Fault j i out) (negative g ∷ c)) =
+    (p, (let b : p < length es = omega arith in b), is) in
     sym (newer f es g v k m j i other out d c (theirs [] es (ap (λ x. x ∷ es) is')) inside own' own)
 same_leaf f (e ∷ es) g v j i k m out other c d mine theirs (suc p, below, is) (suc q, below', is') own own' =
-    same_leaf f es g v j i k m out other c d (given_before f e es (Fault j i out) (negative g ∷ c) mine) (given_before f e es (Fault k m other) (negative g ∷ d) theirs)
+    same_leaf f es g v j i k m out other c d (given_before f e es (Fault j i out) (negative g ∷ c) mine)
+    (given_before f e es (Fault k m other) (negative g ∷ d) theirs)
     (p, (let b : p < length es = omega arith in b), is) (q, (let b : q < length es = omega arith in b), is') own own'
 
 -- a leaf of a table is listed, or constant false
-listed_leaf : (P : Leaf → Type 0) (leaves : List Leaf) (place : ℕ) → All P leaves → P (Constant false) → P (slice_index_or leaves place (Constant false))
+listed_leaf : (P : Leaf → Type 0) (leaves : List Leaf) (place : ℕ) → All P leaves → P (Constant false) →
+    P (slice_index_or leaves place (Constant false))
 listed_leaf P [] place all default = default
 listed_leaf P (x ∷ xs) zero all default = All-head P x xs all
 listed_leaf P (x ∷ xs) (suc place) all default = listed_leaf P xs place (All-tail P x xs all) default
 
-pub leaf_listed : (P : Leaf → Type 0) (t : LeafTable) (v : ℕ) (leaf : Leaf) → All P t.leaves → P (Constant false) → leaf_of t v ≡ Some leaf → P leaf
+pub leaf_listed : (P : Leaf → Type 0) (t : LeafTable) (v : ℕ) (leaf : Leaf) → All P t.leaves → P (Constant false) →
+    leaf_of t v ≡ Some leaf → P leaf
 leaf_listed P t v leaf all default is = by_option (place_of t.variables v) is where
-  by_option : (o : Option ℕ) → option_map (λ place. slice_index_or t.leaves place (Constant false)) o ≡ Some leaf → P leaf
+  by_option : (o : Option ℕ) → option_map (λ place. slice_index_or t.leaves place (Constant false)) o ≡ Some leaf
+      → P leaf
   by_option None h = cc
-  by_option (Some place) h = let same : slice_index_or t.leaves place (Constant false) ≡ leaf = cc in subst P same (listed_leaf P t.leaves place all default)
+  by_option (Some place) h = let same : slice_index_or t.leaves place (Constant false) ≡ leaf = cc in
+      subst P same (listed_leaf P t.leaves place all default)
 
 -- what a leaf reads with an answer behind it reads without it
 module _ (clause : List Literal) (hints : List ℕ) (earlier : List Entry) where
@@ -99,12 +115,14 @@ module _ (clause : List Literal) (hints : List ℕ) (earlier : List Entry) where
   reads_before l x (left _ a b _ named reads) = left l a b x named (reads_before a x reads)
   reads_before l x (right _ a b _ named reads) = right l a b x named (reads_before b x reads)
 
-  pub leaf_reads_before : (leaf : Leaf) (x : ℕ) → LeafReads (Answer clause hints ∷ earlier) leaf x → LeafReads earlier leaf x
+  pub leaf_reads_before : (leaf : Leaf) (x : ℕ) → LeafReads (Answer clause hints ∷ earlier) leaf x →
+      LeafReads earlier leaf x
   leaf_reads_before (Constant b) x reads = absurd reads
   leaf_reads_before (LeafLiteral l) x reads = reads_before l x reads
 
 -- what hints reach is reached from the answer
-module _ (earlier : List Entry) (clause : List Literal) (hints : List ℕ) (lawful : Each MayFollow (Answer clause hints ∷ earlier)) where
+module _ (earlier : List Entry) (clause : List Literal) (hints : List ℕ)
+    (lawful : Each MayFollow (Answer clause hints ∷ earlier)) where
   abbrev all : List Entry
   all = Answer clause hints ∷ earlier
 
@@ -113,18 +131,24 @@ module _ (earlier : List Entry) (clause : List Literal) (hints : List ℕ) (lawf
 
   hints_there : (at : ℕ) (hs : List ℕ) → hints_at earlier at ≡ Some hs → hints_at all at ≡ Some hs
   hints_there at hs is = by_entry (numbered has_id earlier at) refl is where
-    by_entry : (o : Option Entry) → numbered has_id earlier at ≡ o → option_and_then (λ e. Some (hints_of e)) o ≡ Some hs → hints_at all at ≡ Some hs
+    by_entry : (o : Option Entry) → numbered has_id earlier at ≡ o →
+        option_and_then (λ e. Some (hints_of e)) o ≡ Some hs → hints_at all at ≡ Some hs
     by_entry None e h = cc
-    by_entry (Some x) e h = ap (option_and_then (λ y. Some (hints_of y))) (numbered_kept (Answer clause hints ∷ []) earlier at (within earlier at x e) ∙ e) ∙ h
+    by_entry (Some x) e h = ap (option_and_then (λ y. Some (hints_of y)))
+        (numbered_kept (Answer clause hints ∷ []) earlier at (within earlier at x e) ∙ e) ∙ h
 
   from_hint : (hint h : ℕ) → Contains hints hint → Reaches earlier hint h → Reaches all last h
-  from_hint hint h inside reaches_itself = by_hint last hint hints reaches_itself (ap (option_and_then (λ e. Some (hints_of e))) (answer_there earlier clause hints lawful)) inside
-  from_hint hint h inside (by_hint at _ hs rest is among) = by_hint at h hs (from_hint hint at inside rest) (hints_there at hs is) among
+  from_hint hint h inside reaches_itself = by_hint last hint hints reaches_itself
+      (ap (option_and_then (λ e. Some (hints_of e))) (answer_there earlier clause hints lawful)) inside
+  from_hint hint h inside (by_hint at _ hs rest is among) = by_hint at h hs (from_hint hint at inside rest)
+      (hints_there at hs is) among
 
-  pub given_reached : (origin : Origin) (c : List Literal) (r : ReachesGiven earlier hints origin c) → Reaches all last r.id × (numbered has_id all r.id ≡ Some (Given origin c))
+  pub given_reached : (origin : Origin) (c : List Literal) (r : ReachesGiven earlier hints origin c) →
+      Reaches all last r.id × (numbered has_id all r.id ≡ Some (Given origin c))
   given_reached origin c r = (
     from_hint r.hint r.id r.hinted r.reached,
-    numbered_kept (Answer clause hints ∷ []) earlier r.id (within earlier r.id (Given origin c) r.is_given) ∙ r.is_given,
+    numbered_kept (Answer clause hints ∷ []) earlier r.id (within earlier r.id (Given origin c) r.is_given)
+        ∙ r.is_given,
   )
 
 module _ (f : Dqbf) (entries : List Entry) (id : ℕ) (ids : List ℕ) (d : AreDecided f entries id ids) where
@@ -141,16 +165,21 @@ module _ (f : Dqbf) (entries : List Entry) (id : ℕ) (ids : List ℕ) (d : AreD
   id_is = d.decided.last ∙ ap last_id d.decided.answered
 
   -- a given clause among the ids is reached by the answer's hints
-  reached_of : (h : ℕ) (origin : Origin) (c : List Literal) → Contains ids h → numbered has_id entries h ≡ Some (Given origin c) → ReachesGiven d.decided.earlier d.decided.hints origin c
+  reached_of : (h : ℕ) (origin : Origin) (c : List Literal) → Contains ids h →
+      numbered has_id entries h ≡ Some (Given origin c) → ReachesGiven d.decided.earlier d.decided.hints origin c
   reached_of h origin c inside at =
-      let reached : Reaches answered (last_id answered) h = subst (λ n. Reaches answered n h) id_is (subst (λ xs. Reaches xs id h) d.decided.answered (d.reached.sound h inside)) in
-      reached_given d.decided.earlier d.decided.clause d.decided.hints lawful' h origin c reached (ap (λ xs. numbered has_id xs h) (sym d.decided.answered) ∙ at)
+      let reached : Reaches answered (last_id answered) h = subst (λ n. Reaches answered n h) id_is
+      (subst (λ xs. Reaches xs id h) d.decided.answered (d.reached.sound h inside)) in
+      reached_given d.decided.earlier d.decided.clause d.decided.hints lawful' h origin c reached
+      (ap (λ xs. numbered has_id xs h) (sym d.decided.answered) ∙ at)
 
   -- and the other way round
-  among_of : (origin : Origin) (c : List Literal) (r : ReachesGiven d.decided.earlier d.decided.hints origin c) → Contains ids r.id × (numbered has_id entries r.id ≡ Some (Given origin c))
+  among_of : (origin : Origin) (c : List Literal) (r : ReachesGiven d.decided.earlier d.decided.hints origin c) →
+      Contains ids r.id × (numbered has_id entries r.id ≡ Some (Given origin c))
   among_of origin c r =
       let there = given_reached d.decided.earlier d.decided.clause d.decided.hints lawful' origin c r in
-      let reached : Reaches entries id r.id = subst (λ xs. Reaches xs id r.id) (sym d.decided.answered) (subst (λ n. Reaches answered n r.id) (sym id_is) there.0) in
+      let reached : Reaches entries id r.id = subst (λ xs. Reaches xs id r.id) (sym d.decided.answered)
+      (subst (λ n. Reaches answered n r.id) (sym id_is) there.0) in
       (d.reached.complete r.id reached, ap (λ xs. numbered has_id xs r.id) d.decided.answered ∙ there.1)
 
   -- what its origin says of a given clause
@@ -160,10 +189,17 @@ module _ (f : Dqbf) (entries : List Entry) (id : ℕ) (ids : List ℕ) (d : AreD
     pub is : entries ≡ more ++ Given origin c ∷ earlier
     pub matches : IsOriginsClause f earlier origin c
 
-  at_of : (h : ℕ) (origin : Origin) (c : List Literal) → Contains ids h → numbered has_id entries h ≡ Some (Given origin c) → IsAt h origin c
+  at_of : (h : ℕ) (origin : Origin) (c : List Literal) → Contains ids h →
+      numbered has_id entries h ≡ Some (Given origin c) → IsAt h origin c
   at_of h origin c inside at =
       let place = split_at entries h (Given origin c) at in
-      record { more = place.0; earlier = place.1; is = place.2; matches = d.givens h origin c (d.reached.sound h inside) at place.0 place.1 place.2 }
+      record {
+        more = place.0;
+        earlier = place.1;
+        is = place.2;
+        matches =
+            d.givens h origin c (d.reached.sound h inside) at place.0 place.1 place.2;
+      }
 
   -- the group
   pub groups : (group : ℕ) × AreOfGroup entries ids group
@@ -176,7 +212,8 @@ module _ (f : Dqbf) (entries : List Entry) (id : ℕ) (ids : List ℕ) (d : AreD
   )
 
   -- faults of clauses have literals of the matrix
-  fault_rest : (h j i : ℕ) (out : Leaf) (c : List Literal) → 1 ≤ j → (at : IsAt h (Fault j i out) c) → IsFaultRest f at.earlier at.matches.group j i out at.matches.rest
+  fault_rest : (h j i : ℕ) (out : Leaf) (c : List Literal) → 1 ≤ j → (at : IsAt h (Fault j i out) c) →
+      IsFaultRest f at.earlier at.matches.group j i out at.matches.rest
   fault_rest h zero i out c one at = absurd (omega (arith, one))
   fault_rest h (suc j) i out c one at = at.matches.rest_is
 
@@ -190,8 +227,10 @@ module _ (f : Dqbf) (entries : List Entry) (id : ℕ) (ids : List ℕ) (d : AreD
   own_from_one zero i v own = cc
   own_from_one (suc j) i v own = omega arith
 
-  module _ (group : ℕ) (t : LeafTable) (roots gates : List ℕ) (of_group : AreOfGroup entries ids group) (sound : AreLeavesAmong f entries ids t) (whole : HasLeavesAmong f entries ids t)
-      (have : HasRoots entries ids t.leaves roots) (are : gates ≡ with_gates (with_all_sides (reverse (names_of entries)) roots) [] (names_of entries)) where
+  module _ (group : ℕ) (t : LeafTable) (roots gates : List ℕ) (of_group : AreOfGroup entries ids group)
+      (sound : AreLeavesAmong f entries ids t) (whole : HasLeavesAmong f entries ids t)
+      (have : HasRoots entries ids t.leaves roots) (are : gates ≡ with_gates
+      (with_all_sides (reverse (names_of entries)) roots) [] (names_of entries)) where
     abbrev needed : List ℕ
     needed = sides_over entries roots
 
@@ -202,35 +241,52 @@ module _ (f : Dqbf) (entries : List Entry) (id : ℕ) (ids : List ℕ) (d : AreD
     gates_is = are ∙ ap (λ s. with_gates s [] (names_of entries)) (sides_are entries roots) ∙ gates_are needed entries
 
     -- a fault among the ids, in the log
-    in_log : (v : ℕ) (out : Leaf) (a : IsLeafAmong f entries ids v out) → (c : List Literal) × Contains entries (Given (Fault a.at.j a.at.i out) (negative d.decided.decides.rests.group ∷ c))
+    in_log : (v : ℕ) (out : Leaf) (a : IsLeafAmong f entries ids v out) →
+        (c : List Literal) × Contains entries (Given (Fault a.at.j a.at.i out)
+        (negative d.decided.decides.rests.group ∷ c))
         × IsGivenRightly f entries (Fault a.at.j a.at.i out) (negative d.decided.decides.rests.group ∷ c)
     in_log v out a =
         let g = given_of entries a.id (Fault a.at.j a.at.i out) a.at.is_fault in
-        let mine = d.decided.decides.rests.circuit (Fault a.at.j a.at.i out) g.0 (reached_of a.id (Fault a.at.j a.at.i out) g.0 a.among g.1) in
+        let mine = d.decided.decides.rests.circuit (Fault a.at.j a.at.i out) g.0
+        (reached_of a.id (Fault a.at.j a.at.i out) g.0 a.among g.1) in
         let place = split_at entries a.id (Given (Fault a.at.j a.at.i out) g.0) g.1 in
-        let inside : Contains entries (Given (Fault a.at.j a.at.i out) g.0) = subst (λ es. Contains es (Given (Fault a.at.j a.at.i out) g.0)) (sym place.2)
-        (Contains-append_right place.0 (Given (Fault a.at.j a.at.i out) g.0 ∷ place.1) (Given (Fault a.at.j a.at.i out) g.0) (0, omega arith, refl)) in (
+        let inside : Contains entries (Given (Fault a.at.j a.at.i out) g.0) =
+        subst (λ es. Contains es (Given (Fault a.at.j a.at.i out) g.0)) (sym place.2)
+        (Contains-append_right place.0 (Given (Fault a.at.j a.at.i out) g.0 ∷ place.1)
+        (Given (Fault a.at.j a.at.i out) g.0) (0, omega arith, refl)) in (
           mine.0,
           subst (λ c. Contains entries (Given (Fault a.at.j a.at.i out) c)) mine.1 inside,
-          subst (IsGivenRightly f entries (Fault a.at.j a.at.i out)) mine.1 (d.givens a.id (Fault a.at.j a.at.i out) g.0 (d.reached.sound a.id a.among) g.1),
+          subst (IsGivenRightly f entries (Fault a.at.j a.at.i out)) mine.1
+              (d.givens a.id (Fault a.at.j a.at.i out) g.0 (d.reached.sound a.id a.among) g.1),
         )
 
-    one_leaf : (v : ℕ) (out other : Leaf) → IsLeafAmong f entries ids v out → IsLeafAmong f entries ids v other → out ≡ other
+    one_leaf : (v : ℕ) (out other : Leaf) → IsLeafAmong f entries ids v out → IsLeafAmong f entries ids v other →
+        out ≡ other
     one_leaf v out other a b =
         let p = in_log v out a in
         let q = in_log v other b in
-        same_leaf f entries d.decided.decides.rests.group v a.at.j a.at.i b.at.j b.at.i out other p.0 q.0 p.2 q.2 p.1 q.1 a.at.own b.at.own
+        same_leaf f entries d.decided.decides.rests.group v a.at.j a.at.i b.at.j b.at.i out other p.0 q.0 p.2 q.2 p.1
+        q.1 a.at.own b.at.own
 
-    out_is : (y : Existential) (out : Leaf) → IsFaultLeaf f d.decided.earlier d.decided.hints y out → out ≡ output_leaf t y
+    out_is : (y : Existential) (out : Leaf) → IsFaultLeaf f d.decided.earlier d.decided.hints y out →
+        out ≡ output_leaf t y
     out_is y out own =
         let there = among_of (Fault own.j own.i out) own.clause own.reached in
-        let a : IsLeafAmong f entries ids y.variable out = record { id = own.reached.id; among = there.0; at = record { j = own.j; i = own.i; is_fault = ap (option_and_then origin_of) there.1; own = own.own } } in
+        let a : IsLeafAmong f entries ids y.variable out = record {
+          id = own.reached.id;
+          among = there.0;
+          at = record
+              { j = own.j; i = own.i; is_fault = ap (option_and_then origin_of) there.1; own = own.own };
+        } in
         by_option a (leaf_of t y.variable) refl (whole y.variable out a) where
-          by_option : IsLeafAmong f entries ids y.variable out → (o : Option Leaf) → leaf_of t y.variable ≡ o → IsSome o → out ≡ or_false (leaf_of t y.variable)
+          by_option : IsLeafAmong f entries ids y.variable out → (o : Option Leaf) → leaf_of t y.variable ≡ o →
+              IsSome o → out ≡ or_false (leaf_of t y.variable)
           by_option a None e h = cc
           by_option a (Some leaf) e h = one_leaf y.variable out leaf a (sound y.variable leaf e) ∙ sym (ap or_false e)
 
-    read : (y : Existential) (x : ℕ) → ((leaf : Leaf) → IsFaultLeaf f d.decided.earlier d.decided.hints y leaf → (z : ℕ) → LeafReads d.decided.earlier leaf z → Contains y.sees z) → LeafReads entries (output_leaf t y) x → Contains y.sees x
+    read : (y : Existential) (x : ℕ) → ((leaf : Leaf) → IsFaultLeaf f d.decided.earlier d.decided.hints y leaf →
+        (z : ℕ) → LeafReads d.decided.earlier leaf z → Contains y.sees z) → LeafReads entries (output_leaf t y) x →
+        Contains y.sees x
     read y x seen reads = by_option (leaf_of t y.variable) refl reads where
       by_option : (o : Option Leaf) → leaf_of t y.variable ≡ o → LeafReads entries (or_false o) x → Contains y.sees x
       by_option None e h = absurd h
@@ -238,43 +294,61 @@ module _ (f : Dqbf) (entries : List Entry) (id : ℕ) (ids : List ℕ) (d : AreD
           let a = sound y.variable leaf e in
           let g = given_of entries a.id (Fault a.at.j a.at.i leaf) a.at.is_fault in
           let own : IsFaultLeaf f d.decided.earlier d.decided.hints y leaf =
-          record { j = a.at.j; i = a.at.i; clause = g.0; reached = reached_of a.id (Fault a.at.j a.at.i leaf) g.0 a.among g.1; own = a.at.own } in
-          seen leaf own x (leaf_reads_before d.decided.clause d.decided.hints d.decided.earlier leaf x (subst (λ es. LeafReads es leaf x) d.decided.answered h))
+          record {
+            j = a.at.j;
+            i = a.at.i;
+            clause = g.0;
+            reached =
+                reached_of a.id (Fault a.at.j a.at.i leaf) g.0 a.among g.1;
+            own = a.at.own;
+          } in
+          seen leaf own x (leaf_reads_before d.decided.clause d.decided.hints d.decided.earlier leaf x
+          (subst (λ es. LeafReads es leaf x) d.decided.answered h))
 
     -- a circuit's literal of the log stands on a gate of the file, if on a gate
     in_file : (l : Literal) → has_number needed (variable_of l) ≡ true → IsInFile entries gates l
-    in_file l need a b named = subst (λ gs. Contains gs (variable_of l)) (sym gates_is) (gate_there needed entries (variable_of l) a b named need)
+    in_file l need a b named = subst (λ gs. Contains gs (variable_of l)) (sym gates_is)
+        (gate_there needed entries (variable_of l) a b named need)
 
     leaf_in_file : (y : Existential) → IsLeafInFile entries gates (output_leaf t y)
     leaf_in_file y = by_option (leaf_of t y.variable) refl where
-      of_circuit : (l : Literal) → IsLeafAmong f entries ids y.variable (LeafLiteral l) → is_circuit_name (name_of entries (variable_of l)) ≡ true
+      of_circuit : (l : Literal) → IsLeafAmong f entries ids y.variable (LeafLiteral l) →
+          is_circuit_name (name_of entries (variable_of l)) ≡ true
       of_circuit l a =
           let g = given_of entries a.id (Fault a.at.j a.at.i (LeafLiteral l)) a.at.is_fault in
           let at = at_of a.id (Fault a.at.j a.at.i (LeafLiteral l)) g.0 a.among g.1 in
-          let rest = fault_rest a.id a.at.j a.at.i (LeafLiteral l) g.0 (own_from_one a.at.j a.at.i y.variable a.at.own) at in
+          let rest = fault_rest a.id a.at.j a.at.i (LeafLiteral l) g.0
+          (own_from_one a.at.j a.at.i y.variable a.at.own) at in
           let leaf : IsLeafOf f at.earlier (variable_of rest.literal) (LeafLiteral l) = rest.leaf_is in
           let e = Given (Fault a.at.j a.at.i (LeafLiteral l)) g.0 in
           subst (λ es. is_circuit_name (name_of es (variable_of l)) ≡ true) (sym at.is)
-          (circuit_stays (e ∷ at.earlier) at.more (subst (Each MayFollow) at.is lawful) (variable_of l) (name_of at.earlier (variable_of l)) refl leaf.1)
+          (circuit_stays (e ∷ at.earlier) at.more (subst (Each MayFollow) at.is lawful) (variable_of l)
+          (name_of at.earlier (variable_of l)) refl leaf.1)
 
       by_option : (o : Option Leaf) → leaf_of t y.variable ≡ o → IsLeafInFile entries gates (or_false o)
       by_option None e = tt
       by_option (Some (Constant b)) e = tt
       by_option (Some (LeafLiteral l)) e =
-          let need : has_number roots (variable_of l) ≡ true = leaf_listed (IsLeafNeeded roots) t y.variable (LeafLiteral l) have.leaves_needed tt e in
+          let need : has_number roots (variable_of l) ≡ true =
+          leaf_listed (IsLeafNeeded roots) t y.variable (LeafLiteral l) have.leaves_needed tt e in
           (of_circuit l (sound y.variable (LeafLiteral l) e), in_file l (over_grows entries roots (variable_of l) need))
 
-    used : (h v i : ℕ) (c : List Literal) → Reaches entries id h → numbered has_id entries h ≡ Some (Given (Gate v i) c) → Contains gates v
+    used : (h v i : ℕ) (c : List Literal) → Reaches entries id h →
+        numbered has_id entries h ≡ Some (Given (Gate v i) c) → Contains gates v
     used h v i c reached at =
-        let need : has_number roots v ≡ true = All-contains (IsGateNeeded entries roots) ids h have.gates_needed (d.reached.complete h reached) v i (ap (option_and_then origin_of) at) in
+        let need : has_number roots v ≡ true = All-contains (IsGateNeeded entries roots) ids h have.gates_needed
+        (d.reached.complete h reached) v i (ap (option_and_then origin_of) at) in
         let place = at_of h (Gate v i) c (d.reached.complete h reached) at in
         let rest : IsGateRest place.earlier v i place.matches.rest = place.matches.rest_is in
-        let named = name_stays place.more (Given (Gate v i) c ∷ place.earlier) v (And rest.left rest.right) (subst (Each MayFollow) place.is lawful) rest.named in
-        subst (λ gs. Contains gs v) (sym gates_is) (gate_there needed entries v rest.left rest.right (ap (λ es. name_of es v) place.is ∙ named) (over_grows entries roots v need))
+        let named = name_stays place.more (Given (Gate v i) c ∷ place.earlier) v (And rest.left rest.right)
+        (subst (Each MayFollow) place.is lawful) rest.named in
+        subst (λ gs. Contains gs v) (sym gates_is) (gate_there needed entries v rest.left rest.right
+        (ap (λ es. name_of es v) place.is ∙ named) (over_grows entries roots v need))
 
     circuit_part : IsCircuitPart f entries part
     circuit_part = record {
-      named = λ v inside. let g = gate_named needed entries v lawful (subst (λ gs. Contains gs v) gates_is inside) in (g.left, g.right, g.named);
+      named = λ v inside. let g = gate_named needed entries v lawful (subst (λ gs. Contains gs v) gates_is inside) in
+          (g.left, g.right, g.named);
       distinct = subst (λ gs. AllPairs (λ v w. v ≢ w) gs) (sym gates_is) (gates_distinct needed entries);
       sides = λ v a b inside named.
           let g = gate_named needed entries v lawful (subst (λ gs. Contains gs v) gates_is inside) in

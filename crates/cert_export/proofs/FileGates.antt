@@ -27,7 +27,8 @@ pub circuit_named : (o : Option Name) → is_circuit_name o ≡ true → IsSome 
 circuit_named None h = cc
 circuit_named (Some n) h = refl
 
-module _ (f : Dqbf) (entries : List Entry) (e : CircuitPart) (part : IsCircuitPart f entries e) (v : ℕ) (inside : Contains e.gates v) where
+module _ (f : Dqbf) (entries : List Entry) (e : CircuitPart) (part : IsCircuitPart f entries e) (v : ℕ)
+    (inside : Contains e.gates v) where
   pub gate_is_named : IsSome (name_of entries v)
   gate_is_named = let n = part.named v inside in ap is_some n.2
 
@@ -38,7 +39,9 @@ module _ (f : Dqbf) (entries : List Entry) (e : CircuitPart) (part : IsCircuitPa
       let same : name ≡ And n.0 n.1 = cc in
       none n.0 n.1 same
 
-pub sides_named : (entries : List Entry) (v : ℕ) (a b : Literal) → AreLogged entries → name_of entries v ≡ Some (And a b) → IsSome (name_of entries (variable_of a)) × IsSome (name_of entries (variable_of b))
+pub sides_named : (entries : List Entry) (v : ℕ) (a b : Literal) → AreLogged entries →
+    name_of entries v ≡ Some (And a b) → IsSome (name_of entries (variable_of a)) × IsSome
+    (name_of entries (variable_of b))
 sides_named entries v a b logged named =
     let both = sides entries v a b logged named in
     (circuit_named (name_of entries (variable_of a)) both.0, circuit_named (name_of entries (variable_of b)) both.1)
@@ -46,22 +49,36 @@ sides_named entries v a b logged named =
 -- a gate that may be added at its place
 pub record MayBeAdded (net : Netlist) (p lhs left right : ℕ) : Type 0 where
   pub variable : IsVariable net.max_var (lhs / 2)
-  pub undefined : IsDefined (record { max_var = net.max_var; inputs = net.inputs; outputs = []; gates = take p net.gates }) (lhs / 2) → ⊥
+  pub undefined : IsDefined (record {
+    max_var = net.max_var;
+    inputs = net.inputs;
+    outputs = [];
+    gates =
+        take p net.gates;
+  }) (lhs / 2) → ⊥
   pub left_fits : IsLiteral net.max_var left
   pub right_fits : IsLiteral net.max_var right
 
-pub may_be_added : (net : Netlist) → IsNetlist net → (p : ℕ) (g : Gate) → p < length net.gates → get_or net.gates p g ≡ g → MayBeAdded net p (2 * g.variable) g.left g.right
+pub may_be_added : (net : Netlist) → IsNetlist net → (p : ℕ) (g : Gate) → p < length net.gates →
+    get_or net.gates p g ≡ g → MayBeAdded net p (2 * g.variable) g.left g.right
 may_be_added net lawful p g below is =
     let fits : IsGate net.max_var g = subst (IsGate net.max_var) is (lawful.gates_fit p g below) in
     let half : 2 * g.variable / 2 ≡ g.variable = half_even g.variable in
     record {
       variable = subst (IsVariable net.max_var) (sym half) fits.variable;
-      undefined = λ defined. new (subst (IsDefined (record { max_var = net.max_var; inputs = net.inputs; outputs = []; gates = take p net.gates })) half defined);
+      undefined = λ defined. new (subst (IsDefined (record {
+        max_var = net.max_var;
+        inputs = net.inputs;
+        outputs = [];
+        gates = take p net.gates;
+      })) half defined);
       left_fits = fits.left;
       right_fits = fits.right;
     } where
-      new : IsDefined (record { max_var = net.max_var; inputs = net.inputs; outputs = []; gates = take p net.gates }) g.variable → ⊥
-      new (inl inside) = All-contains (λ x. All (λ h. x ≢ h.variable) net.gates) net.inputs g.variable lawful.apart inside p g below (sym (ap (λ h. h.variable) is))
+      new : IsDefined (record { max_var = net.max_var; inputs = net.inputs; outputs = []; gates = take p net.gates })
+          g.variable → ⊥
+      new (inl inside) = All-contains (λ x. All (λ h. x ≢ h.variable) net.gates) net.inputs g.variable lawful.apart
+          inside p g below (sym (ap (λ h. h.variable) is))
       new (inr inside) =
           let h = mapped_from variable_of_gate (take p net.gates) g.variable inside in
           let k = h.1.0 in
@@ -69,38 +86,63 @@ may_be_added net lawful p g below is =
           let long = length-take p net.gates in
           let k_low : k < p = omega (arith, low, long) in
           let at : get_or net.gates k h.0 ≡ h.0 = sym (get_or-take p net.gates k h.0 k_low) ∙ h.1.2 in
-          let at' : get_or net.gates k g ≡ h.0 = sym (get_or_default net.gates k h.0 g (omega (arith, k_low, below))) ∙ at in
+          let at' : get_or net.gates k g ≡ h.0 = sym (get_or_default net.gates k h.0 g
+          (omega (arith, k_low, below))) ∙ at in
           lawful.gates_once k p g k_low below (ap (λ x. x.variable) at' ∙ h.2 ∙ sym (ap (λ x. x.variable) is))
 
-pub gate_added : (net : Netlist) (p : ℕ) (g : Gate) (old new : Netlist) → p < length net.gates → get_or net.gates p g ≡ g → old ≡ record net { outputs = []; gates = take p net.gates } →
-    new ≡ record old { gates = old.gates ++ record { variable = 2 * g.variable / 2; left = g.left; right = g.right } ∷ [] } → new ≡ record net { outputs = []; gates = take (p + 1) net.gates }
+pub gate_added : (net : Netlist) (p : ℕ) (g : Gate) (old new : Netlist) → p < length net.gates →
+    get_or net.gates p g ≡ g → old ≡ record net { outputs = []; gates = take p net.gates } →
+    new ≡ record old {
+      gates = old.gates ++ record { variable = 2 * g.variable / 2; left = g.left; right = g.right } ∷
+          [];
+    } → new ≡ record net { outputs = []; gates = take (p + 1) net.gates }
 gate_added net p g old new below is old_is new_is =
     let half : 2 * g.variable / 2 ≡ g.variable = half_even g.variable in
     let more : take (p + 1) net.gates ≡ take p net.gates ++ get_or net.gates p g ∷ [] = take_more net.gates p g below in
     new_is
-    ∙ ap (λ (o : Netlist). record o { gates = o.gates ++ record { variable = 2 * g.variable / 2; left = g.left; right = g.right } ∷ [] }) old_is
-    ∙ ap (λ v. record { max_var = net.max_var; inputs = net.inputs; outputs = []; gates = take p net.gates ++ record { variable = v; left = g.left; right = g.right } ∷ [] }) half
-    ∙ ap (λ h. record { max_var = net.max_var; inputs = net.inputs; outputs = []; gates = take p net.gates ++ h ∷ [] }) (sym is)
+    ∙ ap (λ (o : Netlist). record o {
+      gates = o.gates ++ record
+          { variable = 2 * g.variable / 2; left = g.left; right = g.right } ∷ [];
+    }) old_is
+    ∙ ap (λ v. record {
+      max_var = net.max_var;
+      inputs = net.inputs;
+      outputs = [];
+      gates =
+          take p net.gates ++ record { variable = v; left = g.left; right = g.right } ∷ [];
+    }) half
+    ∙ ap (λ h. record { max_var = net.max_var; inputs = net.inputs; outputs = []; gates = take p net.gates ++ h ∷ [] })
+    (sym is)
     ∙ ap (λ gs. record { max_var = net.max_var; inputs = net.inputs; outputs = []; gates = gs }) (sym more)
 
-pub output_added : (net : Netlist) (p l : ℕ) (old new : Netlist) → p < length net.outputs → get_or net.outputs p l ≡ l → old ≡ record net { outputs = take p net.outputs } →
+pub output_added : (net : Netlist) (p l : ℕ) (old new : Netlist) → p < length net.outputs → get_or net.outputs p l ≡ l →
+    old ≡ record net { outputs = take p net.outputs } →
     new ≡ record old { outputs = old.outputs ++ l ∷ [] } → new ≡ record net { outputs = take (p + 1) net.outputs }
 output_added net p l old new below is old_is new_is =
-    let more : take (p + 1) net.outputs ≡ take p net.outputs ++ get_or net.outputs p l ∷ [] = take_more net.outputs p l below in
+    let more : take (p + 1) net.outputs ≡ take p net.outputs ++ get_or net.outputs p l ∷ [] =
+    take_more net.outputs p l below in
     new_is
     ∙ ap (λ (o : Netlist). record o { outputs = o.outputs ++ l ∷ [] }) old_is
-    ∙ ap (λ h. record { max_var = net.max_var; inputs = net.inputs; outputs = take p net.outputs ++ h ∷ []; gates = net.gates }) (sym is)
+    ∙ ap (λ h. record {
+      max_var = net.max_var;
+      inputs = net.inputs;
+      outputs = take p net.outputs ++ h ∷ [];
+      gates =
+          net.gates;
+    }) (sym is)
     ∙ ap (λ os. record { max_var = net.max_var; inputs = net.inputs; outputs = os; gates = net.gates }) (sym more)
 
 -- a leaf of the circuit is named
-pub leaf_named : (f : Dqbf) (entries : List Entry) (e : CircuitPart) → IsCircuitPart f entries e → (p : ℕ) (y : Existential) → p < length f.existentials → IsLeafNamed entries (e.leaf (get_or f.existentials p y))
+pub leaf_named : (f : Dqbf) (entries : List Entry) (e : CircuitPart) → IsCircuitPart f entries e →
+    (p : ℕ) (y : Existential) → p < length f.existentials → IsLeafNamed entries (e.leaf (get_or f.existentials p y))
 leaf_named f entries e part p y below = by_leaf (e.leaf (get_or f.existentials p y)) (part.leaves p y below) where
   by_leaf : (leaf : Leaf) → IsLeafInFile entries e.gates leaf → IsLeafNamed entries leaf
   by_leaf (Constant b) h = tt
   by_leaf (LeafLiteral l) h = circuit_named (name_of entries (variable_of l)) h.0
 
 -- the gate at a place of the file
-pub gate_at_place : (f : Dqbf) (entries : List Entry) (e : CircuitPart) (items : List ℕ) (p : ℕ) → items ≡ e.gates → p < length e.gates →
+pub gate_at_place : (f : Dqbf) (entries : List Entry) (e : CircuitPart) (items : List ℕ) (p : ℕ) → items ≡ e.gates →
+    p < length e.gates →
     let r = circuit_renaming f entries e in
     let g = gate_of r (slice_index items p) (name_of entries (slice_index items p)) in
     (p < length (exported_netlist f entries e).gates) × (get_or (exported_netlist f entries e).gates p g ≡ g)
@@ -110,15 +152,20 @@ gate_at_place f entries e items p same below =
     let v = slice_index items p in
     let long = length-map e.gates G in
     let sized = ap length same in
-    let at : get_or e.gates p v ≡ v = ap (λ xs. get_or xs p v) (sym same) ∙ sym (get_or_default items p 0 v (omega (arith, below, sized))) in
+    let at : get_or e.gates p v ≡ v = ap (λ xs. get_or xs p v) (sym same) ∙ sym
+    (get_or_default items p 0 v (omega (arith, below, sized))) in
     (omega (arith, below, long), get_or-map G e.gates p v (G v) below ∙ ap G at)
 
 -- the output at a place
-pub output_at_place : (f : Dqbf) (entries : List Entry) (group : ℕ) (gates : List ℕ) (t : LeafTable) (items : List ℕ) (p : ℕ) → items ≡ existential_variables f → p < length items →
+pub output_at_place : (f : Dqbf) (entries : List Entry) (group : ℕ) (gates : List ℕ) (t : LeafTable) (items : List ℕ)
+    (p : ℕ) → items ≡ existential_variables f → p < length items →
     let e : CircuitPart = record { group = group; gates = gates; leaf = output_leaf t } in
-    (y : Existential) × (p < length f.existentials) × (or_false (leaf_of t (slice_index items p)) ≡ e.leaf (get_or f.existentials p y))
+    (y : Existential) × (p < length f.existentials) × (or_false (leaf_of t (slice_index items p)) ≡ e.leaf
+    (get_or f.existentials p y))
     × (p < length (exported_netlist f entries e).outputs)
-    × (get_or (exported_netlist f entries e).outputs p (leaf_code (circuit_renaming f entries e) (or_false (leaf_of t (slice_index items p)))) ≡ leaf_code (circuit_renaming f entries e) (or_false (leaf_of t (slice_index items p))))
+    × (get_or (exported_netlist f entries e).outputs p (leaf_code (circuit_renaming f entries e)
+    (or_false (leaf_of t (slice_index items p)))) ≡ leaf_code (circuit_renaming f entries e)
+    (or_false (leaf_of t (slice_index items p))))
 output_at_place f entries group gates t items p same below =
     let e : CircuitPart = record { group = group; gates = gates; leaf = output_leaf t } in
     let r = circuit_renaming f entries e in
@@ -129,8 +176,10 @@ output_at_place f entries group gates t items p same below =
     let outs = length-map f.existentials L in
     let sized = ap length same in
     let low : p < length f.existentials = omega (arith, below, long, sized) in
-    let variable_is : slice_index items p ≡ (get_or f.existentials p y).variable = ap (λ xs. slice_index xs p) same ∙ get_or-map V f.existentials p y 0 low in
-    let leaf_is : or_false (leaf_of t (slice_index items p)) ≡ e.leaf (get_or f.existentials p y) = ap (λ v. or_false (leaf_of t v)) variable_is in
+    let variable_is : slice_index items p ≡ (get_or f.existentials p y).variable =
+    ap (λ xs. slice_index xs p) same ∙ get_or-map V f.existentials p y 0 low in
+    let leaf_is : or_false (leaf_of t (slice_index items p)) ≡ e.leaf (get_or f.existentials p y) =
+    ap (λ v. or_false (leaf_of t v)) variable_is in
     let code = leaf_code r (or_false (leaf_of t (slice_index items p))) in (
       y,
       low,
@@ -142,11 +191,13 @@ output_at_place f entries group gates t items p same below =
 in_range_below : (a n x : ℕ) → Contains (range_with_len a n) x → x < a + n
 in_range_below a zero x (k, below, is) = absurd (omega (arith, below))
 in_range_below a (suc n) x (zero, below, is) = omega (arith, is)
-in_range_below a (suc n) x (suc k, below, is) = let r = in_range_below (a + 1) n x (k, (let b : k < length (range_with_len (a + 1) n) = omega (arith, below) in b), is) in omega (arith, r)
+in_range_below a (suc n) x (suc k, below, is) = let r = in_range_below (a + 1) n x
+    (k, (let b : k < length (range_with_len (a + 1) n) = omega (arith, below) in b), is) in omega (arith, r)
 
 -- an input with the next number
 pub next_input : (net : Netlist) (i : ℕ) → net.inputs ≡ range_with_len 1 i → net.gates ≡ [] → IsDefined net (i + 1) → ⊥
-next_input net i inputs gates (inl inside) = let b = in_range_below 1 i (i + 1) (subst (λ xs. Contains xs (i + 1)) inputs inside) in omega (arith, b)
+next_input net i inputs gates (inl inside) = let b = in_range_below 1 i (i + 1)
+    (subst (λ xs. Contains xs (i + 1)) inputs inside) in omega (arith, b)
 next_input net i inputs gates (inr inside) =
     let none : Contains {X = ℕ} [] (i + 1) = subst (λ gs. Contains (map variable_of_gate gs) (i + 1)) gates inside in
     let b = none.1 in omega (arith, b)
@@ -154,10 +205,13 @@ next_input net i inputs gates (inr inside) =
 -- one number more
 pub range_more : (a n : ℕ) → range_with_len a (suc n) ≡ range_with_len a n ++ (a + n) ∷ []
 range_more a zero = ap (λ x. x ∷ []) (let e : a ≡ a + 0 = omega arith in e)
-range_more a (suc n) = ap (λ xs. a ∷ xs) (range_more (a + 1) n ∙ ap (λ x. range_with_len (a + 1) n ++ x ∷ []) (let e : a + 1 + n ≡ a + suc n = omega arith in e))
+range_more a (suc n) = ap (λ xs. a ∷ xs) (range_more (a + 1) n ∙ ap (λ x. range_with_len (a + 1) n ++ x ∷ [])
+    (let e : a + 1 + n ≡ a + suc n = omega arith in e))
 
-pub input_added : (old first new : Netlist) (i : ℕ) → old ≡ record first { inputs = range_with_len 1 i } → new ≡ record old { inputs = old.inputs ++ (i + 1) ∷ [] } → new ≡ record first { inputs = range_with_len 1 (i + 1) }
+pub input_added : (old first new : Netlist) (i : ℕ) → old ≡ record first { inputs = range_with_len 1 i } →
+    new ≡ record old { inputs = old.inputs ++ (i + 1) ∷ [] } → new ≡ record first { inputs = range_with_len 1 (i + 1) }
 input_added old first new i old_is new_is =
     new_is ∙ ap (λ (o : Netlist). record o { inputs = o.inputs ++ (i + 1) ∷ [] }) old_is
     ∙ ap (λ x. record first { inputs = range_with_len 1 i ++ x ∷ [] }) (let e : i + 1 ≡ 1 + i = omega arith in e)
-    ∙ ap (λ xs. record first { inputs = xs }) (sym (range_more 1 i) ∙ ap (range_with_len 1) (let e : suc i ≡ i + 1 = omega arith in e))
+    ∙ ap (λ xs. record first { inputs = xs }) (sym (range_more 1 i) ∙ ap (range_with_len 1)
+    (let e : suc i ≡ i + 1 = omega arith in e))

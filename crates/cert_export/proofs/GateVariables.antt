@@ -19,21 +19,25 @@ use Rattle.cert_export.specs.Parts.{IsExportedCircuit}
 use Rattle.cert_export.proofs.CircuitNumbers.{IsPlace, among, place_there, position_is}
 
 -- of numbers that differ, each stands first at its own place
-own_place : (xs : List ℕ) (i : ℕ) → AllPairs (λ v w. v ≢ w) xs → i < length xs → position_or_len (λ x. x == get_or xs i 0) xs ≡ i
-own_place xs i distinct below = placed (position_is xs (get_or xs i 0) (among xs (get_or xs i 0) (Contains-get_or xs i 0 below))) where
-  placed : IsPlace xs (get_or xs i 0) (position_or_len (λ x. x == get_or xs i 0) xs + 1) → position_or_len (λ x. x == get_or xs i 0) xs ≡ i
-  placed p = by_order (cases_order p.place i) where
-    by_order : (p.place ≡ i) ⊎ ((p.place < i) ⊎ (i < p.place)) → position_or_len (λ x. x == get_or xs i 0) xs ≡ i
-    by_order (inl same) = p.first ∙ same
-    by_order (inr (inl less)) = absurd (distinct p.place i 0 less below p.there)
-    by_order (inr (inr more)) = absurd (distinct i p.place 0 more p.below (sym p.there))
+own_place : (xs : List ℕ) (i : ℕ) → AllPairs (λ v w. v ≢ w) xs → i < length xs →
+    position_or_len (λ x. x == get_or xs i 0) xs ≡ i
+own_place xs i distinct below = placed (position_is xs (get_or xs i 0)
+    (among xs (get_or xs i 0) (Contains-get_or xs i 0 below))) where
+      placed : IsPlace xs (get_or xs i 0) (position_or_len (λ x. x == get_or xs i 0) xs + 1) →
+          position_or_len (λ x. x == get_or xs i 0) xs ≡ i
+      placed p = by_order (cases_order p.place i) where
+        by_order : (p.place ≡ i) ⊎ ((p.place < i) ⊎ (i < p.place)) → position_or_len (λ x. x == get_or xs i 0) xs ≡ i
+        by_order (inl same) = p.first ∙ same
+        by_order (inr (inl less)) = absurd (distinct p.place i 0 less below p.there)
+        by_order (inr (inr more)) = absurd (distinct i p.place 0 more p.below (sym p.there))
 
 abbrev gate_at : Dqbf → List Entry → CircuitPart → ℕ → Gate
 gate_at f entries e v = gate_of (circuit_renaming f entries e) v (name_of entries v)
 
 module _ (f : Dqbf) (entries : List Entry) (e : CircuitPart) (part : IsCircuitPart f entries e) where
   variable_at : (i : ℕ) → i < length e.gates →
-      variable_of_gate (gate_of (circuit_renaming f entries e) (get_or e.gates i 0) (name_of entries (get_or e.gates i 0))) ≡ length f.universals + 1 + i
+      variable_of_gate (gate_of (circuit_renaming f entries e) (get_or e.gates i 0)
+      (name_of entries (get_or e.gates i 0))) ≡ length f.universals + 1 + i
   variable_at i below =
       let v = get_or e.gates i 0 in
       let named = part.named v (Contains-get_or e.gates i 0 below) in
@@ -48,27 +52,36 @@ module _ (f : Dqbf) (entries : List Entry) (e : CircuitPart) (part : IsCircuitPa
       ∙ number
 
   same_place : (i : ℕ) → i < length e.gates →
-      get_or (map variable_of_gate (map (gate_at f entries e) e.gates)) i 0 ≡ get_or (range_with_len (length f.universals + 1) (length e.gates)) i 0
+      get_or (map variable_of_gate (map (gate_at f entries e) e.gates)) i 0 ≡ get_or
+      (range_with_len (length f.universals + 1) (length e.gates)) i 0
   same_place i below =
-      let inside : i < length (map (gate_at f entries e) e.gates) = rw (length-map e.gates (gate_at f entries e)) below in
+      let inside : i < length (map (gate_at f entries e) e.gates) =
+      rw (length-map e.gates (gate_at f entries e)) below in
       get_or-map variable_of_gate (map (gate_at f entries e) e.gates) i (gate_at f entries e 0) 0 inside
       ∙ ap variable_of_gate (get_or-map (gate_at f entries e) e.gates i 0 (gate_at f entries e 0) below)
       ∙ variable_at i below
       ∙ sym (get_or-range_with_len (length f.universals + 1) (length e.gates) i 0 below)
 
-  pub exported_variables : gate_variables (exported_netlist f entries e) ≡ range_with_len (length f.universals + 1) (length e.gates)
+  pub exported_variables : gate_variables (exported_netlist f entries e) ≡ range_with_len (length f.universals + 1)
+      (length e.gates)
   exported_variables =
-      let long : length (map variable_of_gate (map (gate_at f entries e) e.gates)) ≡ length e.gates = length-map (map (gate_at f entries e) e.gates) variable_of_gate ∙ length-map e.gates (gate_at f entries e) in
-      ext_get_or 0 (map variable_of_gate (map (gate_at f entries e) e.gates)) (range_with_len (length f.universals + 1) (length e.gates))
+      let long : length (map variable_of_gate (map (gate_at f entries e) e.gates)) ≡ length e.gates =
+      length-map (map (gate_at f entries e) e.gates) variable_of_gate ∙ length-map e.gates (gate_at f entries e) in
+      ext_get_or 0 (map variable_of_gate (map (gate_at f entries e) e.gates))
+      (range_with_len (length f.universals + 1) (length e.gates))
       (long ∙ sym (length-range_with_len (length f.universals + 1) (length e.gates)))
       (λ i below. same_place i (omega (arith, long, below)))
 
-pub is_numbered : (f : Dqbf) (entries : List Entry) (id : ℕ) (ids : List ℕ) (file : AagFile) (proof : Dqp) → IsExportedCircuit f entries id ids file proof → IsNumberedFile f file
+pub is_numbered : (f : Dqbf) (entries : List Entry) (id : ℕ) (ids : List ℕ) (file : AagFile) (proof : Dqp) →
+    IsExportedCircuit f entries id ids file proof → IsNumberedFile f file
 is_numbered f entries id ids file proof x =
-    let gates : length file.circuit.gates ≡ length x.part.gates = ap (λ (net : Netlist). length net.gates) x.written.circuit ∙ length-map x.part.gates (gate_at f entries x.part) in
+    let gates : length file.circuit.gates ≡ length x.part.gates =
+    ap (λ (net : Netlist). length net.gates) x.written.circuit ∙ length-map x.part.gates
+    (gate_at f entries x.part) in
     record {
       inputs = ap (λ (net : Netlist). net.inputs) x.written.circuit;
-      gates = ap gate_variables x.written.circuit ∙ exported_variables f entries x.part x.from.part.part ∙ ap (range_with_len (length f.universals + 1)) (sym gates);
+      gates = ap gate_variables x.written.circuit ∙ exported_variables f entries x.part x.from.part.part ∙ ap
+          (range_with_len (length f.universals + 1)) (sym gates);
       max_var = ap (λ (net : Netlist). net.max_var) x.written.circuit ∙ ap (λ n. length f.universals + n) (sym gates);
       symbols = x.written.symbols;
     }

@@ -11,7 +11,8 @@ use Rattle.hint_log.specs.declared.origins.Origin.{Origin}
 use Rattle.cert_export.specs.Renaming.{Renaming, renamed_literal, renamed_clause, IsPartOf, IsNamed, AreNamedIn, IsRenamingOf}
 
 -- one variable more has its name
-pub right_with : (target old new : Renaming) (v x : ℕ) → target v ≡ Some x → IsPartOf old target → ((w n : ℕ) → new w ≡ Some n → (old w ≡ Some n) ⊎ ((w ≡ v) × (n ≡ x))) → IsPartOf new target
+pub right_with : (target old new : Renaming) (v x : ℕ) → target v ≡ Some x → IsPartOf old target →
+    ((w n : ℕ) → new w ≡ Some n → (old w ≡ Some n) ⊎ ((w ≡ v) × (n ≡ x))) → IsPartOf new target
 right_with target old new v x is right only w n h = elim (only w n h) [
   | inl before ↦ right w n before
   | inr here ↦ ap target here.0 ∙ is ∙ ap Some (sym here.1)
@@ -25,9 +26,11 @@ named_as target r v right there = by_option (r v) refl there where
   by_option (Some x) e h = e ∙ sym (right v x e)
 
 -- it stays so with more names
-pub named_still : (target old new : Renaming) (l : Literal) → IsPartOf old new → IsPartOf new target → IsNamed target old l → IsNamed target new l
+pub named_still : (target old new : Renaming) (l : Literal) → IsPartOf old new → IsPartOf new target →
+    IsNamed target old l → IsNamed target new l
 named_still target old new l kept right named = by_options (new (variable_of l)) (old (variable_of l)) refl refl where
-  by_options : (n o : Option ℕ) → new (variable_of l) ≡ n → old (variable_of l) ≡ o → new (variable_of l) ≡ target (variable_of l)
+  by_options : (n o : Option ℕ) → new (variable_of l) ≡ n → old (variable_of l) ≡ o →
+      new (variable_of l) ≡ target (variable_of l)
   by_options (Some x) o e h = e ∙ sym (right (variable_of l) x e)
   by_options None None e h = e ∙ sym h ∙ named
   by_options None (Some x) e h = let k = kept (variable_of l) x h in cc
@@ -38,24 +41,39 @@ pub record NamedSoFar (target old new : Renaming) (done : List Literal) : Type 0
   pub right : IsPartOf new target
   pub named : All (IsNamed target new) done
 
-pub none_named : (target r : Renaming) (done : List Literal) → done ≡ [] → IsPartOf r target → NamedSoFar target r r done
-none_named target r done is right = record { kept = λ v x h. h; right = right; named = subst (All (IsNamed target r)) (sym is) (All-nil (IsNamed target r)) }
+pub none_named : (target r : Renaming) (done : List Literal) → done ≡ [] → IsPartOf r target →
+    NamedSoFar target r r done
+none_named target r done is right = record {
+  kept = λ v x h. h;
+  right = right;
+  named =
+      subst (All (IsNamed target r)) (sym is) (All-nil (IsNamed target r));
+}
 
-pub one_named : (target old mid new : Renaming) (lits : List Literal) (i : ℕ) (l : Literal) → NamedSoFar target old mid (take i lits) →
-    IsPartOf mid new → IsPartOf new target → IsNamed target new l → i < length lits → l ≡ get_or lits i l → NamedSoFar target old new (take (i + 1) lits)
+pub one_named : (target old mid new : Renaming) (lits : List Literal) (i : ℕ) (l : Literal) →
+    NamedSoFar target old mid (take i lits) →
+    IsPartOf mid new → IsPartOf new target → IsNamed target new l → i < length lits → l ≡ get_or lits i l →
+    NamedSoFar target old new (take (i + 1) lits)
 one_named target old mid new lits i l so_far kept right here below l_is =
     let P = IsNamed target new in
     record {
       kept = λ v x h. kept v x (so_far.kept v x h);
       right = right;
       named = subst (All P) (sym (take_more lits i l below))
-          (All-push P (take i lits) (get_or lits i l) (λ k d less. named_still target mid new (get_or (take i lits) k d) kept right (so_far.named k d less)) (subst P l_is here));
+          (All-push P (take i lits) (get_or lits i l) (λ k d less. named_still target mid new
+          (get_or (take i lits) k d) kept right (so_far.named k d less)) (subst P l_is here));
     }
 
-pub all_named : (target old new : Renaming) (lits : List Literal) (i : ℕ) → length lits ≤ i → NamedSoFar target old new (take i lits) → AreNamedIn target new lits
-all_named target old new lits i past so_far = record { right = so_far.right; named = subst (All (IsNamed target new)) (take_all i lits past) so_far.named }
+pub all_named : (target old new : Renaming) (lits : List Literal) (i : ℕ) → length lits ≤ i →
+    NamedSoFar target old new (take i lits) → AreNamedIn target new lits
+all_named target old new lits i past so_far = record {
+  right = so_far.right;
+  named =
+      subst (All (IsNamed target new)) (take_all i lits past) so_far.named;
+}
 
-pub renamed_as : (target r : Renaming) (lits : List Literal) → All (IsNamed target r) lits → renamed_clause r lits ≡ renamed_clause target lits
+pub renamed_as : (target r : Renaming) (lits : List Literal) → All (IsNamed target r) lits →
+    renamed_clause r lits ≡ renamed_clause target lits
 renamed_as target r [] named = refl
 renamed_as target r (l ∷ ls) named =
     let P = IsNamed target r in
@@ -66,45 +84,58 @@ pub Contains-append_either : (xs : List ℕ) (x h : ℕ) → Contains (xs ++ x �
 Contains-append_either [] x h (zero, low, is) = inr is
 Contains-append_either [] x h (suc k, low, is) = absurd (omega arith)
 Contains-append_either (y ∷ ys) x h (zero, low, is) = inl (0, omega arith, is)
-Contains-append_either (y ∷ ys) x h (suc k, low, is) = elim (Contains-append_either ys x h (k, (let b : k < length (ys ++ x ∷ []) = omega arith in b), is)) [
-  | inl m ↦ inl (let b = m.1 in (suc m.0, omega arith, m.2))
-  | inr e ↦ inr e
-]
+Contains-append_either (y ∷ ys) x h (suc k, low, is) = elim (Contains-append_either ys x h
+    (k, (let b : k < length (ys ++ x ∷ []) = omega arith in b), is)) [
+      | inl m ↦ inl (let b = m.1 in (suc m.0, omega arith, m.2))
+      | inr e ↦ inr e
+    ]
 
 -- the given clauses among the first so many ids are named
 pub record GivenNamed (target : Renaming) (entries : List Entry) (r : Renaming) (done : List ℕ) : Type 0 where
   pub right : IsPartOf r target
-  pub named : (id : ℕ) (origin : Origin) (c : List Literal) → Contains done id → numbered has_id entries id ≡ Some (Given origin c) → All (IsNamed target r) c
+  pub named : (id : ℕ) (origin : Origin) (c : List Literal) → Contains done id →
+      numbered has_id entries id ≡ Some (Given origin c) → All (IsNamed target r) c
 
-pub no_given : (target : Renaming) (entries : List Entry) (r : Renaming) (done : List ℕ) → done ≡ [] → ((v : ℕ) → r v ≡ None) → GivenNamed target entries r done
+pub no_given : (target : Renaming) (entries : List Entry) (r : Renaming) (done : List ℕ) → done ≡ [] →
+    ((v : ℕ) → r v ≡ None) → GivenNamed target entries r done
 no_given target entries r done is none = record {
   right = λ v x h. let both : None ≡ Some x = sym (none v) ∙ h in cc;
-  named = λ id origin c inside at. absurd (let e = subst (λ ds. Contains ds id) is inside in let b = e.1 in omega arith);
+  named = λ id origin c inside at. absurd (let e = subst (λ ds. Contains ds id) is inside in let b = e.1 in
+      omega arith);
 }
 
-pub one_given : (target : Renaming) (entries : List Entry) (old new : Renaming) (ids : List ℕ) (i id : ℕ) → GivenNamed target entries old (take i ids) → IsPartOf old new → IsPartOf new target →
-    i < length ids → id ≡ get_or ids i id → ((origin : Origin) (c : List Literal) → numbered has_id entries id ≡ Some (Given origin c) → All (IsNamed target new) c) → GivenNamed target entries new (take (i + 1) ids)
+pub one_given : (target : Renaming) (entries : List Entry) (old new : Renaming) (ids : List ℕ) (i id : ℕ) →
+    GivenNamed target entries old (take i ids) → IsPartOf old new → IsPartOf new target →
+    i < length ids → id ≡ get_or ids i id → ((origin : Origin) (c : List Literal) →
+    numbered has_id entries id ≡ Some (Given origin c) → All (IsNamed target new) c) →
+    GivenNamed target entries new (take (i + 1) ids)
 one_given target entries old new ids i id so_far kept right below id_is here = record {
   right = right;
-  named = λ h origin c inside at. by_place h origin c at (subst (λ xs. Contains xs h) (take_more ids i id below) inside);
+  named = λ h origin c inside at. by_place h origin c at (subst (λ xs. Contains xs h)
+      (take_more ids i id below) inside);
 } where
   P : Literal → Type 0
   P = IsNamed target new
 
-  by_place : (h : ℕ) (origin : Origin) (c : List Literal) → numbered has_id entries h ≡ Some (Given origin c) → Contains (take i ids ++ get_or ids i id ∷ []) h → All (IsNamed target new) c
+  by_place : (h : ℕ) (origin : Origin) (c : List Literal) → numbered has_id entries h ≡ Some (Given origin c) →
+      Contains (take i ids ++ get_or ids i id ∷ []) h → All (IsNamed target new) c
   by_place h origin c at inside = elim (Contains-append_either (take i ids) (get_or ids i id) h inside) [
-    | inl before ↦ λ k d less. named_still target old new (get_or c k d) kept right (so_far.named h origin c before at k d less)
+    | inl before ↦ λ k d less. named_still target old new (get_or c k d) kept right
+        (so_far.named h origin c before at k d less)
     | inr same ↦ here origin c (ap (numbered has_id entries) (id_is ∙ same) ∙ at)
   ]
 
-pub all_given : (target : Renaming) (entries : List Entry) (r : Renaming) (ids : List ℕ) (i : ℕ) → length ids ≤ i → GivenNamed target entries r (take i ids) → IsRenamingOf target entries ids r
+pub all_given : (target : Renaming) (entries : List Entry) (r : Renaming) (ids : List ℕ) (i : ℕ) → length ids ≤ i →
+    GivenNamed target entries r (take i ids) → IsRenamingOf target entries ids r
 all_given target entries r ids i past so_far = record {
   right = so_far.right;
-  whole = λ id origin c inside at. renamed_as target r c (so_far.named id origin c (subst (λ xs. Contains xs id) (sym (take_all i ids past)) inside) at);
+  whole = λ id origin c inside at. renamed_as target r c (so_far.named id origin c
+      (subst (λ xs. Contains xs id) (sym (take_all i ids past)) inside) at);
 }
 
 -- the clause of a given entry
-pub given_here : (target : Renaming) (entries : List Entry) (r : Renaming) (id : ℕ) (clause : List Literal) → clause_at entries id ≡ Some clause → All (IsNamed target r) clause →
+pub given_here : (target : Renaming) (entries : List Entry) (r : Renaming) (id : ℕ) (clause : List Literal) →
+    clause_at entries id ≡ Some clause → All (IsNamed target r) clause →
     (origin : Origin) (c : List Literal) → numbered has_id entries id ≡ Some (Given origin c) → All (IsNamed target r) c
 given_here target entries r id clause there named origin c at =
     let both : Some clause ≡ Some c = sym there ∙ ap (option_and_then clause_of) at in
@@ -112,7 +143,8 @@ given_here target entries r id clause there named origin c at =
     subst (All (IsNamed target r)) same named
 
 -- an id without an origin isn't a given one's
-pub none_here : (target : Renaming) (entries : List Entry) (r : Renaming) (id : ℕ) → is_some (origin_at entries id) ≡ false →
+pub none_here : (target : Renaming) (entries : List Entry) (r : Renaming) (id : ℕ) →
+    is_some (origin_at entries id) ≡ false →
     (origin : Origin) (c : List Literal) → numbered has_id entries id ≡ Some (Given origin c) → All (IsNamed target r) c
 none_here target entries r id none origin c at =
     let some : origin_at entries id ≡ Some origin = ap (option_and_then origin_of) at in
@@ -120,13 +152,17 @@ none_here target entries r id none origin c at =
 
 -- what is known of the given clauses among the ids
 pub known_of : (P : ℕ → Type 0) (entries : List Entry) (ids : List ℕ) (id : ℕ) (clause : List Literal)
-    → ((i : ℕ) (origin : Origin) (c : List Literal) → Contains ids i → numbered has_id entries i ≡ Some (Given origin c) → All (λ l. P (variable_of l)) c)
-    → Contains ids id → is_some (origin_at entries id) ≡ true → clause_at entries id ≡ Some clause → All (λ l. P (variable_of l)) clause
+    → ((i : ℕ) (origin : Origin) (c : List Literal) → Contains ids i →
+    numbered has_id entries i ≡ Some (Given origin c) → All (λ l. P (variable_of l)) c)
+    → Contains ids id → is_some (origin_at entries id) ≡ true → clause_at entries id ≡ Some clause →
+    All (λ l. P (variable_of l)) clause
 known_of P entries ids id clause known inside given there = by_entry (numbered has_id entries id) refl given there where
-  by_entry : (o : Option Entry) → numbered has_id entries id ≡ o → is_some (option_and_then origin_of o) ≡ true → option_and_then clause_of o ≡ Some clause → All (λ l. P (variable_of l)) clause
+  by_entry : (o : Option Entry) → numbered has_id entries id ≡ o → is_some (option_and_then origin_of o) ≡ true →
+      option_and_then clause_of o ≡ Some clause → All (λ l. P (variable_of l)) clause
   by_entry None at g t = cc
   by_entry (Some (Named v n)) at g t = cc
-  by_entry (Some (Given origin c)) at g t = let same : c ≡ clause = cc in subst (All (λ l. P (variable_of l))) same (known id origin c inside at)
+  by_entry (Some (Given origin c)) at g t = let same : c ≡ clause = cc in
+      subst (All (λ l. P (variable_of l))) same (known id origin c inside at)
   by_entry (Some (Learned c hints)) at g t = cc
   by_entry (Some (Answer c hints)) at g t = cc
   by_entry (Some (Round row values j)) at g t = cc

@@ -27,13 +27,15 @@ all_others n [] above = refl
 all_others n (x ∷ xs) above =
     let more = above x (0, omega arith, refl) in
     ap (λ b. cond (not b) (x ∷ filter (others n) xs) (filter (others n) xs)) (ne_eqb x n (λ e. omega (arith, e, more)))
-    ∙ ap (λ ys. x ∷ ys) (all_others n xs (λ k inside. let b = inside.1 in above k (suc inside.0, omega (arith, b), inside.2)))
+    ∙ ap (λ ys. x ∷ ys) (all_others n xs (λ k inside. let b = inside.1 in
+    above k (suc inside.0, omega (arith, b), inside.2)))
 
 -- without one number a rising list is shorter by one at most
 one_less : (n : ℕ) (xs : List ℕ) → Rising xs → length xs ≤ length (filter (others n) xs) + 1
 one_less n [] rising = omega arith
 one_less n (x ∷ xs) rising = by_bit (x == n) refl (one_less n xs rising.1) where
-  by_bit : (b : Bool) → (x == n) ≡ b → length xs ≤ length (filter (others n) xs) + 1 → suc (length xs) ≤ length (cond (not b) (x ∷ filter (others n) xs) (filter (others n) xs)) + 1
+  by_bit : (b : Bool) → (x == n) ≡ b → length xs ≤ length (filter (others n) xs) + 1 →
+      suc (length xs) ≤ length (cond (not b) (x ∷ filter (others n) xs) (filter (others n) xs)) + 1
   by_bit true e later =
       let same = eqb-true x n e in
       let kept = ap length (all_others n xs (λ k inside. let less = rising.0 k inside in omega (arith, same, less))) in
@@ -44,25 +46,31 @@ abbrev IsLemmaOf : List Entry → ℕ → Type 0
 IsLemmaOf es h = is_derived (numbered has_id es h) ≡ true
 
 -- the other numbers are of earlier entries
-of_earlier : (e : Entry) (es : List Entry) (n : ℕ) (xs : List ℕ) → All (λ h. is_derived (cond (h == n) (Some e) (numbered has_id es h)) ≡ true) xs → All (IsLemmaOf es) (filter (others n) xs)
+of_earlier : (e : Entry) (es : List Entry) (n : ℕ) (xs : List ℕ) →
+    All (λ h. is_derived (cond (h == n) (Some e) (numbered has_id es h)) ≡ true) xs →
+    All (IsLemmaOf es) (filter (others n) xs)
 of_earlier e es n [] h = All-nil (IsLemmaOf es)
 of_earlier e es n (x ∷ xs) h = by_bit (x == n) (All-head P x xs h) (of_earlier e es n xs (All-tail P x xs h)) where
   P : ℕ → Type 0
   P k = is_derived (cond (k == n) (Some e) (numbered has_id es k)) ≡ true
 
-  by_bit : (b : Bool) → is_derived (cond b (Some e) (numbered has_id es x)) ≡ true → All (IsLemmaOf es) (filter (others n) xs) → All (IsLemmaOf es) (cond (not b) (x ∷ filter (others n) xs) (filter (others n) xs))
+  by_bit : (b : Bool) → is_derived (cond b (Some e) (numbered has_id es x)) ≡ true →
+      All (IsLemmaOf es) (filter (others n) xs) → All (IsLemmaOf es)
+      (cond (not b) (x ∷ filter (others n) xs) (filter (others n) xs))
   by_bit true here later = later
   by_bit false here later = All-cons (IsLemmaOf es) x (filter (others n) xs) here later
 
-not_given : (e : Entry) (es : List Entry) (n : ℕ) (xs : List ℕ) → is_lemma e ≡ false → All (λ h. is_derived (cond (h == n) (Some e) (numbered has_id es h)) ≡ true) xs → All (IsLemmaOf es) xs
+not_given : (e : Entry) (es : List Entry) (n : ℕ) (xs : List ℕ) → is_lemma e ≡ false →
+    All (λ h. is_derived (cond (h == n) (Some e) (numbered has_id es h)) ≡ true) xs → All (IsLemmaOf es) xs
 not_given e es n [] none h = All-nil (IsLemmaOf es)
-not_given e es n (x ∷ xs) none h = All-cons (IsLemmaOf es) x xs (by_bit (x == n) (All-head P x xs h)) (not_given e es n xs none (All-tail P x xs h)) where
-  P : ℕ → Type 0
-  P k = is_derived (cond (k == n) (Some e) (numbered has_id es k)) ≡ true
+not_given e es n (x ∷ xs) none h = All-cons (IsLemmaOf es) x xs (by_bit (x == n) (All-head P x xs h))
+    (not_given e es n xs none (All-tail P x xs h)) where
+      P : ℕ → Type 0
+      P k = is_derived (cond (k == n) (Some e) (numbered has_id es k)) ≡ true
 
-  by_bit : (b : Bool) → is_derived (cond b (Some e) (numbered has_id es x)) ≡ true → IsLemmaOf es x
-  by_bit true here = let both : false ≡ true = sym none ∙ here in cc
-  by_bit false here = here
+      by_bit : (b : Bool) → is_derived (cond b (Some e) (numbered has_id es x)) ≡ true → IsLemmaOf es x
+      by_bit true here = let both : false ≡ true = sym none ∙ here in cc
+      by_bit false here = here
 
 few_lemmas : (es : List Entry) (xs : List ℕ) → Rising xs → All (IsLemmaOf es) xs → length xs ≤ count is_lemma es
 few_lemmas [] [] rising all = omega arith
@@ -70,35 +78,44 @@ few_lemmas [] (x ∷ xs) rising all = let here : false ≡ true = All-head (IsLe
 few_lemmas (Named v n ∷ es) xs rising all = few_lemmas es xs rising all
 few_lemmas (Round row values j ∷ es) xs rising all = few_lemmas es xs rising all
 few_lemmas (Begun live ∷ es) xs rising all = few_lemmas es xs rising all
-few_lemmas (Given o c ∷ es) xs rising all = few_lemmas es xs rising (not_given (Given o c) es (count has_id es + 1) xs refl all)
+few_lemmas (Given o c ∷ es) xs rising all = few_lemmas es xs rising
+    (not_given (Given o c) es (count has_id es + 1) xs refl all)
 few_lemmas (Learned c hints ∷ es) xs rising all =
     let n = count has_id es + 1 in
-    let rest = few_lemmas es (filter (others n) xs) (rising_filter (others n) xs rising) (of_earlier (Learned c hints) es n xs all) in
+    let rest = few_lemmas es (filter (others n) xs) (rising_filter (others n) xs rising)
+    (of_earlier (Learned c hints) es n xs all) in
     let less = one_less n xs rising in
     omega (arith, rest, less)
 few_lemmas (Answer c hints ∷ es) xs rising all =
     let n = count has_id es + 1 in
-    let rest = few_lemmas es (filter (others n) xs) (rising_filter (others n) xs rising) (of_earlier (Answer c hints) es n xs all) in
+    let rest = few_lemmas es (filter (others n) xs) (rising_filter (others n) xs rising)
+    (of_earlier (Answer c hints) es n xs all) in
     let less = one_less n xs rising in
     omega (arith, rest, less)
 
 all_derived : (es : List Entry) (xs : List ℕ) → All (IsLemmaOf es) (derived_ids es xs)
 all_derived es [] = All-nil (IsLemmaOf es)
 all_derived es (x ∷ xs) = by_bit (is_derived (numbered has_id es x)) refl (all_derived es xs) where
-  by_bit : (b : Bool) → is_derived (numbered has_id es x) ≡ b → All (IsLemmaOf es) (derived_ids es xs) → All (IsLemmaOf es) (cond b (x ∷ derived_ids es xs) (derived_ids es xs))
+  by_bit : (b : Bool) → is_derived (numbered has_id es x) ≡ b → All (IsLemmaOf es) (derived_ids es xs) →
+      All (IsLemmaOf es) (cond b (x ∷ derived_ids es xs) (derived_ids es xs))
   by_bit true e later = All-cons (IsLemmaOf es) x (derived_ids es xs) e later
   by_bit false e later = later
 
-pub lines_few : (entries : List Entry) (ids : List ℕ) (r : Renaming) (base_id : Origin → ℕ) (number : ℕ → ℕ) (steps : List ProofStep) → IsStrictlyIncreasing ids →
+pub lines_few : (entries : List Entry) (ids : List ℕ) (r : Renaming) (base_id : Origin → ℕ) (number : ℕ → ℕ)
+    (steps : List ProofStep) → IsStrictlyIncreasing ids →
     steps ≡ line_steps r base_id entries number (derived_ids entries ids) → length steps ≤ count is_lemma entries
 lines_few entries ids r base_id number steps ascending are =
     let p : ℕ → Bool = λ h. is_derived (numbered has_id entries h) in
-    let many : length steps ≡ length (derived_ids entries ids) = ap length are ∙ length-map (derived_ids entries ids) (line_step r base_id entries number) in
-    let few = few_lemmas entries (derived_ids entries ids) (rising_filter p ids (rising_of ids (AllPairs-from_increasing ids ascending))) (all_derived entries ids) in
+    let many : length steps ≡ length (derived_ids entries ids) =
+    ap length are ∙ length-map (derived_ids entries ids) (line_step r base_id entries number) in
+    let few = few_lemmas entries (derived_ids entries ids) (rising_filter p ids
+    (rising_of ids (AllPairs-from_increasing ids ascending))) (all_derived entries ids) in
     omega (arith, many, few)
 
-pub few_items : (f : Dqbf) (live : List ℕ) (entries : List Entry) (ids : List ℕ) (items : List ProofItem) → IsStrictlyIncreasing ids → AreExportedItems f live entries ids items → length items ≤ count is_lemma entries
+pub few_items : (f : Dqbf) (live : List ℕ) (entries : List Entry) (ids : List ℕ) (items : List ProofItem) →
+    IsStrictlyIncreasing ids → AreExportedItems f live entries ids items → length items ≤ count is_lemma entries
 few_items f live entries ids items ascending exported =
-    let few = lines_few entries ids exported.1.0 (instance_id live (length f.matrix)) (exported_number f entries ids) exported.0 ascending exported.1.2 in
+    let few = lines_few entries ids exported.1.0 (instance_id live (length f.matrix))
+    (exported_number f entries ids) exported.0 ascending exported.1.2 in
     let many : length items ≡ length exported.0 = ap length exported.2 ∙ length-map exported.0 derived in
     omega (arith, many, few)

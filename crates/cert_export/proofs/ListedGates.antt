@@ -45,7 +45,8 @@ with_distinct : (s : List ℕ) (n : ℕ) → AllPairs (λ v w. v ≢ w) s → Al
 with_distinct s n apart = by_bit (has_number s n) refl where
   by_bit : (b : Bool) → has_number s n ≡ b → AllPairs (λ v w. v ≢ w) (cond b s (s ++ n ∷ []))
   by_bit true e = apart
-  by_bit false e = all_pairs_push (λ v w. v ≢ w) s n apart (λ k d below same. true≢false (sym (among s n (k, below, get_or_default s k n d below ∙ same)) ∙ e))
+  by_bit false e = all_pairs_push (λ v w. v ≢ w) s n apart (λ k d below same. true≢false
+      (sym (among s n (k, below, get_or_default s k n d below ∙ same)) ∙ e))
 
 with_longer : (s : List ℕ) (n : ℕ) → length (with_number s n) ≤ length s + 1
 with_longer s n = by_bit (has_number s n) where
@@ -67,19 +68,23 @@ sides_grow s v (CopyOf side x) w h = h
 sides_grow s v (Term p q) w h = h
 
 -- a variable that has no name isn't a side
-sides_back : (es : List Entry) (s : List ℕ) (v w : ℕ) (n : Name) → HasSides es n → name_of es w ≡ None → has_number (with_sides s (v, n)) w ≡ true → has_number s w ≡ true
+sides_back : (es : List Entry) (s : List ℕ) (v w : ℕ) (n : Name) → HasSides es n → name_of es w ≡ None →
+    has_number (with_sides s (v, n)) w ≡ true → has_number s w ≡ true
 sides_back es s v w (And a b) sides none h = by_bit (has_number s v) h where
   no_side : (l : Literal) → is_circuit_name (name_of es (variable_of l)) ≡ true → variable_of l ≡ w → ⊥
-  no_side l named same = true≢false (sym named ∙ ap (λ x. is_circuit_name (name_of es x)) same ∙ ap is_circuit_name none)
+  no_side l named same = true≢false (sym named ∙ ap (λ x. is_circuit_name (name_of es x)) same
+      ∙ ap is_circuit_name none)
 
-  by_bit : (c : Bool) → has_number (cond c (with_number (with_number s (variable_of a)) (variable_of b)) s) w ≡ true → has_number s w ≡ true
-  by_bit true k = elim (with_back (with_number s (variable_of a)) (variable_of b) w (inside_of (with_number (with_number s (variable_of a)) (variable_of b)) w k)) [
-    | inl before ↦ elim (with_back s (variable_of a) w before) [
-      | inl older ↦ among s w older
-      | inr same ↦ absurd (no_side a sides.0 same)
-    ]
-    | inr same ↦ absurd (no_side b sides.1 same)
-  ]
+  by_bit : (c : Bool) → has_number (cond c (with_number (with_number s (variable_of a)) (variable_of b)) s) w ≡ true →
+      has_number s w ≡ true
+  by_bit true k = elim (with_back (with_number s (variable_of a)) (variable_of b) w
+      (inside_of (with_number (with_number s (variable_of a)) (variable_of b)) w k)) [
+        | inl before ↦ elim (with_back s (variable_of a) w before) [
+          | inl older ↦ among s w older
+          | inr same ↦ absurd (no_side a sides.0 same)
+        ]
+        | inr same ↦ absurd (no_side b sides.1 same)
+      ]
   by_bit false k = k
 sides_back es s v w (Selector g) sides none h = h
 sides_back es s v w (Pair k y) sides none h = h
@@ -100,7 +105,8 @@ sides_over (Begun live ∷ es) s = sides_over es s
 
 pub sides_are : (es : List Entry) (s : List ℕ) → with_all_sides (reverse (names_of es)) s ≡ sides_over es s
 sides_are [] s = refl
-sides_are (Named v n ∷ es) s = ap (λ ns. with_all_sides ns s) (reverse-append (names_of es) ((v, n) ∷ [])) ∙ sides_are es (with_sides s (v, n))
+sides_are (Named v n ∷ es) s = ap (λ ns. with_all_sides ns s) (reverse-append (names_of es) ((v, n) ∷ []))
+    ∙ sides_are es (with_sides s (v, n))
 sides_are (Given origin c ∷ es) s = sides_are es s
 sides_are (Learned c hints ∷ es) s = sides_are es s
 sides_are (Answer c hints ∷ es) s = sides_are es s
@@ -117,12 +123,15 @@ over_grows (Round row values j ∷ es) s w h = over_grows es s w h
 over_grows (Begun live ∷ es) s w h = over_grows es s w h
 
 -- a variable without a name is added by none
-over_back : (es : List Entry) (s : List ℕ) (w : ℕ) → Each MayFollow es → name_of es w ≡ None → has_number (sides_over es s) w ≡ true → has_number s w ≡ true
+over_back : (es : List Entry) (s : List ℕ) (w : ℕ) → Each MayFollow es → name_of es w ≡ None →
+    has_number (sides_over es s) w ≡ true → has_number s w ≡ true
 over_back [] s w lawful none h = h
-over_back (Named v n ∷ es) s w lawful none h = by_bit (λ k. over_back es (with_sides s (v, n)) w lawful.1 k h) (w == v) none where
-  by_bit : (name_of es w ≡ None → has_number (with_sides s (v, n)) w ≡ true) → (b : Bool) → cond b (Some n) (name_of es w) ≡ None → has_number s w ≡ true
-  by_bit later true k = cc
-  by_bit later false k = sides_back es s v w n lawful.0.sides k (later k)
+over_back (Named v n ∷ es) s w lawful none h = by_bit (λ k. over_back es (with_sides s (v, n)) w lawful.1 k h)
+    (w == v) none where
+      by_bit : (name_of es w ≡ None → has_number (with_sides s (v, n)) w ≡ true) → (b : Bool) →
+          cond b (Some n) (name_of es w) ≡ None → has_number s w ≡ true
+      by_bit later true k = cc
+      by_bit later false k = sides_back es s v w n lawful.0.sides k (later k)
 over_back (Given origin c ∷ es) s w lawful none h = over_back es s w lawful.1 none h
 over_back (Learned c hints ∷ es) s w lawful none h = over_back es s w lawful.1 none h
 over_back (Answer c hints ∷ es) s w lawful none h = over_back es s w lawful.1 none h
@@ -133,23 +142,32 @@ abbrev HasBoth : List ℕ → Literal → Literal → Type 0
 HasBoth s a b = (has_number s (variable_of a) ≡ true) × (has_number s (variable_of b) ≡ true)
 
 -- with a gate come its sides
-pub over_closed : (es : List Entry) (s : List ℕ) (v : ℕ) (a b : Literal) → Each MayFollow es → name_of es v ≡ Some (And a b) → has_number (sides_over es s) v ≡ true → HasBoth (sides_over es s) a b
+pub over_closed : (es : List Entry) (s : List ℕ) (v : ℕ) (a b : Literal) → Each MayFollow es →
+    name_of es v ≡ Some (And a b) → has_number (sides_over es s) v ≡ true → HasBoth (sides_over es s) a b
 over_closed [] s v a b lawful named h = cc
-over_closed (Named u n ∷ es) s v a b lawful named h = by_bit (λ k. over_closed es (with_sides s (u, n)) v a b lawful.1 k h) (v == u) refl named where
-  here : v ≡ u → n ≡ And a b → HasBoth (sides_over es (with_sides s (u, n))) a b
-  here same is =
-      let none : name_of es v ≡ None = ap (name_of es) same ∙ lawful.0.unnamed in
-      let old : has_number s v ≡ true = sides_back es s u v n lawful.0.sides none (over_back es (with_sides s (u, n)) v lawful.1 none h) in
-      let old' : has_number s u ≡ true = ap (has_number s) (sym same) ∙ old in
-      let two = with_number (with_number s (variable_of a)) (variable_of b) in
-      let are : with_sides s (u, n) ≡ two = ap (λ m. with_sides s (u, m)) is ∙ cond-true (has_number s u) two s old' in
-      let first : has_number two (variable_of a) ≡ true = with_grows (with_number s (variable_of a)) (variable_of b) (variable_of a) (with_there s (variable_of a)) in
-      let second : has_number two (variable_of b) ≡ true = with_there (with_number s (variable_of a)) (variable_of b) in
-      subst (λ xs. HasBoth (sides_over es xs) a b) (sym are) (over_grows es two (variable_of a) first, over_grows es two (variable_of b) second)
+over_closed (Named u n ∷ es) s v a b lawful named h = by_bit
+    (λ k. over_closed es (with_sides s (u, n)) v a b lawful.1 k h) (v == u) refl named where
+      here : v ≡ u → n ≡ And a b → HasBoth (sides_over es (with_sides s (u, n))) a b
+      here same is =
+          let none : name_of es v ≡ None = ap (name_of es) same ∙ lawful.0.unnamed in
+          let old : has_number s v ≡ true = sides_back es s u v n lawful.0.sides none
+          (over_back es (with_sides s (u, n)) v lawful.1 none h) in
+          let old' : has_number s u ≡ true = ap (has_number s) (sym same) ∙ old in
+          let two = with_number (with_number s (variable_of a)) (variable_of b) in
+          let are : with_sides s (u, n) ≡ two = ap (λ m. with_sides s (u, m)) is ∙ cond-true
+          (has_number s u) two s old' in
+          let first : has_number two (variable_of a) ≡ true = with_grows (with_number s (variable_of a)) (variable_of b)
+          (variable_of a) (with_there s (variable_of a)) in
+          let second : has_number two (variable_of b) ≡ true =
+          with_there (with_number s (variable_of a)) (variable_of b) in
+          subst (λ xs. HasBoth (sides_over es xs) a b) (sym are)
+          (over_grows es two (variable_of a) first, over_grows es two (variable_of b) second)
 
-  by_bit : (name_of es v ≡ Some (And a b) → HasBoth (sides_over es (with_sides s (u, n))) a b) → (c : Bool) → (v == u) ≡ c → cond c (Some n) (name_of es v) ≡ Some (And a b) → HasBoth (sides_over es (with_sides s (u, n))) a b
-  by_bit later true e k = let is : n ≡ And a b = cc in here (eqb-true v u e) is
-  by_bit later false e k = later k
+      by_bit : (name_of es v ≡ Some (And a b) → HasBoth (sides_over es (with_sides s (u, n))) a b) → (c : Bool) →
+          (v == u) ≡ c → cond c (Some n) (name_of es v) ≡ Some (And a b) →
+          HasBoth (sides_over es (with_sides s (u, n))) a b
+      by_bit later true e k = let is : n ≡ And a b = cc in here (eqb-true v u e) is
+      by_bit later false e k = later k
 over_closed (Given origin c ∷ es) s v a b lawful named h = over_closed es s v a b lawful.1 named h
 over_closed (Learned c hints ∷ es) s v a b lawful named h = over_closed es s v a b lawful.1 named h
 over_closed (Answer c hints ∷ es) s v a b lawful named h = over_closed es s v a b lawful.1 named h
@@ -167,7 +185,8 @@ module _ (needed : List ℕ) where
   gates_over (Round row values j ∷ es) = gates_over es
   gates_over (Begun live ∷ es) = gates_over es
 
-  gates_snoc : (gates : List ℕ) (names : List (ℕ × Name)) (named : ℕ × Name) → with_gates needed gates (names ++ named ∷ []) ≡ with_gate needed (with_gates needed gates names) named
+  gates_snoc : (gates : List ℕ) (names : List (ℕ × Name)) (named : ℕ × Name) →
+      with_gates needed gates (names ++ named ∷ []) ≡ with_gate needed (with_gates needed gates names) named
   gates_snoc gates [] named = refl
   gates_snoc gates (x ∷ names) named = gates_snoc (with_gate needed gates x) names named
 
@@ -187,9 +206,12 @@ module _ (needed : List ℕ) where
     pub named : name_of es v ≡ Some (And left right)
     pub is_needed : has_number needed v ≡ true
 
-  gate_back : (gates : List ℕ) (u v : ℕ) (n : Name) → Contains (with_gate needed gates (u, n)) v → Contains gates v ⊎ ((u ≡ v) × (a : Literal) × (b : Literal) × (n ≡ And a b) × (has_number needed u ≡ true))
+  gate_back : (gates : List ℕ) (u v : ℕ) (n : Name) → Contains (with_gate needed gates (u, n)) v →
+      Contains gates v ⊎ ((u ≡ v) × (a : Literal) × (b : Literal) × (n ≡ And a b) × (has_number needed u ≡ true))
   gate_back gates u v (And a b) inside = by_bit (has_number needed u) refl inside where
-    by_bit : (c : Bool) → has_number needed u ≡ c → Contains (cond c (with_number gates u) gates) v → Contains gates v ⊎ ((u ≡ v) × (x : Literal) × (y : Literal) × (And a b ≡ And x y) × (has_number needed u ≡ true))
+    by_bit : (c : Bool) → has_number needed u ≡ c → Contains (cond c (with_number gates u) gates) v →
+        Contains gates v ⊎ ((u ≡ v) × (x : Literal) × (y : Literal) × (And a b ≡ And x y) ×
+        (has_number needed u ≡ true))
     by_bit true e k = elim (with_back gates u v k) [
       | inl before ↦ inl before
       | inr same ↦ inr (same, a, b, refl, e)
@@ -207,7 +229,13 @@ module _ (needed : List ℕ) where
   gate_named (Named u n ∷ es) v lawful inside = elim (gate_back (gates_over es) u v n inside) [
     | inl before ↦ (
         let g = gate_named es v lawful.1 before in
-        record { left = g.left; right = g.right; named = name_stays (Named u n ∷ []) es v (And g.left g.right) lawful g.named; is_needed = g.is_needed })
+        record {
+          left = g.left;
+          right = g.right;
+          named = name_stays (Named u n ∷ []) es v
+              (And g.left g.right) lawful g.named;
+          is_needed = g.is_needed;
+        })
     | inr here ↦ record {
       left = here.1;
       right = here.2;
@@ -215,11 +243,16 @@ module _ (needed : List ℕ) where
       is_needed = ap (has_number needed) (sym here.0) ∙ here.4;
     }
   ]
-  gate_named (Given origin c ∷ es) v lawful inside = let g = gate_named es v lawful.1 inside in record { left = g.left; right = g.right; named = g.named; is_needed = g.is_needed }
-  gate_named (Learned c hints ∷ es) v lawful inside = let g = gate_named es v lawful.1 inside in record { left = g.left; right = g.right; named = g.named; is_needed = g.is_needed }
-  gate_named (Answer c hints ∷ es) v lawful inside = let g = gate_named es v lawful.1 inside in record { left = g.left; right = g.right; named = g.named; is_needed = g.is_needed }
-  gate_named (Round row values j ∷ es) v lawful inside = let g = gate_named es v lawful.1 inside in record { left = g.left; right = g.right; named = g.named; is_needed = g.is_needed }
-  gate_named (Begun live ∷ es) v lawful inside = let g = gate_named es v lawful.1 inside in record { left = g.left; right = g.right; named = g.named; is_needed = g.is_needed }
+  gate_named (Given origin c ∷ es) v lawful inside = let g = gate_named es v lawful.1 inside in
+      record { left = g.left; right = g.right; named = g.named; is_needed = g.is_needed }
+  gate_named (Learned c hints ∷ es) v lawful inside = let g = gate_named es v lawful.1 inside in
+      record { left = g.left; right = g.right; named = g.named; is_needed = g.is_needed }
+  gate_named (Answer c hints ∷ es) v lawful inside = let g = gate_named es v lawful.1 inside in
+      record { left = g.left; right = g.right; named = g.named; is_needed = g.is_needed }
+  gate_named (Round row values j ∷ es) v lawful inside = let g = gate_named es v lawful.1 inside in
+      record { left = g.left; right = g.right; named = g.named; is_needed = g.is_needed }
+  gate_named (Begun live ∷ es) v lawful inside = let g = gate_named es v lawful.1 inside in
+      record { left = g.left; right = g.right; named = g.named; is_needed = g.is_needed }
 
   gate_kept : (gates : List ℕ) (u v : ℕ) (n : Name) → Contains gates v → Contains (with_gate needed gates (u, n)) v
   gate_kept gates u v (And a b) inside = by_bit (has_number needed u) where
@@ -233,17 +266,21 @@ module _ (needed : List ℕ) where
   gate_kept gates u v (CopyOf side x) inside = inside
   gate_kept gates u v (Term p q) inside = inside
 
-  pub gate_there : (es : List Entry) (v : ℕ) (a b : Literal) → name_of es v ≡ Some (And a b) → has_number needed v ≡ true → Contains (gates_over es) v
+  pub gate_there : (es : List Entry) (v : ℕ) (a b : Literal) → name_of es v ≡ Some (And a b) →
+      has_number needed v ≡ true → Contains (gates_over es) v
   gate_there [] v a b named h = cc
   gate_there (Named u n ∷ es) v a b named h = by_bit (λ k. gate_there es v a b k h) (v == u) refl named where
     here : v ≡ u → n ≡ And a b → Contains (with_gate needed (gates_over es) (u, n)) v
     here same is =
         let needed' : has_number needed u ≡ true = ap (has_number needed) (sym same) ∙ h in
-        let are : with_gate needed (gates_over es) (u, n) ≡ with_number (gates_over es) u = ap (λ m. with_gate needed (gates_over es) (u, m)) is
+        let are : with_gate needed (gates_over es) (u, n) ≡ with_number (gates_over es) u =
+        ap (λ m. with_gate needed (gates_over es) (u, m)) is
         ∙ cond-true (has_number needed u) (with_number (gates_over es) u) (gates_over es) needed' in
-        subst (λ gs. Contains gs v) (sym are) (subst (Contains (with_number (gates_over es) u)) (sym same) (inside_of (with_number (gates_over es) u) u (with_there (gates_over es) u)))
+        subst (λ gs. Contains gs v) (sym are) (subst (Contains (with_number (gates_over es) u)) (sym same)
+        (inside_of (with_number (gates_over es) u) u (with_there (gates_over es) u)))
 
-    by_bit : (name_of es v ≡ Some (And a b) → Contains (gates_over es) v) → (c : Bool) → (v == u) ≡ c → cond c (Some n) (name_of es v) ≡ Some (And a b) → Contains (with_gate needed (gates_over es) (u, n)) v
+    by_bit : (name_of es v ≡ Some (And a b) → Contains (gates_over es) v) → (c : Bool) → (v == u) ≡ c →
+        cond c (Some n) (name_of es v) ≡ Some (And a b) → Contains (with_gate needed (gates_over es) (u, n)) v
     by_bit later true e k = let is : n ≡ And a b = cc in here (eqb-true v u e) is
     by_bit later false e k = gate_kept (gates_over es) u v n (later k)
   gate_there (Given origin c ∷ es) v a b named h = gate_there es v a b named h
@@ -252,7 +289,8 @@ module _ (needed : List ℕ) where
   gate_there (Round row values j ∷ es) v a b named h = gate_there es v a b named h
   gate_there (Begun live ∷ es) v a b named h = gate_there es v a b named h
 
-  gate_distinct : (gates : List ℕ) (u : ℕ) (n : Name) → AllPairs (λ v w. v ≢ w) gates → AllPairs (λ v w. v ≢ w) (with_gate needed gates (u, n))
+  gate_distinct : (gates : List ℕ) (u : ℕ) (n : Name) → AllPairs (λ v w. v ≢ w) gates →
+      AllPairs (λ v w. v ≢ w) (with_gate needed gates (u, n))
   gate_distinct gates u (And a b) apart = by_bit (has_number needed u) where
     by_bit : (c : Bool) → AllPairs (λ v w. v ≢ w) (cond c (with_number gates u) gates)
     by_bit true = with_distinct gates u apart
@@ -273,7 +311,8 @@ module _ (needed : List ℕ) where
   gates_distinct (Round row values j ∷ es) = gates_distinct es
   gates_distinct (Begun live ∷ es) = gates_distinct es
 
-  gate_more : (gates : List ℕ) (v : ℕ) (n : Name) (m : ℕ) → length gates ≤ m → length (with_gate needed gates (v, n)) ≤ cond (is_gate_name (Named v n)) (m + 1) m
+  gate_more : (gates : List ℕ) (v : ℕ) (n : Name) (m : ℕ) → length gates ≤ m →
+      length (with_gate needed gates (v, n)) ≤ cond (is_gate_name (Named v n)) (m + 1) m
   gate_more gates v (And a b) m h = by_bit (has_number needed v) where
     by_bit : (c : Bool) → length (cond c (with_number gates v) gates) ≤ m + 1
     by_bit true = let l = with_longer gates v in omega (arith, l, h)

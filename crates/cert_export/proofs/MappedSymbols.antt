@@ -28,39 +28,63 @@ module _ (f : Dqbf) (lawful : HasLawfulPrefix f) (symbols : SymbolTable) (number
   es = existential_variables f
 
   number_read : (v : ℕ) → Contains (declared f) v → number_of (decimal v) ≡ Int (pos v)
-  number_read v inside = let r = (All-contains (λ x. (1 ≤ x) × (x ≤ f.variables)) (declared f) v lawful.in_range inside).1 in read v (omega (arith, r, small))
+  number_read v inside = let r = (All-contains (λ x. (1 ≤ x) × (x ≤ f.variables))
+      (declared f) v lawful.in_range inside).1 in read v (omega (arith, r, small))
 
   told_by : (b : Bool) → IsToldBySymbols b f symbols (exported_mapping f)
   told_by true = (
     record {
       named = λ p below.
           let inside = Contains-get_or us p 0 below in
-          record { name = decimal (slice_index us p); symbol = numbers.inputs p below; number = number_read (slice_index us p) (Contains-append_left us es (slice_index us p) inside); declared = inside };
+          record {
+            name = decimal (slice_index us p);
+            symbol = numbers.inputs p below;
+            number =
+                number_read (slice_index us p) (Contains-append_left us es (slice_index us p) inside);
+            declared =
+                inside;
+          };
       distinct = λ i j d less below same.
           let long = length-append us es in
-          lawful.declared_once i j d less (omega (arith, below, long)) (get_or-append us es d i (omega (arith, less, below)) ∙ same ∙ sym (get_or-append us es d j below));
+          lawful.declared_once i j d less (omega (arith, below, long))
+          (get_or-append us es d i (omega (arith, less, below)) ∙ same ∙ sym (get_or-append us es d j below));
     },
     record {
       named = λ p below.
           let inside = Contains-get_or es p 0 below in
-          record { name = decimal (slice_index es p); symbol = numbers.outputs p below; number = number_read (slice_index es p) (Contains-append_right us es (slice_index es p) inside); declared = inside };
+          record {
+            name = decimal (slice_index es p);
+            symbol = numbers.outputs p below;
+            number =
+                number_read (slice_index es p) (Contains-append_right us es (slice_index es p) inside);
+            declared =
+                inside;
+          };
       distinct = λ i j d less below same.
           let long = length-append us es in
-          lawful.declared_once (length us + i) (length us + j) d (omega (arith, less)) (omega (arith, below, long)) (get_or-append-add us es i d ∙ same ∙ sym (get_or-append-add us es j d));
+          lawful.declared_once (length us + i) (length us + j) d (omega (arith, less)) (omega (arith, below, long))
+          (get_or-append-add us es i d ∙ same ∙ sym (get_or-append-add us es j d));
     },
   )
   told_by false = refl
 
-  pub told : (entries : List Entry) (e : CircuitPart) → IsToldMapping f (exported_netlist f entries e) symbols (exported_mapping f)
+  pub told : (entries : List Entry) (e : CircuitPart) → IsToldMapping f (exported_netlist f entries e) symbols
+      (exported_mapping f)
   told entries e = record {
-    counts = record { inputs = length-range_with_len 1 (length us); outputs = length-map f.existentials (λ y. leaf_code (circuit_renaming f entries e) (e.leaf y)) };
+    counts = record {
+      inputs = length-range_with_len 1 (length us);
+      outputs =
+          length-map f.existentials (λ y. leaf_code (circuit_renaming f entries e) (e.leaf y));
+    };
     inputs_length = refl;
     outputs_length = length-map f.existentials (λ y. y.variable);
     told = told_by (has_symbols (exported_netlist f entries e) symbols);
   }
 
 -- a mapping that is told is the one that was read
-pub same_candidate : (f : Dqbf) (net : Netlist) (symbols : SymbolTable) (mapping : Mapping) (c : Candidate) → mapping_of f net symbols ≡ Ok mapping → candidate_of f net symbols ≡ Ok c →
+pub same_candidate : (f : Dqbf) (net : Netlist) (symbols : SymbolTable) (mapping : Mapping) (c : Candidate) →
+    mapping_of f net symbols ≡ Ok mapping → candidate_of f net symbols ≡ Ok c →
     c ≡ record { formula = f; circuit = record { netlist = net; mapping = mapping } }
 same_candidate f net symbols mapping c maps is =
-    let both : Ok (record { formula = f; circuit = record { netlist = net; mapping = mapping } }) ≡ Ok c = sym (ap (with_mapping f net) maps) ∙ is in cc
+    let both : Ok (record { formula = f; circuit = record { netlist = net; mapping = mapping } }) ≡ Ok c =
+    sym (ap (with_mapping f net) maps) ∙ is in cc

@@ -12,11 +12,13 @@ abbrev pub truncated : Derived → List ℕ → List ℕ
 truncated Yes hints = hints
 truncated (No fault) hints = take fault hints
 
-pub needed_is : (d : Derived) (live : LiveClauses) (literals : List Literal) (hints : List ℕ) → is_tautology literals ≡ false → fault_in d ≡ line_fault live literals hints →
+pub needed_is : (d : Derived) (live : LiveClauses) (literals : List Literal) (hints : List ℕ) →
+    is_tautology literals ≡ false → fault_in d ≡ line_fault live literals hints →
     truncated d hints ≡ cut_hints live (map opposite literals) hints
 needed_is d live literals hints consistent fault =
     let trues = map opposite literals in
-    let own : fault_in d ≡ hint_fault live trues 1 hints = fault ∙ ap (λ b. cond b (Some 0) (hint_fault live trues 1 hints)) consistent in
+    let own : fault_in d ≡ hint_fault live trues 1 hints = fault ∙ ap
+    (λ b. cond b (Some 0) (hint_fault live trues 1 hints)) consistent in
     by_answer d ∙ ap (λ o. up_to_fault o 1 hints) own ∙ sym (cut_at_fault live hints trues 1) where
       by_answer : (e : Derived) → truncated e hints ≡ up_to_fault (fault_in e) 1 hints
       by_answer Yes = refl

@@ -17,7 +17,8 @@ has_name t v there = by_option (place_of t.variables v) (placed t.variables v �
   by_option (Some p) h = refl
 
 -- one literal more
-pub literal_more : (r : Renaming) (lits : List Literal) (i : ℕ) (l : Literal) (o : Option Literal) → i < length lits → l ≡ get_or lits i l → o ≡ renamed_literal r l →
+pub literal_more : (r : Renaming) (lits : List Literal) (i : ℕ) (l : Literal) (o : Option Literal) → i < length lits →
+    l ≡ get_or lits i l → o ≡ renamed_literal r l →
     renamed_clause r (take (i + 1) lits) ≡ renamed_clause r (take i lits) ++ cons_option o []
 literal_more r lits i l o below l_is o_is =
     ap (renamed_clause r) (ap (λ n. take n lits) (let s : i + 1 ≡ suc i = omega arith in s) ∙ take-suc lits i l below)

@@ -16,18 +16,22 @@ contains_more x h xs inside = let b = inside.1 in (suc inside.0, omega arith, in
 module _ (p : ℕ → Bool) where
   in_filter : (xs : List ℕ) (h : ℕ) → p h ≡ true → Contains xs h → Contains (filter p xs) h
   in_filter [] h passes (k, below, is) = absurd (omega arith)
-  in_filter (x ∷ xs) h passes (zero, below, is) = subst (λ b. Contains (cond b (x ∷ filter p xs) (filter p xs)) h) (sym (ap p is ∙ passes)) (0, omega arith, is)
-  in_filter (x ∷ xs) h passes (suc k, below, is) = by_bit (p x) (in_filter xs h passes (k, (let b : k < length xs = omega arith in b), is)) where
-    by_bit : (b : Bool) → Contains (filter p xs) h → Contains (cond b (x ∷ filter p xs) (filter p xs)) h
-    by_bit true inside = contains_more x h (filter p xs) inside
-    by_bit false inside = inside
+  in_filter (x ∷ xs) h passes (zero, below, is) = subst (λ b. Contains (cond b (x ∷ filter p xs) (filter p xs)) h)
+      (sym (ap p is ∙ passes)) (0, omega arith, is)
+  in_filter (x ∷ xs) h passes (suc k, below, is) = by_bit (p x)
+      (in_filter xs h passes (k, (let b : k < length xs = omega arith in b), is)) where
+        by_bit : (b : Bool) → Contains (filter p xs) h → Contains (cond b (x ∷ filter p xs) (filter p xs)) h
+        by_bit true inside = contains_more x h (filter p xs) inside
+        by_bit false inside = inside
 
   of_filter : (xs : List ℕ) (h : ℕ) → Contains (filter p xs) h → Contains xs h
   of_filter [] h inside = inside
   of_filter (x ∷ xs) h inside = by_bit (p x) (of_filter xs h) inside where
-    by_bit : (b : Bool) → (Contains (filter p xs) h → Contains xs h) → Contains (cond b (x ∷ filter p xs) (filter p xs)) h → Contains (x ∷ xs) h
+    by_bit : (b : Bool) → (Contains (filter p xs) h → Contains xs h) →
+        Contains (cond b (x ∷ filter p xs) (filter p xs)) h → Contains (x ∷ xs) h
     by_bit true later (zero, below, is) = (0, omega arith, is)
-    by_bit true later (suc k, below, is) = contains_more x h xs (later (k, (let b : k < length (filter p xs) = omega arith in b), is))
+    by_bit true later (suc k, below, is) = contains_more x h xs
+        (later (k, (let b : k < length (filter p xs) = omega arith in b), is))
     by_bit false later inside = contains_more x h xs (later inside)
 
   pub rising_filter : (xs : List ℕ) → Rising xs → Rising (filter p xs)
@@ -37,18 +41,21 @@ module _ (p : ℕ → Bool) where
     by_bit true later = ((λ k inside. h.0 k (of_filter xs k inside)), later)
     by_bit false later = later
 
-places_rise : (xs : List ℕ) → Rising xs → (h k : ℕ) → Contains xs h → Contains xs k → h < k → position_or_len (λ x. x == h) xs < position_or_len (λ x. x == k) xs
+places_rise : (xs : List ℕ) → Rising xs → (h k : ℕ) → Contains xs h → Contains xs k → h < k →
+    position_or_len (λ x. x == h) xs < position_or_len (λ x. x == k) xs
 places_rise [] rising h k in_h in_k less = absurd (let b = in_h.1 in omega arith)
 places_rise (x ∷ xs) rising h k in_h in_k less = by_bits (places_rise xs rising.1 h k) (x == h) (x == k) refl refl where
   rest : (z : ℕ) → (x == z) ≡ false → Contains (x ∷ xs) z → Contains xs z
   rest z e (zero, below, is) = absurd (false≢true (sym e ∙ eq-eqb x z is))
   rest z e (suc i, below, is) = (i, (let b : i < length xs = omega arith in b), is)
 
-  by_bits : (Contains xs h → Contains xs k → h < k → position_or_len (λ z. z == h) xs < position_or_len (λ z. z == k) xs) → (b c : Bool) → (x == h) ≡ b → (x == k) ≡ c →
+  by_bits : (Contains xs h → Contains xs k → h < k → position_or_len (λ z. z == h) xs < position_or_len
+      (λ z. z == k) xs) → (b c : Bool) → (x == h) ≡ b → (x == k) ≡ c →
       cond (not b) (1 + position_or_len (λ z. z == h) xs) 0 < cond (not c) (1 + position_or_len (λ z. z == k) xs) 0
   by_bits later true true e g = let a = eqb-true x h e in let b = eqb-true x k g in absurd (omega (arith, a, b, less))
   by_bits later true false e g = omega arith
-  by_bits later false true e g = let b = eqb-true x k g in let a = rising.0 h (rest h e in_h) in absurd (omega (arith, a, b, less))
+  by_bits later false true e g = let b = eqb-true x k g in let a = rising.0 h (rest h e in_h) in
+      absurd (omega (arith, a, b, less))
   by_bits later false false e g = let r = later (rest h e in_h) (rest k g in_k) less in omega (arith, r)
 
 pub lines_have_numbers : (entries : List Entry) (id base : ℕ) (ids : List ℕ) → AreReached entries id ids →
@@ -58,7 +65,9 @@ lines_have_numbers entries id base ids are =
     let rising = rising_filter p ids (rising_of ids (AllPairs-from_increasing ids are.ascending)) in
     record {
       rising = λ h k line_h line_k less.
-          let r = places_rise (derived_ids entries ids) rising h k (in_filter p ids h line_h.1 (are.complete h line_h.0)) (in_filter p ids k line_k.1 (are.complete k line_k.0)) less in
+          let r = places_rise (derived_ids entries ids) rising h k
+          (in_filter p ids h line_h.1 (are.complete h line_h.0))
+          (in_filter p ids k line_k.1 (are.complete k line_k.0)) less in
           omega (arith, r);
       behind = λ h line. omega arith;
     }

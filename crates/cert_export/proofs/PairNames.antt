@@ -22,17 +22,24 @@ use Rattle.log_laws.proofs.Found.{variable, find_sound}
 use Rattle.dq_lits.specs.Henkin.{same_bits}
 
 pub contains_mapped : (ys : List Existential) (y : Existential) → Contains ys y → Contains (map variable ys) y.variable
-contains_mapped ys y (k, below, is) = (k, rw (length-map ys variable) below, get_or-map variable ys k y y.variable below ∙ ap variable is)
+contains_mapped ys y (k, below, is) = (
+  k,
+  rw (length-map ys variable) below,
+  get_or-map variable ys k y y.variable below ∙ ap variable is,
+)
 
 -- no two variables have one name
-pub same_name : (es : List Entry) (v w : ℕ) (n : Name) → Each MayFollow es → name_of es v ≡ Some n → name_of es w ≡ Some n → v ≡ w
+pub same_name : (es : List Entry) (v w : ℕ) (n : Name) → Each MayFollow es → name_of es v ≡ Some n →
+    name_of es w ≡ Some n → v ≡ w
 same_name [] v w n lawful h k = cc
-same_name (Named u m ∷ es) v w n lawful h k = by_bits (same_name es v w n lawful.1) (v == u) (w == u) refl refl h k where
-  by_bits : (name_of es v ≡ Some n → name_of es w ≡ Some n → v ≡ w) → (b c : Bool) → (v == u) ≡ b → (w == u) ≡ c → cond b (Some m) (name_of es v) ≡ Some n → cond c (Some m) (name_of es w) ≡ Some n → v ≡ w
-  by_bits later true true e g h k = eqb-true v u e ∙ sym (eqb-true w u g)
-  by_bits later true false e g h k = let is : m ≡ n = cc in absurd (lawful.0.fresh w (k ∙ ap Some (sym is)))
-  by_bits later false true e g h k = let is : m ≡ n = cc in absurd (lawful.0.fresh v (h ∙ ap Some (sym is)))
-  by_bits later false false e g h k = later h k
+same_name (Named u m ∷ es) v w n lawful h k = by_bits (same_name es v w n lawful.1) (v == u)
+    (w == u) refl refl h k where
+      by_bits : (name_of es v ≡ Some n → name_of es w ≡ Some n → v ≡ w) → (b c : Bool) → (v == u) ≡ b → (w == u) ≡ c →
+          cond b (Some m) (name_of es v) ≡ Some n → cond c (Some m) (name_of es w) ≡ Some n → v ≡ w
+      by_bits later true true e g h k = eqb-true v u e ∙ sym (eqb-true w u g)
+      by_bits later true false e g h k = let is : m ≡ n = cc in absurd (lawful.0.fresh w (k ∙ ap Some (sym is)))
+      by_bits later false true e g h k = let is : m ≡ n = cc in absurd (lawful.0.fresh v (h ∙ ap Some (sym is)))
+      by_bits later false false e g h k = later h k
 same_name (Given origin c ∷ es) v w n lawful h k = same_name es v w n lawful.1 h k
 same_name (Learned c hints ∷ es) v w n lawful h k = same_name es v w n lawful.1 h k
 same_name (Answer c hints ∷ es) v w n lawful h k = same_name es v w n lawful.1 h k
@@ -50,17 +57,32 @@ pub record IsPair (f : Dqbf) (rows : List (List Bool)) (o : Option Name) (x : �
   pub place : position_or_len (agree_on f existential row) rows + 1 ≡ k
   pub is : x ≡ pair_number f rows row existential
 
-pub pair_parts : (f : Dqbf) (rows : List (List Bool)) (o : Option Name) (x : ℕ) → pair_of f rows o ≡ Some x → IsPair f rows o x
+pub pair_parts : (f : Dqbf) (rows : List (List Bool)) (o : Option Name) (x : ℕ) → pair_of f rows o ≡ Some x →
+    IsPair f rows o x
 pair_parts f rows None x h = cc
 pair_parts f rows (Some (Selector g)) x h = cc
 pair_parts f rows (Some (Pair k y)) x h = by_parts (numbered_from_one rows k) (existential_of f y) refl refl h where
-  by_bit : (row : List Bool) (e : Existential) → numbered_from_one rows k ≡ Some row → existential_of f y ≡ Some e → (b : Bool) → (position_or_len (agree_on f e row) rows + 1 == k) ≡ b → cond b (Some (pair_number f rows row e)) None ≡ Some x → IsPair f rows (Some (Pair k y)) x
+  by_bit : (row : List Bool) (e : Existential) → numbered_from_one rows k ≡ Some row → existential_of f y ≡ Some e →
+      (b : Bool) → (position_or_len (agree_on f e row) rows + 1 == k) ≡ b →
+      cond b (Some (pair_number f rows row e)) None ≡ Some x → IsPair f rows (Some (Pair k y)) x
   by_bit row e a c true g h =
       let is : pair_number f rows row e ≡ x = cc in
-      record { k = k; y = y; row = row; existential = e; named = refl; row_is = a; own = c; place = eqb-true (position_or_len (agree_on f e row) rows + 1) k g; is = sym is }
+      record {
+        k = k;
+        y = y;
+        row = row;
+        existential = e;
+        named = refl;
+        row_is = a;
+        own = c;
+        place =
+            eqb-true (position_or_len (agree_on f e row) rows + 1) k g;
+        is = sym is;
+      }
   by_bit row e a c false g h = cc
 
-  by_parts : (p : Option (List Bool)) (q : Option Existential) → numbered_from_one rows k ≡ p → existential_of f y ≡ q → first_pair f rows k p q ≡ Some x → IsPair f rows (Some (Pair k y)) x
+  by_parts : (p : Option (List Bool)) (q : Option Existential) → numbered_from_one rows k ≡ p → existential_of f y ≡ q →
+      first_pair f rows k p q ≡ Some x → IsPair f rows (Some (Pair k y)) x
   by_parts None q a c h = cc
   by_parts (Some row) None a c h = cc
   by_parts (Some row) (Some e) a c h = by_bit row e a c (position_or_len (agree_on f e row) rows + 1 == k) refl h
@@ -70,9 +92,11 @@ pair_parts f rows (Some (Bad g j)) x h = cc
 pair_parts f rows (Some (CopyOf side v)) x h = cc
 pair_parts f rows (Some (Term p q)) x h = cc
 
-pub in_range : (f : Dqbf) → IsWellFormed f → (y : Existential) → Contains f.existentials y → (1 ≤ y.variable) × (y.variable ≤ f.variables)
+pub in_range : (f : Dqbf) → IsWellFormed f → (y : Existential) → Contains f.existentials y →
+    (1 ≤ y.variable) × (y.variable ≤ f.variables)
 in_range f well y inside = All-contains (λ v. (1 ≤ v) × (v ≤ f.variables)) (declared f) y.variable well.prefix.in_range
-    (Contains-append_right f.universals (map variable f.existentials) y.variable (contains_mapped f.existentials y inside))
+    (Contains-append_right f.universals (map variable f.existentials) y.variable
+    (contains_mapped f.existentials y inside))
 
 -- a pair's number gives it back
 pair_back : (vars a b y z : ℕ) → 1 ≤ y → y ≤ vars → 1 ≤ z → z ≤ vars → a * vars + y ≡ b * vars + z → (a ≡ b) × (y ≡ z)
@@ -85,7 +109,8 @@ pair_back vars a b y z y1 y2 z1 z2 h =
     let rest = sym low ∙ ap (λ n. n % vars) same ∙ low' in
     (sym left ∙ ap (λ n. n / vars) same ∙ right, omega (arith, rest))
 
-pub pairs_are_injective : (f : Dqbf) → IsWellFormed f → (all : List Entry) → Each MayFollow all → IsInjective (pair_renaming f all)
+pub pairs_are_injective : (f : Dqbf) → IsWellFormed f → (all : List Entry) → Each MayFollow all →
+    IsInjective (pair_renaming f all)
 pairs_are_injective f well all lawful v w x h k =
     let rows = rows_of all in
     let p = pair_parts f rows (name_of all v) x h in
@@ -96,7 +121,8 @@ pairs_are_injective f well all lawful v w x h k =
     let qr = in_range f well q.existential qy.0 in
     let a = position_or_len (agree_on f p.existential p.row) rows in
     let b = position_or_len (agree_on f q.existential q.row) rows in
-    let back = pair_back f.variables a b p.existential.variable q.existential.variable pr.0 pr.1 qr.0 qr.1 (sym p.is ∙ q.is) in
+    let back = pair_back f.variables a b p.existential.variable q.existential.variable pr.0 pr.1 qr.0 qr.1
+    (sym p.is ∙ q.is) in
     let ks : p.k ≡ q.k = sym p.place ∙ ap (λ n. n + 1) back.0 ∙ q.place in
     let ys : p.y ≡ q.y = sym py.1 ∙ back.1 ∙ qy.1 in
     let same : Pair p.k p.y ≡ Pair q.k q.y = ap (λ n. Pair n p.y) ks ∙ ap (Pair q.k) ys in
@@ -107,7 +133,8 @@ small_place [] i x h = cc
 small_place (y ∷ ys) zero x h = omega arith
 small_place (y ∷ ys) (suc i) x h = let r = small_place ys i x h in omega arith
 
-pub from_one : {X : Type 0} (xs : List X) (j : ℕ) (x : X) → numbered_from_one xs j ≡ Some x → (1 ≤ j) × (slice_get xs (j - 1) ≡ Some x)
+pub from_one : {X : Type 0} (xs : List X) (j : ℕ) (x : X) → numbered_from_one xs j ≡ Some x →
+    (1 ≤ j) × (slice_get xs (j - 1) ≡ Some x)
 from_one xs zero x h = cc
 from_one xs (suc j) x h = let e : suc j - 1 ≡ j = omega arith in (omega arith, ap (slice_get xs) e ∙ h)
 
@@ -120,7 +147,8 @@ rows_more (Named v n ∷ more) es = rows_more more es
 rows_more (Given origin c ∷ more) es = rows_more more es
 rows_more (Learned c hints ∷ more) es = rows_more more es
 rows_more (Answer c hints ∷ more) es = rows_more more es
-rows_more (Round row values j ∷ more) es = let r = rows_more more es in (r.0 ++ row ∷ [], ap (λ rows. rows ++ row ∷ []) r.1 ∙ append_assoc (rows_of es) r.0 (row ∷ []))
+rows_more (Round row values j ∷ more) es = let r = rows_more more es in
+    (r.0 ++ row ∷ [], ap (λ rows. rows ++ row ∷ []) r.1 ∙ append_assoc (rows_of es) r.0 (row ∷ []))
 rows_more (Begun live ∷ more) es = rows_more more es
 
 pub row_contained : (es : List Entry) (k : ℕ) (row : List Bool) → row_at es k ≡ Some row → Contains (rows_of es) row
@@ -130,8 +158,11 @@ row_contained (Given origin c ∷ es) k row h = row_contained es k row h
 row_contained (Learned c hints ∷ es) k row h = row_contained es k row h
 row_contained (Answer c hints ∷ es) k row h = row_contained es k row h
 row_contained (Round r values j ∷ es) k row h = by_bit (row_contained es k row) (k == count is_round es + 1) h where
-  by_bit : (row_at es k ≡ Some row → Contains (rows_of es) row) → (b : Bool) → option_and_then row_of (cond b (Some (Round r values j)) (numbered is_round es k)) ≡ Some row → Contains (rows_of es ++ r ∷ []) row
-  by_bit before true h = let same : r ≡ row = cc in subst (λ x. Contains (rows_of es ++ x ∷ []) row) (sym same) (Contains-push (rows_of es) row)
+  by_bit : (row_at es k ≡ Some row → Contains (rows_of es) row) → (b : Bool) →
+      option_and_then row_of (cond b (Some (Round r values j)) (numbered is_round es k)) ≡ Some row →
+      Contains (rows_of es ++ r ∷ []) row
+  by_bit before true h = let same : r ≡ row = cc in subst (λ x. Contains (rows_of es ++ x ∷ []) row) (sym same)
+      (Contains-push (rows_of es) row)
   by_bit before false h = Contains-append_left (rows_of es) (r ∷ []) row (before h)
 row_contained (Begun live ∷ es) k row h = row_contained es k row h
 

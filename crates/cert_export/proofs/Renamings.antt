@@ -31,14 +31,17 @@ module _ (r : Renaming) (injective : IsInjective r) where
   abbrev ren : Literal → Option Literal
   ren l = renamed_literal r l
 
-  opposite_by : (o : Option ℕ) (l : Literal) → option_map (λ w. on_variable w (opposite l)) o ≡ option_map opposite (option_map (λ w. on_variable w l) o)
+  opposite_by : (o : Option ℕ) (l : Literal) → option_map (λ w. on_variable w (opposite l)) o ≡ option_map opposite
+      (option_map (λ w. on_variable w l) o)
   opposite_by None l = refl
   opposite_by (Some w) l = ap Some (on_variable-opposite w l)
 
   ren_opposite : (l : Literal) → ren (opposite l) ≡ option_map opposite (ren l)
-  ren_opposite l = ap (λ v. option_map (λ w. on_variable w (opposite l)) (r v)) (variable_of-opposite l) ∙ opposite_by (r (variable_of l)) l
+  ren_opposite l = ap (λ v. option_map (λ w. on_variable w (opposite l)) (r v)) (variable_of-opposite l) ∙ opposite_by
+      (r (variable_of l)) l
 
-  same_by : (k l : Literal) (v w : ℕ) → r (variable_of k) ≡ Some v → r (variable_of l) ≡ Some w → same_literal (on_variable v k) (on_variable w l) ≡ same_literal k l
+  same_by : (k l : Literal) (v w : ℕ) → r (variable_of k) ≡ Some v → r (variable_of l) ≡ Some w →
+      same_literal (on_variable v k) (on_variable w l) ≡ same_literal k l
   same_by (positive a) (positive b) v w e h = same_numbers where
     same_numbers : (v == w) ≡ (a == b)
     same_numbers = elim (cases_Bool (a == b)) [
@@ -65,7 +68,9 @@ module _ (r : Renaming) (injective : IsInjective r) where
   -- renamed literals are the same where the literals are
   same_renamed : (k l k' l' : Literal) → ren k ≡ Some k' → ren l ≡ Some l' → same_literal k' l' ≡ same_literal k l
   same_renamed k l k' l' e h = by_names (r (variable_of k)) (r (variable_of l)) refl refl e h where
-    by_names : (o p : Option ℕ) → r (variable_of k) ≡ o → r (variable_of l) ≡ p → option_map (λ w. on_variable w k) o ≡ Some k' → option_map (λ w. on_variable w l) p ≡ Some l' → same_literal k' l' ≡ same_literal k l
+    by_names : (o p : Option ℕ) → r (variable_of k) ≡ o → r (variable_of l) ≡ p →
+        option_map (λ w. on_variable w k) o ≡ Some k' → option_map (λ w. on_variable w l) p ≡ Some l' →
+        same_literal k' l' ≡ same_literal k l
     by_names None p a b e h = cc
     by_names (Some v) None a b e h = cc
     by_names (Some v) (Some w) a b e h =
@@ -75,49 +80,60 @@ module _ (r : Renaming) (injective : IsInjective r) where
 
   none_differs : (k l k' : Literal) → ren k ≡ Some k' → ren l ≡ None → same_literal k l ≡ false
   none_differs k l k' e h = elim (cases_Bool (same_literal k l)) [
-    | inl same ↦ (let eq = ap ren (same_literal-sound k l same) in let clash : ◌≡◌ {A = Option Literal} (Some k') None = sym e ∙ eq ∙ h in cc)
+    | inl same ↦ (let eq = ap ren (same_literal-sound k l same) in let clash : ◌≡◌ {A = Option Literal} (Some k') None =
+        sym e ∙ eq ∙ h in cc)
     | inr differ ↦ differ
   ]
 
   holds_renamed : (l l' : Literal) → ren l ≡ Some l' → (xs : List Literal) → holds (filter_map ren xs) l' ≡ holds xs l
   holds_renamed l l' e [] = refl
   holds_renamed l l' e (x ∷ xs) = by_option (holds_renamed l l' e xs) (ren x) refl where
-    by_option : holds (filter_map ren xs) l' ≡ holds xs l → (o : Option Literal) → ren x ≡ o → holds (cons_option o (filter_map ren xs)) l' ≡ (same_literal l x || holds xs l)
+    by_option : holds (filter_map ren xs) l' ≡ holds xs l → (o : Option Literal) → ren x ≡ o →
+        holds (cons_option o (filter_map ren xs)) l' ≡ (same_literal l x || holds xs l)
     by_option later None h = later ∙ ap (λ b. b || holds xs l) (sym (none_differs l x l' e h))
-    by_option later (Some x') h = ap (λ b. b || holds (filter_map ren xs) l') (same_renamed l x l' x' e h) ∙ ap (λ b. same_literal l x || b) later
+    by_option later (Some x') h = ap (λ b. b || holds (filter_map ren xs) l') (same_renamed l x l' x' e h) ∙ ap
+        (λ b. same_literal l x || b) later
 
   abbrev open_in : List Literal → List Literal → List Literal
   open_in trues clause = filter (λ l. not (holds trues (opposite l))) clause
 
   -- the literals that aren't false
-  open_renamed : (trues clause : List Literal) → open_in (filter_map ren trues) (filter_map ren clause) ≡ filter_map ren (open_in trues clause)
+  open_renamed : (trues clause : List Literal) → open_in (filter_map ren trues) (filter_map ren clause) ≡ filter_map ren
+      (open_in trues clause)
   open_renamed trues [] = refl
   open_renamed trues (l ∷ ls) = by_option (open_renamed trues ls) (ren l) refl where
-    dropped : (b : Bool) → ren l ≡ None → filter_map ren (open_in trues ls) ≡ filter_map ren (cond b (l ∷ open_in trues ls) (open_in trues ls))
+    dropped : (b : Bool) → ren l ≡ None → filter_map ren (open_in trues ls) ≡ filter_map ren
+        (cond b (l ∷ open_in trues ls) (open_in trues ls))
     dropped true h = ap (λ o. cons_option o (filter_map ren (open_in trues ls))) (sym h)
     dropped false h = refl
 
-    kept : (b : Bool) (l' : Literal) → ren l ≡ Some l' → cond b (l' ∷ filter_map ren (open_in trues ls)) (filter_map ren (open_in trues ls)) ≡ filter_map ren (cond b (l ∷ open_in trues ls) (open_in trues ls))
+    kept : (b : Bool) (l' : Literal) → ren l ≡ Some l' → cond b (l' ∷ filter_map ren (open_in trues ls))
+        (filter_map ren (open_in trues ls)) ≡ filter_map ren (cond b (l ∷ open_in trues ls) (open_in trues ls))
     kept true l' h = ap (λ o. cons_option o (filter_map ren (open_in trues ls))) (sym h)
     kept false l' h = refl
 
-    by_option : open_in (filter_map ren trues) (filter_map ren ls) ≡ filter_map ren (open_in trues ls) → (o : Option Literal) → ren l ≡ o →
-        open_in (filter_map ren trues) (cons_option o (filter_map ren ls)) ≡ filter_map ren (cond (not (holds trues (opposite l))) (l ∷ open_in trues ls) (open_in trues ls))
+    by_option : open_in (filter_map ren trues) (filter_map ren ls) ≡ filter_map ren (open_in trues ls) →
+        (o : Option Literal) → ren l ≡ o →
+        open_in (filter_map ren trues) (cons_option o (filter_map ren ls)) ≡ filter_map ren
+        (cond (not (holds trues (opposite l))) (l ∷ open_in trues ls) (open_in trues ls))
     by_option later None h = later ∙ dropped (not (holds trues (opposite l))) h
     by_option later (Some l') h =
         let there : ren (opposite l) ≡ Some (opposite l') = ren_opposite l ∙ ap (option_map opposite) h in
-        ap (λ b. cond (not b) (l' ∷ open_in (filter_map ren trues) (filter_map ren ls)) (open_in (filter_map ren trues) (filter_map ren ls))) (holds_renamed (opposite l) (opposite l') there trues)
+        ap (λ b. cond (not b) (l' ∷ open_in (filter_map ren trues) (filter_map ren ls))
+        (open_in (filter_map ren trues) (filter_map ren ls))) (holds_renamed (opposite l) (opposite l') there trues)
         ∙ ap (λ rest. cond (not (holds trues (opposite l))) (l' ∷ rest) rest) later
         ∙ kept (not (holds trues (opposite l))) l' h
 
-  all_dropped : (l : Literal) (rest : List Literal) → ren l ≡ None → list_all (same_literal l) rest ≡ true → filter_map ren rest ≡ []
+  all_dropped : (l : Literal) (rest : List Literal) → ren l ≡ None → list_all (same_literal l) rest ≡ true →
+      filter_map ren rest ≡ []
   all_dropped l [] h all = refl
   all_dropped l (k ∷ ks) h all =
       let parts = and_parts (same_literal l k) (list_all (same_literal l) ks) all in
       let none : ren k ≡ None = ap ren (sym (same_literal-sound l k parts.0)) ∙ h in
       ap (λ o. cons_option o (filter_map ren ks)) none ∙ all_dropped l ks h parts.1
 
-  all_same : (l l' : Literal) (rest : List Literal) → ren l ≡ Some l' → list_all (same_literal l) rest ≡ true → list_all (same_literal l') (filter_map ren rest) ≡ true
+  all_same : (l l' : Literal) (rest : List Literal) → ren l ≡ Some l' → list_all (same_literal l) rest ≡ true →
+      list_all (same_literal l') (filter_map ren rest) ≡ true
   all_same l l' [] h all = refl
   all_same l l' (k ∷ ks) h all =
       let parts = and_parts (same_literal l k) (list_all (same_literal l) ks) all in
@@ -130,14 +146,19 @@ module _ (r : Renaming) (injective : IsInjective r) where
     -- the rest of a line's hints
     abbrev Goes : List Literal → ℕ → ℕ → List ℕ → Type 0
     Goes trues place place' hints =
-        hint_fault live trues place hints ≡ None → hint_fault renamed (filter_map ren trues) place' (cut_hints renamed (filter_map ren trues) (map to hints)) ≡ None
+        hint_fault live trues place hints ≡ None → hint_fault renamed (filter_map ren trues) place'
+        (cut_hints renamed (filter_map ren trues) (map to hints)) ≡ None
 
-    stopped : (s : Status) (place : ℕ) (next : Literal → List ℕ) (follow : List ℕ → Literal → Option ℕ) → s ≡ falsified → fault_by s place (cut_by s next) (follow (cut_by s next)) ≡ None
-    stopped s place next follow h = subst (λ q. fault_by q place (cut_by q next) (follow (cut_by q next)) ≡ None) (sym h) refl
+    stopped : (s : Status) (place : ℕ) (next : Literal → List ℕ) (follow : List ℕ → Literal → Option ℕ) →
+        s ≡ falsified → fault_by s place (cut_by s next) (follow (cut_by s next)) ≡ None
+    stopped s place next follow h = subst (λ q. fault_by q place (cut_by q next) (follow (cut_by q next)) ≡ None)
+        (sym h) refl
 
-    went_on : (s : Status) (l' : Literal) (place : ℕ) (next : Literal → List ℕ) (follow : List ℕ → Literal → Option ℕ) → s ≡ unit l' → follow (next l') l' ≡ None →
+    went_on : (s : Status) (l' : Literal) (place : ℕ) (next : Literal → List ℕ) (follow : List ℕ → Literal → Option ℕ) →
+        s ≡ unit l' → follow (next l') l' ≡ None →
         fault_by s place (cut_by s next) (follow (cut_by s next)) ≡ None
-    went_on s l' place next follow h t = subst (λ q. fault_by q place (cut_by q next) (follow (cut_by q next)) ≡ None) (sym h) t
+    went_on s l' place next follow h t = subst (λ q. fault_by q place (cut_by q next) (follow (cut_by q next)) ≡ None)
+        (sym h) t
 
     abbrev status_after : List Literal → List Literal → Status
     status_after trues open' = status_by (filter_map ren trues) (filter_map ren open')
@@ -150,42 +171,56 @@ module _ (r : Renaming) (injective : IsInjective r) where
 
     -- the hint and those behind it, cut, have no fault
     abbrev IsCutRight : List Literal → ℕ → List ℕ → Status → Type 0
-    IsCutRight trues place hints s = fault_by s place (cut_by s (next_hints trues hints)) (follow_hints trues place (cut_by s (next_hints trues hints))) ≡ None
+    IsCutRight trues place hints s = fault_by s place (cut_by s (next_hints trues hints))
+        (follow_hints trues place (cut_by s (next_hints trues hints))) ≡ None
 
-    by_name : (trues : List Literal) (l : Literal) (rest : List Literal) (place place' : ℕ) (hints : List ℕ) → Goes (l ∷ trues) (place + 1) (place' + 1) hints →
-        (list_all (same_literal l) rest && not (holds trues l)) ≡ true → hint_fault live (l ∷ trues) (place + 1) hints ≡ None → (o : Option Literal) → ren l ≡ o →
+    by_name : (trues : List Literal) (l : Literal) (rest : List Literal) (place place' : ℕ) (hints : List ℕ) →
+        Goes (l ∷ trues) (place + 1) (place' + 1) hints →
+        (list_all (same_literal l) rest && not (holds trues l)) ≡ true →
+        hint_fault live (l ∷ trues) (place + 1) hints ≡ None → (o : Option Literal) → ren l ≡ o →
         IsCutRight trues place' hints (status_after trues (l ∷ rest))
     by_name trues l rest place place' hints later e h None is =
         let parts = and_parts (list_all (same_literal l) rest) (not (holds trues l)) e in
-        let none : filter_map ren (l ∷ rest) ≡ [] = ap (λ o. cons_option o (filter_map ren rest)) is ∙ all_dropped l rest is parts.0 in
-        stopped (status_after trues (l ∷ rest)) place' (next_hints trues hints) (follow_hints trues place') (ap (status_by (filter_map ren trues)) none)
+        let none : filter_map ren (l ∷ rest) ≡ [] = ap (λ o. cons_option o (filter_map ren rest)) is
+        ∙ all_dropped l rest is parts.0 in
+        stopped (status_after trues (l ∷ rest)) place' (next_hints trues hints) (follow_hints trues place')
+        (ap (status_by (filter_map ren trues)) none)
     by_name trues l rest place place' hints later e h (Some l') is =
         let parts = and_parts (list_all (same_literal l) rest) (not (holds trues l)) e in
-        let head : filter_map ren (l ∷ rest) ≡ l' ∷ filter_map ren rest = ap (λ o. cons_option o (filter_map ren rest)) is in
+        let head : filter_map ren (l ∷ rest) ≡ l' ∷ filter_map ren rest =
+        ap (λ o. cons_option o (filter_map ren rest)) is in
         let unit_again : status_after trues (l ∷ rest) ≡ unit l' = ap (status_by (filter_map ren trues)) head
         ∙ ap (λ b. cond (b && not (holds (filter_map ren trues) l')) (unit l') stuck) (all_same l l' rest is parts.0)
         ∙ ap (λ b. cond (not b) (unit l') stuck) (holds_renamed l l' is trues)
         ∙ ap (λ b. cond b (unit l') stuck) parts.1 in
         let t = later h in
-        let ts : filter_map ren (l ∷ trues) ≡ l' ∷ filter_map ren trues = ap (λ o. cons_option o (filter_map ren trues)) is in
+        let ts : filter_map ren (l ∷ trues) ≡ l' ∷ filter_map ren trues =
+        ap (λ o. cons_option o (filter_map ren trues)) is in
         let t' = subst (λ us. hint_fault renamed us (place' + 1) (cut_hints renamed us (map to hints)) ≡ None) ts t in
-        went_on (status_after trues (l ∷ rest)) l' place' (next_hints trues hints) (follow_hints trues place') unit_again t'
+        went_on (status_after trues (l ∷ rest)) l' place' (next_hints trues hints)
+        (follow_hints trues place') unit_again t'
 
-    with_open : (trues open' : List Literal) (place place' : ℕ) (hints : List ℕ) → ((l : Literal) → Goes (l ∷ trues) (place + 1) (place' + 1) hints) →
+    with_open : (trues open' : List Literal) (place place' : ℕ) (hints : List ℕ) →
+        ((l : Literal) → Goes (l ∷ trues) (place + 1) (place' + 1) hints) →
         fault_by (status_by trues open') place hints (λ l. hint_fault live (l ∷ trues) (place + 1) hints) ≡ None →
         IsCutRight trues place' hints (status_after trues open')
     with_open trues [] place place' hints later h = refl
-    with_open trues (l ∷ rest) place place' hints later h = by_bit (list_all (same_literal l) rest && not (holds trues l)) refl h where
-      by_bit : (b : Bool) → (list_all (same_literal l) rest && not (holds trues l)) ≡ b → fault_by (cond b (unit l) stuck) place hints (λ k. hint_fault live (k ∷ trues) (place + 1) hints) ≡ None →
-          IsCutRight trues place' hints (status_after trues (l ∷ rest))
-      by_bit true e h = by_name trues l rest place place' hints (later l) e h (ren l) refl
-      by_bit false e h = cc
+    with_open trues (l ∷ rest) place place' hints later h = by_bit
+        (list_all (same_literal l) rest && not (holds trues l)) refl h where
+          by_bit : (b : Bool) → (list_all (same_literal l) rest && not (holds trues l)) ≡ b →
+              fault_by (cond b (unit l) stuck) place hints (λ k. hint_fault live (k ∷ trues) (place + 1) hints) ≡ None →
+              IsCutRight trues place' hints (status_after trues (l ∷ rest))
+          by_bit true e h = by_name trues l rest place place' hints (later l) e h (ren l) refl
+          by_bit false e h = cc
 
-    goes : (hints : List ℕ) → All (IsRenamedAt r to live renamed) hints → (trues : List Literal) (place place' : ℕ) → Goes trues place place' hints
+    goes : (hints : List ℕ) → All (IsRenamedAt r to live renamed) hints → (trues : List Literal) (place place' : ℕ) →
+        Goes trues place place' hints
     goes [] are trues place place' h = cc
     goes (hint ∷ hints) are trues place place' h =
-        by_clause (λ l. goes hints (All-tail (IsRenamedAt r to live renamed) hint hints are) (l ∷ trues) (place + 1) (place' + 1)) (live hint) refl h where
-          by_clause : ((l : Literal) → Goes (l ∷ trues) (place + 1) (place' + 1) hints) → (o : Option (List Literal)) → live hint ≡ o →
+        by_clause (λ l. goes hints (All-tail (IsRenamedAt r to live renamed) hint hints are) (l ∷ trues) (place + 1)
+        (place' + 1)) (live hint) refl h where
+          by_clause : ((l : Literal) → Goes (l ∷ trues) (place + 1) (place' + 1) hints) → (o : Option (List Literal)) →
+              live hint ≡ o →
               fault_by (status_of trues o) place hints (λ l. hint_fault live (l ∷ trues) (place + 1) hints) ≡ None →
               IsCutRight trues place' hints (status_of (filter_map ren trues) (renamed (to hint)))
           by_clause later None e h = cc
@@ -193,27 +228,37 @@ module _ (r : Renaming) (injective : IsInjective r) where
               let is = All-head (IsRenamedAt r to live renamed) hint hints are c e in
               let same : status_of (filter_map ren trues) (renamed (to hint)) ≡ status_after trues (open_in trues c) =
               ap (status_of (filter_map ren trues)) is ∙ ap (status_by (filter_map ren trues)) (open_renamed trues c) in
-              subst (IsCutRight trues place' hints) (sym same) (with_open trues (open_in trues c) place place' hints later h)
+              subst (IsCutRight trues place' hints) (sym same)
+              (with_open trues (open_in trues c) place place' hints later h)
 
   opposites_renamed : (ls : List Literal) → map opposite (filter_map ren ls) ≡ filter_map ren (map opposite ls)
   opposites_renamed [] = refl
   opposites_renamed (l ∷ ls) = by_option (opposites_renamed ls) (ren l) (ren_opposite l) where
-    by_option : map opposite (filter_map ren ls) ≡ filter_map ren (map opposite ls) → (o : Option Literal) → ren (opposite l) ≡ option_map opposite o →
-        map opposite (cons_option o (filter_map ren ls)) ≡ cons_option (ren (opposite l)) (filter_map ren (map opposite ls))
+    by_option : map opposite (filter_map ren ls) ≡ filter_map ren (map opposite ls) → (o : Option Literal) →
+        ren (opposite l) ≡ option_map opposite o →
+        map opposite (cons_option o (filter_map ren ls)) ≡ cons_option (ren (opposite l))
+        (filter_map ren (map opposite ls))
     by_option later None e = later ∙ ap (λ p. cons_option p (filter_map ren (map opposite ls))) (sym e)
-    by_option later (Some l') e = ap (λ rest. opposite l' ∷ rest) later ∙ ap (λ p. cons_option p (filter_map ren (map opposite ls))) (sym e)
+    by_option later (Some l') e = ap (λ rest. opposite l' ∷ rest) later ∙ ap
+        (λ p. cons_option p (filter_map ren (map opposite ls))) (sym e)
 
-  pub tautology_renamed : (xs ys : List Literal) → list_any (λ l. holds (filter_map ren xs) (opposite l)) (filter_map ren ys) ≡ true → list_any (λ l. holds xs (opposite l)) ys ≡ true
+  pub tautology_renamed : (xs ys : List Literal) → list_any (λ l. holds (filter_map ren xs) (opposite l))
+      (filter_map ren ys) ≡ true → list_any (λ l. holds xs (opposite l)) ys ≡ true
   tautology_renamed xs [] h = h
   tautology_renamed xs (l ∷ ls) h = by_option (tautology_renamed xs ls) (ren l) refl h where
-    by_option : (list_any (λ k. holds (filter_map ren xs) (opposite k)) (filter_map ren ls) ≡ true → list_any (λ k. holds xs (opposite k)) ls ≡ true) → (o : Option Literal) → ren l ≡ o →
-        list_any (λ k. holds (filter_map ren xs) (opposite k)) (cons_option o (filter_map ren ls)) ≡ true → (holds xs (opposite l) || list_any (λ k. holds xs (opposite k)) ls) ≡ true
+    by_option : (list_any (λ k. holds (filter_map ren xs) (opposite k)) (filter_map ren ls) ≡ true →
+        list_any (λ k. holds xs (opposite k)) ls ≡ true) → (o : Option Literal) → ren l ≡ o →
+        list_any (λ k. holds (filter_map ren xs) (opposite k)) (cons_option o (filter_map ren ls)) ≡ true →
+        (holds xs (opposite l) || list_any (λ k. holds xs (opposite k)) ls) ≡ true
     by_option later None e h = or_right (holds xs (opposite l)) (list_any (λ k. holds xs (opposite k)) ls) (later h)
-    by_option later (Some l') e h = elim (or_cases (holds (filter_map ren xs) (opposite l')) (list_any (λ k. holds (filter_map ren xs) (opposite k)) (filter_map ren ls)) h) [
-      | inl here ↦ (let there : ren (opposite l) ≡ Some (opposite l') = ren_opposite l ∙ ap (option_map opposite) e in
-          or_left (holds xs (opposite l)) (list_any (λ k. holds xs (opposite k)) ls) (sym (holds_renamed (opposite l) (opposite l') there xs) ∙ here))
-      | inr rest ↦ or_right (holds xs (opposite l)) (list_any (λ k. holds xs (opposite k)) ls) (later rest)
-    ]
+    by_option later (Some l') e h = elim (or_cases (holds (filter_map ren xs) (opposite l'))
+        (list_any (λ k. holds (filter_map ren xs) (opposite k)) (filter_map ren ls)) h) [
+          | inl here ↦ (let there : ren (opposite l) ≡ Some (opposite l') =
+              ren_opposite l ∙ ap (option_map opposite) e in
+              or_left (holds xs (opposite l)) (list_any (λ k. holds xs (opposite k)) ls)
+              (sym (holds_renamed (opposite l) (opposite l') there xs) ∙ here))
+          | inr rest ↦ or_right (holds xs (opposite l)) (list_any (λ k. holds xs (opposite k)) ls) (later rest)
+        ]
 
 pub no_fault : (b : Bool) (o : Option ℕ) → cond b (Some 0) o ≡ None → (b ≡ false) × (o ≡ None)
 no_fault true o h = cc
@@ -222,7 +267,8 @@ no_fault false o h = (refl, h)
 pub renamed_lines_are_derived : RenamedLinesAreDerived
 renamed_lines_are_derived r to live renamed injective literals hints are derived =
     let parts = no_fault (is_tautology literals) (hint_fault live (map opposite literals) 1 hints) derived in
-    let no_tautology : is_tautology (renamed_clause r literals) ≡ false = elim (cases_Bool (is_tautology (renamed_clause r literals))) [
+    let no_tautology : is_tautology (renamed_clause r literals) ≡ false =
+    elim (cases_Bool (is_tautology (renamed_clause r literals))) [
       | inl is ↦ absurd (false≢true (sym parts.0 ∙ tautology_renamed r injective literals literals is))
       | inr none ↦ none
     ] in
@@ -232,7 +278,9 @@ renamed_lines_are_derived r to live renamed injective literals hints are derived
     cond-false (is_tautology (renamed_clause r literals)) (Some 0) _ no_tautology ∙ fault
 
 -- and it has no literal beside its negation
-pub renamed_consistent : (r : Renaming) (live : LiveClauses) → IsInjective r → (literals : List Literal) (hints : List ℕ) → IsDerived live literals hints → is_tautology (renamed_clause r literals) ≡ false
+pub renamed_consistent : (r : Renaming) (live : LiveClauses) → IsInjective r →
+    (literals : List Literal) (hints : List ℕ) → IsDerived live literals hints →
+    is_tautology (renamed_clause r literals) ≡ false
 renamed_consistent r live injective literals hints derived =
     let parts = no_fault (is_tautology literals) (hint_fault live (map opposite literals) 1 hints) derived in
     elim (cases_Bool (is_tautology (renamed_clause r literals))) [

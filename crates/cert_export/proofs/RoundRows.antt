@@ -11,11 +11,14 @@ get_at [] k x d h = cc
 get_at (y ∷ ys) zero x d h = let same : y ≡ x = cc in same
 get_at (y ∷ ys) (suc k) x d h = get_at ys k x d h
 
-pub row_more : (es : List Entry) (k : ℕ) (row : List Bool) → row_at es (k + 1) ≡ Some row → take (k + 1) (rows_of es) ≡ take k (rows_of es) ++ row ∷ []
+pub row_more : (es : List Entry) (k : ℕ) (row : List Bool) → row_at es (k + 1) ≡ Some row →
+    take (k + 1) (rows_of es) ≡ take k (rows_of es) ++ row ∷ []
 row_more es k row h =
     let back : k + 1 - 1 ≡ k = omega arith in
-    let there : slice_get (rows_of es) k ≡ Some row = ap (slice_get (rows_of es)) (sym back) ∙ (row_place es (k + 1) row h).1 in
-    take_more (rows_of es) k row (small_place (rows_of es) k row there) ∙ ap (λ r. take k (rows_of es) ++ r ∷ []) (get_at (rows_of es) k row row there)
+    let there : slice_get (rows_of es) k ≡ Some row = ap (slice_get (rows_of es)) (sym back) ∙
+    (row_place es (k + 1) row h).1 in
+    take_more (rows_of es) k row (small_place (rows_of es) k row there) ∙ ap (λ r. take k (rows_of es) ++ r ∷ [])
+    (get_at (rows_of es) k row row there)
 
 pub rows_all : (es : List Entry) (k : ℕ) → rounds_of es ≤ k → take k (rows_of es) ≡ rows_of es
 rows_all es k past = let many = rounds_are es in take_all k (rows_of es) (omega (arith, many, past))

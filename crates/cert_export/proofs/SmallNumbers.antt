@@ -19,46 +19,56 @@ use Rattle.cert_export.proofs.CircuitNumbers.{position_below, among, number_belo
 any_inside : (q : ℕ) (xs : List ℕ) → list_any (eqb q) xs ≡ true → Contains xs q
 any_inside q [] h = cc
 any_inside q (x ∷ xs) h = by_bit (any_inside q xs) (eqb q x) refl h where
-  by_bit : (list_any (eqb q) xs ≡ true → Contains xs q) → (b : Bool) → eqb q x ≡ b → (b || list_any (eqb q) xs) ≡ true → Contains (x ∷ xs) q
+  by_bit : (list_any (eqb q) xs ≡ true → Contains xs q) → (b : Bool) → eqb q x ≡ b → (b || list_any (eqb q) xs) ≡ true →
+      Contains (x ∷ xs) q
   by_bit later true e k = (0, omega arith, sym (eqb-true q x e))
   by_bit later false e k = let r = later k in let low = r.1 in (suc r.0, omega (arith, low), r.2)
 
 -- a formula declares at most as many variables as it has
 pub few_declared : (f : Dqbf) → HasLawfulPrefix f → length (declared f) ≤ f.variables + 1
-few_declared f prefix = length-le_from_distinct_below (declared f) (f.variables + 1) (IsDistinct-from_AllPairs Decides-eqb (declared f) prefix.declared_once) below where
-  below : (q : ℕ) → list_any (eqb q) (declared f) ≡ true → q < f.variables + 1
-  below q h =
-      let range = All-contains (λ v. (1 ≤ v) × (v ≤ f.variables)) (declared f) q prefix.in_range (any_inside q (declared f) h) in
-      let most = range.1 in omega (arith, most)
+few_declared f prefix = length-le_from_distinct_below (declared f) (f.variables + 1)
+    (IsDistinct-from_AllPairs Decides-eqb (declared f) prefix.declared_once) below where
+      below : (q : ℕ) → list_any (eqb q) (declared f) ≡ true → q < f.variables + 1
+      below q h =
+          let range = All-contains (λ v. (1 ≤ v) × (v ≤ f.variables)) (declared f) q prefix.in_range
+          (any_inside q (declared f) h) in
+          let most = range.1 in omega (arith, most)
 
 -- a place from one is the place, counted from 0, and one more
 pub place_one : (xs : List ℕ) (v : ℕ) → place_from_one xs v ≡ option_map (λ p. p + 1) (position (λ x. x == v) xs)
-place_one xs v = by_bits (list_any (λ x. x == v) xs) (nat_lt (position_or_len (λ x. x == v) xs) (length xs)) refl refl where
-  place : ℕ
-  place = position_or_len (λ x. x == v) xs
+place_one xs v = by_bits (list_any (λ x. x == v) xs) (nat_lt (position_or_len (λ x. x == v) xs) (length xs)) refl
+    refl where
+      place : ℕ
+      place = position_or_len (λ x. x == v) xs
 
-  by_bits : (b c : Bool) → list_any (λ x. x == v) xs ≡ b → nat_lt place (length xs) ≡ c → cond b (Some (place + 1)) None ≡ option_map (λ p. p + 1) (cond c (Some place) None)
-  by_bits true true h k = refl
-  by_bits false false h k = refl
-  by_bits true false h k = absurd (true≢false (sym (lt-ltb place (length xs) (position_below v xs h)) ∙ k))
-  by_bits false true h k =
-      let below = ltb-true place (length xs) k in
-      let there = eqb-true (get_or xs place 0) v (passes_at_first (λ x. x == v) xs 0 below) in
-      absurd (true≢false (sym (among xs v (place, below, get_or_default xs place v 0 below ∙ there)) ∙ h))
+      by_bits : (b c : Bool) → list_any (λ x. x == v) xs ≡ b → nat_lt place (length xs) ≡ c →
+          cond b (Some (place + 1)) None ≡ option_map (λ p. p + 1) (cond c (Some place) None)
+      by_bits true true h k = refl
+      by_bits false false h k = refl
+      by_bits true false h k = absurd (true≢false (sym (lt-ltb place (length xs) (position_below v xs h)) ∙ k))
+      by_bits false true h k =
+          let below = ltb-true place (length xs) k in
+          let there = eqb-true (get_or xs place 0) v (passes_at_first (λ x. x == v) xs 0 below) in
+          absurd (true≢false (sym (among xs v (place, below, get_or_default xs place v 0 below ∙ there)) ∙ h))
 
 -- the numbers are few
-pub number_small : (f : Dqbf) (e : CircuitPart) (v n : ℕ) (o : Option Name) → IsSmall f e.gates → circuit_number f e v o ≡ Some n → (1 ≤ n) × (n ≤ 100000000000000000)
+pub number_small : (f : Dqbf) (e : CircuitPart) (v n : ℕ) (o : Option Name) → IsSmall f e.gates →
+    circuit_number f e v o ≡ Some n → (1 ≤ n) × (n ≤ 100000000000000000)
 number_small f e v n o small is = (number_from_one f e v o n is, by_case (number_cases f e v o n is)) where
   by_case : IsNumbered f e v o n → n ≤ 100000000000000000
   by_case (inl i) = let p = i.2.number in let b = i.2.below in let few = small.few_inputs in omega (arith, p, b, few)
-  by_case (inr (inl g)) = let p = g.1.number in let b = g.1.below in let is' = g.2 in let few = small.few_inputs in let some = small.few_gates in omega (arith, p, b, is', few, some)
-  by_case (inr (inr j)) = let a = j.3 in let b = j.4 in let few = small.few_inputs in let some = small.few_gates in let clauses = small.few_clauses in omega (arith, a, b, few, some, clauses)
+  by_case (inr (inl g)) = let p = g.1.number in let b = g.1.below in let is' = g.2 in let few = small.few_inputs in
+      let some = small.few_gates in omega (arith, p, b, is', few, some)
+  by_case (inr (inr j)) = let a = j.3 in let b = j.4 in let few = small.few_inputs in let some = small.few_gates in
+      let clauses = small.few_clauses in omega (arith, a, b, few, some, clauses)
 
-pub numbers_small : (f : Dqbf) (e : CircuitPart) (v : ℕ) (o : Option Name) (result : Option ℕ) → IsSmall f e.gates → result ≡ circuit_number f e v o → IfSome result (λ n. (1 ≤ n) × (n ≤ 100000000000000000))
+pub numbers_small : (f : Dqbf) (e : CircuitPart) (v : ℕ) (o : Option Name) (result : Option ℕ) → IsSmall f e.gates →
+    result ≡ circuit_number f e v o → IfSome result (λ n. (1 ≤ n) × (n ≤ 100000000000000000))
 numbers_small f e v o None small is = tt
 numbers_small f e v o (Some n) small is = number_small f e v n o small (sym is)
 
-pub clause_small : {X : Type 0} (xs : List X) (j : ℕ) (result : Option ℕ) → length xs ≤ 10000000 → result ≡ option_map (λ c. j) (numbered_from_one xs j) → IfSome result (λ n. n ≤ 100000000000000000)
+pub clause_small : {X : Type 0} (xs : List X) (j : ℕ) (result : Option ℕ) → length xs ≤ 10000000 →
+    result ≡ option_map (λ c. j) (numbered_from_one xs j) → IfSome result (λ n. n ≤ 100000000000000000)
 clause_small xs j None few is = tt
 clause_small {X} xs j (Some n) few is = by_option (numbered_from_one xs j) refl is where
   by_option : (o : Option X) → numbered_from_one xs j ≡ o → Some n ≡ option_map (λ c. j) o → n ≤ 100000000000000000

@@ -23,43 +23,56 @@ use Rattle.cert_export.specs.ExportedCircuit.{number_names, number_symbols, Writ
 use Rattle.cert_export.proofs.ExportedCircuits.{mapped_inside, exported_circuit_is_complete, exported_circuit_is_netlist, sides_grounded}
 
 -- the name of a place
-named_at : (from : ℕ) (vs : List ℕ) (p : ℕ) → p < length vs → name_at (number_names from vs) (from + p) ≡ Some (decimal (slice_index vs p))
+named_at : (from : ℕ) (vs : List ℕ) (p : ℕ) → p < length vs →
+    name_at (number_names from vs) (from + p) ≡ Some (decimal (slice_index vs p))
 named_at from [] p below = absurd (omega arith)
 named_at from (v ∷ vs) zero below =
-    cond-true (nat_eq (from + 0) from) (Some (decimal v)) (name_at (number_names (from + 1) vs) (from + 0)) (eq-eqb (from + 0) from (omega arith))
+    cond-true (nat_eq (from + 0) from) (Some (decimal v)) (name_at (number_names (from + 1) vs) (from + 0))
+    (eq-eqb (from + 0) from (omega arith))
 named_at from (v ∷ vs) (suc p) below =
     let e : from + suc p ≡ from + 1 + p = omega arith in
-    cond-false (nat_eq (from + suc p) from) (Some (decimal v)) (name_at (number_names (from + 1) vs) (from + suc p)) (ne_eqb (from + suc p) from (λ same. omega (arith, same)))
+    cond-false (nat_eq (from + suc p) from) (Some (decimal v)) (name_at (number_names (from + 1) vs) (from + suc p))
+    (ne_eqb (from + suc p) from (λ same. omega (arith, same)))
     ∙ ap (name_at (number_names (from + 1) vs)) e ∙ named_at (from + 1) vs p (omega arith)
 
 from_zero : (vs : List ℕ) (p : ℕ) → p < length vs → name_at (number_names 0 vs) p ≡ Some (decimal (slice_index vs p))
 from_zero vs p below = let e : p ≡ 0 + p = omega arith in ap (name_at (number_names 0 vs)) e ∙ named_at 0 vs p below
 
 pub written_symbols_are_numbers : WrittenSymbolsAreNumbers
-written_symbols_are_numbers f = record { inputs = from_zero f.universals; outputs = from_zero (existential_variables f) }
+written_symbols_are_numbers f = record {
+  inputs = from_zero f.universals;
+  outputs =
+      from_zero (existential_variables f);
+}
 
 -- places from one on, each once
-placed : (from bound : ℕ) (vs : List ℕ) → from + length vs ≤ bound → All (λ symbol. symbol.0 < bound) (number_names from vs)
+placed : (from bound : ℕ) (vs : List ℕ) → from + length vs ≤ bound →
+    All (λ symbol. symbol.0 < bound) (number_names from vs)
 placed from bound [] most = All-nil (λ (symbol : ℕ × List ℕ). symbol.0 < bound)
 placed from bound (v ∷ vs) most =
-    All-cons (λ (symbol : ℕ × List ℕ). symbol.0 < bound) (from, decimal v) (number_names (from + 1) vs) (omega (arith, most)) (placed (from + 1) bound vs (omega (arith, most)))
+    All-cons (λ (symbol : ℕ × List ℕ). symbol.0 < bound) (from, decimal v) (number_names (from + 1) vs)
+    (omega (arith, most)) (placed (from + 1) bound vs (omega (arith, most)))
 
 apart : (place from : ℕ) (vs : List ℕ) → place < from → All (λ symbol. place ≢ symbol.0) (number_names from vs)
 apart place from [] less = All-nil (λ (symbol : ℕ × List ℕ). place ≢ symbol.0)
 apart place from (v ∷ vs) less =
-    All-cons (λ (symbol : ℕ × List ℕ). place ≢ symbol.0) (from, decimal v) (number_names (from + 1) vs) (λ same. omega (arith, less, same)) (apart place (from + 1) vs (omega (arith, less)))
+    All-cons (λ (symbol : ℕ × List ℕ). place ≢ symbol.0) (from, decimal v) (number_names (from + 1) vs)
+    (λ same. omega (arith, less, same)) (apart place (from + 1) vs (omega (arith, less)))
 
 once : (from : ℕ) (vs : List ℕ) → AllPairs (λ a b. a.0 ≢ b.0) (number_names from vs)
 once from [] = λ i j d less below. absurd (omega arith)
-once from (v ∷ vs) = AllPairs-cons (λ (a b : ℕ × List ℕ). a.0 ≢ b.0) (from, decimal v) (number_names (from + 1) vs) (apart from (from + 1) vs (omega arith)) (once (from + 1) vs)
+once from (v ∷ vs) = AllPairs-cons (λ (a b : ℕ × List ℕ). a.0 ≢ b.0) (from, decimal v) (number_names (from + 1) vs)
+    (apart from (from + 1) vs (omega arith)) (once (from + 1) vs)
 
 are_names : (count : ℕ) (vs : List ℕ) → count ≡ length vs → AreNames count (number_names 0 vs)
 are_names count vs is = record { placed = placed 0 count vs (omega (arith, is)); once = once 0 vs }
 
-named : (from : ℕ) (vs : List ℕ) → ((v : ℕ) → Contains vs v → IsName (decimal v)) → All (λ symbol. IsName symbol.1) (number_names from vs)
+named : (from : ℕ) (vs : List ℕ) → ((v : ℕ) → Contains vs v → IsName (decimal v)) →
+    All (λ symbol. IsName symbol.1) (number_names from vs)
 named from [] names = All-nil (λ (symbol : ℕ × List ℕ). IsName symbol.1)
 named from (v ∷ vs) names =
-    All-cons (λ (symbol : ℕ × List ℕ). IsName symbol.1) (from, decimal v) (number_names (from + 1) vs) (names v (0, omega arith, refl))
+    All-cons (λ (symbol : ℕ × List ℕ). IsName symbol.1) (from, decimal v) (number_names (from + 1) vs)
+    (names v (0, omega arith, refl))
     (named (from + 1) vs (λ w inside. let b = inside.1 in names w (suc inside.0, omega (arith, b), inside.2)))
 
 -- what is grounded is defined
@@ -68,14 +81,17 @@ meant net n constant = inl refl
 meant net n (input inside) = inr (inl inside)
 meant net n (gate g inside on_left on_right) = inr (inr (mapped_inside variable_of_gate net.gates g inside))
 
-module _ (f : Dqbf) (entries : List Entry) (e : CircuitPart) (prefix : HasLawfulPrefix f) (small : f.variables < 10 ^ 18) (lawful : AreLogged entries)
-    (given : HasUniversalInputs f entries) (part : IsCircuitPart f entries e) (names : (n : ℕ) → n < 10 ^ 18 → IsName (decimal n))
+module _ (f : Dqbf) (entries : List Entry) (e : CircuitPart) (prefix : HasLawfulPrefix f)
+    (small : f.variables < 10 ^ 18) (lawful : AreLogged entries)
+    (given : HasUniversalInputs f entries) (part : IsCircuitPart f entries e)
+    (names : (n : ℕ) → n < 10 ^ 18 → IsName (decimal n))
     (few_variables : max_number f e ≤ 1000000000) (few_outputs : length f.existentials ≤ 1000000000) where
   abbrev net : Netlist
   net = exported_netlist f entries e
 
   declared_name : (v : ℕ) → Contains (declared f) v → IsName (decimal v)
-  declared_name v inside = let r = (All-contains (λ x. (1 ≤ x) × (x ≤ f.variables)) (declared f) v prefix.in_range inside).1 in names v (omega (arith, r, small))
+  declared_name v inside = let r = (All-contains (λ x. (1 ≤ x) × (x ≤ f.variables))
+      (declared f) v prefix.in_range inside).1 in names v (omega (arith, r, small))
 
   many_inputs : length net.inputs ≡ length f.universals
   many_inputs = length-range_with_len 1 (length f.universals)
@@ -89,7 +105,8 @@ module _ (f : Dqbf) (entries : List Entry) (e : CircuitPart) (prefix : HasLawful
       let many = length-map e.gates (λ v. gate_of (circuit_renaming f entries e) v (name_of entries v)) in
       let inputs = many_inputs in
       let outputs = many_outputs in
-      let over : (net' : Netlist) → net' ≡ net → IsSpellable (record { circuit = net'; symbols = number_symbols f; comment = file.comment }) = λ net' is. subst
+      let over : (net' : Netlist) → net' ≡ net → IsSpellable
+      (record { circuit = net'; symbols = number_symbols f; comment = file.comment }) = λ net' is. subst
       (λ n. IsSpellable (record { circuit = n; symbols = number_symbols f; comment = file.comment })) (sym is) (record {
         enough = omega (arith, many, inputs);
         few_variables = few_variables;
@@ -97,12 +114,17 @@ module _ (f : Dqbf) (entries : List Entry) (e : CircuitPart) (prefix : HasLawful
         lawful = exported_circuit_is_netlist f entries e lawful given part (omega (arith, few_variables));
         outputs_mean = λ k d below. meant net (literal_variable (get_or net.outputs k d)) (complete.outputs k d below);
         gates_mean = λ k d below.
-            let both = sides_grounded f entries e lawful given part (get_or net.gates k d) (Contains-get_or net.gates k d below) in
+            let both = sides_grounded f entries e lawful given part (get_or net.gates k d)
+            (Contains-get_or net.gates k d below) in
             (meant net _ both.0, meant net _ both.1);
         acyclic = complete.gates;
         input_names = are_names (length net.inputs) f.universals inputs;
-        output_names = are_names (length net.outputs) (existential_variables f) (outputs ∙ sym (length-map f.existentials (λ y. y.variable)));
-        inputs_named = named 0 f.universals (λ v inside. declared_name v (Contains-append_left f.universals (existential_variables f) v inside));
-        outputs_named = named 0 (existential_variables f) (λ v inside. declared_name v (Contains-append_right f.universals (existential_variables f) v inside));
+        output_names = are_names (length net.outputs) (existential_variables f)
+            (outputs ∙ sym (length-map f.existentials (λ y. y.variable)));
+        inputs_named = named 0 f.universals (λ v inside. declared_name v
+            (Contains-append_left f.universals (existential_variables f) v inside));
+        outputs_named = named 0 (existential_variables f) (λ v inside. declared_name v
+            (Contains-append_right f.universals (existential_variables f) v inside));
       }) in
-      subst (λ s. IsSpellable (record { circuit = file.circuit; symbols = s; comment = file.comment })) (sym symbols) (over file.circuit circuit)
+      subst (λ s. IsSpellable (record { circuit = file.circuit; symbols = s; comment = file.comment })) (sym symbols)
+      (over file.circuit circuit)

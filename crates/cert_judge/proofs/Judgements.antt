@@ -29,7 +29,8 @@ read_is_declared : (Reads : ℕ → ℕ → Type 0) (f : Dqbf) (y : Existential)
 read_is_declared Reads f y x end r below declared =
     r.undeclared (subst (Contains y.sees) r.is (declared r.place below (subst (Reads y.variable) (sym r.is) r.reads)))
 
-one_read : (Reads : ℕ → ℕ → Type 0) (f : Dqbf) (y : Existential) (x w : ℕ) → IsFirstRead Reads f y x → IsFirstRead Reads f y w → x ≡ w
+one_read : (Reads : ℕ → ℕ → Type 0) (f : Dqbf) (y : Existential) (x w : ℕ) → IsFirstRead Reads f y x →
+    IsFirstRead Reads f y w → x ≡ w
 one_read Reads f y x w r s =
     elim (cases_order r.place s.place) [
       | inl same ↦ sym r.is ∙ ap (slice_index f.universals) same ∙ s.is
@@ -37,17 +38,21 @@ one_read Reads f y x w r s =
       | inr (inr later) ↦ absurd (read_is_declared Reads f y w r.place s later r.first)
     ]
 
-undeclared_is_declared : (Reads : ℕ → ℕ → Type 0) (f : Dqbf) (y x : ℕ) (r : IsFirstUndeclared Reads f y x) (end : ℕ) → r.place < end
+undeclared_is_declared : (Reads : ℕ → ℕ → Type 0) (f : Dqbf) (y x : ℕ) (r : IsFirstUndeclared Reads f y x) (end : ℕ) →
+    r.place < end
     → ((p : ℕ) → p < end → ReadsDeclaredBefore Reads f (existential_at f p) (length f.universals)) → ⊥
 undeclared_is_declared Reads f y x r end below declared =
-    read_is_declared Reads f (existential_at f r.place) x (length f.universals) r.read r.read.in_range (declared r.place below)
+    read_is_declared Reads f (existential_at f r.place) x (length f.universals) r.read r.read.in_range
+    (declared r.place below)
 
-one_undeclared : (Reads : ℕ → ℕ → Type 0) (f : Dqbf) (y x z w : ℕ) → IsFirstUndeclared Reads f y x → IsFirstUndeclared Reads f z w → (y ≡ z) × (x ≡ w)
+one_undeclared : (Reads : ℕ → ℕ → Type 0) (f : Dqbf) (y x z w : ℕ) → IsFirstUndeclared Reads f y x →
+    IsFirstUndeclared Reads f z w → (y ≡ z) × (x ≡ w)
 one_undeclared Reads f y x z w r s =
     elim (cases_order r.place s.place) [
       | inl same ↦ (
         sym r.is ∙ ap (λ p. (existential_at f p).variable) same ∙ s.is,
-        one_read Reads f (existential_at f s.place) x w (subst (λ p. IsFirstRead Reads f (existential_at f p) x) same r.read) s.read,
+        one_read Reads f (existential_at f s.place) x w (subst
+            (λ p. IsFirstRead Reads f (existential_at f p) x) same r.read) s.read,
       )
       | inr (inl earlier) ↦ absurd (undeclared_is_declared Reads f y x r s.place earlier s.first)
       | inr (inr later) ↦ absurd (undeclared_is_declared Reads f z w s r.place later r.first)
@@ -55,7 +60,8 @@ one_undeclared Reads f y x z w r s =
 
 row_is_one : (f : Dqbf) (c : MappedCircuit) (k : ℕ) → RowHolds f c k → RowFails f c k → ⊥
 row_is_one f c k holds fails =
-    let true_there = list_all-from_AllPass (clause_true fails.assignment) f.matrix (holds fails.assignment fails.row fails.follows) in
+    let true_there = list_all-from_AllPass (clause_true fails.assignment) f.matrix
+    (holds fails.assignment fails.row fails.follows) in
     let both : true ≡ false = sym true_there ∙ fails.clause_false in
     cc
 
@@ -68,13 +74,16 @@ one_bad Holds Fails end k j exclude (k_below, k_before, k_fails) (j_below, j_bef
       | inr (inr later) ↦ absurd (exclude j (k_before j later) j_fails)
     ]
 
-read_and_passes : (c : Candidate) (proof : Option Dqp) (a b : Answer) → HasUndeclaredRead c a → PassesReads proof c b → ⊥
+read_and_passes : (c : Candidate) (proof : Option Dqp) (a b : Answer) → HasUndeclaredRead c a →
+    PassesReads proof c b → ⊥
 read_and_passes c proof a b r s =
-    undeclared_is_declared (ReadsUniversal c.circuit) c.formula r.existential r.universal r.first (length c.formula.existentials) r.first.in_range s.reads
+    undeclared_is_declared (ReadsUniversal c.circuit) c.formula r.existential r.universal r.first
+    (length c.formula.existentials) r.first.in_range s.reads
 
 one_undeclared_read : (c : Candidate) (a b : Answer) → HasUndeclaredRead c a → HasUndeclaredRead c b → a ≡ b
 one_undeclared_read c a b r s =
-    let (same_y, same_x) = one_undeclared (ReadsUniversal c.circuit) c.formula r.existential r.universal s.existential s.universal r.first s.first in
+    let (same_y, same_x) = one_undeclared (ReadsUniversal c.circuit) c.formula r.existential r.universal s.existential
+    s.universal r.first s.first in
     r.is ∙ ap (λ y. UndeclaredRead y r.universal) same_y ∙ ap (UndeclaredRead s.existential) same_x ∙ sym s.is
 
 one_by_rows : (f : Dqbf) (c : MappedCircuit) (a b : Answer) → IsTestedByRows f c a → IsTestedByRows f c b → a ≡ b
@@ -91,7 +100,8 @@ one_by_rows f c (BadRow k) b r s = bad_row_is b s
     bad_row_is (UnderivedStep id) impossible = absurd impossible
     bad_row_is NoEmptyClause impossible = absurd impossible
     bad_row_is ValidFalse impossible = absurd impossible
-    bad_row_is (BadRow j) (_, s) = ap BadRow (one_bad (RowHolds f c) (RowFails f c) (2 ^ length f.universals) k j (row_is_one f c) r.1 s)
+    bad_row_is (BadRow j) (_, s) = ap BadRow (one_bad (RowHolds f c) (RowFails f c) (2 ^ length f.universals) k j
+        (row_is_one f c) r.1 s)
     bad_row_is (Unproved n) (many, same) = let few = r.0 in absurd (omega (arith, few, many, same))
     bad_row_is ValidTrue (_, s) = absurd (row_is_one f c k (s k r.1.0) r.1.2)
 one_by_rows f c (Unproved n) b r s = unproved_is b s
@@ -117,7 +127,8 @@ one_by_rows f c ValidTrue b r s = valid_is b s
     valid_is (Unproved n) (many, same) = let few = r.0 in absurd (omega (arith, few, many, same))
     valid_is ValidTrue _ = refl
 
-one_tested_by : (proof : Option Dqp) (c : Candidate) (a b : Answer) → IsTestedBy proof c a → IsTestedBy proof c b → a ≡ b
+one_tested_by : (proof : Option Dqp) (c : Candidate) (a b : Answer) → IsTestedBy proof c a →
+    IsTestedBy proof c b → a ≡ b
 one_tested_by (Some d) c a b r s = r ∙ sym s
 one_tested_by None c a b r s = one_by_rows c.formula c.circuit a b r s
 
@@ -132,34 +143,45 @@ one_behind_mapping : (h : ℕ) (net : Netlist) (proof : Option Dqp) (mapped : Re
 one_behind_mapping h net proof (Err fault) a b r s = r ∙ sym s
 one_behind_mapping h net proof (Ok c) a b r s = one_tested proof c a b r s
 
-one_behind_proof : (h : ℕ) (net : Netlist) (read : Result (Option Dqp) CertRefusal) (mapped : Result Candidate MapError) (a b : Answer)
+one_behind_proof : (h : ℕ) (net : Netlist) (read : Result (Option Dqp) CertRefusal) (mapped : Result Candidate MapError)
+    (a b : Answer)
     → BehindProof h net read mapped a → BehindProof h net read mapped b → a ≡ b
 one_behind_proof h net (Err refusal) mapped a b r s = r ∙ sym s
 one_behind_proof h net (Ok proof) mapped a b r s = one_behind_mapping h net proof mapped a b r s
 
-one_circuit_judgement : (f : Dqbf) (h : ℕ) (text : List ℕ) (file : AagFile) (a b : Answer) → IsCircuitJudgement f h text file a → IsCircuitJudgement f h text file b → a ≡ b
+one_circuit_judgement : (f : Dqbf) (h : ℕ) (text : List ℕ) (file : AagFile) (a b : Answer) →
+    IsCircuitJudgement f h text file a → IsCircuitJudgement f h text file b → a ≡ b
 one_circuit_judgement f h text file a b =
-    one_behind_proof h file.circuit (proof_in f h (line_ends text) file.circuit file.comment) (candidate_of f file.circuit file.symbols) a b
+    one_behind_proof h file.circuit (proof_in f h (line_ends text) file.circuit file.comment)
+    (candidate_of f file.circuit file.symbols) a b
 
 -- what the law of the circuits' grammar gives
 pub record CircuitLaw : Type 0 where
   pub unique : (text : List ℕ) (f g : AagFile) → SpellsCircuit text f → SpellsCircuit text g → f ≡ g
-  pub never_both : (text : List ℕ) (first : ℕ) (file : AagFile) (fault : LineFault) → SpellsCircuit text file → ¬ IsFirstFault text first fault
-  pub one_fault : (text : List ℕ) (first : ℕ) (f g : LineFault) → IsFirstFault text first f → IsFirstFault text first g → f ≡ g
+  pub never_both : (text : List ℕ) (first : ℕ) (file : AagFile) (fault : LineFault) → SpellsCircuit text file →
+      ¬ IsFirstFault text first fault
+  pub one_fault : (text : List ℕ) (first : ℕ) (f g : LineFault) → IsFirstFault text first f →
+      IsFirstFault text first g → f ≡ g
 
-by_file_or_fault : CircuitLaw → (f : Dqbf) (h : ℕ) (text : List ℕ) (a b : Answer) → IsCircuitRefusal h text a ⊎ IsCircuitAnswer f h text a → IsCircuitRefusal h text b ⊎ IsCircuitAnswer f h text b → a ≡ b
+by_file_or_fault : CircuitLaw → (f : Dqbf) (h : ℕ) (text : List ℕ) (a b : Answer) →
+    IsCircuitRefusal h text a ⊎ IsCircuitAnswer f h text a →
+    IsCircuitRefusal h text b ⊎ IsCircuitAnswer f h text b → a ≡ b
 by_file_or_fault law f h text a b (inl r) (inl s) =
-    r.is ∙ ap (λ (fault : LineFault). Refused fault.line (Circuit fault.name)) (law.one_fault text h r.fault s.fault r.is_first s.is_first) ∙ sym s.is
+    r.is ∙ ap (λ (fault : LineFault). Refused fault.line (Circuit fault.name))
+    (law.one_fault text h r.fault s.fault r.is_first s.is_first) ∙ sym s.is
 by_file_or_fault law f h text a b (inl r) (inr s) = absurd (law.never_both text h s.file r.fault s.spelled r.is_first)
 by_file_or_fault law f h text a b (inr r) (inl s) = absurd (law.never_both text h r.file s.fault r.spelled s.is_first)
 by_file_or_fault law f h text a b (inr r) (inr s) =
     one_circuit_judgement f h text s.file a b
-    (subst (λ (file : AagFile). IsCircuitJudgement f h text file a) (law.unique text r.file s.file r.spelled s.spelled) r.is) s.is
+    (subst (λ (file : AagFile). IsCircuitJudgement f h text file a)
+    (law.unique text r.file s.file r.spelled s.spelled) r.is) s.is
 
-by_kind : CircuitLaw → (kind : Result Kind CertRefusal) (f : Dqbf) (text : List ℕ) (a b : Answer) → IsJudgementOf f text kind a → IsJudgementOf f text kind b → a ≡ b
+by_kind : CircuitLaw → (kind : Result Kind CertRefusal) (f : Dqbf) (text : List ℕ) (a b : Answer) →
+    IsJudgementOf f text kind a → IsJudgementOf f text kind b → a ≡ b
 by_kind law (Ok (CircuitText at h)) f text a b r s = by_file_or_fault law f h (drop at text) a b r s
 by_kind law (Ok (Refutation at h)) f text a b r s = r ∙ sym s
 by_kind law (Err refusal) f text a b r s = r ∙ sym s
 
-pub one_judgement : CircuitLaw → (f : Dqbf) (text : List ℕ) (a b : Answer) → IsJudgement f text a → IsJudgement f text b → a ≡ b
+pub one_judgement : CircuitLaw → (f : Dqbf) (text : List ℕ) (a b : Answer) → IsJudgement f text a →
+    IsJudgement f text b → a ≡ b
 one_judgement law f text a b r s = by_kind law (certificate_kind text) f text a b r s

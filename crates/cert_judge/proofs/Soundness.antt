@@ -58,11 +58,13 @@ no_fault None same = refl
 no_fault (Some (underived id)) same = cc
 no_fault (Some unfinished) same = cc
 
-module _ (law : TestsLaw) (f : Dqbf) (net : Netlist) (symbols : SymbolTable) (formed : IsWellFormed f) (kept : IsNetlist net) (complete : IsComplete net) where
+module _ (law : TestsLaw) (f : Dqbf) (net : Netlist) (symbols : SymbolTable) (formed : IsWellFormed f)
+    (kept : IsNetlist net) (complete : IsComplete net) where
   abbrev mapped_by : Mapping → Candidate
   mapped_by mapping = record { formula = f; circuit = record { netlist = net; mapping = mapping } }
 
-  true_by_tests : (proof : Option Dqp) (mapping : Mapping) → mapping_of f net symbols ≡ Ok mapping → IsTested proof (mapped_by mapping) ValidTrue → IsSkolemCircuit f net symbols
+  true_by_tests : (proof : Option Dqp) (mapping : Mapping) → mapping_of f net symbols ≡ Ok mapping →
+      IsTested proof (mapped_by mapping) ValidTrue → IsSkolemCircuit f net symbols
   true_by_tests proof mapping is (inl r) = absurd (true_is_no_read r.existential r.universal r.is)
   true_by_tests None mapping is (inr r) =
       law.skolem (mapped_by mapping) symbols formed.prefix (ap (with_mapping f net) is) r.reads r.tested.1
@@ -72,10 +74,12 @@ module _ (law : TestsLaw) (f : Dqbf) (net : Netlist) (symbols : SymbolTable) (fo
 
   true_by_mapping : (h : ℕ) (proof : Option Dqp) (mapped : Result Mapping MapError) → mapping_of f net symbols ≡ mapped
       → BehindMapping h net proof (with_mapping f net mapped) ValidTrue → IsSkolemCircuit f net symbols
-  true_by_mapping h proof (Err fault) is r = absurd (true_is_no_refusal (mapping_line h net fault.at) (BadMapping fault.name) r)
+  true_by_mapping h proof (Err fault) is r = absurd (true_is_no_refusal (mapping_line h net fault.at)
+      (BadMapping fault.name) r)
   true_by_mapping h proof (Ok mapping) is r = true_by_tests proof mapping is r
 
-  true_by_proof : (h : ℕ) (read : Result (Option Dqp) CertRefusal) → BehindProof h net read (candidate_of f net symbols) ValidTrue → IsSkolemCircuit f net symbols
+  true_by_proof : (h : ℕ) (read : Result (Option Dqp) CertRefusal) →
+      BehindProof h net read (candidate_of f net symbols) ValidTrue → IsSkolemCircuit f net symbols
   true_by_proof h (Err refusal) r = absurd (true_is_no_refusal refusal.line (Text refusal.name) r)
   true_by_proof h (Ok proof) r = true_by_mapping h proof (mapping_of f net symbols) refl r
 
@@ -88,27 +92,34 @@ true_is_no_refutation : (f : Dqbf) (read : Result Dqr CertRefusal) → ValidTrue
 true_is_no_refutation f (Ok d) same = true_is_no_derivation (refutation_fault f d) same
 true_is_no_refutation f (Err refusal) same = true_is_no_refusal refusal.line (Text refusal.name) same
 
-circuit_by_kind : TestsLaw → (kind : Result Kind CertRefusal) (f : Dqbf) (text : List ℕ) → certificate_kind text ≡ kind → IsWellFormed f → IsJudgementOf f text kind ValidTrue → HoldsSkolemCircuit f text
-circuit_by_kind law (Ok (CircuitText at h)) f text is formed (inl r) = absurd (true_is_no_refusal r.fault.line (Circuit r.fault.name) r.is)
+circuit_by_kind : TestsLaw → (kind : Result Kind CertRefusal) (f : Dqbf) (text : List ℕ) →
+    certificate_kind text ≡ kind → IsWellFormed f → IsJudgementOf f text kind ValidTrue → HoldsSkolemCircuit f text
+circuit_by_kind law (Ok (CircuitText at h)) f text is formed (inl r) =
+    absurd (true_is_no_refusal r.fault.line (Circuit r.fault.name) r.is)
 circuit_by_kind law (Ok (CircuitText at h)) f text is formed (inr r) = record {
   at = at;
   header_line = h;
   kind = is;
   file = r.file;
   spelled = r.spelled;
-  skolem = true_by_proof law f r.file.circuit r.file.symbols formed r.spelled.lawful (spelled_complete (drop at text) r.file r.spelled) h
+  skolem = true_by_proof law f r.file.circuit r.file.symbols formed r.spelled.lawful
+      (spelled_complete (drop at text) r.file r.spelled) h
       (proof_in f h (line_ends (drop at text)) r.file.circuit r.file.comment) r.is;
 }
-circuit_by_kind law (Ok (Refutation at h)) f text is formed r = absurd (true_is_no_refutation f (refutation_of f (drop at text) h) r)
+circuit_by_kind law (Ok (Refutation at h)) f text is formed r =
+    absurd (true_is_no_refutation f (refutation_of f (drop at text) h) r)
 circuit_by_kind law (Err refusal) f text is formed r = absurd (true_is_no_refusal refusal.line (Text refusal.name) r)
 
-pub accepted_circuit : TestsLaw → (f : Dqbf) (text : List ℕ) → IsWellFormed f → IsJudgement f text ValidTrue → HoldsSkolemCircuit f text
+pub accepted_circuit : TestsLaw → (f : Dqbf) (text : List ℕ) → IsWellFormed f → IsJudgement f text ValidTrue →
+    HoldsSkolemCircuit f text
 accepted_circuit law f text formed r = circuit_by_kind law (certificate_kind text) f text refl formed r
 
-pub accepted_is_true : TestsLaw → (f : Dqbf) (text : List ℕ) → IsWellFormed f → IsJudgement f text ValidTrue → IsTrueFormula f
+pub accepted_is_true : TestsLaw → (f : Dqbf) (text : List ℕ) → IsWellFormed f → IsJudgement f text ValidTrue →
+    IsTrueFormula f
 accepted_is_true law f text formed r =
     let h = accepted_circuit law f text formed r in
-    law.is_true f h.file.circuit h.file.symbols formed.prefix h.spelled.lawful (spelled_complete (drop h.at text) h.file h.spelled) h.skolem
+    law.is_true f h.file.circuit h.file.symbols formed.prefix h.spelled.lawful
+    (spelled_complete (drop h.at text) h.file h.spelled) h.skolem
 
 false_is_no_read : (y x : ℕ) → ValidFalse ≡ UndeclaredRead y x → ⊥
 false_is_no_read y x same = cc
@@ -123,30 +134,39 @@ false_by_tests proof c (inl r) = false_is_no_read r.existential r.universal r.is
 false_by_tests None c (inr r) = r.tested
 false_by_tests (Some d) c (inr r) = false_is_no_proof (circuit_proof_fault c d.items) r.tested
 
-false_by_mapping : (h : ℕ) (net : Netlist) (proof : Option Dqp) (mapped : Result Candidate MapError) → BehindMapping h net proof mapped ValidFalse → ⊥
+false_by_mapping : (h : ℕ) (net : Netlist) (proof : Option Dqp) (mapped : Result Candidate MapError) →
+    BehindMapping h net proof mapped ValidFalse → ⊥
 false_by_mapping h net proof (Err fault) r = false_is_no_refusal (mapping_line h net fault.at) (BadMapping fault.name) r
 false_by_mapping h net proof (Ok c) r = false_by_tests proof c r
 
-false_by_proof : (h : ℕ) (net : Netlist) (read : Result (Option Dqp) CertRefusal) (mapped : Result Candidate MapError) → BehindProof h net read mapped ValidFalse → ⊥
+false_by_proof : (h : ℕ) (net : Netlist) (read : Result (Option Dqp) CertRefusal) (mapped : Result Candidate MapError) →
+    BehindProof h net read mapped ValidFalse → ⊥
 false_by_proof h net (Err refusal) mapped r = false_is_no_refusal refusal.line (Text refusal.name) r
 false_by_proof h net (Ok proof) mapped r = false_by_mapping h net proof mapped r
 
-false_by_derivation : RefutationLaw → (f : Dqbf) (d : Dqr) → IsWellFormed f → (fault : Option ProofFault) → refutation_fault f d ≡ fault
+false_by_derivation : RefutationLaw → (f : Dqbf) (d : Dqr) → IsWellFormed f → (fault : Option ProofFault) →
+    refutation_fault f d ≡ fault
     → ValidFalse ≡ answer_of_derivation ValidFalse fault → IsFalseFormula f
 false_by_derivation law f d formed None is same = law f d formed is
 false_by_derivation law f d formed (Some (underived id)) is same = cc
 false_by_derivation law f d formed (Some unfinished) is same = cc
 
-false_by_refutation : RefutationLaw → (f : Dqbf) → IsWellFormed f → (read : Result Dqr CertRefusal) → ValidFalse ≡ answer_of_refutation f read → IsFalseFormula f
+false_by_refutation : RefutationLaw → (f : Dqbf) → IsWellFormed f → (read : Result Dqr CertRefusal) →
+    ValidFalse ≡ answer_of_refutation f read → IsFalseFormula f
 false_by_refutation law f formed (Ok d) same = false_by_derivation law f d formed (refutation_fault f d) refl same
 false_by_refutation law f formed (Err refusal) same = absurd (false_is_no_refusal refusal.line (Text refusal.name) same)
 
-false_by_kind : RefutationLaw → (kind : Result Kind CertRefusal) (f : Dqbf) (text : List ℕ) → IsWellFormed f → IsJudgementOf f text kind ValidFalse → IsFalseFormula f
-false_by_kind law (Ok (CircuitText at h)) f text formed (inl r) = absurd (false_is_no_refusal r.fault.line (Circuit r.fault.name) r.is)
+false_by_kind : RefutationLaw → (kind : Result Kind CertRefusal) (f : Dqbf) (text : List ℕ) → IsWellFormed f →
+    IsJudgementOf f text kind ValidFalse → IsFalseFormula f
+false_by_kind law (Ok (CircuitText at h)) f text formed (inl r) =
+    absurd (false_is_no_refusal r.fault.line (Circuit r.fault.name) r.is)
 false_by_kind law (Ok (CircuitText at h)) f text formed (inr r) =
-    absurd (false_by_proof h r.file.circuit (proof_in f h (line_ends (drop at text)) r.file.circuit r.file.comment) (candidate_of f r.file.circuit r.file.symbols) r.is)
-false_by_kind law (Ok (Refutation at h)) f text formed r = false_by_refutation law f formed (refutation_of f (drop at text) h) r
+    absurd (false_by_proof h r.file.circuit (proof_in f h (line_ends (drop at text)) r.file.circuit r.file.comment)
+    (candidate_of f r.file.circuit r.file.symbols) r.is)
+false_by_kind law (Ok (Refutation at h)) f text formed r = false_by_refutation law f formed
+    (refutation_of f (drop at text) h) r
 false_by_kind law (Err refusal) f text formed r = absurd (false_is_no_refusal refusal.line (Text refusal.name) r)
 
-pub accepted_is_false : RefutationLaw → (f : Dqbf) (text : List ℕ) → IsWellFormed f → IsJudgement f text ValidFalse → IsFalseFormula f
+pub accepted_is_false : RefutationLaw → (f : Dqbf) (text : List ℕ) → IsWellFormed f → IsJudgement f text ValidFalse →
+    IsFalseFormula f
 accepted_is_false law f text formed r = false_by_kind law (certificate_kind text) f text formed r

@@ -39,7 +39,8 @@ zero_is_word = (refl, tt)
 abbrev header_tokens : Version → ℕ → ℕ → Tokens
 header_tokens version rows items = codes "p" ∷ refutation_word version ∷ decimal rows ∷ decimal items ∷ []
 
-counts_bytes : (rows items : ℕ) (rest : List ℕ) → (number_text rows ++ (decimal items ++ 10 ∷ [])) ++ rest ≡ spaced (decimal rows ∷ []) ++ (decimal items ++ 10 ∷ rest)
+counts_bytes : (rows items : ℕ) (rest : List ℕ) → (number_text rows ++ (decimal items ++ 10 ∷ [])) ++ rest ≡ spaced
+    (decimal rows ∷ []) ++ (decimal items ++ 10 ∷ rest)
 counts_bytes rows items rest =
     append_assoc (number_text rows) (decimal items ++ 10 ∷ []) rest
     ∙ ap₂ (λ xs ys. xs ++ ys) (sym (append-nil (number_text rows))) (append_assoc (decimal items) (10 ∷ []) rest)
@@ -53,7 +54,8 @@ header_line One rows items rest few_rows few_items =
 header_line Two rows items rest few_rows few_items =
     ap (λ bytes. tokens_of (112 ∷ 32 ∷ 100 ∷ 113 ∷ 114 ∷ 50 ∷ 32 ∷ bytes)) (counts_bytes rows items rest)
     ∙ line_of_words (codes "p" ∷ codes "dqr2" ∷ decimal rows ∷ []) (decimal items) rest
-    ((refl, tt), ((refl, (refl, (refl, (refl, tt)))), (natural_is_word rows few_rows, tt))) (natural_is_word items few_items)
+    ((refl, tt), ((refl, (refl, (refl, (refl, tt)))), (natural_is_word rows few_rows, tt)))
+    (natural_is_word items few_items)
 
 -- a row
 abbrev Bits : Type 0
@@ -84,7 +86,8 @@ bits_are_words [] row are = tt
 bits_are_words (x ∷ us) [] are = tt
 bits_are_words (x ∷ us) (b ∷ row) are = (signed_is_word b x are.0, bits_are_words us row are.1)
 
-row_line : (us : List ℕ) (row : List Bool) (rest : List ℕ) → AllByRecursion IsSpellable us → tokens_of (row_text us row ++ rest) ≡ row_tokens us row ∷ tokens_of rest
+row_line : (us : List ℕ) (row : List Bool) (rest : List ℕ) → AllByRecursion IsSpellable us →
+    tokens_of (row_text us row ++ rest) ≡ row_tokens us row ∷ tokens_of rest
 row_line us row rest are =
     let bits = zip us row in
     ap (λ bytes. tokens_of (117 ∷ 32 ∷ bytes))
@@ -98,7 +101,12 @@ bits_numbers (x ∷ us) [] are = refl
 bits_numbers (x ∷ us) (b ∷ row) are = ap₂ (λ n ns. n ∷ ns) (signed_number_is b x are.0) (bits_numbers us row are.1)
 
 row_spells : (us : List ℕ) (row : List Bool) → AllByRecursion IsSpellable us → SpellsRow us (row_tokens us row) row
-row_spells us row are = record { rest = map bit_word (zip us row) ++ codes "0" ∷ []; letter = refl; numbers = bits_numbers us row are }
+row_spells us row are = record {
+  rest = map bit_word (zip us row) ++ codes "0" ∷ [];
+  letter = refl;
+  numbers =
+      bits_numbers us row are;
+}
 
 rows_lines : (us : List ℕ) (rows : List (List Bool)) (rest : List ℕ) → AllByRecursion IsSpellable us →
     tokens_of (flat_map (row_text us) rows ++ rest) ≡ map (row_tokens us) rows ++ tokens_of rest
@@ -108,7 +116,8 @@ rows_lines us (row ∷ rows) rest are =
     ∙ row_line us row (flat_map (row_text us) rows ++ rest) are
     ∙ ap (λ lines. row_tokens us row ∷ lines) (rows_lines us rows rest are)
 
-rows_spell : (us : List ℕ) (rows : List (List Bool)) → AllByRecursion IsSpellable us → AllZip (SpellsRow us) (map (row_tokens us) rows) rows
+rows_spell : (us : List ℕ) (rows : List (List Bool)) → AllByRecursion IsSpellable us →
+    AllZip (SpellsRow us) (map (row_tokens us) rows) rows
 rows_spell us [] are = tt
 rows_spell us (row ∷ rows) are = (row_spells us row are, rows_spell us rows are)
 
@@ -143,7 +152,10 @@ numbers_spaced (n ∷ ns) = ap (λ rest. number_text n ++ rest) (numbers_spaced 
 
 literals_are_words : (ls : List Literal) → HasSmallLiterals ls → AreWords (map literal_word ls)
 literals_are_words [] are = tt
-literals_are_words (l ∷ ls) are = (signed_is_word (not (is_negative l)) (variable_of l) are.0, literals_are_words ls are.1)
+literals_are_words (l ∷ ls) are = (
+  signed_is_word (not (is_negative l)) (variable_of l) are.0,
+  literals_are_words ls are.1,
+)
 
 numbers_are_words : (ns : List ℕ) → AreSmall ns → AreWords (map decimal ns)
 numbers_are_words [] are = tt
@@ -170,12 +182,14 @@ step_bytes s rest =
     ∙ ap (λ bytes. ls ++ (48 ∷ 32 ∷ bytes)) (append_assoc hs line_end rest) ∙ sym parted)
     ∙ sym (append_assoc id (spaced (words ++ zero_and_hints)) end)
 
-step_line : (s : ProofStep) (rest : List ℕ) → IsSmallStep s → tokens_of (step_text s ++ rest) ≡ step_tokens s ∷ tokens_of rest
+step_line : (s : ProofStep) (rest : List ℕ) → IsSmallStep s →
+    tokens_of (step_text s ++ rest) ≡ step_tokens s ∷ tokens_of rest
 step_line s rest is =
     ap tokens_of (step_bytes s rest)
     ∙ line_of_words (step_words s) (codes "0") rest (
       natural_is_word s.id is.id,
-      both_words (map literal_word s.literals) (codes "0" ∷ map decimal s.hints) (literals_are_words s.literals is.literals)
+      both_words (map literal_word s.literals) (codes "0" ∷ map decimal s.hints)
+          (literals_are_words s.literals is.literals)
           (zero_is_word, numbers_are_words s.hints is.hints),
     ) zero_is_word
 
@@ -183,7 +197,8 @@ literal_number : (l : Literal) → IsSpellable (variable_of l) → number_of (li
 literal_number (positive v) is = signed_number_is true v is
 literal_number (negative v) is = signed_number_is false v is
 
-hints_numbers : (hs : List ℕ) → AreSmall hs → map number_of (map decimal hs ++ codes "0" ∷ []) ≡ integers (map (λ hint. pos hint) hs ++ pos 0 ∷ [])
+hints_numbers : (hs : List ℕ) → AreSmall hs → map number_of (map decimal hs ++ codes "0" ∷ []) ≡ integers
+    (map (λ hint. pos hint) hs ++ pos 0 ∷ [])
 hints_numbers [] are = refl
 hints_numbers (h ∷ hs) are = ap₂ (λ n ns. n ∷ ns) (natural_is_read h are.0) (hints_numbers hs are.1)
 
@@ -191,23 +206,33 @@ literals_numbers : (ls : List Literal) (hs : List ℕ) → HasSmallLiterals ls �
     map number_of ((map literal_word ls ++ codes "0" ∷ map decimal hs) ++ codes "0" ∷ [])
     ≡ integers (map dimacs_number ls ++ (pos 0 ∷ (map (λ hint. pos hint) hs ++ pos 0 ∷ [])))
 literals_numbers [] hs are small = ap (λ ns. Int (pos 0) ∷ ns) (hints_numbers hs small)
-literals_numbers (l ∷ ls) hs are small = ap₂ (λ n ns. n ∷ ns) (literal_number l are.0) (literals_numbers ls hs are.1 small)
+literals_numbers (l ∷ ls) hs are small = ap₂ (λ n ns. n ∷ ns) (literal_number l are.0)
+    (literals_numbers ls hs are.1 small)
 
 step_spells : (s : ProofStep) → IsSmallStep s → SpellsStep (step_tokens s) s
-step_spells s is = ap₂ (λ n ns. n ∷ ns) (natural_is_read s.id is.id) (literals_numbers s.literals s.hints is.literals is.hints)
+step_spells s is = ap₂ (λ n ns. n ∷ ns) (natural_is_read s.id is.id)
+    (literals_numbers s.literals s.hints is.literals is.hints)
 
 -- a deletion
 abbrev pub deletion_tokens : List ℕ → Tokens
 deletion_tokens ids = codes "d" ∷ (map decimal ids ++ codes "0" ∷ [])
 
-deletion_line : (ids : List ℕ) (rest : List ℕ) → AreSmall ids → tokens_of (deletion_text ids ++ rest) ≡ deletion_tokens ids ∷ tokens_of rest
+deletion_line : (ids : List ℕ) (rest : List ℕ) → AreSmall ids →
+    tokens_of (deletion_text ids ++ rest) ≡ deletion_tokens ids ∷ tokens_of rest
 deletion_line ids rest small =
     ap (λ bytes. tokens_of (100 ∷ 32 ∷ bytes))
-    (append_assoc (flat_map number_text ids) line_end rest ∙ ap (λ front. front ++ (48 ∷ 10 ∷ rest)) (numbers_spaced ids))
-    ∙ line_of_words (codes "d" ∷ map decimal ids) (codes "0") rest ((refl, tt), numbers_are_words ids small) zero_is_word
+    (append_assoc (flat_map number_text ids) line_end rest ∙ ap (λ front. front ++ (48 ∷ 10 ∷ rest))
+    (numbers_spaced ids))
+    ∙ line_of_words (codes "d" ∷ map decimal ids) (codes "0") rest
+    ((refl, tt), numbers_are_words ids small) zero_is_word
 
 deletion_spells : (ids : List ℕ) → AreSmall ids → SpellsDeletion (deletion_tokens ids) ids
-deletion_spells ids small = record { rest = map decimal ids ++ codes "0" ∷ []; letter = refl; numbers = hints_numbers ids small }
+deletion_spells ids small = record {
+  rest = map decimal ids ++ codes "0" ∷ [];
+  letter = refl;
+  numbers =
+      hints_numbers ids small;
+}
 
 -- an item
 abbrev pub IsSpelledSmall : ProofItem → Type 0
@@ -221,26 +246,32 @@ abbrev pub item_tokens : ProofItem → Tokens
 item_tokens (derived s) = step_tokens s
 item_tokens (gone ids) = deletion_tokens ids
 
-item_line : (item : ProofItem) (rest : List ℕ) → IsSpelledSmall item → tokens_of (item_text item ++ rest) ≡ item_tokens item ∷ tokens_of rest
+item_line : (item : ProofItem) (rest : List ℕ) → IsSpelledSmall item →
+    tokens_of (item_text item ++ rest) ≡ item_tokens item ∷ tokens_of rest
 item_line (derived s) rest is = step_line s rest is
 item_line (gone ids) rest is = deletion_line ids rest is
 
-pub items_lines : (items : List ProofItem) → AreSpelledSmall items → tokens_of (flat_map item_text items) ≡ map item_tokens items
+pub items_lines : (items : List ProofItem) → AreSpelledSmall items →
+    tokens_of (flat_map item_text items) ≡ map item_tokens items
 items_lines [] are = refl
-items_lines (item ∷ items) are = item_line item (flat_map item_text items) are.0 ∙ ap (λ lines. item_tokens item ∷ lines) (items_lines items are.1)
+items_lines (item ∷ items) are = item_line item (flat_map item_text items) are.0 ∙ ap
+    (λ lines. item_tokens item ∷ lines) (items_lines items are.1)
 
-item_spells : (version : Version) (item : ProofItem) → IsSpelledSmall item → (is_deletion item ≡ true → version ≡ Two) → SpellsItem version (item_tokens item) item
+item_spells : (version : Version) (item : ProofItem) → IsSpelledSmall item → (is_deletion item ≡ true → version ≡ Two) →
+    SpellsItem version (item_tokens item) item
 item_spells version (derived s) is two = step_spells s is
 item_spells version (gone ids) is two = (two refl, deletion_spells ids is)
 
-either : (a b : Bool) (version : Version) → (a || b ≡ true → version ≡ Two) → (a ≡ true → version ≡ Two) × (b ≡ true → version ≡ Two)
+either : (a b : Bool) (version : Version) → (a || b ≡ true → version ≡ Two) →
+    (a ≡ true → version ≡ Two) × (b ≡ true → version ≡ Two)
 either true b version h = (h, λ _. h refl)
 either false b version h = ((λ k. absurd (apart k)), h)
   where
     apart : false ≡ true → ⊥
     apart k = cc
 
-items_spell_in : (version : Version) (items : List ProofItem) → AreSpelledSmall items → (list_any is_deletion items ≡ true → version ≡ Two) →
+items_spell_in : (version : Version) (items : List ProofItem) → AreSpelledSmall items →
+    (list_any is_deletion items ≡ true → version ≡ Two) →
     AllZip (SpellsItem version) (map item_tokens items) items
 items_spell_in version [] are two = tt
 items_spell_in version (item ∷ items) are two =
@@ -251,15 +282,18 @@ needs_two : (b : Bool) → b ≡ true → cond b Two One ≡ Two
 needs_two true h = refl
 needs_two false h = cc
 
-pub items_spell : (items : List ProofItem) → AreSpelledSmall items → AllZip (SpellsItem (version_for items)) (map item_tokens items) items
+pub items_spell : (items : List ProofItem) → AreSpelledSmall items →
+    AllZip (SpellsItem (version_for items)) (map item_tokens items) items
 items_spell items are = items_spell_in (version_for items) items are (needs_two (list_any is_deletion items))
 
 -- what the format allows has small numbers
-spellable : (variables : ℕ) (us : List ℕ) → variables < 10 ^ 18 → AllByRecursion (λ v. (1 ≤ v) × (v ≤ variables)) us → AllByRecursion IsSpellable us
+spellable : (variables : ℕ) (us : List ℕ) → variables < 10 ^ 18 → AllByRecursion (λ v. (1 ≤ v) × (v ≤ variables)) us →
+    AllByRecursion IsSpellable us
 spellable variables [] few are = tt
 spellable variables (x ∷ us) few are = ((are.0.0, omega (arith, are.0.1, few)), spellable variables us few are.1)
 
-small_literals : (p : ℕ → Bool) (ls : List Literal) → ((v : ℕ) → p v ≡ true → IsSpellable v) → AllByRecursion (λ l. p (variable_of l) ≡ true) ls → HasSmallLiterals ls
+small_literals : (p : ℕ → Bool) (ls : List Literal) → ((v : ℕ) → p v ≡ true → IsSpellable v) →
+    AllByRecursion (λ l. p (variable_of l) ≡ true) ls → HasSmallLiterals ls
 small_literals p [] small are = tt
 small_literals p (l ∷ ls) small are = (small (variable_of l) are.0, small_literals p ls small are.1)
 
@@ -270,7 +304,8 @@ small_hints id (h ∷ hs) small are = (omega (arith, are.0.1, small), small_hint
 abbrev IsSmallId : ℕ → Type 0
 IsSmallId id = id < 10 ^ 18
 
-small_items : (p : ℕ → Bool) (n : Numbering) (items : List ProofItem) → ((v : ℕ) → p v ≡ true → IsSpellable v) → n.next + length items < 10 ^ 18 → Live IsSmallId n →
+small_items : (p : ℕ → Bool) (n : Numbering) (items : List ProofItem) → ((v : ℕ) → p v ≡ true → IsSpellable v) →
+    n.next + length items < 10 ^ 18 → Live IsSmallId n →
     AreItems p n items → AreSpelledSmall items
 small_items p n [] small few live are = tt
 small_items p n (derived s ∷ items) small few live are =
@@ -278,14 +313,17 @@ small_items p n (derived s ∷ items) small few live are =
     let below : n.next < 10 ^ 18 = omega (arith, few) in (
       record {
         id = subst (λ id. id < 10 ^ 18) (sym is.numbered) below;
-        literals = small_literals p s.literals small (recursion_from_All (λ l. p (variable_of l) ≡ true) s.literals is.on_variables);
-        hints = small_hints n.next s.hints below (recursion_from_All (λ h. (1 ≤ h) × (h < n.next)) s.hints is.hints_before);
+        literals = small_literals p s.literals small (recursion_from_All
+            (λ l. p (variable_of l) ≡ true) s.literals is.on_variables);
+        hints = small_hints n.next s.hints below (recursion_from_All
+            (λ h. (1 ≤ h) × (h < n.next)) s.hints is.hints_before);
       },
       small_items p (with_next n) items small (omega (arith, few)) (live_line IsSmallId n below live) are.1,
     )
 small_items p n (gone ids ∷ items) small few live are = (
   live_ids IsSmallId n ids live are.0.live,
-  small_items p (without_all n ids) items small (omega (arith, few, next_kept n ids)) (live_gone IsSmallId n ids live) are.1,
+  small_items p (without_all n ids) items small (omega (arith, few, next_kept n ids))
+      (live_gone IsSmallId n ids live) are.1,
 )
 
 pub canonical_spells : (f : Dqbf) (d : Dqr) → IsLawful f → IsDqrOf f d → SpellsRefutation (canonical f.universals d) f d
@@ -296,8 +334,10 @@ canonical_spells f d lawful is =
     let version = version_for d.items in
     let p : ℕ → Bool = is_pair_number f rows in
     let few_ids : rows * length f.matrix ≤ max_count * 10000000 = mul-le-mul is.few_rows lawful.few_clauses in
-    let spelled_universals = spellable f.variables us (omega (arith, lawful.few_variables)) (universals_in_range f lawful) in
-    let small = small_items p (numbered_from (first_id f rows)) d.items (λ v h. (pair_positive f rows v h, pair_small f rows v lawful is.few_rows h))
+    let spelled_universals = spellable f.variables us (omega (arith, lawful.few_variables))
+    (universals_in_range f lawful) in
+    let small = small_items p (numbered_from (first_id f rows)) d.items
+    (λ v h. (pair_positive f rows v h, pair_small f rows v lawful is.few_rows h))
     (omega (arith, few_ids, is.few_items)) (none_live IsSmallId (first_id f rows)) is.items in
     record {
       version = version;
@@ -306,9 +346,12 @@ canonical_spells f d lawful is =
       item_lines = map item_tokens d.items;
       blank_lines = 0;
       lines = tokens_by_text 1 (canonical us d)
-          ∙ header_line version rows items (flat_map (row_text us) d.rows ++ flat_map item_text d.items) (omega (arith, is.few_rows)) (omega (arith, is.few_items))
-          ∙ ap (λ lines. header_tokens version rows items ∷ lines) (rows_lines us d.rows (flat_map item_text d.items) spelled_universals
-          ∙ ap (λ lines. map (row_tokens us) d.rows ++ lines) (items_lines d.items small ∙ sym (append-nil (map item_tokens d.items))));
+          ∙ header_line version rows items (flat_map (row_text us) d.rows ++ flat_map item_text d.items)
+          (omega (arith, is.few_rows)) (omega (arith, is.few_items))
+          ∙ ap (λ lines. header_tokens version rows items ∷ lines)
+          (rows_lines us d.rows (flat_map item_text d.items) spelled_universals
+          ∙ ap (λ lines. map (row_tokens us) d.rows ++ lines)
+          (items_lines d.items small ∙ sym (append-nil (map item_tokens d.items))));
       header_spelled = record {
         rows_token = decimal rows;
         items_token = decimal items;

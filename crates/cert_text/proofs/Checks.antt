@@ -8,12 +8,14 @@ use Rattle.cert_text.specs.StepNumbers.{numbered_step}
 use Rattle.cert_text.specs.declared.faults.CertFault.TheVariants.{IdOrder, BadVariable, UnknownHint}
 use Rattle.cert_text.specs.declared.step_lines.StepNumbers.{StepNumbers}
 
-pub checked_numbers : (is_variable : ℕ → Bool) (next : ℕ) (s : StepNumbers) → checked_step is_variable next (numbered_step s) ≡
+pub checked_numbers : (is_variable : ℕ → Bool) (next : ℕ) (s : StepNumbers) →
+    checked_step is_variable next (numbered_step s) ≡
     (if not (s.id == next) then Err IdOrder else
     if not (list_all (λ n. is_variable (variable_of (dimacs_literal n))) s.literals.now) then Err BadVariable else
     if not (list_all (λ n. nat_lt (nat_abs n) s.id) s.hints.now) then Err UnknownHint else
     Ok (numbered_step s))
 checked_numbers is_variable next s =
-    ap₂ (λ a b. if not (s.id == next) then Err IdOrder else if not a then Err BadVariable else if not b then Err UnknownHint else Ok (numbered_step s))
+    ap₂ (λ a b. if not (s.id == next) then Err IdOrder else if not a then Err BadVariable else if not b then Err
+    UnknownHint else Ok (numbered_step s))
     (list_all-map (λ (l : Literal). is_variable (variable_of l)) dimacs_literal s.literals.now)
     (list_all-map (λ (hint : ℕ). nat_lt hint s.id) nat_abs s.hints.now)

@@ -25,26 +25,31 @@ all_kept (n ∷ ns) = ap (λ rest. n ∷ rest) (all_kept ns)
 integers_kept : (ns : List ℤ) → integers_of (integers ns) ≡ Ok ns
 integers_kept ns =
     let taken : Result (List ℤ) CertFault = Ok (filter_map integer (integers ns)) in
-    cond-false (list_any is_no_number (integers ns)) (Err BadLine) (cond (list_any is_too_big (integers ns)) (Err TooBig) taken) (all_numbers ns)
+    cond-false (list_any is_no_number (integers ns)) (Err BadLine)
+    (cond (list_any is_too_big (integers ns)) (Err TooBig) taken) (all_numbers ns)
     ∙ cond-false (list_any is_too_big (integers ns)) (Err TooBig) taken (none_too_big ns)
     ∙ ap Ok (all_kept ns)
 
-pub integers_taken : (tokens : List (List ℕ)) (ns : List ℤ) → map number_of tokens ≡ integers ns → line_integers tokens ≡ Ok ns
+pub integers_taken : (tokens : List (List ℕ)) (ns : List ℤ) → map number_of tokens ≡ integers ns →
+    line_integers tokens ≡ Ok ns
 integers_taken tokens ns spelled = ap integers_of spelled ∙ integers_kept ns
 
 -- a check that was passed
-pub passed : {A : Type 0} (b : Bool) (name : CertFault) (rest : Result A CertFault) (value : A) → cond b (Err name) rest ≡ Ok value →
+pub passed : {A : Type 0} (b : Bool) (name : CertFault) (rest : Result A CertFault) (value : A) →
+    cond b (Err name) rest ≡ Ok value →
     (b ≡ false) × (rest ≡ Ok value)
 passed true name rest value h = cc
 passed false name rest value h = (refl, h)
 
-are_integers : (xs : List Number) → list_any is_no_number xs ≡ false → list_any is_too_big xs ≡ false → xs ≡ integers (filter_map integer xs)
+are_integers : (xs : List Number) → list_any is_no_number xs ≡ false → list_any is_too_big xs ≡ false →
+    xs ≡ integers (filter_map integer xs)
 are_integers [] numbers small = refl
 are_integers (NotANumber ∷ xs) numbers small = cc
 are_integers (TooBigNumber ∷ xs) numbers small = cc
 are_integers (Int n ∷ xs) numbers small = ap (λ rest. Int n ∷ rest) (are_integers xs numbers small)
 
-pub integers_spelled : (tokens : List (List ℕ)) (ns : List ℤ) → line_integers tokens ≡ Ok ns → map number_of tokens ≡ integers ns
+pub integers_spelled : (tokens : List (List ℕ)) (ns : List ℤ) → line_integers tokens ≡ Ok ns →
+    map number_of tokens ≡ integers ns
 integers_spelled tokens ns taken =
     let xs = map number_of tokens in
     let kept : Result (List ℤ) CertFault = Ok (filter_map integer xs) in

@@ -11,11 +11,13 @@ use Rattle.cert_text.specs.KeptItems.{kept_item, is_deletion}
 pub line_kept : (step : ProofStep) → 1 ≤ step.id → kept_item step ≡ derived step
 line_kept step some = ap (λ b. cond b (gone step.hints) (derived step)) (ne_eqb step.id 0 (λ e. omega (arith, some, e)))
 
-pub lines_kept : (steps : List ProofStep) → AllByRecursion (λ step. 1 ≤ step.id) steps → map kept_item steps ≡ map derived steps
+pub lines_kept : (steps : List ProofStep) → AllByRecursion (λ step. 1 ≤ step.id) steps →
+    map kept_item steps ≡ map derived steps
 lines_kept [] some = refl
 lines_kept (step ∷ steps) some = ap₂ (λ item items. item ∷ items) (line_kept step some.0) (lines_kept steps some.1)
 
-pub item_at : (steps : List ProofStep) (k : ℕ) (step : ProofStep) → slice_get steps k ≡ Some step → slice_get (map kept_item steps) k ≡ Some (kept_item step)
+pub item_at : (steps : List ProofStep) (k : ℕ) (step : ProofStep) → slice_get steps k ≡ Some step →
+    slice_get (map kept_item steps) k ≡ Some (kept_item step)
 item_at [] k step h = cc
 item_at (s ∷ steps) zero step h = let same : s ≡ step = cc in ap (λ x. Some (kept_item x)) same
 item_at (s ∷ steps) (suc k) step h = item_at steps k step h
@@ -26,7 +28,8 @@ got (y ∷ ys) zero x h = let same : y ≡ x = cc in ap (λ z. z ∷ ys) same
 got (y ∷ ys) (suc k) x h = got ys k x h
 
 -- one item more is written
-pub item_written : (items : List ProofItem) (k : ℕ) (item : ProofItem) (text more start : List ℕ) → slice_get items k ≡ Some item → more ≡ text ++ item_text item →
+pub item_written : (items : List ProofItem) (k : ℕ) (item : ProofItem) (text more start : List ℕ) →
+    slice_get items k ≡ Some item → more ≡ text ++ item_text item →
     text ++ flat_map item_text (drop k items) ≡ start → more ++ flat_map item_text (drop (k + 1) items) ≡ start
 item_written items k item text more start is written so_far =
     let next : k + 1 ≡ suc k = omega arith in
@@ -40,7 +43,8 @@ pub deletion_at : (items : List ProofItem) (k : ℕ) (item : ProofItem) → slic
     list_any is_deletion (drop k items) ≡ is_deletion item || list_any is_deletion (drop (k + 1) items)
 deletion_at items k item is =
     let next : suc k ≡ k + 1 = omega arith in
-    ap (list_any is_deletion) (got items k item is) ∙ ap (λ n. is_deletion item || list_any is_deletion (drop n items)) next
+    ap (list_any is_deletion) (got items k item is) ∙ ap (λ n. is_deletion item || list_any is_deletion
+    (drop n items)) next
 
 pub none_left : (items : List ProofItem) (k : ℕ) → length items ≤ k → list_any is_deletion (drop k items) ≡ false
 none_left [] zero le = refl

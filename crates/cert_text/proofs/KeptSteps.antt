@@ -10,24 +10,30 @@ rest : (id : ℕ) (ids : List ℕ) (l : List Literal) (ls : List (List Literal))
     AreAsMany (id ∷ ids) (l ∷ ls) (h ∷ hs) → AreAsMany ids ls hs
 rest id ids l ls h hs many = record { clauses = omega (arith, many.clauses); hinted = omega (arith, many.hinted) }
 
-pub length-steps_from : (ids : List ℕ) (ls : List (List Literal)) (hs : List (List ℕ)) → AreAsMany ids ls hs → length (steps_from ids ls hs) ≡ length ids
+pub length-steps_from : (ids : List ℕ) (ls : List (List Literal)) (hs : List (List ℕ)) → AreAsMany ids ls hs →
+    length (steps_from ids ls hs) ≡ length ids
 length-steps_from [] ls hs many = refl
 length-steps_from (id ∷ ids) [] hs many = absurd (omega (arith, many.clauses))
 length-steps_from (id ∷ ids) (l ∷ ls) [] many = absurd (omega (arith, many.hinted))
 length-steps_from (id ∷ ids) (l ∷ ls) (h ∷ hs) many = ap suc (length-steps_from ids ls hs (rest id ids l ls h hs many))
 
-pub steps_from-push : (ids : List ℕ) (ls : List (List Literal)) (hs : List (List ℕ)) (id : ℕ) (l : List Literal) (h : List ℕ) → AreAsMany ids ls hs →
-    steps_from (ids ++ id ∷ []) (ls ++ l ∷ []) (hs ++ h ∷ []) ≡ steps_from ids ls hs ++ record { id = id; literals = l; hints = h } ∷ []
+pub steps_from-push : (ids : List ℕ) (ls : List (List Literal)) (hs : List (List ℕ)) (id : ℕ) (l : List Literal)
+    (h : List ℕ) → AreAsMany ids ls hs →
+    steps_from (ids ++ id ∷ []) (ls ++ l ∷ []) (hs ++ h ∷ [])
+    ≡ steps_from ids ls hs ++ record { id = id; literals = l; hints = h } ∷ []
 steps_from-push [] [] [] id l h many = refl
 steps_from-push [] [] (x ∷ hs) id l h many = absurd (omega (arith, many.hinted))
 steps_from-push [] (x ∷ ls) hs id l h many = absurd (omega (arith, many.clauses))
 steps_from-push (i ∷ ids) [] hs id l h many = absurd (omega (arith, many.clauses))
 steps_from-push (i ∷ ids) (x ∷ ls) [] id l h many = absurd (omega (arith, many.hinted))
 steps_from-push (i ∷ ids) (x ∷ ls) (y ∷ hs) id l h many =
-    ap (λ steps. record { id = i; literals = x; hints = y } ∷ steps) (steps_from-push ids ls hs id l h (rest i ids x ls y hs many))
+    ap (λ steps. record { id = i; literals = x; hints = y } ∷ steps)
+    (steps_from-push ids ls hs id l h (rest i ids x ls y hs many))
 
-pub pushed : (ids more : List ℕ) (ls lines : List (List Literal)) (hs hints : List (List ℕ)) (steps : List ProofStep) (id : ℕ) (l : List Literal) (h : List ℕ) →
-    AreAsMany ids ls hs → steps_from ids ls hs ≡ steps → more ≡ ids ++ id ∷ [] → lines ≡ ls ++ l ∷ [] → hints ≡ hs ++ h ∷ [] →
+pub pushed : (ids more : List ℕ) (ls lines : List (List Literal)) (hs hints : List (List ℕ)) (steps : List ProofStep)
+    (id : ℕ) (l : List Literal) (h : List ℕ) →
+    AreAsMany ids ls hs → steps_from ids ls hs ≡ steps → more ≡ ids ++ id ∷ [] → lines ≡ ls ++ l ∷ [] →
+    hints ≡ hs ++ h ∷ [] →
     steps_from more lines hints ≡ steps ++ record { id = id; literals = l; hints = h } ∷ []
 pushed ids more ls lines hs hints steps id l h many is ids_are lines_are hints_are =
     ap (λ a. steps_from a lines hints) ids_are
@@ -35,17 +41,26 @@ pushed ids more ls lines hs hints steps id l h many is ids_are lines_are hints_a
     ∙ steps_from-push ids ls hs id l h many
     ∙ ap (λ all. all ++ record { id = id; literals = l; hints = h } ∷ []) is
 
-pub step_at : (ids : List ℕ) (ls : List (List Literal)) (hs : List (List ℕ)) (k d : ℕ) → AreAsMany ids ls hs → k < length ids →
-    slice_get (steps_from ids ls hs) k ≡ Some (record { id = get_or ids k d; literals = get_or ls k []; hints = get_or hs k [] })
+pub step_at : (ids : List ℕ) (ls : List (List Literal)) (hs : List (List ℕ)) (k d : ℕ) → AreAsMany ids ls hs →
+    k < length ids →
+    slice_get (steps_from ids ls hs) k ≡ Some (record {
+      id = get_or ids k d;
+      literals = get_or ls k [];
+      hints =
+          get_or hs k [];
+    })
 step_at [] ls hs k d many below = absurd (omega (arith, below))
 step_at (i ∷ ids) [] hs k d many below = absurd (omega (arith, many.clauses))
 step_at (i ∷ ids) (x ∷ ls) [] k d many below = absurd (omega (arith, many.hinted))
 step_at (i ∷ ids) (x ∷ ls) (y ∷ hs) zero d many below = refl
-step_at (i ∷ ids) (x ∷ ls) (y ∷ hs) (suc k) d many below = step_at ids ls hs k d (rest i ids x ls y hs many) (omega (arith, below))
+step_at (i ∷ ids) (x ∷ ls) (y ∷ hs) (suc k) d many below = step_at ids ls hs k d (rest i ids x ls y hs many)
+    (omega (arith, below))
 
 -- the line that was read
-pub step_got : (ids : List ℕ) (ls : List (List Literal)) (hs : List (List ℕ)) (k : ℕ) (steps : List ProofStep) (id : ℕ) (l : List Literal) (h : List ℕ) →
-    AreAsMany ids ls hs → k < length ids → steps_from ids ls hs ≡ steps → id ≡ get_or ids k id → l ≡ get_or ls k [] → h ≡ get_or hs k [] →
+pub step_got : (ids : List ℕ) (ls : List (List Literal)) (hs : List (List ℕ)) (k : ℕ) (steps : List ProofStep) (id : ℕ)
+    (l : List Literal) (h : List ℕ) →
+    AreAsMany ids ls hs → k < length ids → steps_from ids ls hs ≡ steps → id ≡ get_or ids k id → l ≡ get_or ls k [] →
+    h ≡ get_or hs k [] →
     slice_get steps k ≡ Some (record { id = id; literals = l; hints = h })
 step_got ids ls hs k steps id l h many below is id_is l_is h_is =
     ap (λ all. slice_get all k) (sym is) ∙ step_at ids ls hs k id many below

@@ -22,8 +22,10 @@ abbrev pub texts_of : List ℕ → List (List ℕ)
 texts_of [] = []
 texts_of (byte ∷ bytes) = cond (byte == 10) ([] ∷ texts_of bytes) (extend_text byte (texts_of bytes))
 
-cut : (feed : Bool) (byte n : ℕ) (bytes : List ℕ) → texts (lines_from (n + 1) bytes) ≡ texts_of bytes → texts (lines_from n bytes) ≡ texts_of bytes →
-    texts (cond feed (record { text = []; number = n; behind = bytes } ∷ lines_from (n + 1) bytes) (extend_line byte n (lines_from n bytes)))
+cut : (feed : Bool) (byte n : ℕ) (bytes : List ℕ) → texts (lines_from (n + 1) bytes) ≡ texts_of bytes →
+    texts (lines_from n bytes) ≡ texts_of bytes →
+    texts (cond feed (record { text = []; number = n; behind = bytes } ∷ lines_from (n + 1) bytes)
+    (extend_line byte n (lines_from n bytes)))
     ≡ cond feed ([] ∷ texts_of bytes) (extend_text byte (texts_of bytes))
 cut true byte n bytes next same = ap (λ rest. [] ∷ rest) next
 cut false byte n bytes next same = extended byte n (lines_from n bytes) ∙ ap (extend_text byte) same
@@ -39,7 +41,8 @@ tokens_of_texts (line ∷ lines) = ap (λ rest. line_tokens line.text ∷ rest) 
 -- whatever the number of the first line is
 pub same_tokens : (n m : ℕ) (bytes : List ℕ) → by_tokens (lines_from n bytes) ≡ by_tokens (lines_from m bytes)
 same_tokens n m bytes =
-    tokens_of_texts (lines_from n bytes) ∙ ap (map line_tokens) (texts_are n bytes ∙ sym (texts_are m bytes)) ∙ sym (tokens_of_texts (lines_from m bytes))
+    tokens_of_texts (lines_from n bytes) ∙ ap (map line_tokens) (texts_are n bytes ∙ sym (texts_are m bytes)) ∙ sym
+    (tokens_of_texts (lines_from m bytes))
 
 pub tokens_by_text : (n : ℕ) (bytes : List ℕ) → by_tokens (lines_from n bytes) ≡ map line_tokens (texts_of bytes)
 tokens_by_text n bytes = tokens_of_texts (lines_from n bytes) ∙ ap (map line_tokens) (texts_are n bytes)

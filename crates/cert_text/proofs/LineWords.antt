@@ -19,5 +19,6 @@ pub line_of_words : (words : List (List ℕ)) (last rest : List ℕ) → AreWord
     tokens_of (spaced words ++ (last ++ 10 ∷ rest)) ≡ (words ++ last ∷ []) ∷ tokens_of rest
 line_of_words words last rest are is =
     ap tokens_of (sym (append_assoc (spaced words) last (10 ∷ rest)))
-    ∙ ap (map line_tokens) (one_line (spaced words ++ last) rest (both_no_feed (spaced words) last (words_no_feed words are) (word_no_feed last is)))
+    ∙ ap (map line_tokens) (one_line (spaced words ++ last) rest
+    (both_no_feed (spaced words) last (words_no_feed words are) (word_no_feed last is)))
     ∙ ap (λ tokens. tokens ∷ tokens_of rest) (words_tokens words last are is)

@@ -13,16 +13,31 @@ gates_counted : (gates : List Gate) → length (flat_map gate_clauses gates) ≡
 gates_counted [] = refl
 gates_counted (g ∷ gates) = omega (arith, gates_counted gates)
 
-falsity_counted : (circuit_literal : ℕ → ℕ) (bad : ℕ) (clauses : List (List Literal)) → length (all_falsity_clauses circuit_literal bad clauses) ≡ sum_by length clauses
+falsity_counted : (circuit_literal : ℕ → ℕ) (bad : ℕ) (clauses : List (List Literal)) →
+    length (all_falsity_clauses circuit_literal bad clauses) ≡ sum_by length clauses
 falsity_counted circuit_literal bad [] = refl
 falsity_counted circuit_literal bad (clause ∷ clauses) =
     let first : length (falsity_clauses circuit_literal bad clause) ≡ length clause =
     length-map clause (λ l. opposite_of (2 * bad) ∷ opposite_of (literal_under circuit_literal l) ∷ []) in
-    omega (arith, length-append (falsity_clauses circuit_literal bad clause) (all_falsity_clauses circuit_literal (bad + 1) clauses), first, falsity_counted circuit_literal (bad + 1) clauses, sum_by-cons length clause clauses)
+    omega (
+      arith,
+      length-append (falsity_clauses circuit_literal bad clause)
+          (all_falsity_clauses circuit_literal (bad + 1) clauses),
+      first,
+      falsity_counted circuit_literal (bad + 1) clauses,
+      sum_by-cons length clause clauses,
+    )
 
-pub clauses_counted : (f : Dqbf) (net : Netlist) (circuit_literal : ℕ → ℕ) → length (negated_clauses f net circuit_literal) ≡ negated_clause_count f net
+pub clauses_counted : (f : Dqbf) (net : Netlist) (circuit_literal : ℕ → ℕ) →
+    length (negated_clauses f net circuit_literal) ≡ negated_clause_count f net
 clauses_counted f net circuit_literal =
     let gates = flat_map gate_clauses net.gates in
     let falsity = all_falsity_clauses circuit_literal (net.max_var + 1) f.matrix in
     let last = some_clause_false net f.matrix ∷ [] in
-    omega (arith, length-append gates (falsity ++ last), length-append falsity last, gates_counted net.gates, falsity_counted circuit_literal (net.max_var + 1) f.matrix)
+    omega (
+      arith,
+      length-append gates (falsity ++ last),
+      length-append falsity last,
+      gates_counted net.gates,
+      falsity_counted circuit_literal (net.max_var + 1) f.matrix,
+    )

@@ -11,7 +11,8 @@ use Rattle.cert_text.specs.Numbering.{Numbering, are_live, behind_item, numbered
 abbrev pub Live : (ℕ → Type 0) → Numbering → Type 0
 Live P n = (id : ℕ) → n.live id ≡ true → P id
 
-by_next : (P : ℕ → Type 0) (b : Bool) (next id : ℕ) (live : Bool) → (b ≡ true → id ≡ next) → P next → (live ≡ true → P id) → b || live ≡ true → P id
+by_next : (P : ℕ → Type 0) (b : Bool) (next id : ℕ) (live : Bool) → (b ≡ true → id ≡ next) → P next →
+    (live ≡ true → P id) → b || live ≡ true → P id
 by_next P true next id live is here there h = subst P (sym (is refl)) here
 by_next P false next id live is here there h = there h
 
@@ -45,7 +46,11 @@ next_kept n [] = refl
 next_kept n (id ∷ ids) = next_kept (without n id) ids
 
 pub numbered_behind : (n : Numbering) (item : ProofItem) → IsNumbered n → IsNumbered (behind_item n item)
-numbered_behind n (derived s) is = record { next = omega (arith, is.next); live = live_line (λ id. 1 ≤ id) n is.next is.live }
+numbered_behind n (derived s) is = record {
+  next = omega (arith, is.next);
+  live =
+      live_line (λ id. 1 ≤ id) n is.next is.live;
+}
 numbered_behind n (gone ids) is =
     record { next = omega (arith, is.next, next_kept n ids); live = live_gone (λ id. 1 ≤ id) n ids is.live }
 
@@ -57,13 +62,15 @@ put_here : (marks : List Bool) → get_or (marks ++ true ∷ []) (length marks) 
 put_here [] = refl
 put_here (m ∷ marks) = put_here marks
 
-put_elsewhere : (marks : List Bool) (k : ℕ) → (k ≡ length marks → ⊥) → get_or (marks ++ true ∷ []) k false ≡ get_or marks k false
+put_elsewhere : (marks : List Bool) (k : ℕ) → (k ≡ length marks → ⊥) →
+    get_or (marks ++ true ∷ []) k false ≡ get_or marks k false
 put_elsewhere [] zero other = absurd (other refl)
 put_elsewhere [] (suc k) other = refl
 put_elsewhere (m ∷ marks) zero other = refl
 put_elsewhere (m ∷ marks) (suc k) other = put_elsewhere marks k (λ e. other (ap suc e))
 
-mark_put : (marks : List Bool) (k : ℕ) (b : Bool) → (k == length marks) ≡ b → get_or (marks ++ true ∷ []) k false ≡ b || get_or marks k false
+mark_put : (marks : List Bool) (k : ℕ) (b : Bool) → (k == length marks) ≡ b →
+    get_or (marks ++ true ∷ []) k false ≡ b || get_or marks k false
 mark_put marks k true is = ap (λ j. get_or (marks ++ true ∷ []) j false) (eqb-true k (length marks) is) ∙ put_here marks
 mark_put marks k false is = put_elsewhere marks k (λ e. apart (sym is ∙ eq-eqb k (length marks) e))
 
@@ -72,23 +79,29 @@ taken_here [] place = refl
 taken_here (m ∷ marks) zero = refl
 taken_here (m ∷ marks) (suc place) = taken_here marks place
 
-taken_elsewhere : (marks : List Bool) (place k : ℕ) → (k ≡ place → ⊥) → get_or (set marks place false) k false ≡ get_or marks k false
+taken_elsewhere : (marks : List Bool) (place k : ℕ) → (k ≡ place → ⊥) →
+    get_or (set marks place false) k false ≡ get_or marks k false
 taken_elsewhere [] place k other = refl
 taken_elsewhere (m ∷ marks) zero zero other = absurd (other refl)
 taken_elsewhere (m ∷ marks) zero (suc k) other = refl
 taken_elsewhere (m ∷ marks) (suc place) zero other = refl
 taken_elsewhere (m ∷ marks) (suc place) (suc k) other = taken_elsewhere marks place k (λ e. other (ap suc e))
 
-mark_taken : (marks : List Bool) (place k : ℕ) (b : Bool) → (k == place) ≡ b → get_or (set marks place false) k false ≡ not b && get_or marks k false
-mark_taken marks place k true is = ap (λ j. get_or (set marks place false) j false) (eqb-true k place is) ∙ taken_here marks place
+mark_taken : (marks : List Bool) (place k : ℕ) (b : Bool) → (k == place) ≡ b →
+    get_or (set marks place false) k false ≡ not b && get_or marks k false
+mark_taken marks place k true is = ap (λ j. get_or (set marks place false) j false) (eqb-true k place is)
+    ∙ taken_here marks place
 mark_taken marks place k false is = taken_elsewhere marks place k (λ e. apart (sym is ∙ eq-eqb k place e))
 
 -- as numbers from the first id on
-far : (le : Bool) (first id place : ℕ) → nat_le first id ≡ le → (le ≡ true → first ≤ id) → (id == first + place) ≡ le && (id - first == place)
-far true first id place is h = shifted (id == first + place) (id - first == place) (eqb-true id (first + place)) (eqb-true (id - first) place)
+far : (le : Bool) (first id place : ℕ) → nat_le first id ≡ le → (le ≡ true → first ≤ id) →
+    (id == first + place) ≡ le && (id - first == place)
+far true first id place is h = shifted (id == first + place) (id - first == place) (eqb-true id (first + place))
+    (eqb-true (id - first) place)
     (λ e. eq-eqb id (first + place) (omega (arith, e, h refl))) (λ e. eq-eqb (id - first) place (omega (arith, e)))
   where
-    shifted : (a b : Bool) → (a ≡ true → id ≡ first + place) → (b ≡ true → id - first ≡ place) → (id - first ≡ place → a ≡ true) → (id ≡ first + place → b ≡ true) → a ≡ b
+    shifted : (a b : Bool) → (a ≡ true → id ≡ first + place) → (b ≡ true → id - first ≡ place) →
+        (id - first ≡ place → a ≡ true) → (id ≡ first + place → b ≡ true) → a ≡ b
     shifted true b p q r s = sym (s (p refl))
     shifted false false p q r s = refl
     shifted false true p q r s = r (q refl)
@@ -106,27 +119,35 @@ taken_as : (le here mark there : Bool) → there ≡ not here && mark → le && 
 taken_as true here mark there is = is
 taken_as false here mark there is = refl
 
-pub line_marked : (first : ℕ) (marks more : List Bool) → more ≡ marks ++ true ∷ [] → numbering_by first more ≡ with_next (numbering_by first marks)
+pub line_marked : (first : ℕ) (marks more : List Bool) → more ≡ marks ++ true ∷ [] →
+    numbering_by first more ≡ with_next (numbering_by first marks)
 line_marked first marks more pushed =
     ap (numbering_by first) pushed
     ∙ ap₂ (λ (next : ℕ) (live : ℕ → Bool). record { next = next; live = live })
     (let size = length-append marks (true ∷ []) in omega (arith, size))
     (fun_ext (λ id.
-    put_as (nat_le first id) (id - first == length marks) (get_or marks (id - first) false) (get_or (marks ++ true ∷ []) (id - first) false) (mark_put marks (id - first) (id - first == length marks) refl)
-    ∙ ap (λ b. b || is_marked first marks id) (sym (far (nat_le first id) first id (length marks) refl (leb-true first id)))))
+    put_as (nat_le first id) (id - first == length marks) (get_or marks (id - first) false)
+    (get_or (marks ++ true ∷ []) (id - first) false) (mark_put marks (id - first) (id - first == length marks) refl)
+    ∙ ap (λ b. b || is_marked first marks id) (sym (far (nat_le first id) first id (length marks) refl
+    (leb-true first id)))))
 
-pub mark_deleted : (first : ℕ) (marks less : List Bool) (id place : ℕ) → less ≡ set marks place false → id ≡ first + place →
+pub mark_deleted : (first : ℕ) (marks less : List Bool) (id place : ℕ) → less ≡ set marks place false →
+    id ≡ first + place →
     numbering_by first less ≡ without (numbering_by first marks) id
 mark_deleted first marks less id place taken is =
     ap (numbering_by first) taken
     ∙ ap₂ (λ (next : ℕ) (live : ℕ → Bool). record { next = next; live = live })
     (ap (λ k. first + k) (length-set marks place false))
     (fun_ext (λ i.
-    taken_as (nat_le first i) (i - first == place) (get_or marks (i - first) false) (get_or (set marks place false) (i - first) false) (mark_taken marks place (i - first) (i - first == place) refl)
-    ∙ ap (λ b. not b && is_marked first marks i) (sym (far (nat_le first i) first i place refl (leb-true first i)) ∙ ap (λ j. i == j) (sym is))))
+    taken_as (nat_le first i) (i - first == place) (get_or marks (i - first) false)
+    (get_or (set marks place false) (i - first) false) (mark_taken marks place (i - first)
+    (i - first == place) refl)
+    ∙ ap (λ b. not b && is_marked first marks i) (sym (far (nat_le first i) first i place refl (leb-true first i)) ∙ ap
+    (λ j. i == j) (sym is))))
 
 -- where an id has a place
-pub mark_is : (first : ℕ) (marks : List Bool) (id place : ℕ) → id ≡ first + place → is_marked first marks id ≡ get_or marks place false
+pub mark_is : (first : ℕ) (marks : List Bool) (id place : ℕ) → id ≡ first + place →
+    is_marked first marks id ≡ get_or marks place false
 mark_is first marks id place is =
     let inside : nat_le first id ≡ true = le-leb first id (omega (arith, is)) in
     let there : id - first ≡ place = omega (arith, is) in
@@ -144,5 +165,7 @@ nothing : (b mark : Bool) → mark ≡ false → b && mark ≡ false
 nothing true mark h = h
 nothing false mark h = refl
 
-pub mark_behind : (first : ℕ) (marks : List Bool) (id : ℕ) → first + length marks ≤ id → is_marked first marks id ≡ false
-mark_behind first marks id behind = nothing (nat_le first id) (get_or marks (id - first) false) (past marks (id - first) (omega (arith, behind)))
+pub mark_behind : (first : ℕ) (marks : List Bool) (id : ℕ) → first + length marks ≤ id →
+    is_marked first marks id ≡ false
+mark_behind first marks id behind = nothing (nat_le first id) (get_or marks (id - first) false)
+    (past marks (id - first) (omega (arith, behind)))

@@ -18,13 +18,15 @@ behind : {X : Type 0} (P : X → Type 0) (xs ys : List X) → AllByRecursion P (
 behind P [] ys all = all
 behind P (x ∷ xs) ys all = behind P xs ys all.1
 
-found_in_range : (variables y : ℕ) (es : List Existential) → AllByRecursion (IsVariable variables) (map (λ e. e.variable) es) →
+found_in_range : (variables y : ℕ) (es : List Existential) →
+    AllByRecursion (IsVariable variables) (map (λ e. e.variable) es) →
     IsSome (find (λ e. e.variable == y) es) → IsVariable variables y
 found_in_range variables y [] all some = cc
 found_in_range variables y (e ∷ es) all some =
     elim (cases_Bool (e.variable == y)) [
       | inl here ↦ subst (IsVariable variables) (eqb-true e.variable y here) all.0
-      | inr other ↦ found_in_range variables y es all.1 (subst (λ b. IsSome (cond b (Some e) (find (λ x. x.variable == y) es))) other some)
+      | inr other ↦ found_in_range variables y es all.1 (subst
+          (λ b. IsSome (cond b (Some e) (find (λ x. x.variable == y) es))) other some)
     ]
 
 pub existential_in_range : (f : Dqbf) (y : ℕ) → IsLawful f → IsSome (existential_of f y) → IsVariable f.variables y
@@ -76,31 +78,39 @@ something_is : {X : Type 0} (o : Option X) → IsSome o → is_some o ≡ true
 something_is (Some x) h = refl
 something_is None h = cc
 
-pair_from : (f : Dqbf) (rows number v z k : ℕ) → f.variables ≡ v → z < v → k < rows → number ≡ k * v + suc z → IsSome (existential_of f (suc z)) →
+pair_from : (f : Dqbf) (rows number v z k : ℕ) → f.variables ≡ v → z < v → k < rows → number ≡ k * v + suc z →
+    IsSome (existential_of f (suc z)) →
     is_pair_number f rows number ≡ true
 pair_from f rows number v z k v_is in_range within number_is existential =
     let place : number - 1 ≡ k * v + z = omega (arith, number_is) in
-    let row : (number - 1) / f.variables ≡ k = ap (λ n. n / f.variables) place ∙ ap (λ n. (k * v + z) / n) v_is ∙ div-mul-add k v z in_range in
+    let row : (number - 1) / f.variables ≡ k = ap (λ n. n / f.variables) place ∙ ap (λ n. (k * v + z) / n) v_is
+    ∙ div-mul-add k v z in_range in
     let rest : (number - 1) % f.variables ≡ z =
-    ap (λ n. n % f.variables) place ∙ ap (λ n. (k * v + z) % n) v_is ∙ mul-add-mod_self_right k v z ∙ mod-eq_of_lt in_range in
+    ap (λ n. n % f.variables) place ∙ ap (λ n. (k * v + z) % n) v_is ∙ mul-add-mod_self_right k v z
+    ∙ mod-eq_of_lt in_range in
     let y : (number - 1) % f.variables + 1 ≡ suc z = omega (arith, rest) in
-    and_from (not (f.variables == 0)) _ (not_from_false (f.variables == 0) (ne_eqb f.variables 0 (λ h. omega (arith, h, v_is, in_range))))
+    and_from (not (f.variables == 0)) _ (not_from_false (f.variables == 0)
+    (ne_eqb f.variables 0 (λ h. omega (arith, h, v_is, in_range))))
     (and_from (not (number == 0)) _ (not_from_false (number == 0) (ne_eqb number 0 (λ h. omega (arith, h, number_is))))
     (and_from (nat_lt ((number - 1) / f.variables) rows) _ (ap (λ n. nat_lt n rows) row ∙ lt-ltb k rows within)
     (ap (λ n. is_some (existential_of f n)) y ∙ something_is (existential_of f (suc z)) existential)))
 
-is_of : (f : Dqbf) (rows number k y : ℕ) → IsLawful f → k < rows → IsSome (existential_of f y) → number ≡ k * f.variables + y →
+is_of : (f : Dqbf) (rows number k y : ℕ) → IsLawful f → k < rows → IsSome (existential_of f y) →
+    number ≡ k * f.variables + y →
     IsVariable f.variables y → is_pair_number f rows number ≡ true
 is_of f rows number k zero lawful within existential number_is in_range = absurd (omega (arith, in_range.0))
 is_of f rows number k (suc z) lawful within existential number_is in_range =
     pair_from f rows number f.variables z k refl (omega (arith, in_range.1)) within number_is existential
 
-pub is_pair : (f : Dqbf) (rows number : ℕ) → IsLawful f → IsPairNumber f rows number → is_pair_number f rows number ≡ true
+pub is_pair : (f : Dqbf) (rows number : ℕ) → IsLawful f → IsPairNumber f rows number →
+    is_pair_number f rows number ≡ true
 is_pair f rows number lawful p =
-    is_of f rows number p.k p.y lawful p.within p.existential p.number_is (existential_in_range f p.y lawful p.existential)
+    is_of f rows number p.k p.y lawful p.within p.existential p.number_is
+    (existential_in_range f p.y lawful p.existential)
 
 -- a text can spell it
-pub pair_small : (f : Dqbf) (rows number : ℕ) → IsLawful f → rows ≤ max_count → is_pair_number f rows number ≡ true → number < 10 ^ 18
+pub pair_small : (f : Dqbf) (rows number : ℕ) → IsLawful f → rows ≤ max_count → is_pair_number f rows number ≡ true →
+    number < 10 ^ 18
 pair_small f rows number lawful few h =
     let p = pair_is f rows number h in
     let y = existential_in_range f p.y lawful p.existential in

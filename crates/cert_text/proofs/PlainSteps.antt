@@ -25,7 +25,8 @@ use Rattle.cert_text.proofs.SmallNumbers.{token_small}
 use Rattle.cert_text.proofs.SpelledSteps.{step_taken, number_back}
 
 -- the first number is below 10^18
-pub first_small : (tokens left : Tokens) (n : ℤ) → map number_of tokens ≡ Int n ∷ map number_of left → nat_abs n < 10 ^ 18
+pub first_small : (tokens left : Tokens) (n : ℤ) → map number_of tokens ≡ Int n ∷ map number_of left →
+    nat_abs n < 10 ^ 18
 first_small [] left n h = cc
 first_small (token ∷ tokens) left n h = let here : number_of token ≡ Int n = cc in token_small token n here
 
@@ -43,7 +44,8 @@ wide (pos n) small = to_z-of_z w64 (pos n) (omega (arith, small))
 wide (negsuc n) small = to_z-of_z w64 (negsuc n) (omega (arith, small))
 
 -- a literal's number can be kept
-pub literal_number : (tokens left : Tokens) (n : ℤ) → map number_of tokens ≡ Int n ∷ map number_of left → 1 ≤ nat_abs (to_z w64 (of_z w64 n)) →
+pub literal_number : (tokens left : Tokens) (n : ℤ) → map number_of tokens ≡ Int n ∷ map number_of left →
+    1 ≤ nat_abs (to_z w64 (of_z w64 n)) →
     IsLiteralNumber (to_z w64 (of_z w64 n))
 literal_number tokens left n first some =
     let small = first_small tokens left n first in
@@ -53,8 +55,10 @@ literal_number tokens left n first some =
 pub literal_taken : (p : ℕ → Bool) (start tokens left : Tokens) (old new : List Literal) (n : ℤ) →
     map number_of tokens ≡ Int n ∷ map number_of left → new ≡ old ++ dimacs_literal (to_z w64 (of_z w64 n)) ∷ [] →
     p (variable_of (dimacs_literal (to_z w64 (of_z w64 n)))) ≡ true →
-    map number_of start ≡ integers (map dimacs_number old) ++ map number_of tokens → All (λ l. p (variable_of l) ≡ true) old →
-    (map number_of start ≡ integers (map dimacs_number new) ++ map number_of left) × All (λ l. p (variable_of l) ≡ true) new
+    map number_of start ≡ integers (map dimacs_number old) ++ map number_of tokens →
+    All (λ l. p (variable_of l) ≡ true) old →
+    (map number_of start ≡ integers (map dimacs_number new) ++ map number_of left) × All
+    (λ l. p (variable_of l) ≡ true) new
 literal_taken p start tokens left old new n first pushed holds so_far all =
     let m = to_z w64 (of_z w64 n) in
     let l = dimacs_literal m in
@@ -74,12 +78,15 @@ literal_taken p start tokens left old new n first pushed holds so_far all =
 
 -- the parts of a line are its numbers
 pub parts_spell : (p : ℕ → Bool) (tokens first second third : Tokens) (id : ℕ) (ls : List Literal) (hs : List ℕ) →
-    map number_of tokens ≡ Int (pos id) ∷ map number_of first → LiteralsTaken p first second ls → HintsTaken id second third hs → third ≡ [] →
+    map number_of tokens ≡ Int (pos id) ∷ map number_of first → LiteralsTaken p first second ls →
+    HintsTaken id second third hs → third ≡ [] →
     SpellsStep tokens (read_step id ls hs)
 parts_spell p tokens first second third id ls hs start literals hints end =
     let a = map dimacs_number ls in
     let b = map (λ (hint : ℕ). pos hint) hs in
-    let behind : map number_of second ≡ integers (b ++ pos 0 ∷ []) = hints.numbers ∙ ap (λ t. integers (b ++ pos 0 ∷ []) ++ map number_of t) end ∙ append-nil (integers (b ++ pos 0 ∷ [])) in
+    let behind : map number_of second ≡ integers (b ++ pos 0 ∷ []) =
+    hints.numbers ∙ ap (λ t. integers (b ++ pos 0 ∷ []) ++ map number_of t) end ∙ append-nil
+    (integers (b ++ pos 0 ∷ [])) in
     start
     ∙ ap (λ ns. Int (pos id) ∷ ns) (literals.numbers
     ∙ ap (λ ns. integers (a ++ pos 0 ∷ []) ++ ns) behind
@@ -87,7 +94,8 @@ parts_spell p tokens first second third id ls hs start literals hints end =
     ∙ ap integers (append_assoc a (pos 0 ∷ []) (b ++ pos 0 ∷ [])))
 
 -- a line's stop
-pub step_stop : (line : Result ProofStep CertFault) (stop : LineStop) (ls : List Literal) (hs : List ℕ) → IsStepOf line (Err stop) ls hs → IsLineOf line (Err stop)
+pub step_stop : (line : Result ProofStep CertFault) (stop : LineStop) (ls : List Literal) (hs : List ℕ) →
+    IsStepOf line (Err stop) ls hs → IsLineOf line (Err stop)
 step_stop line (Fault name) ls hs is = is
 step_stop line Memory ls hs is = tt
 
@@ -97,6 +105,8 @@ if_some (Some y) x P is h = let same : y ≡ x = cc in subst P same h
 
 -- such a line is read
 pub plain_read : (vs : Variables) (next : ℕ) (tokens : Tokens) (id : ℕ) (ls : List Literal) (hs : List ℕ) → 1 ≤ id →
-    SpellsStep tokens (read_step id ls hs) → IsStep (is_variable vs) next (read_step id ls hs) → step_line (is_variable vs) next tokens ≡ Ok (read_step id ls hs)
+    SpellsStep tokens (read_step id ls hs) → IsStep (is_variable vs) next (read_step id ls hs) →
+    step_line (is_variable vs) next tokens ≡ Ok (read_step id ls hs)
 plain_read vs next tokens id ls hs some spelled is =
-    step_taken (is_variable vs) next tokens (read_step id ls hs) (variable_positive vs) (omega (arith, some, is.numbered)) spelled is
+    step_taken (is_variable vs) next tokens (read_step id ls hs) (variable_positive vs)
+    (omega (arith, some, is.numbered)) spelled is

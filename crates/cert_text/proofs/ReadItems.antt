@@ -15,11 +15,14 @@ use Rattle.cert_text.specs.declared.versions.Version.{Version}
 use Rattle.cert_text.proofs.SpelledItems.{item_spelled}
 
 -- a line's stop
-pub item_stop : (line : Result ProofItem CertFault) (stop : LineStop) (ls : List Literal) (hs : List ℕ) → IsItemOf line (Err stop) ls hs → IsLineOf line (Err stop)
+pub item_stop : (line : Result ProofItem CertFault) (stop : LineStop) (ls : List Literal) (hs : List ℕ) →
+    IsItemOf line (Err stop) ls hs → IsLineOf line (Err stop)
 item_stop line (Fault name) ls hs is = is
 item_stop line Memory ls hs is = tt
 
 -- a line's id isn't 0
-pub has_line_id : (version : Version) (p : ℕ → Bool) (n : Numbering) (tokens : Tokens) (item : ProofItem) → 1 ≤ n.next → item_line version p n tokens ≡ Ok item → HasLineId item
-has_line_id version p n tokens (derived s) some taken = let id = (item_spelled version p n tokens (derived s) taken).lawful.numbered in omega (arith, id, some)
+pub has_line_id : (version : Version) (p : ℕ → Bool) (n : Numbering) (tokens : Tokens) (item : ProofItem) → 1 ≤ n.next →
+    item_line version p n tokens ≡ Ok item → HasLineId item
+has_line_id version p n tokens (derived s) some taken = let id =
+    (item_spelled version p n tokens (derived s) taken).lawful.numbered in omega (arith, id, some)
 has_line_id version p n tokens (gone ids) some taken = tt

@@ -17,19 +17,26 @@ Read A = Result (LinesRead A) CertRefusal
 
 module _ {A : Type 0} where
   -- a refusal is one of the text
-  pub refused_at : (read : Read A) (fault : CertRefusal) (made : CertStop) (after : List A) (left : LineCursor) → made ≡ Refused fault → read ≡ Err fault →
+  pub refused_at : (read : Read A) (fault : CertRefusal) (made : CertStop) (after : List A) (left : LineCursor) →
+      made ≡ Refused fault → read ≡ Err fault →
       IsReadInto read (Err made) after left
   refused_at read fault made after left is h = subst (λ s. IsReadInto read (Err s) after left) (sym is) h
 
   -- a line's stop is one of the text
-  pub stopped : (read : Read A) (line : ℕ) (taken : Result A CertFault) (stop : LineStop) (made : CertStop) (after : List A) (left : LineCursor) →
-      IsLineOf taken (Err stop) → StopsAt line stop made → ((name : CertFault) → taken ≡ Err name → read ≡ Err (refusal line name)) →
+  pub stopped : (read : Read A) (line : ℕ) (taken : Result A CertFault) (stop : LineStop) (made : CertStop)
+      (after : List A) (left : LineCursor) →
+      IsLineOf taken (Err stop) → StopsAt line stop made → ((name : CertFault) → taken ≡ Err name →
+      read ≡ Err (refusal line name)) →
       IsReadInto read (Err made) after left
-  stopped read line taken (Fault name) made after left is stops fault = subst (λ s. IsReadInto read (Err s) after left) (sym stops) (fault name is)
-  stopped read line taken Memory made after left is stops fault = subst (λ s. IsReadInto read (Err s) after left) (sym stops) tt
+  stopped read line taken (Fault name) made after left is stops fault =
+      subst (λ s. IsReadInto read (Err s) after left) (sym stops) (fault name is)
+  stopped read line taken Memory made after left is stops fault =
+      subst (λ s. IsReadInto read (Err s) after left) (sym stops) tt
 
-  one_behind : (before : List A) (item : A) (r : Read A) → put_behind before (and_read r (with_item item)) ≡ put_behind (before ++ item ∷ []) r
-  one_behind before item (Ok r) = ap (λ items. Ok (record r { items = items })) (sym (append_assoc before (item ∷ []) r.items))
+  one_behind : (before : List A) (item : A) (r : Read A) → put_behind before (and_read r (with_item item)) ≡ put_behind
+      (before ++ item ∷ []) r
+  one_behind before item (Ok r) = ap (λ items. Ok (record r { items = items }))
+      (sym (append_assoc before (item ∷ []) r.items))
   one_behind before item (Err fault) = refl
 
 module _ {S A : Type 0} (F : Format S A) (at : S) (k count : ℕ) (before : List A) where
@@ -43,15 +50,18 @@ module _ {S A : Type 0} (F : Format S A) (at : S) (k count : ℕ) (before : List
       ap (λ n. put_behind before (read_from F at n left)) none
       ∙ ap (λ items. Ok (read_up_to items left)) (append-nil before)
 
-  pub line_missing : (left : LineCursor) (number : ℕ) → k < count → left.rest ≡ [] → left.number ≡ number → to_read left ≡ Err (refusal number Truncated)
+  pub line_missing : (left : LineCursor) (number : ℕ) → k < count → left.rest ≡ [] → left.number ≡ number →
+      to_read left ≡ Err (refusal number Truncated)
   line_missing left number more none is =
       let next : count - k ≡ suc (count - (k + 1)) = omega (arith, more) in
       ap (λ n. put_behind before (read_from F at n left)) next
-      ∙ ap (λ rest. put_behind before (read_some F at (suc (count - (k + 1))) (lines_from left.number rest) left.number)) none
+      ∙ ap (λ rest. put_behind before (read_some F at (suc (count - (k + 1)))
+      (lines_from left.number rest) left.number)) none
       ∙ ap (λ n. Err (refusal n Truncated)) is
 
   -- where a line stands in front
-  by_line : (left : LineCursor) (line : TextLine) (rest : List TextLine) → k < count → lines_from left.number left.rest ≡ line ∷ rest →
+  by_line : (left : LineCursor) (line : TextLine) (rest : List TextLine) → k < count →
+      lines_from left.number left.rest ≡ line ∷ rest →
       to_read left ≡ put_behind before (and_read (at_line line.number (F.line at (line_tokens line.text)))
       (λ item. and_read (read_some F (F.behind at item) (count - (k + 1)) rest (line.number + 1)) (with_item item)))
   by_line left line rest more is =
@@ -60,14 +70,17 @@ module _ {S A : Type 0} (F : Format S A) (at : S) (k count : ℕ) (before : List
       ∙ ap (λ all. put_behind before (read_some F at (suc (count - (k + 1))) all left.number)) is
 
   pub line_at_fault : (left : LineCursor) (line : TextLine) (rest : List TextLine) (name : CertFault) → k < count →
-      lines_from left.number left.rest ≡ line ∷ rest → F.line at (line_tokens line.text) ≡ Err name → to_read left ≡ Err (refusal line.number name)
+      lines_from left.number left.rest ≡ line ∷ rest → F.line at (line_tokens line.text) ≡ Err name →
+      to_read left ≡ Err (refusal line.number name)
   line_at_fault left line rest name more is fault =
       by_line left line rest more is
       ∙ ap (λ r. put_behind before (and_read (at_line line.number r)
-      (λ item. and_read (read_some F (F.behind at item) (count - (k + 1)) rest (line.number + 1)) (with_item item)))) fault
+      (λ item. and_read (read_some F (F.behind at item) (count - (k + 1)) rest (line.number + 1))
+      (with_item item)))) fault
 
   pub line_read : (left after_line : LineCursor) (line : TextLine) (item : A) (after : List A) → k < count →
-      lines_from left.number left.rest ≡ line ∷ lines_from after_line.number after_line.rest → after_line.number ≡ line.number + 1 →
+      lines_from left.number left.rest ≡ line ∷ lines_from after_line.number after_line.rest →
+      after_line.number ≡ line.number + 1 →
       F.line at (line_tokens line.text) ≡ Ok item → after ≡ before ++ item ∷ [] →
       to_read left ≡ put_behind after (read_from F (F.behind at item) (count - (k + 1)) after_line)
   line_read left after_line line item after more is next taken pushed =

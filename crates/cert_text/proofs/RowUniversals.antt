@@ -10,7 +10,8 @@ abbrev pub bit_text : ℕ × Bool → List ℕ
 bit_text x = signed_text x.1 x.0
 
 pub one_bit_more : (xs : List ℕ) (bits : List Bool) (i : ℕ) (old new start : List ℕ) → i < length xs → i < length bits →
-    new ≡ old ++ signed_text (get_or bits i false) (get_or xs i 0) → old ++ flat_map bit_text (drop i (zip xs bits)) ≡ start →
+    new ≡ old ++ signed_text (get_or bits i false) (get_or xs i 0) →
+    old ++ flat_map bit_text (drop i (zip xs bits)) ≡ start →
     new ++ flat_map bit_text (drop (i + 1) (zip xs bits)) ≡ start
 one_bit_more xs bits i old new start in_xs in_bits grown so_far =
     let both = zip xs bits in

@@ -30,10 +30,12 @@ negated_magnitude : (value : ℕ) → nat_abs (neg_ℤ (pos value)) ≡ value
 negated_magnitude zero = refl
 negated_magnitude (suc value) = refl
 
-number_small : (minus : Bool) (byte : ℕ) (bytes : List ℕ) (n : ℤ) → cond minus (negative_of bytes) (unsigned_of (byte ∷ bytes)) ≡ Int n → IsSmall n
+number_small : (minus : Bool) (byte : ℕ) (bytes : List ℕ) (n : ℤ) →
+    cond minus (negative_of bytes) (unsigned_of (byte ∷ bytes)) ≡ Int n → IsSmall n
 number_small true byte bytes n h =
     let value = decimal_value bytes in
-    chosen value (neg_ℤ (pos value)) n (not (are_digits bytes) || (value == 0)) (nat_lt value (10 ^ 18)) (negated_magnitude value) refl h
+    chosen value (neg_ℤ (pos value)) n (not (are_digits bytes) || (value == 0)) (nat_lt value (10 ^ 18))
+    (negated_magnitude value) refl h
 number_small false byte bytes n h =
     let value = decimal_value (byte ∷ bytes) in
     chosen value (pos value) n (not (are_digits (byte ∷ bytes))) (nat_lt value (10 ^ 18)) refl refl h
@@ -54,25 +56,35 @@ literals_small : (ls : List Literal) (behind : List ℤ) → AllByRecursion IsSm
     AllByRecursion (λ l. variable_of l < 10 ^ 18) ls
 literals_small [] behind small = tt
 literals_small (positive v ∷ ls) behind small = (small.0, literals_small ls behind small.1)
-literals_small (negative v ∷ ls) behind small = (subst (λ k. k < 10 ^ 18) (negated_magnitude v) small.0, literals_small ls behind small.1)
+literals_small (negative v ∷ ls) behind small = (
+  subst (λ k. k < 10 ^ 18) (negated_magnitude v) small.0,
+  literals_small ls behind small.1,
+)
 
 pub step_small : (tokens : Tokens) (s : ProofStep) → SpellsStep tokens s → HasSmallNumbers s
 step_small tokens s spelled =
     let small = integers_small tokens (step_numbers s) spelled in
-    record { id = small.0; variables = All-from_recursion (λ l. variable_of l < 10 ^ 18) s.literals (literals_small s.literals _ small.1) }
+    record {
+      id = small.0;
+      variables = All-from_recursion (λ l. variable_of l < 10 ^ 18) s.literals
+          (literals_small s.literals _ small.1);
+    }
 
 -- the literals of a line can be kept
-kept : (ns : List ℤ) → AllByRecursion (λ l. variable_of l < 10 ^ 18) (map dimacs_literal ns) → AllByRecursion (λ n. 1 ≤ nat_abs n) ns →
+kept : (ns : List ℤ) → AllByRecursion (λ l. variable_of l < 10 ^ 18) (map dimacs_literal ns) →
+    AllByRecursion (λ n. 1 ≤ nat_abs n) ns →
     AllByRecursion IsLiteralNumber ns
 kept [] small some = tt
 kept (pos v ∷ ns) small some = ((some.0, omega (arith, small.0)), kept ns small.1 some.1)
 kept (negsuc v ∷ ns) small some = ((some.0, omega (arith, small.0)), kept ns small.1 some.1)
 
-pub keepable : (tokens : Tokens) (ns : List ℤ) (s : StepNumbers) → line_integers tokens ≡ Ok ns → maybe_step (Some s) ≡ step_of ns →
+pub keepable : (tokens : Tokens) (ns : List ℤ) (s : StepNumbers) → line_integers tokens ≡ Ok ns →
+    maybe_step (Some s) ≡ step_of ns →
     All (λ n. 1 ≤ nat_abs n) s.literals.now → All IsLiteralNumber s.literals.now
 keepable tokens ns s taken is some =
     let shape = shape_read ns (numbered_step s) (sym is) in
     let small = step_small tokens (numbered_step s) (integers_spelled tokens ns taken ∙ ap integers shape.numbers) in
     All-from_recursion IsLiteralNumber s.literals.now
-    (kept s.literals.now (recursion_from_All (λ l. variable_of l < 10 ^ 18) (map dimacs_literal s.literals.now) small.variables)
+    (kept s.literals.now (recursion_from_All (λ l. variable_of l < 10 ^ 18)
+    (map dimacs_literal s.literals.now) small.variables)
     (recursion_from_All (λ n. 1 ≤ nat_abs n) s.literals.now some))

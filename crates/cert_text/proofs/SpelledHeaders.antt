@@ -24,24 +24,32 @@ proof_version : (version : Version) → version_of proof_word (proof_word versio
 proof_version One = refl
 proof_version Two = refl
 
-by_words : (one two : Bool) (word_of : Version → List ℕ) (word : List ℕ) (version : Version) → (one ≡ true → word ≡ word_of One) → (two ≡ true → word ≡ word_of Two) →
+by_words : (one two : Bool) (word_of : Version → List ℕ) (word : List ℕ) (version : Version) →
+    (one ≡ true → word ≡ word_of One) → (two ≡ true → word ≡ word_of Two) →
     cond one (Some One) (cond two (Some Two) None) ≡ Some version → word ≡ word_of version
 by_words true two word_of word version first second h = let is : One ≡ version = cc in first refl ∙ ap word_of is
 by_words false true word_of word version first second h = let is : Two ≡ version = cc in second refl ∙ ap word_of is
 by_words false false word_of word version first second h = cc
 
-word_is : (word_of : Version → List ℕ) (word : List ℕ) (version : Version) → version_of word_of word ≡ Some version → word ≡ word_of version
+word_is : (word_of : Version → List ℕ) (word : List ℕ) (version : Version) → version_of word_of word ≡ Some version →
+    word ≡ word_of version
 word_is word_of word version h =
-    by_words (bytes_eq word (word_of One)) (bytes_eq word (word_of Two)) word_of word version (bytes_eq-Decides word (word_of One)).0 (bytes_eq-Decides word (word_of Two)).0 h
+    by_words (bytes_eq word (word_of One)) (bytes_eq word (word_of Two)) word_of word version
+    (bytes_eq-Decides word (word_of One)).0 (bytes_eq-Decides word (word_of Two)).0 h
 
-pub header_taken : (tokens : Tokens) (version : Version) (rows items : ℕ) → SpellsHeader tokens version rows items → rows ≤ max_count → items ≤ max_count →
+pub header_taken : (tokens : Tokens) (version : Version) (rows items : ℕ) → SpellsHeader tokens version rows items →
+    rows ≤ max_count → items ≤ max_count →
     header_of tokens ≡ Ok (record { version = version; rows = rows; items = items })
 header_taken tokens version rows items spelled few_rows few_items =
     ap header_of spelled.words
-    ∙ ap (λ v. counts_of v (natural_of spelled.rows_token) (natural_of spelled.items_token)) (refutation_version version)
-    ∙ ap₂ (counts_of (Some version)) (natural_taken spelled.rows_token rows spelled.rows_number) (natural_taken spelled.items_token items spelled.items_number)
-    ∙ cond-false (nat_lt max_count rows || nat_lt max_count items) (Err TooBig) (Ok (record { version = version; rows = rows; items = items }))
-    (or_from (nat_lt max_count rows) (nat_lt max_count items) (le-ltb max_count rows (omega (arith, few_rows))) (le-ltb max_count items (omega (arith, few_items))))
+    ∙ ap (λ v. counts_of v (natural_of spelled.rows_token) (natural_of spelled.items_token))
+    (refutation_version version)
+    ∙ ap₂ (counts_of (Some version)) (natural_taken spelled.rows_token rows spelled.rows_number)
+    (natural_taken spelled.items_token items spelled.items_number)
+    ∙ cond-false (nat_lt max_count rows || nat_lt max_count items) (Err TooBig)
+    (Ok (record { version = version; rows = rows; items = items }))
+    (or_from (nat_lt max_count rows) (nat_lt max_count items) (le-ltb max_count rows (omega (arith, few_rows)))
+    (le-ltb max_count items (omega (arith, few_items))))
 
 pub record IsHeader (tokens : Tokens) (c : Counts) : Type 0 where
   pub spelled : SpellsHeader tokens c.version c.rows c.items
@@ -49,7 +57,8 @@ pub record IsHeader (tokens : Tokens) (c : Counts) : Type 0 where
   pub few_items : c.items ≤ max_count
 
 -- the word stands there, and the numbers are counts
-passed_word : {A : Type 0} (word : Bool) (r : Result A CertFault) (c : A) → cond word r (Err BadHeader) ≡ Ok c → (word ≡ true) × (r ≡ Ok c)
+passed_word : {A : Type 0} (word : Bool) (r : Result A CertFault) (c : A) → cond word r (Err BadHeader) ≡ Ok c →
+    (word ≡ true) × (r ≡ Ok c)
 passed_word true r c h = (refl, h)
 passed_word false r c h = cc
 
@@ -60,7 +69,8 @@ record AreCounts (version : Option Version) (rows items : Option ℕ) (c : Count
   few_rows : c.rows ≤ max_count
   few_items : c.items ≤ max_count
 
-are_counts : (version : Option Version) (rows items : Option ℕ) (c : Counts) → counts_of version rows items ≡ Ok c → AreCounts version rows items c
+are_counts : (version : Option Version) (rows items : Option ℕ) (c : Counts) → counts_of version rows items ≡ Ok c →
+    AreCounts version rows items c
 are_counts None rows items c h = cc
 are_counts (Some v) None items c h = cc
 are_counts (Some v) (Some k) None c h = cc
@@ -77,9 +87,11 @@ are_counts (Some v) (Some k) (Some n) c h =
       few_items = ltb-false max_count n small.1;
     })
 
-four_tokens : (letter word k n : List ℕ) (c : Counts) → header_of (letter ∷ word ∷ k ∷ n ∷ []) ≡ Ok c → IsHeader (letter ∷ word ∷ k ∷ n ∷ []) c
+four_tokens : (letter word k n : List ℕ) (c : Counts) → header_of (letter ∷ word ∷ k ∷ n ∷ []) ≡ Ok c →
+    IsHeader (letter ∷ word ∷ k ∷ n ∷ []) c
 four_tokens letter word k n c h =
-    let outer = passed_word (bytes_eq letter (codes "p")) (counts_of (version_of refutation_word word) (natural_of k) (natural_of n)) c h in
+    let outer = passed_word (bytes_eq letter (codes "p")) (counts_of (version_of refutation_word word) (natural_of k)
+    (natural_of n)) c h in
     let counted = are_counts (version_of refutation_word word) (natural_of k) (natural_of n) c outer.1 in
     let few_rows = counted.few_rows in
     let few_items = counted.few_items in
@@ -87,7 +99,8 @@ four_tokens letter word k n c h =
       spelled = record {
         rows_token = k;
         items_token = n;
-        words = ap₂ (λ a b. a ∷ b ∷ k ∷ n ∷ []) ((bytes_eq-Decides letter (codes "p")).0 outer.0) (word_is refutation_word word c.version counted.version_is);
+        words = ap₂ (λ a b. a ∷ b ∷ k ∷ n ∷ []) ((bytes_eq-Decides letter (codes "p")).0 outer.0)
+            (word_is refutation_word word c.version counted.version_is);
         rows_number = natural_spelled k c.rows counted.rows_are (omega (arith, few_rows));
         items_number = natural_spelled n c.items counted.items_are (omega (arith, few_items));
       };
@@ -104,12 +117,14 @@ header_spelled (a ∷ b ∷ k ∷ n ∷ []) c h = four_tokens a b k n c h
 header_spelled (a ∷ b ∷ k ∷ n ∷ more ∷ rest) c h = cc
 
 -- the same of a circuit's proof
-pub proof_header_taken : (tokens : Tokens) (version : Version) (items : ℕ) → SpellsProofHeader tokens version items → items ≤ max_count →
+pub proof_header_taken : (tokens : Tokens) (version : Version) (items : ℕ) → SpellsProofHeader tokens version items →
+    items ≤ max_count →
     proof_header tokens ≡ Ok (record { version = version; items = items })
 proof_header_taken tokens version items spelled few =
     ap proof_header spelled.words
     ∙ ap₂ count_of (proof_version version) (natural_taken spelled.items_token items spelled.items_number)
-    ∙ cond-false (nat_lt max_count items) (Err TooBig) (Ok (record { version = version; items = items })) (le-ltb max_count items (omega (arith, few)))
+    ∙ cond-false (nat_lt max_count items) (Err TooBig) (Ok (record { version = version; items = items }))
+    (le-ltb max_count items (omega (arith, few)))
 
 pub record IsProofHeader (tokens : Tokens) (c : ItemCount) : Type 0 where
   pub spelled : SpellsProofHeader tokens c.version c.items
@@ -120,16 +135,23 @@ record IsCount (version : Option Version) (items : Option ℕ) (c : ItemCount) :
   items_are : items ≡ Some c.items
   few : c.items ≤ max_count
 
-is_count : (version : Option Version) (items : Option ℕ) (c : ItemCount) → count_of version items ≡ Ok c → IsCount version items c
+is_count : (version : Option Version) (items : Option ℕ) (c : ItemCount) → count_of version items ≡ Ok c →
+    IsCount version items c
 is_count None items c h = cc
 is_count (Some v) None c h = cc
 is_count (Some v) (Some n) c h =
     let made : ItemCount = record { version = v; items = n } in
     let checked = passed (nat_lt max_count n) TooBig (Ok made) c h in
     let is : made ≡ c = cc in
-    subst (IsCount (Some v) (Some n)) is (record { version_is = refl; items_are = refl; few = ltb-false max_count n checked.0 })
+    subst (IsCount (Some v) (Some n)) is (record {
+      version_is = refl;
+      items_are = refl;
+      few =
+          ltb-false max_count n checked.0;
+    })
 
-two_tokens : (word token : List ℕ) (c : ItemCount) → proof_header (word ∷ token ∷ []) ≡ Ok c → IsProofHeader (word ∷ token ∷ []) c
+two_tokens : (word token : List ℕ) (c : ItemCount) → proof_header (word ∷ token ∷ []) ≡ Ok c →
+    IsProofHeader (word ∷ token ∷ []) c
 two_tokens word token c h =
     let counted = is_count (version_of proof_word word) (natural_of token) c h in
     let few = counted.few in

@@ -51,15 +51,19 @@ deletion_kept ids some are =
     ∙ ap (λ b. cond b (Some (map nat_abs ns)) None) tests
     ∙ ap Some (hints_back ids)
 
-deletion_taken : (p : ℕ → Bool) (n : Numbering) (tokens : Tokens) (ids : List ℕ) → IsNumbered n → SpellsDeletion tokens ids → IsDeletion n ids →
+deletion_taken : (p : ℕ → Bool) (n : Numbering) (tokens : Tokens) (ids : List ℕ) → IsNumbered n →
+    SpellsDeletion tokens ids → IsDeletion n ids →
     marked_line p n tokens ≡ Ok (gone ids)
 deletion_taken p n tokens ids numbered spelled is =
     ap (marked_line p n) spelled.letter
-    ∙ ap (λ r. and_then (checked_ids n) (and_then (λ ns. shaped (deletion_of ns)) r)) (integers_taken spelled.rest (hint_numbers ids ++ pos 0 ∷ []) spelled.numbers)
-    ∙ ap (λ o. and_then (checked_ids n) (shaped o)) (deletion_kept ids is.some (live_ids (λ id. 1 ≤ id) n ids numbered.live is.live))
+    ∙ ap (λ r. and_then (checked_ids n) (and_then (λ ns. shaped (deletion_of ns)) r))
+    (integers_taken spelled.rest (hint_numbers ids ++ pos 0 ∷ []) spelled.numbers)
+    ∙ ap (λ o. and_then (checked_ids n) (shaped o)) (deletion_kept ids is.some
+    (live_ids (λ id. 1 ≤ id) n ids numbered.live is.live))
     ∙ ap (λ b. cond b (Ok (gone ids)) (Err NotLive)) is.live
 
-marked_step : (p : ℕ → Bool) (n : Numbering) (tokens : Tokens) (s : ProofStep) → SpellsStep tokens s → step_line p n.next tokens ≡ Ok s →
+marked_step : (p : ℕ → Bool) (n : Numbering) (tokens : Tokens) (s : ProofStep) → SpellsStep tokens s →
+    step_line p n.next tokens ≡ Ok s →
     marked_line p n tokens ≡ Ok (derived s)
 marked_step p n [] s spelled taken = cc
 marked_step p n (token ∷ tokens) s spelled taken =
@@ -68,29 +72,39 @@ marked_step p n (token ∷ tokens) s spelled taken =
     (by_test (bytes_eq token (codes "d")) token (pos s.id) here (bytes_eq-Decides token (codes "d")).0)
     ∙ ap as_item taken
 
-pub item_taken : (version : Version) (p : ℕ → Bool) (n : Numbering) (tokens : Tokens) (item : ProofItem) → ((v : ℕ) → p v ≡ true → 1 ≤ v) → IsNumbered n →
+pub item_taken : (version : Version) (p : ℕ → Bool) (n : Numbering) (tokens : Tokens) (item : ProofItem) →
+    ((v : ℕ) → p v ≡ true → 1 ≤ v) → IsNumbered n →
     SpellsItem version tokens item → IsItem p n item → item_line version p n tokens ≡ Ok item
-item_taken One p n tokens (derived s) some numbered spelled is = ap as_item (step_taken p n.next tokens s some numbered.next spelled is)
+item_taken One p n tokens (derived s) some numbered spelled is =
+    ap as_item (step_taken p n.next tokens s some numbered.next spelled is)
 item_taken One p n tokens (gone ids) some numbered spelled is = absurd (apart spelled.0)
   where
     apart : One ≡ Two → ⊥
     apart h = cc
-item_taken Two p n tokens (derived s) some numbered spelled is = marked_step p n tokens s spelled (step_taken p n.next tokens s some numbered.next spelled is)
+item_taken Two p n tokens (derived s) some numbered spelled is =
+    marked_step p n tokens s spelled (step_taken p n.next tokens s some numbered.next spelled is)
 item_taken Two p n tokens (gone ids) some numbered spelled is = deletion_taken p n tokens ids numbered spelled.1 is
 
 -- an item, spelled and lawful
-pub record IsItemLine (version : Version) (p : ℕ → Bool) (n : Numbering) (tokens : Tokens) (item : ProofItem) : Type 0 where
+pub record IsItemLine (version : Version) (p : ℕ → Bool) (n : Numbering) (tokens : Tokens)
+    (item : ProofItem) : Type 0 where
   pub spelled : SpellsItem version tokens item
   pub lawful : IsItem p n item
   pub small : IsSmallItem item
 
-by_step : (version : Version) (p : ℕ → Bool) (n : Numbering) (tokens : Tokens) (taken : Result ProofStep CertFault) (item : ProofItem) →
+by_step : (version : Version) (p : ℕ → Bool) (n : Numbering) (tokens : Tokens) (taken : Result ProofStep CertFault)
+    (item : ProofItem) →
     step_line p n.next tokens ≡ taken → as_item taken ≡ Ok item → IsItemLine version p n tokens item
 by_step version p n tokens (Err name) item is h = cc
 by_step version p n tokens (Ok s) item is h =
     let same : derived s ≡ item = cc in
     let l = step_spelled p n.next tokens s is in
-    subst (IsItemLine version p n tokens) same (record { spelled = l.spelled; lawful = l.lawful; small = step_small tokens s l.spelled })
+    subst (IsItemLine version p n tokens) same (record {
+      spelled = l.spelled;
+      lawful = l.lawful;
+      small =
+          step_small tokens s l.spelled;
+    })
 
 -- ids that were taken
 record AreTaken (tokens : Tokens) (ids : List ℕ) : Type 0 where
@@ -105,17 +119,24 @@ length_some : (ns : List ℤ) → not (is_nil ns) ≡ true → 1 ≤ length (map
 length_some [] h = cc
 length_some (n ∷ ns) h = omega arith
 
-of_parts : (tokens : Tokens) (ns : List ℤ) (parts : Parts) (ids : List ℕ) → map number_of tokens ≡ integers ns → cut_at_zero ns ≡ Some parts →
+of_parts : (tokens : Tokens) (ns : List ℤ) (parts : Parts) (ids : List ℕ) → map number_of tokens ≡ integers ns →
+    cut_at_zero ns ≡ Some parts →
     ids_of_parts parts.0 parts.1 ≡ Some ids → AreTaken tokens ids
 of_parts tokens ns parts ids numbers is h =
-    let made = kept_ids (not (is_nil parts.0) && (list_all is_positive parts.0 && is_nil parts.1)) (map nat_abs parts.0) ids h in
+    let made = kept_ids (not (is_nil parts.0) && (list_all is_positive parts.0 && is_nil parts.1))
+    (map nat_abs parts.0) ids h in
     let first = and_parts (not (is_nil parts.0)) (list_all is_positive parts.0 && is_nil parts.1) made.0 in
     let second = and_parts (list_all is_positive parts.0) (is_nil parts.1) first.1 in
     let whole : ns ≡ hint_numbers (map nat_abs parts.0) ++ pos 0 ∷ [] =
     cut_back ns parts is ∙ ap₂ (λ a b. a ++ pos 0 ∷ b) (sym (hints_are parts.0 second.0).0) (nil_is parts.1 second.1) in
-    subst (AreTaken tokens) made.1 (record { numbers = numbers ∙ ap integers whole; some = length_some parts.0 first.0 })
+    subst (AreTaken tokens) made.1 (record {
+      numbers = numbers ∙ ap integers whole;
+      some =
+          length_some parts.0 first.0;
+    })
 
-by_shape : (tokens : Tokens) (ns : List ℤ) (found : Option (List ℕ)) (ids : List ℕ) → map number_of tokens ≡ integers ns → deletion_of ns ≡ found →
+by_shape : (tokens : Tokens) (ns : List ℤ) (found : Option (List ℕ)) (ids : List ℕ) →
+    map number_of tokens ≡ integers ns → deletion_of ns ≡ found →
     shaped found ≡ Ok ids → AreTaken tokens ids
 by_shape tokens ns None ids numbers is h = cc
 by_shape tokens ns (Some found) ids numbers is h =
@@ -128,11 +149,13 @@ by_integers : (tokens : Tokens) (taken : Result (List ℤ) CertFault) (ids : Lis
 by_integers tokens (Err name) ids is h = cc
 by_integers tokens (Ok ns) ids is h = by_shape tokens ns (deletion_of ns) ids (integers_spelled tokens ns is) refl h
 
-live_kept : (b : Bool) (ids : List ℕ) (item : ProofItem) → cond b (Ok (gone ids)) (Err NotLive) ≡ Ok item → (b ≡ true) × (gone ids ≡ item)
+live_kept : (b : Bool) (ids : List ℕ) (item : ProofItem) → cond b (Ok (gone ids)) (Err NotLive) ≡ Ok item →
+    (b ≡ true) × (gone ids ≡ item)
 live_kept true ids item h = let is : gone ids ≡ item = cc in (refl, is)
 live_kept false ids item h = cc
 
-by_ids : (p : ℕ → Bool) (n : Numbering) (tokens : Tokens) (taken : Result (List ℕ) CertFault) (item : ProofItem) → deleted_ids tokens ≡ taken →
+by_ids : (p : ℕ → Bool) (n : Numbering) (tokens : Tokens) (taken : Result (List ℕ) CertFault) (item : ProofItem) →
+    deleted_ids tokens ≡ taken →
     and_then (checked_ids n) taken ≡ Ok item → IsItemLine Two p n (codes "d" ∷ tokens) item
 by_ids p n tokens (Err name) item is h = cc
 by_ids p n tokens (Ok ids) item is h =
@@ -144,13 +167,18 @@ by_ids p n tokens (Ok ids) item is h =
       small = tt;
     })
 
-by_letter : (b : Bool) (p : ℕ → Bool) (n : Numbering) (token : List ℕ) (tokens : Tokens) (item : ProofItem) → (b ≡ true → token ≡ codes "d") →
-    cond b (and_then (checked_ids n) (deleted_ids tokens)) (as_item (step_line p n.next (token ∷ tokens))) ≡ Ok item → IsItemLine Two p n (token ∷ tokens) item
+by_letter : (b : Bool) (p : ℕ → Bool) (n : Numbering) (token : List ℕ) (tokens : Tokens) (item : ProofItem) →
+    (b ≡ true → token ≡ codes "d") →
+    cond b (and_then (checked_ids n) (deleted_ids tokens)) (as_item (step_line p n.next (token ∷ tokens))) ≡ Ok item →
+    IsItemLine Two p n (token ∷ tokens) item
 by_letter true p n token tokens item letter h =
-    subst (λ t. IsItemLine Two p n (t ∷ tokens) item) (sym (letter refl)) (by_ids p n tokens (deleted_ids tokens) item refl h)
-by_letter false p n token tokens item letter h = by_step Two p n (token ∷ tokens) (step_line p n.next (token ∷ tokens)) item refl h
+    subst (λ t. IsItemLine Two p n (t ∷ tokens) item) (sym (letter refl))
+    (by_ids p n tokens (deleted_ids tokens) item refl h)
+by_letter false p n token tokens item letter h = by_step Two p n (token ∷ tokens)
+    (step_line p n.next (token ∷ tokens)) item refl h
 
-pub item_spelled : (version : Version) (p : ℕ → Bool) (n : Numbering) (tokens : Tokens) (item : ProofItem) → item_line version p n tokens ≡ Ok item →
+pub item_spelled : (version : Version) (p : ℕ → Bool) (n : Numbering) (tokens : Tokens) (item : ProofItem) →
+    item_line version p n tokens ≡ Ok item →
     IsItemLine version p n tokens item
 item_spelled One p n tokens item h = by_step One p n tokens (step_line p n.next tokens) item refl h
 item_spelled Two p n [] item h = by_step Two p n [] (step_line p n.next []) item refl h

@@ -19,7 +19,8 @@ record IsFirst (n : ℕ) (text : List ℕ) (line : TextLine) (lines : List TextL
   short : length line.behind ≤ length text
 
 fed : (n : ℕ) (bytes : List ℕ) (byte : ℕ) (line : TextLine) (lines : List TextLine) →
-    record { text = []; number = n; behind = bytes } ∷ lines_from (n + 1) bytes ≡ line ∷ lines → IsFirst n (byte ∷ bytes) line lines
+    record { text = []; number = n; behind = bytes } ∷ lines_from (n + 1) bytes ≡ line ∷ lines →
+    IsFirst n (byte ∷ bytes) line lines
 fed n bytes byte line lines h =
     let line_is : record { text = []; number = n; behind = bytes } ≡ line = cc in
     let lines_are : lines_from (n + 1) bytes ≡ lines = cc in
@@ -31,7 +32,8 @@ fed n bytes byte line lines h =
     }
 
 extended : (n : ℕ) (bytes : List ℕ) (byte : ℕ) (line : TextLine) (lines found : List TextLine) →
-    ((l : TextLine) (ls : List TextLine) → found ≡ l ∷ ls → IsFirst n bytes l ls) → extend_line byte n found ≡ line ∷ lines → IsFirst n (byte ∷ bytes) line lines
+    ((l : TextLine) (ls : List TextLine) → found ≡ l ∷ ls → IsFirst n bytes l ls) →
+    extend_line byte n found ≡ line ∷ lines → IsFirst n (byte ∷ bytes) line lines
 extended n bytes byte line lines [] later h =
     let line_is : record { text = byte ∷ []; number = n; behind = [] } ≡ line = cc in
     let lines_are : [] ≡ lines = cc in
@@ -54,12 +56,14 @@ extended n bytes byte line lines (l ∷ ls) later h =
 
 by_byte : (feed : Bool) (n : ℕ) (bytes : List ℕ) (byte : ℕ) (line : TextLine) (lines : List TextLine) →
     ((l : TextLine) (ls : List TextLine) → lines_from n bytes ≡ l ∷ ls → IsFirst n bytes l ls) →
-    cond feed (record { text = []; number = n; behind = bytes } ∷ lines_from (n + 1) bytes) (extend_line byte n (lines_from n bytes)) ≡ line ∷ lines →
+    cond feed (record { text = []; number = n; behind = bytes } ∷ lines_from (n + 1) bytes)
+    (extend_line byte n (lines_from n bytes)) ≡ line ∷ lines →
     IsFirst n (byte ∷ bytes) line lines
 by_byte true n bytes byte line lines later h = fed n bytes byte line lines h
 by_byte false n bytes byte line lines later h = extended n bytes byte line lines (lines_from n bytes) later h
 
-first_line : (n : ℕ) (text : List ℕ) (line : TextLine) (lines : List TextLine) → lines_from n text ≡ line ∷ lines → IsFirst n text line lines
+first_line : (n : ℕ) (text : List ℕ) (line : TextLine) (lines : List TextLine) → lines_from n text ≡ line ∷ lines →
+    IsFirst n text line lines
 first_line n [] line lines h = cc
 first_line n (byte ∷ bytes) line lines h = by_byte (byte == 10) n bytes byte line lines (first_line n bytes) h
 
@@ -72,17 +76,21 @@ record IsHeaderOf (place number : ℕ) (tokens : List (List ℕ)) (kind : Kind) 
 
 by_words : (circuit refutation : Bool) (place number : ℕ) (word : List ℕ) (tokens : List (List ℕ)) (kind : Kind) →
     (circuit ≡ true → word ≡ codes "aag") → (refutation ≡ true → word ≡ codes "p") →
-    cond circuit (Ok (Circuit place number)) (cond refutation (Ok (Refutation place number)) (Err (refusal number BadHeader))) ≡ Ok kind →
+    cond circuit (Ok (Circuit place number)) (cond refutation (Ok (Refutation place number))
+    (Err (refusal number BadHeader))) ≡ Ok kind →
     IsHeaderOf place number (word ∷ tokens) kind
 by_words true refutation place number word tokens kind aag p h =
     let is : Circuit place number ≡ kind = cc in
-    subst (IsHeaderOf place number (word ∷ tokens)) is (record { rest = tokens; word = ap (λ w. w ∷ tokens) (aag refl); place_is = refl; number_is = refl })
+    subst (IsHeaderOf place number (word ∷ tokens)) is (record
+    { rest = tokens; word = ap (λ w. w ∷ tokens) (aag refl); place_is = refl; number_is = refl })
 by_words false true place number word tokens kind aag p h =
     let is : Refutation place number ≡ kind = cc in
-    subst (IsHeaderOf place number (word ∷ tokens)) is (record { rest = tokens; word = ap (λ w. w ∷ tokens) (p refl); place_is = refl; number_is = refl })
+    subst (IsHeaderOf place number (word ∷ tokens)) is (record
+    { rest = tokens; word = ap (λ w. w ∷ tokens) (p refl); place_is = refl; number_is = refl })
 by_words false false place number word tokens kind aag p h = cc
 
-header_is : (place number : ℕ) (tokens : List (List ℕ)) (kind : Kind) → header_kind place number tokens ≡ Ok kind → IsHeaderOf place number tokens kind
+header_is : (place number : ℕ) (tokens : List (List ℕ)) (kind : Kind) → header_kind place number tokens ≡ Ok kind →
+    IsHeaderOf place number tokens kind
 header_is place number [] kind h = cc
 header_is place number (word ∷ tokens) kind h =
     by_words (bytes_eq word (codes "aag")) (bytes_eq word (codes "p")) place number word tokens kind
@@ -92,7 +100,8 @@ abbrev word_of : Verdict → List ℕ
 word_of True = codes "TRUE"
 word_of False = codes "FALSE"
 
-verdict_is : (t f : Bool) (word : List ℕ) (verdict : Verdict) → (t ≡ true → word ≡ codes "TRUE") → (f ≡ true → word ≡ codes "FALSE") →
+verdict_is : (t f : Bool) (word : List ℕ) (verdict : Verdict) → (t ≡ true → word ≡ codes "TRUE") →
+    (f ≡ true → word ≡ codes "FALSE") →
     cond t (Some True) (cond f (Some False) None) ≡ Some verdict → word ≡ word_of verdict
 verdict_is true f word verdict is_true is_false h =
     let is : True ≡ verdict = cc in is_true refl ∙ ap word_of is
@@ -100,26 +109,32 @@ verdict_is false true word verdict is_true is_false h =
     let is : False ≡ verdict = cc in is_false refl ∙ ap word_of is
 verdict_is false false word verdict is_true is_false h = cc
 
-by_letter : (s : Bool) (letter word : List ℕ) (verdict : Verdict) → (s ≡ true → letter ≡ codes "s") → cond s (verdict_of_word word) None ≡ Some verdict →
+by_letter : (s : Bool) (letter word : List ℕ) (verdict : Verdict) → (s ≡ true → letter ≡ codes "s") →
+    cond s (verdict_of_word word) None ≡ Some verdict →
     letter ∷ word ∷ [] ≡ codes "s" ∷ word_of verdict ∷ []
 by_letter true letter word verdict is_s h =
     ap₂ (λ a b. a ∷ b ∷ []) (is_s refl)
-    (verdict_is (bytes_eq word (codes "TRUE")) (bytes_eq word (codes "FALSE")) word verdict (bytes_eq-Decides word (codes "TRUE")).0 (bytes_eq-Decides word (codes "FALSE")).0 h)
+    (verdict_is (bytes_eq word (codes "TRUE")) (bytes_eq word (codes "FALSE")) word verdict
+    (bytes_eq-Decides word (codes "TRUE")).0 (bytes_eq-Decides word (codes "FALSE")).0 h)
 by_letter false letter word verdict is_s h = cc
 
-stated_is : (tokens : List (List ℕ)) (verdict : Verdict) → stated_verdict tokens ≡ Some verdict → tokens ≡ codes "s" ∷ word_of verdict ∷ []
+stated_is : (tokens : List (List ℕ)) (verdict : Verdict) → stated_verdict tokens ≡ Some verdict →
+    tokens ≡ codes "s" ∷ word_of verdict ∷ []
 stated_is [] verdict h = cc
 stated_is (letter ∷ []) verdict h = cc
-stated_is (letter ∷ word ∷ []) verdict h = by_letter (bytes_eq letter (codes "s")) letter word verdict (bytes_eq-Decides letter (codes "s")).0 h
+stated_is (letter ∷ word ∷ []) verdict h = by_letter (bytes_eq letter (codes "s")) letter word verdict
+    (bytes_eq-Decides letter (codes "s")).0 h
 stated_is (letter ∷ word ∷ more ∷ rest) verdict h = cc
 
-same_word : (verdict : Verdict) (kind : Kind) → same_verdict (shown_verdict kind) verdict ≡ true → word_of verdict ≡ verdict_word kind
+same_word : (verdict : Verdict) (kind : Kind) → same_verdict (shown_verdict kind) verdict ≡ true →
+    word_of verdict ≡ verdict_word kind
 same_word True (Circuit place number) h = refl
 same_word False (Circuit place number) h = cc
 same_word True (Refutation place number) h = cc
 same_word False (Refutation place number) h = refl
 
-agreed : (same : Bool) (kind other : Kind) → cond same (Ok kind) (Err (refusal 1 WrongVerdict)) ≡ Ok other → (same ≡ true) × (kind ≡ other)
+agreed : (same : Bool) (kind other : Kind) → cond same (Ok kind) (Err (refusal 1 WrongVerdict)) ≡ Ok other →
+    (same ≡ true) × (kind ≡ other)
 agreed true kind other h = let is : kind ≡ other = cc in (refl, is)
 agreed false kind other h = cc
 
@@ -130,8 +145,10 @@ agrees verdict (Ok found) kind h =
     let both = agreed (same_verdict (shown_verdict found) verdict) found kind h in
     (ap Ok both.1, same_word verdict found both.0 ∙ ap verdict_word both.1)
 
-behind_verdict : (text : List ℕ) (verdict : Verdict) (line : TextLine) (lines : List TextLine) (kind : Kind) → lines_from 1 text ≡ line ∷ lines →
-    line_tokens line.text ≡ codes "s" ∷ word_of verdict ∷ [] → agreeing verdict (kind_at (length text - length line.behind) lines) ≡ Ok kind → BeginsWithVerdict text kind
+behind_verdict : (text : List ℕ) (verdict : Verdict) (line : TextLine) (lines : List TextLine) (kind : Kind) →
+    lines_from 1 text ≡ line ∷ lines →
+    line_tokens line.text ≡ codes "s" ∷ word_of verdict ∷ [] →
+    agreeing verdict (kind_at (length text - length line.behind) lines) ≡ Ok kind → BeginsWithVerdict text kind
 behind_verdict text verdict line [] kind is stated h = cc
 behind_verdict text verdict line (header ∷ others) kind is stated h =
     let first = first_line 1 text line (header ∷ others) is in
@@ -150,8 +167,10 @@ behind_verdict text verdict line (header ∷ others) kind is stated h =
       number = found.number_is ∙ second.number;
     }
 
-by_statement : (text : List ℕ) (line : TextLine) (lines : List TextLine) (stated : Option Verdict) (kind : Kind) → lines_from 1 text ≡ line ∷ lines →
-    stated_verdict (line_tokens line.text) ≡ stated → kind_behind (length text) line lines stated ≡ Ok kind → Begins text kind
+by_statement : (text : List ℕ) (line : TextLine) (lines : List TextLine) (stated : Option Verdict) (kind : Kind) →
+    lines_from 1 text ≡ line ∷ lines →
+    stated_verdict (line_tokens line.text) ≡ stated → kind_behind (length text) line lines stated ≡ Ok kind →
+    Begins text kind
 by_statement text line lines None kind is stated h =
     let found = header_is 0 line.number (line_tokens line.text) kind h in
     inl (record {
@@ -166,9 +185,11 @@ by_statement text line lines None kind is stated h =
 by_statement text line lines (Some verdict) kind is stated h =
     inr (behind_verdict text verdict line lines kind is (stated_is (line_tokens line.text) verdict stated) h)
 
-by_lines : (text : List ℕ) (lines : List TextLine) (kind : Kind) → lines_from 1 text ≡ lines → kind_of_lines (length text) lines ≡ Ok kind → Begins text kind
+by_lines : (text : List ℕ) (lines : List TextLine) (kind : Kind) → lines_from 1 text ≡ lines →
+    kind_of_lines (length text) lines ≡ Ok kind → Begins text kind
 by_lines text [] kind is h = cc
-by_lines text (line ∷ lines) kind is h = by_statement text line lines (stated_verdict (line_tokens line.text)) kind is refl h
+by_lines text (line ∷ lines) kind is h = by_statement text line lines
+    (stated_verdict (line_tokens line.text)) kind is refl h
 
 pub kind_spelled : (text : List ℕ) (kind : Kind) → certificate_kind text ≡ Ok kind → Begins text kind
 kind_spelled text kind h = by_lines text (lines_from 1 text) kind refl h
@@ -182,10 +203,13 @@ unstated (Refutation place number) [] = refl
 unstated (Refutation place number) (word ∷ []) = refl
 unstated (Refutation place number) (word ∷ more ∷ rest) = refl
 
-told : (kind : Kind) (place number : ℕ) (rest : List (List ℕ)) → header_place kind ≡ place → header_number kind ≡ number →
+told : (kind : Kind) (place number : ℕ) (rest : List (List ℕ)) → header_place kind ≡ place →
+    header_number kind ≡ number →
     header_kind place number (header_word kind ∷ rest) ≡ Ok kind
-told (Circuit at line) place number rest place_is number_is = ap₂ (λ p n. Ok (Circuit p n)) (sym place_is) (sym number_is)
-told (Refutation at line) place number rest place_is number_is = ap₂ (λ p n. Ok (Refutation p n)) (sym place_is) (sym number_is)
+told (Circuit at line) place number rest place_is number_is =
+    ap₂ (λ p n. Ok (Circuit p n)) (sym place_is) (sym number_is)
+told (Refutation at line) place number rest place_is number_is =
+    ap₂ (λ p n. Ok (Refutation p n)) (sym place_is) (sym number_is)
 
 plain_told : (text : List ℕ) (kind : Kind) → BeginsPlainly text kind → certificate_kind text ≡ Ok kind
 plain_told text kind b =
@@ -213,9 +237,15 @@ verdict_told text kind b =
     ap (kind_of_lines (length text)) b.lines
     ∙ ap (λ tokens. kind_behind (length text) b.stated lines (stated_verdict tokens)) b.verdict
     ∙ ap (kind_behind (length text) b.stated lines) (stated_told kind)
-    ∙ ap (λ tokens. agreeing (shown_verdict kind) (header_kind (length text - length b.stated.behind) b.header.number tokens)) b.word
-    ∙ ap (agreeing (shown_verdict kind)) (told kind (length text - length b.stated.behind) b.header.number b.rest place (b.number ∙ sym second.number))
+    ∙ ap (λ tokens. agreeing (shown_verdict kind) (header_kind
+    (length text - length b.stated.behind) b.header.number tokens)) b.word
+    ∙ ap (agreeing (shown_verdict kind)) (told kind (length text - length b.stated.behind) b.header.number b.rest place
+    (b.number ∙ sym second.number))
     ∙ agreeing_told kind
 
 pub kind_told : (text : List ℕ) (kind : Kind) → Begins text kind → certificate_kind text ≡ Ok kind
-kind_told text kind begins = elim begins [ inl plain ↦ plain_told text kind plain | inr stated ↦ verdict_told text kind stated ]
+kind_told text kind begins = elim begins [
+  | inl plain ↦ plain_told text kind plain
+  | inr stated ↦
+      verdict_told text kind stated
+]

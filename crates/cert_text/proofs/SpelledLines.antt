@@ -30,7 +30,8 @@ module _ {S A : Type 0} (F : Format S A) where
     pub items_are : found.items ≡ items
     pub behind_are : by_tokens found.rest ≡ behind
 
-  one_more : (item : A) (items : List A) (behind : List Tokens) (read : Result (LinesRead A) CertRefusal) → ReadsAll items behind read →
+  one_more : (item : A) (items : List A) (behind : List Tokens) (read : Result (LinesRead A) CertRefusal) →
+      ReadsAll items behind read →
       ReadsAll (item ∷ items) behind (and_read read (with_item item))
   one_more item items behind read r = record {
     found = record { items = item ∷ r.found.items; rest = r.found.rest; number = r.found.number };
@@ -39,17 +40,24 @@ module _ {S A : Type 0} (F : Format S A) where
     behind_are = r.behind_are;
   }
 
-  pub all_read : (items : List A) (spelled behind : List Tokens) (at : S) (lines : List TextLine) (number : ℕ) → AreRead at spelled items →
+  pub all_read : (items : List A) (spelled behind : List Tokens) (at : S) (lines : List TextLine) (number : ℕ) →
+      AreRead at spelled items →
       by_tokens lines ≡ spelled ++ behind → ReadsAll items behind (read_some F at (length items) lines number)
   all_read [] [] behind at lines number each are =
-      record { found = record { items = []; rest = lines; number = number }; is = refl; items_are = refl; behind_are = are }
+      record {
+        found = record { items = []; rest = lines; number = number };
+        is = refl;
+        items_are = refl;
+        behind_are = are;
+      }
   all_read [] (t ∷ ts) behind at lines number each are = absurd each
   all_read (item ∷ items) [] behind at lines number each are = absurd each
   all_read (item ∷ items) (t ∷ ts) behind at [] number each are = cc
   all_read (item ∷ items) (t ∷ ts) behind at (line ∷ lines) number each are =
       let here : t ≡ line_tokens line.text = cc in
       let rest : by_tokens lines ≡ ts ++ behind = cc in
-      let first : Ok item ≡ F.line at (line_tokens line.text) = subst (λ tokens. Ok item ≡ F.line at tokens) here (sym each.0) in
+      let first : Ok item ≡ F.line at (line_tokens line.text) =
+      subst (λ tokens. Ok item ≡ F.line at tokens) here (sym each.0) in
       subst (λ r. ReadsAll (item ∷ items) behind (and_read (at_line line.number r)
       (λ x. and_read (read_some F (F.behind at x) (length items) lines (line.number + 1)) (with_item x)))) first
       (one_more item items behind (read_some F (F.behind at item) (length items) lines (line.number + 1))
@@ -62,8 +70,10 @@ module _ {S A : Type 0} (F : Format S A) where
     pub each : AreRead at spelled r.items
     pub counted : length r.items ≡ count
 
-  in_front : (at : S) (count : ℕ) (line : TextLine) (lines : List TextLine) (item : A) (r : LinesRead A) → F.line at (line_tokens line.text) ≡ Ok item →
-      IsReadFrom (F.behind at item) count lines r → IsReadFrom at (suc count) (line ∷ lines) (record { items = item ∷ r.items; rest = r.rest; number = r.number })
+  in_front : (at : S) (count : ℕ) (line : TextLine) (lines : List TextLine) (item : A) (r : LinesRead A) →
+      F.line at (line_tokens line.text) ≡ Ok item →
+      IsReadFrom (F.behind at item) count lines r → IsReadFrom at (suc count) (line ∷ lines)
+      (record { items = item ∷ r.items; rest = r.rest; number = r.number })
   in_front at count line lines item r here rest = record {
     spelled = line_tokens line.text ∷ rest.spelled;
     are = ap (λ ts. line_tokens line.text ∷ ts) rest.are;
@@ -71,27 +81,36 @@ module _ {S A : Type 0} (F : Format S A) where
     counted = ap suc rest.counted;
   }
 
-  by_rest : (at : S) (count : ℕ) (line : TextLine) (lines : List TextLine) (r : LinesRead A) (item : A) (others : Result (LinesRead A) CertRefusal) →
-      F.line at (line_tokens line.text) ≡ Ok item → ((rest : LinesRead A) → others ≡ Ok rest → IsReadFrom (F.behind at item) count lines rest) →
+  by_rest : (at : S) (count : ℕ) (line : TextLine) (lines : List TextLine) (r : LinesRead A) (item : A)
+      (others : Result (LinesRead A) CertRefusal) →
+      F.line at (line_tokens line.text) ≡ Ok item → ((rest : LinesRead A) → others ≡ Ok rest →
+      IsReadFrom (F.behind at item) count lines rest) →
       and_read others (with_item item) ≡ Ok r → IsReadFrom at (suc count) (line ∷ lines) r
   by_rest at count line lines r item (Err fault) is given h = cc
   by_rest at count line lines r item (Ok rest) is given h =
       let same : record { items = item ∷ rest.items; rest = rest.rest; number = rest.number } ≡ r = cc in
-      subst (IsReadFrom at (suc count) (line ∷ lines)) same (in_front at count line lines item rest is (given rest refl))
+      subst (IsReadFrom at (suc count) (line ∷ lines)) same (in_front at count line lines item rest is
+      (given rest refl))
 
-  by_first : (at : S) (count : ℕ) (line : TextLine) (lines : List TextLine) (r : LinesRead A) (first : Result A CertFault) →
+  by_first : (at : S) (count : ℕ) (line : TextLine) (lines : List TextLine) (r : LinesRead A)
+      (first : Result A CertFault) →
       F.line at (line_tokens line.text) ≡ first →
-      ((item : A) (rest : LinesRead A) → read_some F (F.behind at item) count lines (line.number + 1) ≡ Ok rest → IsReadFrom (F.behind at item) count lines rest) →
-      and_read (at_line line.number first) (λ item. and_read (read_some F (F.behind at item) count lines (line.number + 1)) (with_item item)) ≡ Ok r →
+      ((item : A) (rest : LinesRead A) → read_some F (F.behind at item) count lines (line.number + 1) ≡ Ok rest →
+      IsReadFrom (F.behind at item) count lines rest) →
+      and_read (at_line line.number first) (λ item. and_read
+      (read_some F (F.behind at item) count lines (line.number + 1)) (with_item item)) ≡ Ok r →
       IsReadFrom at (suc count) (line ∷ lines) r
   by_first at count line lines r (Err name) is given h = cc
   by_first at count line lines r (Ok item) is given h =
-      by_rest at count line lines r item (read_some F (F.behind at item) count lines (line.number + 1)) is (given item) h
+      by_rest at count line lines r item (read_some F (F.behind at item) count lines (line.number + 1)) is
+      (given item) h
 
-  nothing_read : (at : S) (lines : List TextLine) (number : ℕ) → IsReadFrom at 0 lines (record { items = []; rest = lines; number = number })
+  nothing_read : (at : S) (lines : List TextLine) (number : ℕ) →
+      IsReadFrom at 0 lines (record { items = []; rest = lines; number = number })
   nothing_read at lines number = record { spelled = []; are = refl; each = tt; counted = refl }
 
-  pub read_from_lines : (count : ℕ) (at : S) (lines : List TextLine) (number : ℕ) (r : LinesRead A) → read_some F at count lines number ≡ Ok r →
+  pub read_from_lines : (count : ℕ) (at : S) (lines : List TextLine) (number : ℕ) (r : LinesRead A) →
+      read_some F at count lines number ≡ Ok r →
       IsReadFrom at count lines r
   read_from_lines zero at lines number r h =
       let made : LinesRead A = record { items = []; rest = lines; number = number } in
@@ -103,7 +122,8 @@ module _ {S A : Type 0} (F : Format S A) where
       (λ item rest is. read_from_lines count (F.behind at item) lines (line.number + 1) rest is) h
 
 -- rows
-pub rows_taken : (us : List ℕ) (spelled : List Tokens) (rows : List (List Bool)) → ArePositive us → AllZip (SpellsRow us) spelled rows →
+pub rows_taken : (us : List ℕ) (spelled : List Tokens) (rows : List (List Bool)) → ArePositive us →
+    AllZip (SpellsRow us) spelled rows →
     AllByRecursion (λ row. length row ≡ length us) rows → AreRead (row_lines us) tt spelled rows
 rows_taken us [] [] some each whole = tt
 rows_taken us [] (row ∷ rows) some each whole = absurd each
@@ -115,7 +135,8 @@ pub record AreRows (us : List ℕ) (spelled : List Tokens) (rows : List (List Bo
   pub each : AllZip (SpellsRow us) spelled rows
   pub whole : AllByRecursion (λ row. length row ≡ length us) rows
 
-pub rows_spelled : (us : List ℕ) (spelled : List Tokens) (rows : List (List Bool)) → AreRead (row_lines us) tt spelled rows → AreRows us spelled rows
+pub rows_spelled : (us : List ℕ) (spelled : List Tokens) (rows : List (List Bool)) →
+    AreRead (row_lines us) tt spelled rows → AreRows us spelled rows
 rows_spelled us [] [] each = record { each = tt; whole = tt }
 rows_spelled us [] (row ∷ rows) each = absurd each
 rows_spelled us (t ∷ ts) [] each = absurd each
@@ -125,7 +146,8 @@ rows_spelled us (t ∷ ts) (row ∷ rows) each =
     record { each = (here.spelled, rest.each); whole = (here.whole, rest.whole) }
 
 -- items
-pub items_taken : (version : Version) (p : ℕ → Bool) → ((v : ℕ) → p v ≡ true → 1 ≤ v) → (n : Numbering) (spelled : List Tokens) (items : List ProofItem) → IsNumbered n →
+pub items_taken : (version : Version) (p : ℕ → Bool) → ((v : ℕ) → p v ≡ true → 1 ≤ v) →
+    (n : Numbering) (spelled : List Tokens) (items : List ProofItem) → IsNumbered n →
     AllZip (SpellsItem version) spelled items → AreItems p n items → AreRead (item_lines version p) n spelled items
 items_taken version p some n [] [] numbered each lawful = tt
 items_taken version p some n [] (item ∷ items) numbered each lawful = absurd each
@@ -135,12 +157,14 @@ items_taken version p some n (t ∷ ts) (item ∷ items) numbered each lawful = 
   items_taken version p some (behind_item n item) ts items (numbered_behind n item numbered) each.1 lawful.1,
 )
 
-pub record AreItemLines (version : Version) (p : ℕ → Bool) (n : Numbering) (spelled : List Tokens) (items : List ProofItem) : Type 0 where
+pub record AreItemLines (version : Version) (p : ℕ → Bool) (n : Numbering) (spelled : List Tokens)
+    (items : List ProofItem) : Type 0 where
   pub each : AllZip (SpellsItem version) spelled items
   pub lawful : AreItems p n items
   pub small : AllByRecursion IsSmallItem items
 
-pub items_spelled : (version : Version) (p : ℕ → Bool) (n : Numbering) (spelled : List Tokens) (items : List ProofItem) → AreRead (item_lines version p) n spelled items →
+pub items_spelled : (version : Version) (p : ℕ → Bool) (n : Numbering) (spelled : List Tokens) (items : List ProofItem)
+    → AreRead (item_lines version p) n spelled items →
     AreItemLines version p n spelled items
 items_spelled version p n [] [] each = record { each = tt; lawful = tt; small = tt }
 items_spelled version p n [] (item ∷ items) each = absurd each

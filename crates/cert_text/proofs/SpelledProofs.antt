@@ -43,7 +43,8 @@ module _ (f : Dqbf) (net : Netlist) where
   abbrev from_first : Numbering
   from_first = numbered_from (first_proof_id f net)
 
-lines_read : (f : Dqbf) (net : Netlist) (d : Dqp) (version : Version) (header : Tokens) (spelled free : List Tokens) (lines : List TextLine) (number : ℕ) →
+lines_read : (f : Dqbf) (net : Netlist) (d : Dqp) (version : Version) (header : Tokens) (spelled free : List Tokens)
+    (lines : List TextLine) (number : ℕ) →
     SpellsProofHeader header version (length d.items) → AllZip (SpellsItem version) spelled d.items → IsDqpOf f net d →
     by_tokens lines ≡ header ∷ (spelled ++ free) → read_proof f net lines number ≡ Ok d
 lines_read f net d version header spelled free [] number head items allowed are = cc
@@ -52,16 +53,21 @@ lines_read f net d version header spelled free (line ∷ lines) number head item
     let rest : by_tokens lines ≡ spelled ++ free = cc in
     let p : ℕ → Bool = is_proof_variable f net in
     let behind : LinesRead ProofItem → Result Dqp CertRefusal = λ read. Ok (proof_of read) in
-    let next : ItemCount → Result Dqp CertRefusal = λ count. and_read (read_some (lines_of f net count.version) (from_first f net) count.items lines (line.number + 1)) behind in
+    let next : ItemCount → Result Dqp CertRefusal = λ count. and_read
+    (read_some (lines_of f net count.version) (from_first f net) count.items lines (line.number + 1)) behind in
     let read = all_read (lines_of f net version) d.items spelled free (from_first f net) lines (line.number + 1)
-    (items_taken version p (λ v h. variable_some _ v h) (from_first f net) spelled d.items (numbered_first (first_proof_id f net) (omega arith)) items allowed.items) rest in
-    ap (λ r. and_read (at_line line.number r) next) (ap proof_header here ∙ proof_header_taken header version (length d.items) head allowed.few_items)
+    (items_taken version p (λ v h. variable_some _ v h) (from_first f net) spelled d.items
+    (numbered_first (first_proof_id f net) (omega arith)) items allowed.items) rest in
+    ap (λ r. and_read (at_line line.number r) next) (ap proof_header here ∙ proof_header_taken header version
+    (length d.items) head allowed.few_items)
     ∙ ap (λ r. and_read r behind) read.is
     ∙ ap (λ xs. Ok (record { items = xs })) read.items_are
 
-pub spelled_is_read : (text : List ℕ) (first : ℕ) (f : Dqbf) (net : Netlist) (d : Dqp) → SpellsProof text f net d → circuit_proof_of f net text first ≡ Ok d
+pub spelled_is_read : (text : List ℕ) (first : ℕ) (f : Dqbf) (net : Netlist) (d : Dqp) → SpellsProof text f net d →
+    circuit_proof_of f net text first ≡ Ok d
 spelled_is_read text first f net d spelled =
-    lines_read f net d spelled.version spelled.header spelled.item_lines spelled.free_lines (lines_from first text) first spelled.header_spelled
+    lines_read f net d spelled.version spelled.header spelled.item_lines spelled.free_lines
+    (lines_from first text) first spelled.header_spelled
     spelled.items_spelled spelled.allowed (same_tokens first 1 text ∙ spelled.lines)
 
 -- a proof's lines
@@ -75,10 +81,12 @@ record AreLines (f : Dqbf) (net : Netlist) (lines : List TextLine) (d : Dqp) : T
   items : AllZip (SpellsItem version) spelled d.items
   allowed : IsDqpOf f net d
 
-with_header : (f : Dqbf) (net : Netlist) (count : ItemCount) (line : TextLine) (lines : List TextLine) (read : LinesRead ProofItem) →
+with_header : (f : Dqbf) (net : Netlist) (count : ItemCount) (line : TextLine) (lines : List TextLine)
+    (read : LinesRead ProofItem) →
     IsProofHeader (line_tokens line.text) count →
     (b : IsReadFrom (lines_of f net count.version) (from_first f net) count.items lines read) →
-    AreItemLines count.version (is_proof_variable f net) (from_first f net) b.spelled read.items → AreLines f net (line ∷ lines) (proof_of read)
+    AreItemLines count.version (is_proof_variable f net) (from_first f net) b.spelled read.items →
+    AreLines f net (line ∷ lines) (proof_of read)
 with_header f net count line lines read h b s = record {
   version = count.version;
   header = line_tokens line.text;
@@ -94,31 +102,40 @@ with_header f net count line lines read h b s = record {
   };
 }
 
-by_items : (f : Dqbf) (net : Netlist) (count : ItemCount) (line : TextLine) (lines : List TextLine) (d : Dqp) (read : Result (LinesRead ProofItem) CertRefusal) →
-    read_some (lines_of f net count.version) (from_first f net) count.items lines (line.number + 1) ≡ read → IsProofHeader (line_tokens line.text) count →
+by_items : (f : Dqbf) (net : Netlist) (count : ItemCount) (line : TextLine) (lines : List TextLine) (d : Dqp)
+    (read : Result (LinesRead ProofItem) CertRefusal) →
+    read_some (lines_of f net count.version) (from_first f net) count.items lines (line.number + 1) ≡ read →
+    IsProofHeader (line_tokens line.text) count →
     and_read read (λ items. Ok (proof_of items)) ≡ Ok d → AreLines f net (line ∷ lines) d
 by_items f net count line lines d (Err fault) is head h = cc
 by_items f net count line lines d (Ok read) is head h =
     let same : proof_of read ≡ d = cc in
-    let b = read_from_lines (lines_of f net count.version) count.items (from_first f net) lines (line.number + 1) read is in
+    let b = read_from_lines (lines_of f net count.version) count.items (from_first f net) lines
+    (line.number + 1) read is in
     subst (AreLines f net (line ∷ lines)) same (with_header f net count line lines read head b
     (items_spelled count.version (is_proof_variable f net) (from_first f net) b.spelled read.items b.each))
 
-by_header : (f : Dqbf) (net : Netlist) (line : TextLine) (lines : List TextLine) (d : Dqp) (count : Result ItemCount CertFault) →
+by_header : (f : Dqbf) (net : Netlist) (line : TextLine) (lines : List TextLine) (d : Dqp)
+    (count : Result ItemCount CertFault) →
     proof_header (line_tokens line.text) ≡ count →
     and_read (at_line line.number count) (λ n.
-    and_read (read_some (lines_of f net n.version) (from_first f net) n.items lines (line.number + 1)) (λ items. Ok (proof_of items))) ≡ Ok d →
+    and_read (read_some (lines_of f net n.version) (from_first f net) n.items lines (line.number + 1))
+    (λ items. Ok (proof_of items))) ≡ Ok d →
     AreLines f net (line ∷ lines) d
 by_header f net line lines d (Err name) is h = cc
 by_header f net line lines d (Ok count) is h =
-    by_items f net count line lines d (read_some (lines_of f net count.version) (from_first f net) count.items lines (line.number + 1)) refl
+    by_items f net count line lines d (read_some (lines_of f net count.version) (from_first f net) count.items lines
+    (line.number + 1)) refl
     (proof_header_spelled (line_tokens line.text) count is) h
 
-lines_spelled : (f : Dqbf) (net : Netlist) (lines : List TextLine) (number : ℕ) (d : Dqp) → read_proof f net lines number ≡ Ok d → AreLines f net lines d
+lines_spelled : (f : Dqbf) (net : Netlist) (lines : List TextLine) (number : ℕ) (d : Dqp) →
+    read_proof f net lines number ≡ Ok d → AreLines f net lines d
 lines_spelled f net [] number d h = cc
-lines_spelled f net (line ∷ lines) number d h = by_header f net line lines d (proof_header (line_tokens line.text)) refl h
+lines_spelled f net (line ∷ lines) number d h = by_header f net line lines d
+    (proof_header (line_tokens line.text)) refl h
 
-pub read_is_spelled : (text : List ℕ) (first : ℕ) (f : Dqbf) (net : Netlist) (d : Dqp) → circuit_proof_of f net text first ≡ Ok d → SpellsProof text f net d
+pub read_is_spelled : (text : List ℕ) (first : ℕ) (f : Dqbf) (net : Netlist) (d : Dqp) →
+    circuit_proof_of f net text first ≡ Ok d → SpellsProof text f net d
 read_is_spelled text first f net d h =
     let l = lines_spelled f net (lines_from first text) first d h in
     record {
@@ -132,7 +149,8 @@ read_is_spelled text first f net d h =
       allowed = l.allowed;
     }
 
-pub reading_allowed : (text : List ℕ) (first : ℕ) (f : Dqbf) (net : Netlist) (made : Result Dqp CertStop) → IsReading (circuit_proof_of f net text first) made →
+pub reading_allowed : (text : List ℕ) (first : ℕ) (f : Dqbf) (net : Netlist) (made : Result Dqp CertStop) →
+    IsReading (circuit_proof_of f net text first) made →
     IfOk made (IsDqpOf f net)
 reading_allowed text first f net (Ok d) read = (read_is_spelled text first f net d read).allowed
 reading_allowed text first f net (Err stop) read = tt

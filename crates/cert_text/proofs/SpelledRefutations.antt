@@ -35,13 +35,15 @@ blanks_read zero (line ∷ lines) are = cc
 blanks_read (suc n) (line ∷ lines) are =
     let here : line_tokens line.text ≡ [] = cc in
     let rest : by_tokens lines ≡ replicate n [] = cc in
-    ap (λ tokens. cond (has_no_token tokens) (blank_lines lines) (Err (refusal line.number BadLine))) here ∙ blanks_read n lines rest
+    ap (λ tokens. cond (has_no_token tokens) (blank_lines lines) (Err (refusal line.number BadLine))) here
+    ∙ blanks_read n lines rest
 
 record AreBlank (lines : List TextLine) : Type 0 where
   blanks : ℕ
   are : by_tokens lines ≡ replicate blanks []
 
-one_blank : (line : TextLine) (lines : List TextLine) (tokens : Tokens) → line_tokens line.text ≡ tokens → (blank_lines lines ≡ Ok tt → AreBlank lines) →
+one_blank : (line : TextLine) (lines : List TextLine) (tokens : Tokens) → line_tokens line.text ≡ tokens →
+    (blank_lines lines ≡ Ok tt → AreBlank lines) →
     cond (has_no_token tokens) (blank_lines lines) (Err (refusal line.number BadLine)) ≡ Ok tt → AreBlank (line ∷ lines)
 one_blank line lines [] is others h =
     let rest = others h in
@@ -78,22 +80,29 @@ module _ (f : Dqbf) (c : Counts) where
   abbrev behind_rows : Rows → Result Dqr CertRefusal
   behind_rows rows = and_read (read_some lines_of from_first c.items rows.rest rows.number) (behind_items rows.items)
 
-  items_read : (rows : Rows) (items : List ProofItem) (spelled : List Tokens) (n : ℕ) → length items ≡ c.items → AllZip (SpellsItem c.version) spelled items →
+  items_read : (rows : Rows) (items : List ProofItem) (spelled : List Tokens) (n : ℕ) → length items ≡ c.items →
+      AllZip (SpellsItem c.version) spelled items →
       AreItems is_number from_first items → by_tokens rows.rest ≡ spelled ++ replicate n [] →
       behind_rows rows ≡ Ok (refutation rows.items items)
   items_read rows items spelled n counted each lawful are =
       let read = all_read lines_of items spelled (replicate n []) from_first rows.rest rows.number
-      (items_taken c.version is_number (λ v. pair_positive f c.rows v) from_first spelled items (numbered_first (first_id f c.rows) (omega arith)) each lawful) are in
+      (items_taken c.version is_number (λ v. pair_positive f c.rows v) from_first spelled items
+      (numbered_first (first_id f c.rows) (omega arith)) each lawful) are in
       ap (λ k. and_read (read_some lines_of from_first k rows.rest rows.number) (behind_items rows.items)) (sym counted)
       ∙ ap (λ r. and_read r (behind_items rows.items)) read.is
-      ∙ ap (λ r. and_read r (λ _. Ok (refutation rows.items read.found.items))) (blanks_read n read.found.rest read.behind_are)
+      ∙ ap (λ r. and_read r (λ _. Ok (refutation rows.items read.found.items)))
+      (blanks_read n read.found.rest read.behind_are)
       ∙ ap (λ xs. Ok (refutation rows.items xs)) read.items_are
 
-  body_read : (rows : List (List Bool)) (items : List ProofItem) (spelled_rows spelled_items : List Tokens) (n : ℕ) (lines : List TextLine) (number : ℕ) → IsLawful f →
-      length rows ≡ c.rows → length items ≡ c.items → AllZip (SpellsRow f.universals) spelled_rows rows → AllByRecursion (λ row. length row ≡ length f.universals) rows →
+  body_read : (rows : List (List Bool)) (items : List ProofItem) (spelled_rows spelled_items : List Tokens) (n : ℕ)
+      (lines : List TextLine) (number : ℕ) → IsLawful f →
+      length rows ≡ c.rows → length items ≡ c.items → AllZip (SpellsRow f.universals) spelled_rows rows →
+      AllByRecursion (λ row. length row ≡ length f.universals) rows →
       AllZip (SpellsItem c.version) spelled_items items → AreItems is_number from_first items →
-      by_tokens lines ≡ spelled_rows ++ (spelled_items ++ replicate n []) → read_body f c lines number ≡ Ok (refutation rows items)
-  body_read rows items spelled_rows spelled_items n lines number lawful counted_rows counted_items each_row whole each_item lawful_items are =
+      by_tokens lines ≡ spelled_rows ++ (spelled_items ++ replicate n []) →
+      read_body f c lines number ≡ Ok (refutation rows items)
+  body_read rows items spelled_rows spelled_items n lines number lawful counted_rows counted_items each_row whole
+      each_item lawful_items are =
       let read = all_read (row_lines f.universals) rows spelled_rows (spelled_items ++ replicate n []) tt lines number
       (rows_taken f.universals spelled_rows rows (universals_positive f lawful) each_row whole) are in
       ap (λ k. and_read (read_some (row_lines f.universals) tt k lines number) behind_rows) (sym counted_rows)
@@ -101,7 +110,8 @@ module _ (f : Dqbf) (c : Counts) where
       ∙ items_read read.found items spelled_items n counted_items each_item lawful_items read.behind_are
       ∙ ap (λ xs. Ok (refutation xs items)) read.items_are
 
-lines_read : (f : Dqbf) (d : Dqr) (version : Version) (header : Tokens) (spelled_rows spelled_items : List Tokens) (n : ℕ) (lines : List TextLine) (number : ℕ) → IsLawful f →
+lines_read : (f : Dqbf) (d : Dqr) (version : Version) (header : Tokens) (spelled_rows spelled_items : List Tokens)
+    (n : ℕ) (lines : List TextLine) (number : ℕ) → IsLawful f →
     SpellsHeader header version (length d.rows) (length d.items) → AllZip (SpellsRow f.universals) spelled_rows d.rows →
     AllZip (SpellsItem version) spelled_items d.items → IsDqrOf f d →
     by_tokens lines ≡ header ∷ (spelled_rows ++ (spelled_items ++ replicate n [])) → read_lines f lines number ≡ Ok d
@@ -111,14 +121,18 @@ lines_read f d version header spelled_rows spelled_items n (line ∷ lines) numb
     let rest : by_tokens lines ≡ spelled_rows ++ (spelled_items ++ replicate n []) = cc in
     let c : Counts = record { version = version; rows = length d.rows; items = length d.items } in
     let next : Counts → Result Dqr CertRefusal = λ counts. read_body f counts lines (line.number + 1) in
-    ap (λ r. and_read (at_line line.number r) next) (ap header_of here ∙ header_taken header version (length d.rows) (length d.items) head allowed.few_rows allowed.few_items)
+    ap (λ r. and_read (at_line line.number r) next) (ap header_of here ∙ header_taken header version (length d.rows)
+    (length d.items) head allowed.few_rows allowed.few_items)
     ∙ body_read f c d.rows d.items spelled_rows spelled_items n lines (line.number + 1) lawful refl refl rows
     (recursion_from_All (λ row. length row ≡ length f.universals) d.rows allowed.whole) items allowed.items rest
 
-pub spelled_is_read : (text : List ℕ) (first : ℕ) (f : Dqbf) (d : Dqr) → IsLawful f → SpellsRefutation text f d → refutation_of f text first ≡ Ok d
+pub spelled_is_read : (text : List ℕ) (first : ℕ) (f : Dqbf) (d : Dqr) → IsLawful f → SpellsRefutation text f d →
+    refutation_of f text first ≡ Ok d
 spelled_is_read text first f d lawful spelled =
-    lines_read f d spelled.version spelled.header spelled.row_lines spelled.item_lines spelled.blank_lines (lines_from first text) first lawful
-    spelled.header_spelled spelled.rows_spelled spelled.items_spelled spelled.allowed (same_tokens first 1 text ∙ spelled.lines)
+    lines_read f d spelled.version spelled.header spelled.row_lines spelled.item_lines spelled.blank_lines
+    (lines_from first text) first lawful
+    spelled.header_spelled spelled.rows_spelled spelled.items_spelled spelled.allowed
+    (same_tokens first 1 text ∙ spelled.lines)
 
 -- row lines, item lines, and then lines of blanks
 record AreBodyLines (f : Dqbf) (c : Counts) (lines : List TextLine) (d : Dqr) : Type 0 where
@@ -148,8 +162,10 @@ body_of f c lines rows items r are_rows s are_items blank = record {
 }
 
 module _ (f : Dqbf) (c : Counts) (lines : List TextLine) (number : ℕ) (d : Dqr) where
-  by_blanks : (rows : Rows) (items : Items) (blank : Result (Unit {0}) CertRefusal) → read_some (row_lines f.universals) tt c.rows lines number ≡ Ok rows →
-      read_some (lines_of f c) (from_first f c) c.items rows.rest rows.number ≡ Ok items → blank_lines items.rest ≡ blank →
+  by_blanks : (rows : Rows) (items : Items) (blank : Result (Unit {0}) CertRefusal) →
+      read_some (row_lines f.universals) tt c.rows lines number ≡ Ok rows →
+      read_some (lines_of f c) (from_first f c) c.items rows.rest rows.number ≡ Ok items →
+      blank_lines items.rest ≡ blank →
       and_read blank (λ _. Ok (refutation rows.items items.items)) ≡ Ok d → AreBodyLines f c lines d
   by_blanks rows items (Err fault) rows_are items_are is h = cc
   by_blanks rows items (Ok _) rows_are items_are is h =
@@ -158,17 +174,21 @@ module _ (f : Dqbf) (c : Counts) (lines : List TextLine) (number : ℕ) (d : Dqr
       let s = read_from_lines (lines_of f c) c.items (from_first f c) rows.rest rows.number items items_are in
       subst (AreBodyLines f c lines) same
       (body_of f c lines rows items r (rows_spelled f.universals r.spelled rows.items r.each) s
-      (items_spelled c.version (is_number f c) (from_first f c) s.spelled items.items s.each) (blanks_spelled items.rest is))
+      (items_spelled c.version (is_number f c) (from_first f c) s.spelled items.items s.each)
+      (blanks_spelled items.rest is))
 
-  by_items : (rows : Rows) (items : Result Items CertRefusal) → read_some (row_lines f.universals) tt c.rows lines number ≡ Ok rows →
+  by_items : (rows : Rows) (items : Result Items CertRefusal) →
+      read_some (row_lines f.universals) tt c.rows lines number ≡ Ok rows →
       read_some (lines_of f c) (from_first f c) c.items rows.rest rows.number ≡ items →
       and_read items (behind_items f c rows.items) ≡ Ok d → AreBodyLines f c lines d
   by_items rows (Err fault) rows_are is h = cc
   by_items rows (Ok items) rows_are is h = by_blanks rows items (blank_lines items.rest) rows_are is refl h
 
-  by_rows : (rows : Result Rows CertRefusal) → read_some (row_lines f.universals) tt c.rows lines number ≡ rows → and_read rows (behind_rows f c) ≡ Ok d → AreBodyLines f c lines d
+  by_rows : (rows : Result Rows CertRefusal) → read_some (row_lines f.universals) tt c.rows lines number ≡ rows →
+      and_read rows (behind_rows f c) ≡ Ok d → AreBodyLines f c lines d
   by_rows (Err fault) is h = cc
-  by_rows (Ok rows) is h = by_items rows (read_some (lines_of f c) (from_first f c) c.items rows.rest rows.number) is refl h
+  by_rows (Ok rows) is h = by_items rows (read_some (lines_of f c) (from_first f c) c.items rows.rest rows.number)
+      is refl h
 
   body_spelled : read_body f c lines number ≡ Ok d → AreBodyLines f c lines d
   body_spelled h = by_rows (read_some (row_lines f.universals) tt c.rows lines number) refl h
@@ -186,7 +206,8 @@ record AreLines (f : Dqbf) (lines : List TextLine) (d : Dqr) : Type 0 where
   items : AllZip (SpellsItem version) spelled_items d.items
   allowed : IsDqrOf f d
 
-with_header : (f : Dqbf) (c : Counts) (line : TextLine) (lines : List TextLine) (d : Dqr) → IsHeader (line_tokens line.text) c → AreBodyLines f c lines d →
+with_header : (f : Dqbf) (c : Counts) (line : TextLine) (lines : List TextLine) (d : Dqr) →
+    IsHeader (line_tokens line.text) c → AreBodyLines f c lines d →
     AreLines f (line ∷ lines) d
 with_header f c line lines d h b =
     let tokens = line_tokens line.text in
@@ -198,28 +219,35 @@ with_header f c line lines d h b =
       spelled_items = b.spelled_items;
       blanks = b.blanks;
       are = ap (λ ts. tokens ∷ ts) b.are;
-      head = subst (λ rows. P rows (length d.items)) (sym b.counted_rows) (subst (P c.rows) (sym b.counted_items) h.spelled);
+      head = subst (λ rows. P rows (length d.items)) (sym b.counted_rows)
+          (subst (P c.rows) (sym b.counted_items) h.spelled);
       rows = b.rows.each;
       items = b.items.each;
       allowed = record {
         few_rows = subst (λ n. n ≤ max_count) (sym b.counted_rows) h.few_rows;
         few_items = subst (λ n. n ≤ max_count) (sym b.counted_items) h.few_items;
         whole = All-from_recursion (λ row. length row ≡ length f.universals) d.rows b.rows.whole;
-        items = subst (λ n. AreItems (is_pair_number f n) (numbered_from (first_id f n)) d.items) (sym b.counted_rows) b.items.lawful;
+        items = subst (λ n. AreItems (is_pair_number f n) (numbered_from (first_id f n)) d.items)
+            (sym b.counted_rows) b.items.lawful;
       };
     }
 
-by_header : (f : Dqbf) (line : TextLine) (lines : List TextLine) (d : Dqr) (counts : Result Counts CertFault) → header_of (line_tokens line.text) ≡ counts →
-    and_read (at_line line.number counts) (λ c. read_body f c lines (line.number + 1)) ≡ Ok d → AreLines f (line ∷ lines) d
+by_header : (f : Dqbf) (line : TextLine) (lines : List TextLine) (d : Dqr) (counts : Result Counts CertFault) →
+    header_of (line_tokens line.text) ≡ counts →
+    and_read (at_line line.number counts) (λ c. read_body f c lines (line.number + 1)) ≡ Ok d →
+    AreLines f (line ∷ lines) d
 by_header f line lines d (Err name) is read = cc
 by_header f line lines d (Ok c) is read =
-    with_header f c line lines d (header_spelled (line_tokens line.text) c is) (body_spelled f c lines (line.number + 1) d read)
+    with_header f c line lines d (header_spelled (line_tokens line.text) c is)
+    (body_spelled f c lines (line.number + 1) d read)
 
-lines_spelled : (f : Dqbf) (lines : List TextLine) (number : ℕ) (d : Dqr) → read_lines f lines number ≡ Ok d → AreLines f lines d
+lines_spelled : (f : Dqbf) (lines : List TextLine) (number : ℕ) (d : Dqr) → read_lines f lines number ≡ Ok d →
+    AreLines f lines d
 lines_spelled f [] number d read = cc
 lines_spelled f (line ∷ lines) number d read = by_header f line lines d (header_of (line_tokens line.text)) refl read
 
-pub read_is_spelled : (text : List ℕ) (first : ℕ) (f : Dqbf) (d : Dqr) → refutation_of f text first ≡ Ok d → SpellsRefutation text f d
+pub read_is_spelled : (text : List ℕ) (first : ℕ) (f : Dqbf) (d : Dqr) → refutation_of f text first ≡ Ok d →
+    SpellsRefutation text f d
 read_is_spelled text first f d read =
     let l = lines_spelled f (lines_from first text) first d read in
     record {
@@ -235,6 +263,7 @@ read_is_spelled text first f d read =
       allowed = l.allowed;
     }
 
-pub reading_allowed : (text : List ℕ) (first : ℕ) (f : Dqbf) (made : Result Dqr CertStop) → IsReading (refutation_of f text first) made → IfOk made (IsDqrOf f)
+pub reading_allowed : (text : List ℕ) (first : ℕ) (f : Dqbf) (made : Result Dqr CertStop) →
+    IsReading (refutation_of f text first) made → IfOk made (IsDqrOf f)
 reading_allowed text first f (Ok d) read = (read_is_spelled text first f d read).allowed
 reading_allowed text first f (Err stop) read = tt

@@ -35,23 +35,28 @@ sign b zero some = absurd (omega (arith, some))
 sign true (suc x) some = positive_is x
 sign false (suc x) some = refl
 
-signs : (us : List ℕ) (row : List Bool) → ArePositive us → length row ≡ length us → map is_positive (take (length us) (row_numbers us row)) ≡ row
+signs : (us : List ℕ) (row : List Bool) → ArePositive us → length row ≡ length us →
+    map is_positive (take (length us) (row_numbers us row)) ≡ row
 signs [] [] some whole = refl
 signs [] (b ∷ row) some whole = absurd (omega (arith, whole))
 signs (x ∷ us) [] some whole = absurd (omega (arith, whole))
-signs (x ∷ us) (b ∷ row) some whole = ap₂ (λ n ns. n ∷ ns) (sign b x some.0) (signs us row some.1 (omega (arith, whole)))
+signs (x ∷ us) (b ∷ row) some whole = ap₂ (λ n ns. n ∷ ns) (sign b x some.0)
+    (signs us row some.1 (omega (arith, whole)))
 
 pub chosen : (b : Bool) (row : List Bool) → b ≡ true → cond b (Ok row) (Err RowIncomplete) ≡ Ok row
 chosen true row h = refl
 chosen false row h = cc
 
-row_kept : (us : List ℕ) (row : List Bool) → ArePositive us → length row ≡ length us → row_of us (row_numbers us row) ≡ Ok row
+row_kept : (us : List ℕ) (row : List Bool) → ArePositive us → length row ≡ length us →
+    row_of us (row_numbers us row) ≡ Ok row
 row_kept us row some whole =
-    chosen (bytes_eq (map nat_abs (row_numbers us row)) (us ++ 0 ∷ [])) (map is_positive (take (length us) (row_numbers us row)))
+    chosen (bytes_eq (map nat_abs (row_numbers us row)) (us ++ 0 ∷ []))
+    (map is_positive (take (length us) (row_numbers us row)))
     ((bytes_eq-Decides (map nat_abs (row_numbers us row)) (us ++ 0 ∷ [])).1 (magnitudes us row whole))
     ∙ ap Ok (signs us row some whole)
 
-pub row_taken : (us : List ℕ) (tokens : Tokens) (row : List Bool) → SpellsRow us tokens row → ArePositive us → length row ≡ length us →
+pub row_taken : (us : List ℕ) (tokens : Tokens) (row : List Bool) → SpellsRow us tokens row → ArePositive us →
+    length row ≡ length us →
     row_line us tokens ≡ Ok row
 row_taken us tokens row spelled some whole =
     ap (row_line us) spelled.letter
@@ -73,7 +78,8 @@ signed_is (pos zero) (suc x) h = absurd (omega (arith, h))
 signed_is (pos (suc n)) x h = ap pos h ∙ ap (λ b. signed b x) (sym (positive_is n))
 signed_is (negsuc n) x h = ap (λ k. neg_ℤ (pos k)) h
 
-row_named : (us : List ℕ) (ns : List ℤ) → map nat_abs ns ≡ us ++ 0 ∷ [] → IsRow us ns (map is_positive (take (length us) ns))
+row_named : (us : List ℕ) (ns : List ℤ) → map nat_abs ns ≡ us ++ 0 ∷ [] →
+    IsRow us ns (map is_positive (take (length us) ns))
 row_named [] [] h = cc
 row_named [] (n ∷ []) h =
     let end : nat_abs n ≡ 0 = cc in
@@ -99,23 +105,32 @@ pub record IsRowLine (us : List ℕ) (tokens : Tokens) (row : List Bool) : Type 
   pub spelled : SpellsRow us tokens row
   pub whole : length row ≡ length us
 
-behind_letter : (us : List ℕ) (tokens : Tokens) (taken : Result (List ℤ) CertFault) (row : List Bool) → line_integers tokens ≡ taken →
+behind_letter : (us : List ℕ) (tokens : Tokens) (taken : Result (List ℤ) CertFault) (row : List Bool) →
+    line_integers tokens ≡ taken →
     and_then (row_of us) taken ≡ Ok row → IsRowLine us (codes "u" ∷ tokens) row
 behind_letter us tokens (Err name) row is h = cc
 behind_letter us tokens (Ok ns) row is h =
     let r = row_read us ns row h in
     record {
-      spelled = record { rest = tokens; letter = refl; numbers = integers_spelled tokens ns is ∙ ap integers r.numbers };
+      spelled = record {
+        rest = tokens;
+        letter = refl;
+        numbers =
+            integers_spelled tokens ns is ∙ ap integers r.numbers;
+      };
       whole = r.whole;
     }
 
-lettered : (b : Bool) (r : Result (List Bool) CertFault) (row : List Bool) → cond b r (Err BadLine) ≡ Ok row → (b ≡ true) × (r ≡ Ok row)
+lettered : (b : Bool) (r : Result (List Bool) CertFault) (row : List Bool) → cond b r (Err BadLine) ≡ Ok row →
+    (b ≡ true) × (r ≡ Ok row)
 lettered true r row h = (refl, h)
 lettered false r row h = cc
 
-pub row_spelled : (us : List ℕ) (tokens : Tokens) (row : List Bool) → row_line us tokens ≡ Ok row → IsRowLine us tokens row
+pub row_spelled : (us : List ℕ) (tokens : Tokens) (row : List Bool) → row_line us tokens ≡ Ok row →
+    IsRowLine us tokens row
 row_spelled us [] row h = cc
 row_spelled us (letter ∷ tokens) row h =
     let parts = lettered (bytes_eq letter (codes "u")) (and_then (row_of us) (line_integers tokens)) row h in
     let is = (bytes_eq-Decides letter (codes "u")).0 parts.0 in
-    subst (λ l. IsRowLine us (l ∷ tokens) row) (sym is) (behind_letter us tokens (line_integers tokens) row refl parts.1)
+    subst (λ l. IsRowLine us (l ∷ tokens) row) (sym is) (behind_letter us tokens
+    (line_integers tokens) row refl parts.1)

@@ -36,7 +36,8 @@ cut front rest none =
     let all = front ++ pos 0 ∷ rest in
     let parts : ℕ → Option (List ℤ × List ℤ) = λ end. Some (take end all, drop (end + 1) all) in
     let inside = lt-ltb (length front) (length all) (omega (arith, length-append front (pos 0 ∷ rest))) in
-    ap (λ k. option_map (λ end. (take end all, drop (end + 1) all)) (cond (nat_lt k (length all)) (Some k) None)) (zero_place front rest none)
+    ap (λ k. option_map (λ end. (take end all, drop (end + 1) all)) (cond (nat_lt k (length all)) (Some k) None))
+    (zero_place front rest none)
     ∙ ap (λ b. option_map (λ end. (take end all, drop (end + 1) all)) (cond b (Some (length front)) None)) inside
     ∙ ap₂ (λ a b. Some (a, b)) (take-append_seam front (pos 0 ∷ rest)) (drop-append-add front (pos 0 ∷ rest) 1)
 
@@ -78,7 +79,8 @@ id_positive (suc n) some = positive_is n
 
 pub hints_positive : (hs : List ℕ) → AreIds hs → list_all is_positive (hint_numbers hs) ≡ true
 hints_positive [] some = refl
-hints_positive (h ∷ hs) some = and_from (is_positive (pos h)) (list_all is_positive (hint_numbers hs)) (id_positive h some.0) (hints_positive hs some.1)
+hints_positive (h ∷ hs) some = and_from (is_positive (pos h)) (list_all is_positive (hint_numbers hs))
+    (id_positive h some.0) (hints_positive hs some.1)
 
 pub hints_back : (hs : List ℕ) → map nat_abs (hint_numbers hs) ≡ hs
 hints_back [] = refl
@@ -97,23 +99,33 @@ shape_kept s is =
     let Parts : Type 0 = List ℤ × List ℤ in
     let tests = and_from (is_positive (pos s.id)) (list_all is_positive hs && true) (id_positive s.id is.id)
     (and_from (list_all is_positive hs) true (hints_positive s.hints is.hints) refl) in
-    ap (option_and_then (λ (front : Parts). option_and_then (λ (back : Parts). step_of_parts (pos s.id) front.0 back.0 back.1) (cut_at_zero front.1)))
+    ap (option_and_then (λ (front : Parts). option_and_then (λ (back : Parts). step_of_parts
+    (pos s.id) front.0 back.0 back.1) (cut_at_zero front.1)))
     (cut ls (hs ++ pos 0 ∷ []) (literals_nonzero s.literals is.literals))
-    ∙ ap (option_and_then (λ (back : Parts). step_of_parts (pos s.id) ls back.0 back.1)) (cut hs [] (hints_nonzero s.hints is.hints))
-    ∙ ap (λ b. cond b (Some (record { id = s.id; literals = map dimacs_literal ls; hints = map nat_abs hs })) None) tests
-    ∙ ap₂ (λ literals hints. Some (record { id = s.id; literals = literals; hints = hints })) (literals_back s.literals is.literals) (hints_back s.hints)
+    ∙ ap (option_and_then (λ (back : Parts). step_of_parts (pos s.id) ls back.0 back.1))
+    (cut hs [] (hints_nonzero s.hints is.hints))
+    ∙ ap (λ b. cond b (Some (record { id = s.id; literals = map dimacs_literal ls; hints = map nat_abs hs }))
+    None) tests
+    ∙ ap₂ (λ literals hints. Some (record { id = s.id; literals = literals; hints = hints }))
+    (literals_back s.literals is.literals) (hints_back s.hints)
 
 -- what the checks pass
-on_variables : (p : ℕ → Bool) (ls : List Literal) → AllByRecursion (λ l. p (variable_of l) ≡ true) ls → list_all (λ l. p (variable_of l)) ls ≡ true
+on_variables : (p : ℕ → Bool) (ls : List Literal) → AllByRecursion (λ l. p (variable_of l) ≡ true) ls →
+    list_all (λ l. p (variable_of l)) ls ≡ true
 on_variables p [] all = refl
-on_variables p (l ∷ ls) all = and_from (p (variable_of l)) (list_all (λ k. p (variable_of k)) ls) all.0 (on_variables p ls all.1)
+on_variables p (l ∷ ls) all = and_from (p (variable_of l)) (list_all (λ k. p (variable_of k)) ls) all.0
+    (on_variables p ls all.1)
 
-hints_below : (id : ℕ) (hs : List ℕ) → AllByRecursion (λ h. (1 ≤ h) × (h < id)) hs → list_all (λ hint. nat_lt hint id) hs ≡ true
+hints_below : (id : ℕ) (hs : List ℕ) → AllByRecursion (λ h. (1 ≤ h) × (h < id)) hs →
+    list_all (λ hint. nat_lt hint id) hs ≡ true
 hints_below id [] all = refl
-hints_below id (h ∷ hs) all = and_from (nat_lt h id) (list_all (λ hint. nat_lt hint id) hs) (lt-ltb h id all.0.1) (hints_below id hs all.1)
+hints_below id (h ∷ hs) all = and_from (nat_lt h id) (list_all (λ hint. nat_lt hint id) hs) (lt-ltb h id all.0.1)
+    (hints_below id hs all.1)
 
-checks_pass : (step : ProofStep) (id_is variables_are hints_are : Bool) → id_is ≡ true → variables_are ≡ true → hints_are ≡ true →
-    cond (not id_is) (Err IdOrder) (cond (not variables_are) (Err BadVariable) (cond (not hints_are) (Err UnknownHint) (Ok step))) ≡ Ok step
+checks_pass : (step : ProofStep) (id_is variables_are hints_are : Bool) → id_is ≡ true → variables_are ≡ true →
+    hints_are ≡ true →
+    cond (not id_is) (Err IdOrder) (cond (not variables_are) (Err BadVariable)
+    (cond (not hints_are) (Err UnknownHint) (Ok step))) ≡ Ok step
 checks_pass step true true true i v h = refl
 checks_pass step false b d i v h = cc
 checks_pass step true false d i v h = cc
@@ -121,13 +133,16 @@ checks_pass step true true false i v h = cc
 
 checked : (p : ℕ → Bool) (next : ℕ) (s : ProofStep) → IsStep p next s → checked_step p next s ≡ Ok s
 checked p next s is =
-    let below = subst (λ id. AllByRecursion (λ h. (1 ≤ h) × (h < id)) s.hints) (sym is.numbered) (recursion_from_All (λ h. (1 ≤ h) × (h < next)) s.hints is.hints_before) in
-    checks_pass s (s.id == next) (list_all (λ l. p (variable_of l)) s.literals) (list_all (λ hint. nat_lt hint s.id) s.hints)
+    let below = subst (λ id. AllByRecursion (λ h. (1 ≤ h) × (h < id)) s.hints) (sym is.numbered)
+    (recursion_from_All (λ h. (1 ≤ h) × (h < next)) s.hints is.hints_before) in
+    checks_pass s (s.id == next) (list_all (λ l. p (variable_of l)) s.literals)
+    (list_all (λ hint. nat_lt hint s.id) s.hints)
     (eq-eqb s.id next is.numbered)
     (on_variables p s.literals (recursion_from_All (λ l. p (variable_of l) ≡ true) s.literals is.on_variables))
     (hints_below s.id s.hints below)
 
-literals_from : (p : ℕ → Bool) (ls : List Literal) → ((v : ℕ) → p v ≡ true → 1 ≤ v) → AllByRecursion (λ l. p (variable_of l) ≡ true) ls → AreLiterals ls
+literals_from : (p : ℕ → Bool) (ls : List Literal) → ((v : ℕ) → p v ≡ true → 1 ≤ v) →
+    AllByRecursion (λ l. p (variable_of l) ≡ true) ls → AreLiterals ls
 literals_from p [] some all = tt
 literals_from p (l ∷ ls) some all = (some (variable_of l) all.0, literals_from p ls some all.1)
 
@@ -135,30 +150,36 @@ ids_from : (next : ℕ) (hs : List ℕ) → AllByRecursion (λ h. (1 ≤ h) × (
 ids_from next [] all = tt
 ids_from next (h ∷ hs) all = (all.0.0, ids_from next hs all.1)
 
-pub writable : (p : ℕ → Bool) (next : ℕ) (s : ProofStep) → ((v : ℕ) → p v ≡ true → 1 ≤ v) → 1 ≤ next → IsStep p next s → IsWritable s
+pub writable : (p : ℕ → Bool) (next : ℕ) (s : ProofStep) → ((v : ℕ) → p v ≡ true → 1 ≤ v) → 1 ≤ next → IsStep p next s →
+    IsWritable s
 writable p next s some from_one is = record {
   id = subst (λ id. 1 ≤ id) (sym is.numbered) from_one;
-  literals = literals_from p s.literals some (recursion_from_All (λ l. p (variable_of l) ≡ true) s.literals is.on_variables);
+  literals = literals_from p s.literals some (recursion_from_All
+      (λ l. p (variable_of l) ≡ true) s.literals is.on_variables);
   hints = ids_from next s.hints (recursion_from_All (λ h. (1 ≤ h) × (h < next)) s.hints is.hints_before);
 }
 
-pub step_taken : (p : ℕ → Bool) (next : ℕ) (tokens : Tokens) (s : ProofStep) → ((v : ℕ) → p v ≡ true → 1 ≤ v) → 1 ≤ next →
+pub step_taken : (p : ℕ → Bool) (next : ℕ) (tokens : Tokens) (s : ProofStep) → ((v : ℕ) → p v ≡ true → 1 ≤ v) →
+    1 ≤ next →
     SpellsStep tokens s → IsStep p next s → step_line p next tokens ≡ Ok s
 step_taken p next tokens s some from_one spelled is =
-    ap (and_then (λ ns. and_then (checked_step p next) (shaped (step_of ns)))) (integers_taken tokens (step_numbers s) spelled)
+    ap (and_then (λ ns. and_then (checked_step p next) (shaped (step_of ns))))
+    (integers_taken tokens (step_numbers s) spelled)
     ∙ ap (λ o. and_then (checked_step p next) (shaped o)) (shape_kept s (writable p next s some from_one is))
     ∙ checked p next s is
 
 -- a list with a 0 is what stands before it, the 0, and what stands behind it
 cut_at : (ns front rest : List ℤ) (place : Option ℕ) → position is_zero ns ≡ place →
-    option_map {U = List ℤ × List ℤ} (λ end. (take end ns, drop (end + 1) ns)) place ≡ Some (front, rest) → ns ≡ front ++ pos 0 ∷ rest
+    option_map {U = List ℤ × List ℤ} (λ end. (take end ns, drop (end + 1) ns)) place ≡ Some (front, rest) →
+    ns ≡ front ++ pos 0 ∷ rest
 cut_at ns front rest None is h = cc
 cut_at ns front rest (Some end) is h =
     let found = position-Some is_zero ns end (pos 0) is in
     let both : (take end ns, drop (end + 1) ns) ≡ (front, rest) = cc in
     let front_is : take end ns ≡ front = ap (λ (parts : List ℤ × List ℤ). parts.0) both in
     let rest_is : drop (end + 1) ns ≡ rest = ap (λ (parts : List ℤ × List ℤ). parts.1) both in
-    let zero_there : get_or ns end (pos 0) ≡ pos 0 = zero_is (get_or ns end (pos 0)) (eqb-true (nat_abs (get_or ns end (pos 0))) 0 found.1) in
+    let zero_there : get_or ns end (pos 0) ≡ pos 0 = zero_is (get_or ns end (pos 0))
+    (eqb-true (nat_abs (get_or ns end (pos 0))) 0 found.1) in
     sym (take-append-drop end ns)
     ∙ ap₂ (λ a b. a ++ b) front_is (drop_more ns end (pos 0) found.0 ∙ ap₂ (λ n more. n ∷ more) zero_there rest_is)
 
@@ -178,7 +199,8 @@ numbers_back : (ns : List ℤ) → map dimacs_number (map dimacs_literal ns) ≡
 numbers_back [] = refl
 numbers_back (n ∷ ns) = ap₂ (λ x xs. x ∷ xs) (number_back n) (numbers_back ns)
 
-pub hints_are : (ns : List ℤ) → list_all is_positive ns ≡ true → (hint_numbers (map nat_abs ns) ≡ ns) × AreIds (map nat_abs ns)
+pub hints_are : (ns : List ℤ) → list_all is_positive ns ≡ true →
+    (hint_numbers (map nat_abs ns) ≡ ns) × AreIds (map nat_abs ns)
 hints_are [] h = (refl, tt)
 hints_are (n ∷ ns) h =
     let both = and_parts (is_positive n) (list_all is_positive ns) h in
@@ -199,7 +221,8 @@ made_of : (b : Bool) (made s : ProofStep) → cond b (Some made) None ≡ Some s
 made_of true made s h = let is : made ≡ s = cc in (refl, is)
 made_of false made s h = cc
 
-shape_of_parts : (id : ℤ) (ls hs more : List ℤ) (s : ProofStep) → step_of_parts id ls hs more ≡ Some s → IsShape (id ∷ (ls ++ pos 0 ∷ (hs ++ pos 0 ∷ more))) s
+shape_of_parts : (id : ℤ) (ls hs more : List ℤ) (s : ProofStep) → step_of_parts id ls hs more ≡ Some s →
+    IsShape (id ∷ (ls ++ pos 0 ∷ (hs ++ pos 0 ∷ more))) s
 shape_of_parts id ls hs more s h =
     let made : ProofStep = record { id = nat_abs id; literals = map dimacs_literal ls; hints = map nat_abs hs } in
     let parts = made_of (is_positive id && (list_all is_positive hs && is_nil more)) made s h in
@@ -208,27 +231,34 @@ shape_of_parts id ls hs more s h =
     let ids = hints_are hs second.0 in
     let numbers : id ∷ (ls ++ pos 0 ∷ (hs ++ pos 0 ∷ more)) ≡ step_numbers made =
     ap₂ (λ n rest. n ∷ rest) (positive_back id first.0).0
-    (ap₂ (λ xs ys. xs ++ pos 0 ∷ ys) (sym (numbers_back ls)) (ap₂ (λ xs ys. xs ++ pos 0 ∷ ys) (sym ids.0) (nil_is more second.1))) in
+    (ap₂ (λ xs ys. xs ++ pos 0 ∷ ys) (sym (numbers_back ls))
+    (ap₂ (λ xs ys. xs ++ pos 0 ∷ ys) (sym ids.0) (nil_is more second.1))) in
     subst (IsShape (id ∷ (ls ++ pos 0 ∷ (hs ++ pos 0 ∷ more)))) parts.1 (record { numbers = numbers; hints = ids.1 })
 
 pub shape_read : (ns : List ℤ) (s : ProofStep) → step_of ns ≡ Some s → IsShape ns s
 shape_read [] s h = cc
 shape_read (id ∷ ns) s h =
     let Parts : Type 0 = List ℤ × List ℤ in
-    option_and_then_some (λ (front : Parts). option_and_then (λ (back : Parts). step_of_parts id front.0 back.0 back.1) (cut_at_zero front.1)) (cut_at_zero ns) s h
-    (λ front front_is behind. option_and_then_some (λ (back : Parts). step_of_parts id front.0 back.0 back.1) (cut_at_zero front.1) s behind
+    option_and_then_some (λ (front : Parts). option_and_then (λ (back : Parts). step_of_parts id front.0 back.0 back.1)
+    (cut_at_zero front.1)) (cut_at_zero ns) s h
+    (λ front front_is behind. option_and_then_some (λ (back : Parts). step_of_parts id front.0 back.0 back.1)
+    (cut_at_zero front.1) s behind
     (λ back back_is made.
     let whole : id ∷ ns ≡ id ∷ (front.0 ++ pos 0 ∷ (back.0 ++ pos 0 ∷ back.1)) =
-    ap (λ rest. id ∷ rest) (cut_back ns front front_is ∙ ap (λ rest. front.0 ++ pos 0 ∷ rest) (cut_back front.1 back back_is)) in
+    ap (λ rest. id ∷ rest) (cut_back ns front front_is ∙ ap (λ rest. front.0 ++ pos 0 ∷ rest)
+    (cut_back front.1 back back_is)) in
     subst (λ all. IsShape all s) (sym whole) (shape_of_parts id front.0 back.0 back.1 s made)))
 
 -- what the checks say
-all_on_variables : (p : ℕ → Bool) (ls : List Literal) → list_all (λ l. p (variable_of l)) ls ≡ true → AllByRecursion (λ l. p (variable_of l) ≡ true) ls
+all_on_variables : (p : ℕ → Bool) (ls : List Literal) → list_all (λ l. p (variable_of l)) ls ≡ true →
+    AllByRecursion (λ l. p (variable_of l) ≡ true) ls
 all_on_variables p [] h = tt
 all_on_variables p (l ∷ ls) h =
-    let both = and_parts (p (variable_of l)) (list_all (λ k. p (variable_of k)) ls) h in (both.0, all_on_variables p ls both.1)
+    let both = and_parts (p (variable_of l)) (list_all (λ k. p (variable_of k)) ls) h in
+    (both.0, all_on_variables p ls both.1)
 
-all_before : (id : ℕ) (hs : List ℕ) → list_all (λ hint. nat_lt hint id) hs ≡ true → AreIds hs → AllByRecursion (λ h. (1 ≤ h) × (h < id)) hs
+all_before : (id : ℕ) (hs : List ℕ) → list_all (λ hint. nat_lt hint id) hs ≡ true → AreIds hs →
+    AllByRecursion (λ h. (1 ≤ h) × (h < id)) hs
 all_before id [] h some = tt
 all_before id (x ∷ hs) h some =
     let both = and_parts (nat_lt x id) (list_all (λ hint. nat_lt hint id) hs) h in
@@ -252,36 +282,49 @@ checks_passed p next s t h =
     let second = passed (not b) BadVariable third_check t first.1 in
     let third = passed (not d) UnknownHint kept t second.1 in
     let same : s ≡ t = cc in
-    record { same = same; numbered = eqb-true s.id next (not-false a first.0); variables = not-false b second.0; hints = not-false d third.0 }
+    record {
+      same = same;
+      numbered = eqb-true s.id next (not-false a first.0);
+      variables = not-false b second.0;
+      hints =
+          not-false d third.0;
+    }
 
 -- a step, spelled and lawful
 pub record IsStepLine (p : ℕ → Bool) (next : ℕ) (tokens : Tokens) (s : ProofStep) : Type 0 where
   pub spelled : SpellsStep tokens s
   pub lawful : IsStep p next s
 
-step_checked : (p : ℕ → Bool) (next : ℕ) (tokens : Tokens) (ns : List ℤ) (s t : ProofStep) → map number_of tokens ≡ integers ns → IsShape ns s →
+step_checked : (p : ℕ → Bool) (next : ℕ) (tokens : Tokens) (ns : List ℤ) (s t : ProofStep) →
+    map number_of tokens ≡ integers ns → IsShape ns s →
     checked_step p next s ≡ Ok t → IsStepLine p next tokens t
 step_checked p next tokens ns s t numbers shape h =
     let checks = checks_passed p next s t h in
-    let before = subst (λ id. AllByRecursion (λ h. (1 ≤ h) × (h < id)) s.hints) checks.numbered (all_before s.id s.hints checks.hints shape.hints) in
+    let before = subst (λ id. AllByRecursion (λ h. (1 ≤ h) × (h < id)) s.hints) checks.numbered
+    (all_before s.id s.hints checks.hints shape.hints) in
     subst (IsStepLine p next tokens) checks.same (record {
       spelled = numbers ∙ ap integers shape.numbers;
       lawful = record {
         numbered = checks.numbered;
-        on_variables = All-from_recursion (λ l. p (variable_of l) ≡ true) s.literals (all_on_variables p s.literals checks.variables);
+        on_variables = All-from_recursion (λ l. p (variable_of l) ≡ true) s.literals
+            (all_on_variables p s.literals checks.variables);
         hints_before = All-from_recursion (λ h. (1 ≤ h) × (h < next)) s.hints before;
       };
     })
 
-behind_shape : (p : ℕ → Bool) (next : ℕ) (tokens : Tokens) (ns : List ℤ) (found : Option ProofStep) (t : ProofStep) → map number_of tokens ≡ integers ns →
+behind_shape : (p : ℕ → Bool) (next : ℕ) (tokens : Tokens) (ns : List ℤ) (found : Option ProofStep) (t : ProofStep) →
+    map number_of tokens ≡ integers ns →
     step_of ns ≡ found → and_then (checked_step p next) (shaped found) ≡ Ok t → IsStepLine p next tokens t
 behind_shape p next tokens ns None t numbers is h = cc
 behind_shape p next tokens ns (Some s) t numbers is h = step_checked p next tokens ns s t numbers (shape_read ns s is) h
 
-behind_integers : (p : ℕ → Bool) (next : ℕ) (tokens : Tokens) (taken : Result (List ℤ) CertFault) (t : ProofStep) → line_integers tokens ≡ taken →
+behind_integers : (p : ℕ → Bool) (next : ℕ) (tokens : Tokens) (taken : Result (List ℤ) CertFault) (t : ProofStep) →
+    line_integers tokens ≡ taken →
     and_then (λ ns. and_then (checked_step p next) (shaped (step_of ns))) taken ≡ Ok t → IsStepLine p next tokens t
 behind_integers p next tokens (Err name) t is h = cc
-behind_integers p next tokens (Ok ns) t is h = behind_shape p next tokens ns (step_of ns) t (integers_spelled tokens ns is) refl h
+behind_integers p next tokens (Ok ns) t is h = behind_shape p next tokens ns (step_of ns) t
+    (integers_spelled tokens ns is) refl h
 
-pub step_spelled : (p : ℕ → Bool) (next : ℕ) (tokens : Tokens) (s : ProofStep) → step_line p next tokens ≡ Ok s → IsStepLine p next tokens s
+pub step_spelled : (p : ℕ → Bool) (next : ℕ) (tokens : Tokens) (s : ProofStep) → step_line p next tokens ≡ Ok s →
+    IsStepLine p next tokens s
 step_spelled p next tokens s h = behind_integers p next tokens (line_integers tokens) s refl h

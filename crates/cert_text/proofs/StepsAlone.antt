@@ -15,7 +15,8 @@ use Rattle.cert_text.specs.declared.faults.CertFault.{CertFault}
 use Rattle.cert_text.specs.declared.faults.CertRefusal.{CertRefusal}
 use Rattle.cert_text.specs.declared.versions.Version.TheVariants.{One, Two}
 
-pub steps_are_items : (p : ℕ → Bool) (n : Numbering) (steps : List ProofStep) → AreSteps p n.next steps → AreItems p n (map derived steps)
+pub steps_are_items : (p : ℕ → Bool) (n : Numbering) (steps : List ProofStep) → AreSteps p n.next steps →
+    AreItems p n (map derived steps)
 steps_are_items p n [] are = tt
 steps_are_items p n (s ∷ steps) are = (are.0, steps_are_items p (with_next n) steps are.1)
 
@@ -32,18 +33,24 @@ in_front : (step : ProofStep) (read : Result (LinesRead ProofStep) CertRefusal) 
 in_front step (Ok r) = refl
 in_front step (Err fault) = refl
 
-by_line : (p : ℕ → Bool) (n : Numbering) (count : ℕ) (line : TextLine) (lines : List TextLine) (taken : Result ProofStep CertFault) →
-    read_some (item_lines One p) (with_next n) count lines (line.number + 1) ≡ as_items (read_some (step_lines p) (n.next + 1) count lines (line.number + 1)) →
+by_line : (p : ℕ → Bool) (n : Numbering) (count : ℕ) (line : TextLine) (lines : List TextLine)
+    (taken : Result ProofStep CertFault) →
+    read_some (item_lines One p) (with_next n) count lines (line.number + 1) ≡ as_items
+    (read_some (step_lines p) (n.next + 1) count lines (line.number + 1)) →
     and_read (at_line line.number (as_item taken))
-    (λ item. and_read (read_some (item_lines One p) (behind_item n item) count lines (line.number + 1)) (with_item item))
-    ≡ as_items (and_read (at_line line.number taken) (λ step. and_read (read_some (step_lines p) (n.next + 1) count lines (line.number + 1)) (with_item step)))
+    (λ item. and_read (read_some (item_lines One p) (behind_item n item) count lines (line.number + 1))
+    (with_item item))
+    ≡ as_items (and_read (at_line line.number taken) (λ step. and_read
+    (read_some (step_lines p) (n.next + 1) count lines (line.number + 1)) (with_item step)))
 by_line p n count line lines (Err name) later = refl
 by_line p n count line lines (Ok step) later =
-    ap (λ r. and_read r (with_item (derived step))) later ∙ in_front step (read_some (step_lines p) (n.next + 1) count lines (line.number + 1))
+    ap (λ r. and_read r (with_item (derived step))) later ∙ in_front step
+    (read_some (step_lines p) (n.next + 1) count lines (line.number + 1))
 
 pub steps_alone_read : (count : ℕ) (p : ℕ → Bool) (n : Numbering) (lines : List TextLine) (number : ℕ) →
     read_some (item_lines One p) n count lines number ≡ as_items (read_some (step_lines p) n.next count lines number)
 steps_alone_read zero p n lines number = refl
 steps_alone_read (suc count) p n [] number = refl
 steps_alone_read (suc count) p n (line ∷ lines) number =
-    by_line p n count line lines (step_line p n.next (line_tokens line.text)) (steps_alone_read count p (with_next n) lines (line.number + 1))
+    by_line p n count line lines (step_line p n.next (line_tokens line.text))
+    (steps_alone_read count p (with_next n) lines (line.number + 1))

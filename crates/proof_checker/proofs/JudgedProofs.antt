@@ -21,9 +21,11 @@ none_behind : (c : Candidate) (id : ℕ) → first_proof_id c.formula c.circuit.
 none_behind c zero le = absurd (omega (arith, le))
 none_behind c (suc i) le =
     let counted = clauses_counted c.formula c.circuit.netlist (circuit_literal c.circuit) in
-    ap (option_and_then without_constants) (slice_get_past (negated_clauses c.formula c.circuit.netlist (circuit_literal c.circuit)) i (omega (arith, counted, le)))
+    ap (option_and_then without_constants) (slice_get_past (negated_clauses c.formula c.circuit.netlist
+    (circuit_literal c.circuit)) i (omega (arith, counted, le)))
 
-pub proof_is_behind : (c : Candidate) (items : List ProofItem) → AreProofLines c items → AreBehind (negated_candidate c) items
+pub proof_is_behind : (c : Candidate) (items : List ProofItem) → AreProofLines c items →
+    AreBehind (negated_candidate c) items
 proof_is_behind c items lines = record {
   is_variable = is_proof_variable c.formula c.circuit.netlist;
   first = first_proof_id c.formula c.circuit.netlist;
@@ -33,7 +35,8 @@ proof_is_behind c items lines = record {
 }
 
 -- nothing can be deleted at first, so that the first item is a line
-first_small : (p : ℕ → Bool) (first : ℕ) (items : List ProofItem) → 1 ≤ length items → AreItems p (numbered_from first) items → AllByRecursion IsSmallItem items → first < 10 ^ 18
+first_small : (p : ℕ → Bool) (first : ℕ) (items : List ProofItem) → 1 ≤ length items →
+    AreItems p (numbered_from first) items → AllByRecursion IsSmallItem items → first < 10 ^ 18
 first_small p first [] some are small = absurd (omega (arith, some))
 first_small p first (derived s ∷ items) some are small = subst (λ id. id < 10 ^ 18) are.0.numbered small.0.id
 first_small p first (gone ids ∷ items) some are small = absurd (no_ids ids are.0.some are.0.live)
@@ -43,12 +46,14 @@ first_small p first (gone ids ∷ items) some are small = absurd (no_ids ids are
     no_ids (id ∷ ids) some live = cc
 
 pub proof_lines : (c : Candidate) (items : List ProofItem) → 1 ≤ length items → c.circuit.netlist.max_var ≤ max_count →
-    length items ≤ max_lines → AreItems (is_proof_variable c.formula c.circuit.netlist) (numbered_from (first_proof_id c.formula c.circuit.netlist)) items →
+    length items ≤ max_lines → AreItems (is_proof_variable c.formula c.circuit.netlist)
+    (numbered_from (first_proof_id c.formula c.circuit.netlist)) items →
     All IsSmallItem items → AreProofLines c items
 proof_lines c items some few few_lines are small = record {
   few_variables = few;
   few_lines = few_lines;
-  small_id = first_small (is_proof_variable c.formula c.circuit.netlist) (first_proof_id c.formula c.circuit.netlist) items some are
+  small_id = first_small (is_proof_variable c.formula c.circuit.netlist)
+      (first_proof_id c.formula c.circuit.netlist) items some are
       (recursion_from_All IsSmallItem items small);
   are = are;
 }

@@ -55,7 +55,8 @@ module _ (e : ℕ → Bool) where
   pair_true k l p q is_p is_q holds =
       ap (λ b. b || (literal_bit e l || false)) is_p ∙ ap (λ b. p || (b || false)) is_q ∙ holds
 
-  triple_true : (j k l : ℕ) (p q r : Bool) → literal_bit e j ≡ p → literal_bit e k ≡ q → literal_bit e l ≡ r → (p || (q || (r || false))) ≡ true
+  triple_true : (j k l : ℕ) (p q r : Bool) → literal_bit e j ≡ p → literal_bit e k ≡ q → literal_bit e l ≡ r →
+      (p || (q || (r || false))) ≡ true
       → IsTrueClause (j ∷ k ∷ l ∷ [])
   triple_true j k l p q r is_p is_q is_r holds =
       ap (λ b. b || (literal_bit e k || (literal_bit e l || false))) is_p
@@ -85,7 +86,8 @@ module _ (e : ℕ → Bool) where
       let a = literal_bit e g.left in
       let b = literal_bit e g.right in
       let here : literal_bit e (2 * g.variable) ≡ (a && b) = even_bit g.variable ∙ meets in
-      let negated : literal_bit e (opposite_of (2 * g.variable)) ≡ not (a && b) = opposite_bit (2 * g.variable) ∙ ap not here in (
+      let negated : literal_bit e (opposite_of (2 * g.variable)) ≡ not (a && b) =
+      opposite_bit (2 * g.variable) ∙ ap not here in (
         pair_true (opposite_of (2 * g.variable)) g.left (not (a && b)) a negated refl (left_holds a b),
         (
           pair_true (opposite_of (2 * g.variable)) g.right (not (a && b)) b negated refl (right_holds a b),
@@ -103,7 +105,8 @@ module _ (e : ℕ → Bool) where
 
   gates_true : (gates : List Gate) → AllByRecursion MeetsGate gates → AreTrue (flat_map gate_clauses gates)
   gates_true [] meets = tt
-  gates_true (g ∷ gates) meets = all-append (gate_clauses g) (flat_map gate_clauses gates) (gate_true g meets.0) (gates_true gates meets.1)
+  gates_true (g ∷ gates) meets = all-append (gate_clauses g) (flat_map gate_clauses gates) (gate_true g meets.0)
+      (gates_true gates meets.1)
 
   module _ (m : Assignment) (outputs : ℕ → ℕ) where
     -- the variable has its value
@@ -142,7 +145,8 @@ module _ (e : ℕ → Bool) where
     TellFalsity bad [] = Unit {0}
     TellFalsity bad (clause ∷ clauses) = (e bad ≡ not (clause_true m clause)) × TellFalsity (bad + 1) clauses
 
-    all_falsity_true : (bad : ℕ) (clauses : List (List Literal)) → AllByRecursion (AllByRecursion HasItsBit) clauses → TellFalsity bad clauses
+    all_falsity_true : (bad : ℕ) (clauses : List (List Literal)) → AllByRecursion (AllByRecursion HasItsBit) clauses →
+        TellFalsity bad clauses
         → AreTrue (all_falsity_clauses outputs bad clauses)
     all_falsity_true bad [] have tell = tt
     all_falsity_true bad (clause ∷ clauses) have tell =
@@ -151,10 +155,12 @@ module _ (e : ℕ → Bool) where
         (all_falsity_true (bad + 1) clauses have.1 tell.1)
 
     some_false : (bad : ℕ) (clauses : List (List Literal)) → TellFalsity bad clauses
-        → list_any (literal_bit e) (map (λ v. 2 * v) (range_with_len bad (length clauses))) ≡ not (list_all (clause_true m) clauses)
+        → list_any (literal_bit e) (map (λ v. 2 * v) (range_with_len bad (length clauses))) ≡ not
+        (list_all (clause_true m) clauses)
     some_false bad [] tell = refl
     some_false bad (clause ∷ clauses) tell =
-        ap (λ b. b || list_any (literal_bit e) (map (λ v. 2 * v) (range_with_len (bad + 1) (length clauses)))) (even_bit bad ∙ tell.0)
+        ap (λ b. b || list_any (literal_bit e) (map (λ v. 2 * v) (range_with_len (bad + 1) (length clauses))))
+        (even_bit bad ∙ tell.0)
         ∙ ap (λ b. not (clause_true m clause) || b) (some_false (bad + 1) clauses tell.1)
         ∙ by (clause_true m clause) (list_all (clause_true m) clauses)
       where
@@ -162,10 +168,13 @@ module _ (e : ℕ → Bool) where
         by true b = refl
         by false b = refl
 
-    pub negated_true : (f : Dqbf) (net : Netlist) → AllByRecursion MeetsGate net.gates → AllByRecursion (AllByRecursion HasItsBit) f.matrix
-        → TellFalsity (net.max_var + 1) f.matrix → list_all (clause_true m) f.matrix ≡ false → AreTrue (negated_clauses f net outputs)
+    pub negated_true : (f : Dqbf) (net : Netlist) → AllByRecursion MeetsGate net.gates →
+        AllByRecursion (AllByRecursion HasItsBit) f.matrix
+        → TellFalsity (net.max_var + 1) f.matrix → list_all (clause_true m) f.matrix ≡ false →
+        AreTrue (negated_clauses f net outputs)
     negated_true f net meets have tell fails =
-        all-append (flat_map gate_clauses net.gates) (all_falsity_clauses outputs (net.max_var + 1) f.matrix ++ some_clause_false net f.matrix ∷ [])
+        all-append (flat_map gate_clauses net.gates) (all_falsity_clauses outputs
+        (net.max_var + 1) f.matrix ++ some_clause_false net f.matrix ∷ [])
         (gates_true net.gates meets)
         (all-append (all_falsity_clauses outputs (net.max_var + 1) f.matrix) (some_clause_false net f.matrix ∷ [])
         (all_falsity_true (net.max_var + 1) f.matrix have tell)
@@ -174,31 +183,37 @@ module _ (e : ℕ → Bool) where
   literal_same : (l : ℕ) → literal_true e (as_literal l) ≡ literal_bit e l
   literal_same l = by (l % 2 == 1)
     where
-      by : (b : Bool) → literal_true e (cond b (negative (l / 2)) (positive (l / 2))) ≡ cond b (not (e (l / 2))) (e (l / 2))
+      by : (b : Bool) → literal_true e (cond b (negative (l / 2)) (positive (l / 2))) ≡ cond b (not (e (l / 2)))
+          (e (l / 2))
       by true = refl
       by false = refl
 
   module _ (constant : e 0 ≡ false) where
-    kept_same : (clause : List ℕ) → clause_true e (map as_literal (filter (λ l. not (l == 0)) clause)) ≡ list_any (literal_bit e) clause
+    kept_same : (clause : List ℕ) → clause_true e (map as_literal (filter (λ l. not (l == 0)) clause)) ≡ list_any
+        (literal_bit e) clause
     kept_same [] = refl
     kept_same (l ∷ clause) =
         elim (cases_Bool (l == 0)) [
           | inl none ↦
               let is : l ≡ 0 = eqb-true l 0 none in
-              ap (λ b. clause_true e (map as_literal (cond (not b) (l ∷ filter (λ k. not (k == 0)) clause) (filter (λ k. not (k == 0)) clause)))) none
+              ap (λ b. clause_true e (map as_literal (cond (not b) (l ∷ filter (λ k. not (k == 0)) clause)
+              (filter (λ k. not (k == 0)) clause)))) none
               ∙ kept_same clause
               ∙ sym (ap (λ b. b || list_any (literal_bit e) clause) (ap (literal_bit e) is ∙ constant))
           | inr other ↦
-              ap (λ b. clause_true e (map as_literal (cond (not b) (l ∷ filter (λ k. not (k == 0)) clause) (filter (λ k. not (k == 0)) clause)))) other
+              ap (λ b. clause_true e (map as_literal (cond (not b) (l ∷ filter (λ k. not (k == 0)) clause)
+              (filter (λ k. not (k == 0)) clause)))) other
               ∙ ap (λ b. b || clause_true e (map as_literal (filter (λ k. not (k == 0)) clause))) (literal_same l)
               ∙ ap (λ b. literal_bit e l || b) (kept_same clause)
         ]
 
-    without_true : (literals : List ℕ) (clause : List Literal) → without_constants literals ≡ Some clause → IsTrueClause literals
+    without_true : (literals : List ℕ) (clause : List Literal) → without_constants literals ≡ Some clause →
+        IsTrueClause literals
         → clause_true e clause ≡ true
     without_true literals clause is holds = by (list_any (λ l. l == 1) literals) is
       where
-        by : (b : Bool) → cond b None (Some (map as_literal (filter (λ l. not (l == 0)) literals))) ≡ Some clause → clause_true e clause ≡ true
+        by : (b : Bool) → cond b None (Some (map as_literal (filter (λ l. not (l == 0)) literals))) ≡ Some clause →
+            clause_true e clause ≡ true
         by true h = cc
         by false h =
             let same : map as_literal (filter (λ l. not (l == 0)) literals) ≡ clause = cc in
@@ -210,6 +225,7 @@ module _ (e : ℕ → Bool) where
     clause_at (literals ∷ clauses) all zero clause is = without_true literals clause is all.0
     clause_at (literals ∷ clauses) all (suc i) clause is = clause_at clauses all.1 i clause is
 
-    pub makes_true : (f : Dqbf) (net : Netlist) (outputs : ℕ → ℕ) → AreTrue (negated_clauses f net outputs) → MakesTrue e (negated_matrix f net outputs)
+    pub makes_true : (f : Dqbf) (net : Netlist) (outputs : ℕ → ℕ) → AreTrue (negated_clauses f net outputs) →
+        MakesTrue e (negated_matrix f net outputs)
     makes_true f net outputs all zero clause is = cc
     makes_true f net outputs all (suc i) clause is = clause_at (negated_clauses f net outputs) all i clause is

@@ -34,7 +34,8 @@ mapping_or : Mapping → Result Candidate MapError → Mapping
 mapping_or other (Ok c) = c.circuit.mapping
 mapping_or other (Err _) = other
 
-candidate_mapped : (f : Dqbf) (net : Netlist) (r : Result Mapping MapError) (c : Candidate) → IsMapped f net r → with_mapping f net r ≡ Ok c
+candidate_mapped : (f : Dqbf) (net : Netlist) (r : Result Mapping MapError) (c : Candidate) → IsMapped f net r →
+    with_mapping f net r ≡ Ok c
     → IsMapping f net c.circuit.mapping
 unfolding mapping_or
 candidate_mapped f net (Ok mapping) c h is =
@@ -42,7 +43,8 @@ candidate_mapped f net (Ok mapping) c h is =
     subst (IsMapping f net) same h
 candidate_mapped f net (Err fault) c h is = cc
 
-module _ (f : Dqbf) (c : MappedCircuit) (formed : IsWellFormed f) (kept : IsNetlist c.netlist) (complete : IsComplete c.netlist)
+module _ (f : Dqbf) (c : MappedCircuit) (formed : IsWellFormed f) (kept : IsNetlist c.netlist)
+    (complete : IsComplete c.netlist)
     (is_mapping : IsMapping f c.netlist c.mapping) (m : Assignment) (follows : FollowsCircuit f c m) where
   -- whether the clause at a place is false
   abbrev clause_fails : ℕ → Bool
@@ -60,11 +62,13 @@ module _ (f : Dqbf) (c : MappedCircuit) (formed : IsWellFormed f) (kept : IsNetl
 
   universal_bit : (v : ℕ) → Contains f.universals v → literal_bit whole (circuit_literal c v) ≡ m v
   universal_bit v universal =
-      let among : has c.mapping.inputs v ≡ true = has-contains c.mapping.inputs v (is_mapping.inputs.onto v universal) in
+      let among : has c.mapping.inputs v ≡ true = has-contains c.mapping.inputs v
+      (is_mapping.inputs.onto v universal) in
       let p = place c.mapping.inputs v in
       let in_net : p < length c.netlist.inputs =
       omega (arith, place-below c.mapping.inputs v among, is_mapping.inputs_length, is_mapping.inputs.same_length) in
-      ap (λ t. literal_bit whole (cond t (2 * slice_index c.netlist.inputs p) (slice_index c.netlist.outputs (place c.mapping.outputs v)))) among
+      ap (λ t. literal_bit whole (cond t (2 * slice_index c.netlist.inputs p)
+      (slice_index c.netlist.outputs (place c.mapping.outputs v)))) among
       ∙ even_bit whole (slice_index c.netlist.inputs p)
       ∙ value_is (slice_index c.netlist.inputs p) (bits p) (input p in_net refl)
       ∙ ap m (get_or-place c.mapping.inputs v 0 among)
@@ -74,14 +78,16 @@ module _ (f : Dqbf) (c : MappedCircuit) (formed : IsWellFormed f) (kept : IsNetl
       elim (cases_Bool (has c.mapping.inputs v)) [
         | inl among ↦
             absurd (apart f.universals (existential_variables f) formed.prefix.declared_once v
-            (All-contains (Contains f.universals) c.mapping.inputs v is_mapping.inputs.declared_alone (contains-has c.mapping.inputs v among)) existential)
+            (All-contains (Contains f.universals) c.mapping.inputs v is_mapping.inputs.declared_alone
+            (contains-has c.mapping.inputs v among)) existential)
         | inr none ↦ none
       ]
 
   output_of : (v : ℕ) → Contains (existential_variables f) v → HasOutputValue c m v (m v)
   output_of v existential =
       let p = existential.0 in
-      let listed : length (existential_variables f) ≡ length f.existentials = length-map f.existentials (λ (y : Existential). y.variable) in
+      let listed : length (existential_variables f) ≡ length f.existentials =
+      length-map f.existentials (λ (y : Existential). y.variable) in
       let below : p < length f.existentials = omega (arith, existential.1, listed) in
       let d : Existential = record { variable = v; sees = [] } in
       let is : (get_or f.existentials p d).variable ≡ v =
@@ -92,11 +98,13 @@ module _ (f : Dqbf) (c : MappedCircuit) (formed : IsWellFormed f) (kept : IsNetl
   existential_bit v existential =
       let none : has c.mapping.inputs v ≡ false = no_input v existential in
       let o = output_of v existential in
-      let distinct : IsDistinct eqb c.mapping.outputs = IsDistinct-from_AllPairs Decides-eqb c.mapping.outputs is_mapping.outputs.distinct in
+      let distinct : IsDistinct eqb c.mapping.outputs = IsDistinct-from_AllPairs Decides-eqb c.mapping.outputs
+      is_mapping.outputs.distinct in
       let at : place c.mapping.outputs v ≡ o.out =
       ap (place c.mapping.outputs) (sym o.stands_for) ∙ place-get_or c.mapping.outputs o.out 0 distinct o.in_range in
       let l = slice_index c.netlist.outputs o.out in
-      ap (λ t. literal_bit whole (cond t (2 * slice_index c.netlist.inputs (place c.mapping.inputs v)) (slice_index c.netlist.outputs (place c.mapping.outputs v)))) none
+      ap (λ t. literal_bit whole (cond t (2 * slice_index c.netlist.inputs (place c.mapping.inputs v))
+      (slice_index c.netlist.outputs (place c.mapping.outputs v)))) none
       ∙ ap (λ k. literal_bit whole (slice_index c.netlist.outputs k)) at
       ∙ ap (signed_bit l) (value_is (literal_variable l) o.variable_bit o.value)
       ∙ sym o.signed
@@ -121,7 +129,8 @@ module _ (f : Dqbf) (c : MappedCircuit) (formed : IsWellFormed f) (kept : IsNetl
       )
 
   pub solves : (items : List ProofItem)
-      → ((live : LiveClauses) (items : List ProofItem) → ItemsDerive live items → (a : Assignment) → MakesTrue a live → ⊥)
+      → ((live : LiveClauses) (items : List ProofItem) → ItemsDerive live items → (a : Assignment) →
+      MakesTrue a live → ⊥)
       → ItemsDerive (negated_matrix f c.netlist (circuit_literal c)) items → MatrixHolds f m
   solves items sound derives =
       elim (cases_Bool (list_all (clause_true m) f.matrix)) [
@@ -134,14 +143,17 @@ module _ (f : Dqbf) (c : MappedCircuit) (formed : IsWellFormed f) (kept : IsNetl
             (each (AllByRecursion (HasItsBit whole m (circuit_literal c))) f.matrix (λ clause clause_in.
             each (HasItsBit whole m (circuit_literal c)) clause (λ l l_in.
             has_its_bit l (bound_in clause clause_in l l_in))))
-            (tell_from (c.netlist.max_var + 1) f.matrix (λ j below. witness_tells c.netlist kept complete bits clause_fails j))
+            (tell_from (c.netlist.max_var + 1) f.matrix (λ j below. witness_tells c.netlist kept complete bits
+            clause_fails j))
             fails)))
       ]
     where
-      bound_in : (clause : List Literal) → Contains f.matrix clause → (l : Literal) → Contains clause l → Contains (declared f) (variable_of l)
+      bound_in : (clause : List Literal) → Contains f.matrix clause → (l : Literal) → Contains clause l →
+          Contains (declared f) (variable_of l)
       bound_in clause clause_in l l_in =
           All-contains (λ k. Contains (declared f) (variable_of k)) clause l
-          (All-contains (λ ls. All (λ k. Contains (declared f) (variable_of k)) ls) f.matrix clause formed.bound clause_in) l_in
+          (All-contains (λ ls. All (λ k. Contains (declared f) (variable_of k)) ls) f.matrix clause formed.bound
+          clause_in) l_in
 
 pub refuted_solves : (c : Candidate) (symbols : SymbolTable) (items : List ProofItem)
     → ((live : LiveClauses) (items : List ProofItem) → ItemsDerive live items → (a : Assignment) → MakesTrue a live → ⊥)

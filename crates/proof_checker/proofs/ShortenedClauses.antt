@@ -9,7 +9,8 @@ use Rattle.proof_checker.specs.ShortClause.{kept_literals}
 or_false : (a b : Bool) → a ≡ false → b ≡ false → (a || b) ≡ false
 or_false a b a_is b_is = ap (λ t. t || b) a_is ∙ b_is
 
-kept_where_not : (literals : List ℕ) → list_any (λ l. l == 1) literals ≡ false → Some (kept_literals literals) ≡ without_constants literals
+kept_where_not : (literals : List ℕ) → list_any (λ l. l == 1) literals ≡ false →
+    Some (kept_literals literals) ≡ without_constants literals
 kept_where_not literals is = sym (ap (λ t. cond t None (Some (kept_literals literals))) is)
 
 -- the clause that some clause of the formula is false has no constants
@@ -19,7 +20,8 @@ even_literal bad =
     let half : 2 * bad / 2 ≡ bad = omega arith in
     ap (λ r. cond (r == 1) (negative (2 * bad / 2)) (positive (2 * bad / 2))) even ∙ ap positive half
 
-pub range_kept : (bad n : ℕ) → 1 ≤ bad → kept_literals (map (λ b. 2 * b) (range_with_len bad n)) ≡ map (λ b. positive b) (range_with_len bad n)
+pub range_kept : (bad n : ℕ) → 1 ≤ bad → kept_literals (map (λ b. 2 * b) (range_with_len bad n)) ≡ map (λ b. positive b)
+    (range_with_len bad n)
 range_kept bad zero some = refl
 range_kept bad (suc n) some =
     let other : 2 * bad ≢ 0 = λ e. absurd (omega (arith, e, some)) in
@@ -33,13 +35,17 @@ range_not_true : (bad n : ℕ) → list_any (λ l. l == 1) (map (λ b. 2 * b) (r
 range_not_true bad zero = refl
 range_not_true bad (suc n) =
     let other : 2 * bad ≢ 1 = λ e. absurd (omega (arith, e)) in
-    or_false (2 * bad == 1) (list_any (λ l. l == 1) (map (λ b. 2 * b) (range_with_len (bad + 1) n))) (ne-false (2 * bad) 1 other) (range_not_true (bad + 1) n)
+    or_false (2 * bad == 1) (list_any (λ l. l == 1) (map (λ b. 2 * b) (range_with_len (bad + 1) n)))
+    (ne-false (2 * bad) 1 other) (range_not_true (bad + 1) n)
 
-pub range_clause : (bad n : ℕ) → 1 ≤ bad → Some (map (λ b. positive b) (range_with_len bad n)) ≡ without_constants (map (λ b. 2 * b) (range_with_len bad n))
+pub range_clause : (bad n : ℕ) → 1 ≤ bad → Some (map (λ b. positive b) (range_with_len bad n)) ≡ without_constants
+    (map (λ b. 2 * b) (range_with_len bad n))
 range_clause bad n some =
-    ap Some (sym (range_kept bad n some)) ∙ kept_where_not (map (λ b. 2 * b) (range_with_len bad n)) (range_not_true bad n)
+    ap Some (sym (range_kept bad n some)) ∙ kept_where_not (map (λ b. 2 * b) (range_with_len bad n))
+    (range_not_true bad n)
 
-pub range_literal : (bad n i : ℕ) → i < n → slice_get (map (λ b. positive b) (range_with_len bad n)) i ≡ Some (positive (bad + i))
+pub range_literal : (bad n i : ℕ) → i < n → slice_get (map (λ b. positive b) (range_with_len bad n)) i ≡ Some
+    (positive (bad + i))
 range_literal bad zero i below = absurd (omega (arith, below))
 range_literal bad (suc n) zero below = let same : bad ≡ bad + 0 = omega arith in ap (λ v. Some (positive v)) same
 range_literal bad (suc n) (suc i) below =

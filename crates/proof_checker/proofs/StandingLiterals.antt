@@ -11,7 +11,8 @@ use Rattle.skolem_checker.specs.SkolemCircuit.{MappedCircuit}
 use Rattle.skolem_checker.proofs.LeastNumbers.{not_before}
 use Rattle.proof_checker.specs.CircuitProof.{circuit_literal}
 
-pub new_here : (xs keys : List ℕ) (i x : ℕ) → AllPairs (λ v w. v ≢ w) xs → i < length xs → x ≡ get_or xs i x → keys ≡ take i xs
+pub new_here : (xs keys : List ℕ) (i x : ℕ) → AllPairs (λ v w. v ≢ w) xs → i < length xs → x ≡ get_or xs i x →
+    keys ≡ take i xs
     → Contains keys x → ⊥
 new_here xs keys i x once lt is same among =
     not_before xs i x once lt (subst (Contains (take i xs)) is (subst (λ ks. Contains ks x) same among))
@@ -27,11 +28,13 @@ absent xs v none =
     ]
 
 -- where nothing stands for a variable
-pub no_literal : (c : MappedCircuit) (v n answer : ℕ) → None ≡ position (λ u. u == v) c.mapping.inputs → None ≡ position (λ u. u == v) c.mapping.outputs
+pub no_literal : (c : MappedCircuit) (v n answer : ℕ) → None ≡ position (λ u. u == v) c.mapping.inputs →
+    None ≡ position (λ u. u == v) c.mapping.outputs
     → n ≡ length c.mapping.outputs → answer ≡ slice_index c.netlist.outputs n → answer ≡ circuit_literal c v
 no_literal c v n answer no_input no_output is answer_is =
     answer_is ∙ ap (slice_index c.netlist.outputs) (is ∙ sym (absent_place c.mapping.outputs v no_output))
-    ∙ sym (ap (λ b. cond b (2 * slice_index c.netlist.inputs (place c.mapping.inputs v)) (slice_index c.netlist.outputs (place c.mapping.outputs v)))
+    ∙ sym (ap (λ b. cond b (2 * slice_index c.netlist.inputs (place c.mapping.inputs v))
+    (slice_index c.netlist.outputs (place c.mapping.outputs v)))
     (absent c.mapping.inputs v no_input))
 
 module _ (c : MappedCircuit) (kept : IsNetlist c.netlist) where
@@ -39,20 +42,23 @@ module _ (c : MappedCircuit) (kept : IsNetlist c.netlist) where
   input_below p =
       elim (cases_lt p (length c.netlist.inputs)) [
         | inl below ↦ (kept.inputs_fit p 0 below).1
-        | inr past ↦ let none : slice_index c.netlist.inputs p ≡ 0 = get_or_past c.netlist.inputs p 0 past in omega (arith, none)
+        | inr past ↦ let none : slice_index c.netlist.inputs p ≡ 0 = get_or_past c.netlist.inputs p 0 past in
+            omega (arith, none)
       ]
 
   output_below : (p : ℕ) → slice_index c.netlist.outputs p ≤ 2 * c.netlist.max_var + 1
   output_below p =
       elim (cases_lt p (length c.netlist.outputs)) [
         | inl below ↦ kept.outputs_fit p 0 below
-        | inr past ↦ let none : slice_index c.netlist.outputs p ≡ 0 = get_or_past c.netlist.outputs p 0 past in omega (arith, none)
+        | inr past ↦ let none : slice_index c.netlist.outputs p ≡ 0 = get_or_past c.netlist.outputs p 0 past in
+            omega (arith, none)
       ]
 
   pub literal_below : (v : ℕ) → circuit_literal c v ≤ 2 * c.netlist.max_var + 1
   literal_below v = by (has c.mapping.inputs v)
     where
-      by : (b : Bool) → cond b (2 * slice_index c.netlist.inputs (place c.mapping.inputs v)) (slice_index c.netlist.outputs (place c.mapping.outputs v))
+      by : (b : Bool) → cond b (2 * slice_index c.netlist.inputs (place c.mapping.inputs v))
+          (slice_index c.netlist.outputs (place c.mapping.outputs v))
           ≤ 2 * c.netlist.max_var + 1
       by true = let le = input_below (place c.mapping.inputs v) in omega (arith, le)
       by false = output_below (place c.mapping.outputs v)

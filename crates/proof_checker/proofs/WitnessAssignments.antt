@@ -21,8 +21,10 @@ only_zero v (suc k, below, is) = absurd (omega (arith, below))
 
 pub each : {X : Type 0} (P : X → Type 0) (xs : List X) → ((x : X) → Contains xs x → P x) → AllByRecursion P xs
 each P [] h = tt
-each P (x ∷ xs) h =
-    (h x (Contains-append_left (x ∷ []) xs x (0, omega arith, refl)), each P xs (λ y y_in. h y (Contains-append_right (x ∷ []) xs y y_in)))
+each P (x ∷ xs) h = (
+  h x (Contains-append_left (x ∷ []) xs x (0, omega arith, refl)),
+  each P xs (λ y y_in. h y (Contains-append_right (x ∷ []) xs y y_in)),
+)
 
 module _ (net : Netlist) (kept : IsNetlist net) (complete : IsComplete net) (bits : ℕ → Bool) where
   known_grounded : (v : ℕ) → Contains (known_variables net) v → IsGrounded net v
@@ -33,16 +35,20 @@ module _ (net : Netlist) (kept : IsNetlist net) (complete : IsComplete net) (bit
           | inl at_input ↦ ground_input at_input
           | inr at_gate ↦
               let d : Gate = record { variable = v; left = 0; right = 0 } in
-              let below : at_gate.0 < length net.gates = omega (arith, at_gate.1, length-map net.gates variable_of_gate) in
-              subst (IsGrounded net) (sym (get_or-map variable_of_gate net.gates at_gate.0 d v below) ∙ at_gate.2) (complete.gates at_gate.0 d below)
+              let below : at_gate.0 < length net.gates = omega
+              (arith, at_gate.1, length-map net.gates variable_of_gate) in
+              subst (IsGrounded net) (sym (get_or-map variable_of_gate net.gates at_gate.0 d v below) ∙ at_gate.2)
+              (complete.gates at_gate.0 d below)
         ]
       ]
 
   value_if : (v : ℕ) (b : Bool) → has (known_variables net) v ≡ b → Bool
-  value_if v true known = (grounded_have_values net bits v (known_grounded v (contains-has (known_variables net) v known))).0
+  value_if v true known = (grounded_have_values net bits v (known_grounded v
+      (contains-has (known_variables net) v known))).0
   value_if v false unknown = false
 
-  value_if-is : (v : ℕ) (b : Bool) (h : has (known_variables net) v ≡ b) (x : Bool) → HasValue net bits v x → b ≡ true → value_if v b h ≡ x
+  value_if-is : (v : ℕ) (b : Bool) (h : has (known_variables net) v ≡ b) (x : Bool) → HasValue net bits v x → b ≡ true →
+      value_if v b h ≡ x
   unfolding value_if
   value_if-is v true known x value is =
       let found = grounded_have_values net bits v (known_grounded v (contains-has (known_variables net) v known)) in
@@ -59,12 +65,24 @@ module _ (net : Netlist) (kept : IsNetlist net) (complete : IsComplete net) (bit
     in_range : v ≤ net.max_var
 
   value_of_circuit : {v : ℕ} {b : Bool} → HasValue net bits v b → IsOfCircuit v
-  value_of_circuit constant = record { known = has-contains (known_variables net) 0 (known_constant net); in_range = omega arith }
+  value_of_circuit constant = record {
+    known = has-contains (known_variables net) 0 (known_constant net);
+    in_range =
+        omega arith;
+  }
   value_of_circuit (input {v} i i_in e) =
       let v_in : Contains net.inputs v = (i, i_in, get_or_default net.inputs i v 0 i_in ∙ e) in
-      record { known = has-contains (known_variables net) v (known_input net v v_in); in_range = (input_fits net kept v v_in).1 }
+      record {
+        known = has-contains (known_variables net) v (known_input net v v_in);
+        in_range =
+            (input_fits net kept v v_in).1;
+      }
   value_of_circuit (gate g g_in p q) =
-      record { known = has-contains (known_variables net) g.variable (known_gate net g g_in); in_range = (gate_fits net kept g g_in).variable.1 }
+      record {
+        known = has-contains (known_variables net) g.variable (known_gate net g g_in);
+        in_range =
+            (gate_fits net kept g g_in).variable.1;
+      }
 
   module _ (tell : ℕ → Bool) where
     -- what is told stands behind the circuit's variables
@@ -75,7 +93,8 @@ module _ (net : Netlist) (kept : IsNetlist net) (complete : IsComplete net) (bit
     unfolding witness circuit_value
     witness_value v b value =
         let here = value_of_circuit value in
-        ap (λ t. cond t (circuit_value v) (tell (v - (net.max_var + 1)))) (lt-ltb v (net.max_var + 1) (omega (arith, here.in_range)))
+        ap (λ t. cond t (circuit_value v) (tell (v - (net.max_var + 1))))
+        (lt-ltb v (net.max_var + 1) (omega (arith, here.in_range)))
         ∙ value_if-is v (has (known_variables net) v) refl b value here.known
 
     pub witness_tells : (j : ℕ) → witness (net.max_var + 1 + j) ≡ tell j
@@ -86,11 +105,15 @@ module _ (net : Netlist) (kept : IsNetlist net) (complete : IsComplete net) (bit
         (le-ltb (net.max_var + 1 + j) (net.max_var + 1) (omega arith))
         ∙ ap tell behind
 
-    pub witness_meets : (g : Gate) → Contains net.gates g → witness g.variable ≡ (literal_bit witness g.left && literal_bit witness g.right)
+    pub witness_meets : (g : Gate) → Contains net.gates g → witness g.variable ≡
+        (literal_bit witness g.left && literal_bit witness g.right)
     witness_meets g g_in =
         let sides = sides_grounded net g kept complete g_in in
         let on_left = grounded_have_values net bits (left_variable g) sides.0 in
         let on_right = grounded_have_values net bits (right_variable g) sides.1 in
-        witness_value g.variable (signed_bit g.left on_left.0 && signed_bit g.right on_right.0) (gate g g_in on_left.1 on_right.1)
-        ∙ ap (λ x. signed_bit g.left x && signed_bit g.right on_right.0) (sym (witness_value (left_variable g) on_left.0 on_left.1))
-        ∙ ap (λ x. signed_bit g.left (witness (left_variable g)) && signed_bit g.right x) (sym (witness_value (right_variable g) on_right.0 on_right.1))
+        witness_value g.variable (signed_bit g.left on_left.0 && signed_bit g.right on_right.0)
+        (gate g g_in on_left.1 on_right.1)
+        ∙ ap (λ x. signed_bit g.left x && signed_bit g.right on_right.0)
+        (sym (witness_value (left_variable g) on_left.0 on_left.1))
+        ∙ ap (λ x. signed_bit g.left (witness (left_variable g)) && signed_bit g.right x)
+        (sym (witness_value (right_variable g) on_right.0 on_right.1))

@@ -24,17 +24,20 @@ use Rattle.refutation_checker.specs.declared.bindings.DependencySet.{DependencyS
 any_inside : (q : ℕ) (xs : List ℕ) → list_any (eqb q) xs ≡ true → Contains xs q
 any_inside q [] h = cc
 any_inside q (x ∷ xs) h = by_bit (any_inside q xs) (eqb q x) refl h where
-  by_bit : (list_any (eqb q) xs ≡ true → Contains xs q) → (b : Bool) → eqb q x ≡ b → (b || list_any (eqb q) xs) ≡ true → Contains (x ∷ xs) q
+  by_bit : (list_any (eqb q) xs ≡ true → Contains xs q) → (b : Bool) → eqb q x ≡ b → (b || list_any (eqb q) xs) ≡ true →
+      Contains (x ∷ xs) q
   by_bit later true e k = (0, omega arith, sym (eqb-true q x e))
   by_bit later false e k = let r = later k in let low = r.1 in (suc r.0, omega (arith, low), r.2)
 
 -- a formula declares at most as many variables as it has
 few_declared : (f : Dqbf) → HasLawfulPrefix f → length (declared f) ≤ f.variables + 1
-few_declared f prefix = length-le_from_distinct_below (declared f) (f.variables + 1) (IsDistinct-from_AllPairs Decides-eqb (declared f) prefix.declared_once) below where
-  below : (q : ℕ) → list_any (eqb q) (declared f) ≡ true → q < f.variables + 1
-  below q h =
-      let range = All-contains (λ v. (1 ≤ v) × (v ≤ f.variables)) (declared f) q prefix.in_range (any_inside q (declared f) h) in
-      let most = range.1 in omega (arith, most)
+few_declared f prefix = length-le_from_distinct_below (declared f) (f.variables + 1)
+    (IsDistinct-from_AllPairs Decides-eqb (declared f) prefix.declared_once) below where
+      below : (q : ℕ) → list_any (eqb q) (declared f) ≡ true → q < f.variables + 1
+      below q h =
+          let range = All-contains (λ v. (1 ≤ v) × (v ≤ f.variables)) (declared f) q prefix.in_range
+          (any_inside q (declared f) h) in
+          let most = range.1 in omega (arith, most)
 
 pub few_places : (f : Dqbf) → IsLawful f → length f.universals + length f.existentials ≤ 1000001
 few_places f lawful =
@@ -72,7 +75,8 @@ none_bound f n of is = record {
     free v = ap (λ xs. get_or xs v Free) is ∙ all n v
 
 -- a universal more
-pub universal_bound : (f : Dqbf) (old new : List Binding) (x place : ℕ) → AreBindings f [] old 0 → position (λ u. u == x) f.universals ≡ Some place
+pub universal_bound : (f : Dqbf) (old new : List Binding) (x place : ℕ) → AreBindings f [] old 0 →
+    position (λ u. u == x) f.universals ≡ Some place
     → ((v : ℕ) → v ≢ x → binding_at new v ≡ binding_at old v)
     → (binding_at new x ≡ Universal place) ⊎ (binding_at new x ≡ binding_at old x) → AreBindings f [] new 0
 universal_bound f old new x place before is others here = record {
@@ -86,7 +90,8 @@ universal_bound f old new x place before is others here = record {
   few = before.few;
 }
   where
-    by : (binding_at new x ≡ Universal place) ⊎ (binding_at new x ≡ binding_at old x) → IsBinding f [] x (binding_at new x)
+    by : (binding_at new x ≡ Universal place) ⊎ (binding_at new x ≡ binding_at old x) →
+        IsBinding f [] x (binding_at new x)
     by (inl u) = subst (IsBinding f [] x) (sym u) is
     by (inr same) = subst (IsBinding f [] x) (sym same) (before.each x)
 
@@ -103,13 +108,15 @@ universal_bound f old new x place before is others here = record {
     ]
 
 -- a leader's set
-pub leader_set : (f : Dqbf) (sets : List DependencySet) (of : List Binding) (place leader c q : ℕ) → AreBindings f sets of place
+pub leader_set : (f : Dqbf) (sets : List DependencySet) (of : List Binding) (place leader c q : ℕ) →
+    AreBindings f sets of place
     → binding_at of leader ≡ Bound c q → sees_of f leader ≡ sees_of f (variable_at f place) → IsSetFor f sets place c
 leader_set f sets of place leader c q are is same =
     let b = subst (IsBinding f sets leader) is (are.each leader) in
     record { within = b.1; sees = b.2 ∙ same; few = are.few c b.1 }
 
-pub one_more_place : (f : Dqbf) (sets : List DependencySet) (of : List Binding) (place : ℕ) → AreBindings f sets of place → AreBindings f sets of (place + 1)
+pub one_more_place : (f : Dqbf) (sets : List DependencySet) (of : List Binding) (place : ℕ) →
+    AreBindings f sets of place → AreBindings f sets of (place + 1)
 one_more_place f sets of place are = record {
   each = are.each;
   apart = are.apart;
@@ -118,17 +125,21 @@ one_more_place f sets of place are = record {
   few = λ c lt. let h = are.few c lt in omega (arith, h);
 }
 
-set_before : (sets : List DependencySet) (s : DependencySet) (c : ℕ) → c < length sets → set_at (sets ++ s ∷ []) c ≡ set_at sets c
+set_before : (sets : List DependencySet) (s : DependencySet) (c : ℕ) → c < length sets →
+    set_at (sets ++ s ∷ []) c ≡ set_at sets c
 set_before sets s c lt = get_or_append_left sets (s ∷ []) (record { leader = 0; size = 0 }) c lt
 
 set_last : (sets : List DependencySet) (s : DependencySet) → set_at (sets ++ s ∷ []) (length sets) ≡ s
 set_last sets s =
     get_or-append_right sets (s ∷ []) (length sets) (length sets) (record { leader = 0; size = 0 }) refl (omega arith)
-    ∙ ap (λ k. get_or (s ∷ []) k (record { leader = 0; size = 0 })) (let e : length sets - length sets ≡ 0 = omega arith in e)
+    ∙ ap (λ k. get_or (s ∷ []) k (record { leader = 0; size = 0 }))
+    (let e : length sets - length sets ≡ 0 = omega arith in e)
 
 -- a set more, that no existential has yet
-pub set_more : (f : Dqbf) (sets : List DependencySet) (of : List Binding) (place : ℕ) → IsLawful f → place < length f.existentials → AreBindings f sets of place
-    → AreBindings f (sets ++ new_set (variable_at f place) ∷ []) of (place + 1) × IsSetFor f (sets ++ new_set (variable_at f place) ∷ []) place (length sets)
+pub set_more : (f : Dqbf) (sets : List DependencySet) (of : List Binding) (place : ℕ) → IsLawful f →
+    place < length f.existentials → AreBindings f sets of place
+    → AreBindings f (sets ++ new_set (variable_at f place) ∷ []) of (place + 1) × IsSetFor f
+    (sets ++ new_set (variable_at f place) ∷ []) place (length sets)
 set_more f sets of place lawful lt are =
     let y = variable_at f place in
     let s = new_set y in
@@ -140,14 +151,16 @@ set_more f sets of place lawful lt are =
         each = λ v. kept more long v (binding_at of v) (are.each v);
         apart = are.apart;
         led = λ c below. elim (cases_lt c (length sets)) [
-          | inl low ↦ subst (λ (t : DependencySet). IsSome (existential_of f t.leader)) (sym (set_before sets s c low)) (are.led c low)
+          | inl low ↦ subst (λ (t : DependencySet). IsSome (existential_of f t.leader)) (sym (set_before sets s c low))
+              (are.led c low)
           | inr high ↦
               let e : c ≡ length sets = omega (arith, below, long, high) in
               subst (λ (t : DependencySet). IsSome (existential_of f t.leader)) (sym (ap (set_at more) e ∙ last)) some
         ];
         few_sets = (let h = are.few_sets in omega (arith, h, long));
         few = λ c below. elim (cases_lt c (length sets)) [
-          | inl low ↦ subst (λ (t : DependencySet). t.size ≤ place + 1) (sym (set_before sets s c low)) (let h = are.few c low in omega (arith, h))
+          | inl low ↦ subst (λ (t : DependencySet). t.size ≤ place + 1) (sym (set_before sets s c low))
+              (let h = are.few c low in omega (arith, h))
           | inr high ↦
               let e : c ≡ length sets = omega (arith, below, long, high) in
               subst (λ (t : DependencySet). t.size ≤ place + 1) (sym (ap (set_at more) e ∙ last)) (omega arith)
@@ -160,7 +173,8 @@ set_more f sets of place lawful lt are =
       },
     )
   where
-    kept : (more : List DependencySet) → length more ≡ length sets + 1 → (v : ℕ) (b : Binding) → IsBinding f sets v b → IsBinding f (sets ++ new_set (variable_at f place) ∷ []) v b
+    kept : (more : List DependencySet) → length more ≡ length sets + 1 → (v : ℕ) (b : Binding) → IsBinding f sets v b →
+        IsBinding f (sets ++ new_set (variable_at f place) ∷ []) v b
     kept more long v (Universal p) h = h
     kept more long v (Bound c p) h =
         let same = set_before sets (new_set (variable_at f place)) c h.1 in
@@ -189,29 +203,38 @@ module _ (f : Dqbf) (sets : List DependencySet) (of : List Binding) (place c : �
       elim (cases_eq d c) [
         | inl same ↦
             ap (λ e. (set_at joined e).leader) same
-            ∙ ap (λ (t : DependencySet). t.leader) (get_or-set_same sets c (with_one_more here) (record { leader = 0; size = 0 }) lt)
+            ∙ ap (λ (t : DependencySet). t.leader) (get_or-set_same sets c (with_one_more here)
+            (record { leader = 0; size = 0 }) lt)
             ∙ ap (λ e. (set_at sets e).leader) (sym same)
-        | inr apart ↦ ap (λ (t : DependencySet). t.leader) (get_or-set_other sets c d (with_one_more here) (record { leader = 0; size = 0 }) apart)
+        | inr apart ↦ ap (λ (t : DependencySet). t.leader) (get_or-set_other sets c d (with_one_more here)
+            (record { leader = 0; size = 0 }) apart)
       ]
 
   joined_size : (d bound : ℕ) → c < length sets → bound ≤ (set_at sets d).size → bound ≤ (set_at joined d).size
   joined_size d bound lt le =
       elim (cases_eq d c) [
         | inl same ↦
-            subst (λ (t : DependencySet). bound ≤ t.size) (sym (ap (set_at joined) same ∙ get_or-set_same sets c (with_one_more here) (record { leader = 0; size = 0 }) lt))
+            subst (λ (t : DependencySet). bound ≤ t.size) (sym
+            (ap (set_at joined) same ∙ get_or-set_same sets c (with_one_more here)
+            (record { leader = 0; size = 0 }) lt))
             (let h : (set_at sets d).size ≡ here.size = ap (λ e. (set_at sets e).size) same in omega (arith, le, h))
         | inr apart ↦
-            subst (λ (t : DependencySet). bound ≤ t.size) (sym (get_or-set_other sets c d (with_one_more here) (record { leader = 0; size = 0 }) apart)) le
+            subst (λ (t : DependencySet). bound ≤ t.size) (sym
+            (get_or-set_other sets c d (with_one_more here) (record { leader = 0; size = 0 }) apart)) le
       ]
 
-  few_joined : (d : ℕ) → c < length sets → (set_at sets d).size ≤ place + 1 → here.size ≤ place → (set_at joined d).size ≤ place + 1
+  few_joined : (d : ℕ) → c < length sets → (set_at sets d).size ≤ place + 1 → here.size ≤ place →
+      (set_at joined d).size ≤ place + 1
   few_joined d lt le few =
       elim (cases_eq d c) [
         | inl same ↦
-            subst (λ (t : DependencySet). t.size ≤ place + 1) (sym (ap (set_at joined) same ∙ get_or-set_same sets c (with_one_more here) (record { leader = 0; size = 0 }) lt))
+            subst (λ (t : DependencySet). t.size ≤ place + 1)
+            (sym (ap (set_at joined) same ∙ get_or-set_same sets c (with_one_more here)
+            (record { leader = 0; size = 0 }) lt))
             (omega (arith, few))
         | inr apart ↦
-            subst (λ (t : DependencySet). t.size ≤ place + 1) (sym (get_or-set_other sets c d (with_one_more here) (record { leader = 0; size = 0 }) apart)) le
+            subst (λ (t : DependencySet). t.size ≤ place + 1)
+            (sym (get_or-set_other sets c d (with_one_more here) (record { leader = 0; size = 0 }) apart)) le
       ]
 
   kept_binding : c < length sets → (v : ℕ) (b : Binding) → IsBinding f sets v b → IsBinding f joined v b
@@ -241,7 +264,8 @@ module _ (f : Dqbf) (sets : List DependencySet) (of : List Binding) (place c : �
   unused : AreBindings f sets of (place + 1) → (v : ℕ) → binding_at of v ≡ Bound c here.size → ⊥
   unused are v h = let b = subst (IsBinding f sets v) h (are.each v) in let below = b.3 in omega (arith, below)
 
-  pub joined_bindings : AreBindings f sets of (place + 1) → IsSetFor f sets place c → IsSome (existential_of f (variable_at f place))
+  pub joined_bindings : AreBindings f sets of (place + 1) → IsSetFor f sets place c →
+      IsSome (existential_of f (variable_at f place))
       → variable_at f place < length of → AreBindings f joined now (place + 1)
   joined_bindings are is some lt = record {
     each = λ v. elim (cases_eq v (variable_at f place)) [
@@ -251,27 +275,33 @@ module _ (f : Dqbf) (sets : List DependencySet) (of : List Binding) (place c : �
             some,
             (let below = is.within in let long = length-set sets c (with_one_more here) in omega (arith, below, long)),
             ap (sees_of f) (joined_leader c is.within) ∙ is.sees,
-            subst (λ (t : DependencySet). here.size < t.size) (sym (get_or-set_same sets c (with_one_more here) (record { leader = 0; size = 0 }) is.within)) (omega arith),
+            subst (λ (t : DependencySet). here.size < t.size)
+                (sym (get_or-set_same sets c (with_one_more here) (record { leader = 0; size = 0 }) is.within))
+                (omega arith),
           ))
-      | inr apart ↦ subst (IsBinding f joined v) (sym (binding_other v apart)) (kept_binding is.within v (binding_at of v) (are.each v))
+      | inr apart ↦ subst (IsBinding f joined v) (sym (binding_other v apart))
+          (kept_binding is.within v (binding_at of v) (are.each v))
     ];
     apart = λ v w d p h e. elim (cases_eq v (variable_at f place)) [
       | inl v_here ↦ elim (cases_eq w (variable_at f place)) [
         | inl w_here ↦ v_here ∙ sym w_here
         | inr w_other ↦
             let is_it = bound_is (binding_at now v) d p c here.size h (ap (binding_at now) v_here ∙ binding_here lt) in
-            absurd (unused are w (sym (binding_other w w_other) ∙ e ∙ ap (λ x. Bound x p) is_it.0 ∙ ap (Bound c) is_it.1))
+            absurd (unused are w (sym (binding_other w w_other) ∙ e ∙ ap (λ x. Bound x p) is_it.0 ∙ ap
+            (Bound c) is_it.1))
       ]
       | inr v_other ↦ elim (cases_eq w (variable_at f place)) [
         | inl w_here ↦
             let is_it = bound_is (binding_at now w) d p c here.size e (ap (binding_at now) w_here ∙ binding_here lt) in
-            absurd (unused are v (sym (binding_other v v_other) ∙ h ∙ ap (λ x. Bound x p) is_it.0 ∙ ap (Bound c) is_it.1))
+            absurd (unused are v (sym (binding_other v v_other) ∙ h ∙ ap (λ x. Bound x p) is_it.0 ∙ ap
+            (Bound c) is_it.1))
         | inr w_other ↦ are.apart v w d p (sym (binding_other v v_other) ∙ h) (sym (binding_other w w_other) ∙ e)
       ]
     ];
     led = λ d below.
         let long = length-set sets c (with_one_more here) in
-        subst (λ y. IsSome (existential_of f y)) (sym (joined_leader d is.within)) (are.led d (omega (arith, below, long)));
+        subst (λ y. IsSome (existential_of f y)) (sym (joined_leader d is.within))
+        (are.led d (omega (arith, below, long)));
     few_sets = (let h = are.few_sets in let long = length-set sets c (with_one_more here) in omega (arith, h, long));
     few = λ d below.
         let long = length-set sets c (with_one_more here) in
@@ -286,7 +316,8 @@ place_of_existential (e ∷ es) v some =
     elim (cases_Bool (e.variable == v)) [
       | inl here ↦ (0, omega arith, eqb-true e.variable v here)
       | inr other ↦
-          let later = place_of_existential es v (subst (λ b. IsSome (cond b (Some e) (find (λ x. x.variable == v) es))) other some) in
+          let later = place_of_existential es v (subst (λ b. IsSome (cond b (Some e) (find (λ x. x.variable == v) es)))
+          other some) in
           let low = later.1 in
           (suc later.0, omega (arith, low), later.2)
     ]
@@ -297,7 +328,8 @@ pub record AreBoundSoFar (f : Dqbf) (sets : List DependencySet) (of : List Bindi
   pub count : length of ≡ f.variables + 1
   pub bound : (p : ℕ) → p < place → binds_existential (binding_at of (variable_at f p)) ≡ true
 
-pub bound_more : (f : Dqbf) (sets later : List DependencySet) (of now : List Binding) (place : ℕ) → AreBoundSoFar f sets of place → AreBindings f later now (place + 1)
+pub bound_more : (f : Dqbf) (sets later : List DependencySet) (of now : List Binding) (place : ℕ) →
+    AreBoundSoFar f sets of place → AreBindings f later now (place + 1)
     → IsWritten of now (variable_at f place) → AreBoundSoFar f later now (place + 1)
 bound_more f sets later of now place before are written = record {
   bindings = are;
@@ -306,11 +338,16 @@ bound_more f sets later of now place before are written = record {
     | inl same ↦ ap (λ v. binds_existential (binding_at now v)) same ∙ written.here
     | inr apart ↦
         ap binds_existential (written.others (variable_at f p) apart)
-        ∙ before.bound p (elim (cases_eq p place) [ inl e ↦ absurd (apart (ap (variable_at f) e)) | inr e ↦ omega (arith, lt, e) ])
+        ∙ before.bound p (elim (cases_eq p place) [
+          | inl e ↦ absurd (apart (ap (variable_at f) e))
+          | inr e ↦
+              omega (arith, lt, e)
+        ])
   ];
 }
 
-pub all_bound : (f : Dqbf) (sets : List DependencySet) (of : List Binding) (place : ℕ) → IsLawful f → length f.existentials ≤ place → place ≤ length f.existentials
+pub all_bound : (f : Dqbf) (sets : List DependencySet) (of : List Binding) (place : ℕ) → IsLawful f →
+    length f.existentials ≤ place → place ≤ length f.existentials
     → AreBoundSoFar f sets of place → AreAllBound f sets of
 all_bound f sets of place lawful all within are = record {
   bindings = record {
@@ -326,31 +363,41 @@ all_bound f sets of place lawful all within are = record {
       ap (λ w. binds_existential (binding_at of w)) (sym at.2) ∙ are.bound at.0 (omega (arith, low, all));
 }
 
-pub variable_small : (f : Dqbf) (place : ℕ) → IsLawful f → place < length f.existentials → variable_at f place < f.variables + 1
+pub variable_small : (f : Dqbf) (place : ℕ) → IsLawful f → place < length f.existentials →
+    variable_at f place < f.variables + 1
 variable_small f place lawful lt =
-    let range = existential_in_range f (variable_at f place) lawful (is_existential f lawful.named (existential_variables f) refl place lt) in
+    let range = existential_in_range f (variable_at f place) lawful
+    (is_existential f lawful.named (existential_variables f) refl place lt) in
     let most = range.1 in omega (arith, most)
 
 -- what a pushed set leaves
-pub set_pushed : (f : Dqbf) (sets sets' pushed : List DependencySet) (of of' : List Binding) (place : ℕ) (ys : List ℕ) → IsLawful f → place < length f.existentials
+pub set_pushed : (f : Dqbf) (sets sets' pushed : List DependencySet) (of of' : List Binding) (place : ℕ) (ys : List ℕ) →
+    IsLawful f → place < length f.existentials
     → AreBindings f sets of place → sets' ≡ sets → of' ≡ of → ys ≡ existential_variables f
     → pushed ≡ sets' ++ record { leader = get_or ys place 0; size = 0 } ∷ [] → AreBindings f pushed of' (place + 1)
 set_pushed f sets sets' pushed of of' place ys lawful lt are sets_is of_is ys_is is =
-    subst (λ ss. AreBindings f ss of' (place + 1)) (sym (is ∙ ap (λ ss. ss ++ new_set (get_or ys place 0) ∷ []) sets_is ∙ ap (λ vs. sets ++ new_set (get_or vs place 0) ∷ []) ys_is))
-    (subst (λ bs. AreBindings f (sets ++ new_set (variable_at f place) ∷ []) bs (place + 1)) (sym of_is) (set_more f sets of place lawful lt are).0)
+    subst (λ ss. AreBindings f ss of' (place + 1)) (sym (is ∙ ap (λ ss. ss ++ new_set (get_or ys place 0) ∷ []) sets_is
+    ∙ ap (λ vs. sets ++ new_set (get_or vs place 0) ∷ []) ys_is))
+    (subst (λ bs. AreBindings f (sets ++ new_set (variable_at f place) ∷ []) bs (place + 1)) (sym of_is)
+    (set_more f sets of place lawful lt are).0)
 
 -- what a join leaves
-pub bind_done : (f : Dqbf) (sets sets' : List DependencySet) (of of' before : List Binding) (ys : List ℕ) (place c : ℕ) → IsLawful f → place < length f.existentials
-    → length before ≡ f.variables + 1 → of ≡ before → AreBindings f sets of (place + 1) → IsSetFor f sets place c → ys ≡ existential_variables f
-    → of' ≡ set of (get_or ys place 0) (Bound c (set_at sets c).size) → sets' ≡ set sets c (with_one_more (set_at sets c))
+pub bind_done : (f : Dqbf) (sets sets' : List DependencySet) (of of' before : List Binding) (ys : List ℕ) (place c : ℕ)
+    → IsLawful f → place < length f.existentials
+    → length before ≡ f.variables + 1 → of ≡ before → AreBindings f sets of (place + 1) → IsSetFor f sets place c →
+    ys ≡ existential_variables f
+    → of' ≡ set of (get_or ys place 0) (Bound c (set_at sets c).size) →
+    sets' ≡ set sets c (with_one_more (set_at sets c))
     → AreBindings f sets' of' (place + 1) × IsWritten before of' (variable_at f place)
 bind_done f sets sets' of of' before ys place c lawful lt count same are is ys_is of_is sets_is =
     let small = variable_small f place lawful lt in
     let within : variable_at f place < length of = (let long = ap length same in omega (arith, small, count, long)) in
-    let now_is : of' ≡ now f sets of place c = of_is ∙ ap (λ vs. set of (get_or vs place 0) (Bound c (set_at sets c).size)) ys_is in (
+    let now_is : of' ≡ now f sets of place c = of_is ∙ ap (λ vs. set of (get_or vs place 0)
+    (Bound c (set_at sets c).size)) ys_is in (
       subst (λ ss. AreBindings f ss of' (place + 1)) (sym sets_is)
           (subst (λ bs. AreBindings f (joined f sets of place c) bs (place + 1)) (sym now_is)
-          (joined_bindings f sets of place c are is (is_existential f lawful.named (existential_variables f) refl place lt) within)),
+          (joined_bindings f sets of place c are is (is_existential f lawful.named
+          (existential_variables f) refl place lt) within)),
       subst (λ bs. IsWritten bs of' (variable_at f place)) same
           (subst (λ bs. IsWritten of bs (variable_at f place)) (sym now_is) (joined_written f sets of place c within)),
     )
@@ -365,8 +412,10 @@ sees_by_set None = refl
 sees_by_set (Some e) = refl
 
 -- a leader's set is that of the one that it stands for
-pub leader_sees : (f : Dqbf) (ys leaders : List ℕ) (place : ℕ) → IsLawful f → ys ≡ existential_variables f → place < length f.existentials
-    → IsLeader f (get_or leaders place 0) place → sees_of f (get_or ys (get_or leaders place 0) 0) ≡ sees_of f (variable_at f place)
+pub leader_sees : (f : Dqbf) (ys leaders : List ℕ) (place : ℕ) → IsLawful f → ys ≡ existential_variables f →
+    place < length f.existentials
+    → IsLeader f (get_or leaders place 0) place → sees_of f (get_or ys (get_or leaders place 0) 0) ≡ sees_of f
+    (variable_at f place)
 leader_sees f ys leaders place lawful ys_is lt leads =
     sees_by_set (existential_of f (get_or ys (get_or leaders place 0) 0))
     ∙ ap set_in (one_set f lawful.named ys ys_is (get_or leaders place 0) place lt leads)
@@ -385,13 +434,16 @@ not_universal f v lawful some =
           let low = at.1 in
           let mapped = length-map f.existentials (λ (y : Existential). y.variable) in
           let long = length-append us es in
-          absurd (lawful.prefix.declared_once (place us v) (length us + at.0) 0 (omega (arith, below)) (omega (arith, low, mapped, long))
-          (get_or_append_left us es 0 (place us v) below ∙ get_or-place us v 0 h ∙ sym at.2 ∙ sym (get_or-append-add us es at.0 0)))
+          absurd (lawful.prefix.declared_once (place us v) (length us + at.0) 0 (omega (arith, below))
+          (omega (arith, low, mapped, long))
+          (get_or_append_left us es 0 (place us v) below ∙ get_or-place us v 0 h ∙ sym at.2 ∙ sym
+          (get_or-append-add us es at.0 0)))
       | inr h ↦ h
     ]
 
 -- what isn't bound as an existential is none
-pub not_existential : (f : Dqbf) (sets : List DependencySet) (of : List Binding) (v : ℕ) → AreAllBound f sets of → binds_existential (binding_at of v) ≡ false
+pub not_existential : (f : Dqbf) (sets : List DependencySet) (of : List Binding) (v : ℕ) → AreAllBound f sets of →
+    binds_existential (binding_at of v) ≡ false
     → existential_of f v ≡ None
 not_existential f sets of v bound other = by (existential_of f v) refl
   where

@@ -22,7 +22,8 @@ no_names x n trees_is next_is = record {
   trees = λ c lt. subst (IsTree x.formula x.rows (sees_at x c)) (sym (none c))
       (record { ordered = λ k below. absurd (omega arith); keyed = λ k below. absurd (omega arith) });
   below = λ c b r whole is. absurd (nothing b (sym (ap (λ t. found x.formula x.rows (sees_at x c) t r) (none c)) ∙ is));
-  apart = λ c d b e r s r_whole s_whole first second. absurd (nothing b (sym (ap (λ t. found x.formula x.rows (sees_at x c) t r) (none c)) ∙ first));
+  apart = λ c d b e r s r_whole s_whole first second. absurd
+      (nothing b (sym (ap (λ t. found x.formula x.rows (sees_at x c) t r) (none c)) ∙ first));
 }
   where
     all : (count c : ℕ) → get_or {A = List Node} (replicate count []) c [] ≡ []
@@ -37,20 +38,32 @@ no_names x n trees_is next_is = record {
     nothing b h = cc
 
 -- what a tree's number gives
-pub name_given : (x : Frame) (old new : PairNames) (c k base : ℕ) (nodes : List Node) → IsFrame x → AreNames x old → c < length x.sets → k < length x.rows
+pub name_given : (x : Frame) (old new : PairNames) (c k base : ℕ) (nodes : List Node) → IsFrame x → AreNames x old →
+    c < length x.sets → k < length x.rows
     → IsTree x.formula x.rows (sees_at x c) nodes
     → AreNumbered x.formula x.rows (sees_at x c) (tree_at (names_in old) c) nodes (row_of x.rows k) base
     → base ≡ number_or (base_of x (names_in old) c (row_of x.rows k)) old.next
     → new.trees.items ≡ set old.trees.items c nodes
     → new.next ≡ cond (base == old.next) (old.next + (set_at x.sets c).size) old.next
     → new.known ≡ old.known → old.next ≤ 2 ^ 60
-    → AreNames x new × Extends x (names_in old) (names_in new) × (base_of x (names_in new) c (row_of x.rows k) ≡ Some base)
+    → AreNames x new × Extends x (names_in old) (names_in new) ×
+    (base_of x (names_in new) c (row_of x.rows k) ≡ Some base)
 name_given x old new c k base nodes frame names c_in k_in tree numbered value trees_is next_is known_is small =
     let n = names_in old in
     let growth : IsGrowth x n c k base new.next nodes =
-    record { naming = names.naming; within = c_in; whole = frame.whole k [] k_in; tree = tree; numbered = numbered; value = value; next_is = next_is } in
-    let now_is : names_in new ≡ grown x n c k base new.next nodes = ap (λ ts. record { trees = ts; next = new.next }) trees_is in
-    let extends : Extends x n (names_in new) = subst (Extends x n) (sym now_is) (grown_extends x n c k base new.next nodes growth) in (
+    record {
+      naming = names.naming;
+      within = c_in;
+      whole = frame.whole k [] k_in;
+      tree = tree;
+      numbered = numbered;
+      value = value;
+      next_is = next_is;
+    } in
+    let now_is : names_in new ≡ grown x n c k base new.next nodes =
+    ap (λ ts. record { trees = ts; next = new.next }) trees_is in
+    let extends : Extends x n (names_in new) = subst (Extends x n) (sym now_is)
+    (grown_extends x n c k base new.next nodes growth) in (
       record {
         naming = subst (IsNaming x) (sym now_is) (grown_naming x n c k base new.next nodes growth);
         kept = kept_later x n (names_in new) new.known.numbers new.known.bases.items frame.whole extends
@@ -58,7 +71,8 @@ name_given x old new c k base nodes frame names c_in k_in tree numbered value tr
         small = few (base == old.next) next_is;
       },
       extends,
-      subst (λ m. base_of x m c (row_of x.rows k) ≡ Some base) (sym now_is) (grown_base x n c k base new.next nodes growth),
+      subst (λ m. base_of x m c (row_of x.rows k) ≡ Some base) (sym now_is)
+          (grown_base x n c k base new.next nodes growth),
     )
   where
     few : (b : Bool) → new.next ≡ cond b (old.next + (set_at x.sets c).size) old.next → new.next ≤ 2 ^ 61
@@ -66,7 +80,8 @@ name_given x old new c k base nodes frame names c_in k_in tree numbered value tr
     few false is = omega (arith, is, small)
 
 -- the same, by the set and the tree that are read
-pub name_read : (x : Frame) (old new : PairNames) (c k base : ℕ) (nodes t : List Node) (s : DependencySet) → IsFrame x → AreNames x old → c < length x.sets → k < length x.rows
+pub name_read : (x : Frame) (old new : PairNames) (c k base : ℕ) (nodes t : List Node) (s : DependencySet) → IsFrame x →
+    AreNames x old → c < length x.sets → k < length x.rows
     → s ≡ get_or x.sets c s → t ≡ get_or old.trees.items c t
     → IsTree x.formula x.rows (sees_of x.formula s.leader) nodes
     → AreNumbered x.formula x.rows (sees_of x.formula s.leader) t nodes (row_of x.rows k) base
@@ -74,22 +89,27 @@ pub name_read : (x : Frame) (old new : PairNames) (c k base : ℕ) (nodes t : Li
     → new.trees.items ≡ set old.trees.items c nodes
     → new.next ≡ cond (base == old.next) (old.next + s.size) old.next
     → new.known ≡ old.known → old.next ≤ 2 ^ 60
-    → AreNames x new × Extends x (names_in old) (names_in new) × (base_of x (names_in new) c (row_of x.rows k) ≡ Some base)
-name_read x old new c k base nodes t s frame names c_in k_in s_read t_read tree numbered value trees_is next_is known_is small =
+    → AreNames x new × Extends x (names_in old) (names_in new) ×
+    (base_of x (names_in new) c (row_of x.rows k) ≡ Some base)
+name_read x old new c k base nodes t s frame names c_in k_in s_read t_read tree numbered value trees_is next_is
+    known_is small =
     let s_is : s ≡ set_at x.sets c = s_read ∙ get_or_default x.sets c s (record { leader = 0; size = 0 }) c_in in
     let t_is : t ≡ tree_at (names_in old) c =
     t_read ∙ get_or_default old.trees.items c t [] (let many = names.naming.many in omega (arith, many, c_in)) in
     name_given x old new c k base nodes frame names c_in k_in
     (subst (λ (z : DependencySet). IsTree x.formula x.rows (sees_of x.formula z.leader) nodes) s_is tree)
     (subst (λ u. AreNumbered x.formula x.rows (sees_at x c) u nodes (row_of x.rows k) base) t_is
-    (subst (λ (z : DependencySet). AreNumbered x.formula x.rows (sees_of x.formula z.leader) t nodes (row_of x.rows k) base) s_is numbered))
-    (value ∙ ap (λ (z : DependencySet). number_or (found x.formula x.rows (sees_of x.formula z.leader) t (row_of x.rows k)) old.next) s_is
+    (subst (λ (z : DependencySet). AreNumbered x.formula x.rows (sees_of x.formula z.leader) t nodes
+    (row_of x.rows k) base) s_is numbered))
+    (value ∙ ap (λ (z : DependencySet). number_or (found x.formula x.rows (sees_of x.formula z.leader) t
+    (row_of x.rows k)) old.next) s_is
     ∙ ap (λ u. number_or (found x.formula x.rows (sees_at x c) u (row_of x.rows k)) old.next) t_is)
     trees_is
     (next_is ∙ ap (λ (z : DependencySet). cond (base == old.next) (old.next + z.size) old.next) s_is)
     known_is small
 
-pub tree_read : (x : Frame) (n : PairNames) (c : ℕ) (t : List Node) (s : DependencySet) → AreNames x n → c < length x.sets → s ≡ get_or x.sets c s
+pub tree_read : (x : Frame) (n : PairNames) (c : ℕ) (t : List Node) (s : DependencySet) → AreNames x n →
+    c < length x.sets → s ≡ get_or x.sets c s
     → t ≡ get_or n.trees.items c t → IsTree x.formula x.rows (sees_of x.formula s.leader) t
 tree_read x n c t s names c_in s_read t_read =
     let s_is : s ≡ set_at x.sets c = s_read ∙ get_or_default x.sets c s (record { leader = 0; size = 0 }) c_in in
@@ -98,13 +118,15 @@ tree_read x n c t s names c_in s_read t_read =
     subst (λ (z : DependencySet). IsTree x.formula x.rows (sees_of x.formula z.leader) t) (sym s_is)
     (subst (IsTree x.formula x.rows (sees_at x c)) (sym t_is) (names.naming.trees c c_in))
 
-pub size_read : (x : Frame) (c : ℕ) (s : DependencySet) → IsFrame x → c < length x.sets → s ≡ get_or x.sets c s → s.size ≤ 1000001
+pub size_read : (x : Frame) (c : ℕ) (s : DependencySet) → IsFrame x → c < length x.sets → s ≡ get_or x.sets c s →
+    s.size ≤ 1000001
 size_read x c s frame c_in s_read =
     let s_is : s ≡ set_at x.sets c = s_read ∙ get_or_default x.sets c s (record { leader = 0; size = 0 }) c_in in
     subst (λ (z : DependencySet). z.size ≤ 1000001) (sym s_is) (frame.bound.bindings.few c c_in)
 
 -- a name that is kept
-pub name_kept : (x : Frame) (n : Names) (before after : KnownBases) (c k base : ℕ) → k < length x.rows → AreKept x n before.numbers before.bases.items
+pub name_kept : (x : Frame) (n : Names) (before after : KnownBases) (c k base : ℕ) → k < length x.rows →
+    AreKept x n before.numbers before.bases.items
     → length after.bases.items ≡ length after.numbers * 16
     → IsKeptOrNew before.numbers before.bases.items after.numbers after.bases.items (block_number x c k) (k % 16) base
     → base_of x n c (row_of x.rows k) ≡ Some base → AreKept x n after.numbers after.bases.items

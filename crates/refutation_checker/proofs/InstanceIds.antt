@@ -18,12 +18,16 @@ own_id f rows k j k_in j_in =
     let row : (k * c + j) / c ≡ k = div-mul-add k c j j_in in
     let rest : (k * c + j) % c ≡ j = mul-add-mod_self_right k c j ∙ mod-eq_of_lt j_in in
     ap (instance_at f rows) next
-    ∙ ap (λ i. option_and_then (λ r. option_and_then (instance_clause f rows r) (slice_get f.matrix ((k * c + j) % c))) (slice_get rows i)) row
-    ∙ ap (λ i. option_and_then (λ r. option_and_then (instance_clause f rows r) (slice_get f.matrix i)) (slice_get rows k)) rest
-    ∙ ap (option_and_then (λ r. option_and_then (instance_clause f rows r) (slice_get f.matrix j))) (slice_get-get_or rows k [] k_in)
+    ∙ ap (λ i. option_and_then (λ r. option_and_then (instance_clause f rows r) (slice_get f.matrix ((k * c + j) % c)))
+    (slice_get rows i)) row
+    ∙ ap (λ i. option_and_then (λ r. option_and_then (instance_clause f rows r) (slice_get f.matrix i))
+    (slice_get rows k)) rest
+    ∙ ap (option_and_then (λ r. option_and_then (instance_clause f rows r) (slice_get f.matrix j)))
+    (slice_get-get_or rows k [] k_in)
     ∙ ap (option_and_then (instance_clause f rows (row_of rows k))) (slice_get-get_or f.matrix j [] j_in)
 
-pub no_id : (f : Dqbf) (rows : List (List Bool)) (id : ℕ) → (id ≡ 0) ⊎ (length rows * length f.matrix < id) → instance_at f rows id ≡ None
+pub no_id : (f : Dqbf) (rows : List (List Bool)) (id : ℕ) → (id ≡ 0) ⊎ (length rows * length f.matrix < id) →
+    instance_at f rows id ≡ None
 no_id f rows zero h = refl
 no_id f rows (suc i) (inl none) = cc
 no_id f rows (suc i) (inr behind) = no_row f rows (length f.matrix) i refl (omega (arith, behind))

@@ -61,15 +61,18 @@ module _ (x : Frame) (n : Names) (c k base next : ℕ) (nodes : List Node) where
   tree_elsewhere : (d : ℕ) → d ≢ c → tree_at grown d ≡ tree_at n d
   tree_elsewhere d apart = get_or-set_other n.trees c d nodes [] apart
 
-  base_here : Growth → (r : List Bool) → IsWhole x r → base_of x grown c r ≡ cond (agree_over x.formula (sees_at x c) row r) (Some base) (base_of x n c r)
+  base_here : Growth → (r : List Bool) → IsWhole x r → base_of x grown c r ≡ cond
+      (agree_over x.formula (sees_at x c) row r) (Some base) (base_of x n c r)
   base_here g r whole = ap (λ t. found x.formula x.rows (sees_at x c) t r) (tree_here g) ∙ g.numbered r whole
 
   base_elsewhere : (d : ℕ) (r : List Bool) → d ≢ c → base_of x grown d r ≡ base_of x n d r
   base_elsewhere d r apart = ap (λ t. found x.formula x.rows (sees_at x d) t r) (tree_elsewhere d apart)
 
   -- rows that agree with this one had its name
-  same_base : Growth → (r : List Bool) → IsWhole x r → agree_over x.formula (sees_at x c) row r ≡ true → base_of x n c row ≡ base_of x n c r
-  same_base g r whole agree = found_same x.formula x.rows (sees_at x c) (tree_at n c) row r (g.naming.trees c g.within) g.whole whole agree
+  same_base : Growth → (r : List Bool) → IsWhole x r → agree_over x.formula (sees_at x c) row r ≡ true →
+      base_of x n c row ≡ base_of x n c r
+  same_base g r whole agree = found_same x.formula x.rows (sees_at x c) (tree_at n c) row r
+      (g.naming.trees c g.within) g.whole whole agree
 
   by_value : (o : Option ℕ) (b : ℕ) → o ≡ Some b → number_or o n.next ≡ b
   by_value o b h = ap (λ x. number_or x n.next) h
@@ -104,46 +107,58 @@ module _ (x : Frame) (n : Names) (c k base next : ℕ) (nodes : List Node) where
         | inr apart ↦ let h = g.next_is ∙ ap (λ t. cond t (n.next + size) n.next) apart in omega (arith, h)
       ]
 
-  origin_here : Growth → (e : ℕ) (r : List Bool) → IsWhole x r → agree_over x.formula (sees_at x c) row r ≡ true → base_of x grown c r ≡ Some e
+  origin_here : Growth → (e : ℕ) (r : List Bool) → IsWhole x r → agree_over x.formula (sees_at x c) row r ≡ true →
+      base_of x grown c r ≡ Some e
       → (o : Option ℕ) → base_of x n c row ≡ o → (base_of x n c r ≡ Some e) ⊎ Fresh c e r
   origin_here g e r whole agree is None none =
       let fresh = next_fresh g none in
-      let e_is : base ≡ e = some_is base e (sym (ap (λ t. cond t (Some base) (base_of x n c r)) agree) ∙ sym (base_here g r whole) ∙ is) in
+      let e_is : base ≡ e = some_is base e (sym (ap (λ t. cond t (Some base) (base_of x n c r)) agree) ∙ sym
+      (base_here g r whole) ∙ is) in
       inr (record { set_is = refl; agree = agree; base_is = sym e_is ∙ fresh.0; next_is = fresh.1 })
   origin_here g e r whole agree is (Some b) known =
-      let e_is : base ≡ e = some_is base e (sym (ap (λ t. cond t (Some base) (base_of x n c r)) agree) ∙ sym (base_here g r whole) ∙ is) in
+      let e_is : base ≡ e = some_is base e (sym (ap (λ t. cond t (Some base) (base_of x n c r)) agree) ∙ sym
+      (base_here g r whole) ∙ is) in
       let b_is : base ≡ b = g.value ∙ by_value (base_of x n c row) b known in
       inl (sym (same_base g r whole agree) ∙ known ∙ ap Some (sym b_is ∙ e_is))
 
-  origin : Growth → (d e : ℕ) (r : List Bool) → IsWhole x r → base_of x grown d r ≡ Some e → (base_of x n d r ≡ Some e) ⊎ Fresh d e r
+  origin : Growth → (d e : ℕ) (r : List Bool) → IsWhole x r → base_of x grown d r ≡ Some e →
+      (base_of x n d r ≡ Some e) ⊎ Fresh d e r
   origin g d e r whole is =
       elim (cases_eq d c) [
         | inl same ↦
             subst (λ i. (base_of x n i r ≡ Some e) ⊎ Fresh i e r) (sym same)
             (elim (cases_Bool (agree_over x.formula (sees_at x c) row r)) [
-              | inl agree ↦ origin_here g e r whole agree (ap (λ i. base_of x grown i r) (sym same) ∙ is) (base_of x n c row) refl
+              | inl agree ↦ origin_here g e r whole agree (ap (λ i. base_of x grown i r) (sym same) ∙ is)
+                  (base_of x n c row) refl
               | inr apart ↦
-                  inl (sym (ap (λ t. cond t (Some base) (base_of x n c r)) apart) ∙ sym (base_here g r whole) ∙ ap (λ i. base_of x grown i r) (sym same) ∙ is)
+                  inl (sym (ap (λ t. cond t (Some base) (base_of x n c r)) apart) ∙ sym (base_here g r whole) ∙ ap
+                  (λ i. base_of x grown i r) (sym same) ∙ is)
             ])
         | inr apart ↦ inl (sym (base_elsewhere d r apart) ∙ is)
       ]
 
-  below_by : Growth → (d e : ℕ) (r : List Bool) → IsWhole x r → (base_of x n d r ≡ Some e) ⊎ Fresh d e r → (1 ≤ e) × (e + (set_at x.sets d).size ≤ next)
+  below_by : Growth → (d e : ℕ) (r : List Bool) → IsWhole x r → (base_of x n d r ≡ Some e) ⊎ Fresh d e r →
+      (1 ≤ e) × (e + (set_at x.sets d).size ≤ next)
   below_by g d e r whole (inl old) =
-      let h = g.naming.below d e r whole old in let le = next_more g in let a = h.0 in let b = h.1 in (omega (arith, a), omega (arith, b, le))
+      let h = g.naming.below d e r whole old in let le = next_more g in let a = h.0 in let b = h.1 in
+      (omega (arith, a), omega (arith, b, le))
   below_by g d e r whole (inr fresh) =
       let one = g.naming.from_one in
       let size_is : (set_at x.sets d).size ≡ size = ap (λ i. (set_at x.sets i).size) fresh.set_is in
       let e_is = fresh.base_is in let next_is = fresh.next_is in
       (omega (arith, one, e_is), omega (arith, e_is, next_is, size_is))
 
-  apart_by : Growth → (d d' e e' : ℕ) (r s : List Bool) → IsWhole x r → IsWhole x s → (base_of x n d r ≡ Some e) ⊎ Fresh d e r
+  apart_by : Growth → (d d' e e' : ℕ) (r s : List Bool) → IsWhole x r → IsWhole x s →
+      (base_of x n d r ≡ Some e) ⊎ Fresh d e r
       → (base_of x n d' s ≡ Some e') ⊎ Fresh d' e' s → AreApart x d r e d' s e'
-  apart_by g d d' e e' r s r_whole s_whole (inl first) (inl second) = g.naming.apart d d' e e' r s r_whole s_whole first second
+  apart_by g d d' e e' r s r_whole s_whole (inl first) (inl second) =
+      g.naming.apart d d' e e' r s r_whole s_whole first second
   apart_by g d d' e e' r s r_whole s_whole (inl first) (inr second) =
-      let h = g.naming.below d e r r_whole first in let b = h.1 in let is = second.base_is in inr (inl (omega (arith, b, is)))
+      let h = g.naming.below d e r r_whole first in let b = h.1 in let is = second.base_is in
+      inr (inl (omega (arith, b, is)))
   apart_by g d d' e e' r s r_whole s_whole (inr first) (inl second) =
-      let h = g.naming.below d' e' s s_whole second in let b = h.1 in let is = first.base_is in inr (inr (omega (arith, b, is)))
+      let h = g.naming.below d' e' s s_whole second in let b = h.1 in let is = first.base_is in
+      inr (inr (omega (arith, b, is)))
   apart_by g d d' e e' r s r_whole s_whole (inr first) (inr second) = inl (
     first.set_is ∙ sym second.set_is,
     first.base_is ∙ sym second.base_is,
@@ -162,7 +177,8 @@ module _ (x : Frame) (n : Names) (c k base next : ℕ) (nodes : List Node) where
       | inr apart ↦ subst (IsTree x.formula x.rows (sees_at x d)) (sym (tree_elsewhere d apart)) (g.naming.trees d lt)
     ];
     below = λ d e r whole is. below_by g d e r whole (origin g d e r whole is);
-    apart = λ d d' e e' r s r_whole s_whole first second. apart_by g d d' e e' r s r_whole s_whole (origin g d e r r_whole first) (origin g d' e' s s_whole second);
+    apart = λ d d' e e' r s r_whole s_whole first second. apart_by g d d' e e' r s r_whole s_whole
+        (origin g d e r r_whole first) (origin g d' e' s s_whole second);
   }
 
   pub grown_extends : Growth → Extends x n grown
@@ -170,7 +186,8 @@ module _ (x : Frame) (n : Names) (c k base next : ℕ) (nodes : List Node) where
 
   pub grown_base : Growth → base_of x grown c row ≡ Some base
   grown_base g =
-      base_here g row g.whole ∙ ap (λ t. cond t (Some base) (base_of x n c row)) (agree_itself x.formula (sees_at x c) row)
+      base_here g row g.whole ∙ ap (λ t. cond t (Some base) (base_of x n c row))
+      (agree_itself x.formula (sees_at x c) row)
 
 -- the first row that agrees with one of the rows
 first_agrees : (f : Dqbf) (rows : List (List Bool)) (e : Existential) (k : ℕ) → k < length rows
@@ -178,7 +195,11 @@ first_agrees : (f : Dqbf) (rows : List (List Bool)) (e : Existential) (k : ℕ) 
     × (agree_over f e.sees (row_of rows k) (row_of rows (position_or_len (agree_on f e (row_of rows k)) rows)) ≡ true)
 first_agrees f rows e k within =
     elim (cases_lt (prefix_len other rows) (length rows)) [
-      | inl below ↦ (below, turned (agree_on f e (row_of rows k) (row_of rows (prefix_len other rows))) (prefix_len_stops other rows [] below))
+      | inl below ↦ (
+        below,
+        turned (agree_on f e (row_of rows k) (row_of rows (prefix_len other rows)))
+            (prefix_len_stops other rows [] below),
+      )
       | inr past ↦
           let passes : other (row_of rows k) ≡ true = prefix_len_passes other rows k [] (omega (arith, past, within)) in
           absurd (both_ways (other (row_of rows k)) (ap not (agree_itself f e.sees (row_of rows k))) passes)
@@ -193,7 +214,8 @@ first_agrees f rows e k within =
 
 -- the pair's first row
 pub first_of_pair : (f : Dqbf) (rows : List (List Bool)) (y k : ℕ) → IsSome (existential_of f y) → k < length rows
-    → (first_row f rows y (row_of rows k) < length rows) × (agree_over f (sees_of f y) (row_of rows k) (row_of rows (first_row f rows y (row_of rows k))) ≡ true)
+    → (first_row f rows y (row_of rows k) < length rows) × (agree_over f (sees_of f y) (row_of rows k)
+    (row_of rows (first_row f rows y (row_of rows k))) ≡ true)
 first_of_pair f rows y k some within = by (existential_of f y) some
   where
     by : (o : Option Existential) → IsSome o
@@ -203,17 +225,20 @@ first_of_pair f rows y k some within = by (existential_of f y) some
     by (Some e) h = first_agrees f rows e k within
 
 -- rows that agree have one pair
-pub one_pair_of : (f : Dqbf) (rows : List (List Bool)) (y : ℕ) (r s : List Bool) → agree_over f (sees_of f y) r s ≡ true → pair_of f rows r y ≡ pair_of f rows s y
+pub one_pair_of : (f : Dqbf) (rows : List (List Bool)) (y : ℕ) (r s : List Bool) →
+    agree_over f (sees_of f y) r s ≡ true → pair_of f rows r y ≡ pair_of f rows s y
 one_pair_of f rows y r s agree = ap (λ first. first * f.variables + y) (by (existential_of f y) agree)
   where
-    by : (o : Option Existential) → agree_over f (sees_in o) r s ≡ true → first_agreeing f rows o r ≡ first_agreeing f rows o s
+    by : (o : Option Existential) → agree_over f (sees_in o) r s ≡ true →
+        first_agreeing f rows o r ≡ first_agreeing f rows o s
     by None h = refl
     by (Some e) h =
         ap (λ bits. position_or_len (λ other. same_bits bits (map (row_assignment f other) e.sees)) rows)
         (same_bits-equal (map (row_assignment f r) e.sees) (map (row_assignment f s) e.sees) h)
 
 -- A pair's name.
-pub named_pair : (x : Frame) (n : Names) (k y c p b : ℕ) → IsNaming x n → IsLawful x.formula → AreAllBound x.formula x.sets x.bindings
+pub named_pair : (x : Frame) (n : Names) (k y c p b : ℕ) → IsNaming x n → IsLawful x.formula →
+    AreAllBound x.formula x.sets x.bindings
     → All (λ row. length row ≡ length x.formula.universals) x.rows
     → k < length x.rows → binding_at x.bindings y ≡ Bound c p → base_of x n c (row_of x.rows k) ≡ Some b
     → name_of x n (pair_of x.formula x.rows (row_of x.rows k) y) ≡ Some (b + p)
@@ -227,18 +252,22 @@ named_pair x n k y c p b naming lawful bound whole within is base =
     let agrees = first_of_pair f x.rows y k binding.0 within in
     let row_at : row_number x v ≡ first = row_is first f.variables y range.0 range.1 in
     let variable_at : variable_number x v ≡ y = variable_is first f.variables y range.0 range.1 in
-    let own : v ≡ pair_of f x.rows (row_of x.rows first) y = one_pair_of f x.rows y row (row_of x.rows first) agrees.1 in
+    let own : v ≡ pair_of f x.rows (row_of x.rows first) y =
+    one_pair_of f x.rows y row (row_of x.rows first) agrees.1 in
     let pair : is_pair x v ≡ true =
     ap (λ i. nat_lt i (length x.rows) && (v == pair_of f x.rows (row_of x.rows i) (variable_number x v))) row_at
     ∙ ap (λ w. nat_lt first (length x.rows) && (v == pair_of f x.rows (row_of x.rows first) w)) variable_at
-    ∙ and_from (nat_lt first (length x.rows)) (v == pair_of f x.rows (row_of x.rows first) y) (lt-ltb first (length x.rows) agrees.0) (eq-eqb v (pair_of f x.rows (row_of x.rows first) y) own) in
+    ∙ and_from (nat_lt first (length x.rows)) (v == pair_of f x.rows (row_of x.rows first) y)
+    (lt-ltb first (length x.rows) agrees.0) (eq-eqb v (pair_of f x.rows (row_of x.rows first) y) own) in
     let agree_set : agree_over f (sees_at x c) row (row_of x.rows first) ≡ true =
     ap (λ sees. agree_over f sees row (row_of x.rows first)) binding.2 ∙ agrees.1 in
-    ap (λ t. cond t (name_by x n (row_of x.rows (row_number x v)) (binding_at x.bindings (variable_number x v))) None) pair
+    ap (λ t. cond t (name_by x n (row_of x.rows (row_number x v)) (binding_at x.bindings (variable_number x v)))
+    None) pair
     ∙ ap (λ i. name_by x n (row_of x.rows i) (binding_at x.bindings (variable_number x v))) row_at
     ∙ ap (λ w. name_by x n (row_of x.rows first) (binding_at x.bindings w)) variable_at
     ∙ ap (name_by x n (row_of x.rows first)) is
-    ∙ ap (option_map (λ x. x + p)) (sym (found_same f x.rows (sees_at x c) (tree_at n c) row (row_of x.rows first) (naming.trees c binding.1) (whole k [] within) (whole first [] agrees.0) agree_set) ∙ base)
+    ∙ ap (option_map (λ x. x + p)) (sym (found_same f x.rows (sees_at x c) (tree_at n c) row (row_of x.rows first)
+    (naming.trees c binding.1) (whole k [] within) (whole first [] agrees.0) agree_set) ∙ base)
 
 -- What a name says of its pair.
 pub record HasName (x : Frame) (n : Names) (v a : ℕ) : Type 0 where
@@ -255,12 +284,15 @@ pub has_name : (x : Frame) (n : Names) (v a : ℕ) → name_of x n v ≡ Some a 
 has_name x n v a is =
     elim (cases_Bool (is_pair x v)) [
       | inl pair ↦
-          let parts = and_parts (nat_lt (row_number x v) (length x.rows)) (v == pair_of x.formula x.rows (row_of x.rows (row_number x v)) (variable_number x v)) pair in
+          let parts = and_parts (nat_lt (row_number x v) (length x.rows))
+          (v == pair_of x.formula x.rows (row_of x.rows (row_number x v)) (variable_number x v)) pair in
           by (binding_at x.bindings (variable_number x v)) refl
-          (sym (ap (λ t. cond t (name_by x n (row_of x.rows (row_number x v)) (binding_at x.bindings (variable_number x v))) None) pair) ∙ is)
+          (sym (ap (λ t. cond t (name_by x n (row_of x.rows (row_number x v))
+          (binding_at x.bindings (variable_number x v))) None) pair) ∙ is)
           (ltb-true (row_number x v) (length x.rows) parts.0)
           (eqb-true v (pair_of x.formula x.rows (row_of x.rows (row_number x v)) (variable_number x v)) parts.1)
-      | inr other ↦ absurd (none a (sym (ap (λ t. cond t (name_by x n (row_of x.rows (row_number x v)) (binding_at x.bindings (variable_number x v))) None) other) ∙ is))
+      | inr other ↦ absurd (none a (sym (ap (λ t. cond t (name_by x n (row_of x.rows (row_number x v))
+          (binding_at x.bindings (variable_number x v))) None) other) ∙ is))
     ]
   where
     none : (x : ℕ) → None ≡ Some x → ⊥
@@ -270,21 +302,35 @@ has_name x n v a is =
     sum_is None p h = cc
     sum_is (Some b) p h = (b, refl, cc)
 
-    by : (b : Binding) → binding_at x.bindings (variable_number x v) ≡ b → name_by x n (row_of x.rows (row_number x v)) b ≡ Some a
-        → row_number x v < length x.rows → v ≡ pair_of x.formula x.rows (row_of x.rows (row_number x v)) (variable_number x v) → HasName x n v a
+    by : (b : Binding) → binding_at x.bindings (variable_number x v) ≡ b →
+        name_by x n (row_of x.rows (row_number x v)) b ≡ Some a
+        → row_number x v < length x.rows → v ≡ pair_of x.formula x.rows (row_of x.rows (row_number x v))
+        (variable_number x v) → HasName x n v a
     by (Universal u) bound h row_in own = absurd (none a h)
     by (Bound c p) bound h row_in own =
         let parts = sum_is (base_of x n c (row_of x.rows (row_number x v))) p h in
-        record { row_in = row_in; own = own; set = c; place = p; base = parts.0; bound = bound; based = parts.1; sum = parts.2 }
+        record {
+          row_in = row_in;
+          own = own;
+          set = c;
+          place = p;
+          base = parts.0;
+          bound = bound;
+          based = parts.1;
+          sum =
+              parts.2;
+        }
     by Free bound h row_in own = absurd (none a h)
 
-module _ (x : Frame) (n : Names) (naming : IsNaming x n) (bound : AreAllBound x.formula x.sets x.bindings) (whole : All (λ row. length row ≡ length x.formula.universals) x.rows) where
+module _ (x : Frame) (n : Names) (naming : IsNaming x n) (bound : AreAllBound x.formula x.sets x.bindings)
+    (whole : All (λ row. length row ≡ length x.formula.universals) x.rows) where
   -- a name lies below the next one
   pub name_below : (v a : ℕ) → name_of x n v ≡ Some a → (1 ≤ a) × (a < n.next)
   name_below v a is =
       let h = has_name x n v a is in
       let b = naming.below h.set h.base (row_of x.rows (row_number x v)) (whole (row_number x v) [] h.row_in) h.based in
-      let binding = subst (IsBinding x.formula x.sets (variable_number x v)) h.bound (bound.bindings.each (variable_number x v)) in
+      let binding = subst (IsBinding x.formula x.sets (variable_number x v)) h.bound
+      (bound.bindings.each (variable_number x v)) in
       let low = b.0 in let high = b.1 in let inside = binding.3 in let sum = h.sum in
       (omega (arith, low, sum), omega (arith, high, inside, sum))
 
@@ -296,17 +342,24 @@ module _ (x : Frame) (n : Names) (naming : IsNaming x n) (bound : AreAllBound x.
       let variables : variable_number x v ≡ variable_number x w =
       bound.bindings.apart (variable_number x v) (variable_number x w) h.set h.place h.bound
       (k.bound ∙ ap (λ x. Bound x k.place) (sym same.0) ∙ ap (Bound h.set) (sym places)) in
-      let binding = subst (IsBinding x.formula x.sets (variable_number x v)) h.bound (bound.bindings.each (variable_number x v)) in
+      let binding = subst (IsBinding x.formula x.sets (variable_number x v)) h.bound
+      (bound.bindings.each (variable_number x v)) in
       h.own
-      ∙ one_pair_of x.formula x.rows (variable_number x v) (row_of x.rows (row_number x v)) (row_of x.rows (row_number x w))
-      (ap (λ sees. agree_over x.formula sees (row_of x.rows (row_number x v)) (row_of x.rows (row_number x w))) (sym binding.2) ∙ same.2)
+      ∙ one_pair_of x.formula x.rows (variable_number x v) (row_of x.rows (row_number x v))
+      (row_of x.rows (row_number x w))
+      (ap (λ sees. agree_over x.formula sees (row_of x.rows (row_number x v)) (row_of x.rows (row_number x w)))
+      (sym binding.2) ∙ same.2)
       ∙ ap (pair_of x.formula x.rows (row_of x.rows (row_number x w))) variables ∙ sym k.own
   one_by v w a h k (inr (inl before)) =
-      let binding = subst (IsBinding x.formula x.sets (variable_number x v)) h.bound (bound.bindings.each (variable_number x v)) in
-      let inside = binding.3 in let h_sum = h.sum in let k_sum = k.sum in absurd (omega (arith, before, inside, h_sum, k_sum))
+      let binding = subst (IsBinding x.formula x.sets (variable_number x v)) h.bound
+      (bound.bindings.each (variable_number x v)) in
+      let inside = binding.3 in let h_sum = h.sum in let k_sum = k.sum in
+      absurd (omega (arith, before, inside, h_sum, k_sum))
   one_by v w a h k (inr (inr behind)) =
-      let binding = subst (IsBinding x.formula x.sets (variable_number x w)) k.bound (bound.bindings.each (variable_number x w)) in
-      let inside = binding.3 in let h_sum = h.sum in let k_sum = k.sum in absurd (omega (arith, behind, inside, h_sum, k_sum))
+      let binding = subst (IsBinding x.formula x.sets (variable_number x w)) k.bound
+      (bound.bindings.each (variable_number x w)) in
+      let inside = binding.3 in let h_sum = h.sum in let k_sum = k.sum in
+      absurd (omega (arith, behind, inside, h_sum, k_sum))
 
   -- a name belongs to one pair
   pub one_name : (v w a : ℕ) → name_of x n v ≡ Some a → name_of x n w ≡ Some a → v ≡ w
@@ -314,7 +367,8 @@ module _ (x : Frame) (n : Names) (naming : IsNaming x n) (bound : AreAllBound x.
       let h = has_name x n v a v_is in
       let k = has_name x n w a w_is in
       one_by v w a h k
-      (naming.apart h.set k.set h.base k.base (row_of x.rows (row_number x v)) (row_of x.rows (row_number x w)) (whole (row_number x v) [] h.row_in)
+      (naming.apart h.set k.set h.base k.base (row_of x.rows (row_number x v)) (row_of x.rows (row_number x w))
+      (whole (row_number x v) [] h.row_in)
       (whole (row_number x w) [] k.row_in) h.based k.based)
 
   -- all numbers differ
@@ -323,28 +377,36 @@ module _ (x : Frame) (n : Names) (naming : IsNaming x n) (bound : AreAllBound x.
     where
       by : (o : Option ℕ) → name_of x n v ≡ o → (p : Option ℕ) → name_of x n w ≡ p → v ≡ w
       by None v_is None w_is =
-          let e : n.next + v ≡ n.next + w = sym (ap (λ x. number_or x (n.next + v)) v_is) ∙ same ∙ ap (λ x. number_or x (n.next + w)) w_is in
+          let e : n.next + v ≡ n.next + w = sym (ap (λ x. number_or x (n.next + v)) v_is) ∙ same ∙ ap
+          (λ x. number_or x (n.next + w)) w_is in
           omega (arith, e)
       by None v_is (Some b) w_is =
-          let e : n.next + v ≡ b = sym (ap (λ x. number_or x (n.next + v)) v_is) ∙ same ∙ ap (λ x. number_or x (n.next + w)) w_is in
+          let e : n.next + v ≡ b = sym (ap (λ x. number_or x (n.next + v)) v_is) ∙ same ∙ ap
+          (λ x. number_or x (n.next + w)) w_is in
           let low = name_below w b w_is in let lt = low.1 in absurd (omega (arith, e, lt))
       by (Some a) v_is None w_is =
-          let e : a ≡ n.next + w = sym (ap (λ x. number_or x (n.next + v)) v_is) ∙ same ∙ ap (λ x. number_or x (n.next + w)) w_is in
+          let e : a ≡ n.next + w = sym (ap (λ x. number_or x (n.next + v)) v_is) ∙ same ∙ ap
+          (λ x. number_or x (n.next + w)) w_is in
           let low = name_below v a v_is in let lt = low.1 in absurd (omega (arith, e, lt))
       by (Some a) v_is (Some b) w_is =
-          let e : a ≡ b = sym (ap (λ x. number_or x (n.next + v)) v_is) ∙ same ∙ ap (λ x. number_or x (n.next + w)) w_is in
+          let e : a ≡ b = sym (ap (λ x. number_or x (n.next + v)) v_is) ∙ same ∙ ap
+          (λ x. number_or x (n.next + w)) w_is in
           one_name v w a v_is (w_is ∙ ap Some (sym e))
 
 -- Names stay.
-pub name_stays : (x : Frame) (n m : Names) (v a : ℕ) → Extends x n m → All (λ row. length row ≡ length x.formula.universals) x.rows → name_of x n v ≡ Some a
+pub name_stays : (x : Frame) (n m : Names) (v a : ℕ) → Extends x n m →
+    All (λ row. length row ≡ length x.formula.universals) x.rows → name_of x n v ≡ Some a
     → name_of x m v ≡ Some a
 name_stays x n m v a extends whole is =
     let h = has_name x n v a is in
     let pair : is_pair x v ≡ true =
-    and_from (nat_lt (row_number x v) (length x.rows)) (v == pair_of x.formula x.rows (row_of x.rows (row_number x v)) (variable_number x v))
+    and_from (nat_lt (row_number x v) (length x.rows)) (v == pair_of x.formula x.rows (row_of x.rows (row_number x v))
+    (variable_number x v))
     (lt-ltb (row_number x v) (length x.rows) h.row_in)
     (eq-eqb v (pair_of x.formula x.rows (row_of x.rows (row_number x v)) (variable_number x v)) h.own) in
-    ap (λ t. cond t (name_by x m (row_of x.rows (row_number x v)) (binding_at x.bindings (variable_number x v))) None) pair
+    ap (λ t. cond t (name_by x m (row_of x.rows (row_number x v)) (binding_at x.bindings (variable_number x v)))
+    None) pair
     ∙ ap (name_by x m (row_of x.rows (row_number x v))) h.bound
-    ∙ ap (option_map (λ b. b + h.place)) (extends h.set h.base (row_of x.rows (row_number x v)) (whole (row_number x v) [] h.row_in) h.based)
+    ∙ ap (option_map (λ b. b + h.place)) (extends h.set h.base (row_of x.rows (row_number x v))
+    (whole (row_number x v) [] h.row_in) h.based)
     ∙ ap Some (sym h.sum)

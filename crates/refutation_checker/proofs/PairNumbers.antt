@@ -11,21 +11,24 @@ use Rattle.refutation_checker.specs.Refutation.{normal_of, normal_number}
 use Rattle.refutation_checker.specs.Pairs.{first_agreeing, pair_of, existential_part}
 
 -- the existential of a variable stands on it
-found_variable : (es : List Existential) (v : ℕ) (e : Existential) → find (λ y. y.variable == v) es ≡ Some e → e.variable ≡ v
+found_variable : (es : List Existential) (v : ℕ) (e : Existential) → find (λ y. y.variable == v) es ≡ Some e →
+    e.variable ≡ v
 found_variable [] v e found = cc
 found_variable (y ∷ es) v e found =
     elim (cases_Bool (y.variable == v)) [
       | inl same ↦
           let at : Some y ≡ Some e = sym (ap (λ b. cond b (Some y) (find (λ x. x.variable == v) es)) same) ∙ found in
           ap (λ (x : Existential). x.variable) (sym (some_is y e at)) ∙ eqb-true y.variable v same
-      | inr other ↦ found_variable es v e (sym (ap (λ b. cond b (Some y) (find (λ x. x.variable == v) es)) other) ∙ found)
+      | inr other ↦ found_variable es v e (sym (ap (λ b. cond b (Some y) (find (λ x. x.variable == v) es)) other)
+          ∙ found)
     ]
   where
     some_is : (x z : Existential) → Some x ≡ Some z → x ≡ z
     some_is x z h = cc
 
 -- the pair's number is that of its existential
-pub pair_number_is : (f : Dqbf) (rows : List (List Bool)) (row : List Bool) (v : ℕ) (e : Existential) → existential_of f v ≡ Some e
+pub pair_number_is : (f : Dqbf) (rows : List (List Bool)) (row : List Bool) (v : ℕ) (e : Existential) →
+    existential_of f v ≡ Some e
     → pair_number f rows row e ≡ pair_of f rows row v
 pair_number_is f rows row v e found =
     ap (λ n. position_or_len (agree_on f e row) rows * f.variables + n) (found_variable f.existentials v e found)
@@ -33,20 +36,23 @@ pair_number_is f rows row v e found =
 
 -- the number that a line may name a pair by
 pub named_is : (f : Dqbf) (rows : List (List Bool)) (number : ℕ) → is_pair_number f (length rows) number ≡ true
-    → normal_number f rows number ≡ pair_of f rows (get_or rows ((number - 1) / f.variables) []) ((number - 1) % f.variables + 1)
+    → normal_number f rows number ≡ pair_of f rows (get_or rows ((number - 1) / f.variables) [])
+    ((number - 1) % f.variables + 1)
 named_is f rows number h =
     let k = (number - 1) / f.variables in
     let v = (number - 1) % f.variables + 1 in
     ap (λ o. normal_of f rows number o (existential_of f v)) (slice_get-get_or rows k [] (row_within f rows number h))
     ∙ by (existential_of f v) refl (existential_within f rows number h)
   where
-    row_within : (g : Dqbf) (rs : List (List Bool)) (n : ℕ) → is_pair_number g (length rs) n ≡ true → (n - 1) / g.variables < length rs
+    row_within : (g : Dqbf) (rs : List (List Bool)) (n : ℕ) → is_pair_number g (length rs) n ≡ true →
+        (n - 1) / g.variables < length rs
     row_within g rs n t =
         ltb-true ((n - 1) / g.variables) (length rs)
         (and_parts (nat_lt ((n - 1) / g.variables) (length rs)) (is_some (existential_of g ((n - 1) % g.variables + 1)))
         (and_parts (not (n == 0)) _ (and_parts (not (g.variables == 0)) _ t).1).1).0
 
-    existential_within : (g : Dqbf) (rs : List (List Bool)) (n : ℕ) → is_pair_number g (length rs) n ≡ true → IsSome (existential_of g ((n - 1) % g.variables + 1))
+    existential_within : (g : Dqbf) (rs : List (List Bool)) (n : ℕ) → is_pair_number g (length rs) n ≡ true →
+        IsSome (existential_of g ((n - 1) % g.variables + 1))
     existential_within g rs n t =
         (and_parts (nat_lt ((n - 1) / g.variables) (length rs)) (is_some (existential_of g ((n - 1) % g.variables + 1)))
         (and_parts (not (n == 0)) _ (and_parts (not (g.variables == 0)) _ t).1).1).1
@@ -55,21 +61,30 @@ named_is f rows number h =
         → normal_of f rows number (Some (get_or rows ((number - 1) / f.variables) [])) o
         ≡ pair_of f rows (get_or rows ((number - 1) / f.variables) []) ((number - 1) % f.variables + 1)
     by None found some = cc
-    by (Some e) found some = pair_number_is f rows (get_or rows ((number - 1) / f.variables) []) ((number - 1) % f.variables + 1) e found
+    by (Some e) found some = pair_number_is f rows (get_or rows ((number - 1) / f.variables) [])
+        ((number - 1) % f.variables + 1) e found
 
-pub named_by : (f : Dqbf) (rows : List (List Bool)) (number variables : ℕ) → variables ≡ f.variables → is_pair_number f (length rows) number ≡ true
-    → normal_number f rows number ≡ pair_of f rows (get_or rows ((number - 1) / variables) []) ((number - 1) % variables + 1)
+pub named_by : (f : Dqbf) (rows : List (List Bool)) (number variables : ℕ) → variables ≡ f.variables →
+    is_pair_number f (length rows) number ≡ true
+    → normal_number f rows number ≡ pair_of f rows (get_or rows ((number - 1) / variables) [])
+    ((number - 1) % variables + 1)
 named_by f rows number variables is h =
-    subst (λ w. normal_number f rows number ≡ pair_of f rows (get_or rows ((number - 1) / w) []) ((number - 1) % w + 1)) (sym is) (named_is f rows number h)
+    subst (λ w. normal_number f rows number ≡ pair_of f rows (get_or rows ((number - 1) / w) []) ((number - 1) % w + 1))
+    (sym is) (named_is f rows number h)
 
 -- an instance's literals are those of the clause's existential part
 pub instance_part : (f : Dqbf) (rows : List (List Bool)) (row : List Bool) (clause : List Literal)
-    → filter_map (pair_literal f rows row) clause ≡ map (λ l. on_variable (pair_of f rows row (variable_of l)) l) (existential_part f clause)
+    → filter_map (pair_literal f rows row) clause ≡ map (λ l. on_variable (pair_of f rows row (variable_of l)) l)
+    (existential_part f clause)
 instance_part f rows row [] = refl
 instance_part f rows row (l ∷ clause) = by (existential_of f (variable_of l)) refl (instance_part f rows row clause)
   where
     by : (o : Option Existential) → existential_of f (variable_of l) ≡ o
-        → filter_map (pair_literal f rows row) clause ≡ map (λ k. on_variable (pair_of f rows row (variable_of k)) k) (existential_part f clause)
-        → filter_map (pair_literal f rows row) (l ∷ clause) ≡ map (λ k. on_variable (pair_of f rows row (variable_of k)) k) (existential_part f (l ∷ clause))
+        → filter_map (pair_literal f rows row) clause ≡ map (λ k. on_variable (pair_of f rows row (variable_of k)) k)
+        (existential_part f clause)
+        → filter_map (pair_literal f rows row) (l ∷ clause) ≡ map
+        (λ k. on_variable (pair_of f rows row (variable_of k)) k) (existential_part f (l ∷ clause))
     by None found rest = rw found rest
-    by (Some e) found rest = rw found (ap (λ n. on_variable n l ∷ filter_map (pair_literal f rows row) clause) (pair_number_is f rows row (variable_of l) e found) ∙ ap (λ ls. on_variable (pair_of f rows row (variable_of l)) l ∷ ls) rest)
+    by (Some e) found rest = rw found (ap (λ n. on_variable n l ∷ filter_map (pair_literal f rows row) clause)
+        (pair_number_is f rows row (variable_of l) e found) ∙ ap
+        (λ ls. on_variable (pair_of f rows row (variable_of l)) l ∷ ls) rest)

@@ -23,14 +23,16 @@ same_itself (positive v) = eq-eqb v v refl
 same_itself (negative v) = eq-eqb v v refl
 
 -- a literal that passes
-held_one : (p : Literal → Bool) (xs : List Literal) → list_any p xs ≡ true → (l : Literal) × (holds xs l ≡ true) × (p l ≡ true)
+held_one : (p : Literal → Bool) (xs : List Literal) → list_any p xs ≡ true →
+    (l : Literal) × (holds xs l ≡ true) × (p l ≡ true)
 held_one p [] some = cc
 held_one p (x ∷ xs) some = elim (or_cases (p x) (list_any p xs) some) [
   | inl here ↦ (x, or_left (same_literal x x) (holds xs x) (same_itself x), here)
   | inr later ↦ (let r = held_one p xs later in (r.0, or_right (same_literal r.0 x) (holds xs r.0) r.1, r.2))
 ]
 
-any_held : (p : Literal → Bool) (xs : List Literal) (l : Literal) → holds xs l ≡ true → p l ≡ true → list_any p xs ≡ true
+any_held : (p : Literal → Bool) (xs : List Literal) (l : Literal) → holds xs l ≡ true → p l ≡ true →
+    list_any p xs ≡ true
 any_held p [] l h is = cc
 any_held p (x ∷ xs) l h is = elim (holds_cases x xs l h) [
   | inl same ↦ or_left (p x) (list_any p xs) (ap p (sym same) ∙ is)
@@ -44,7 +46,8 @@ no_opposite (negative v) same = cc
 is_last : (last j : Literal) → holds (last ∷ []) j ≡ true → j ≡ last
 is_last last j held = elim (holds_cases last [] j held) [ inl same ↦ same | inr none ↦ cc ]
 
-pub consistent_with : (xs : List Literal) (l : Literal) → is_tautology xs ≡ false → holds xs (opposite l) ≡ false → is_tautology (xs ++ l ∷ []) ≡ false
+pub consistent_with : (xs : List Literal) (l : Literal) → is_tautology xs ≡ false → holds xs (opposite l) ≡ false →
+    is_tautology (xs ++ l ∷ []) ≡ false
 consistent_with xs l consistent apart = elim (cases_Bool (is_tautology (xs ++ l ∷ []))) [
   | inl some ↦ (
       let w = held_one (λ k. holds (xs ++ l ∷ []) (opposite k)) (xs ++ l ∷ []) some in
@@ -56,7 +59,8 @@ consistent_with xs l consistent apart = elim (cases_Bool (is_tautology (xs ++ l 
     no_pair k one other = elim (held_in_either xs (l ∷ []) k one) [
       | inl before ↦ elim (held_in_either xs (l ∷ []) (opposite k) other) [
         | inl also ↦ true≢false (sym (any_held (λ j. holds xs (opposite j)) xs k before also) ∙ consistent)
-        | inr end ↦ true≢false (sym before ∙ ap (holds xs) (sym (opposite-opposite k) ∙ ap opposite (is_last l (opposite k) end)) ∙ apart)
+        | inr end ↦ true≢false (sym before ∙ ap (holds xs) (sym (opposite-opposite k) ∙ ap opposite
+            (is_last l (opposite k) end)) ∙ apart)
       ]
       | inr end ↦ elim (held_in_either xs (l ∷ []) (opposite k) other) [
         | inl before ↦ true≢false (sym before ∙ ap (λ j. holds xs (opposite j)) (is_last l k end) ∙ apart)
@@ -71,10 +75,12 @@ no_conditions f y = record {
   others = All-nil (λ l. variable_of l ≢ y);
 }
 
-pub one_more : (f : Dqbf) (y : ℕ) (lits : List Literal) (l : Literal) → AreConditions f y lits → is_declared f (variable_of l) ≡ true → variable_of l ≢ y → holds lits (opposite l) ≡ false
+pub one_more : (f : Dqbf) (y : ℕ) (lits : List Literal) (l : Literal) → AreConditions f y lits →
+    is_declared f (variable_of l) ≡ true → variable_of l ≢ y → holds lits (opposite l) ≡ false
     → AreConditions f y (lits ++ l ∷ [])
 one_more f y lits l are there other apart = record {
-  declared = All-push (λ k. Contains (declared f) (variable_of k)) lits l are.declared (contains-has (declared f) (variable_of l) there);
+  declared = All-push (λ k. Contains (declared f) (variable_of k)) lits l are.declared
+      (contains-has (declared f) (variable_of l) there);
   consistent = consistent_with lits l are.consistent apart;
   others = All-push (λ k. variable_of k ≢ y) lits l are.others other;
 }
@@ -96,12 +102,14 @@ default_free (x ∷ xs) zero d e lt = refl
 default_free (x ∷ xs) (suc i) d e lt = default_free xs i d e (omega (arith, lt))
 
 -- literals on the first universals, and one on the next
-pub next_universal : (f : Dqbf) → IsLawful f → (y : ℕ) → IsSome (existential_of f y) → (lits : List Literal) (l : Literal) (p : ℕ) → p < length f.universals → variable_of l ≡ get_or f.universals p 0
+pub next_universal : (f : Dqbf) → IsLawful f → (y : ℕ) → IsSome (existential_of f y) →
+    (lits : List Literal) (l : Literal) (p : ℕ) → p < length f.universals → variable_of l ≡ get_or f.universals p 0
     → map variable_of lits ≡ take p f.universals → AreConditions f y lits → AreConditions f y (lits ++ l ∷ [])
 next_universal f lawful y known lits l p below is before are = record {
   declared = All-push (λ k. Contains (declared f) (variable_of k)) lits l are.declared named;
   consistent = consistent_with lits l are.consistent apart;
-  others = All-push (λ k. variable_of k ≢ y) lits l are.others (universal_differs f lawful.prefix (variable_of l) y inside (is_variable f y known));
+  others = All-push (λ k. variable_of k ≢ y) lits l are.others
+      (universal_differs f lawful.prefix (variable_of l) y inside (is_variable f y known));
 } where
   us : List ℕ
   us = f.universals
@@ -112,14 +120,20 @@ next_universal f lawful y known lits l p below is before are = record {
   named : Contains (declared f) (variable_of l)
   named =
       let long = length-append us (existential_variables f) in
-      let lt = inside.1 in
-      (inside.0, omega (arith, lt, long), get_or_append_left us (existential_variables f) (variable_of l) inside.0 lt ∙ inside.2)
+      let lt = inside.1 in (
+        inside.0,
+        omega (arith, lt, long),
+        get_or_append_left us (existential_variables f) (variable_of l) inside.0 lt
+            ∙ inside.2,
+      )
 
   apart : holds lits (opposite l) ≡ false
   apart = elim (cases_Bool (holds lits (opposite l))) [
     | inl held ↦ (
         let w = variable_of l in
-        let among : Contains (take p f.universals) (variable_of l) = subst (λ vs. Contains vs w) before (subst (Contains (map variable_of lits)) (opposite_variable l) (held_variable lits (opposite l) held)) in
+        let among : Contains (take p f.universals) (variable_of l) =
+        subst (λ vs. Contains vs w) before (subst (Contains (map variable_of lits)) (opposite_variable l)
+        (held_variable lits (opposite l) held)) in
         let lt = among.1 in
         let long = length-take p us in
         let early : among.0 < p = omega (arith, lt, long) in
@@ -127,7 +141,9 @@ next_universal f lawful y known lits l p below is before are = record {
         let evs = existential_variables f in
         let longer = length-append us evs in
         let first : among.0 < length us = omega (arith, early, below) in
-        absurd (lawful.prefix.declared_once among.0 p w early (omega (arith, below, longer)) (get_or_append_left us evs w among.0 first ∙ there ∙ sym (at w) ∙ sym (get_or_append_left us evs w p below))))
+        absurd (lawful.prefix.declared_once among.0 p w early (omega (arith, below, longer))
+        (get_or_append_left us evs w among.0 first ∙ there ∙ sym (at w) ∙ sym
+        (get_or_append_left us evs w p below))))
     | inr none ↦ none
   ]
     where
@@ -135,7 +151,8 @@ next_universal f lawful y known lits l p below is before are = record {
       at d = default_free us p d 0 below ∙ sym is
 
 -- variables may be the variables of literals
-pub universal_range : (f : Dqbf) → IsLawful f → (p : ℕ) → p < length f.universals → (1 ≤ get_or f.universals p 0) × (get_or f.universals p 0 < 2 ^ 62)
+pub universal_range : (f : Dqbf) → IsLawful f → (p : ℕ) → p < length f.universals →
+    (1 ≤ get_or f.universals p 0) × (get_or f.universals p 0 < 2 ^ 62)
 universal_range f lawful p below =
     let us = f.universals in
     let long = length-append us (existential_variables f) in

@@ -29,7 +29,8 @@ position_most p (x ∷ xs) = by_bit (p x) (position_most p xs) where
 mapped_same : (g h : Existential → Bool) (ys : List Existential) → All (λ y. g y ≡ h y) ys → map g ys ≡ map h ys
 mapped_same g h [] a = refl
 mapped_same g h (y ∷ ys) a =
-    ap (λ b. b ∷ map g ys) (All-head (λ z. g z ≡ h z) y ys a) ∙ ap (λ bs. h y ∷ bs) (mapped_same g h ys (All-tail (λ z. g z ≡ h z) y ys a))
+    ap (λ b. b ∷ map g ys) (All-head (λ z. g z ≡ h z) y ys a) ∙ ap (λ bs. h y ∷ bs)
+    (mapped_same g h ys (All-tail (λ z. g z ≡ h z) y ys a))
 
 abbrev value_or_false : (Existential → Bool) → Option Existential → Bool
 value_or_false g None = false
@@ -37,9 +38,11 @@ value_or_false g (Some y) = g y
 
 -- the model's bits, and behind the table's pairs those of the new row
 abbrev extended : Dqbf → ℕ → (Existential → Bool) → Assignment → Assignment
-extended f rows g m p = cond (ltb (rows * f.variables) p) (value_or_false g (existential_of f (p - rows * f.variables))) (m p)
+extended f rows g m p = cond (ltb (rows * f.variables) p) (value_or_false g
+    (existential_of f (p - rows * f.variables))) (m p)
 
-module _ (f : Dqbf) (lawful : HasLawfulPrefix f) (rows : List (List Bool)) (m : Assignment) (g : Existential → Bool) where
+module _ (f : Dqbf) (lawful : HasLawfulPrefix f) (rows : List (List Bool)) (m : Assignment)
+    (g : Existential → Bool) where
   abbrev more : Assignment
   more = extended f (length rows) g m
 
@@ -48,37 +51,47 @@ module _ (f : Dqbf) (lawful : HasLawfulPrefix f) (rows : List (List Bool)) (m : 
 
   range : (y : Existential) → Contains f.existentials y → (1 ≤ y.variable) × (y.variable ≤ f.variables)
   range y inside = All-contains (λ v. (1 ≤ v) × (v ≤ f.variables)) (declared f) y.variable lawful.in_range
-      (Contains-append_right f.universals (map variable f.existentials) y.variable (contains_mapped f.existentials y inside))
+      (Contains-append_right f.universals (map variable f.existentials) y.variable
+      (contains_mapped f.existentials y inside))
 
   pair_below : (k v : ℕ) → k < length rows → v ≤ f.variables → k * f.variables + v ≤ length rows * f.variables
   pair_below k v small low =
-      let up : (k + 1) * f.variables ≤ length rows * f.variables = mul-le-mul_right f.variables (let s : k + 1 ≤ length rows = omega arith in s) in
+      let up : (k + 1) * f.variables ≤ length rows * f.variables =
+      mul-le-mul_right f.variables (let s : k + 1 ≤ length rows = omega arith in s) in
       let parts : (k + 1) * f.variables ≡ k * f.variables + 1 * f.variables = add-mul k 1 f.variables in
       let one : 1 * f.variables ≡ f.variables = one-mul f.variables in
       omega (arith, up, parts, one)
 
-  literal_on : (p : ℕ) (l : Literal) → more p ≡ m p → literal_true more (on_variable p l) ≡ literal_true m (on_variable p l)
+  literal_on : (p : ℕ) (l : Literal) → more p ≡ m p → literal_true more (on_variable p l) ≡ literal_true m
+      (on_variable p l)
   literal_on p (positive v) h = h
   literal_on p (negative v) h = ap not h
 
   -- the pairs of the table's rows keep their bits
   instance_same : (k : ℕ) (d : List Bool) → k < length rows → (ls : List Literal) →
-      clause_true more (filter_map (pair_literal f rows (get_or rows k d)) ls) ≡ clause_true m (filter_map (pair_literal f rows (get_or rows k d)) ls)
+      clause_true more (filter_map (pair_literal f rows (get_or rows k d)) ls) ≡ clause_true m
+      (filter_map (pair_literal f rows (get_or rows k d)) ls)
   instance_same k d below [] = refl
-  instance_same k d below (l ∷ ls) = by_option (instance_same k d below ls) (existential_of f (variable_of l)) refl where
-    by_option : clause_true more (filter_map (pair_literal f rows (get_or rows k d)) ls) ≡ clause_true m (filter_map (pair_literal f rows (get_or rows k d)) ls) → (o : Option Existential) → existential_of f (variable_of l) ≡ o →
-        clause_true more (cons_option (option_map (λ y. on_variable (pair_number f rows (get_or rows k d) y) l) o) (filter_map (pair_literal f rows (get_or rows k d)) ls))
-        ≡ clause_true m (cons_option (option_map (λ y. on_variable (pair_number f rows (get_or rows k d) y) l) o) (filter_map (pair_literal f rows (get_or rows k d)) ls))
-    by_option later None e = later
-    by_option later (Some y) e =
-        let r = get_or rows k d in
-        let own = find_sound (variable_of l) f.existentials y e in
-        let place = position_small (agree_on f y r) rows k d below (same_bits-refl (restriction y (row_assignment f r))) in
-        let p = pair_number f rows r y in
-        let low = pair_below (position_or_len (agree_on f y r) rows) y.variable place (range y own.0).1 in
-        let here = literal_on p l (same_below p low) in
-        ap (λ b. b || clause_true more (filter_map (pair_literal f rows r) ls)) here
-        ∙ ap (λ b. literal_true m (on_variable p l) || b) later
+  instance_same k d below (l ∷ ls) = by_option (instance_same k d below ls)
+      (existential_of f (variable_of l)) refl where
+        by_option : clause_true more (filter_map (pair_literal f rows (get_or rows k d)) ls) ≡ clause_true m
+            (filter_map (pair_literal f rows (get_or rows k d)) ls) → (o : Option Existential) →
+            existential_of f (variable_of l) ≡ o →
+            clause_true more (cons_option (option_map (λ y. on_variable (pair_number f rows (get_or rows k d) y) l) o)
+            (filter_map (pair_literal f rows (get_or rows k d)) ls))
+            ≡ clause_true m (cons_option (option_map (λ y. on_variable (pair_number f rows (get_or rows k d) y) l) o)
+            (filter_map (pair_literal f rows (get_or rows k d)) ls))
+        by_option later None e = later
+        by_option later (Some y) e =
+            let r = get_or rows k d in
+            let own = find_sound (variable_of l) f.existentials y e in
+            let place = position_small (agree_on f y r) rows k d below
+            (same_bits-refl (restriction y (row_assignment f r))) in
+            let p = pair_number f rows r y in
+            let low = pair_below (position_or_len (agree_on f y r) rows) y.variable place (range y own.0).1 in
+            let here = literal_on p l (same_below p low) in
+            ap (λ b. b || clause_true more (filter_map (pair_literal f rows r) ls)) here
+            ∙ ap (λ b. literal_true m (on_variable p l) || b) later
 
   instance_kept : (k : ℕ) (d : List Bool) → k < length rows → (b : Bool) (clause : List Literal) →
       InstanceHolds m (cond b None (Some (filter_map (pair_literal f rows (get_or rows k d)) clause))) →
@@ -89,10 +102,12 @@ module _ (f : Dqbf) (lawful : HasLawfulPrefix f) (rows : List (List Bool)) (m : 
   model_kept : IsExpansionModel f rows m → IsExpansionModel f rows more
   model_kept model k d below j e inside =
       let clause = get_or f.matrix j e in
-      instance_kept k d below (list_any (universal_literal_true f (get_or rows k d)) clause) clause (model k d below j e inside)
+      instance_kept k d below (list_any (universal_literal_true f (get_or rows k d)) clause) clause
+      (model k d below j e inside)
 
 -- the failing row's values are the bits of its pairs in a model of the table's instances
-pub extends : (f : Dqbf) → HasLawfulPrefix f → (rows : List (List Bool)) (points : PointBits) (output : Existential → OutputFunction) →
+pub extends : (f : Dqbf) → HasLawfulPrefix f → (rows : List (List Bool)) (points : PointBits)
+    (output : Existential → OutputFunction) →
     ArePoints f rows points → AgreeAtPairs f rows points output →
     (row values : List Bool) (j : ℕ) → IsFailure f output row values j → HasModelWith f rows row values
 extends f lawful rows points output p agree row values j bad =
@@ -107,11 +122,15 @@ extends f lawful rows points output p agree row values j bad =
     elim (cases_lt k n) [
       | inl small ↦ (
           let old = get_or rows k [] in
-          let agreed : same_bits (restriction y (row_assignment f row)) (restriction y (row_assignment f old)) ≡ true = passes_at_first (agree_on f y row) rows [] small in
-          let alike = same_bits-sound (restriction y (row_assignment f row)) (restriction y (row_assignment f old)) agreed in
+          let agreed : same_bits (restriction y (row_assignment f row)) (restriction y (row_assignment f old)) ≡ true =
+          passes_at_first (agree_on f y row) rows [] small in
+          let alike = same_bits-sound (restriction y (row_assignment f row))
+          (restriction y (row_assignment f old)) agreed in
           let at = slice_get_at rows k [] small in
           let bit = agree i d below k old (row_assignment f row) at alike ∙ p.bits k old at i d below in
-          let pair : pair_number f rows old y ≡ pair_number f rows row y = ap (λ bits. position_or_len (λ r. same_bits bits (restriction y (row_assignment f r))) rows * V + y.variable) (sym alike) in
+          let pair : pair_number f rows old y ≡ pair_number f rows row y =
+          ap (λ bits. position_or_len (λ r. same_bits bits (restriction y (row_assignment f r))) rows * V +
+          y.variable) (sym alike) in
           let low = pair_below f lawful rows p.model g k y.variable small (range f lawful rows p.model g y inside).1 in
           bit ∙ ap p.model pair ∙ sym (same_below f lawful rows p.model g (pair_number f rows row y) low))
       | inr large ↦ (
@@ -121,7 +140,8 @@ extends f lawful rows points output p agree row values j bad =
           let low = (range f lawful rows p.model g y inside).0 in
           let behind : ltb (n * V) (n * V + y.variable) ≡ true = lt-ltb (n * V) (n * V + y.variable) (omega arith) in
           let back : n * V + y.variable - n * V ≡ y.variable = omega arith in
-          let own : existential_of f y.variable ≡ Some y = find_own f.existentials i d below (existentials_once f.universals f.existentials lawful.declared_once) in
+          let own : existential_of f y.variable ≡ Some y = find_own f.existentials i d below
+          (existentials_once f.universals f.existentials lawful.declared_once) in
           let found = ap (existential_of f) back ∙ own in
           sym (ap more' place
           ∙ cond-true (ltb (n * V) (n * V + y.variable)) _ (p.model (n * V + y.variable)) behind

@@ -34,23 +34,35 @@ pub on_err : {T E : Type 0} (r : Result T E) (P : Type 0) → P → OnErr r P
 on_err (Ok x) P p = tt
 on_err (Err e) P p = p
 
-pub outputs_supported : OutputsAreSupported → (f : Dqbf) (graph : AigGraph) (nodes : List Node) → All (λ y. IsSupported (outputs_of f graph nodes y)) f.existentials
+pub outputs_supported : OutputsAreSupported → (f : Dqbf) (graph : AigGraph) (nodes : List Node) →
+    All (λ y. IsSupported (outputs_of f graph nodes y)) f.existentials
 outputs_supported law f graph nodes k d below = law f graph (output_node f nodes (slice_index_or f.existentials k d))
 
 -- whatever an engine's call added, the log keeps its points
-pub still_kept : EnginesLeaveRest → (f : Dqbf) (engine : Engine) (group : ℕ) (silent : Bool) (old new : ProofLog) → Grew (IsAddedBy f engine group silent old.entries) old new
+pub still_kept : EnginesLeaveRest → (f : Dqbf) (engine : Engine) (group : ℕ) (silent : Bool) (old new : ProofLog) →
+    Grew (IsAddedBy f engine group silent old.entries) old new
     → IsKept f old.entries → IsKept f new.entries
 still_kept law f engine group silent old new grew kept =
     let left = law f engine group silent old new grew in
-    record { origins = left.origins kept.origins; new_rows = left.new_rows kept.new_rows; models = left.models kept.models; givens = left.givens kept.givens }
+    record {
+      origins = left.origins kept.origins;
+      new_rows = left.new_rows kept.new_rows;
+      models =
+          left.models kept.models;
+      givens = left.givens kept.givens;
+    }
 
-pub still_undecided : EnginesLeaveRest → (f : Dqbf) (engine : Engine) (group : ℕ) (silent : Bool) (old new : ProofLog) → silent ≡ true
+pub still_undecided : EnginesLeaveRest → (f : Dqbf) (engine : Engine) (group : ℕ) (silent : Bool) (old new : ProofLog) →
+    silent ≡ true
     → Grew (IsAddedBy f engine group silent old.entries) old new → IsUndecided f old.entries → IsUndecided f new.entries
-still_undecided law f engine group silent old new quiet grew undecided = (law f engine group silent old new grew).decisions quiet undecided
+still_undecided law f engine group silent old new quiet grew undecided =
+    (law f engine group silent old new grew).decisions quiet undecided
 
 -- what the engine of copies added leaves a search as it is
-pub after_copies : EnginesLeaveRest → EnginesLeaveTables → CheckersStay → (f : Dqbf) (t : TableState) (p q : Padoa) (old new : ProofLog) → q ≡ p
-    → ((group : ℕ) → Grew (IsAddedBy f copies group true old.entries) old new) → IsPadoa f q new.entries → GoesOn f t p old.entries new.entries
+pub after_copies : EnginesLeaveRest → EnginesLeaveTables → CheckersStay →
+    (f : Dqbf) (t : TableState) (p q : Padoa) (old new : ProofLog) → q ≡ p
+    → ((group : ℕ) → Grew (IsAddedBy f copies group true old.entries) old new) → IsPadoa f q new.entries →
+    GoesOn f t p old.entries new.entries
 after_copies law tables stay f t p q old new same grew copied graph c s =
     let group = t.group + group_of c + 1 in
     let g = grew group in
@@ -70,8 +82,10 @@ after_copies law tables stay f t p q old new same grew copied graph c s =
     }
 
 -- after the table found a model
-pub after_solve : EnginesLeaveRest → CheckersStay → EnginesLeaveCopies → (f : Dqbf) (graph : AigGraph) (t u : TableState) (c : Checker) (p : Padoa) (silent : Bool) (old new : ProofLog)
-    → silent ≡ true → IsSearch f graph t c p old.entries → Grew (IsAddedBy f instances t.group silent old.entries) old new → u ≡ t → IsFullTable f u new.entries
+pub after_solve : EnginesLeaveRest → CheckersStay → EnginesLeaveCopies →
+    (f : Dqbf) (graph : AigGraph) (t u : TableState) (c : Checker) (p : Padoa) (silent : Bool) (old new : ProofLog)
+    → silent ≡ true → IsSearch f graph t c p old.entries → Grew
+    (IsAddedBy f instances t.group silent old.entries) old new → u ≡ t → IsFullTable f u new.entries
     → IsSearch f graph u c p new.entries
 after_solve law stay copies_stay f graph t u c p silent old new quiet s grew same table =
     let left = law f instances t.group silent old new grew in
@@ -90,7 +104,8 @@ after_solve law stay copies_stay f graph t u c p silent old new quiet s grew sam
     }
 
 -- after the candidates were built
-pub after_build : (f : Dqbf) (graph more : AigGraph) (t : TableState) (c : Checker) (p : Padoa) (entries : List Entry) → more.inputs ≡ graph.inputs
+pub after_build : (f : Dqbf) (graph more : AigGraph) (t : TableState) (c : Checker) (p : Padoa) (entries : List Entry) →
+    more.inputs ≡ graph.inputs
     → IsSearch f graph t c p entries → IsSearch f more t c p entries
 after_build f graph more t c p entries same s = record {
   kept = s.kept;
@@ -104,7 +119,8 @@ after_build f graph more t c p entries same s = record {
 }
 
 -- candidates that were found to fail without the solver
-pub failed_at_once : (f : Dqbf) (graph : AigGraph) (t : TableState) (c : Checker) (p : Padoa) (entries : List Entry) → IsSearch f graph t c p entries → AreRefuted f t c p entries
+pub failed_at_once : (f : Dqbf) (graph : AigGraph) (t : TableState) (c : Checker) (p : Padoa) (entries : List Entry) →
+    IsSearch f graph t c p entries → AreRefuted f t c p entries
 failed_at_once f graph t c p entries s = record {
   kept = s.kept;
   undecided = s.undecided;
@@ -115,7 +131,8 @@ failed_at_once f graph t c p entries s = record {
   faults = let few = s.faults in omega (arith, few);
 }
 
-apart_as : (t u : TableState) (c d : Checker) (p : Padoa) → u.group ≡ t.group → group_of d ≡ group_of c → AreApart t c p → AreApart u d p
+apart_as : (t u : TableState) (c d : Checker) (p : Padoa) → u.group ≡ t.group → group_of d ≡ group_of c →
+    AreApart t c p → AreApart u d p
 apart_as t u c d p tables checkers a = record {
   tables = λ e. a.tables (sym tables ∙ e ∙ checkers);
   copies_tables = λ k z below e. a.copies_tables k z below (e ∙ tables);
@@ -123,9 +140,12 @@ apart_as t u c d p tables checkers a = record {
 }
 
 -- after a turn that failed
-pub after_turn : EnginesLeaveRest → EnginesLeaveTables → EnginesLeaveCopies → (f : Dqbf) (graph : AigGraph) (t : TableState) (c d : Checker) (p : Padoa) (silent : Bool) (old new : ProofLog)
-    → silent ≡ true → IsSearch f graph t c p old.entries → Grew (IsAddedBy f circuits (group_of c) silent old.entries) old new → group_of d ≡ group_of c
-    → IsChecker f d new.entries → length (fault_groups new.entries) ≤ fault_room new.entries → AreRefuted f t d p new.entries
+pub after_turn : EnginesLeaveRest → EnginesLeaveTables → EnginesLeaveCopies →
+    (f : Dqbf) (graph : AigGraph) (t : TableState) (c d : Checker) (p : Padoa) (silent : Bool) (old new : ProofLog)
+    → silent ≡ true → IsSearch f graph t c p old.entries → Grew
+    (IsAddedBy f circuits (group_of c) silent old.entries) old new → group_of d ≡ group_of c
+    → IsChecker f d new.entries → length (fault_groups new.entries) ≤ fault_room new.entries →
+    AreRefuted f t d p new.entries
 after_turn law tables copies_stay f graph t c d p silent old new quiet s grew same checker faults = record {
   kept = still_kept law f circuits (group_of c) silent old new grew s.kept;
   undecided = still_undecided law f circuits (group_of c) silent old new quiet grew s.undecided;
@@ -137,20 +157,25 @@ after_turn law tables copies_stay f graph t c d p silent old new quiet s grew sa
 }
 
 -- what a failure of candidates comes to, whether the log has room for its round or not
-pub round_in_hand : FailuresRefuteRows → (f : Dqbf) (t : TableState) (c : Checker) (p : Padoa) (entries : List Entry) (output : _)
-    → AreRefuted f t c p entries → AreCandidates f t.rows output → (row values : List Bool) (j : ℕ) → IsFailure f output row values j
+pub round_in_hand : FailuresRefuteRows → (f : Dqbf) (t : TableState) (c : Checker) (p : Padoa) (entries : List Entry)
+    (output : _)
+    → AreRefuted f t c p entries → AreCandidates f t.rows output → (row values : List Bool) (j : ℕ) →
+    IsFailure f output row values j
     → IsNewFailure f entries row values j × HasModelWith f (rows_of entries) row values
 round_in_hand refute f t c p entries output a are row values j bad =
     let well = a.table.formula in (
       refute f output entries row values j bad
-          (λ inside. no_old_row f well.prefix t.rows are.points output are.are_points are.agree row values j bad (subst (λ rows. Contains rows row) a.table.rows inside)),
+          (λ inside. no_old_row f well.prefix t.rows are.points output are.are_points are.agree row values j bad
+          (subst (λ rows. Contains rows row) a.table.rows inside)),
       subst (λ rows. HasModelWith f rows row values) (sym a.table.rows)
           (extends f well.prefix t.rows are.points output are.are_points are.agree row values j bad),
     )
 
 -- after the round is logged
-pub after_round : FailuresRefuteRows → RoundsLeaveTables → CheckersStayWithRounds → RoundsLeaveCopies → (f : Dqbf) (t : TableState) (c : Checker) (p : Padoa) (old new : ProofLog) (output : _)
-    → AreRefuted f t c p old.entries → AreCandidates f t.rows output → (row values : List Bool) (j : ℕ) → IsFailure f output row values j
+pub after_round : FailuresRefuteRows → RoundsLeaveTables → CheckersStayWithRounds → RoundsLeaveCopies →
+    (f : Dqbf) (t : TableState) (c : Checker) (p : Padoa) (old new : ProofLog) (output : _)
+    → AreRefuted f t c p old.entries → AreCandidates f t.rows output → (row values : List Bool) (j : ℕ) →
+    IsFailure f output row values j
     → new ≡ with_entry old (Round row values j) → IsRoundLogged f t c p row new.entries
 after_round refute tables checkers copies_stay f t c p old new output a are row values j bad is =
     let entries = old.entries in
@@ -158,7 +183,13 @@ after_round refute tables checkers copies_stay f t c p old new output a are row 
     let left = tables f t row values j entries a.table in
     let before = a.faults in
     let here : IsRoundLogged f t c p row (Round row values j ∷ entries) = record {
-      kept = record { origins = (tt, a.kept.origins); new_rows = (next.0, a.kept.new_rows); models = (next.1, a.kept.models); givens = (tt, a.kept.givens) };
+      kept = record {
+        origins = (tt, a.kept.origins);
+        new_rows = (next.0, a.kept.new_rows);
+        models =
+            (next.1, a.kept.models);
+        givens = (tt, a.kept.givens);
+      };
       undecided = (tt, a.undecided);
       table = left.0;
       rows = left.1;
@@ -171,8 +202,10 @@ after_round refute tables checkers copies_stay f t c p old new output a are row 
     subst (λ (l : ProofLog). IsRoundLogged f t c p row l.entries) (sym is) here
 
 -- after the row is added
-pub after_row : EnginesLeaveRest → CheckersStay → EnginesLeaveCopies → (f : Dqbf) (graph : AigGraph) (t u : TableState) (c : Checker) (p : Padoa) (row : List Bool) (old new : ProofLog)
-    → IsRoundLogged f t c p row old.entries → Grew (IsAddedBy f instances t.group true old.entries) old new → IsFullTable f u new.entries → u.group ≡ t.group
+pub after_row : EnginesLeaveRest → CheckersStay → EnginesLeaveCopies →
+    (f : Dqbf) (graph : AigGraph) (t u : TableState) (c : Checker) (p : Padoa) (row : List Bool) (old new : ProofLog)
+    → IsRoundLogged f t c p row old.entries → Grew (IsAddedBy f instances t.group true old.entries) old new →
+    IsFullTable f u new.entries → u.group ≡ t.group
     → HasInputs f graph → IsSearch f graph u c p new.entries
 after_row law stay copies_stay f graph t u c p row old new a grew table same inputs =
     let left = law f instances t.group true old new grew in
@@ -192,33 +225,47 @@ after_row law stay copies_stay f graph t u c p row old new a grew table same inp
 
 pub log_grew : (P : List Entry → Entry → Type 0) (old new : ProofLog) → Grew P old new → LogGrew old new
 log_grew P old new grew =
-    record { steps = subst (λ es. steps_of old.entries ≤ steps_of es) (sym grew.grown) (count_grown is_counted grew.more old.entries); limit = grew.limit }
+    record {
+      steps = subst (λ es. steps_of old.entries ≤ steps_of es) (sym grew.grown)
+          (count_grown is_counted grew.more old.entries);
+      limit = grew.limit;
+    }
 
 pub log_same : (old new : ProofLog) → new ≡ old → LogGrew old new
-log_same old new is = let steps = ap (λ (l : ProofLog). steps_of l.entries) is in record { steps = omega (arith, steps); limit = ap (λ (l : ProofLog). l.limit) is }
+log_same old new is = let steps = ap (λ (l : ProofLog). steps_of l.entries) is in
+    record { steps = omega (arith, steps); limit = ap (λ (l : ProofLog). l.limit) is }
 
 pub log_then : (a b c : ProofLog) → LogGrew a b → LogGrew b c → LogGrew a c
-log_then a b c one two = let s = one.steps in let t = two.steps in record { steps = omega (arith, s, t); limit = two.limit ∙ one.limit }
+log_then a b c one two = let s = one.steps in let t = two.steps in
+    record { steps = omega (arith, s, t); limit = two.limit ∙ one.limit }
 
-pub round_grew : (old new : ProofLog) (row values : List Bool) (j : ℕ) → new ≡ with_entry old (Round row values j) → LogGrew old new
+pub round_grew : (old new : ProofLog) (row values : List Bool) (j : ℕ) → new ≡ with_entry old (Round row values j) →
+    LogGrew old new
 round_grew old new row values j is =
-    let steps = ap (λ (l : ProofLog). steps_of l.entries) is in record { steps = omega (arith, steps); limit = ap (λ (l : ProofLog). l.limit) is }
+    let steps = ap (λ (l : ProofLog). steps_of l.entries) is in
+    record { steps = omega (arith, steps); limit = ap (λ (l : ProofLog). l.limit) is }
 
-pub round_counts : (old new : ProofLog) (row values : List Bool) (j : ℕ) → new ≡ with_entry old (Round row values j) → steps_of old.entries < steps_of new.entries
+pub round_counts : (old new : ProofLog) (row values : List Bool) (j : ℕ) → new ≡ with_entry old (Round row values j) →
+    steps_of old.entries < steps_of new.entries
 round_counts old new row values j is = let steps = ap (λ (l : ProofLog). steps_of l.entries) is in omega (arith, steps)
 
 -- a log that isn't full has steps left
-pub steps_left : (old mid : ProofLog) → LogGrew old mid → steps_of mid.entries ≤ mid.limit → (steps_of mid.entries ≡ mid.limit → ⊥) → steps_of old.entries < old.limit
-steps_left old mid grew within not_full = let s = grew.steps in let l = grew.limit in omega (arith, s, l, within, not_full)
+pub steps_left : (old mid : ProofLog) → LogGrew old mid → steps_of mid.entries ≤ mid.limit →
+    (steps_of mid.entries ≡ mid.limit → ⊥) → steps_of old.entries < old.limit
+steps_left old mid grew within not_full = let s = grew.steps in let l = grew.limit in
+    omega (arith, s, l, within, not_full)
 
 -- a turn with a round leaves fewer steps
-pub fewer_left : (a b c d : ProofLog) → LogGrew a b → LogGrew c d → LogGrew b c → steps_of b.entries < steps_of c.entries → steps_of b.entries < b.limit
+pub fewer_left : (a b c d : ProofLog) → LogGrew a b → LogGrew c d → LogGrew b c →
+    steps_of b.entries < steps_of c.entries → steps_of b.entries < b.limit
     → d.limit - steps_of d.entries < a.limit - steps_of a.entries
 fewer_left a b c d one three two more left =
-    let s = one.steps in let l = one.limit in let t = three.steps in let m = three.limit in let k = two.limit in omega (arith, s, l, t, m, k, more, left)
+    let s = one.steps in let l = one.limit in let t = three.steps in let m = three.limit in let k = two.limit in
+    omega (arith, s, l, t, m, k, more, left)
 
 pub no_entries_kept : (f : Dqbf) (entries : List Entry) → entries ≡ [] → IsKept f entries
-no_entries_kept f entries empty = subst (IsKept f) (sym empty) (record { origins = tt; new_rows = tt; models = tt; givens = tt })
+no_entries_kept f entries empty = subst (IsKept f) (sym empty)
+    (record { origins = tt; new_rows = tt; models = tt; givens = tt })
 
 pub no_entries_undecided : (f : Dqbf) (entries : List Entry) → entries ≡ [] → IsUndecided f entries
 no_entries_undecided f entries empty = let none : IsUndecided f [] = tt in subst (IsUndecided f) (sym empty) none
@@ -244,11 +291,13 @@ contains_later : (x : Entry) (es : List Entry) (e : Entry) → Contains es e →
 contains_later x es e (k, below, is) = (suc k, omega (arith, below), is)
 
 -- an element that passes a test stays
-contains_filtered : (test : Entry → Bool) (es : List Entry) (e : Entry) → test e ≡ true → Contains es e → Contains (filter test es) e
+contains_filtered : (test : Entry → Bool) (es : List Entry) (e : Entry) → test e ≡ true → Contains es e →
+    Contains (filter test es) e
 contains_filtered test [] e passes inside = inside
 contains_filtered test (x ∷ es) e passes (zero, below, is) =
     subst (Contains (filter test (x ∷ es))) is
-    (subst (λ (b : Bool). Contains (cond b (x ∷ filter test es) (filter test es)) x) (sym (ap test is ∙ passes)) (contains_first x (filter test es)))
+    (subst (λ (b : Bool). Contains (cond b (x ∷ filter test es) (filter test es)) x) (sym (ap test is ∙ passes))
+    (contains_first x (filter test es)))
 contains_filtered test (x ∷ es) e passes (suc k, below, is) =
     by_bit (test x) (contains_filtered test es e passes (k, omega (arith, below), is))
   where
@@ -261,57 +310,80 @@ contains_unfiltered : (test : Entry → Bool) (es : List Entry) (e : Entry) → 
 contains_unfiltered test [] e inside = inside
 contains_unfiltered test (x ∷ es) e inside = by_bit (test x) (contains_unfiltered test es e) inside
   where
-    by_bit : (b : Bool) → (Contains (filter test es) e → Contains es e) → Contains (cond b (x ∷ filter test es) (filter test es)) e → Contains (x ∷ es) e
+    by_bit : (b : Bool) → (Contains (filter test es) e → Contains es e) →
+        Contains (cond b (x ∷ filter test es) (filter test es)) e → Contains (x ∷ es) e
     by_bit true later (zero, below, is) = (zero, omega arith, is)
     by_bit true later (suc k, below, is) = contains_later x es e (later (k, omega (arith, below), is))
     by_bit false later there = contains_later x es e (later there)
 
 -- an engine of which the log has nothing gets nothing by another engine's call
-pub none_stays : EnginesLeaveRest → (which : Engine) (f : Dqbf) (engine : Engine) (group : ℕ) (silent : Bool) (old new : ProofLog) → same_engine which engine ≡ false
+pub none_stays : EnginesLeaveRest → (which : Engine) (f : Dqbf) (engine : Engine) (group : ℕ) (silent : Bool)
+    (old new : ProofLog) → same_engine which engine ≡ false
     → Grew (IsAddedBy f engine group silent old.entries) old new → HasNone which old.entries → HasNone which new.entries
 none_stays law which f engine group silent old new other grew none e own inside =
     let left = law f engine group silent old new grew in
     let here = contains_filtered (is_own which) new.entries e own inside in
-    none e own (contains_unfiltered (is_own which) old.entries e (subst (λ es. Contains es e) (left.others which other) here))
+    none e own (contains_unfiltered (is_own which) old.entries e
+    (subst (λ es. Contains es e) (left.others which other) here))
 
 -- the groups of the copies were made
-groups_are_made : (f : Dqbf) (p : Padoa) (entries : List Entry) → IsPadoa f p entries → All (λ g. name_of entries g ≡ Some (Selector g)) (groups_of p)
+groups_are_made : (f : Dqbf) (p : Padoa) (entries : List Entry) → IsPadoa f p entries →
+    All (λ g. name_of entries g ≡ Some (Selector g)) (groups_of p)
 groups_are_made f p entries is =
     let links = map group_variable p.links.items in
     let second = group_variable p.second.group in
-    All-cons IsMadeHere (group_variable p.first.group) (second ∷ links) is.first.made.named (All-cons IsMadeHere second links is.second.made.named of_links) where
+    All-cons IsMadeHere (group_variable p.first.group) (second ∷ links) is.first.made.named
+    (All-cons IsMadeHere second links is.second.made.named of_links) where
       IsMadeHere : ℕ → Type 0
       IsMadeHere g = name_of entries g ≡ Some (Selector g)
 
       of_links : All IsMadeHere (map group_variable p.links.items)
       of_links k d below =
-          let inside : k < length p.links.items = let e = length-map p.links.items group_variable in omega (arith, below, e) in
+          let inside : k < length p.links.items = let e = length-map p.links.items group_variable in
+          omega (arith, below, e) in
           let within : k < length (declared f) = let e = is.as_many in omega (arith, inside, e) in
           let group = get_or p.links.items k p.first.group in
-          let link = is.links k (get_or (declared f) k 0) group (slice_get-get_or (declared f) k 0 within) (slice_get-get_or p.links.items k p.first.group inside) in
+          let link = is.links k (get_or (declared f) k 0) group (slice_get-get_or (declared f) k 0 within)
+          (slice_get-get_or p.links.items k p.first.group inside) in
           subst IsMadeHere (sym (get_or-map group_variable p.links.items k p.first.group d inside)) link.made.named
 
 -- groups that have names are none that had none
-made_apart : (entries : List Entry) (group : ℕ) (groups : List ℕ) → All (λ g. name_of entries g ≡ Some (Selector g)) groups → name_of entries group ≡ None → All (λ g. g ≢ group) groups
-made_apart entries group groups made none k d below e = let is = made k d below in let nothing = ap (name_of entries) e ∙ none in cc
+made_apart : (entries : List Entry) (group : ℕ) (groups : List ℕ) →
+    All (λ g. name_of entries g ≡ Some (Selector g)) groups → name_of entries group ≡ None → All (λ g. g ≢ group) groups
+made_apart entries group groups made none k d below e = let is = made k d below in let nothing =
+    ap (name_of entries) e ∙ none in cc
 
 -- before the first turn
-pub begun : EnginesLeaveRest → EnginesLeaveTables → EnginesLeaveCopies → (f : Dqbf) → IsWellFormed f → (graph : AigGraph) (t : TableState) (c : Checker) (p : Padoa) (first second third : ProofLog)
-    → HasInputs f graph → IsFresh f first.entries → IsPadoa f p first.entries → ((group : ℕ) → Grew (IsAddedBy f instances group true first.entries) first second)
+pub begun : EnginesLeaveRest → EnginesLeaveTables → EnginesLeaveCopies → (f : Dqbf) → IsWellFormed f →
+    (graph : AigGraph) (t : TableState) (c : Checker) (p : Padoa) (first second third : ProofLog)
+    → HasInputs f graph → IsFresh f first.entries → IsPadoa f p first.entries →
+    ((group : ℕ) → Grew (IsAddedBy f instances group true first.entries) first second)
     → name_of first.entries t.group ≡ None → IsTable f t second.entries → t.rows ≡ []
-    → ((group : ℕ) → Grew (IsAddedBy f circuits group true second.entries) second third) → IsChecker f c third.entries → name_of second.entries (group_of c) ≡ None
+    → ((group : ℕ) → Grew (IsAddedBy f circuits group true second.entries) second third) → IsChecker f c third.entries →
+    name_of second.entries (group_of c) ≡ None
     → fault_groups third.entries ≡ fault_groups second.entries → IsSearch f graph t c p third.entries
-begun law tables copies_stay f well graph t c p first second third inputs start copied g new_table table rows k checker fresh faults =
+begun law tables copies_stay f well graph t c p first second third inputs start copied g new_table table rows k checker
+    fresh faults =
     let left = law f instances 0 true first second (g 0) in
-    let apart : t.group ≢ group_of c = λ e. let is = table.group in let none : name_of second.entries t.group ≡ None = ap (name_of second.entries) e ∙ fresh in cc in
-    let from_table = made_apart first.entries t.group (groups_of p) (groups_are_made f p first.entries copied) new_table in
+    let apart : t.group ≢ group_of c = λ e. let is = table.group in let none : name_of second.entries t.group ≡ None =
+    ap (name_of second.entries) e ∙ fresh in cc in
+    let from_table = made_apart first.entries t.group (groups_of p)
+    (groups_are_made f p first.entries copied) new_table in
     let still = copies_stay f p instances t.group true first second (g t.group) from_table copied in
-    let from_checker = made_apart second.entries (group_of c) (groups_of p) (groups_are_made f p second.entries still) fresh in
-    let full : IsFullTable f t second.entries = record { formula = well; table = table; rows = left.rows ∙ start.no_rows ∙ sym rows } in
+    let from_checker = made_apart second.entries (group_of c) (groups_of p)
+    (groups_are_made f p second.entries still) fresh in
+    let full : IsFullTable f t second.entries = record {
+      formula = well;
+      table = table;
+      rows =
+          left.rows ∙ start.no_rows ∙ sym rows;
+    } in
     let none : length (fault_groups third.entries) ≡ 0 = ap length (faults ∙ left.faults refl ∙ start.no_faults) in
     record {
-      kept = still_kept law f circuits 0 true second third (k 0) (still_kept law f instances 0 true first second (g 0) start.kept);
-      undecided = still_undecided law f circuits 0 true second third refl (k 0) (still_undecided law f instances 0 true first second refl (g 0) start.undecided);
+      kept = still_kept law f circuits 0 true second third (k 0)
+          (still_kept law f instances 0 true first second (g 0) start.kept);
+      undecided = still_undecided law f circuits 0 true second third refl (k 0)
+          (still_undecided law f instances 0 true first second refl (g 0) start.undecided);
       table = (tables f t circuits (group_of c) true second third (k (group_of c)) refl apart).1 full;
       checked = checker;
       copied = copies_stay f p circuits (group_of c) true second third (k (group_of c)) from_checker still;

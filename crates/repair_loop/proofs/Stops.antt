@@ -16,8 +16,20 @@ pub by_lemma : (f : Dqbf) (log : ProofLog) → IsAtSomeLimit log → IsStoppedAt
 by_lemma f log at = record { reached = at.1.reached; next = inl (at.0, at.1.next) }
 
 -- a round could be logged
-pub by_round : FailuresRefuteRows → (f : Dqbf) (t : TableState) (c : Checker) (p : Padoa) (log : ProofLog) (output : _) → AreRefuted f t c p log.entries → AreCandidates f t.rows output
-    → (row values : List Bool) (j : ℕ) → IsFailure f output row values j → steps_of log.entries ≡ log.limit → IsStoppedAtLimit f log
+pub by_round : FailuresRefuteRows → (f : Dqbf) (t : TableState) (c : Checker) (p : Padoa) (log : ProofLog) (output : _)
+    → AreRefuted f t c p log.entries → AreCandidates f t.rows output
+    → (row values : List Bool) (j : ℕ) → IsFailure f output row values j → steps_of log.entries ≡ log.limit →
+    IsStoppedAtLimit f log
 by_round refute f t c p log output a are row values j bad reached =
     let next = round_in_hand refute f t c p log.entries output a are row values j bad in
-    record { reached = reached; next = inr (record { row = row; values = values; j = j; refutes = next.0; follows = next.1 }) }
+    record {
+      reached = reached;
+      next = inr (record {
+        row = row;
+        values = values;
+        j = j;
+        refutes = next.0;
+        follows =
+            next.1;
+      });
+    }

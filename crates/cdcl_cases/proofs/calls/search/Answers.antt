@@ -4,13 +4,17 @@ use Rattle.cdcl_cases.proofs.MadeVariables.{made_learned, made_answered, refuted
 use Rattle.cdcl_cases.proofs.calls.search.Goals as goal
 
 pub returns-in_err-answer-clause-made : goal.returns-in_err-answer-clause-made
-returns-in_err-answer-clause-made g c = made_learned c.args.made.now c.args.log.now c.solve.new.log c.in_err-answer.ensures.stop c.requires.made
+returns-in_err-answer-clause-made g c = made_learned c.args.made.now c.args.log.now c.solve.new.log
+    c.in_err-answer.ensures.stop c.requires.made
 
 pub returns-clause-made : goal.returns-clause-made
 returns-clause-made g c =
-    made_answered c.args.made.now c.args.log.now c.solve.new.log (assumed c.args.active.now c.args.assume.now) c.in_ok-answer.answer c.requires.made
-    (λ is. (c.solve.ensures.sat (c.in_ok-answer.was ∙ ap (λ f. Ok f) is)).0) (λ id is. c.solve.ensures.unsat id (c.in_ok-answer.was ∙ ap (λ f. Ok f) is))
+    made_answered c.args.made.now c.args.log.now c.solve.new.log
+    (assumed c.args.active.now c.args.assume.now) c.in_ok-answer.answer c.requires.made
+    (λ is. (c.solve.ensures.sat (c.in_ok-answer.was ∙ ap (λ f. Ok f) is)).0)
+    (λ id is. c.solve.ensures.unsat id (c.in_ok-answer.was ∙ ap (λ f. Ok f) is))
 
 pub returns-clause-id : goal.returns-clause-id
 returns-clause-id g c = λ id is.
-    refuted_id c.args.log.now c.solve.new.log (assumed c.args.active.now c.args.assume.now) id (c.solve.ensures.unsat id (c.in_ok-answer.was ∙ is))
+    refuted_id c.args.log.now c.solve.new.log (assumed c.args.active.now c.args.assume.now) id
+    (c.solve.ensures.unsat id (c.in_ok-answer.was ∙ is))

@@ -5,13 +5,18 @@ use Rattle.cert_export.proofs.circuits.export_ids.Goals as goal
 
 pub invariant_of-numbers : goal.invariant_of-numbers
 invariant_of-numbers c =
-    record { small = small_part c.args.f.now c.in_ok-part.part.gates c.requires.well_formed.prefix c.requires.few_variables c.requires.few_clauses (let n = c.len.ensures.value in let few = c.if-len-gt-MOST.false in omega (arith, n, few)) }
+    record {
+      small = small_part c.args.f.now c.in_ok-part.part.gates c.requires.well_formed.prefix
+          c.requires.few_variables c.requires.few_clauses (let n = c.len.ensures.value in let few =
+          c.if-len-gt-MOST.false in omega (arith, n, few));
+    }
 
 pub proof_items-requires-clause-ids : goal.proof_items-requires-clause-ids
 proof_items-requires-clause-ids c = record {
   decided = c.requires;
   part = c.in_ok-part.ensures.part;
-  small = small_part c.args.f.now c.in_ok-part.part.gates c.requires.well_formed.prefix c.requires.few_variables c.requires.few_clauses (let n = c.len.ensures.value in let few = c.if-len-gt-MOST.false in omega (arith, n, few));
+  small = small_part c.args.f.now c.in_ok-part.part.gates c.requires.well_formed.prefix c.requires.few_variables
+      c.requires.few_clauses (let n = c.len.ensures.value in let few = c.if-len-gt-MOST.false in omega (arith, n, few));
   few_literals = c.in_ok-before.ensures.few;
 }
 
@@ -19,7 +24,8 @@ pub circuit_file-requires : goal.circuit_file-requires
 circuit_file-requires c = record {
   decided = c.requires;
   part = c.in_ok-part.ensures.part;
-  small = small_part c.args.f.now c.in_ok-part.part.gates c.requires.well_formed.prefix c.requires.few_variables c.requires.few_clauses (let n = c.len.ensures.value in let few = c.if-len-gt-MOST.false in omega (arith, n, few));
+  small = small_part c.args.f.now c.in_ok-part.part.gates c.requires.well_formed.prefix c.requires.few_variables
+      c.requires.few_clauses (let n = c.len.ensures.value in let few = c.if-len-gt-MOST.false in omega (arith, n, few));
   few_literals = c.in_ok-before.ensures.few;
 }
 
@@ -29,7 +35,9 @@ returns c = record {
   from = record {
     decided = c.requires;
     part = c.in_ok-part.ensures.part;
-    small = small_part c.args.f.now c.in_ok-part.part.gates c.requires.well_formed.prefix c.requires.few_variables c.requires.few_clauses (let n = c.len.ensures.value in let few = c.if-len-gt-MOST.false in omega (arith, n, few));
+    small = small_part c.args.f.now c.in_ok-part.part.gates c.requires.well_formed.prefix c.requires.few_variables
+        c.requires.few_clauses (let n = c.len.ensures.value in let few = c.if-len-gt-MOST.false in
+        omega (arith, n, few));
     few_literals = c.in_ok-before.ensures.few;
   };
   few_gates = c.in_ok-part.ensures.few;

@@ -9,8 +9,10 @@ pub name_variables-requires-clause-known : goal.name_variables-requires-clause-k
 name_variables-requires-clause-known g c =
     let ids = c.args.ids.now in
     let i = c.loop-id.id-index in
-    known_of (g.N.Naming.Knows c.args.naming.now) c.args.log.now.entries ids (slice_index ids i) c.clause.result.now c.requires.known
-    (i, c.loop-id-test.true, sym (get_or_default ids i 0 (slice_index ids i) c.loop-id-test.true)) (ap is_some c.origin.ensures ∙ sym c.is_some.ensures ∙ c.if-is_some.true) c.clause.ensures
+    known_of (g.N.Naming.Knows c.args.naming.now) c.args.log.now.entries ids
+    (slice_index ids i) c.clause.result.now c.requires.known
+    (i, c.loop-id-test.true, sym (get_or_default ids i 0 (slice_index ids i) c.loop-id-test.true))
+    (ap is_some c.origin.ensures ∙ sym c.is_some.ensures ∙ c.if-is_some.true) c.clause.ensures
 
 pub loop-id-preserved : goal.loop-id-preserved
 loop-id-preserved g c =
@@ -24,13 +26,17 @@ loop-id-preserved g c =
     let is = get_or_default ids i 0 id c.loop-id-test.true in
     elim c.if-is_some.branch [
       | then-is_some+in_ok-name_variables w ↦
-          subst P (sym w.names-is) (one_given target entries old (renaming w.name_variables.new.names) ids i id c.loop-id.invariant w.in_ok-name_variables.ensures.kept
+          subst P (sym w.names-is) (one_given target entries old
+          (renaming w.name_variables.new.names) ids i id c.loop-id.invariant w.in_ok-name_variables.ensures.kept
           w.in_ok-name_variables.ensures.named.right c.loop-id-test.true is
-          (given_here target entries (renaming w.name_variables.new.names) id w.clause.result.now w.clause.ensures w.in_ok-name_variables.ensures.named.named))
+          (given_here target entries (renaming w.name_variables.new.names) id w.clause.result.now w.clause.ensures
+          w.in_ok-name_variables.ensures.named.named))
       | else-is_some w ↦
-          subst P (sym w.names-is) (one_given target entries old old ids i id c.loop-id.invariant (λ v x h. h) c.loop-id.invariant.right c.loop-id-test.true is
+          subst P (sym w.names-is) (one_given target entries old old ids i id c.loop-id.invariant
+          (λ v x h. h) c.loop-id.invariant.right c.loop-id-test.true is
           (none_here target entries old id (ap is_some c.origin.ensures ∙ sym c.is_some.ensures ∙ w.if-is_some.false)))
     ]
 
 pub returns : goal.returns
-returns g c = all_given (g.N.Naming.target c.args.naming.now) c.args.log.now.entries (renaming c.loop-id.names) c.args.ids.now c.loop-id.id-index c.loop-id-test.false c.loop-id.invariant
+returns g c = all_given (g.N.Naming.target c.args.naming.now) c.args.log.now.entries
+    (renaming c.loop-id.names) c.args.ids.now c.loop-id.id-index c.loop-id-test.false c.loop-id.invariant

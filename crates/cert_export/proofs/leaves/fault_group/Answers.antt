@@ -11,4 +11,5 @@ returns-in-Some c =
     let ids = c.args.ids.now in
     let i = c.loop-id.id-index in
     let id = slice_index ids i in
-    found_group c.args.log.now.entries ids id c.in-Some.group c.requires.one (i, c.loop-id-test.true, sym (get_or_default ids i 0 id c.loop-id-test.true)) c.in-Some.ensures.own
+    found_group c.args.log.now.entries ids id c.in-Some.group c.requires.one
+    (i, c.loop-id-test.true, sym (get_or_default ids i 0 id c.loop-id-test.true)) c.in-Some.ensures.own

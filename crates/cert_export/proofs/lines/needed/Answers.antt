@@ -12,9 +12,11 @@ returns c =
     let lits = c.args.line.lits.now in
     let places = c.in_ok-places.places.items in
     let cut : truncated c.in_ok-derive_any.field-0 places ≡ cut_hints live (map opposite lits) places =
-    needed_is c.in_ok-derive_any.field-0 live lits places c.requires.consistent (c.in_ok-derive_any.ensures.answer ∙ ap (line_fault live lits) c.deref.ensures.value) in
+    needed_is c.in_ok-derive_any.field-0 live lits places c.requires.consistent
+    (c.in_ok-derive_any.ensures.answer ∙ ap (line_fault live lits) c.deref.ensures.value) in
     let all = cut ∙ ap (cut_hints live (map opposite lits)) c.in_ok-places.ensures in
     elim c.match-branch-3.branch [
       | in-Yes w ↦ ap (λ v. v.items) w.places-is ∙ ap (λ d. truncated d places) (sym w.in-Yes.is) ∙ all
-      | in-No w ↦ ap (λ v. v.items) w.places-is ∙ w.truncate.ensures.items ∙ ap (λ d. truncated d places) (sym w.in-No.is) ∙ all
+      | in-No w ↦ ap (λ v. v.items) w.places-is ∙ w.truncate.ensures.items ∙ ap (λ d. truncated d places)
+          (sym w.in-No.is) ∙ all
     ]

@@ -5,7 +5,9 @@ use Rattle.cert_export.proofs.netlists.add_inputs.Goals as goal
 
 pub add_input-requires-clause-undefined : goal.add_input-requires-clause-undefined
 add_input-requires-clause-undefined c =
-    next_input c.loop-i.circuit c.loop-i.i (ap (λ (n : Netlist). n.inputs) c.loop-i.invariant) (ap (λ (n : Netlist). n.gates) c.loop-i.invariant ∙ c.requires.gates)
+    next_input c.loop-i.circuit c.loop-i.i (ap (λ (n : Netlist). n.inputs) c.loop-i.invariant)
+    (ap (λ (n : Netlist). n.gates) c.loop-i.invariant ∙ c.requires.gates)
 
 pub loop-i-preserved : goal.loop-i-preserved
-loop-i-preserved c = input_added c.loop-i.circuit c.args.circuit.now c.add_input.new.self c.loop-i.i c.loop-i.invariant c.in_ok-add_input.ensures.ok
+loop-i-preserved c = input_added c.loop-i.circuit c.args.circuit.now c.add_input.new.self c.loop-i.i c.loop-i.invariant
+    c.in_ok-add_input.ensures.ok

@@ -5,14 +5,19 @@ pub fault_group-group-requires-clause-one : goal.fault_group-group-requires-clau
 fault_group-group-requires-clause-one c = groups c.args.f.now c.args.log.now.entries c.args.id c.args.ids.now c.requires
 
 pub fault_leaves-requires-clause-literals : goal.fault_leaves-requires-clause-literals
-fault_leaves-requires-clause-literals c = have_literals c.args.f.now c.args.log.now.entries c.args.id c.args.ids.now c.requires
+fault_leaves-requires-clause-literals c = have_literals c.args.f.now c.args.log.now.entries c.args.id c.args.ids.now
+    c.requires
 
 pub returns-clause-part : goal.returns-clause-part
 returns-clause-part c =
-    exported c.args.f.now c.args.log.now.entries c.args.id c.args.ids.now c.requires c.fault_group-group.result c.in_ok-leaves.leaves c.in_ok-gates.ensures.0 c.in_ok-gates.gates
-    c.fault_group-group.ensures c.in_ok-leaves.ensures.sound c.in_ok-leaves.ensures.whole c.in_ok-gates.ensures.1 c.in_ok-gates.ensures.2
+    exported c.args.f.now c.args.log.now.entries c.args.id c.args.ids.now c.requires c.fault_group-group.result
+    c.in_ok-leaves.leaves c.in_ok-gates.ensures.0 c.in_ok-gates.gates
+    c.fault_group-group.ensures c.in_ok-leaves.ensures.sound c.in_ok-leaves.ensures.whole c.in_ok-gates.ensures.1
+    c.in_ok-gates.ensures.2
 
 pub returns-clause-few : goal.returns-clause-few
 returns-clause-few c =
-    few c.args.f.now c.args.log.now.entries c.args.id c.args.ids.now c.requires c.fault_group-group.result c.in_ok-leaves.leaves c.in_ok-gates.ensures.0 c.in_ok-gates.gates
-    c.fault_group-group.ensures c.in_ok-leaves.ensures.sound c.in_ok-leaves.ensures.whole c.in_ok-gates.ensures.1 c.in_ok-gates.ensures.2
+    few c.args.f.now c.args.log.now.entries c.args.id c.args.ids.now c.requires c.fault_group-group.result
+    c.in_ok-leaves.leaves c.in_ok-gates.ensures.0 c.in_ok-gates.gates
+    c.fault_group-group.ensures c.in_ok-leaves.ensures.sound c.in_ok-leaves.ensures.whole c.in_ok-gates.ensures.1
+    c.in_ok-gates.ensures.2

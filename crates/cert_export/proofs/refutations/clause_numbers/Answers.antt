@@ -8,4 +8,5 @@ loop-place-preserved c =
     let n = c.loop-place.place in
     let number : n + 1 ≡ 1 + n = omega arith in
     let next : suc n ≡ n + 1 = omega arith in
-    c.in_ok-push.ensures.items ∙ ap (λ xs. xs ++ (n + 1) ∷ []) c.loop-place.invariant ∙ ap (λ x. range_with_len 1 n ++ x ∷ []) number ∙ sym (range_more 1 n) ∙ ap (range_with_len 1) next
+    c.in_ok-push.ensures.items ∙ ap (λ xs. xs ++ (n + 1) ∷ []) c.loop-place.invariant ∙ ap
+    (λ x. range_with_len 1 n ++ x ∷ []) number ∙ sym (range_more 1 n) ∙ ap (range_with_len 1) next

@@ -11,5 +11,6 @@ returns-clause-from_one g c =
     let source = c.args.source.now in
     let entries = source.log.now.entries in
     subst (All (λ (s : ProofStep). 1 ≤ s.id)) (sym (c.into_steps.ensures ∙ c.loop-place.invariant.steps))
-    (ids_from_one (renaming source.names.now) (g.B.Ground.ids source.base.now) entries source.last (derived_ids entries source.ids.now)
+    (ids_from_one (renaming source.names.now) (g.B.Ground.ids source.base.now) entries source.last
+    (derived_ids entries source.ids.now)
     (derived_ids entries (take c.loop-place.place source.ids.now)))

@@ -14,16 +14,20 @@ use Rattle.cert_text.proofs.item_lists.take_items.Goals as goal
 
 pub returns-in_default : goal.returns-in_default
 returns-in_default c =
-    let F : Format Numbering ProofItem = item_lines c.args.announced.now.lines.version (is_variable c.args.announced.now.lines.variables) in
+    let F : Format Numbering ProofItem = item_lines c.args.announced.now.lines.version
+    (is_variable c.args.announced.now.lines.variables) in
     let more : c.loop-k.k < c.args.announced.now.count = omega (arith, c.loop-k-test.true) in
-    let number : c.loop-k.lines.number ≡ c.number.result = sym (c.number.ensures ∙ ap (λ lines. lines.number) c.in_default.ensures.end) in
+    let number : c.loop-k.lines.number ≡ c.number.result = sym
+    (c.number.ensures ∙ ap (λ lines. lines.number) c.in_default.ensures.end) in
     refused_at _ _ c.refused.result c.loop-k.items c.next.new.self c.refused.ensures
     (c.loop-k.invariant.read
-    ∙ line_missing F (numbering c.loop-k.ids) c.loop-k.k c.args.announced.now.count c.loop-k.items c.loop-k.lines c.number.result more c.in_default.ensures.line number)
+    ∙ line_missing F (numbering c.loop-k.ids) c.loop-k.k c.args.announced.now.count c.loop-k.items c.loop-k.lines
+    c.number.result more c.in_default.ensures.line number)
 
 pub returns-in-Err : goal.returns-in-Err
 returns-in-Err c =
-    let F : Format Numbering ProofItem = item_lines c.args.announced.now.lines.version (is_variable c.args.announced.now.lines.variables) in
+    let F : Format Numbering ProofItem = item_lines c.args.announced.now.lines.version
+    (is_variable c.args.announced.now.lines.variables) in
     let behind = c.next.new.self in
     let line : TextLine = text_line c.in-Some.line behind.rest in
     let more : c.loop-k.k < c.args.announced.now.count = omega (arith, c.loop-k-test.true) in
@@ -31,25 +35,30 @@ returns-in-Err c =
     stopped _ line.number _ c.in-Err.stop c.at_line.result c.loop-k.items behind
     (item_stop _ c.in-Err.stop buffers.literals.items buffers.hints.items c.in-Err.ensures.item) c.at_line.ensures
     (λ name fault. c.loop-k.invariant.read
-    ∙ line_at_fault F (numbering c.loop-k.ids) c.loop-k.k c.args.announced.now.count c.loop-k.items c.loop-k.lines line (lines_from behind.number behind.rest) name more
+    ∙ line_at_fault F (numbering c.loop-k.ids) c.loop-k.k c.args.announced.now.count c.loop-k.items c.loop-k.lines line
+    (lines_from behind.number behind.rest) name more
     c.in-Some.ensures.line fault)
 
 pub loop-k-preserved : goal.loop-k-preserved
 loop-k-preserved c =
-    let F : Format Numbering ProofItem = item_lines c.args.announced.now.lines.version (is_variable c.args.announced.now.lines.variables) in
+    let F : Format Numbering ProofItem = item_lines c.args.announced.now.lines.version
+    (is_variable c.args.announced.now.lines.variables) in
     let behind = c.next.new.self in
     let line : TextLine = text_line c.in-Some.line behind.rest in
     let more : c.loop-k.k < c.args.announced.now.count = omega (arith, c.loop-k-test.true) in
-    let next : behind.number ≡ line.number + 1 = c.in-Some.ensures.next_number ∙ ap (λ n. n + 1) (sym c.in-Some.ensures.number) in
+    let next : behind.number ≡ line.number + 1 = c.in-Some.ensures.next_number ∙ ap (λ n. n + 1)
+    (sym c.in-Some.ensures.number) in
     let buffers = c.read_item.new.buffers in
     record {
       first = c.read_item.ensures.first ∙ c.loop-k.invariant.first;
       read =
           c.loop-k.invariant.read
-          ∙ line_read F (numbering c.loop-k.ids) c.loop-k.k c.args.announced.now.count c.loop-k.items c.loop-k.lines behind line
+          ∙ line_read F (numbering c.loop-k.ids) c.loop-k.k c.args.announced.now.count c.loop-k.items c.loop-k.lines
+          behind line
           (read_item c.in-Ok.read buffers.literals.items buffers.hints.items) c.push_item.new.items more
           c.in-Some.ensures.line next c.in-Ok.ensures.item c.in_ok-push_item-in-Ok.ensures
-          ∙ ap (λ n. put_behind c.push_item.new.items (read_from F n (c.args.announced.now.count - (c.loop-k.k + 1)) behind)) (sym c.in-Ok.ensures.numbering);
+          ∙ ap (λ n. put_behind c.push_item.new.items (read_from F n
+          (c.args.announced.now.count - (c.loop-k.k + 1)) behind)) (sym c.in-Ok.ensures.numbering);
     }
 
 pub push_item-requires : goal.push_item-requires
@@ -58,5 +67,6 @@ push_item-requires c =
     let some = c.requires.from_one in
     let behind : 1 ≤ (numbering c.loop-k.ids).next = omega (arith, first, some) in
     let buffers = c.read_item.new.buffers in
-    has_line_id c.args.announced.now.lines.version (is_variable c.args.announced.now.lines.variables) (numbering c.loop-k.ids) (line_tokens c.in-Some.line.text.now)
+    has_line_id c.args.announced.now.lines.version (is_variable c.args.announced.now.lines.variables)
+    (numbering c.loop-k.ids) (line_tokens c.in-Some.line.text.now)
     (read_item c.in-Ok.read buffers.literals.items buffers.hints.items) behind c.in-Ok.ensures.item

@@ -9,6 +9,8 @@ use Rattle.cert_text.proofs.item_lists.take_items.Given as goal
 abbrev pub invariant-loop-k : goal.invariant-loop-k
 invariant-loop-k l = record {
   first : l.ids.first ≡ l.fn.ids.first;
-  read : put_behind l.fn.items (read_from (item_lines l.announced.lines.version (is_variable l.announced.lines.variables)) (numbering l.fn.ids) l.announced.count l.fn.lines)
-      ≡ put_behind l.items (read_from (item_lines l.announced.lines.version (is_variable l.announced.lines.variables)) (numbering l.ids) (l.announced.count - l.k) l.lines);
+  read : put_behind l.fn.items (read_from (item_lines l.announced.lines.version
+      (is_variable l.announced.lines.variables)) (numbering l.fn.ids) l.announced.count l.fn.lines)
+      ≡ put_behind l.items (read_from (item_lines l.announced.lines.version (is_variable l.announced.lines.variables))
+      (numbering l.ids) (l.announced.count - l.k) l.lines);
 }

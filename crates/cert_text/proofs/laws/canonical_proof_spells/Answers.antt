@@ -7,4 +7,5 @@ pub returns-clause-spells : goal.returns-clause-spells
 returns-clause-spells c f net d is = canonical_spells f net d is
 
 pub returns-clause-reads_back : goal.returns-clause-reads_back
-returns-clause-reads_back c f net d first is = spelled_is_read (canonical_proof d) first f net d (canonical_spells f net d is)
+returns-clause-reads_back c f net d first is = spelled_is_read (canonical_proof d) first f net d
+    (canonical_spells f net d is)

@@ -7,4 +7,5 @@ pub returns-clause-spells : goal.returns-clause-spells
 returns-clause-spells c f d lawful is = canonical_spells f d lawful is
 
 pub returns-clause-reads_back : goal.returns-clause-reads_back
-returns-clause-reads_back c f d first lawful is = spelled_is_read (canonical f.universals d) first f d lawful (canonical_spells f d lawful is)
+returns-clause-reads_back c f d first lawful is = spelled_is_read (canonical f.universals d) first f d lawful
+    (canonical_spells f d lawful is)

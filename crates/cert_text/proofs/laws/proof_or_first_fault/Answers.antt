@@ -16,7 +16,8 @@ returns-clause-unique c text f net d e one other =
     let same : Ok d ≡ Ok e = sym (spelled_is_read text 1 f net d one) ∙ spelled_is_read text 1 f net e other in
     cc
 
-by_result : (text : List ℕ) (first : ℕ) (f : Dqbf) (net : Netlist) (r : Result Dqp CertRefusal) → circuit_proof_of f net text first ≡ r →
+by_result : (text : List ℕ) (first : ℕ) (f : Dqbf) (net : Netlist) (r : Result Dqp CertRefusal) →
+    circuit_proof_of f net text first ≡ r →
     ((d : Dqp) × SpellsProof text f net d) ⊎ ((fault : CertRefusal) × (circuit_proof_of f net text first ≡ Err fault))
 by_result text first f net (Ok d) h = inl (d, read_is_spelled text first f net d h)
 by_result text first f net (Err fault) h = inr (fault, h)

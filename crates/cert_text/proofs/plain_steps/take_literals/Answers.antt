@@ -17,8 +17,10 @@ pub loop-number-preserved : goal.loop-number-preserved
 loop-number-preserved c =
     let n = c.in-Int.n in
     let first : map number_of c.loop-number.tokens ≡ Int n ∷ map number_of c.next_number.new.self = search rules in
-    let holds : is_variable c.args.variables (variable_of (dimacs_literal (to_z w64 (of_z w64 n)))) ≡ true = search rules in
-    let both = literal_taken (is_variable c.args.variables) c.args.tokens.now c.loop-number.tokens c.next_number.new.self
+    let holds : is_variable c.args.variables (variable_of (dimacs_literal (to_z w64 (of_z w64 n)))) ≡ true =
+    search rules in
+    let both = literal_taken (is_variable c.args.variables) c.args.tokens.now c.loop-number.tokens
+    c.next_number.new.self
     c.loop-number.literals.items c.push_literal.new.literals.items n first c.in_ok-push_literal.ensures holds
     c.loop-number.invariant.numbers c.loop-number.invariant.on_variables in
     record { numbers = both.0; on_variables = both.1 }

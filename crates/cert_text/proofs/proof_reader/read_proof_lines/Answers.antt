@@ -7,10 +7,12 @@ returns-in_err-items c =
     let stop = c.in_err-items.field-0.0 in
     let same : c.from_residual.result ≡ Err stop = search rules in
     handed_on _ stop c.from_residual.result
-    (proof_stop c.args.f.now c.args.c.now c.args.count c.args.lines.now c.last_variable.result c.last_variable.ensures c.first_id.result c.first_id.ensures.id stop
+    (proof_stop c.args.f.now c.args.c.now c.args.count c.args.lines.now c.last_variable.result c.last_variable.ensures
+    c.first_id.result c.first_id.ensures.id stop
     c.read_items.new.lines c.in_err-items.ensures) same
 
 pub returns : goal.returns
 returns c =
-    whole_proof c.args.f.now c.args.c.now c.args.count c.args.lines.now c.last_variable.result c.last_variable.ensures c.first_id.result c.first_id.ensures.id c.in_ok-items.items
+    whole_proof c.args.f.now c.args.c.now c.args.count c.args.lines.now c.last_variable.result c.last_variable.ensures
+    c.first_id.result c.first_id.ensures.id c.in_ok-items.items
     c.read_items.new.lines c.in_ok-items.ensures

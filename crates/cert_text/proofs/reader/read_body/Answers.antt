@@ -7,17 +7,21 @@ returns-in_err-rows c =
     let stop = c.in_err-rows.field-0.0 in
     let same : c.from_residual.result ≡ Err stop = search rules in
     handed_on _ stop c.from_residual.result
-    (rows_stop c.args.f.now c.args.counts c.args.lines.now c.universals.result.now c.universals.ensures stop c.read_rows.new.lines c.in_err-rows.ensures) same
+    (rows_stop c.args.f.now c.args.counts c.args.lines.now c.universals.result.now c.universals.ensures stop
+    c.read_rows.new.lines c.in_err-rows.ensures) same
 
 pub returns-in_err-items : goal.returns-in_err-items
 returns-in_err-items c =
     let stop = c.in_err-items.field-0.0 in
     let same : c.from_residual-in_err-items.result ≡ Err stop = search rules in
     handed_on _ stop c.from_residual-in_err-items.result
-    (items_stop c.args.f.now c.args.counts c.args.lines.now c.universals.result.now c.universals.ensures c.in_ok-rows.rows c.read_rows.new.lines c.in_ok-rows.ensures
+    (items_stop c.args.f.now c.args.counts c.args.lines.now c.universals.result.now c.universals.ensures
+    c.in_ok-rows.rows c.read_rows.new.lines c.in_ok-rows.ensures
     c.first_id-id.result c.first_id-id.ensures.id stop c.read_items.new.lines c.in_err-items.ensures) same
 
 pub returns : goal.returns
 returns c =
-    whole c.args.f.now c.args.counts c.args.lines.now c.universals.result.now c.universals.ensures c.in_ok-rows.rows c.read_rows.new.lines c.in_ok-rows.ensures
-    c.first_id-id.result c.first_id-id.ensures.id c.in_ok-items.items c.read_items.new.lines c.in_ok-items.ensures c.in_ok-check_blank.ensures
+    whole c.args.f.now c.args.counts c.args.lines.now c.universals.result.now c.universals.ensures c.in_ok-rows.rows
+    c.read_rows.new.lines c.in_ok-rows.ensures
+    c.first_id-id.result c.first_id-id.ensures.id c.in_ok-items.items c.read_items.new.lines c.in_ok-items.ensures
+    c.in_ok-check_blank.ensures

@@ -22,4 +22,5 @@ loop-i-preserved c =
 pub returns : goal.returns
 returns c holds =
     let all : length c.args.universals.now ≡ c.loop-i.i = omega (arith, c.loop-i-test.false, c.loop-i.auto.i-end) in
-    signs_read c.args.universals.now c.args.tokens.now c.loop-i.tokens c.loop-i.row c.loop-i.i all c.loop-i.invariant (c.ends_row.ensures holds)
+    signs_read c.args.universals.now c.args.tokens.now c.loop-i.tokens c.loop-i.row c.loop-i.i all c.loop-i.invariant
+    (c.ends_row.ensures holds)

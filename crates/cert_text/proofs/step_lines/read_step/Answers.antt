@@ -16,4 +16,5 @@ returns-in-Some c =
     plain_read c.args.variables c.args.next tokens id ls hs
     (if_some found id (λ id. 1 ≤ id) c.in-Some.is c.in_ok-plain.ensures.some)
     (if_some found id (λ id. SpellsStep tokens (read_step id ls hs)) c.in-Some.is c.in_ok-plain.ensures.spelled)
-    (if_some found id (λ id. IsStep (is_variable c.args.variables) c.args.next (read_step id ls hs)) c.in-Some.is c.in_ok-plain.ensures.lawful)
+    (if_some found id (λ id. IsStep (is_variable c.args.variables) c.args.next (read_step id ls hs)) c.in-Some.is
+    c.in_ok-plain.ensures.lawful)

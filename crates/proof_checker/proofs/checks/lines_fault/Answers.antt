@@ -11,4 +11,5 @@ judge_all-requires-clause-behind c =
     (proof_is_behind c.args.bench.now c.args.items.now c.requires)
 
 pub returns : goal.returns
-returns c = c.fault.ensures ∙ c.in_ok-judge_all.ensures ∙ ap (λ (k : Candidate). circuit_proof_fault k c.args.items.now) c.in_ok-matrix.ensures
+returns c = c.fault.ensures ∙ c.in_ok-judge_all.ensures ∙ ap
+    (λ (k : Candidate). circuit_proof_fault k c.args.items.now) c.in_ok-matrix.ensures

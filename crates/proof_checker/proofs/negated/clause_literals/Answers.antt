@@ -6,5 +6,6 @@ use Rattle.proof_checker.proofs.negated.clause_literals.Goals as goal
 pub loop-j-preserved : goal.loop-j-preserved
 loop-j-preserved c =
     next_clause c.args.first c.loop-j.j c.args.f.now.matrix c.loop-j.all.items c.push_literals.new.all.items
-    (clause_literals c.args.first c.args.f.now.matrix) c.clause.result.now (omega (arith, c.loop-j-test.true, c.clauses-j-end.ensures.value))
+    (clause_literals c.args.first c.args.f.now.matrix) c.clause.result.now
+    (omega (arith, c.loop-j-test.true, c.clauses-j-end.ensures.value))
     c.clause.ensures c.loop-j.invariant c.in_ok-push_literals.ensures

@@ -9,7 +9,8 @@ returns-in-0 c =
     let t = c.gate-variable.result in
     c.short_of_two.ensures
     ∙ sym (ap (option_and_then without_constants)
-    (gate_left c.args.circuit.now c.args.i c.requires t c.gate-variable.ensures c.opposite_of.result (c.opposite_of.result ∷ t.1 ∷ []) c.in-0.is
+    (gate_left c.args.circuit.now c.args.i c.requires t c.gate-variable.ensures c.opposite_of.result
+    (c.opposite_of.result ∷ t.1 ∷ []) c.in-0.is
     c.opposite_of.ensures.value refl))
 
 pub returns-in-1 : goal.returns-in-1
@@ -17,7 +18,8 @@ returns-in-1 c =
     let t = c.gate-variable.result in
     c.short_of_two-in-1.ensures
     ∙ sym (ap (option_and_then without_constants)
-    (gate_right c.args.circuit.now c.args.i c.requires t c.gate-variable.ensures c.opposite_of-in-1.result (c.opposite_of-in-1.result ∷ t.2 ∷ []) c.in-1.is
+    (gate_right c.args.circuit.now c.args.i c.requires t c.gate-variable.ensures c.opposite_of-in-1.result
+    (c.opposite_of-in-1.result ∷ t.2 ∷ []) c.in-1.is
     c.opposite_of-in-1.ensures.value refl))
 
 pub returns-in-2 : goal.returns-in-2
@@ -25,5 +27,7 @@ returns-in-2 c =
     let t = c.gate-variable.result in
     c.short_of_three.ensures
     ∙ sym (ap (option_and_then without_constants)
-    (gate_both c.args.circuit.now c.args.i c.requires t c.gate-variable.ensures c.opposite_of-in-2.result c.opposite_of-in-2-2.result
-    (t.0 ∷ c.opposite_of-in-2.result ∷ c.opposite_of-in-2-2.result ∷ []) c.in-2.is c.opposite_of-in-2.ensures.value c.opposite_of-in-2-2.ensures.value refl))
+    (gate_both c.args.circuit.now c.args.i c.requires t c.gate-variable.ensures c.opposite_of-in-2.result
+    c.opposite_of-in-2-2.result
+    (t.0 ∷ c.opposite_of-in-2.result ∷ c.opposite_of-in-2-2.result ∷ []) c.in-2.is c.opposite_of-in-2.ensures.value
+    c.opposite_of-in-2-2.ensures.value refl))

@@ -16,5 +16,6 @@ pub returns : goal.returns
 returns c =
     let x = frame c.args.e.now in
     let r = get_or x.rows c.args.k c.index-e-k.result in
-    universal_read x c.args.k c.args.place c.args.l r c.get.result c.is_neg.result c.requires.frame c.requires.row c.requires.bound
+    universal_read x c.args.k c.args.place c.args.l r c.get.result c.is_neg.result c.requires.frame c.requires.row
+    c.requires.bound
     (get_or_default x.rows c.args.k c.index-e-k.result r c.requires.row) c.get.ensures c.is_neg.ensures

@@ -8,10 +8,13 @@ use Rattle.refutation_checker.proofs.judging.is_true_universal.Goals as goal
 pub has_true_universal-requires : goal.has_true_universal-requires
 has_true_universal-requires c =
     let x = frame c.args.e.now in
-    ap length (get_or_default x.rows c.args.k c.index-e-k.result [] c.requires.row) ∙ c.requires.frame.whole c.args.k [] c.requires.row
+    ap length (get_or_default x.rows c.args.k c.index-e-k.result [] c.requires.row)
+    ∙ c.requires.frame.whole c.args.k [] c.requires.row
 
 pub returns : goal.returns
 returns c =
     let x = frame c.args.e.now in
-    c.has_true_universal.ensures ∙ or_false (universal_literal_true x.formula (get_or x.rows c.args.k c.index-e-k.result) c.args.l)
-    ∙ ap (λ r. universal_literal_true x.formula r c.args.l) (get_or_default x.rows c.args.k c.index-e-k.result [] c.requires.row)
+    c.has_true_universal.ensures ∙ or_false (universal_literal_true x.formula
+    (get_or x.rows c.args.k c.index-e-k.result) c.args.l)
+    ∙ ap (λ r. universal_literal_true x.formula r c.args.l) (get_or_default x.rows c.args.k c.index-e-k.result []
+    c.requires.row)

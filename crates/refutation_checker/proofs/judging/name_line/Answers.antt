@@ -7,11 +7,13 @@ use Rattle.refutation_checker.proofs.judging.name_line.Goals as goal
 
 pub returns-in_err-named-clause-extends : goal.returns-in_err-named-clause-extends
 returns-in_err-named-clause-extends c =
-    then_extends (frame c.args.e.now) (names_in c.args.names.now) (names_in c.loop-l.names) (names_in c.name.new.names) c.loop-l.invariant.extends c.name.ensures.extends
+    then_extends (frame c.args.e.now) (names_in c.args.names.now) (names_in c.loop-l.names)
+    (names_in c.name.new.names) c.loop-l.invariant.extends c.name.ensures.extends
 
 pub returns-in_err-push-clause-extends : goal.returns-in_err-push-clause-extends
 returns-in_err-push-clause-extends c =
-    then_extends (frame c.args.e.now) (names_in c.args.names.now) (names_in c.loop-l.names) (names_in c.name.new.names) c.loop-l.invariant.extends c.name.ensures.extends
+    then_extends (frame c.args.e.now) (names_in c.args.names.now) (names_in c.loop-l.names)
+    (names_in c.name.new.names) c.loop-l.invariant.extends c.name.ensures.extends
 
 pub loop-l-preserved : goal.loop-l-preserved
 loop-l-preserved c =
@@ -20,11 +22,15 @@ loop-l-preserved c =
     let variables = c.vars-variables.result in
     record {
       names = c.name.ensures.names;
-      extends = then_extends x (names_in c.args.names.now) (names_in c.loop-l.names) (names_in c.name.new.names) c.loop-l.invariant.extends c.name.ensures.extends;
-      named = line_named_more x (names_in c.loop-l.names) (names_in c.name.new.names) c.args.lits.now c.loop-l.line.items c.push.new.self.items c.loop-l.l-index
-          (place / variables) (place % variables + 1) c.var-place.result c.l-item.result c.in_ok-named.named c.requires.frame.whole c.name.ensures.extends c.loop-l-test.true
+      extends = then_extends x (names_in c.args.names.now) (names_in c.loop-l.names)
+          (names_in c.name.new.names) c.loop-l.invariant.extends c.name.ensures.extends;
+      named = line_named_more x (names_in c.loop-l.names) (names_in c.name.new.names) c.args.lits.now
+          c.loop-l.line.items c.push.new.self.items c.loop-l.l-index
+          (place / variables) (place % variables + 1) c.var-place.result c.l-item.result c.in_ok-named.named
+          c.requires.frame.whole c.name.ensures.extends c.loop-l-test.true
           c.l-item.is c.var-place.ensures.value
           (named_by x.formula x.rows c.var-place.result variables c.vars-variables.ensures.value
-          (pair_number_at x c.args.lits.now c.loop-l.l-index c.l-item.result c.var-place.result c.loop-l-test.true c.l-item.is c.var-place.ensures.value c.requires.pairs))
+          (pair_number_at x c.args.lits.now c.loop-l.l-index c.l-item.result c.var-place.result c.loop-l-test.true
+          c.l-item.is c.var-place.ensures.value c.requires.pairs))
           c.loop-l.invariant.named c.in_ok-named.ensures.named c.in_ok-push.ensures.items;
     }

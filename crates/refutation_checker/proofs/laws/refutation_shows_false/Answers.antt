@@ -7,4 +7,5 @@ use Rattle.refutation_checker.proofs.laws.refutation_shows_false.Goals as goal
 pub returns : goal.returns
 returns c f d well_formed none =
     c.expansion_lifts.ensures f d.rows well_formed
-    (λ m model. c.deleting_derivation_is_sound.ensures (instance_at f d.rows) (map (normal_item f d.rows) d.items) none m (instances_true f d.rows m model))
+    (λ m model. c.deleting_derivation_is_sound.ensures (instance_at f d.rows)
+    (map (normal_item f d.rows) d.items) none m (instances_true f d.rows m model))

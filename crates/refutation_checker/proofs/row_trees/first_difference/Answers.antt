@@ -6,7 +6,8 @@ use Rattle.refutation_checker.proofs.row_trees.first_difference.Goals as goal
 
 pub returns-then-bit : goal.returns-then-bit
 returns-then-bit c =
-    differ_at c.args.f.now c.args.sees.now c.args.first.now c.args.second.now c.loop-x.x-index c.place_of-place.result (get_or c.args.sees.now c.loop-x.x-index 0)
+    differ_at c.args.f.now c.args.sees.now c.args.first.now c.args.second.now c.loop-x.x-index c.place_of-place.result
+    (get_or c.args.sees.now c.loop-x.x-index 0)
     c.requires.first_length c.requires.second_length c.loop-x-test.true refl c.place_of-place.ensures.place
     (λ e. differs c.bit.result c.bit-in-loop-x.result c.if-bit.true (c.bit.ensures ∙ e ∙ sym c.bit-in-loop-x.ensures))
 
@@ -18,7 +19,8 @@ same false false h = refl
 
 pub loop-x-preserved : goal.loop-x-preserved
 loop-x-preserved c =
-    agree_more c.args.f.now c.args.sees.now c.args.first.now c.args.second.now c.loop-x.x-index c.place_of-place.result (get_or c.args.sees.now c.loop-x.x-index 0)
+    agree_more c.args.f.now c.args.sees.now c.args.first.now c.args.second.now c.loop-x.x-index c.place_of-place.result
+    (get_or c.args.sees.now c.loop-x.x-index 0)
     c.requires.first_length c.requires.second_length c.loop-x-test.true refl c.place_of-place.ensures.place
     (sym c.bit.ensures ∙ same c.bit.result c.bit-in-loop-x.result c.if-bit.false ∙ c.bit-in-loop-x.ensures)
     ∙ c.loop-x.invariant

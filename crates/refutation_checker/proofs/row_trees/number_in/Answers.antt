@@ -12,16 +12,20 @@ part-requires-clause-place c =
     let f = c.args.f.now in
     let rows = c.args.rows.now in
     let few = few_places f c.every_formula_is_lawful.ensures in
-    place_small f rows (sees_of f c.args.y) c.args.nodes.now.items c.reached-at.result c.in-Differs.place (row_of rows c.args.k) (omega (arith, few))
-    (subst (λ ns. IsStanding f rows (sees_of f c.args.y) ns c.reached-at.result (row_of rows c.args.k) (Differs c.in-Differs.place)) c.deref-2.ensures.value c.in-Differs.ensures)
+    place_small f rows (sees_of f c.args.y) c.args.nodes.now.items c.reached-at.result c.in-Differs.place
+    (row_of rows c.args.k) (omega (arith, few))
+    (subst (λ ns. IsStanding f rows (sees_of f c.args.y) ns c.reached-at.result (row_of rows c.args.k)
+    (Differs c.in-Differs.place)) c.deref-2.ensures.value c.in-Differs.ensures)
 
 pub returns-in-Numbered-clause-numbered : goal.returns-in-Numbered-clause-numbered
 returns-in-Numbered-clause-numbered c =
     let f = c.args.f.now in
     let rows = c.args.rows.now in
-    numbered_already f rows (sees_of f c.args.y) c.args.nodes.now.items (row_of rows c.args.k) c.in-Numbered.own c.requires.tree
+    numbered_already f rows (sees_of f c.args.y) c.args.nodes.now.items
+    (row_of rows c.args.k) c.in-Numbered.own c.requires.tree
     (c.requires.whole c.args.k [] c.requires.row)
-    (subst (λ ns. IsStanding f rows (sees_of f c.args.y) ns c.reached-at.result (row_of rows c.args.k) (Numbered c.in-Numbered.own)) c.deref-2.ensures.value c.in-Numbered.ensures)
+    (subst (λ ns. IsStanding f rows (sees_of f c.args.y) ns c.reached-at.result (row_of rows c.args.k)
+    (Numbered c.in-Numbered.own)) c.deref-2.ensures.value c.in-Numbered.ensures)
 
 pub returns-in_ok-part-in-Differs : goal.returns-in_ok-part-in-Differs
 returns-in_ok-part-in-Differs c =
@@ -36,8 +40,10 @@ returns-in_ok-part-in-Differs c =
     ∙ ap (reached nodes) (c.index-rows-k.is ∙ get_or_default rows c.args.k c.index-rows-k.result [] c.requires.row) in
     let below : at < length nodes = subst (λ ns. at < length ns) c.deref.ensures.value c.reached-at.ensures.within in
     let stands : IsStanding f rows sees nodes at row (Differs c.in-Differs.place) =
-    subst (λ ns. IsStanding f rows sees ns at row (Differs c.in-Differs.place)) c.deref-2.ensures.value c.in-Differs.ensures in
+    subst (λ ns. IsStanding f rows sees ns at row (Differs c.in-Differs.place)) c.deref-2.ensures.value
+    c.in-Differs.ensures in
     let all =
-    parted_all f rows sees nodes c.part.new.nodes.items at c.in-Differs.place c.args.k c.args.number c.requires.whole c.requires.tree below came c.requires.row stands
+    parted_all f rows sees nodes c.part.new.nodes.items at c.in-Differs.place c.args.k c.args.number c.requires.whole
+    c.requires.tree below came c.requires.row stands
     c.in_ok-part-in-Differs.ensures.ok in
     record { tree = all.0; numbered = all.1; value = sym (ap (λ o. number_or o c.args.number) all.2); err = tt }

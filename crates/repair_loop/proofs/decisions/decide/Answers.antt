@@ -15,7 +15,8 @@ find_definitions-requires-clause-none g c = empty_has_none copies c.args.log.now
 pub returns-in_err-definitions-clause-productive : goal.returns-in_err-definitions-clause-productive
 returns-in_err-definitions-clause-productive g c =
     let found = c.find_definitions in
-    productive c.args.f.now found.new.log.entries found.ensures.fresh.kept (g.met.O.Oracle.searched found.new.oracle found.new.log found.ensures.fit)
+    productive c.args.f.now found.new.log.entries found.ensures.fresh.kept
+    (g.met.O.Oracle.searched found.new.oracle found.new.log found.ensures.fit)
 
 pub returns-in_err-definitions-clause-undecided : goal.returns-in_err-definitions-clause-undecided
 returns-in_err-definitions-clause-undecided g c = on_err _ _ c.find_definitions.ensures.fresh.undecided
@@ -28,7 +29,8 @@ returns-in_err-table-clause-productive g c =
     let f = c.args.f.now in
     let found = c.find_definitions in
     productive f c.new.new.log.entries
-    (still_kept c.engines_leave_the_rest.ensures f instances 0 true found.new.log c.new.new.log (c.new.ensures.grew 0) found.ensures.fresh.kept)
+    (still_kept c.engines_leave_the_rest.ensures f instances 0 true found.new.log c.new.new.log
+    (c.new.ensures.grew 0) found.ensures.fresh.kept)
     (g.met.O.Oracle.searched c.new.new.oracle c.new.new.log c.new.ensures.fit)
 
 pub returns-in_err-table-clause-limit_same : goal.returns-in_err-table-clause-limit_same
@@ -37,12 +39,14 @@ returns-in_err-table-clause-limit_same g c = (c.new.ensures.grew 0).limit ∙ c.
 pub returns-in_err-table-clause-undecided : goal.returns-in_err-table-clause-undecided
 returns-in_err-table-clause-undecided g c =
     let found = c.find_definitions in
-    on_err _ _ (still_undecided c.engines_leave_the_rest.ensures c.args.f.now instances 0 true found.new.log c.new.new.log refl (c.new.ensures.grew 0) found.ensures.fresh.undecided)
+    on_err _ _ (still_undecided c.engines_leave_the_rest.ensures c.args.f.now instances 0 true found.new.log
+    c.new.new.log refl (c.new.ensures.grew 0) found.ensures.fresh.undecided)
 
 pub new-requires-2-clause-none : goal.new-requires-2-clause-none
 new-requires-2-clause-none g c =
     let found = c.find_definitions in
-    none_stays c.engines_leave_the_rest.ensures circuits c.args.f.now instances 0 true found.new.log c.new.new.log refl (c.new.ensures.grew 0) found.ensures.fresh.no_circuits
+    none_stays c.engines_leave_the_rest.ensures circuits c.args.f.now instances 0 true found.new.log c.new.new.log refl
+    (c.new.ensures.grew 0) found.ensures.fresh.no_circuits
 
 pub returns-in_err-checker-clause-productive : goal.returns-in_err-checker-clause-productive
 returns-in_err-checker-clause-productive g c =
@@ -55,7 +59,8 @@ returns-in_err-checker-clause-productive g c =
     (g.met.O.Oracle.searched c.new-2.new.oracle c.new-2.new.log c.new-2.ensures.fit)
 
 pub returns-in_err-checker-clause-limit_same : goal.returns-in_err-checker-clause-limit_same
-returns-in_err-checker-clause-limit_same g c = (c.new-2.ensures.grew 0).limit ∙ (c.new.ensures.grew 0).limit ∙ c.find_definitions.ensures.limit_same
+returns-in_err-checker-clause-limit_same g c = (c.new-2.ensures.grew 0).limit ∙ (c.new.ensures.grew 0).limit
+    ∙ c.find_definitions.ensures.limit_same
 
 pub returns-in_err-checker-clause-undecided : goal.returns-in_err-checker-clause-undecided
 returns-in_err-checker-clause-undecided g c =
@@ -63,13 +68,16 @@ returns-in_err-checker-clause-undecided g c =
     let law = c.engines_leave_the_rest.ensures in
     let found = c.find_definitions in
     on_err _ _ (still_undecided law f circuits 0 true c.new.new.log c.new-2.new.log refl (c.new-2.ensures.grew 0)
-    (still_undecided law f instances 0 true found.new.log c.new.new.log refl (c.new.ensures.grew 0) found.ensures.fresh.undecided))
+    (still_undecided law f instances 0 true found.new.log c.new.new.log refl
+    (c.new.ensures.grew 0) found.ensures.fresh.undecided))
 
 pub all_rounds-requires-clause-search : goal.all_rounds-requires-clause-search
 all_rounds-requires-clause-search g c =
     let found = c.find_definitions in
-    begun c.engines_leave_the_rest.ensures c.engines_leave_tables.ensures c.engines_leave_copies.ensures c.args.f.now c.requires.formula found.new.graph c.in_ok-table.table c.in_ok-checker.checker
-    c.in_ok-definitions.definitions.padoa found.new.log c.new.new.log c.new-2.new.log (found.ensures.extends.inputs ∙ c.requires.inputs) found.ensures.fresh c.in_ok-definitions.ensures.padoa
+    begun c.engines_leave_the_rest.ensures c.engines_leave_tables.ensures c.engines_leave_copies.ensures c.args.f.now
+    c.requires.formula found.new.graph c.in_ok-table.table c.in_ok-checker.checker
+    c.in_ok-definitions.definitions.padoa found.new.log c.new.new.log c.new-2.new.log
+    (found.ensures.extends.inputs ∙ c.requires.inputs) found.ensures.fresh c.in_ok-definitions.ensures.padoa
     c.new.ensures.grew c.in_ok-table.ensures.unnamed c.in_ok-table.ensures.made c.in_ok-table.ensures.rows
     c.new-2.ensures.grew c.in_ok-checker.ensures.made c.in_ok-checker.ensures.fresh c.new-2.ensures.faults
 
@@ -77,7 +85,8 @@ pub returns-clause-inputs : goal.returns-clause-inputs
 returns-clause-inputs g c = c.all_rounds.ensures.inputs ∙ c.find_definitions.ensures.extends.inputs
 
 pub returns-clause-limit_same : goal.returns-clause-limit_same
-returns-clause-limit_same g c = c.all_rounds.ensures.limit_same ∙ (c.new-2.ensures.grew 0).limit ∙ (c.new.ensures.grew 0).limit ∙ c.find_definitions.ensures.limit_same
+returns-clause-limit_same g c = c.all_rounds.ensures.limit_same ∙ (c.new-2.ensures.grew 0).limit ∙
+    (c.new.ensures.grew 0).limit ∙ c.find_definitions.ensures.limit_same
 
 pub returns-in_err-definitions-clause-limit : goal.returns-in_err-definitions-clause-limit
 returns-in_err-definitions-clause-limit g c = λ is.
@@ -86,7 +95,9 @@ returns-in_err-definitions-clause-limit g c = λ is.
 
 pub returns-clause-productive : goal.returns-clause-productive
 returns-clause-productive g c =
-    productive c.args.f.now c.all_rounds.new.log.entries c.all_rounds.ensures.kept (g.met.O.Oracle.searched c.all_rounds.new.oracle c.all_rounds.new.log c.all_rounds.ensures.fit)
+    productive c.args.f.now c.all_rounds.new.log.entries c.all_rounds.ensures.kept
+    (g.met.O.Oracle.searched c.all_rounds.new.oracle c.all_rounds.new.log c.all_rounds.ensures.fit)
 
 pub returns-clause-selectors : goal.returns-clause-selectors
-returns-clause-selectors g c = (g.met.O.Oracle.searched c.all_rounds.new.oracle c.all_rounds.new.log c.all_rounds.ensures.fit).kept
+returns-clause-selectors g c = (g.met.O.Oracle.searched c.all_rounds.new.oracle c.all_rounds.new.log
+    c.all_rounds.ensures.fit).kept

@@ -5,4 +5,5 @@ use Rattle.repair_loop.specs.Stating.{FitsRule}
 use Rattle.repair_loop.proofs.stated_rules.are_fitting.Given as goal
 
 abbrev pub invariant-loop-l : goal.invariant-loop-l
-invariant-loop-l l = (e : Existential) → existential_of l.f l.y ≡ Some e → All (FitsRule l.y e l.bit) (take l.l-index l.clause)
+invariant-loop-l l = (e : Existential) → existential_of l.f l.y ≡ Some e →
+    All (FitsRule l.y e l.bit) (take l.l-index l.clause)

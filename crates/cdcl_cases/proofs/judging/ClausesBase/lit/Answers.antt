@@ -10,14 +10,19 @@ clause-requires c = (literal_known c.args.self.now.log.now.entries c.args.id c.a
 
 pub offset_bounds-clause-i : goal.offset_bounds-clause-i
 offset_bounds-clause-i c =
-    let below : c.args.i < length c.clause.result.now = place_known c.clause.result.now c.args.i (subst (λ (o : Option (List Literal)). IsSome (literal_at o c.args.i)) c.clause.ensures c.requires) in
+    let below : c.args.i < length c.clause.result.now = place_known c.clause.result.now c.args.i
+    (subst (λ (o : Option (List Literal)). IsSome (literal_at o c.args.i)) c.clause.ensures c.requires) in
     let small = c.clause.type_inv.1 in
     search rules
 
 pub bounds-clause-i : goal.bounds-clause-i
-bounds-clause-i c = place_known c.clause.result.now c.args.i (subst (λ (o : Option (List Literal)). IsSome (literal_at o c.args.i)) c.clause.ensures c.requires)
+bounds-clause-i c = place_known c.clause.result.now c.args.i
+    (subst (λ (o : Option (List Literal)). IsSome (literal_at o c.args.i)) c.clause.ensures c.requires)
 
 pub returns : goal.returns
 returns c =
-    let below = place_known c.clause.result.now c.args.i (subst (λ (o : Option (List Literal)). IsSome (literal_at o c.args.i)) c.clause.ensures c.requires) in
-    ap (λ (o : Option (List Literal)). literal_at o c.args.i) c.clause.ensures ∙ slice_get-get_or c.clause.result.now c.args.i c.index-clause-i.result below ∙ ap (λ x. Some x) (sym c.index-clause-i.is)
+    let below = place_known c.clause.result.now c.args.i (subst
+    (λ (o : Option (List Literal)). IsSome (literal_at o c.args.i)) c.clause.ensures c.requires) in
+    ap (λ (o : Option (List Literal)). literal_at o c.args.i) c.clause.ensures
+    ∙ slice_get-get_or c.clause.result.now c.args.i c.index-clause-i.result below ∙ ap (λ x. Some x)
+    (sym c.index-clause-i.is)

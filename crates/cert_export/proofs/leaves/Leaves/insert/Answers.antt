@@ -8,7 +8,8 @@ use Rattle.cert_export.proofs.leaves.Leaves.insert.Goals as goal
 pub returns-then-contains-clause-there : goal.returns-then-contains-clause-there
 returns-then-contains-clause-there c =
     subst (λ (t : LeafTable). IsSome (leaf_of t c.args.variable)) c.self.view_is
-    (has_leaf (record { variables = c.self.inside.variables; leaves = c.self.inside.leaves.items }) c.args.variable (sym c.contains.ensures ∙ c.if-contains.true))
+    (has_leaf (record { variables = c.self.inside.variables; leaves = c.self.inside.leaves.items }) c.args.variable
+    (sym c.contains.ensures ∙ c.if-contains.true))
 
 pub returns-clause-there : goal.returns-clause-there
 returns-clause-there c =

@@ -10,10 +10,14 @@ use Rattle.cert_export.proofs.names.Names.clause.Goals as goal
 pub loop-l-preserved : goal.loop-l-preserved
 loop-l-preserved c =
     let r = renaming c.args.self.now in
-    let more = literal_more r c.args.lits.now c.loop-l.l-index c.l-item.result c.literal.result c.loop-l-test.true c.l-item.is c.literal.ensures in
+    let more = literal_more r c.args.lits.now c.loop-l.l-index c.l-item.result c.literal.result c.loop-l-test.true
+    c.l-item.is c.literal.ensures in
     let so_far = renamed_clause r (take c.loop-l.l-index c.args.lits.now) in
     elim c.match-literal.branch [
       | in-Some+in_ok-push w ↦
-          ap (λ v. v.items) w.clause-is ∙ w.in_ok-push.ensures.items ∙ ap (λ ls. ls ++ w.in-Some.renamed ∷ []) c.loop-l.invariant ∙ sym (more ∙ ap (λ o. so_far ++ cons_option o []) w.in-Some.is)
-      | in_default w ↦ ap (λ v. v.items) w.clause-is ∙ c.loop-l.invariant ∙ sym (more ∙ ap (λ o. so_far ++ cons_option o []) w.in_default.is ∙ append-nil so_far)
+          ap (λ v. v.items) w.clause-is ∙ w.in_ok-push.ensures.items ∙ ap
+          (λ ls. ls ++ w.in-Some.renamed ∷ []) c.loop-l.invariant ∙ sym
+          (more ∙ ap (λ o. so_far ++ cons_option o []) w.in-Some.is)
+      | in_default w ↦ ap (λ v. v.items) w.clause-is ∙ c.loop-l.invariant ∙ sym
+          (more ∙ ap (λ o. so_far ++ cons_option o []) w.in_default.is ∙ append-nil so_far)
     ]

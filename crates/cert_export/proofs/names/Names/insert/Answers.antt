@@ -8,7 +8,8 @@ use Rattle.cert_export.proofs.names.Names.insert.Goals as goal
 pub returns-then-contains-clause-there : goal.returns-then-contains-clause-there
 returns-then-contains-clause-there c =
     subst (λ (t : NameTable). IsSome (renaming t c.args.variable)) c.self.view_is
-    (has_name (record { variables = c.self.inside.variables; names = c.self.inside.names.items }) c.args.variable (sym c.contains.ensures ∙ c.if-contains.true))
+    (has_name (record { variables = c.self.inside.variables; names = c.self.inside.names.items }) c.args.variable
+    (sym c.contains.ensures ∙ c.if-contains.true))
 
 pub returns-clause-there : goal.returns-clause-there
 returns-clause-there c =

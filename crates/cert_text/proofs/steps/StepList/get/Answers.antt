@@ -25,5 +25,6 @@ returns c =
     let l = c.self.inside in
     let size = length-steps_from l.ids.items l.literals l.hints c.self.invariant in
     let below : c.args.place < length l.ids.items = omega (arith, c.requires, size, ap length c.self.view_is) in
-    step_got l.ids.items l.literals l.hints c.args.place c.args.self.now c.index.result.now c.get.result.now c.get-2.result.now
+    step_got l.ids.items l.literals l.hints c.args.place c.args.self.now c.index.result.now c.get.result.now
+    c.get-2.result.now
     c.self.invariant below c.self.view_is c.index.ensures c.get.ensures c.get-2.ensures

@@ -12,6 +12,7 @@ returns-in-None-place c =
       netlist = c.self.inside.circuit.now;
       mapping = record { inputs = c.self.inside.inputs; outputs = c.self.inside.outputs };
     })
-    c.args.v c.len.result c.element_at-in-None-place.result c.in-None.ensures.place c.in-None-place.ensures.place c.len.ensures.value
+    c.args.v c.len.result c.element_at-in-None-place.result c.in-None.ensures.place c.in-None-place.ensures.place
+    c.len.ensures.value
     (c.element_at-in-None-place.ensures ∙ ap (λ outs. slice_index outs c.len.result) c.outputs-in-None-place.ensures)
     ∙ ap (λ (m : MappedCircuit). circuit_literal m c.args.v) c.self.view_is

@@ -13,7 +13,8 @@ returns-then-i-gates c =
     let i = c.args.id - 1 in
     let net_is = c.circuit-circuit.ensures ∙ ap (λ (k : Candidate). k.circuit.netlist) c.self.view_is in
     let below : i / 3 < length m.circuit.netlist.gates =
-    subst (λ (net : Netlist). i / 3 < length net.gates) net_is (omega (arith, c.if-i-gates.true, c.gates-gates.ensures)) in
+    subst (λ (net : Netlist). i / 3 < length net.gates) net_is
+    (omega (arith, c.if-i-gates.true, c.gates-gates.ensures)) in
     c.short.ensures m ∙ c.gate_clause.ensures
     ∙ ap (λ (net : Netlist). option_and_then without_constants (slice_get (flat_map gate_clauses net.gates) i)) net_is
     ∙ ap (option_and_then without_constants) (sym (gates_first m i below))
@@ -26,5 +27,6 @@ returns c =
     let n = c.gates-gates.result in
     let net_is = c.circuit-circuit.ensures ∙ ap (λ (k : Candidate). k.circuit.netlist) c.self.view_is in
     let count = c.gates-gates.ensures ∙ ap (λ (net : Netlist). length net.gates) net_is in
-    c.formula_clause.ensures ∙ ap (option_and_then without_constants) (sym (behind_gates m i n count (omega (arith, c.if-i-gates.false))))
+    c.formula_clause.ensures ∙ ap (option_and_then without_constants)
+    (sym (behind_gates m i n count (omega (arith, c.if-i-gates.false))))
     ∙ sym (by_id m c.args.id i c.if-id-eq0.false refl)

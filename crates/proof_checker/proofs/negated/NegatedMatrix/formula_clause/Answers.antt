@@ -11,14 +11,16 @@ use Rattle.proof_checker.proofs.negated.NegatedMatrix.formula_clause.Goals as go
 pub overflow_mul-entry : goal.overflow_mul-entry
 overflow_mul-entry c =
     let are = c.deref-literals.ensures.value ∙ c.self.invariant.are in
-    let below = number_below (c.self.inside.circuit.netlist.max_var + 1) c.self.inside.formula.now.matrix c.deref-literals.result.now c.args.i c.index-literals-i.result
+    let below = number_below (c.self.inside.circuit.netlist.max_var + 1) c.self.inside.formula.now.matrix
+    c.deref-literals.result.now c.args.i c.index-literals-i.result
     are (omega (arith, c.if-i-literals.true)) c.index-literals-i.is in
     omega (arith, below, c.self.invariant.few, c.clauses.ensures.few, c.clauses.ensures.value)
 
 pub opposite_of-requires : goal.opposite_of-requires
 opposite_of-requires c =
     let are = c.deref-literals.ensures.value ∙ c.self.invariant.are in
-    let below = number_below (c.self.inside.circuit.netlist.max_var + 1) c.self.inside.formula.now.matrix c.deref-literals.result.now c.args.i c.index-literals-i.result
+    let below = number_below (c.self.inside.circuit.netlist.max_var + 1) c.self.inside.formula.now.matrix
+    c.deref-literals.result.now c.args.i c.index-literals-i.result
     are (omega (arith, c.if-i-literals.true)) c.index-literals-i.is in
     omega (arith, below, c.self.invariant.few, c.clauses.ensures.few, c.clauses.ensures.value)
 
@@ -30,8 +32,10 @@ returns-then-i-literals c =
     let l = c.opposite_of-then-i-literals.result in
     c.short.ensures c.args.self.now ∙ c.short_of_two.ensures
     ∙ ap (option_and_then without_constants)
-    (falsity_found n c.deref-literals.result.now are c.args.i c.index-literals-i.result k l c.literal_under-literal.result (k ∷ l ∷ [])
-    (omega (arith, c.if-i-literals.true)) c.index-literals-i.is refl c.opposite_of.ensures.value c.opposite_of-then-i-literals.ensures.value
+    (falsity_found n c.deref-literals.result.now are c.args.i c.index-literals-i.result k l
+    c.literal_under-literal.result (k ∷ l ∷ [])
+    (omega (arith, c.if-i-literals.true)) c.index-literals-i.is refl c.opposite_of.ensures.value
+    c.opposite_of-then-i-literals.ensures.value
     c.literal_under-literal.ensures.value
     ∙ ap (λ (m : Candidate). slice_get (formula_clauses m) c.args.i) c.self.view_is)
 
@@ -39,15 +43,18 @@ pub returns-then-i-literals-2 : goal.returns-then-i-literals-2
 returns-then-i-literals-2 c =
     let n : Candidate = record { formula = c.self.inside.formula.now; circuit = c.self.inside.circuit } in
     let are = c.deref-literals.ensures.value ∙ c.self.invariant.are in
-    subst (λ (m : Candidate). Some (last_literals m) ≡ option_and_then without_constants (slice_get (formula_clauses m) c.args.i)) c.self.view_is
+    subst (λ (m : Candidate). Some (last_literals m) ≡ option_and_then without_constants
+    (slice_get (formula_clauses m) c.args.i)) c.self.view_is
     (range_clause (n.circuit.netlist.max_var + 1) (length n.formula.matrix) (omega arith)
     ∙ ap (option_and_then without_constants)
-    (last_found n c.deref-literals.result.now are c.args.i (some_clause_false n.circuit.netlist n.formula.matrix) (omega (arith, c.if-i-literals-2.true)) refl))
+    (last_found n c.deref-literals.result.now are c.args.i (some_clause_false n.circuit.netlist n.formula.matrix)
+    (omega (arith, c.if-i-literals-2.true)) refl))
 
 pub returns : goal.returns
 returns c =
     let n : Candidate = record { formula = c.self.inside.formula.now; circuit = c.self.inside.circuit } in
     let are = c.deref-literals.ensures.value ∙ c.self.invariant.are in
     ap (option_and_then without_constants)
-    (none_found n c.deref-literals.result.now are c.args.i (omega (arith, c.if-i-literals.false, c.if-i-literals-2.false))
+    (none_found n c.deref-literals.result.now are c.args.i (omega
+    (arith, c.if-i-literals.false, c.if-i-literals-2.false))
     ∙ ap (λ (m : Candidate). slice_get (formula_clauses m) c.args.i) c.self.view_is)

@@ -9,6 +9,7 @@ pub last_literal-requires : goal.last_literal-requires
 last_literal-requires c =
     let m = c.args.self.now in
     let last = ap (literals_of m) (sym c.in-Last.is) ∙ c.clause.ensures in
-    let below = place_below (last_literals m) c.args.i (subst (λ o. IsSome (literal_at o c.args.i)) (sym last) c.requires) in
+    let below = place_below (last_literals m) c.args.i (subst (λ o. IsSome (literal_at o c.args.i))
+    (sym last) c.requires) in
     let long = range_length (m.circuit.netlist.max_var + 1) (length m.formula.matrix) in
     omega (arith, below, long)

@@ -8,12 +8,14 @@ use Rattle.refutation_checker.proofs.judging.Judging.hint_all.Goals as goal
 
 pub returns-in_err-hint-clause-extends : goal.returns-in_err-hint-clause-extends
 returns-in_err-hint-clause-extends c =
-    then_extends (frame c.args.e.now) (names_in c.args.self.now.names) (names_in c.loop-id.self.names) (names_in c.hint.new.self.names) c.loop-id.invariant.extends
+    then_extends (frame c.args.e.now) (names_in c.args.self.now.names) (names_in c.loop-id.self.names)
+    (names_in c.hint.new.self.names) c.loop-id.invariant.extends
     c.hint.ensures.extends
 
 pub returns-then-is_faulty-clause-extends : goal.returns-then-is_faulty-clause-extends
 returns-then-is_faulty-clause-extends c =
-    then_extends (frame c.args.e.now) (names_in c.args.self.now.names) (names_in c.loop-id.self.names) (names_in c.hint.new.self.names) c.loop-id.invariant.extends
+    then_extends (frame c.args.e.now) (names_in c.args.self.now.names) (names_in c.loop-id.self.names)
+    (names_in c.hint.new.self.names) c.loop-id.invariant.extends
     c.hint.ensures.extends
 
 pub returns-then-is_faulty-clause-judged : goal.returns-then-is_faulty-clause-judged
@@ -23,12 +25,16 @@ returns-then-is_faulty-clause-judged c lines literals are behind begun =
     let after = c.hint.new.self in
     let held : AreLines x (names_in before.names) lines before.proving.lines =
     subst (AreLines x (names_in before.names) lines) (sym (ap (λ (p : ProofState). p.lines) c.loop-id.invariant.rest))
-    (lines_later x (names_in c.args.self.now.names) (names_in before.names) lines c.args.self.now.proving.lines c.requires.frame.whole c.loop-id.invariant.extends are) in
+    (lines_later x (names_in c.args.self.now.names) (names_in before.names) lines c.args.self.now.proving.lines
+    c.requires.frame.whole c.loop-id.invariant.extends are) in
     let left =
-    hints_next x (names_in before.names) (names_in after.names) lines literals c.args.hints.now before.proving.line after.proving.line c.loop-id.id-index _
+    hints_next x (names_in before.names) (names_in after.names) lines literals c.args.hints.now before.proving.line
+    after.proving.line c.loop-id.id-index _
     (drop_at c.args.hints.now c.loop-id.id-index 0 c.loop-id-test.true) c.hint.ensures.extends
-    (λ m later clauses. c.in_ok-hint.ensures.judged lines m held behind later clauses) (c.loop-id.invariant.judged lines literals are behind begun) in
-    hints_fault x (names_in after.names) lines literals c.args.hints.now after.proving.line (c.loop-id.id-index + 1) c.hint.ensures.names.naming c.requires.frame.bound
+    (λ m later clauses. c.in_ok-hint.ensures.judged lines m held behind later clauses)
+    (c.loop-id.invariant.judged lines literals are behind begun) in
+    hints_fault x (names_in after.names) lines literals c.args.hints.now after.proving.line
+    (c.loop-id.id-index + 1) c.hint.ensures.names.naming c.requires.frame.bound
     c.requires.frame.whole (sym c.is_faulty.ensures ∙ c.if-is_faulty.true) left
 
 pub loop-id-preserved : goal.loop-id-preserved
@@ -38,21 +44,28 @@ loop-id-preserved c =
     let after = c.hint.new.self in
     record {
       names = c.hint.ensures.names;
-      extends = then_extends x (names_in c.args.self.now.names) (names_in before.names) (names_in after.names) c.loop-id.invariant.extends c.hint.ensures.extends;
-      rest = c.hint.ensures.rest ∙ ap (λ (p : ProofState). record p { line = after.proving.line }) c.loop-id.invariant.rest;
+      extends = then_extends x (names_in c.args.self.now.names) (names_in before.names)
+          (names_in after.names) c.loop-id.invariant.extends c.hint.ensures.extends;
+      rest = c.hint.ensures.rest ∙ ap (λ (p : ProofState). record p { line = after.proving.line })
+          c.loop-id.invariant.rest;
       line = c.hint.ensures.line ∙ c.loop-id.invariant.line;
       judged = λ lines literals are behind begun.
           let held : AreLines x (names_in before.names) lines before.proving.lines =
-          subst (AreLines x (names_in before.names) lines) (sym (ap (λ (p : ProofState). p.lines) c.loop-id.invariant.rest))
-          (lines_later x (names_in c.args.self.now.names) (names_in before.names) lines c.args.self.now.proving.lines c.requires.frame.whole c.loop-id.invariant.extends are) in
-          hints_next x (names_in before.names) (names_in after.names) lines literals c.args.hints.now before.proving.line after.proving.line c.loop-id.id-index _
+          subst (AreLines x (names_in before.names) lines) (sym
+          (ap (λ (p : ProofState). p.lines) c.loop-id.invariant.rest))
+          (lines_later x (names_in c.args.self.now.names) (names_in before.names) lines c.args.self.now.proving.lines
+          c.requires.frame.whole c.loop-id.invariant.extends are) in
+          hints_next x (names_in before.names) (names_in after.names) lines literals c.args.hints.now
+          before.proving.line after.proving.line c.loop-id.id-index _
           (drop_at c.args.hints.now c.loop-id.id-index 0 c.loop-id-test.true) c.hint.ensures.extends
-          (λ m later clauses. c.in_ok-hint.ensures.judged lines m held behind later clauses) (c.loop-id.invariant.judged lines literals are behind begun);
+          (λ m later clauses. c.in_ok-hint.ensures.judged lines m held behind later clauses)
+          (c.loop-id.invariant.judged lines literals are behind begun);
     }
 
 pub returns-clause-judged : goal.returns-clause-judged
 returns-clause-judged c lines literals are behind begun =
     let x = frame c.args.e.now in
-    hints_end x (names_in c.loop-id.self.names) lines literals c.args.hints.now c.loop-id.self.proving.line c.loop-id.id-index c.loop-id.invariant.names.naming
+    hints_end x (names_in c.loop-id.self.names) lines literals c.args.hints.now c.loop-id.self.proving.line
+    c.loop-id.id-index c.loop-id.invariant.names.naming
     c.requires.frame.bound c.requires.frame.whole (drop_end c.args.hints.now c.loop-id.id-index c.loop-id-test.false)
     (c.loop-id.invariant.judged lines literals are behind begun)

@@ -19,23 +19,30 @@ returns-clause-judged c lines held behind =
     let second = names_in w.names in
     let third = names_in c.hint_all.new.self.names in
     let named_are : AreNamed x second (normal_literals x lits) named =
-    subst (λ (n : PairNames). AreNamed x (names_in n) (normal_literals x lits) named) (sym c.widen.ensures.names) c.in_ok-name_line.ensures.named in
+    subst (λ (n : PairNames). AreNamed x (names_in n) (normal_literals x lits) named)
+    (sym c.widen.ensures.names) c.in_ok-name_line.ensures.named in
     let are : AreLines x second lines c.begin.new.self.lines =
     subst (AreLines x second lines)
-    (sym (ap (λ (s : ProofState). s.lines) c.begin.ensures.rest ∙ ap (λ (s : ProofState). s.lines) c.widen.ensures.rest))
+    (sym (ap (λ (s : ProofState). s.lines) c.begin.ensures.rest ∙ ap
+    (λ (s : ProofState). s.lines) c.widen.ensures.rest))
     (subst (λ (n : PairNames). AreLines x (names_in n) lines c.args.self.now.proving.lines) (sym c.widen.ensures.names)
-    (lines_later x first (names_in c.name_line.new.names) lines c.args.self.now.proving.lines whole c.name_line.ensures.extends held.lines_are)) in
+    (lines_later x first (names_in c.name_line.new.names) lines c.args.self.now.proving.lines whole
+    c.name_line.ensures.extends held.lines_are)) in
     let judged =
     c.in_ok-hint_all.ensures.judged lines (normal_literals x lits) are behind
     (hints_begin x second lines (normal_literals x lits) named c.args.hints.now c.begin.new.self.line whole named_are
-    (λ clauses. c.in_ok-begin.ensures.judged clauses ∙ ap (λ ls. derive_line ls clauses) (c.deref.ensures.value ∙ c.widen.ensures.line))) in
+    (λ clauses. c.in_ok-begin.ensures.judged clauses ∙ ap (λ ls. derive_line ls clauses)
+    (c.deref.ensures.value ∙ c.widen.ensures.line))) in
     let same : p.lines ≡ c.begin.new.self.lines = ap (λ (s : ProofState). s.lines) c.hint_all.ensures.rest in
     let going : p.fault ≡ None =
-    ap (λ (s : ProofState). s.fault) c.hint_all.ensures.rest ∙ ap (λ (s : ProofState). s.fault) c.begin.ensures.rest ∙ ap (λ (s : ProofState). s.fault) c.widen.ensures.rest
+    ap (λ (s : ProofState). s.fault) c.hint_all.ensures.rest ∙ ap (λ (s : ProofState). s.fault) c.begin.ensures.rest
+    ∙ ap (λ (s : ProofState). s.fault) c.widen.ensures.rest
     ∙ held.going in
     subst (IsJudged x third lines c.args.id lits c.end.new.self) judged
     (line_judged x third lines c.args.id lits c.deref-2.result.now p c.end.new.self (is_derived_by p.line [])
-    (subst (AreLines x third lines) (sym same) (lines_later x second third lines c.begin.new.self.lines whole c.hint_all.ensures.extends are)) going
-    (subst (AreNamed x third (normal_literals x lits)) (sym (c.deref-2.ensures.value ∙ c.hint_all.ensures.line ∙ c.widen.ensures.line))
+    (subst (AreLines x third lines) (sym same) (lines_later x second third lines c.begin.new.self.lines whole
+    c.hint_all.ensures.extends are)) going
+    (subst (AreNamed x third (normal_literals x lits)) (sym (c.deref-2.ensures.value ∙ c.hint_all.ensures.line
+    ∙ c.widen.ensures.line))
     (named_later x second third (normal_literals x lits) named whole c.hint_all.ensures.extends named_are))
     c.in_ok-end.ensures.ok)

@@ -8,7 +8,8 @@ returns-in-Ok c =
     let numbers = c.args.self.now.numbers in
     let absent : has_number numbers c.args.number ≡ false = sym c.in_default.ensures.found in
     let more =
-    block_more numbers c.insert.new.self c.args.self.now.bases.items c.add_zeros.new.bases.items c.args.number c.requires.as_many absent c.in-Ok.ensures.numbers
+    block_more numbers c.insert.new.self c.args.self.now.bases.items c.add_zeros.new.bases.items c.args.number
+    c.requires.as_many absent c.in-Ok.ensures.numbers
     c.in_ok-add_zeros.ensures.ok in
     let block : c.len-block.result ≡ length numbers = c.len-block.ensures.value in
     let inside = more.2 in

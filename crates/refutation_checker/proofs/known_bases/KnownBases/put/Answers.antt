@@ -9,5 +9,7 @@ returns-clause-kept c =
     let inside = block.within in
     let long = block.as_many in
     let below = c.requires.place in
-    same_then_new c.args.self.now.numbers c.args.self.now.bases.items mid.numbers mid.bases.items mid.numbers _ c.args.number c.args.place c.args.base block.same
-    (put_kept mid.numbers mid.bases.items c.args.number c.in_ok-block.block c.args.place c.args.base block.place c.requires.place (omega (arith, inside, long, below)))
+    same_then_new c.args.self.now.numbers c.args.self.now.bases.items mid.numbers mid.bases.items mid.numbers _
+    c.args.number c.args.place c.args.base block.same
+    (put_kept mid.numbers mid.bases.items c.args.number c.in_ok-block.block c.args.place c.args.base block.place
+    c.requires.place (omega (arith, inside, long, below)))

@@ -7,7 +7,8 @@ returns-in_err-put-clause-names c =
     let names = c.in_ok-base.ensures.names in
     record {
       naming = names.naming;
-      kept = name_kept (frame c.args.e.now) (names_in c.name.new.self) c.name.new.self.known c.put.new.self c.args.set c.args.k c.in_ok-base.base c.requires.row names.kept
+      kept = name_kept (frame c.args.e.now) (names_in c.name.new.self) c.name.new.self.known c.put.new.self c.args.set
+          c.args.k c.in_ok-base.base c.requires.row names.kept
           c.in_err-put.ensures.as_many c.in_err-put.ensures.kept c.in_ok-base.ensures.base;
       small = names.small;
     }
@@ -17,7 +18,8 @@ returns-clause-names c =
     let names = c.in_ok-base.ensures.names in
     record {
       naming = names.naming;
-      kept = name_kept (frame c.args.e.now) (names_in c.name.new.self) c.name.new.self.known c.put.new.self c.args.set c.args.k c.in_ok-base.base c.requires.row names.kept
+      kept = name_kept (frame c.args.e.now) (names_in c.name.new.self) c.name.new.self.known c.put.new.self c.args.set
+          c.args.k c.in_ok-base.base c.requires.row names.kept
           c.in_ok-put.ensures.as_many c.in_ok-put.ensures.kept c.in_ok-base.ensures.base;
       small = names.small;
     }

@@ -9,8 +9,10 @@ returns c =
     let x = frame c.args.e.now in
     record {
       naming = no_names x (record { trees = c.in_ok-trees.trees.items; next = 1 })
-          (c.in_ok-trees.ensures ∙ ap (λ n. replicate n []) (c.len-count.ensures ∙ c.args.e.now.bindings.now.sets.ok.0)) refl;
-      kept = none_kept x (record { trees = c.in_ok-trees.trees.items; next = 1 }) c.new-known.result.numbers c.new-known.result.bases.items c.new-known.ensures.numbers
+          (c.in_ok-trees.ensures ∙ ap (λ n. replicate n []) (c.len-count.ensures
+          ∙ c.args.e.now.bindings.now.sets.ok.0)) refl;
+      kept = none_kept x (record { trees = c.in_ok-trees.trees.items; next = 1 }) c.new-known.result.numbers
+          c.new-known.result.bases.items c.new-known.ensures.numbers
           c.new-known.ensures.bases;
       small = omega arith;
     }

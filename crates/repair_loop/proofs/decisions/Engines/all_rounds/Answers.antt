@@ -10,7 +10,8 @@ use Rattle.repair_loop.proofs.decisions.Engines.all_rounds.Goals as goal
 pub returns-in-Refuted-clause-shown_false : goal.returns-in-Refuted-clause-shown_false
 returns-in-Refuted-clause-shown_false g c id e =
     let same : c.in-Refuted.id ≡ id = cc in
-    subst (IsShownFalse c.args.f.now c.find_candidates.new.log) same (c.find_candidates.ensures.refuted c.in-Refuted.id (c.in_ok-outputs.was ∙ ap Ok c.in-Refuted.is))
+    subst (IsShownFalse c.args.f.now c.find_candidates.new.log) same
+    (c.find_candidates.ensures.refuted c.in-Refuted.id (c.in_ok-outputs.was ∙ ap Ok c.in-Refuted.is))
 
 pub returns-in-Hold-clause-shown_true : goal.returns-in-Hold-clause-shown_true
 returns-in-Hold-clause-shown_true g c nodes id e =
@@ -24,45 +25,58 @@ pub add_row-requires-clause-table : goal.add_row-requires-clause-table
 add_row-requires-clause-table g c = (c.judge.ensures.fail c.in-Fail.row (c.in_ok-id.was ∙ ap Ok c.in-Fail.is)).table
 
 pub add_row-requires-clause-row_length : goal.add_row-requires-clause-row_length
-add_row-requires-clause-row_length g c = (c.judge.ensures.fail c.in-Fail.row (c.in_ok-id.was ∙ ap Ok c.in-Fail.is)).row_length
+add_row-requires-clause-row_length g c = (c.judge.ensures.fail c.in-Fail.row
+    (c.in_ok-id.was ∙ ap Ok c.in-Fail.is)).row_length
 
 pub add_row-requires-clause-few : goal.add_row-requires-clause-few
-add_row-requires-clause-few g c = let faults = (c.judge.ensures.fail c.in-Fail.row (c.in_ok-id.was ∙ ap Ok c.in-Fail.is)).faults in omega (arith, faults)
+add_row-requires-clause-few g c = let faults = (c.judge.ensures.fail c.in-Fail.row
+    (c.in_ok-id.was ∙ ap Ok c.in-Fail.is)).faults in omega (arith, faults)
 
 pub returns-in_err-add_row-in-Fail-clause-kept : goal.returns-in_err-add_row-in-Fail-clause-kept
 returns-in_err-add_row-in-Fail-clause-kept g c =
-    still_kept c.engines_leave_the_rest.ensures c.args.f.now instances c.judge.new.self.table.group true c.judge.new.log c.add_row.new.log
-    (c.add_row.ensures.grew c.judge.new.log.entries) (c.judge.ensures.fail c.in-Fail.row (c.in_ok-id.was ∙ ap Ok c.in-Fail.is)).kept
+    still_kept c.engines_leave_the_rest.ensures c.args.f.now instances c.judge.new.self.table.group true c.judge.new.log
+    c.add_row.new.log
+    (c.add_row.ensures.grew c.judge.new.log.entries) (c.judge.ensures.fail c.in-Fail.row
+    (c.in_ok-id.was ∙ ap Ok c.in-Fail.is)).kept
 
 pub returns-in_err-add_row-in-Fail-clause-limit_same : goal.returns-in_err-add_row-in-Fail-clause-limit_same
 returns-in_err-add_row-in-Fail-clause-limit_same g c =
-    (c.add_row.ensures.grew c.judge.new.log.entries).limit ∙ c.judge.ensures.grew.limit ∙ c.find_candidates.ensures.grew.limit ∙ c.loop-outputs.invariant.limit
+    (c.add_row.ensures.grew c.judge.new.log.entries).limit ∙ c.judge.ensures.grew.limit
+    ∙ c.find_candidates.ensures.grew.limit ∙ c.loop-outputs.invariant.limit
 
 pub returns-in_err-add_row-in-Fail-clause-undecided : goal.returns-in_err-add_row-in-Fail-clause-undecided
 returns-in_err-add_row-in-Fail-clause-undecided g c =
-    on_err _ _ (still_undecided c.engines_leave_the_rest.ensures c.args.f.now instances c.judge.new.self.table.group true c.judge.new.log c.add_row.new.log refl
-    (c.add_row.ensures.grew c.judge.new.log.entries) (c.judge.ensures.fail c.in-Fail.row (c.in_ok-id.was ∙ ap Ok c.in-Fail.is)).undecided)
+    on_err _ _ (still_undecided c.engines_leave_the_rest.ensures c.args.f.now instances c.judge.new.self.table.group
+    true c.judge.new.log c.add_row.new.log refl
+    (c.add_row.ensures.grew c.judge.new.log.entries) (c.judge.ensures.fail c.in-Fail.row
+    (c.in_ok-id.was ∙ ap Ok c.in-Fail.is)).undecided)
 
 pub loop-outputs-smaller : goal.loop-outputs-smaller
 loop-outputs-smaller g c =
     let was = c.in_ok-id.was ∙ ap Ok c.in-Fail.is in
-    fewer_left c.loop-outputs.log c.find_candidates.new.log c.judge.new.log c.add_row.new.log c.find_candidates.ensures.grew
+    fewer_left c.loop-outputs.log c.find_candidates.new.log c.judge.new.log c.add_row.new.log
+    c.find_candidates.ensures.grew
     (log_grew _ c.judge.new.log c.add_row.new.log (c.add_row.ensures.grew c.judge.new.log.entries)) c.judge.ensures.grew
     (c.judge.ensures.step c.in-Fail.row was) (c.judge.ensures.within c.in-Fail.row was)
 
 pub loop-outputs-preserved : goal.loop-outputs-preserved
 loop-outputs-preserved g c =
     let was = c.in_ok-id.was ∙ ap Ok c.in-Fail.is in
-    let found = c.find_candidates.ensures.search c.in-Candidates.outputs (c.in_ok-outputs.was ∙ ap Ok c.in-Candidates.is) in
+    let found = c.find_candidates.ensures.search c.in-Candidates.outputs
+    (c.in_ok-outputs.was ∙ ap Ok c.in-Candidates.is) in
     record {
       fit = c.add_row.ensures.fit;
-      search = after_row c.engines_leave_the_rest.ensures c.checkers_stay.ensures c.engines_leave_copies.ensures c.args.f.now c.find_candidates.new.graph c.judge.new.self.table c.add_row.new.self
-          c.judge.new.self.checker c.judge.new.self.definitions.padoa c.in-Fail.row c.judge.new.log c.add_row.new.log (c.judge.ensures.fail c.in-Fail.row was) (c.add_row.ensures.grew c.judge.new.log.entries)
+      search = after_row c.engines_leave_the_rest.ensures c.checkers_stay.ensures c.engines_leave_copies.ensures
+          c.args.f.now c.find_candidates.new.graph c.judge.new.self.table c.add_row.new.self
+          c.judge.new.self.checker c.judge.new.self.definitions.padoa c.in-Fail.row c.judge.new.log c.add_row.new.log
+          (c.judge.ensures.fail c.in-Fail.row was) (c.add_row.ensures.grew c.judge.new.log.entries)
           c.in_ok-add_row-in-Fail.ensures.table c.add_row.ensures.group found.inputs;
-      known = subst (λ (d : Definitions). AreKnown c.args.f.now d.ranks.items c.find_candidates.new.graph d.nodes.items d.rules.items d.guesses.items) (sym c.judge.ensures.definitions)
+      known = subst (λ (d : Definitions). AreKnown c.args.f.now d.ranks.items c.find_candidates.new.graph d.nodes.items
+          d.rules.items d.guesses.items) (sym c.judge.ensures.definitions)
           (c.find_candidates.ensures.known c.in-Candidates.outputs (c.in_ok-outputs.was ∙ ap Ok c.in-Candidates.is));
       inputs = c.find_candidates.ensures.extends.inputs ∙ c.loop-outputs.invariant.inputs;
-      limit = (c.add_row.ensures.grew c.judge.new.log.entries).limit ∙ c.judge.ensures.grew.limit ∙ c.find_candidates.ensures.grew.limit ∙ c.loop-outputs.invariant.limit;
+      limit = (c.add_row.ensures.grew c.judge.new.log.entries).limit ∙ c.judge.ensures.grew.limit
+          ∙ c.find_candidates.ensures.grew.limit ∙ c.loop-outputs.invariant.limit;
     }
 
 pub returns-in_err-outputs-clause-inputs : goal.returns-in_err-outputs-clause-inputs

@@ -7,7 +7,8 @@ abbrev pub invariant-loop-outputs : goal.invariant-loop-outputs
 invariant-loop-outputs g l = record {
   fit : g.O.Oracle.Fits l.oracle l.log;
   search : IsSearch l.f l.graph l.self.table l.self.checker l.self.definitions.padoa l.log.entries;
-  known : AreKnown l.f l.self.definitions.ranks.items l.graph l.self.definitions.nodes.items l.self.definitions.rules.items l.self.definitions.guesses.items;
+  known : AreKnown l.f l.self.definitions.ranks.items l.graph l.self.definitions.nodes.items
+      l.self.definitions.rules.items l.self.definitions.guesses.items;
   inputs : l.graph.inputs ≡ l.initial.graph.inputs;
   limit : l.log.limit ≡ l.initial.log.limit;
 }

@@ -8,26 +8,34 @@ use Rattle.repair_loop.proofs.definitions.Definitions.ask.Goals as goal
 
 pub read-requires-clause-existential : goal.read-requires-clause-existential
 read-requires-clause-existential g c =
-    let here = existential_there c.args.existential.now.f.now c.every_formula_is_lawful.ensures c.existentials.result.now c.existentials.ensures c.args.existential.now.place c.requires.place in
+    let here = existential_there c.args.existential.now.f.now c.every_formula_is_lawful.ensures
+    c.existentials.result.now c.existentials.ensures c.args.existential.now.place c.requires.place in
     rw here.2 refl
 
 pub define-requires-clause-existential : goal.define-requires-clause-existential
 define-requires-clause-existential g c =
-    let here = existential_there c.args.existential.now.f.now c.every_formula_is_lawful.ensures c.existentials.result.now c.existentials.ensures c.args.existential.now.place c.requires.place in
+    let here = existential_there c.args.existential.now.f.now c.every_formula_is_lawful.ensures
+    c.existentials.result.now c.existentials.ensures c.args.existential.now.place c.requires.place in
     rw here.2 refl
 
 pub returns-in-Some-clause-found : goal.returns-in-Some-clause-found
 returns-in-Some-clause-found g c e at =
-    let known = known_at c.args.existential.now.f.now c.every_formula_is_lawful.ensures c.existentials.result.now c.args.existential.now.place e c.existentials.ensures at in
-    subst (λ ranks. IsDefinition c.args.existential.now.f.now ranks c.read.new.graph e c.in-Some.node) c.deref.ensures.value (c.in_ok-node.ensures.gate e known c.in-Some.node c.in-Some.is)
+    let known = known_at c.args.existential.now.f.now c.every_formula_is_lawful.ensures c.existentials.result.now
+    c.args.existential.now.place e c.existentials.ensures at in
+    subst (λ ranks. IsDefinition c.args.existential.now.f.now ranks c.read.new.graph e c.in-Some.node)
+    c.deref.ensures.value (c.in_ok-node.ensures.gate e known c.in-Some.node c.in-Some.is)
 
 pub returns-clause-found : goal.returns-clause-found
 returns-clause-found g c e at =
-    let known = known_at c.args.existential.now.f.now c.every_formula_is_lawful.ensures c.existentials.result.now c.args.existential.now.place e c.existentials.ensures at in
-    subst (λ ranks. IsFound c.args.existential.now.f.now ranks c.define.new.graph e c.in_ok-found.found) c.deref-2.ensures.value (c.in_ok-found.ensures.found e known)
+    let known = known_at c.args.existential.now.f.now c.every_formula_is_lawful.ensures c.existentials.result.now
+    c.args.existential.now.place e c.existentials.ensures at in
+    subst (λ ranks. IsFound c.args.existential.now.f.now ranks c.define.new.graph e c.in_ok-found.found)
+    c.deref-2.ensures.value (c.in_ok-found.ensures.found e known)
 
 pub returns-in_err-found-clause-extends : goal.returns-in_err-found-clause-extends
-returns-in_err-found-clause-extends g c = extends-trans c.args.graph.now c.read.new.graph c.define.new.graph c.read.ensures.extends c.define.ensures.extends
+returns-in_err-found-clause-extends g c = extends-trans c.args.graph.now c.read.new.graph c.define.new.graph
+    c.read.ensures.extends c.define.ensures.extends
 
 pub returns-clause-extends : goal.returns-clause-extends
-returns-clause-extends g c = extends-trans c.args.graph.now c.read.new.graph c.define.new.graph c.read.ensures.extends c.define.ensures.extends
+returns-clause-extends g c = extends-trans c.args.graph.now c.read.new.graph c.define.new.graph c.read.ensures.extends
+    c.define.ensures.extends

@@ -7,25 +7,29 @@ use Rattle.repair_loop.proofs.Defined.{still_fresh, known_at, known_stays, exist
 use Rattle.repair_loop.proofs.definitions.Definitions.find.Goals as goal
 
 pub returns-in_err-found-clause-fresh : goal.returns-in_err-found-clause-fresh
-returns-in_err-found-clause-fresh g c = still_fresh c.engines_leave_the_rest.ensures c.args.existential.now.f.now c.args.log.now c.ask.new.log c.ask.ensures.grew c.requires.fresh
+returns-in_err-found-clause-fresh g c = still_fresh c.engines_leave_the_rest.ensures c.args.existential.now.f.now
+    c.args.log.now c.ask.new.log c.ask.ensures.grew c.requires.fresh
 
 pub returns-in_err-found-clause-limit_same : goal.returns-in_err-found-clause-limit_same
 returns-in_err-found-clause-limit_same g c = (c.ask.ensures.grew 0).limit
 
 pub returns-clause-fresh : goal.returns-clause-fresh
-returns-clause-fresh g c = still_fresh c.engines_leave_the_rest.ensures c.args.existential.now.f.now c.args.log.now c.ask.new.log c.ask.ensures.grew c.requires.fresh
+returns-clause-fresh g c = still_fresh c.engines_leave_the_rest.ensures c.args.existential.now.f.now c.args.log.now
+    c.ask.new.log c.ask.ensures.grew c.requires.fresh
 
 pub returns-clause-limit_same : goal.returns-clause-limit_same
 returns-clause-limit_same g c = (c.ask.ensures.grew 0).limit
 
 pub returns-in_err-learn-clause-fresh : goal.returns-in_err-learn-clause-fresh
-returns-in_err-learn-clause-fresh g c = still_fresh c.engines_leave_the_rest.ensures c.args.existential.now.f.now c.args.log.now c.ask.new.log c.ask.ensures.grew c.requires.fresh
+returns-in_err-learn-clause-fresh g c = still_fresh c.engines_leave_the_rest.ensures c.args.existential.now.f.now
+    c.args.log.now c.ask.new.log c.ask.ensures.grew c.requires.fresh
 
 pub returns-in_err-learn-clause-limit_same : goal.returns-in_err-learn-clause-limit_same
 returns-in_err-learn-clause-limit_same g c = (c.ask.ensures.grew 0).limit
 
 pub returns-in_default-clause-fresh : goal.returns-in_default-clause-fresh
-returns-in_default-clause-fresh g c = still_fresh c.engines_leave_the_rest.ensures c.args.existential.now.f.now c.args.log.now c.ask.new.log c.ask.ensures.grew c.requires.fresh
+returns-in_default-clause-fresh g c = still_fresh c.engines_leave_the_rest.ensures c.args.existential.now.f.now
+    c.args.log.now c.ask.new.log c.ask.ensures.grew c.requires.fresh
 
 pub returns-in_default-clause-limit_same : goal.returns-in_default-clause-limit_same
 returns-in_default-clause-limit_same g c = (c.ask.ensures.grew 0).limit
@@ -33,8 +37,10 @@ returns-in_default-clause-limit_same g c = (c.ask.ensures.grew 0).limit
 pub returns-in_default-clause-known : goal.returns-in_default-clause-known
 returns-in_default-clause-known g c =
     let f = c.args.existential.now.f.now in
-    subst (λ (d : Definitions). AreKnown f d.ranks.items c.ask.new.graph d.nodes.items d.rules.items d.guesses.items) (sym c.ask.ensures.same)
-    (known_stays f c.args.self.now.ranks.items c.args.graph.now c.ask.new.graph c.args.self.now.nodes.items c.args.self.now.rules.items c.args.self.now.guesses.items c.ask.ensures.extends c.requires.known)
+    subst (λ (d : Definitions). AreKnown f d.ranks.items c.ask.new.graph d.nodes.items d.rules.items d.guesses.items)
+    (sym c.ask.ensures.same)
+    (known_stays f c.args.self.now.ranks.items c.args.graph.now c.ask.new.graph c.args.self.now.nodes.items
+    c.args.self.now.rules.items c.args.self.now.guesses.items c.ask.ensures.extends c.requires.known)
 
 pub returns-clause-known : goal.returns-clause-known
 returns-clause-known g c =
@@ -46,13 +52,23 @@ returns-clause-known g c =
     let guesses = c.args.self.now.guesses.items in
     let found = c.in-Some.found in
     let lawful = c.every_formula_is_lawful.ensures in
-    let here = existential_there f lawful (existential_variables f) refl c.args.existential.now.place c.requires.place in
-    let still = known_stays f ranks c.args.graph.now graph before rules guesses c.ask.ensures.extends c.requires.known in
-    let known = known_at f ranks lawful.prefix graph c.args.existential.now.place here.0 before (definition_in found) rules guesses here.1
-    (found_defines f ranks graph here.0 found (subst (λ o. IfSome o (IsFound f ranks graph here.0)) c.in-Some.is (c.in_ok-found.ensures.found here.0 here.1))) still in
-    let kept = subst (λ (d : Definitions). AreKnown f d.ranks.items graph (set d.nodes.items c.args.existential.now.place (definition_in found)) d.rules.items d.guesses.items) (sym c.ask.ensures.same) known in
+    let here = existential_there f lawful (existential_variables f) refl c.args.existential.now.place
+    c.requires.place in
+    let still = known_stays f ranks c.args.graph.now graph before rules guesses c.ask.ensures.extends
+    c.requires.known in
+    let known = known_at f ranks lawful.prefix graph c.args.existential.now.place here.0 before
+    (definition_in found) rules guesses here.1
+    (found_defines f ranks graph here.0 found (subst (λ o. IfSome o (IsFound f ranks graph here.0)) c.in-Some.is
+    (c.in_ok-found.ensures.found here.0 here.1))) still in
+    let kept = subst (λ (d : Definitions). AreKnown f d.ranks.items graph
+    (set d.nodes.items c.args.existential.now.place (definition_in found)) d.rules.items d.guesses.items)
+    (sym c.ask.ensures.same) known in
     let put = set c.ask.new.self.nodes.items c.args.existential.now.place (definition_in found) in
-    subst (λ rs. AreKnown f rs graph c.note.new.self.nodes.items c.note.new.self.rules.items c.note.new.self.guesses.items) (sym c.note.ensures.ranks)
-    (subst (λ ns. AreKnown f c.ask.new.self.ranks.items graph ns c.note.new.self.rules.items c.note.new.self.guesses.items) (sym c.note.ensures.nodes)
-    (subst (λ rs. AreKnown f c.ask.new.self.ranks.items graph put rs c.note.new.self.guesses.items) (sym c.note.ensures.rules)
-    (subst (AreKnown f c.ask.new.self.ranks.items graph put c.ask.new.self.rules.items) (sym c.note.ensures.guesses) kept)))
+    subst (λ rs. AreKnown f rs graph c.note.new.self.nodes.items c.note.new.self.rules.items
+    c.note.new.self.guesses.items) (sym c.note.ensures.ranks)
+    (subst (λ ns. AreKnown f c.ask.new.self.ranks.items graph ns c.note.new.self.rules.items
+    c.note.new.self.guesses.items) (sym c.note.ensures.nodes)
+    (subst (λ rs. AreKnown f c.ask.new.self.ranks.items graph put rs c.note.new.self.guesses.items)
+    (sym c.note.ensures.rules)
+    (subst (AreKnown f c.ask.new.self.ranks.items graph put c.ask.new.self.rules.items)
+    (sym c.note.ensures.guesses) kept)))

@@ -28,7 +28,8 @@ loop-place-preserved g c =
     }
 
 pub returns-in_err-find-clause-extends : goal.returns-in_err-find-clause-extends
-returns-in_err-find-clause-extends g c = extends-trans c.args.graph.now c.loop-place.graph c.find.new.graph c.loop-place.invariant.extends c.find.ensures.extends
+returns-in_err-find-clause-extends g c = extends-trans c.args.graph.now c.loop-place.graph c.find.new.graph
+    c.loop-place.invariant.extends c.find.ensures.extends
 
 pub returns-in_err-find-clause-limit_same : goal.returns-in_err-find-clause-limit_same
 returns-in_err-find-clause-limit_same g c = c.find.ensures.limit_same ∙ c.loop-place.invariant.limit

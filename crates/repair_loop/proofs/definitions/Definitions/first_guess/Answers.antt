@@ -22,27 +22,34 @@ loop-number-preserved g c = record {
   fresh = c.guess_under.ensures.fresh;
   padoa = c.guess_under.ensures.padoa;
   limit = c.guess_under.ensures.limit_same ∙ c.loop-number.invariant.limit;
-  extends = extends-trans c.args.graph.now c.loop-number.graph c.guess_under.new.graph c.loop-number.invariant.extends c.guess_under.ensures.extends;
-  left = left-trans c.args.self.now c.loop-number.self c.guess_under.new.self c.loop-number.invariant.left c.guess_under.ensures.left;
+  extends = extends-trans c.args.graph.now c.loop-number.graph c.guess_under.new.graph c.loop-number.invariant.extends
+      c.guess_under.ensures.extends;
+  left = left-trans c.args.self.now c.loop-number.self c.guess_under.new.self c.loop-number.invariant.left
+      c.guess_under.ensures.left;
 }
 
 pub returns-in_err-guess-clause-limit_same : goal.returns-in_err-guess-clause-limit_same
 returns-in_err-guess-clause-limit_same g c = c.guess_under.ensures.limit_same ∙ c.loop-number.invariant.limit
 
 pub returns-in_err-guess-clause-extends : goal.returns-in_err-guess-clause-extends
-returns-in_err-guess-clause-extends g c = extends-trans c.args.graph.now c.loop-number.graph c.guess_under.new.graph c.loop-number.invariant.extends c.guess_under.ensures.extends
+returns-in_err-guess-clause-extends g c = extends-trans c.args.graph.now c.loop-number.graph c.guess_under.new.graph
+    c.loop-number.invariant.extends c.guess_under.ensures.extends
 
 pub returns-in_err-guess-clause-left : goal.returns-in_err-guess-clause-left
-returns-in_err-guess-clause-left g c = left-trans c.args.self.now c.loop-number.self c.guess_under.new.self c.loop-number.invariant.left c.guess_under.ensures.left
+returns-in_err-guess-clause-left g c = left-trans c.args.self.now c.loop-number.self c.guess_under.new.self
+    c.loop-number.invariant.left c.guess_under.ensures.left
 
 pub returns-in-Some-clause-limit_same : goal.returns-in-Some-clause-limit_same
 returns-in-Some-clause-limit_same g c = c.guess_under.ensures.limit_same ∙ c.loop-number.invariant.limit
 
 pub returns-in-Some-clause-extends : goal.returns-in-Some-clause-extends
-returns-in-Some-clause-extends g c = extends-trans c.args.graph.now c.loop-number.graph c.guess_under.new.graph c.loop-number.invariant.extends c.guess_under.ensures.extends
+returns-in-Some-clause-extends g c = extends-trans c.args.graph.now c.loop-number.graph c.guess_under.new.graph
+    c.loop-number.invariant.extends c.guess_under.ensures.extends
 
 pub returns-in-Some-clause-left : goal.returns-in-Some-clause-left
-returns-in-Some-clause-left g c = left-trans c.args.self.now c.loop-number.self c.guess_under.new.self c.loop-number.invariant.left c.guess_under.ensures.left
+returns-in-Some-clause-left g c = left-trans c.args.self.now c.loop-number.self c.guess_under.new.self
+    c.loop-number.invariant.left c.guess_under.ensures.left
 
 pub returns-in-Some-clause-guess : goal.returns-in-Some-clause-guess
-returns-in-Some-clause-guess g c e at = guess_at c.args.existential.now.f.now c.guess_under.new.graph e c.in_ok-guess.guess (c.in_ok-guess.ensures.guess e at) c.in-Some.node c.in-Some.is
+returns-in-Some-clause-guess g c e at = guess_at c.args.existential.now.f.now c.guess_under.new.graph e
+    c.in_ok-guess.guess (c.in_ok-guess.ensures.guess e at) c.in-Some.node c.in-Some.is

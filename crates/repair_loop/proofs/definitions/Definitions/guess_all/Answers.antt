@@ -9,7 +9,9 @@ guess_each-requires-clause-known g c =
     let d = c.args.self.now in
     let graph = c.args.graph.now in
     let guesses = c.in_ok-self.field-0.items in
-    let many : length c.existentials.result.now ≡ length f.existentials = ap length c.existentials.ensures ∙ length-map f.existentials (λ y. y.variable) in
+    let many : length c.existentials.result.now ≡ length f.existentials =
+    ap length c.existentials.ensures ∙ length-map f.existentials (λ y. y.variable) in
     let none = c.in_ok-self.ensures ∙ ap (λ n. replicate n None) many in
     left_known f graph _ c.find_conditions.new.self c.find_conditions.ensures.left
-    (with_guesses f d.ranks.items graph d.nodes.items d.rules.items d.guesses.items guesses c.requires.known (nothing_guessed f graph guesses none))
+    (with_guesses f d.ranks.items graph d.nodes.items d.rules.items d.guesses.items guesses c.requires.known
+    (nothing_guessed f graph guesses none))

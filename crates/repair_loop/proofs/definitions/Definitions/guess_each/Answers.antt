@@ -27,7 +27,8 @@ loop-place-preserved g c =
     let d = c.guess.new.self in
     let left = c.guess.ensures.left in
     let lawful = c.every_formula_is_lawful.ensures in
-    let many : length c.existentials-place-end.result.now ≡ length f.existentials = ap length c.existentials-place-end.ensures ∙ length-map f.existentials (λ y. y.variable) in
+    let many : length c.existentials-place-end.result.now ≡ length f.existentials =
+    ap length c.existentials-place-end.ensures ∙ length-map f.existentials (λ y. y.variable) in
     let inside : place < length f.existentials = omega (arith, c.loop-place-test.true, many) in
     let here = existential_there f lawful (existential_variables f) refl place inside in
     let graph = c.guess.new.graph in
@@ -39,13 +40,16 @@ loop-place-preserved g c =
       padoa = c.guess.ensures.padoa;
       limit = c.guess.ensures.limit_same ∙ inv.limit;
       extends = extends-trans c.args.graph.now c.loop-place.graph graph inv.extends c.guess.ensures.extends;
-      known = guess_known f d.ranks.items lawful.prefix c.loop-place.graph graph place here.0 d.nodes.items d.rules.items d.guesses.items guess c.guess.ensures.extends as_many here.1
-          (c.in_ok-self.ensures.guess here.0 here.1) (left_known f c.loop-place.graph c.loop-place.self d left inv.known);
+      known = guess_known f d.ranks.items lawful.prefix c.loop-place.graph graph place here.0 d.nodes.items
+          d.rules.items d.guesses.items guess c.guess.ensures.extends as_many here.1
+          (c.in_ok-self.ensures.guess here.0 here.1) (left_known f c.loop-place.graph c.loop-place.self d left
+          inv.known);
       many = length-set d.guesses.items place guess ∙ as_many;
     }
 
 pub returns-in_err-self-clause-extends : goal.returns-in_err-self-clause-extends
-returns-in_err-self-clause-extends g c = extends-trans c.args.graph.now c.loop-place.graph c.guess.new.graph c.loop-place.invariant.extends c.guess.ensures.extends
+returns-in_err-self-clause-extends g c = extends-trans c.args.graph.now c.loop-place.graph c.guess.new.graph
+    c.loop-place.invariant.extends c.guess.ensures.extends
 
 pub returns-in_err-self-clause-limit_same : goal.returns-in_err-self-clause-limit_same
 returns-in_err-self-clause-limit_same g c = c.guess.ensures.limit_same ∙ c.loop-place.invariant.limit

@@ -6,4 +6,5 @@ use Rattle.repair_loop.proofs.definitions.Definitions.keep.Goals as goal
 
 pub returns-in-Rule-clause-rules : goal.returns-in-Rule-clause-rules
 returns-in-Rule-clause-rules c f is all =
-    subst (All (IsRule f)) (sym c.in_ok-push-in-Rule.ensures.items) (All-push (IsRule f) c.args.self.now.rules.items c.in-Rule.rule all (is c.in-Rule.rule c.in-Rule.is))
+    subst (All (IsRule f)) (sym c.in_ok-push-in-Rule.ensures.items)
+    (All-push (IsRule f) c.args.self.now.rules.items c.in-Rule.rule all (is c.in-Rule.rule c.in-Rule.is))
