@@ -42,10 +42,10 @@ pub returns-in_err-find_all-clause-limit_same : goal.returns-in_err-find_all-cla
 returns-in_err-find_all-clause-limit_same g c = c.find_all.ensures.limit_same ∙ (c.new.ensures.grew 0).limit
 
 pub returns-clause-limit_same : goal.returns-clause-limit_same
-returns-clause-limit_same g c = c.guess_all.ensures.limit_same ∙ c.find_all.ensures.limit_same ∙ (c.new.ensures.grew 0).limit
+returns-clause-limit_same g c = c.guess_all.ensures.asked.limit_same ∙ c.find_all.ensures.limit_same ∙ (c.new.ensures.grew 0).limit
 
 pub returns-in_err-guess_all-clause-limit_same : goal.returns-in_err-guess_all-clause-limit_same
-returns-in_err-guess_all-clause-limit_same g c = c.guess_all.ensures.limit_same ∙ c.find_all.ensures.limit_same ∙ (c.new.ensures.grew 0).limit
+returns-in_err-guess_all-clause-limit_same g c = c.guess_all.ensures.asked.limit_same ∙ c.find_all.ensures.limit_same ∙ (c.new.ensures.grew 0).limit
 
 pub returns-in_err-gates-clause-fresh : goal.returns-in_err-gates-clause-fresh
 returns-in_err-gates-clause-fresh g c = still_fresh c.engines_leave_the_rest.ensures c.args.f.now c.args.log.now c.new.new.log c.new.ensures.grew c.requires.fresh
@@ -60,7 +60,15 @@ pub returns-in_err-set_order-clause-limit_same : goal.returns-in_err-set_order-c
 returns-in_err-set_order-clause-limit_same g c = (c.new.ensures.grew 0).limit
 
 pub returns-in_err-guess_all-clause-extends : goal.returns-in_err-guess_all-clause-extends
-returns-in_err-guess_all-clause-extends g c = extends-trans c.args.graph.now c.find_all.new.graph c.guess_all.new.graph c.find_all.ensures.extends c.guess_all.ensures.extends
+returns-in_err-guess_all-clause-extends g c = extends-trans c.args.graph.now c.find_all.new.graph c.guess_all.new.graph c.find_all.ensures.extends c.guess_all.ensures.asked.extends
 
 pub returns-clause-extends : goal.returns-clause-extends
-returns-clause-extends g c = extends-trans c.args.graph.now c.find_all.new.graph c.guess_all.new.graph c.find_all.ensures.extends c.guess_all.ensures.extends
+returns-clause-extends g c = extends-trans c.args.graph.now c.find_all.new.graph c.guess_all.new.graph c.find_all.ensures.extends c.guess_all.ensures.asked.extends
+
+pub guess_all-requires-clause-may : goal.guess_all-requires-clause-may
+guess_all-requires-clause-may g c = record {
+  formula = c.requires.formula;
+  fresh = c.find_all.ensures.fresh;
+  padoa = c.in_ok-find_all.ensures.padoa;
+  inputs = c.find_all.ensures.extends.inputs ∙ c.requires.inputs;
+}
