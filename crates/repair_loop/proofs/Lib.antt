@@ -3,6 +3,7 @@ mod UniversalClauses
 mod Extends
 mod Stages
 mod Defined
+mod Asked
 mod ConsistentConditions
 mod UniversalInputs
 mod Stops

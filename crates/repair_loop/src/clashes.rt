@@ -8,7 +8,7 @@ ghost use Rattle.oracle.specs.Limits.{IsAtSomeLimit};
 ghost use Rattle.padoa_definitions.specs.Copies.{IsPadoa};
 ghost use Rattle.candidate_functions.specs.Candidates.{IsGuess};
 ghost use Rattle.repair_loop.specs.Searching.{IsFresh, HasInputs};
-ghost use Rattle.repair_loop.specs.Guessing.{AreConditions, LeavesKnown};
+ghost use Rattle.repair_loop.specs.Guessing.{AreConditions, HasAsked, LeavesKnown, MayAsk};
 
 use crate::definitions::Definitions;
 use crate::lawful_conditions::row_conditions;
@@ -33,18 +33,12 @@ impl Definitions {
         log: &mut Log,
     ) -> Result<Option<Node>, Stop>
         requires fit { O.Fits oracle.old log.old }
-        requires formula { IsWellFormed f.now }
-        requires fresh { IsFresh f.now log.old.entries }
-        requires padoa { IsPadoa f.now self.old.padoa log.old.entries }
-        requires inputs { HasInputs f.now graph.old }
+        requires may { MayAsk f.now graph.old self.old.padoa log.old.entries }
         requires existential { IsSome (existential_of f.now y) }
         requires conditions { AreConditions f.now y conditions.now }
         ensures fit { O.Fits oracle.new log.new }
-        ensures fresh { IsFresh f.now log.new.entries }
-        ensures limit_same { log.new.limit ≡ log.old.limit }
-        ensures extends { Extends graph.old graph.new }
+        ensures asked { HasAsked f.now graph.old graph.new self.new.padoa log.old log.new }
         ensures left { LeavesKnown self.old self.new }
-        ensures padoa { IsPadoa f.now self.new.padoa log.new.entries }
         ensures guess { (e : Existential) → existential_of f.now y ≡ Some e
             → IfOk result (λ guess. IfSome guess (IsGuess f.now graph.new e)) }
         ensures limit { IsErrOf result Stop.Limit → IsAtSomeLimit log.new }
@@ -71,17 +65,11 @@ impl Definitions {
         log: &mut Log,
     ) -> Result<(), Stop>
         requires fit { O.Fits oracle.old log.old }
-        requires formula { IsWellFormed f.now }
-        requires fresh { IsFresh f.now log.old.entries }
-        requires padoa { IsPadoa f.now self.old.padoa log.old.entries }
-        requires inputs { HasInputs f.now graph.old }
+        requires may { MayAsk f.now graph.old self.old.padoa log.old.entries }
         requires existential { IsSome (existential_of f.now y) }
         ensures fit { O.Fits oracle.new log.new }
-        ensures fresh { IsFresh f.now log.new.entries }
-        ensures limit_same { log.new.limit ≡ log.old.limit }
-        ensures extends { Extends graph.old graph.new }
+        ensures asked { HasAsked f.now graph.old graph.new self.new.padoa log.old log.new }
         ensures left { LeavesKnown self.old self.new }
-        ensures padoa { IsPadoa f.now self.new.padoa log.new.entries }
         ensures limit { IsErrOf result Stop.Limit → IsAtSomeLimit log.new }
     {
         if !self.is_fixed(oracle, graph, f, y, &pair.row1, log)? {
@@ -105,17 +93,11 @@ impl Definitions {
         log: &mut Log,
     ) -> Result<bool, Stop>
         requires fit { O.Fits oracle.old log.old }
-        requires formula { IsWellFormed f.now }
-        requires fresh { IsFresh f.now log.old.entries }
-        requires padoa { IsPadoa f.now self.old.padoa log.old.entries }
-        requires inputs { HasInputs f.now graph.old }
+        requires may { MayAsk f.now graph.old self.old.padoa log.old.entries }
         requires existential { IsSome (existential_of f.now y) }
         ensures fit { O.Fits oracle.new log.new }
-        ensures fresh { IsFresh f.now log.new.entries }
-        ensures limit_same { log.new.limit ≡ log.old.limit }
-        ensures extends { Extends graph.old graph.new }
+        ensures asked { HasAsked f.now graph.old graph.new self.new.padoa log.old log.new }
         ensures left { LeavesKnown self.old self.new }
-        ensures padoa { IsPadoa f.now self.new.padoa log.new.entries }
         ensures limit { IsErrOf result Stop.Limit → IsAtSomeLimit log.new }
     {
         engines_leave_the_rest();

@@ -7,6 +7,7 @@ ghost use Rattle.hint_log.specs.Growth.{Grew};
 ghost use Rattle.log_laws.specs.Engines.{copies, HasNone, IsAddedBy};
 ghost use Rattle.padoa_definitions.specs.Copies.{IsPadoa};
 ghost use Rattle.padoa_definitions.specs.Defining.{IsFound};
+ghost use Rattle.repair_loop.specs.Guessing.{HasAsked, MayAsk};
 ghost use Rattle.repair_loop.specs.Searching.{IsFresh, HasInputs, AreKnown, definition_in};
 ghost use Rattle.oracle.specs.Limits.{IsAtSomeLimit};
 
@@ -97,18 +98,12 @@ impl Definitions {
         log: &mut Log,
     ) -> Result<(), Stop>
         requires fit { O.Fits oracle.old log.old }
-        requires formula { IsWellFormed order.now.f.now }
-        requires fresh { IsFresh order.now.f.now log.old.entries }
-        requires padoa { IsPadoa order.now.f.now self.old.padoa log.old.entries }
-        requires inputs { HasInputs order.now.f.now graph.old }
+        requires may { MayAsk order.now.f.now graph.old self.old.padoa log.old.entries }
         requires known { AreKnown order.now.f.now self.old.ranks.items graph.old
             self.old.nodes.items self.old.rules.items self.old.guesses.items }
         requires places { All (λ p. p < length order.now.f.now.existentials) order.now.places.now }
         ensures fit { O.Fits oracle.new log.new }
-        ensures fresh { IsFresh order.now.f.now log.new.entries }
-        ensures limit_same { log.new.limit ≡ log.old.limit }
-        ensures extends { Extends graph.old graph.new }
-        ensures padoa { OnOk result (IsPadoa order.now.f.now self.new.padoa log.new.entries) }
+        ensures asked { HasAsked order.now.f.now graph.old graph.new self.new.padoa log.old log.new }
         ensures known { OnOk result (AreKnown order.now.f.now self.new.ranks.items graph.new
             self.new.nodes.items self.new.rules.items self.new.guesses.items) }
         ensures limit { IsErrOf result Stop.Limit → IsAtSomeLimit log.new }
@@ -129,18 +124,12 @@ impl Definitions {
         log: &mut Log,
     ) -> Result<(), Stop>
         requires fit { O.Fits oracle.old log.old }
-        requires formula { IsWellFormed existential.now.f.now }
-        requires fresh { IsFresh existential.now.f.now log.old.entries }
-        requires padoa { IsPadoa existential.now.f.now self.old.padoa log.old.entries }
-        requires inputs { HasInputs existential.now.f.now graph.old }
+        requires may { MayAsk existential.now.f.now graph.old self.old.padoa log.old.entries }
         requires known { AreKnown existential.now.f.now self.old.ranks.items graph.old
             self.old.nodes.items self.old.rules.items self.old.guesses.items }
         requires place { existential.now.place < length existential.now.f.now.existentials }
         ensures fit { O.Fits oracle.new log.new }
-        ensures fresh { IsFresh existential.now.f.now log.new.entries }
-        ensures limit_same { log.new.limit ≡ log.old.limit }
-        ensures extends { Extends graph.old graph.new }
-        ensures padoa { OnOk result (IsPadoa existential.now.f.now self.new.padoa log.new.entries) }
+        ensures asked { HasAsked existential.now.f.now graph.old graph.new self.new.padoa log.old log.new }
         ensures known { OnOk result (AreKnown existential.now.f.now self.new.ranks.items graph.new
             self.new.nodes.items self.new.rules.items self.new.guesses.items) }
         ensures limit { IsErrOf result Stop.Limit → IsAtSomeLimit log.new }

@@ -9,7 +9,7 @@ ghost use Rattle.oracle.specs.Limits.{IsAtSomeLimit};
 ghost use Rattle.padoa_definitions.specs.Copies.{IsPadoa};
 ghost use Rattle.candidate_functions.specs.Candidates.{IsGuess};
 ghost use Rattle.repair_loop.specs.Searching.{IsFresh, HasInputs, AreKnown};
-ghost use Rattle.repair_loop.specs.Guessing.{AreConditions, LeavesKnown};
+ghost use Rattle.repair_loop.specs.Guessing.{AreConditions, HasAsked, LeavesKnown, MayAsk};
 
 use crate::conditions::MOST_SETS;
 use crate::definitions::{Definitions, ExistentialAt, no_nodes};
@@ -34,17 +34,11 @@ impl Definitions {
         log: &mut Log,
     ) -> Result<(), Stop>
         requires fit { O.Fits oracle.old log.old }
-        requires formula { IsWellFormed f.now }
-        requires fresh { IsFresh f.now log.old.entries }
-        requires padoa { IsPadoa f.now self.old.padoa log.old.entries }
-        requires inputs { HasInputs f.now graph.old }
+        requires may { MayAsk f.now graph.old self.old.padoa log.old.entries }
         requires known { AreKnown f.now self.old.ranks.items graph.old self.old.nodes.items
             self.old.rules.items self.old.guesses.items }
         ensures fit { O.Fits oracle.new log.new }
-        ensures fresh { IsFresh f.now log.new.entries }
-        ensures limit_same { log.new.limit ≡ log.old.limit }
-        ensures extends { Extends graph.old graph.new }
-        ensures padoa { IsPadoa f.now self.new.padoa log.new.entries }
+        ensures asked { HasAsked f.now graph.old graph.new self.new.padoa log.old log.new }
         ensures known { OnOk result (AreKnown f.now self.new.ranks.items graph.new
             self.new.nodes.items self.new.rules.items self.new.guesses.items) }
         ensures limit { IsErrOf result Stop.Limit → IsAtSomeLimit log.new }
@@ -76,18 +70,12 @@ impl Definitions {
         log: &mut Log,
     ) -> Result<(), Stop>
         requires fit { O.Fits oracle.old log.old }
-        requires formula { IsWellFormed f.now }
-        requires fresh { IsFresh f.now log.old.entries }
-        requires padoa { IsPadoa f.now self.old.padoa log.old.entries }
-        requires inputs { HasInputs f.now graph.old }
+        requires may { MayAsk f.now graph.old self.old.padoa log.old.entries }
         requires known { AreKnown f.now self.old.ranks.items graph.old self.old.nodes.items
             self.old.rules.items self.old.guesses.items }
         requires many { length self.old.guesses.items ≡ length f.now.existentials }
         ensures fit { O.Fits oracle.new log.new }
-        ensures fresh { IsFresh f.now log.new.entries }
-        ensures limit_same { log.new.limit ≡ log.old.limit }
-        ensures extends { Extends graph.old graph.new }
-        ensures padoa { IsPadoa f.now self.new.padoa log.new.entries }
+        ensures asked { HasAsked f.now graph.old graph.new self.new.padoa log.old log.new }
         ensures known { OnOk result (AreKnown f.now self.new.ranks.items graph.new
             self.new.nodes.items self.new.rules.items self.new.guesses.items) }
         ensures limit { IsErrOf result Stop.Limit → IsAtSomeLimit log.new }
@@ -109,17 +97,11 @@ impl Definitions {
         log: &mut Log,
     ) -> Result<Option<Node>, Stop>
         requires fit { O.Fits oracle.old log.old }
-        requires formula { IsWellFormed existential.now.f.now }
-        requires fresh { IsFresh existential.now.f.now log.old.entries }
-        requires padoa { IsPadoa existential.now.f.now self.old.padoa log.old.entries }
-        requires inputs { HasInputs existential.now.f.now graph.old }
+        requires may { MayAsk existential.now.f.now graph.old self.old.padoa log.old.entries }
         requires place { existential.now.place < length existential.now.f.now.existentials }
         ensures fit { O.Fits oracle.new log.new }
-        ensures fresh { IsFresh existential.now.f.now log.new.entries }
-        ensures limit_same { log.new.limit ≡ log.old.limit }
-        ensures extends { Extends graph.old graph.new }
+        ensures asked { HasAsked existential.now.f.now graph.old graph.new self.new.padoa log.old log.new }
         ensures left { LeavesKnown self.old self.new }
-        ensures padoa { IsPadoa existential.now.f.now self.new.padoa log.new.entries }
         ensures guess { (e : Existential)
             → slice_get existential.now.f.now.existentials existential.now.place ≡ Some e
             → IfOk result (λ guess. IfSome guess (IsGuess existential.now.f.now graph.new e)) }
@@ -150,17 +132,11 @@ impl Definitions {
         log: &mut Log,
     ) -> Result<Option<Node>, Stop>
         requires fit { O.Fits oracle.old log.old }
-        requires formula { IsWellFormed existential.now.f.now }
-        requires fresh { IsFresh existential.now.f.now log.old.entries }
-        requires padoa { IsPadoa existential.now.f.now self.old.padoa log.old.entries }
-        requires inputs { HasInputs existential.now.f.now graph.old }
+        requires may { MayAsk existential.now.f.now graph.old self.old.padoa log.old.entries }
         requires place { existential.now.place < length existential.now.f.now.existentials }
         ensures fit { O.Fits oracle.new log.new }
-        ensures fresh { IsFresh existential.now.f.now log.new.entries }
-        ensures limit_same { log.new.limit ≡ log.old.limit }
-        ensures extends { Extends graph.old graph.new }
+        ensures asked { HasAsked existential.now.f.now graph.old graph.new self.new.padoa log.old log.new }
         ensures left { LeavesKnown self.old self.new }
-        ensures padoa { IsPadoa existential.now.f.now self.new.padoa log.new.entries }
         ensures guess { (e : Existential)
             → slice_get existential.now.f.now.existentials existential.now.place ≡ Some e
             → IfOk result (λ guess. IfSome guess (IsGuess existential.now.f.now graph.new e)) }
@@ -185,17 +161,11 @@ impl Definitions {
         log: &mut Log,
     ) -> Result<Option<Node>, Stop>
         requires fit { O.Fits oracle.old log.old }
-        requires formula { IsWellFormed existential.now.f.now }
-        requires fresh { IsFresh existential.now.f.now log.old.entries }
-        requires padoa { IsPadoa existential.now.f.now self.old.padoa log.old.entries }
-        requires inputs { HasInputs existential.now.f.now graph.old }
+        requires may { MayAsk existential.now.f.now graph.old self.old.padoa log.old.entries }
         requires place { existential.now.place < length existential.now.f.now.existentials }
         ensures fit { O.Fits oracle.new log.new }
-        ensures fresh { IsFresh existential.now.f.now log.new.entries }
-        ensures limit_same { log.new.limit ≡ log.old.limit }
-        ensures extends { Extends graph.old graph.new }
+        ensures asked { HasAsked existential.now.f.now graph.old graph.new self.new.padoa log.old log.new }
         ensures left { LeavesKnown self.old self.new }
-        ensures padoa { IsPadoa existential.now.f.now self.new.padoa log.new.entries }
         ensures guess { (e : Existential)
             → slice_get existential.now.f.now.existentials existential.now.place ≡ Some e
             → IfOk result (λ guess. IfSome guess (IsGuess existential.now.f.now graph.new e)) }
@@ -223,18 +193,12 @@ impl Definitions {
         log: &mut Log,
     ) -> Result<Option<Node>, Stop>
         requires fit { O.Fits oracle.old log.old }
-        requires formula { IsWellFormed f.now }
-        requires fresh { IsFresh f.now log.old.entries }
-        requires padoa { IsPadoa f.now self.old.padoa log.old.entries }
-        requires inputs { HasInputs f.now graph.old }
+        requires may { MayAsk f.now graph.old self.old.padoa log.old.entries }
         requires existential { IsSome (existential_of f.now y) }
         requires conditions { AreConditions f.now y conditions.now }
         ensures fit { O.Fits oracle.new log.new }
-        ensures fresh { IsFresh f.now log.new.entries }
-        ensures limit_same { log.new.limit ≡ log.old.limit }
-        ensures extends { Extends graph.old graph.new }
+        ensures asked { HasAsked f.now graph.old graph.new self.new.padoa log.old log.new }
         ensures left { LeavesKnown self.old self.new }
-        ensures padoa { IsPadoa f.now self.new.padoa log.new.entries }
         ensures guess { (e : Existential) → existential_of f.now y ≡ Some e
             → IfOk result (λ guess. IfSome guess (IsGuess f.now graph.new e)) }
         ensures limit { IsErrOf result Stop.Limit → IsAtSomeLimit log.new }

@@ -2,6 +2,7 @@ use Rattle.std.proofs.Common.{◌∙◌, ◌<◌, ap, sym, subst, arith, length}
 use Rattle.std.specs.List.{All}
 use Rattle.std.proofs.lemmas.List.Elements.{Contains-get_or}
 use Rattle.candidate_functions.proofs.LargerGraphs.{extends-trans}
+use Rattle.padoa_definitions.specs.Copies.{IsPadoa}
 use Rattle.repair_loop.proofs.Defined.{still_fresh}
 use Rattle.repair_loop.proofs.definitions.find_definitions.Goals as goal
 
@@ -29,9 +30,15 @@ returns-in_err-order-clause-fresh g c = still_fresh c.engines_leave_the_rest.ens
 pub returns-in_err-order-clause-limit_same : goal.returns-in_err-order-clause-limit_same
 returns-in_err-order-clause-limit_same g c = (c.new.ensures.grew 0).limit
 
-pub find_all-requires-clause-fresh : goal.find_all-requires-clause-fresh
-find_all-requires-clause-fresh g c = still_fresh c.engines_leave_the_rest.ensures c.args.f.now c.args.log.now
-    c.new.new.log c.new.ensures.grew c.requires.fresh
+pub find_all-requires-clause-may : goal.find_all-requires-clause-may
+find_all-requires-clause-may g c = record {
+  formula = c.requires.formula;
+  fresh = still_fresh c.engines_leave_the_rest.ensures c.args.f.now c.args.log.now c.new.new.log c.new.ensures.grew
+      c.requires.fresh;
+  padoa = subst (λ p. IsPadoa c.args.f.now p c.new.new.log.entries)
+      (sym c.in_ok-definitions.ensures.padoa) c.in_ok-padoa.ensures.made;
+  inputs = c.requires.inputs;
+}
 
 pub find_all-requires-clause-known : goal.find_all-requires-clause-known
 find_all-requires-clause-known g c = c.in_ok-definitions.ensures.known c.args.graph.now
@@ -44,15 +51,15 @@ find_all-requires-clause-places g c =
     subst (All (λ p. p < length c.args.f.now.existentials)) (sym c.deref-3.ensures.value) each
 
 pub returns-in_err-find_all-clause-limit_same : goal.returns-in_err-find_all-clause-limit_same
-returns-in_err-find_all-clause-limit_same g c = c.find_all.ensures.limit_same ∙ (c.new.ensures.grew 0).limit
+returns-in_err-find_all-clause-limit_same g c = c.find_all.ensures.asked.limit_same ∙ (c.new.ensures.grew 0).limit
 
 pub returns-clause-limit_same : goal.returns-clause-limit_same
-returns-clause-limit_same g c = c.guess_all.ensures.limit_same ∙ c.find_all.ensures.limit_same ∙
+returns-clause-limit_same g c = c.guess_all.ensures.asked.limit_same ∙ c.find_all.ensures.asked.limit_same ∙
     (c.new.ensures.grew 0).limit
 
 pub returns-in_err-guess_all-clause-limit_same : goal.returns-in_err-guess_all-clause-limit_same
-returns-in_err-guess_all-clause-limit_same g c = c.guess_all.ensures.limit_same ∙ c.find_all.ensures.limit_same ∙
-    (c.new.ensures.grew 0).limit
+returns-in_err-guess_all-clause-limit_same g c = c.guess_all.ensures.asked.limit_same
+    ∙ c.find_all.ensures.asked.limit_same ∙ (c.new.ensures.grew 0).limit
 
 pub returns-in_err-gates-clause-fresh : goal.returns-in_err-gates-clause-fresh
 returns-in_err-gates-clause-fresh g c = still_fresh c.engines_leave_the_rest.ensures c.args.f.now c.args.log.now
@@ -70,8 +77,11 @@ returns-in_err-set_order-clause-limit_same g c = (c.new.ensures.grew 0).limit
 
 pub returns-in_err-guess_all-clause-extends : goal.returns-in_err-guess_all-clause-extends
 returns-in_err-guess_all-clause-extends g c = extends-trans c.args.graph.now c.find_all.new.graph c.guess_all.new.graph
-    c.find_all.ensures.extends c.guess_all.ensures.extends
+    c.find_all.ensures.asked.extends c.guess_all.ensures.asked.extends
 
 pub returns-clause-extends : goal.returns-clause-extends
 returns-clause-extends g c = extends-trans c.args.graph.now c.find_all.new.graph c.guess_all.new.graph
-    c.find_all.ensures.extends c.guess_all.ensures.extends
+    c.find_all.ensures.asked.extends c.guess_all.ensures.asked.extends
+
+pub guess_all-requires-clause-may : goal.guess_all-requires-clause-may
+guess_all-requires-clause-may g c = c.find_all.ensures.asked.may

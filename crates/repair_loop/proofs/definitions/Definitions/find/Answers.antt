@@ -1,38 +1,37 @@
 use Rattle.std.proofs.Common.{set, refl, sym, subst, IfSome}
+use Rattle.padoa_definitions.specs.Copies.{IsPadoa}
 use Rattle.padoa_definitions.specs.Defining.{IsFound}
 use Rattle.dq_formula.specs.Prefix.{existential_variables}
 use Rattle.repair_loop.specs.declared.definitions.Definitions.{Definitions}
 use Rattle.repair_loop.specs.Searching.{AreKnown, definition_in}
-use Rattle.repair_loop.proofs.Defined.{still_fresh, known_at, known_stays, existential_there, found_defines}
+use Rattle.repair_loop.proofs.Asked.{nothing_asked, asked_by}
+use Rattle.repair_loop.proofs.Defined.{known_at, known_stays, existential_there, found_defines}
 use Rattle.repair_loop.proofs.definitions.Definitions.find.Goals as goal
 
-pub returns-in_err-found-clause-fresh : goal.returns-in_err-found-clause-fresh
-returns-in_err-found-clause-fresh g c = still_fresh c.engines_leave_the_rest.ensures c.args.existential.now.f.now
-    c.args.log.now c.ask.new.log c.ask.ensures.grew c.requires.fresh
+pub returns-in_err-found-clause-asked : goal.returns-in_err-found-clause-asked
+returns-in_err-found-clause-asked g c =
+    asked_by c.engines_leave_the_rest.ensures c.args.existential.now.f.now c.args.graph.now c.ask.new.graph
+    c.args.self.now.padoa c.ask.new.self.padoa c.args.log.now c.ask.new.log c.requires.may
+    c.ask.ensures.grew c.ask.ensures.padoa c.ask.ensures.extends
 
-pub returns-in_err-found-clause-limit_same : goal.returns-in_err-found-clause-limit_same
-returns-in_err-found-clause-limit_same g c = (c.ask.ensures.grew 0).limit
+pub returns-in_err-learn-clause-asked : goal.returns-in_err-learn-clause-asked
+returns-in_err-learn-clause-asked g c =
+    asked_by c.engines_leave_the_rest.ensures c.args.existential.now.f.now c.args.graph.now c.ask.new.graph
+    c.args.self.now.padoa c.ask.new.self.padoa c.args.log.now c.ask.new.log c.requires.may
+    c.ask.ensures.grew c.ask.ensures.padoa c.ask.ensures.extends
 
-pub returns-clause-fresh : goal.returns-clause-fresh
-returns-clause-fresh g c = still_fresh c.engines_leave_the_rest.ensures c.args.existential.now.f.now c.args.log.now
-    c.ask.new.log c.ask.ensures.grew c.requires.fresh
+pub returns-in_default-clause-asked : goal.returns-in_default-clause-asked
+returns-in_default-clause-asked g c =
+    asked_by c.engines_leave_the_rest.ensures c.args.existential.now.f.now c.args.graph.now c.ask.new.graph
+    c.args.self.now.padoa c.ask.new.self.padoa c.args.log.now c.ask.new.log c.requires.may
+    c.ask.ensures.grew c.ask.ensures.padoa c.ask.ensures.extends
 
-pub returns-clause-limit_same : goal.returns-clause-limit_same
-returns-clause-limit_same g c = (c.ask.ensures.grew 0).limit
-
-pub returns-in_err-learn-clause-fresh : goal.returns-in_err-learn-clause-fresh
-returns-in_err-learn-clause-fresh g c = still_fresh c.engines_leave_the_rest.ensures c.args.existential.now.f.now
-    c.args.log.now c.ask.new.log c.ask.ensures.grew c.requires.fresh
-
-pub returns-in_err-learn-clause-limit_same : goal.returns-in_err-learn-clause-limit_same
-returns-in_err-learn-clause-limit_same g c = (c.ask.ensures.grew 0).limit
-
-pub returns-in_default-clause-fresh : goal.returns-in_default-clause-fresh
-returns-in_default-clause-fresh g c = still_fresh c.engines_leave_the_rest.ensures c.args.existential.now.f.now
-    c.args.log.now c.ask.new.log c.ask.ensures.grew c.requires.fresh
-
-pub returns-in_default-clause-limit_same : goal.returns-in_default-clause-limit_same
-returns-in_default-clause-limit_same g c = (c.ask.ensures.grew 0).limit
+pub returns-clause-asked : goal.returns-clause-asked
+returns-clause-asked g c =
+    asked_by c.engines_leave_the_rest.ensures c.args.existential.now.f.now c.args.graph.now c.ask.new.graph
+    c.args.self.now.padoa c.note.new.self.padoa c.args.log.now c.ask.new.log c.requires.may
+    c.ask.ensures.grew (subst (λ p. IsPadoa c.args.existential.now.f.now p c.ask.new.log.entries)
+    (sym c.note.ensures.padoa) c.ask.ensures.padoa) c.ask.ensures.extends
 
 pub returns-in_default-clause-known : goal.returns-in_default-clause-known
 returns-in_default-clause-known g c =

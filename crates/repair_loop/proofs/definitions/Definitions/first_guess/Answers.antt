@@ -1,50 +1,43 @@
-use Rattle.std.proofs.Common.{◌∙◌, refl}
-use Rattle.candidate_functions.proofs.LargerGraphs.{extends-refl, extends-trans}
+use Rattle.repair_loop.proofs.Asked.{nothing_asked, asked_then}
 use Rattle.repair_loop.proofs.Defined.{guess_at, left-refl, left-trans}
 use Rattle.repair_loop.proofs.definitions.Definitions.first_guess.Goals as goal
-
-pub guess_under-requires-clause-inputs : goal.guess_under-requires-clause-inputs
-guess_under-requires-clause-inputs g c = c.loop-number.invariant.extends.inputs ∙ c.requires.inputs
 
 pub loop-number-init : goal.loop-number-init
 loop-number-init g c = record {
   fit = c.requires.fit;
-  fresh = c.requires.fresh;
-  padoa = c.requires.padoa;
-  limit = refl;
-  extends = extends-refl c.args.graph.now;
+  asked = nothing_asked c.args.existential.now.f.now c.args.graph.now c.args.self.now.padoa c.args.log.now
+      c.requires.may;
   left = left-refl c.args.self.now;
 }
+
+pub guess_under-requires-clause-may : goal.guess_under-requires-clause-may
+guess_under-requires-clause-may g c = c.loop-number.invariant.asked.may
 
 pub loop-number-preserved : goal.loop-number-preserved
 loop-number-preserved g c = record {
   fit = c.guess_under.ensures.fit;
-  fresh = c.guess_under.ensures.fresh;
-  padoa = c.guess_under.ensures.padoa;
-  limit = c.guess_under.ensures.limit_same ∙ c.loop-number.invariant.limit;
-  extends = extends-trans c.args.graph.now c.loop-number.graph c.guess_under.new.graph c.loop-number.invariant.extends
-      c.guess_under.ensures.extends;
+  asked = asked_then c.args.existential.now.f.now c.args.graph.now c.loop-number.graph c.guess_under.new.graph
+      c.loop-number.self.padoa c.guess_under.new.self.padoa c.args.log.now c.loop-number.log c.guess_under.new.log
+      c.loop-number.invariant.asked c.guess_under.ensures.asked;
   left = left-trans c.args.self.now c.loop-number.self c.guess_under.new.self c.loop-number.invariant.left
       c.guess_under.ensures.left;
 }
 
-pub returns-in_err-guess-clause-limit_same : goal.returns-in_err-guess-clause-limit_same
-returns-in_err-guess-clause-limit_same g c = c.guess_under.ensures.limit_same ∙ c.loop-number.invariant.limit
-
-pub returns-in_err-guess-clause-extends : goal.returns-in_err-guess-clause-extends
-returns-in_err-guess-clause-extends g c = extends-trans c.args.graph.now c.loop-number.graph c.guess_under.new.graph
-    c.loop-number.invariant.extends c.guess_under.ensures.extends
+pub returns-in_err-guess-clause-asked : goal.returns-in_err-guess-clause-asked
+returns-in_err-guess-clause-asked g c =
+    asked_then c.args.existential.now.f.now c.args.graph.now c.loop-number.graph c.guess_under.new.graph
+    c.loop-number.self.padoa c.guess_under.new.self.padoa c.args.log.now c.loop-number.log c.guess_under.new.log
+    c.loop-number.invariant.asked c.guess_under.ensures.asked
 
 pub returns-in_err-guess-clause-left : goal.returns-in_err-guess-clause-left
 returns-in_err-guess-clause-left g c = left-trans c.args.self.now c.loop-number.self c.guess_under.new.self
     c.loop-number.invariant.left c.guess_under.ensures.left
 
-pub returns-in-Some-clause-limit_same : goal.returns-in-Some-clause-limit_same
-returns-in-Some-clause-limit_same g c = c.guess_under.ensures.limit_same ∙ c.loop-number.invariant.limit
-
-pub returns-in-Some-clause-extends : goal.returns-in-Some-clause-extends
-returns-in-Some-clause-extends g c = extends-trans c.args.graph.now c.loop-number.graph c.guess_under.new.graph
-    c.loop-number.invariant.extends c.guess_under.ensures.extends
+pub returns-in-Some-clause-asked : goal.returns-in-Some-clause-asked
+returns-in-Some-clause-asked g c =
+    asked_then c.args.existential.now.f.now c.args.graph.now c.loop-number.graph c.guess_under.new.graph
+    c.loop-number.self.padoa c.guess_under.new.self.padoa c.args.log.now c.loop-number.log c.guess_under.new.log
+    c.loop-number.invariant.asked c.guess_under.ensures.asked
 
 pub returns-in-Some-clause-left : goal.returns-in-Some-clause-left
 returns-in-Some-clause-left g c = left-trans c.args.self.now c.loop-number.self c.guess_under.new.self

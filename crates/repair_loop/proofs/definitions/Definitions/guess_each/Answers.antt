@@ -1,20 +1,17 @@
 use Rattle.std.proofs.Common.{◌≡◌, ◌∙◌, ◌<◌, length, refl, ap, arith, length-set}
 use Rattle.std.proofs.lemmas.List.{length-map}
-use Rattle.candidate_functions.proofs.LargerGraphs.{extends-refl, extends-trans}
 use Rattle.dq_formula.specs.Prefix.{existential_variables}
+use Rattle.repair_loop.proofs.Asked.{nothing_asked, asked_then}
 use Rattle.repair_loop.proofs.Defined.{existential_there, guess_known, left_known}
 use Rattle.repair_loop.proofs.definitions.Definitions.guess_each.Goals as goal
 
-pub guess-requires-clause-inputs : goal.guess-requires-clause-inputs
-guess-requires-clause-inputs g c = c.loop-place.invariant.extends.inputs ∙ c.requires.inputs
+pub guess-requires-clause-may : goal.guess-requires-clause-may
+guess-requires-clause-may g c = c.loop-place.invariant.asked.may
 
 pub loop-place-init : goal.loop-place-init
 loop-place-init g c = record {
   fit = c.requires.fit;
-  fresh = c.requires.fresh;
-  padoa = c.requires.padoa;
-  limit = refl;
-  extends = extends-refl c.args.graph.now;
+  asked = nothing_asked c.args.f.now c.args.graph.now c.args.self.now.padoa c.args.log.now c.requires.may;
   known = c.requires.known;
   many = c.requires.many;
 }
@@ -36,20 +33,18 @@ loop-place-preserved g c =
     let as_many = ap length left.guesses ∙ inv.many in
     record {
       fit = c.guess.ensures.fit;
-      fresh = c.guess.ensures.fresh;
-      padoa = c.guess.ensures.padoa;
-      limit = c.guess.ensures.limit_same ∙ inv.limit;
-      extends = extends-trans c.args.graph.now c.loop-place.graph graph inv.extends c.guess.ensures.extends;
+      asked = asked_then c.args.f.now c.args.graph.now c.loop-place.graph c.guess.new.graph c.loop-place.self.padoa
+          c.guess.new.self.padoa c.args.log.now c.loop-place.log c.guess.new.log c.loop-place.invariant.asked
+          c.guess.ensures.asked;
       known = guess_known f d.ranks.items lawful.prefix c.loop-place.graph graph place here.0 d.nodes.items
-          d.rules.items d.guesses.items guess c.guess.ensures.extends as_many here.1
+          d.rules.items d.guesses.items guess c.guess.ensures.asked.extends as_many here.1
           (c.in_ok-self.ensures.guess here.0 here.1) (left_known f c.loop-place.graph c.loop-place.self d left
           inv.known);
       many = length-set d.guesses.items place guess ∙ as_many;
     }
 
-pub returns-in_err-self-clause-extends : goal.returns-in_err-self-clause-extends
-returns-in_err-self-clause-extends g c = extends-trans c.args.graph.now c.loop-place.graph c.guess.new.graph
-    c.loop-place.invariant.extends c.guess.ensures.extends
-
-pub returns-in_err-self-clause-limit_same : goal.returns-in_err-self-clause-limit_same
-returns-in_err-self-clause-limit_same g c = c.guess.ensures.limit_same ∙ c.loop-place.invariant.limit
+pub returns-in_err-self-clause-asked : goal.returns-in_err-self-clause-asked
+returns-in_err-self-clause-asked g c =
+    asked_then c.args.f.now c.args.graph.now c.loop-place.graph c.guess.new.graph c.loop-place.self.padoa
+    c.guess.new.self.padoa c.args.log.now c.loop-place.log c.guess.new.log c.loop-place.invariant.asked
+    c.guess.ensures.asked

@@ -1,15 +1,14 @@
 use Rattle.std.proofs.Common.{◌∙◌, refl, subst}
-use Rattle.candidate_functions.proofs.LargerGraphs.{extends-trans}
 use Rattle.padoa_definitions.specs.Guessing.{IsGuess}
-use Rattle.repair_loop.proofs.Defined.{still_fresh, found_guess}
+use Rattle.repair_loop.proofs.Asked.{asked_by, asked_then}
+use Rattle.repair_loop.proofs.Defined.{found_guess}
 use Rattle.repair_loop.proofs.definitions.Definitions.guess_or_learn.Goals as goal
 
-pub learn_clash-requires-clause-inputs : goal.learn_clash-requires-clause-inputs
-learn_clash-requires-clause-inputs g c = c.guess.ensures.extends.inputs ∙ c.requires.inputs
-
-pub learn_clash-requires-clause-fresh : goal.learn_clash-requires-clause-fresh
-learn_clash-requires-clause-fresh g c = still_fresh c.engines_leave_the_rest.ensures c.args.f.now c.args.log.now
-    c.guess.new.log c.guess.ensures.grew c.requires.fresh
+pub learn_clash-requires-clause-may : goal.learn_clash-requires-clause-may
+learn_clash-requires-clause-may g c =
+    (asked_by c.engines_leave_the_rest.ensures c.args.f.now c.args.graph.now c.guess.new.graph c.args.self.now.padoa
+    c.guess.new.self c.args.log.now c.guess.new.log c.requires.may
+    c.guess.ensures.grew c.guess.ensures.padoa c.guess.ensures.extends).may
 
 pub returns-in-Node-clause-guess : goal.returns-in-Node-clause-guess
 returns-in-Node-clause-guess g c e known =
@@ -17,12 +16,33 @@ returns-in-Node-clause-guess g c e known =
     (subst (IsGuess c.args.f.now c.guess.new.graph e c.args.conditions.now) c.in-Node.is
     (c.in_ok-node.ensures.guess e known))
 
-pub returns-in-Node-clause-fresh : goal.returns-in-Node-clause-fresh
-returns-in-Node-clause-fresh g c = still_fresh c.engines_leave_the_rest.ensures c.args.f.now c.args.log.now
-    c.guess.new.log c.guess.ensures.grew c.requires.fresh
+pub returns-in-Node-clause-asked : goal.returns-in-Node-clause-asked
+returns-in-Node-clause-asked g c =
+    asked_by c.engines_leave_the_rest.ensures c.args.f.now c.args.graph.now c.guess.new.graph c.args.self.now.padoa
+    c.guess.new.self c.args.log.now c.guess.new.log c.requires.may
+    c.guess.ensures.grew c.guess.ensures.padoa c.guess.ensures.extends
 
-pub returns-in-Node-clause-limit_same : goal.returns-in-Node-clause-limit_same
-returns-in-Node-clause-limit_same g c = (c.guess.ensures.grew 0).limit
+pub returns-in_err-node-clause-asked : goal.returns-in_err-node-clause-asked
+returns-in_err-node-clause-asked g c =
+    asked_by c.engines_leave_the_rest.ensures c.args.f.now c.args.graph.now c.guess.new.graph c.args.self.now.padoa
+    c.guess.new.self c.args.log.now c.guess.new.log c.requires.may
+    c.guess.ensures.grew c.guess.ensures.padoa c.guess.ensures.extends
+
+pub returns-in_ok-learn_clash-in-Pair-clause-asked : goal.returns-in_ok-learn_clash-in-Pair-clause-asked
+returns-in_ok-learn_clash-in-Pair-clause-asked g c =
+    asked_then c.args.f.now c.args.graph.now c.guess.new.graph c.learn_clash.new.graph c.guess.new.self
+    c.learn_clash.new.self.padoa c.args.log.now c.guess.new.log c.learn_clash.new.log
+    (asked_by c.engines_leave_the_rest.ensures c.args.f.now c.args.graph.now c.guess.new.graph c.args.self.now.padoa
+    c.guess.new.self c.args.log.now c.guess.new.log c.requires.may
+    c.guess.ensures.grew c.guess.ensures.padoa c.guess.ensures.extends) c.learn_clash.ensures.asked
+
+pub returns-in_err-learn_clash-in-Pair-clause-asked : goal.returns-in_err-learn_clash-in-Pair-clause-asked
+returns-in_err-learn_clash-in-Pair-clause-asked g c =
+    asked_then c.args.f.now c.args.graph.now c.guess.new.graph c.learn_clash.new.graph c.guess.new.self
+    c.learn_clash.new.self.padoa c.args.log.now c.guess.new.log c.learn_clash.new.log
+    (asked_by c.engines_leave_the_rest.ensures c.args.f.now c.args.graph.now c.guess.new.graph c.args.self.now.padoa
+    c.guess.new.self c.args.log.now c.guess.new.log c.requires.may
+    c.guess.ensures.grew c.guess.ensures.padoa c.guess.ensures.extends) c.learn_clash.ensures.asked
 
 pub returns-in-Node-clause-left : goal.returns-in-Node-clause-left
 returns-in-Node-clause-left g c = record {
@@ -33,13 +53,6 @@ returns-in-Node-clause-left g c = record {
   guesses = refl;
 }
 
-pub returns-in_err-node-clause-fresh : goal.returns-in_err-node-clause-fresh
-returns-in_err-node-clause-fresh g c = still_fresh c.engines_leave_the_rest.ensures c.args.f.now c.args.log.now
-    c.guess.new.log c.guess.ensures.grew c.requires.fresh
-
-pub returns-in_err-node-clause-limit_same : goal.returns-in_err-node-clause-limit_same
-returns-in_err-node-clause-limit_same g c = (c.guess.ensures.grew 0).limit
-
 pub returns-in_err-node-clause-left : goal.returns-in_err-node-clause-left
 returns-in_err-node-clause-left g c = record {
   padoa = c.guess.ensures.same;
@@ -48,14 +61,6 @@ returns-in_err-node-clause-left g c = record {
   rules = refl;
   guesses = refl;
 }
-
-pub returns-in_ok-learn_clash-in-Pair-clause-limit_same : goal.returns-in_ok-learn_clash-in-Pair-clause-limit_same
-returns-in_ok-learn_clash-in-Pair-clause-limit_same g c = c.learn_clash.ensures.limit_same ∙
-    (c.guess.ensures.grew 0).limit
-
-pub returns-in_ok-learn_clash-in-Pair-clause-extends : goal.returns-in_ok-learn_clash-in-Pair-clause-extends
-returns-in_ok-learn_clash-in-Pair-clause-extends g c = extends-trans c.args.graph.now c.guess.new.graph
-    c.learn_clash.new.graph c.guess.ensures.extends c.learn_clash.ensures.extends
 
 pub returns-in_ok-learn_clash-in-Pair-clause-left : goal.returns-in_ok-learn_clash-in-Pair-clause-left
 returns-in_ok-learn_clash-in-Pair-clause-left g c = let left = c.learn_clash.ensures.left in
@@ -66,14 +71,6 @@ returns-in_ok-learn_clash-in-Pair-clause-left g c = let left = c.learn_clash.ens
       rules = left.rules;
       guesses = left.guesses;
     }
-
-pub returns-in_err-learn_clash-in-Pair-clause-limit_same : goal.returns-in_err-learn_clash-in-Pair-clause-limit_same
-returns-in_err-learn_clash-in-Pair-clause-limit_same g c = c.learn_clash.ensures.limit_same ∙
-    (c.guess.ensures.grew 0).limit
-
-pub returns-in_err-learn_clash-in-Pair-clause-extends : goal.returns-in_err-learn_clash-in-Pair-clause-extends
-returns-in_err-learn_clash-in-Pair-clause-extends g c = extends-trans c.args.graph.now c.guess.new.graph
-    c.learn_clash.new.graph c.guess.ensures.extends c.learn_clash.ensures.extends
 
 pub returns-in_err-learn_clash-in-Pair-clause-left : goal.returns-in_err-learn_clash-in-Pair-clause-left
 returns-in_err-learn_clash-in-Pair-clause-left g c = let left = c.learn_clash.ensures.left in
