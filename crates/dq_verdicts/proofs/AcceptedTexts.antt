@@ -2,7 +2,6 @@
 use Rattle.std.proofs.Common.{◌≡◌, ◌∙◌, inr, ℕ, Bool, cond, true, false, sym, ap, subst, List, [], ◌∷◌, ◌++◌, length, None, Some, Result, Ok, codes}
 use Rattle.std.specs.Prelude.{slice_index}
 use Rattle.std.specs.List.{All, Contains, flat_map}
-use Rattle.std.specs.Fmt.{decimal}
 use Rattle.std.proofs.lemmas.List.Elements.{All-get_or}
 use Rattle.dq_lits.specs.Formula.{Dqbf}
 use Rattle.dq_formula.specs.Prefix.{IsLawful}
@@ -11,7 +10,7 @@ use Rattle.aiger_text.specs.Canonical.{canonical_circuit}
 use Rattle.aiger_text.specs.Grammar.{SpellsCircuit}
 use Rattle.aiger_text.specs.Spellable.{IsSpellable}
 use Rattle.aiger_text.specs.declared.files.AagFile.{AagFile}
-use Rattle.cert_text.specs.Canonical.{canonical, canonical_proof, step_text}
+use Rattle.cert_text.specs.Canonical.{canonical, canonical_proof, item_text, version_for}
 use Rattle.cert_text.specs.CircuitProof.{circuit_proof_of}
 use Rattle.cert_text.specs.Grammar.{IsDqrOf}
 use Rattle.cert_text.specs.ProofGrammar.{IsDqpOf}
@@ -69,7 +68,7 @@ proof_found : (f : Dqbf) (h ends : ℕ) (net : Netlist) (d : Dqp) → ((first : 
     → proof_in f h ends net (Some (canonical_proof d)) ≡ Ok (Some d)
 proof_found f h ends net d back =
     let comment = canonical_proof d in
-    ap (λ b. cond b (as_proof (circuit_proof_of f net comment (comment_line h ends comment))) (Ok None)) (proof_begins (decimal (length d.steps) ++ 10 ∷ [] ++ flat_map step_text d.steps))
+    ap (λ b. cond b (as_proof (circuit_proof_of f net comment (comment_line h ends comment))) (Ok None)) (proof_begins (version_for d.items) (length d.items) (flat_map item_text d.items))
     ∙ ap as_proof (back (comment_line h ends comment))
 
 tested : (f : Dqbf) (h ends : ℕ) (file : AagFile) (d : Dqp) (p : IsProvedCircuit f file d) → ((first : ℕ) → circuit_proof_of f file.circuit (canonical_proof d) first ≡ Ok d)
@@ -95,7 +94,7 @@ circuits_accepted spells back f file d bare proved writable allowed within =
     let answer : IsCircuitAnswer f (header_number bare) (canonical_circuit whole) ValidTrue = record {
       file = whole;
       spelled = spells whole (writable (Some (canonical_proof d)) within.variables);
-      is = tested f (header_number bare) (line_ends (canonical_circuit whole)) file d proved (λ first. back f file.circuit d first (allowed within.steps));
+      is = tested f (header_number bare) (line_ends (canonical_circuit whole)) file d proved (λ first. back f file.circuit d first (allowed within.items));
     } in
     subst (λ kind. IsJudgementOf f (verdict_text bare f (is_true file d)) kind ValidTrue) (sym (circuit_kind bare _))
     (true_judgement bare f (canonical_circuit whole) answer)

@@ -1,15 +1,19 @@
 -- How the texts begin that are written, and what kind the checker takes them for.
-use Rattle.std.proofs.Common.{◌≡◌, ◌⊎◌, inl, inr, ◌∙◌, ◌+◌, ◌-◌, ◌==◌, ℕ, suc, Bool, cond, true, false, refl, sym, ap, subst, arith, List, [], ◌∷◌, ◌++◌, length, take, Option, Some, None, Result, Ok, codes}
+use Rattle.std.proofs.Common.{◌≡◌, ◌⊎◌, inl, inr, ◌∙◌, ◌+◌, ◌-◌, ◌==◌, ◌||◌, ℕ, suc, Bool, cond, true, false, refl, sym, ap, subst, arith, List, [], ◌∷◌, ◌++◌, length, take, Option, Some, None, Result, Ok, codes}
 use Rattle.std.specs.Prelude.{nat_lt}
 use Rattle.std.specs.List.{position, position_or_len}
 use Rattle.std.proofs.lemmas.List.{length-append}
 use Rattle.dq_text.specs.Line.{TextLine, extend_line, line_tokens, lines_from}
+use Rattle.dq_text.specs.Written.{number_line}
+use Rattle.cert_text.specs.Canonical.{proof_header_text}
 use Rattle.cert_text.specs.Kind.{certificate_kind, kind_of_lines, kind_at, kind_behind, agreeing, stated_verdict}
 use Rattle.cert_text.specs.declared.faults.CertRefusal.{CertRefusal}
 use Rattle.cert_text.specs.declared.kinds.Kind.{Kind}
 use Rattle.cert_text.specs.declared.kinds.Kind.TheVariants.{Circuit, Refutation}
 use Rattle.cert_text.specs.declared.kinds.Verdict.TheVariants.{True, False}
-use Rattle.cert_judge.specs.Judgement.{begins_with, begins_proof}
+use Rattle.cert_text.specs.declared.versions.Version.{Version}
+use Rattle.cert_text.specs.declared.versions.Version.TheVariants.{One, Two}
+use Rattle.cert_judge.specs.Judgement.{begins_with, begins_proof, first_line}
 use Rattle.dq_runs.specs.Printed.{line}
 
 -- where the header line stands behind the line with a verdict of so many bytes, or without one
@@ -105,7 +109,36 @@ later_cut false place end is = inl refl
 four_behind : (end : ℕ) → 1 + (1 + (1 + (1 + end))) ≡ suc (suc (suc (suc end)))
 four_behind end = omega arith
 
-pub proof_begins : (rest : List ℕ) → begins_proof (codes "dqp " ++ rest) ≡ true
-proof_begins rest = begins_cut rest (position is_feed (codes "dqp " ++ rest))
+one_begins : (rest : List ℕ) → begins_with (codes "dqp") (line_tokens (first_line (codes "dqp " ++ rest))) ≡ true
+one_begins rest = begins_cut rest (position is_feed (codes "dqp " ++ rest))
     (later_cut (nat_lt (position_or_len is_feed (codes "dqp " ++ rest)) (length (codes "dqp " ++ rest))) (position_or_len is_feed (codes "dqp " ++ rest))
     (position_or_len is_feed rest) (four_behind (position_or_len is_feed rest)))
+
+-- the same in version 2, behind five bytes
+abbrev IsLastCut : Option ℕ → Type 0
+IsLastCut o = (o ≡ None) ⊎ ((end : ℕ) × (o ≡ Some (suc (suc (suc (suc (suc end)))))))
+
+abbrev begins_either : List ℕ → Bool
+begins_either text = begins_with (codes "dqp") (line_tokens text) || begins_with (codes "dqp2") (line_tokens text)
+
+two_cut : (rest : List ℕ) (o : Option ℕ) → IsLastCut o → begins_either (cut_at o (codes "dqp2 " ++ rest)) ≡ true
+two_cut rest o (inl none) = subst (λ c. begins_either (cut_at c (codes "dqp2 " ++ rest)) ≡ true) (sym none) refl
+two_cut rest o (inr (end, some)) = subst (λ c. begins_either (cut_at c (codes "dqp2 " ++ rest)) ≡ true) (sym some) refl
+
+last_cut : (found : Bool) (place end : ℕ) → place ≡ suc (suc (suc (suc (suc end)))) → IsLastCut (cond found (Some place) None)
+last_cut true place end is = inr (end, ap Some is)
+last_cut false place end is = inl refl
+
+five_behind : (end : ℕ) → 1 + (1 + (1 + (1 + (1 + end)))) ≡ suc (suc (suc (suc (suc end))))
+five_behind end = omega arith
+
+two_begins : (rest : List ℕ) → begins_either (first_line (codes "dqp2 " ++ rest)) ≡ true
+two_begins rest = two_cut rest (position is_feed (codes "dqp2 " ++ rest))
+    (last_cut (nat_lt (position_or_len is_feed (codes "dqp2 " ++ rest)) (length (codes "dqp2 " ++ rest))) (position_or_len is_feed (codes "dqp2 " ++ rest))
+    (position_or_len is_feed rest) (five_behind (position_or_len is_feed rest)))
+
+-- a proof's canonical text begins as one
+pub proof_begins : (version : Version) (items : ℕ) (rest : List ℕ) → begins_proof (proof_header_text version items ++ rest) ≡ true
+proof_begins One items rest =
+    ap (λ b. b || begins_with (codes "dqp2") (line_tokens (first_line (codes "dqp " ++ (number_line items ++ rest))))) (one_begins (number_line items ++ rest))
+proof_begins Two items rest = two_begins (number_line items ++ rest)

@@ -45,5 +45,5 @@ small_within f entries file proof lawful gates numbers lines small =
     let variables = lawful.few_variables in
     record {
       variables = omega (arith, gates, numbers, few_gates, few, variables, small);
-      steps = omega (arith, lines, few_lines, small);
+      items = omega (arith, lines, few_lines, small);
     }

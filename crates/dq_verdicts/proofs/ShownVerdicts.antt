@@ -20,7 +20,7 @@ use Rattle.cert_text.specs.Header.{max_count}
 use Rattle.cert_text.specs.ProofGrammar.{IsDqpOf}
 use Rattle.cert_text.specs.declared.circuit_proofs.Dqp.{Dqp}
 use Rattle.cert_text.specs.declared.refutations.Dqr.{Dqr}
-use Rattle.cert_export.specs.Exportable.{AreExportedSteps}
+use Rattle.cert_export.specs.Exportable.{AreExportedItems}
 use Rattle.cert_export.specs.ExportedCircuit.{IsDecidedTrue, IsNumberedFile, IsWritable, is_gate_name}
 use Rattle.cert_export.specs.Lines.{is_lemma}
 use Rattle.cert_export.specs.Parts.{IsExportedCircuit}
@@ -65,9 +65,9 @@ pub record IsWrittenCircuit (f : Dqbf) (entries : List Entry) (id : ℕ) (file :
   pub proved : IsProvedCircuit f file proof
   pub gates : length file.circuit.gates ≤ count is_gate_name entries
   pub numbers : IsNumberedFile f file
-  pub few : length proof.steps ≤ count is_lemma entries
+  pub few : length proof.items ≤ count is_lemma entries
   pub spelled : IsWritable file
-  pub allowed : length proof.steps ≤ max_count → IsDqpOf f file.circuit proof
+  pub allowed : length proof.items ≤ max_count → IsDqpOf f file.circuit proof
   pub exported : (ids : List ℕ) × IsExportedCircuit f entries id ids file proof
 
 pub shown_true : ProvedCircuitsAreAccepted → SmallLogsAreWithinLimits → (f : Dqbf) (log : ProofLog) (id : ℕ) (bare : Bool) (file : AagFile) (proof : Dqp)
@@ -85,9 +85,9 @@ shown_true accepted within f log id bare file proof lawful is_so decided e = rec
 pub record IsWrittenRefutation (f : Dqbf) (entries : List Entry) (id : ℕ) (d : Dqr) : Type 0 where
   pub rows : d.rows ≡ rows_of entries
   pub accepted : refutation_fault f d ≡ None
-  pub few : length d.steps ≤ count is_lemma entries
-  pub spelled : length d.steps ≤ max_count → IsDqrOf f d
-  pub lines : (ids : List ℕ) × AreReached entries id ids × AreExportedSteps f (range_with_len 1 (length f.matrix)) entries ids d.steps
+  pub few : length d.items ≤ count is_lemma entries
+  pub spelled : length d.items ≤ max_count → IsDqrOf f d
+  pub lines : (ids : List ℕ) × AreReached entries id ids × AreExportedItems f (range_with_len 1 (length f.matrix)) entries ids d.items
 
 few_lines : (entries : List Entry) (steps : ℕ) → steps ≤ count is_lemma entries → length entries ≤ few_entries → steps ≤ max_count
 few_lines entries steps few small = let all = count_few is_lemma entries in omega (arith, few, small, all)
@@ -98,9 +98,9 @@ shown_false accepted f log id bare d lawful is_so found e = record {
   false_formula = is_so;
   unsatisfiable = subst (IsExpansionUnsatisfiable f) (sym e.rows) found.unsatisfiable;
   refutes = e.accepted;
-  exported = λ _. record { id = id; refuted = found.shown; ids = e.lines.0; reached = e.lines.1; lines = e.lines.2; rows = e.rows };
+  exported = λ _. record { id = id; refuted = found.shown; ids = e.lines.0; reached = e.lines.1; items = e.lines.2; rows = e.rows };
   accepted = λ few. accepted f d bare lawful (e.spelled few) e.accepted;
-  within = λ _. few_lines log.entries (length d.steps) e.few;
+  within = λ _. few_lines log.entries (length d.items) e.few;
 }
 
 -- a verdict's status with a text

@@ -24,7 +24,7 @@ abbrev pub ProvedCircuitsAreAccepted : Type 0
 ProvedCircuitsAreAccepted =
     (f : Dqbf) (file : AagFile) (proof : Dqp) (bare : Bool) → IsProvedCircuit f file proof
     → IsWritable file
-    → (length proof.steps ≤ max_count → IsDqpOf f file.circuit proof) → IsWithinLimits file proof
+    → (length proof.items ≤ max_count → IsDqpOf f file.circuit proof) → IsWithinLimits file proof
     → IsJudgement f (verdict_text bare f (is_true file proof)) ValidTrue
 
 -- a refutation
@@ -40,5 +40,5 @@ SmallLogsAreWithinLimits =
     (f : Dqbf) (entries : List Entry) (file : AagFile) (proof : Dqp) → IsLawful f
     → length file.circuit.gates ≤ count is_gate_name entries
     → file.circuit.max_var ≡ length f.universals + length file.circuit.gates
-    → length proof.steps ≤ count is_lemma entries → length entries ≤ few_entries
+    → length proof.items ≤ count is_lemma entries → length entries ≤ few_entries
     → IsWithinLimits file proof

@@ -14,7 +14,7 @@ use Rattle.cert_text.specs.Header.{max_count}
 use Rattle.cert_text.specs.declared.circuit_proofs.Dqp.{Dqp}
 use Rattle.cert_text.specs.declared.refutations.Dqr.{Dqr}
 use Rattle.expansion.specs.Table.{IsRefutedBy}
-use Rattle.cert_export.specs.Exportable.{AreExportedSteps}
+use Rattle.cert_export.specs.Exportable.{AreExportedItems}
 use Rattle.cert_export.specs.ExportedCircuit.{IsDecidedTrue, IsNumberedFile}
 use Rattle.cert_export.specs.Parts.{IsExportedCircuit}
 use Rattle.proof_checker.specs.ProvedCircuit.{IsProvedCircuit}
@@ -34,7 +34,7 @@ few_entries = 400000000
 -- than these
 pub record IsWithinLimits (file : AagFile) (proof : Dqp) : Type 0 where
   pub variables : file.circuit.max_var ≤ max_count
-  pub steps : length proof.steps ≤ max_count
+  pub items : length proof.items ≤ max_count
 
 -- An answer of the log decides that the formula which was searched is true, and the circuit with its
 -- proof is what is exported of it.
@@ -67,8 +67,8 @@ pub record IsRefutationOf (searched : Dqbf) (log : ProofLog) (d : Dqr) : Type 0 
   pub refuted : IsRefutedBy log.entries id
   pub ids : List ℕ
   pub reached : AreReached log.entries id ids
-  pub lines : AreExportedSteps searched (range_with_len 1 (length searched.matrix)) log.entries
-      ids d.steps
+  pub items : AreExportedItems searched (range_with_len 1 (length searched.matrix)) log.entries
+      ids d.items
   pub rows : d.rows ≡ rows_of log.entries
 
 -- The instances under the refutation's rows have no model, the refutation shows it, and the checker
@@ -79,9 +79,9 @@ pub record IsShownFalse (decided searched : Dqbf) (log : ProofLog) (bare : Bool)
   pub unsatisfiable : IsExpansionUnsatisfiable decided d.rows
   pub refutes : refutation_fault decided d ≡ None
   pub exported : decided ≡ searched → IsRefutationOf searched log d
-  pub accepted : length d.steps ≤ max_count
+  pub accepted : length d.items ≤ max_count
       → IsJudgement decided (verdict_text bare decided (is_false d)) ValidFalse
-  pub within : decided ≡ searched → length log.entries ≤ few_entries → length d.steps ≤ max_count
+  pub within : decided ≡ searched → length log.entries ≤ few_entries → length d.items ≤ max_count
 
 -- all steps were done, each productive, the next one is in hand, and no answer decides the formula
 pub record IsLimitReached (f : Dqbf) (log : ProofLog) (rounds learned : ℕ) : Type 0 where

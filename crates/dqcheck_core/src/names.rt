@@ -50,6 +50,7 @@ fn text_fault_name(fault: CertFault) -> &'static str
         CertFault::Truncated => "Truncated",
         CertFault::BadVariable => "BadVariable",
         CertFault::WrongVerdict => "WrongVerdict",
+        CertFault::NotLive => "NotLive",
     }
 }
 

@@ -1,5 +1,5 @@
 use Rattle.std.proofs.Common.{◌∙◌, ◌++◌, sym, subst, ap, cond, [], codes}
-use Rattle.cert_export.specs.Exportable.{AreExportedSteps}
+use Rattle.cert_export.specs.Exportable.{AreExportedItems}
 use Rattle.cert_export.specs.Exported.{CanExportFalse}
 use Rattle.dq_runs.specs.Printed.{line}
 use Rattle.dq_verdicts.specs.Verdicts.{is_false, verdict_text}
@@ -22,7 +22,7 @@ returns c =
         productive = c.requires.productive;
         shown = shown_false c.refutations_are_accepted.ensures c.args.f.now c.args.log.now c.args.id c.args.bare c.in_ok-refutation.refutation c.every_formula_is_lawful.ensures
             (c.refutation_shows_false.ensures c.args.f.now c.in_ok-refutation.refutation c.requires.formula exported.accepted) c.requires.refuted
-            (record { rows = exported.rows; accepted = exported.accepted; few = exported.few; spelled = exported.spelled; lines = (exported.lines.0, exported.lines.1, subst (λ live. AreExportedSteps c.args.f.now live c.args.log.now.entries exported.lines.0 c.in_ok-refutation.refutation.steps) (c.deref.ensures.value ∙ c.in_ok-numbers.ensures) exported.lines.2) });
+            (record { rows = exported.rows; accepted = exported.accepted; few = exported.few; spelled = exported.spelled; lines = (exported.lines.0, exported.lines.1, subst (λ live. AreExportedItems c.args.f.now live c.args.log.now.entries exported.lines.0 c.in_ok-refutation.refutation.items) (c.deref.ensures.value ∙ c.in_ok-numbers.ensures) exported.lines.2) });
       };
       is_printed = printed_as (is_false c.in_ok-refutation.refutation) c.code.result c.in_ok-text.text.items
           (verdict_text c.args.bare c.args.f.now (is_false c.in_ok-refutation.refutation)) c.code.ensures
